@@ -1,0 +1,195 @@
+-- A message, set by set.
+use Rattle.std.proofs.Common.{◌≡◌, ℕ, ◌+◌, ◌<◌, ◌≤◌, Bool, true, false, cond, ltb, eqb, List, [], ◌++◌, length, take, drop, map, Option, Some, None, Result, Ok, Err, refl, sym, ap, subst, ◌∙◌, arith, inl, inr}
+use Rattle.std.specs.Prelude.{◌≢◌}
+use Rattle.std.specs.Global.{Vec}
+use Rattle.std.proofs.lemmas.Bool.{ltb-false, lt-ltb, eq-eqb}
+use Rattle.std.proofs.lemmas.List.{length-drop, length-take, nil_from_length}
+use Rattle.ipfix_wire.specs.SetHeader.{set_at}
+use Rattle.ipfix_wire.specs.declared.header.Header.{Header}
+use Rattle.ipfix_wire.specs.declared.set.SetSpan.{SetSpan}
+use Rattle.ipfix_wire.specs.declared.fault.WireFault.{WireFault}
+use Rattle.ipfix_wire.specs.declared.fault.WireFault.TheVariants.{SetHeader}
+use Rattle.ipfix_message.specs.declared.fault.MessageFault.{MessageFault}
+use Rattle.ipfix_message.specs.declared.record.Template.{Template}
+use Rattle.ipfix_message.specs.declared.record.Field.{Field}
+use Rattle.ipfix_message.specs.declared.record.DataRecord.{DataRecord}
+use Rattle.ipfix_message.specs.declared.template_record.Kind.{Kind}
+use Rattle.ipfix_message.specs.declared.template_record.Event.{Event}
+use Rattle.ipfix_message.specs.declared.sets.Progress.{Progress}
+use Rattle.ipfix_message.specs.Faults.{fault_of}
+use Rattle.ipfix_message.specs.Outcome.{◌>>=◌, Fails, Gives}
+use Rattle.ipfix_wire.specs.InTurn.{Parts, parts_of}
+use Rattle.ipfix_message.specs.DataRecords.{records_of_body, record_of}
+use Rattle.ipfix_message.specs.TemplatesInForce.{template_set_gives, Updates}
+use Rattle.ipfix_message.specs.Messages.{Set, cut_set, next_set, Decoding, templates_in, data_in, set_gives, sets_give, closed, sets_from, Holds, Reaches}
+use Rattle.ipfix_message.proofs.Fields.{Fails-of}
+use Rattle.ipfix_wire.proofs.Parts.{Shrinks, parts_of-next, parts_of-none}
+use Rattle.ipfix_message.proofs.Bodies.{after, different, ok_is, not_both, bind_ok, bind_err}
+
+-- ---- one set
+
+pub template_set : (kind : Kind) (d : Decoding) (body : List ℕ) (entries news : List (ℕ × Template)) (p : Progress) (n : ℕ) → Holds entries p d
+    → Updates (Ok n) news (template_set_gives kind d.events body)
+    → Reaches (Ok tt) news (record { records = p.records; skipped = p.skipped; unknown = p.unknown; ignored = p.ignored + n }) (templates_in kind d body)
+unfolding templates_in
+template_set kind d body entries news p n holds updated = (
+  record { events = updated.0; records = d.records; skipped = d.skipped; unknown = d.unknown; ignored = d.ignored + n },
+  ap (λ (read : Result (List Event × ℕ) MessageFault). read >>= λ r. Ok (record { events = r.0; records = d.records; skipped = d.skipped; unknown = d.unknown; ignored = d.ignored + r.1 })) updated.1,
+  record { templates = updated.2; records = holds.records; skipped = holds.skipped; unknown = holds.unknown; ignored = ap (λ (k : ℕ). k + n) holds.ignored },
+)
+
+pub template_set_fails : (x : MessageFault) (kind : Kind) (d : Decoding) (body : List ℕ) → Fails x (template_set_gives kind d.events body) → Fails x (templates_in kind d body)
+unfolding templates_in
+template_set_fails x kind d body fails =
+    Fails-of x (template_set_gives kind d.events body) (templates_in kind d body) (λ f h.
+    ap (λ (read : Result (List Event × ℕ) MessageFault). read >>= λ r. Ok (record { events = r.0; records = d.records; skipped = d.skipped; unknown = d.unknown; ignored = d.ignored + r.1 })) h) fails
+
+pub no_template : (h : Header) (d : Decoding) (body : List ℕ) (entries : List (ℕ × Template)) (p : Progress) (o : Option Template) → Holds entries p d → o ≡ None
+    → Reaches (Ok tt) entries (record { records = p.records; skipped = p.skipped; unknown = p.unknown + 1; ignored = p.ignored }) (data_in h d body o)
+unfolding data_in
+no_template h d body entries p o holds none = (
+  record { events = d.events; records = d.records; skipped = d.skipped; unknown = d.unknown + 1; ignored = d.ignored },
+  ap (data_in h d body) none,
+  record { templates = holds.templates; records = holds.records; skipped = holds.skipped; unknown = ap (λ (k : ℕ). k + 1) holds.unknown; ignored = holds.ignored },
+)
+
+data_set_at : (h : Header) (d : Decoding) (body : List ℕ) (entries : List (ℕ × Template)) (p : Progress) (t : Template) (result : Result (Unit {0}) MessageFault) (v : Vec DataRecord) → Holds entries p d
+    → Gives (λ _. v.items) result (after p.records.items (record_of h t) (records_of_body t.specs body))
+    → Reaches result entries (record { records = v; skipped = p.skipped; unknown = p.unknown; ignored = p.ignored }) (data_in h d body (Some t))
+unfolding data_in
+data_set_at h d body entries p t (Ok x) v holds given =
+    let a = bind_ok (records_of_body t.specs body) (λ rs. Ok (p.records.items ++ map (record_of h t) rs)) v.items given in
+    let rs = map (record_of h t) a.0 in
+    let same : v.items ≡ d.records ++ rs = sym (ok_is (p.records.items ++ rs) v.items a.2) ∙ ap (λ (xs : List DataRecord). xs ++ rs) holds.records in (
+      record { events = d.events; records = d.records ++ rs; skipped = d.skipped; unknown = d.unknown; ignored = d.ignored },
+      ap (λ (read : Result (List (List Field)) MessageFault). read >>= λ rs'. Ok (record { events = d.events; records = d.records ++ map (record_of h t) rs'; skipped = d.skipped; unknown = d.unknown; ignored = d.ignored })) a.1,
+      record { templates = holds.templates; records = same; skipped = holds.skipped; unknown = holds.unknown; ignored = holds.ignored },
+    )
+data_set_at h d body entries p t (Err e) v holds given =
+    Fails-of e (after p.records.items (record_of h t) (records_of_body t.specs body)) (data_in h d body (Some t)) (λ f g.
+    elim (bind_err (records_of_body t.specs body) (λ rs. Ok (p.records.items ++ map (record_of h t) rs)) f g) [
+      | inl here ↦ ap (λ (read : Result (List (List Field)) MessageFault). read >>= λ rs'. Ok (record { events = d.events; records = d.records ++ map (record_of h t) rs'; skipped = d.skipped; unknown = d.unknown; ignored = d.ignored })) here
+      | inr later ↦ absurd (not_both (p.records.items ++ map (record_of h t) later.0) f later.2)
+    ]) given
+
+pub data_set : (h : Header) (d : Decoding) (body : List ℕ) (entries : List (ℕ × Template)) (p : Progress) (o : Option Template) (t : Template) (result : Result (Unit {0}) MessageFault) (v : Vec DataRecord) → Holds entries p d → o ≡ Some t
+    → Gives (λ _. v.items) result (after p.records.items (record_of h t) (records_of_body t.specs body))
+    → Reaches result entries (record { records = v; skipped = p.skipped; unknown = p.unknown; ignored = p.ignored }) (data_in h d body o)
+data_set h d body entries p o t result v holds is given =
+    subst (λ (x : Option Template). Reaches result entries (record { records = v; skipped = p.skipped; unknown = p.unknown; ignored = p.ignored }) (data_in h d body x)) (sym is)
+    (data_set_at h d body entries p t result v holds given)
+
+-- ---- the next set
+
+cut_set-takes : (w : List ℕ) (s : SetSpan) (x : Set) (r : List ℕ) → cut_set w (Ok s) ≡ Ok (x, r) → r ≡ drop s.body (drop 4 w)
+cut_set-takes w s x r h = sym (ap (λ (p : Set × List ℕ). p.1) (ok_is ((s.id, take s.body (drop 4 w)), drop s.body (drop 4 w)) (x, r) h))
+
+abbrev wire_ok : SetSpan → Result SetSpan WireFault
+wire_ok s = Ok s
+
+set_at-room : (w : List ℕ) (s : SetSpan) → set_at w ≡ wire_ok s → 4 ≤ length w
+set_at-room w s h = by_test (ltb (length w) 4) _ refl h
+  where
+    by_test : (b : Bool) (more : Result SetSpan WireFault) → ltb (length w) 4 ≡ b → cond b (Err SetHeader) more ≡ wire_ok s → 4 ≤ length w
+    by_test true more e g = absurd cc
+    by_test false more e g = ltb-false (length w) 4 e
+
+next_set-takes : (w : List ℕ) (x : Set) (r : List ℕ) → next_set w ≡ Ok (x, r) → length r < length w
+unfolding next_set
+next_set-takes w x r h = by_cases (set_at w) refl h
+  where
+    by_cases : (o : Result SetSpan WireFault) → set_at w ≡ o → cut_set w o ≡ Ok (x, r) → length r < length w
+    by_cases (Err e) is g = absurd (not_both (x, r) (fault_of e) (sym g))
+    by_cases (Ok s) is g =
+        let room = set_at-room w s is in
+        let rest = cut_set-takes w s x r g in
+        omega (arith, room, ap length rest, length-drop s.body (drop 4 w), length-drop 4 w)
+
+sets_shrink : Shrinks next_set
+sets_shrink = record { less = next_set-takes }
+
+pub next_set-less : (w : List ℕ) (id : ℕ) (body r : List ℕ) → next_set w ≡ Ok ((id, body), r) → length body + length r + 4 ≤ length w
+unfolding next_set
+next_set-less w id body r h = by_cases (set_at w) refl h
+  where
+    by_cases : (o : Result SetSpan WireFault) → set_at w ≡ o → cut_set w o ≡ Ok ((id, body), r) → length body + length r + 4 ≤ length w
+    by_cases (Err e) is g = absurd (not_both ((id, body), r) (fault_of e) (sym g))
+    by_cases (Ok s) is g =
+        let room = set_at-room w s is in
+        let whole = ok_is ((s.id, take s.body (drop 4 w)), drop s.body (drop 4 w)) ((id, body), r) g in
+        let rest : drop s.body (drop 4 w) ≡ r = ap (λ (p : Set × List ℕ). p.1) whole in
+        let front : take s.body (drop 4 w) ≡ body = ap (λ (p : Set × List ℕ). p.0.1) whole in
+        omega (arith, room, ap length rest, ap length front, length-drop s.body (drop 4 w), length-drop 4 w, length-take s.body (drop 4 w))
+
+-- ---- the sets in turn
+
+sets_from-is : (h : Header) (d : Decoding) (w : List ℕ) → sets_from h d w ≡ (sets_give h d (parts_of next_set w).items >>= λ e. closed (parts_of next_set w).rest e)
+unfolding sets_from
+sets_from-is h d w = refl
+
+sets_from-step : (h : Header) (d : Decoding) (w : List ℕ) (s : Set) (r : List ℕ) (read : Result Decoding MessageFault) → next_set w ≡ Ok (s, r) → set_gives h d s ≡ read
+    → sets_from h d w ≡ ((read >>= λ e. sets_give h e (parts_of next_set r).items) >>= λ e. closed (parts_of next_set r).rest e)
+unfolding sets_give
+sets_from-step h d w s r read here is =
+    sets_from-is h d w ∙ ap (λ (p : Parts Set). sets_give h d p.items >>= λ e. closed p.rest e) (parts_of-next next_set sets_shrink w s r here)
+    ∙ ap (λ (x : Result Decoding MessageFault). (x >>= λ e. sets_give h e (parts_of next_set r).items) >>= λ e. closed (parts_of next_set r).rest e) is
+
+pub sets_from-next : (h : Header) (d e : Decoding) (w : List ℕ) (s : Set) (r : List ℕ) → next_set w ≡ Ok (s, r) → set_gives h d s ≡ Ok e → sets_from h d w ≡ sets_from h e r
+sets_from-next h d e w s r here is = sets_from-step h d w s r (Ok e) here is ∙ sym (sets_from-is h e r)
+
+pub sets_from-fault : (h : Header) (d : Decoding) (w : List ℕ) (s : Set) (r : List ℕ) (f : MessageFault) → next_set w ≡ Ok (s, r) → set_gives h d s ≡ Err f → sets_from h d w ≡ Err f
+sets_from-fault h d w s r f here is = sets_from-step h d w s r (Err f) here is
+
+sets_from-none : (h : Header) (d : Decoding) (w : List ℕ) (f : MessageFault) → next_set w ≡ Err f → sets_from h d w ≡ closed w d
+unfolding sets_give
+sets_from-none h d w f here = sets_from-is h d w ∙ ap (λ (p : Parts Set). sets_give h d p.items >>= λ e. closed p.rest e) (parts_of-none next_set w f here)
+
+pub sets_from-cut : (h : Header) (d : Decoding) (w : List ℕ) (f : MessageFault) → 0 < length w → next_set w ≡ Err f → sets_from h d w ≡ Err f
+sets_from-cut h d w f some here =
+    let no : eqb (length w) 0 ≡ false = different (length w) 0 (λ e. omega (arith, e, some)) in
+    sets_from-none h d w f here ∙ rw (no, here) refl
+
+pub sets_from-done : (h : Header) (d : Decoding) (w : List ℕ) → length w ≡ 0 → sets_from h d w ≡ Ok d
+unfolding next_set
+sets_from-done h d w none =
+    let nil : w ≡ [] = nil_from_length w none in
+    let yes : eqb (length w) 0 ≡ true = eq-eqb (length w) 0 none in
+    sets_from-none h d w _ (ap next_set nil ∙ refl) ∙ rw yes refl
+
+-- ---- the loop over the sets
+
+pub record Going (h : Header) (entries : List (ℕ × Template)) (p : Progress) (w : List ℕ) (total : Result Decoding MessageFault) : Type 0 where
+  pub decoding : Decoding
+  pub holds : Holds entries p decoding
+  pub same : sets_from h decoding w ≡ total
+
+pub starts : (h : Header) (entries : List (ℕ × Template)) (p : Progress) (d : Decoding) (w : List ℕ) → Holds entries p d → Going h entries p w (sets_from h d w)
+starts h entries p d w holds = record { decoding = d; holds = holds; same = refl }
+
+pub goes_on : (h : Header) (entries news : List (ℕ × Template)) (p q : Progress) (w : List ℕ) (s : Set) (r : List ℕ) (total : Result Decoding MessageFault) → next_set w ≡ Ok (s, r)
+    → ((d : Decoding) → Holds entries p d → Reaches (Ok tt) news q (set_gives h d s)) → Going h entries p w total → Going h news q r total
+goes_on h entries news p q w s r total here taken going =
+    let t = taken going.decoding going.holds in
+    record { decoding = t.0; holds = t.2; same = sym (sets_from-next h going.decoding t.0 w s r here t.1) ∙ going.same }
+
+pub faults : (x : MessageFault) (h : Header) (entries : List (ℕ × Template)) (p : Progress) (w : List ℕ) (s : Set) (r : List ℕ) (total : Result Decoding MessageFault) → next_set w ≡ Ok (s, r)
+    → ((d : Decoding) → Holds entries p d → Fails x (set_gives h d s)) → Going h entries p w total → Fails x total
+faults x h entries p w s r total here fails going =
+    Fails-of x (set_gives h going.decoding s) total (λ f is. sym going.same ∙ sets_from-fault h going.decoding w s r f here is) (fails going.decoding going.holds)
+
+pub ends : (x : MessageFault) (h : Header) (entries : List (ℕ × Template)) (p : Progress) (w : List ℕ) (total : Result Decoding MessageFault) → 0 < length w
+    → Fails x (next_set w) → Going h entries p w total → Fails x total
+ends x h entries p w total some fails going = Fails-of x (next_set w) total (λ f here. sym going.same ∙ sets_from-cut h going.decoding w f some here) fails
+
+pub is_done : (h : Header) (entries : List (ℕ × Template)) (p : Progress) (w : List ℕ) (total : Result Decoding MessageFault) → length w ≡ 0
+    → Going h entries p w total → Reaches (Ok tt) entries p total
+is_done h entries p w total none going = (going.decoding, sym going.same ∙ sets_from-done h going.decoding w none, going.holds)
+
+pub skipped_set : (h : Header) (d : Decoding) (id : ℕ) (body : List ℕ) (entries : List (ℕ × Template)) (p : Progress) → Holds entries p d → id ≢ 2 → id ≢ 3 → id < 256
+    → Reaches (Ok tt) entries (record { records = p.records; skipped = p.skipped + 1; unknown = p.unknown; ignored = p.ignored }) (set_gives h d (id, body))
+unfolding set_gives
+skipped_set h d id body entries p holds two three below = (
+  record { events = d.events; records = d.records; skipped = d.skipped + 1; unknown = d.unknown; ignored = d.ignored },
+  rw (different id 2 two, different id 3 three, lt-ltb id 256 below) refl,
+  record { templates = holds.templates; records = holds.records; skipped = ap (λ (k : ℕ). k + 1) holds.skipped; unknown = holds.unknown; ignored = holds.ignored },
+)

@@ -1,0 +1,7 @@
+pub mod Fields
+pub mod Bodies
+pub mod Specs
+pub mod Same
+pub mod TemplateSets
+pub mod Decoding
+pub mod History

@@ -1,0 +1,11 @@
+use Rattle.std.proofs.Common.{◌<◌, arith}
+use Rattle.std.specs.Prelude.{◌≢◌}
+use Rattle.ipfix_message.proofs.Decoding.{skipped_set}
+use Rattle.ipfix_message.proofs.sets.take_set.Goals as goal
+
+pub returns-then-id-lt256-clause-gives : goal.returns-then-id-lt256-clause-gives
+returns-then-id-lt256-clause-gives c = λ d holds.
+    let two : c.args.id ≢ 2 = omega arith in
+    let three : c.args.id ≢ 3 = omega arith in
+    let below : c.args.id < 256 = omega arith in
+    skipped_set c.args.header.now d c.args.id c.args.body.now c.args.templates.now.entries c.args.progress.now holds two three below

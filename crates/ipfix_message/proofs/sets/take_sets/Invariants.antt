@@ -1,0 +1,13 @@
+use Rattle.std.proofs.Common.{◌≤◌, ◌+◌, length}
+use Rattle.ipfix_message.specs.Messages.{Decoding, Holds, sets_from, counted}
+use Rattle.ipfix_message.proofs.Decoding.{Going}
+use Rattle.ipfix_message.proofs.sets.take_sets.Given as goal
+
+abbrev pub invariant-loop-rest : goal.invariant-loop-rest
+invariant-loop-rest l = record {
+  going : (d : Decoding) → Holds l.fn.templates.entries l.fn.progress d → Going l.header l.templates.entries l.progress l.rest (sets_from l.header d l.octets);
+  few : counted l.progress + length l.rest ≤ counted l.fn.progress + length l.octets;
+}
+
+abbrev pub decreases-loop-rest : goal.decreases-loop-rest
+decreases-loop-rest l = length l.rest

@@ -1,0 +1,70 @@
+//! The domains of a session, which decode its messages.
+
+ghost use Rattle.std.specs.Prelude.{[], ◌≡◌, false, true, IsTrue, OnOk, OnErr, Err, None, option_copied};
+ghost use Rattle.ipfix_message.specs.Domains.{History, StandsFor, Decodes, message_gives, template_for};
+ghost use Rattle.ipfix_message.specs.declared.fault.MessageFault.TheVariants.{Spent};
+
+use crate::message::{Decoded, Templates, read_message};
+use crate::fault::MessageFault;
+use crate::record::Template;
+use indexmap::IndexMap;
+use std::alloc::Global;
+use std::marker::Model;
+
+/// The domains of a session with their templates.
+#[derive(Drop)]
+pub struct Domains {
+    known: IndexMap<u32, Templates>,
+    spent: bool,
+}
+
+impl Model for Domains {
+    ghost use Rattle.ipfix_message.specs.Domains.{Session};
+    ghost use Rattle.ipfix_message.specs.Kept.{kept};
+
+    ghost Value = { Session };
+
+    ghost view = { λ d. record { spent = d.spent; domains = kept d.known.entries } };
+}
+
+impl Domains {
+    pub fn new(alloc: Global) -> Self
+        ensures fresh { result.spent ≡ false }
+        ensures empty { StandsFor result.domains [] }
+    {
+        Domains {
+            known: IndexMap::new(alloc),
+            spent: false,
+        }
+    }
+
+    /// Decodes a message. After a fault each further call answers `Spent`.
+    pub fn decode(&mut self, alloc: Global, message: &[u8]) -> Result<Decoded, MessageFault>
+        ensures spent { IsTrue self.old.spent → result ≡ Err Spent }
+        ensures gives { self.old.spent ≡ false → (ds : History) → StandsFor self.old.domains ds
+            → Decodes result self.new.domains (message_gives ds message.now) }
+        ensures ok { OnOk result (self.new.spent ≡ false) }
+        ensures err { OnErr result (self.new.spent ≡ true) }
+    {
+        if self.spent {
+            return Err(MessageFault::Spent);
+        }
+        let result = read_message(alloc, &mut self.known, message);
+        self.spent = result.is_err();
+        result
+    }
+
+    /// The template in force for an id in a domain.
+    pub fn lookup(&self, domain: u32, id: u16) -> Option<&Template>
+        ensures spent { IsTrue self.now.spent → result ≡ None }
+        ensures found { self.now.spent ≡ false → (ds : History) → StandsFor self.now.domains ds
+            → option_copied result ≡ template_for ds domain id }
+    {
+        if self.spent {
+            return None;
+        }
+        let templates = self.known.get(&domain)?;
+        let known = templates.get(&id)?;
+        Some(known.template())
+    }
+}

@@ -1,0 +1,90 @@
+//! The templates of one domain that are in force.
+
+ghost use Rattle.std.specs.Prelude.{◌≡◌, ◌==◌, ◌∷◌, ℕ, List, Some, if◌then◌else◌, ◌≤◌, length, OnOk, IfOk};
+ghost use Rattle.std.specs.Ordering.{nat_cmp};
+ghost use Rattle.std.specs.BTreeMap.{get};
+ghost use Rattle.ipfix_message.specs.Outcome.{Gives};
+ghost use Rattle.ipfix_message.specs.TemplatesInForce.{defining, is_ignored, unless_of, Agrees, template_set_gives, Updates};
+ghost use Rattle.ipfix_message.specs.TemplatesInForce.{event_gives};
+ghost use Rattle.ipfix_message.specs.declared.template_record.Event.{Event};
+
+use crate::template_record::{Event, Kind, event_of, is_padding};
+use crate::fault::MessageFault;
+use crate::known::Known;
+use std::alloc::Global;
+use std::collections::BTreeMap;
+
+fn define(templates: &mut BTreeMap<u16, Known>, new: Known) -> Result<bool, MessageFault>
+    ensures gives { Gives (λ b. b) result (defining new (get nat_cmp templates.old new.id)) }
+    ensures ok { OnOk result ((id : ℕ) → get nat_cmp templates.new id ≡ (if id == new.id then Some new else get nat_cmp templates.old id)) }
+{
+    let id = new.id();
+    match templates.get(&id) {
+        Some(known) => {
+            if new.is_same(known) {
+                return Ok(false);
+            }
+            return Err(MessageFault::TemplateChanged);
+        }
+        None => {}
+    }
+    templates.insert(id, new)?;
+    Ok(false)
+}
+
+fn withdraw(templates: &mut BTreeMap<u16, Known>, kind: Kind, id: u16) -> bool
+    ensures ignored { result ≡ is_ignored kind (get nat_cmp templates.old id) }
+    ensures left { (q : ℕ) → get nat_cmp templates.new q ≡ (if q == id then unless_of kind (get nat_cmp templates.old q) else get nat_cmp templates.old q) }
+{
+    let is_known = match templates.get(&id) {
+        Some(known) => known.is_of(kind),
+        None => false,
+    };
+    if is_known {
+        let _ = templates.remove(&id);
+    }
+    !is_known
+}
+
+fn withdraw_all(templates: &mut BTreeMap<u16, Known>, kind: Kind)
+    ensures { (q : ℕ) → get nat_cmp templates.new q ≡ unless_of kind (get nat_cmp templates.old q) }
+{
+    templates.retain(|_, known| !known.is_of(kind));
+}
+
+/// Takes an event, and answers whether it is a withdrawal that was ignored.
+fn take_event(templates: &mut BTreeMap<u16, Known>, event: Event) -> Result<bool, MessageFault>
+    ensures gives { (es : List Event) → Agrees templates.old.entries es → Gives (λ b. b) result (event_gives es event) }
+    ensures ok { (es : List Event) → Agrees templates.old.entries es → OnOk result (Agrees templates.new.entries (event ∷ es)) }
+{
+    match event {
+        Event::Define(known) => define(templates, known),
+        Event::Withdraw(kind, id) => Ok(withdraw(templates, kind, id)),
+        Event::WithdrawAll(kind) => {
+            withdraw_all(templates, kind);
+            Ok(false)
+        }
+    }
+}
+
+/// Takes the body of a template set, and answers how many withdrawals were ignored.
+pub fn take_templates(
+    alloc: Global,
+    kind: Kind,
+    body: &[u8],
+    templates: &mut BTreeMap<u16, Known>,
+) -> Result<u64, MessageFault>
+    ensures few { IfOk result (λ n. n ≤ length body.now) }
+    ensures gives { (es : List Event) → Agrees templates.old.entries es → Updates result templates.new.entries (template_set_gives kind es body.now) }
+{
+    let mut ignored = 0;
+    let mut rest = body;
+    while !is_padding(rest) {
+        let (event, after) = event_of(alloc, kind, rest)?;
+        if take_event(templates, event)? {
+            ignored += 1;
+        }
+        rest = after;
+    }
+    Ok(ignored)
+}

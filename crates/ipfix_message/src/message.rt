@@ -1,0 +1,100 @@
+//! The domains of a session.
+
+ghost use Rattle.std.specs.Prelude.{◌≡◌, ◌≤◌, length};
+ghost use Rattle.ipfix_message.specs.Outcome.{Gives};
+ghost use Rattle.std.specs.Prelude.{nat_eq, List, OnOk, IsSome};
+ghost use Rattle.indexmap.specs.IndexMap.{get};
+ghost use Rattle.ipfix_message.specs.Domains;
+ghost use Rattle.ipfix_message.specs.Domains.{History, StandsFor, Admits, Decodes, message_gives};
+ghost use Rattle.ipfix_message.specs.Kept.{kept};
+
+use crate::sets::{Progress, take_sets};
+use crate::fault::MessageFault;
+use crate::known::Known;
+use crate::record::DataRecord;
+use crate::sequence::Sequence;
+use indexmap::IndexMap;
+use ipfix_wire::{Header, read_header};
+use std::alloc::Global;
+use std::collections::BTreeMap;
+
+/// How many domains a session may have.
+pub const DOMAINS: usize = 1024;
+
+#[tactic(auto, unfolding(crate::specs::Domains::message_header))]
+fn header_of(message: &[u8]) -> Result<Header, MessageFault>
+    ensures gives { Gives (λ h. h) result (Domains.message_header message.now) }
+    ensures long { OnOk result (16 ≤ length message.now) }
+{
+    if message.len() < 16 {
+        return Err(MessageFault::MessageLength);
+    }
+    let header = read_header(message)?;
+    if usize::from(header.length) != message.len() {
+        return Err(MessageFault::MessageLength);
+    }
+    Ok(header)
+}
+
+pub type Templates = BTreeMap<u16, Known>;
+
+// makes sure that a domain is known
+fn admit(
+    alloc: Global,
+    known: &mut IndexMap<u32, Templates>,
+    domain: u32,
+) -> Result<(), MessageFault>
+    ensures gives { (ds : History) → StandsFor (kept known.old.entries) ds → Admits result (kept known.new.entries) (Domains.admit ds domain) }
+    ensures present { OnOk result (IsSome (get nat_eq known.new domain)) }
+{
+    if known.contains_key(&domain) {
+        return Ok(());
+    }
+    if known.len() >= DOMAINS {
+        return Err(MessageFault::TooManyDomains);
+    }
+    let _ = known.insert(domain, BTreeMap::new(alloc))?;
+    Ok(())
+}
+
+/// A message that was read.
+#[derive(Drop)]
+pub struct Decoded {
+    pub header: Header,
+    pub records: Sequence<DataRecord>,
+    pub skipped_sets: u64,
+    pub unknown_sets: u64,
+    pub ignored_withdrawals: u64,
+}
+
+pub fn read_message(
+    alloc: Global,
+    known: &mut IndexMap<u32, Templates>,
+    message: &[u8],
+) -> Result<Decoded, MessageFault>
+    ensures { (ds : History) → StandsFor (kept known.old.entries) ds → Decodes result (kept known.new.entries) (message_gives ds message.now) }
+{
+    let header = header_of(message)?;
+    admit(alloc, known, header.domain)?;
+    let mut progress = Progress {
+        records: Vec::new(alloc),
+        skipped: 0,
+        unknown: 0,
+        ignored: 0,
+    };
+    let templates = known.get_mut(&header.domain).unwrap();
+    take_sets(alloc, &header, &message[16..], templates, &mut progress)?;
+    let Progress {
+        records,
+        skipped,
+        unknown,
+        ignored,
+    } = progress;
+    Ok(Decoded {
+        header,
+        records: Sequence::from_vec(records),
+        skipped_sets: skipped,
+        unknown_sets: unknown,
+        ignored_withdrawals: ignored,
+    })
+}

@@ -1,0 +1,140 @@
+//! Template records: definitions and withdrawals.
+
+ghost use Rattle.std.specs.Prelude.{◌≡◌, ◌==◌, ◌≤◌, ◌<◌, ◌^◌, length, vec_len, IfOk};
+ghost use Rattle.std.specs.List.{list_all};
+ghost use Rattle.ipfix_message.specs.Outcome.{Gives};
+ghost use Rattle.ipfix_message.specs.DataRecords;
+ghost use Rattle.ipfix_message.specs.TemplateRecords;
+ghost use Rattle.ipfix_message.specs.TemplateRecords.{set_id_of, scope_at, specs_at, event_at};
+
+use crate::fault::MessageFault;
+use crate::known::Known;
+use crate::record::Template;
+use crate::sequence::Sequence;
+use byteorder::{BigEndian, ByteOrder};
+use ipfix_wire::{Spec, read_spec};
+use std::alloc::Global;
+
+/// The two kinds of template.
+#[derive(Clone, Copy, Debug, PartialEq, Eq)]
+pub enum Kind {
+    Plain,
+    Options,
+}
+
+/// What a template record does.
+#[derive(Drop)]
+pub enum Event {
+    Define(Known),
+    Withdraw(Kind, u16),
+    WithdrawAll(Kind),
+}
+
+impl Kind {
+    /// The id of the sets that bring templates of this kind.
+    pub fn set_id(self) -> u16
+        ensures { result ≡ set_id_of self }
+    {
+        match self {
+            Kind::Plain => 2,
+            Kind::Options => 3,
+        }
+    }
+}
+
+// the least length of a record
+pub fn least_of(specs: &[Spec]) -> usize
+    requires { length specs.now < 2 ^ 16 }
+    ensures { result ≡ DataRecords.least specs.now }
+{
+    let mut sum = 0;
+    for spec in specs {
+        sum += if spec.width == u16::MAX {
+            1
+        } else {
+            usize::from(spec.width)
+        };
+    }
+    sum
+}
+
+fn is_zero(octets: &[u8]) -> bool
+    ensures { result ≡ list_all (λ b. b == 0) octets.now }
+{
+    octets.iter().all(|octet| *octet == 0)
+}
+
+// what is left of a template set when it holds no more records
+pub fn is_padding(rest: &[u8]) -> bool
+    ensures { result ≡ TemplateRecords.is_padding rest.now }
+{
+    rest.len() < 4 || is_zero(rest)
+}
+
+fn scope_of(kind: Kind, count: u16, rest: &[u8]) -> Result<(u16, &[u8]), MessageFault>
+    ensures { Gives (λ x. (x.0, x.1.now)) result (scope_at kind count rest.now) }
+{
+    match kind {
+        Kind::Plain => Ok((0, rest)),
+        Kind::Options => {
+            if rest.len() < 2 {
+                return Err(MessageFault::TemplateCut);
+            }
+            let scope = BigEndian::read_u16(rest);
+            if scope == 0 || count < scope {
+                return Err(MessageFault::Scope);
+            }
+            let (_, after) = rest.split_at(2);
+            Ok((scope, after))
+        }
+    }
+}
+
+fn specs_of(alloc: Global, count: u16, octets: &[u8]) -> Result<(Vec<Spec>, &[u8]), MessageFault>
+    ensures exact { Gives (λ x. (x.0.items, x.1.now)) result (specs_at count octets.now) }
+    ensures count { IfOk result (λ x. vec_len x.0 ≡ count) }
+{
+    let mut specs = Vec::new(alloc);
+    let mut rest = octets;
+    for _ in 0..count {
+        let Some((spec, used)) = read_spec(rest) else {
+            return Err(MessageFault::TemplateCut);
+        };
+        specs.push(spec)?;
+        let (_, after) = rest.split_at(used);
+        rest = after;
+    }
+    Ok((specs, rest))
+}
+
+/// The template record that `octets` begins with, and what follows it.
+#[tactic(auto, unfolding(crate::specs::TemplateRecords::event_at), using(std::proofs::lemmas::List::take_rest))]
+pub fn event_of(alloc: Global, kind: Kind, octets: &[u8]) -> Result<(Event, &[u8]), MessageFault>
+    requires { 4 ≤ length octets.now }
+    ensures { Gives (λ x. (x.0, x.1.now)) result (event_at kind octets.now) }
+{
+    let id = BigEndian::read_u16(octets);
+    let count = BigEndian::read_u16(&octets[2..]);
+    let (_, rest) = octets.split_at(4);
+    if count == 0 {
+        if id == kind.set_id() {
+            return Ok((Event::WithdrawAll(kind), rest));
+        }
+        if id < 256 {
+            return Err(MessageFault::TemplateId);
+        }
+        return Ok((Event::Withdraw(kind, id), rest));
+    }
+    if id < 256 {
+        return Err(MessageFault::TemplateId);
+    }
+    let (scope, rest) = scope_of(kind, count, rest)?;
+    let (specs, rest) = specs_of(alloc, count, rest)?;
+    let least = least_of(&specs);
+    if least == 0 {
+        return Err(MessageFault::ZeroLength);
+    }
+    let specs = Sequence::from_vec(specs);
+    let template = Template { id, scope, specs };
+    Ok((Event::Define(Known::new(template, least)), rest))
+}

@@ -1,0 +1,20 @@
+-- The header of a set (RFC 7011, section 3.3.2).
+use Rattle.std.specs.Prelude.{ℕ, ◌+◌, ◌-◌, Result, Ok, Err, nat_lt, if◌then◌else◌, List, ◌++◌, length}
+use Rattle.byteorder.specs.Endian.{big_bytes, big_number}
+use Rattle.ipfix_wire.specs.Numbers.{number_at}
+use Rattle.ipfix_wire.specs.declared.set.SetSpan.{SetSpan}
+use Rattle.ipfix_wire.specs.declared.fault.WireFault.{WireFault}
+use Rattle.ipfix_wire.specs.declared.fault.WireFault.TheVariants as faults
+
+-- a set header: the id, and the length of the set, which counts these 4 octets too
+abbrev pub set_octets : ℕ → ℕ → List ℕ
+set_octets id body = big_bytes 2 id ++ big_bytes 2 (4 + body)
+
+-- the set that the octets begin with, or its fault
+abbrev pub set_at : List ℕ → Result SetSpan WireFault
+set_at w =
+    let size = number_at 2 2 w in
+    if nat_lt (length w) 4 then Err faults.SetHeader
+    else if nat_lt size 4 then Err faults.SetLength
+    else if nat_lt (length w) size then Err faults.SetLength
+    else Ok (record { id = big_number 2 w; body = size - 4 })

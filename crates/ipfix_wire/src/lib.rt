@@ -1,0 +1,16 @@
+//! The fixed parts of an IPFIX message as octets (RFC 7011): message headers, set headers, field
+//! specifiers and the lengths of variable-length fields, read and written.
+#![tactic(auto)]
+
+mod fault;
+mod header;
+mod numbers;
+mod set;
+mod specifier;
+mod variable_length;
+
+pub use fault::WireFault;
+pub use header::{Header, read_header, write_header};
+pub use set::{SetSpan, read_set, write_set};
+pub use specifier::{ElementId, Spec, read_spec, write_spec};
+pub use variable_length::{read_length, write_length};

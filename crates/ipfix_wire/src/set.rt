@@ -1,0 +1,56 @@
+//! Set headers (RFC 7011, section 3.3.2).
+
+ghost use Rattle.std.specs.Prelude.{◌≡◌, ◌+◌, ◌<◌, ◌≤◌, ◌↔◌, ◌⊎◌, ◌++◌, ◌^◌, ℕ, List, Ok, length, take, IfOk, IsErrOf, OnOk, OnErr};
+ghost use Rattle.ipfix_wire.specs.Numbers.{number_at};
+ghost use Rattle.ipfix_wire.specs.SetHeader.{set_octets, set_at};
+
+use crate::fault::WireFault;
+use crate::numbers::u16_at;
+use byteorder::{BigEndian, ByteOrder};
+use std::alloc::AllocError;
+
+/// A set: its id, and how many octets its body has.
+#[derive(Clone, Copy, Debug, PartialEq, Eq)]
+pub struct SetSpan {
+    /// 2 for a template set, 3 for an options template set, from 256 on a template's id.
+    pub id: u16,
+    /// Octets behind the header, padding included.
+    pub body: usize,
+}
+
+/// Reads the header of the set that `rest`, what is left of a message, begins with. The whole set
+/// stands in `rest`.
+pub fn read_set(rest: &[u8]) -> Result<SetSpan, WireFault>
+    requires { 0 < length rest.now }
+    // What is read is spelled so, and its body stands there.
+    ensures found { IfOk result (λ s. (s.id < 2 ^ 16) × (4 + s.body < 2 ^ 16) × (4 + s.body ≤ length rest.now) × (take 4 rest.now ≡ set_octets s.id s.body)) }
+    // What is spelled so, with its body, is read, whatever follows.
+    ensures only { (id body : ℕ) (more : List ℕ) → id < 2 ^ 16 → 4 + body < 2 ^ 16 → body ≤ length more → rest.now ≡ set_octets id body ++ more → result ≡ Ok (record { id = id; body = body }) }
+    ensures exact { result ≡ set_at rest.now }
+    ensures set_header { IsErrOf result WireFault.SetHeader ↔ (length rest.now < 4) }
+    ensures set_length { IsErrOf result WireFault.SetLength ↔ ((4 ≤ length rest.now) × ((number_at 2 2 rest.now < 4) ⊎ (length rest.now < number_at 2 2 rest.now))) }
+{
+    if rest.len() < 4 {
+        return Err(WireFault::SetHeader);
+    }
+    let length = usize::from(u16_at(rest, 2));
+    if length < 4 || rest.len() < length {
+        return Err(WireFault::SetLength);
+    }
+    Ok(SetSpan {
+        id: u16_at(rest, 0),
+        body: length - 4,
+    })
+}
+
+/// Appends the header of a set whose body has that many octets. An `Err` changes nothing.
+pub fn write_set(id: u16, body: u16, out: &mut Vec<u8>) -> Result<(), AllocError>
+    requires { body ≤ 65531 }
+    ensures ok { OnOk result (out.new.items ≡ out.old.items ++ set_octets id body) }
+    ensures err { OnErr result (out.new.items ≡ out.old.items) }
+{
+    let mut octets = [0; 4];
+    BigEndian::write_u16(&mut octets, id);
+    BigEndian::write_u16(&mut octets[2..], 4 + body);
+    out.extend_from_slice(&octets)
+}
