@@ -1,3 +1,4 @@
 pub mod Octets
 pub mod Parts
 pub mod Streams
+pub mod Longest
