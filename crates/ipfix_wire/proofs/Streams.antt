@@ -1,7 +1,7 @@
 -- Reading a text that goes on: what was read stays, and reading goes on from the rest.
-use Rattle.std.proofs.Common.{◌≡◌, ℕ, zero, suc, ◌<◌, ◌≤◌, List, [], ◌∷◌, ◌++◌, length, Result, Ok, Err, refl, sym, ap, ◌∙◌, arith, inl, inr}
+use Rattle.std.proofs.Common.{◌≡◌, ℕ, zero, suc, ◌≤◌, List, ◌++◌, length, Ok, sym, ap, ◌∙◌, arith, inl, inr}
 use Rattle.ipfix_wire.specs.InTurn.{Reader, Parts, parts_of}
-use Rattle.ipfix_wire.proofs.Parts.{Shrinks, cons, nothing, cases_read, parts_of-next, parts_of-none}
+use Rattle.ipfix_wire.proofs.Parts.{Shrinks, cons, cases_read, parts_of-next, parts_of-none}
 
 -- what a text begins with does not change when more follows
 pub record Stable {F X : Type 0} (step : Reader F X) : Type 0 where

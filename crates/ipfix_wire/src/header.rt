@@ -55,13 +55,21 @@ pub fn read_header(octets: &[u8]) -> Result<Header, WireFault>
 /// Appends a message header. An `Err` changes nothing.
 pub fn write_header(header: &Header, out: &mut Vec<u8>) -> Result<(), AllocError>
     ensures ok { OnOk result (out.new.items ≡ out.old.items ++ header_octets header.now) }
+    // It is read again, whatever follows.
+    ensures again { 16 ≤ header.now.length → (more : List ℕ) → header_at (header_octets header.now ++ more) ≡ Ok header.now }
     ensures err { OnErr result (out.new.items ≡ out.old.items) }
 {
+    let Header {
+        length,
+        export_time,
+        sequence,
+        domain,
+    } = *header;
     let mut octets = [0; 16];
     BigEndian::write_u16(&mut octets, VERSION);
-    BigEndian::write_u16(&mut octets[2..], header.length);
-    BigEndian::write_u32(&mut octets[4..], header.export_time);
-    BigEndian::write_u32(&mut octets[8..], header.sequence);
-    BigEndian::write_u32(&mut octets[12..], header.domain);
+    BigEndian::write_u16(&mut octets[2..], length);
+    BigEndian::write_u32(&mut octets[4..], export_time);
+    BigEndian::write_u32(&mut octets[8..], sequence);
+    BigEndian::write_u32(&mut octets[12..], domain);
     out.extend_from_slice(&octets)
 }

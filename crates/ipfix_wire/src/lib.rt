@@ -14,3 +14,6 @@ pub use header::{Header, read_header, write_header};
 pub use set::{SetSpan, read_set, write_set};
 pub use specifier::{ElementId, Spec, read_spec, write_spec};
 pub use variable_length::{read_length, write_length};
+
+#[cfg(test)]
+mod tests;

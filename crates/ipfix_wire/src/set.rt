@@ -47,6 +47,8 @@ pub fn read_set(rest: &[u8]) -> Result<SetSpan, WireFault>
 pub fn write_set(id: u16, body: u16, out: &mut Vec<u8>) -> Result<(), AllocError>
     requires { body ≤ 65531 }
     ensures ok { OnOk result (out.new.items ≡ out.old.items ++ set_octets id body) }
+    // It is read again where its body follows.
+    ensures again { (more : List ℕ) → body ≤ length more → set_at (set_octets id body ++ more) ≡ Ok (record { id = id; body = body }) }
     ensures err { OnErr result (out.new.items ≡ out.old.items) }
 {
     let mut octets = [0; 4];

@@ -63,17 +63,21 @@ pub fn read_spec(rest: &[u8]) -> Option<(Spec, usize)>
 pub fn write_spec(spec: &Spec, out: &mut Vec<u8>) -> Result<(), AllocError>
     requires { spec.now.element.number < 2 ^ 15 }
     ensures ok { OnOk result (out.new.items ≡ out.old.items ++ spec_octets spec.now) }
+    ensures spelled { SpellsSpec spec.now (spec_octets spec.now) }
+    // It is read again, whatever follows.
+    ensures again { (more : List ℕ) → spec_at (spec_octets spec.now ++ more) ≡ Some (spec.now, length (spec_octets spec.now)) }
     ensures err { OnErr result (out.new.items ≡ out.old.items) }
 {
-    if spec.element.pen == 0 {
+    let Spec { element, width } = *spec;
+    if element.pen == 0 {
         let mut octets = [0; 4];
-        BigEndian::write_u16(&mut octets, spec.element.number);
-        BigEndian::write_u16(&mut octets[2..], spec.width);
+        BigEndian::write_u16(&mut octets, element.number);
+        BigEndian::write_u16(&mut octets[2..], width);
         return out.extend_from_slice(&octets);
     }
     let mut octets = [0; 8];
-    BigEndian::write_u16(&mut octets, ENTERPRISE_BIT + spec.element.number);
-    BigEndian::write_u16(&mut octets[2..], spec.width);
-    BigEndian::write_u32(&mut octets[4..], spec.element.pen);
+    BigEndian::write_u16(&mut octets, ENTERPRISE_BIT + element.number);
+    BigEndian::write_u16(&mut octets[2..], width);
+    BigEndian::write_u32(&mut octets[4..], element.pen);
     out.extend_from_slice(&octets)
 }

@@ -1,6 +1,7 @@
 //! The length that a variable-length field begins with (RFC 7011, section 7).
 
 ghost use Rattle.std.specs.Prelude.{◌≡◌, ◌≤◌, ◌++◌, ℕ, List, Some, length, take, IfSome, OnOk, OnErr};
+ghost use Rattle.std.specs.Prelude.{length as list_length};
 ghost use Rattle.ipfix_wire.specs.VariableLength.{SpellsLength, length_at, length_octets};
 
 use byteorder::{BigEndian, ByteOrder};
@@ -31,6 +32,9 @@ pub fn read_length(rest: &[u8]) -> Option<(usize, usize)>
 /// Appends the length of a variable-length field in its shortest form. An `Err` changes nothing.
 pub fn write_length(length: u16, out: &mut Vec<u8>) -> Result<(), AllocError>
     ensures ok { OnOk result (out.new.items ≡ out.old.items ++ length_octets length) }
+    ensures spelled { SpellsLength length (length_octets length) }
+    // It is read again, whatever follows.
+    ensures again { (more : List ℕ) → length_at (length_octets length ++ more) ≡ Some (length, list_length (length_octets length)) }
     ensures err { OnErr result (out.new.items ≡ out.old.items) }
 {
     if length < 255 {
