@@ -12,12 +12,12 @@ use Rattle.ipfix_wire.specs.declared.specifier.Spec.{Spec}
 use Rattle.ipfix_wire.specs.declared.specifier.ElementId.{ElementId}
 use Rattle.ipfix_message.specs.declared.fault.MessageFault.{MessageFault}
 use Rattle.ipfix_message.specs.declared.fault.MessageFault.TheVariants.{RecordCut}
-use Rattle.ipfix_message.specs.declared.record.Field.{Field}
+use Rattle.ipfix_message.specs.Fields.{Field}
 use Rattle.ipfix_message.specs.Outcome.{◌>>=◌, map_read, Fails}
 use Rattle.ipfix_wire.specs.InTurn.{Parts, parts_of}
 use Rattle.ipfix_message.specs.DataRecords.{SpellsOctets, Spells, least, IsBody, octets_at, variable_at, value_at, fields_at, finished, records_of_body}
 use Rattle.ipfix_message.specs.declared.record.DataRecord.{DataRecord}
-use Rattle.ipfix_message.proofs.Fields.{Fails-of}
+use Rattle.ipfix_message.proofs.FieldReading.{Fails-of}
 use Rattle.ipfix_wire.proofs.Parts.{cons, IsOctets-rest, cases_read, Shrinks, Reads, Spelled, parts_of-next, parts_of-none, parts_of-found, parts_of-only}
 
 -- ---- how much a record takes, and its one fault

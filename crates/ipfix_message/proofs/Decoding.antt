@@ -1,29 +1,26 @@
 -- A message, set by set.
-use Rattle.std.proofs.Common.{◌≡◌, ℕ, ◌+◌, ◌<◌, ◌≤◌, Bool, true, false, cond, ltb, eqb, List, [], ◌++◌, length, take, drop, map, Option, Some, None, Result, Ok, Err, refl, sym, ap, subst, ◌∙◌, arith, inl, inr}
+use Rattle.std.proofs.Common.{◌≡◌, ℕ, ◌+◌, ◌<◌, true, eqb, List, ◌++◌, length, map, Option, Some, None, Result, Ok, Err, refl, sym, ap, subst, ◌∙◌, inl, inr}
 use Rattle.std.specs.Prelude.{◌≢◌}
 use Rattle.std.specs.Global.{Vec}
-use Rattle.std.proofs.lemmas.Bool.{ltb-false, lt-ltb, eq-eqb}
-use Rattle.std.proofs.lemmas.List.{length-drop, length-take, nil_from_length}
-use Rattle.ipfix_wire.specs.SetHeader.{set_at}
+use Rattle.std.proofs.lemmas.Bool.{lt-ltb, eq-eqb}
 use Rattle.ipfix_wire.specs.declared.header.Header.{Header}
-use Rattle.ipfix_wire.specs.declared.set.SetSpan.{SetSpan}
-use Rattle.ipfix_wire.specs.declared.fault.WireFault.{WireFault}
-use Rattle.ipfix_wire.specs.declared.fault.WireFault.TheVariants.{SetHeader}
 use Rattle.ipfix_message.specs.declared.fault.MessageFault.{MessageFault}
 use Rattle.ipfix_message.specs.declared.record.Template.{Template}
-use Rattle.ipfix_message.specs.declared.record.Field.{Field}
+use Rattle.ipfix_message.specs.Fields.{Field}
 use Rattle.ipfix_message.specs.declared.record.DataRecord.{DataRecord}
 use Rattle.ipfix_message.specs.declared.template_record.Kind.{Kind}
 use Rattle.ipfix_message.specs.declared.template_record.Event.{Event}
 use Rattle.ipfix_message.specs.declared.sets.Progress.{Progress}
-use Rattle.ipfix_message.specs.Faults.{fault_of}
-use Rattle.ipfix_message.specs.Outcome.{◌>>=◌, Fails, Gives}
+use Rattle.ipfix_message.specs.Outcome.{◌>>=◌, unless, Fails, Gives}
 use Rattle.ipfix_wire.specs.InTurn.{Parts, parts_of}
 use Rattle.ipfix_message.specs.DataRecords.{records_of_body, record_of}
-use Rattle.ipfix_message.specs.TemplatesInForce.{template_set_gives, Updates}
-use Rattle.ipfix_message.specs.Messages.{Set, cut_set, next_set, Decoding, templates_in, data_in, set_gives, sets_give, closed, sets_from, Holds, Reaches}
-use Rattle.ipfix_message.proofs.Fields.{Fails-of}
-use Rattle.ipfix_wire.proofs.Parts.{Shrinks, parts_of-next, parts_of-none}
+use Rattle.ipfix_message.specs.TemplatesInForce.{template_set_gives}
+use Rattle.ipfix_message.specs.Sets.{Set, next_set, fault_after_sets}
+use Rattle.ipfix_message.specs.Messages.{Decoding, templates_in, data_in, set_gives, sets_give, sets_from}
+use Rattle.ipfix_message.specs.Held.{Updates, Holds, Reaches}
+use Rattle.ipfix_message.proofs.MessageSets.{sets_shrink, next_set-fault, next_set-nil}
+use Rattle.ipfix_message.proofs.FieldReading.{Fails-of}
+use Rattle.ipfix_wire.proofs.Parts.{parts_of-next, parts_of-none}
 use Rattle.ipfix_message.proofs.Bodies.{after, different, ok_is, not_both, bind_ok, bind_err}
 
 -- ---- one set
@@ -79,60 +76,18 @@ data_set h d body entries p o t result v holds is given =
     subst (λ (x : Option Template). Reaches result entries (record { records = v; skipped = p.skipped; unknown = p.unknown; ignored = p.ignored }) (data_in h d body x)) (sym is)
     (data_set_at h d body entries p t result v holds given)
 
--- ---- the next set
-
-cut_set-takes : (w : List ℕ) (s : SetSpan) (x : Set) (r : List ℕ) → cut_set w (Ok s) ≡ Ok (x, r) → r ≡ drop s.body (drop 4 w)
-cut_set-takes w s x r h = sym (ap (λ (p : Set × List ℕ). p.1) (ok_is ((s.id, take s.body (drop 4 w)), drop s.body (drop 4 w)) (x, r) h))
-
-abbrev wire_ok : SetSpan → Result SetSpan WireFault
-wire_ok s = Ok s
-
-set_at-room : (w : List ℕ) (s : SetSpan) → set_at w ≡ wire_ok s → 4 ≤ length w
-set_at-room w s h = by_test (ltb (length w) 4) _ refl h
-  where
-    by_test : (b : Bool) (more : Result SetSpan WireFault) → ltb (length w) 4 ≡ b → cond b (Err SetHeader) more ≡ wire_ok s → 4 ≤ length w
-    by_test true more e g = absurd cc
-    by_test false more e g = ltb-false (length w) 4 e
-
-next_set-takes : (w : List ℕ) (x : Set) (r : List ℕ) → next_set w ≡ Ok (x, r) → length r < length w
-unfolding next_set
-next_set-takes w x r h = by_cases (set_at w) refl h
-  where
-    by_cases : (o : Result SetSpan WireFault) → set_at w ≡ o → cut_set w o ≡ Ok (x, r) → length r < length w
-    by_cases (Err e) is g = absurd (not_both (x, r) (fault_of e) (sym g))
-    by_cases (Ok s) is g =
-        let room = set_at-room w s is in
-        let rest = cut_set-takes w s x r g in
-        omega (arith, room, ap length rest, length-drop s.body (drop 4 w), length-drop 4 w)
-
-sets_shrink : Shrinks next_set
-sets_shrink = record { less = next_set-takes }
-
-pub next_set-less : (w : List ℕ) (id : ℕ) (body r : List ℕ) → next_set w ≡ Ok ((id, body), r) → length body + length r + 4 ≤ length w
-unfolding next_set
-next_set-less w id body r h = by_cases (set_at w) refl h
-  where
-    by_cases : (o : Result SetSpan WireFault) → set_at w ≡ o → cut_set w o ≡ Ok ((id, body), r) → length body + length r + 4 ≤ length w
-    by_cases (Err e) is g = absurd (not_both ((id, body), r) (fault_of e) (sym g))
-    by_cases (Ok s) is g =
-        let room = set_at-room w s is in
-        let whole = ok_is ((s.id, take s.body (drop 4 w)), drop s.body (drop 4 w)) ((id, body), r) g in
-        let rest : drop s.body (drop 4 w) ≡ r = ap (λ (p : Set × List ℕ). p.1) whole in
-        let front : take s.body (drop 4 w) ≡ body = ap (λ (p : Set × List ℕ). p.0.1) whole in
-        omega (arith, room, ap length rest, ap length front, length-drop s.body (drop 4 w), length-drop 4 w, length-take s.body (drop 4 w))
-
 -- ---- the sets in turn
 
-sets_from-is : (h : Header) (d : Decoding) (w : List ℕ) → sets_from h d w ≡ (sets_give h d (parts_of next_set w).items >>= λ e. closed (parts_of next_set w).rest e)
+sets_from-is : (h : Header) (d : Decoding) (w : List ℕ) → sets_from h d w ≡ (sets_give h d (parts_of next_set w).items >>= λ e. unless (fault_after_sets (parts_of next_set w).rest) e)
 unfolding sets_from
 sets_from-is h d w = refl
 
 sets_from-step : (h : Header) (d : Decoding) (w : List ℕ) (s : Set) (r : List ℕ) (read : Result Decoding MessageFault) → next_set w ≡ Ok (s, r) → set_gives h d s ≡ read
-    → sets_from h d w ≡ ((read >>= λ e. sets_give h e (parts_of next_set r).items) >>= λ e. closed (parts_of next_set r).rest e)
+    → sets_from h d w ≡ ((read >>= λ e. sets_give h e (parts_of next_set r).items) >>= λ e. unless (fault_after_sets (parts_of next_set r).rest) e)
 unfolding sets_give
 sets_from-step h d w s r read here is =
-    sets_from-is h d w ∙ ap (λ (p : Parts Set). sets_give h d p.items >>= λ e. closed p.rest e) (parts_of-next next_set sets_shrink w s r here)
-    ∙ ap (λ (x : Result Decoding MessageFault). (x >>= λ e. sets_give h e (parts_of next_set r).items) >>= λ e. closed (parts_of next_set r).rest e) is
+    sets_from-is h d w ∙ ap (λ (p : Parts Set). sets_give h d p.items >>= λ e. unless (fault_after_sets p.rest) e) (parts_of-next next_set sets_shrink w s r here)
+    ∙ ap (λ (x : Result Decoding MessageFault). (x >>= λ e. sets_give h e (parts_of next_set r).items) >>= λ e. unless (fault_after_sets (parts_of next_set r).rest) e) is
 
 pub sets_from-next : (h : Header) (d e : Decoding) (w : List ℕ) (s : Set) (r : List ℕ) → next_set w ≡ Ok (s, r) → set_gives h d s ≡ Ok e → sets_from h d w ≡ sets_from h e r
 sets_from-next h d e w s r here is = sets_from-step h d w s r (Ok e) here is ∙ sym (sets_from-is h e r)
@@ -140,21 +95,19 @@ sets_from-next h d e w s r here is = sets_from-step h d w s r (Ok e) here is ∙
 pub sets_from-fault : (h : Header) (d : Decoding) (w : List ℕ) (s : Set) (r : List ℕ) (f : MessageFault) → next_set w ≡ Ok (s, r) → set_gives h d s ≡ Err f → sets_from h d w ≡ Err f
 sets_from-fault h d w s r f here is = sets_from-step h d w s r (Err f) here is
 
-sets_from-none : (h : Header) (d : Decoding) (w : List ℕ) (f : MessageFault) → next_set w ≡ Err f → sets_from h d w ≡ closed w d
+sets_from-none : (h : Header) (d : Decoding) (w : List ℕ) (f : MessageFault) → next_set w ≡ Err f → sets_from h d w ≡ unless (fault_after_sets w) d
 unfolding sets_give
-sets_from-none h d w f here = sets_from-is h d w ∙ ap (λ (p : Parts Set). sets_give h d p.items >>= λ e. closed p.rest e) (parts_of-none next_set w f here)
+sets_from-none h d w f here = sets_from-is h d w ∙ ap (λ (p : Parts Set). sets_give h d p.items >>= λ e. unless (fault_after_sets p.rest) e) (parts_of-none next_set w f here)
 
 pub sets_from-cut : (h : Header) (d : Decoding) (w : List ℕ) (f : MessageFault) → 0 < length w → next_set w ≡ Err f → sets_from h d w ≡ Err f
 sets_from-cut h d w f some here =
-    let no : eqb (length w) 0 ≡ false = different (length w) 0 (λ e. omega (arith, e, some)) in
-    sets_from-none h d w f here ∙ rw (no, here) refl
+    sets_from-none h d w f here ∙ ap (λ (o : Option MessageFault). unless o d) (next_set-fault w f some here)
 
 pub sets_from-done : (h : Header) (d : Decoding) (w : List ℕ) → length w ≡ 0 → sets_from h d w ≡ Ok d
-unfolding next_set
 sets_from-done h d w none =
-    let nil : w ≡ [] = nil_from_length w none in
+    let ended = next_set-nil w none in
     let yes : eqb (length w) 0 ≡ true = eq-eqb (length w) 0 none in
-    sets_from-none h d w _ (ap next_set nil ∙ refl) ∙ rw yes refl
+    sets_from-none h d w ended.0 ended.1 ∙ rw yes refl
 
 -- ---- the loop over the sets
 
@@ -186,7 +139,7 @@ pub is_done : (h : Header) (entries : List (ℕ × Template)) (p : Progress) (w 
 is_done h entries p w total none going = (going.decoding, sym going.same ∙ sets_from-done h going.decoding w none, going.holds)
 
 pub skipped_set : (h : Header) (d : Decoding) (id : ℕ) (body : List ℕ) (entries : List (ℕ × Template)) (p : Progress) → Holds entries p d → id ≢ 2 → id ≢ 3 → id < 256
-    → Reaches (Ok tt) entries (record { records = p.records; skipped = p.skipped + 1; unknown = p.unknown; ignored = p.ignored }) (set_gives h d (id, body))
+    → Reaches (Ok tt) entries (record { records = p.records; skipped = p.skipped + 1; unknown = p.unknown; ignored = p.ignored }) (set_gives h d (record { id = id; body = body }))
 unfolding set_gives
 skipped_set h d id body entries p holds two three below = (
   record { events = d.events; records = d.records; skipped = d.skipped + 1; unknown = d.unknown; ignored = d.ignored },

@@ -17,18 +17,70 @@ use Rattle.ipfix_wire.specs.declared.header.Header.{Header}
 use Rattle.ipfix_message.specs.declared.sets.Progress.{Progress}
 use Rattle.ipfix_message.specs.declared.message.Decoded.{Decoded}
 use Rattle.ipfix_message.specs.Outcome.{◌>>=◌, Fails}
-use Rattle.ipfix_message.specs.Messages.{Decoding, before, sets_from, Holds, Reaches}
-use Rattle.ipfix_message.proofs.Fields.{Fails-of}
-use Rattle.ipfix_message.proofs.Bodies.{different}
-use Rattle.ipfix_message.specs.TemplatesInForce.{Agrees, in_force, template_in}
-use Rattle.ipfix_message.specs.Domains.{History, admit, with_events, message_header, message_gives, Message, AgreesAt, StandsFor, Admits, Decodes, template_for}
+use Rattle.ipfix_message.specs.Messages.{Decoding, before, sets_from}
+use Rattle.ipfix_message.proofs.FieldReading.{Fails-of}
+use Rattle.ipfix_message.proofs.Bodies.{chosen, different, ok_is, not_both, bind_ok}
+use Rattle.ipfix_message.specs.TemplatesInForce.{in_force}
+use Rattle.ipfix_message.specs.Held.{template_in, Agrees, Holds, Reaches, Admits}
+use Rattle.ipfix_message.specs.Domains.{History, admit, with_events, message_header, message_gives, Message, StandsFor, Decodes, template_for}
 use Rattle.ipfix_message.specs.Kept.{kept}
 
-agrees_some : (a : Option (List (ℕ × Template))) (b : Option (List Event)) → AgreesAt a b → is_some a ≡ is_some b
-agrees_some None None h = refl
-agrees_some (Some x) (Some y) h = refl
-agrees_some None (Some y) h = absurd h
-agrees_some (Some x) None h = absurd h
+-- ---- what is kept at each domain
+
+-- entries where the history has events, and for them
+abbrev AgreesAt : Option (List (ℕ × Template)) → Option (List Event) → Type 0
+AgreesAt None None = Unit {0}
+AgreesAt (Some entries) (Some es) = Agrees entries es
+AgreesAt None (Some es) = ⊥
+AgreesAt (Some entries) None = ⊥
+
+for_kept : (a : Option (List (ℕ × Template))) (b : Option (List Event)) (id : ℕ) → AgreesAt a b → option_and_then (λ es. in_force es id) b ≡ option_and_then (λ entries. template_in entries id) a
+for_kept None None id h = refl
+for_kept (Some x) (Some y) id h = sym (h.at id)
+for_kept None (Some y) id h = absurd h
+for_kept (Some x) None id h = absurd h
+
+nil_cons : (k : ℕ) (ks : List ℕ) → [] ≡ k ∷ ks → ⊥
+nil_cons k ks h = cc
+
+cons_is : (a b : ℕ) (as' bs : List ℕ) → a ∷ as' ≡ b ∷ bs → (a ≡ b) × (as' ≡ bs)
+cons_is a b as' bs h = (cc, cc)
+
+-- the same keys are found
+same_found : {X Y : Type 0} (test : ℕ → Bool) (xs : List (ℕ × X)) (ys : List (ℕ × Y)) → keys_of xs ≡ keys_of ys → is_some (lookup test xs) ≡ is_some (lookup test ys)
+same_found test [] [] h = refl
+same_found test [] (y ∷ ys) h = absurd (nil_cons y.0 (keys_of ys) h)
+same_found test (x ∷ xs) [] h = absurd (nil_cons x.0 (keys_of xs) (sym h))
+same_found test (x ∷ xs) (y ∷ ys) h =
+    let parts = cons_is x.0 y.0 (keys_of xs) (keys_of ys) h in
+    by_test (test x.0) (test y.0) (ap test parts.0) (same_found test xs ys parts.1)
+  where
+    by_test : (b c : Bool) → b ≡ c → is_some (lookup test xs) ≡ is_some (lookup test ys) → is_some (cond b (Some x.1) (lookup test xs)) ≡ is_some (cond c (Some y.1) (lookup test ys))
+    by_test true true e rest = refl
+    by_test false false e rest = rest
+    by_test true false e rest = absurd cc
+    by_test false true e rest = absurd cc
+
+stands-at : (xs : List (ℕ × List (ℕ × Template))) (ds : History) → StandsFor xs ds → (domain : ℕ) → AgreesAt (lookup (eqb domain) xs) (lookup (eqb domain) ds)
+stands-at xs ds stands domain = by_cases (lookup (eqb domain) xs) (lookup (eqb domain) ds) refl refl
+  where
+    found : is_some (lookup (eqb domain) xs) ≡ is_some (lookup (eqb domain) ds)
+    found = same_found (eqb domain) xs ds stands.domains
+
+    not_found : (b c : Bool) → b ≡ false → c ≡ true → b ≡ c → ⊥
+    not_found b c p q e = cc
+
+    by_cases : (a : Option (List (ℕ × Template))) (b : Option (List Event)) → lookup (eqb domain) xs ≡ a → lookup (eqb domain) ds ≡ b → AgreesAt a b
+    by_cases None None ea eb = tt
+    by_cases (Some entries) (Some es) ea eb = record {
+      at = λ id.
+          sym (ap (λ (o : Option (List (ℕ × Template))). option_and_then (λ x. template_in x id) o) ea) ∙ stands.templates domain id ∙ ap (λ (o : Option (List Event)). option_and_then (λ x. in_force x id) o) eb;
+    }
+    by_cases None (Some es) ea eb = absurd (not_found _ _ (ap is_some ea) (ap is_some eb) found)
+    by_cases (Some entries) None ea eb = absurd (not_found _ _ (ap is_some eb) (ap is_some ea) (sym found))
+
+stands-from : (xs : List (ℕ × List (ℕ × Template))) (ds : History) → keys_of xs ≡ keys_of ds → ((domain : ℕ) → AgreesAt (lookup (eqb domain) xs) (lookup (eqb domain) ds)) → StandsFor xs ds
+stands-from xs ds same at = record { domains = same; templates = λ domain id. sym (for_kept (lookup (eqb domain) xs) (lookup (eqb domain) ds) id (at domain)) }
 
 is_some-option_map : {A B : Type 0} (f : A → B) (o : Option A) → is_some (option_map f o) ≡ is_some o
 is_some-option_map f None = refl
@@ -44,8 +96,7 @@ keys_of-kept (e ∷ es) = ap (λ (ks : List ℕ). e.0 ∷ ks) (keys_of-kept es)
 -- whether a domain is kept is whether the history has it
 pub is_some-history : (es : List (ℕ × BTreeMap ℕ Template)) (ds : History) (domain : ℕ) → StandsFor (kept es) ds → is_some (lookup (eqb domain) ds) ≡ is_some (lookup (eqb domain) es)
 is_some-history es ds domain stands =
-    sym (agrees_some (lookup (eqb domain) (kept es)) (lookup (eqb domain) ds) (stands.at domain))
-    ∙ ap is_some (lookup-kept domain es) ∙ is_some-option_map (λ (m : BTreeMap ℕ Template). m.entries) (lookup (eqb domain) es)
+    sym (same_found (eqb domain) (kept es) ds stands.domains) ∙ ap is_some (lookup-kept domain es) ∙ is_some-option_map (λ (m : BTreeMap ℕ Template). m.entries) (lookup (eqb domain) es)
 
 -- as many domains are kept as the history has
 pub length-history : (es : List (ℕ × BTreeMap ℕ Template)) (ds : History) → StandsFor (kept es) ds → length ds ≡ length es
@@ -100,10 +151,10 @@ joins None (Some y) q domain xs ds ea eb h = absurd h
 joins (Some x) None q domain xs ds ea eb h = absurd h
 
 pub stands-more : (xs : List (ℕ × List (ℕ × Template))) (ds : History) (domain : ℕ) → StandsFor xs ds → StandsFor (xs ++ (domain, []) ∷ []) (ds ++ (domain, []) ∷ [])
-stands-more xs ds domain stands = record {
-  domains = keys_of-append xs ((domain, []) ∷ []) ∙ ap (λ (ks : List ℕ). ks ++ domain ∷ []) stands.domains ∙ sym (keys_of-append ds ((domain, []) ∷ []));
-  at = λ q. joins (lookup (eqb q) xs) (lookup (eqb q) ds) q domain xs ds refl refl (stands.at q);
-}
+stands-more xs ds domain stands =
+    stands-from (xs ++ (domain, []) ∷ []) (ds ++ (domain, []) ∷ [])
+    (keys_of-append xs ((domain, []) ∷ []) ∙ ap (λ (ks : List ℕ). ks ++ domain ∷ []) stands.domains ∙ sym (keys_of-append ds ((domain, []) ∷ [])))
+    (λ q. joins (lookup (eqb q) xs) (lookup (eqb q) ds) q domain xs ds refl refl (stands-at xs ds stands q))
 
 pub admit-new : (es news : List (ℕ × BTreeMap ℕ Template)) (ds : History) (domain : ℕ) (m : BTreeMap ℕ Template) → StandsFor (kept es) ds → is_some (lookup (eqb domain) es) ≡ false → length es < 1024
     → news ≡ es ++ (domain, m) ∷ [] → m.entries ≡ [] → Admits (Ok tt) (kept news) (admit ds domain)
@@ -170,10 +221,11 @@ puts_agree (Some x) None entries es true h agrees = absurd h
 
 pub stands-put : (xs : List (ℕ × BTreeMap ℕ Template)) (ds : History) (domain : ℕ) (m : BTreeMap ℕ Template) (es : List Event) → StandsFor (kept xs) ds → Agrees m.entries es
     → StandsFor (kept (set_value (eqb domain) xs m)) (with_events ds domain es)
-stands-put xs ds domain m es stands agrees = rw (kept-set_value (eqb domain) xs m) (record {
-  domains = keys_of-set_value (eqb domain) (kept xs) m.entries ∙ stands.domains ∙ sym (keys_of-set_value (eqb domain) ds es);
-  at = λ q. rw (lookup-set_value q domain (kept xs) m.entries, lookup-set_value q domain ds es) (puts_agree (lookup (eqb q) (kept xs)) (lookup (eqb q) ds) m.entries es (eqb q domain) (stands.at q) agrees);
-})
+stands-put xs ds domain m es stands agrees =
+    rw (kept-set_value (eqb domain) xs m)
+    (stands-from (set_value (eqb domain) (kept xs) m.entries) (set_value (eqb domain) ds es)
+    (keys_of-set_value (eqb domain) (kept xs) m.entries ∙ stands.domains ∙ sym (keys_of-set_value (eqb domain) ds es))
+    (λ q. rw (lookup-set_value q domain (kept xs) m.entries, lookup-set_value q domain ds es) (puts_agree (lookup (eqb q) (kept xs)) (lookup (eqb q) ds) m.entries es (eqb q domain) (stands-at (kept xs) ds stands q) agrees)))
 
 -- ---- a message
 
@@ -189,7 +241,7 @@ events_at a ds domain None entries ea eb h = absurd (subst (λ (o : Option (List
 
 pub events_of : (xs : List (ℕ × BTreeMap ℕ Template)) (ds : History) (domain : ℕ) (m : BTreeMap ℕ Template) → StandsFor (kept xs) ds → lookup (eqb domain) xs ≡ Some m → EventsAt ds domain m.entries
 events_of xs ds domain m stands here =
-    events_at (lookup (eqb domain) (kept xs)) ds domain (lookup (eqb domain) ds) m.entries (lookup-kept domain xs ∙ ap (option_map (λ (x : BTreeMap ℕ Template). x.entries)) here) refl (stands.at domain)
+    events_at (lookup (eqb domain) (kept xs)) ds domain (lookup (eqb domain) ds) m.entries (lookup-kept domain xs ∙ ap (option_map (λ (x : BTreeMap ℕ Template). x.entries)) here) refl (stands-at (kept xs) ds stands domain)
 
 abbrev after_admit : Header → List ℕ → History → Result Message MessageFault
 after_admit h m known = sets_from h (before (unwrap_or (lookup (eqb h.domain) known) [])) (drop 16 m) >>= λ d. Ok (record { header = h; decoding = d; domains = with_events known h.domain d.events })
@@ -228,7 +280,7 @@ bad_sets e ds m h xs t p is admitted here starts fails =
 pub good_message : (ds : History) (m : List ℕ) (h : Header) (xs : List (ℕ × BTreeMap ℕ Template)) (t u : BTreeMap ℕ Template) (p q : Progress) (decoded : Decoded) (news : List (ℕ × BTreeMap ℕ Template)) → message_header m ≡ Ok h
     → Admits (Ok tt) (kept xs) (admit ds h.domain) → lookup (eqb h.domain) xs ≡ Some t → ((es : List Event) → Agrees t.entries es → Holds t.entries p (before es))
     → ((d : Decoding) → Holds t.entries p d → Reaches (Ok tt) u.entries q (sets_from h d (drop 16 m)))
-    → decoded ≡ record { header = h; records = q.records.items; skipped_sets = q.skipped; unknown_sets = q.unknown; ignored_withdrawals = q.ignored }
+    → decoded ≡ record { header = h; records = q.records; skipped_sets = q.skipped; unknown_sets = q.unknown; ignored_withdrawals = q.ignored }
     → news ≡ set_value (eqb h.domain) xs u
     → Decodes (Ok decoded) (kept news) (message_gives ds m)
 good_message ds m h xs t u p q decoded news is admitted here starts reaches answered written =
@@ -238,28 +290,50 @@ good_message ds m h xs t u p q decoded news is admitted here starts reaches answ
     let holds = r.2 in (
       record { header = h; decoding = d; domains = with_events admitted.0 h.domain d.events },
       gives_sets ds m h admitted.0 at.events (Ok d) is admitted.1 at.are r.1,
-      answered ∙ rw (holds.records, holds.skipped, holds.unknown, holds.ignored) refl,
+      rw answered (record { header = refl; records = holds.records; skipped_sets = holds.skipped; unknown_sets = holds.unknown; ignored_withdrawals = holds.ignored }),
       rw written (stands-put xs admitted.0 h.domain u d.events admitted.2 holds.templates),
     )
 
 -- ---- look-ups
 
-for_kept : (a : Option (List (ℕ × Template))) (b : Option (List Event)) (id : ℕ) → AgreesAt a b → option_and_then (λ es. in_force es id) b ≡ option_and_then (λ entries. template_in entries id) a
-for_kept None None id h = refl
-for_kept (Some x) (Some y) id h = sym (h.at id)
-for_kept None (Some y) id h = absurd h
-for_kept (Some x) None id h = absurd h
-
 pub template_for-none : (xs : List (ℕ × BTreeMap ℕ Template)) (ds : History) (domain id : ℕ) → StandsFor (kept xs) ds → lookup (eqb domain) xs ≡ None → template_for ds domain id ≡ None
 template_for-none xs ds domain id stands none =
-    for_kept (lookup (eqb domain) (kept xs)) (lookup (eqb domain) ds) id (stands.at domain)
+    sym (stands.templates domain id)
     ∙ ap (λ (o : Option (List (ℕ × Template))). option_and_then (λ entries. template_in entries id) o) (lookup-kept domain xs ∙ ap (option_map (λ (m : BTreeMap ℕ Template). m.entries)) none)
 
 pub template_for-some : (xs : List (ℕ × BTreeMap ℕ Template)) (ds : History) (domain id : ℕ) (m : BTreeMap ℕ Template) → StandsFor (kept xs) ds → lookup (eqb domain) xs ≡ Some m → template_for ds domain id ≡ template_in m.entries id
 template_for-some xs ds domain id m stands some =
-    for_kept (lookup (eqb domain) (kept xs)) (lookup (eqb domain) ds) id (stands.at domain)
+    sym (stands.templates domain id)
     ∙ ap (λ (o : Option (List (ℕ × Template))). option_and_then (λ entries. template_in entries id) o) (lookup-kept domain xs ∙ ap (option_map (λ (x : BTreeMap ℕ Template). x.entries)) some)
 
 -- no domains stand for none
 pub stands-none : StandsFor [] []
-stands-none = record { domains = refl; at = λ q. tt }
+stands-none = record { domains = refl; templates = λ domain id. refl }
+
+-- ---- the domains after a message
+
+-- the domains, and this one behind them where it is new
+abbrev pub with_domain : History → ℕ → List ℕ
+with_domain ds domain = cond (is_some (lookup (eqb domain) ds)) (keys_of ds) (keys_of ds ++ domain ∷ [])
+
+admit-keys : (ds known : History) (domain : ℕ) → admit ds domain ≡ Ok known → keys_of known ≡ with_domain ds domain
+unfolding admit
+admit-keys ds known domain h =
+    elim (chosen (is_some (lookup (eqb domain) ds)) (Ok ds) (cond (ltb (length ds) 1024) (Ok (ds ++ (domain, []) ∷ [])) (Err TooManyDomains)) (Ok known) h) [
+      | inl t ↦ rw t.0 (ap keys_of (sym (ok_is ds known t.1)))
+      | inr f ↦ elim (chosen (ltb (length ds) 1024) (Ok (ds ++ (domain, []) ∷ [])) (Err TooManyDomains) (Ok known) f.1) [
+        | inl t ↦ rw f.0 (ap keys_of (sym (ok_is (ds ++ (domain, []) ∷ []) known t.1)) ∙ keys_of-append ds ((domain, []) ∷ []))
+        | inr g ↦ absurd (not_both known TooManyDomains (sym g.1))
+      ]
+    ]
+
+-- after a message the domains are those before it, and its own behind them where it is new
+pub message_gives-keys : (ds : History) (m : List ℕ) (x : Message) → message_gives ds m ≡ Ok x → keys_of x.domains ≡ with_domain ds x.header.domain
+unfolding message_gives
+message_gives-keys ds m x read =
+    let h = bind_ok (message_header m) (λ h. admit ds h.domain >>= λ known. after_admit h m known) x read in
+    let known = bind_ok (admit ds h.0.domain) (after_admit h.0 m) x h.2 in
+    let d = bind_ok (sets_from h.0 (before (unwrap_or (lookup (eqb h.0.domain) known.0) [])) (drop 16 m)) (after_sets h.0 known.0) x known.2 in
+    let same = ok_is (record { header = h.0; decoding = d.0; domains = with_events known.0 h.0.domain d.0.events }) x d.2 in
+    let P : Message → Type 0 = λ y. keys_of y.domains ≡ with_domain ds y.header.domain in
+    subst P same (keys_of-set_value (eqb h.0.domain) known.0 d.0.events ∙ admit-keys ds known.0 h.0.domain known.1)

@@ -1,7 +1,12 @@
-pub mod Fields
+pub mod FieldReading
 pub mod Bodies
-pub mod Specs
+pub mod SpecReading
 pub mod Same
+pub mod FieldSpecifiers
+pub mod TemplateRecords
+pub mod MessageSets
 pub mod TemplateSets
+pub mod LastDefinition
 pub mod Decoding
 pub mod History
+pub mod Blocks

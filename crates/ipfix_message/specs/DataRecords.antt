@@ -5,7 +5,7 @@ use Rattle.ipfix_wire.specs.declared.specifier.Spec.{Spec}
 use Rattle.ipfix_message.specs.declared.fault.MessageFault.{MessageFault}
 use Rattle.ipfix_message.specs.declared.fault.MessageFault.TheVariants.{RecordCut}
 use Rattle.ipfix_wire.specs.declared.header.Header.{Header}
-use Rattle.ipfix_message.specs.declared.record.Field.{Field}
+use Rattle.ipfix_message.specs.Fields.{Field}
 use Rattle.ipfix_message.specs.declared.record.DataRecord.{DataRecord}
 use Rattle.ipfix_message.specs.declared.record.Template.{Template}
 use Rattle.ipfix_message.specs.Outcome.{◌>>=◌}
@@ -73,4 +73,3 @@ records_of_body specs w = finished (least specs) (parts_of (fields_at specs) w)
 -- a data record: its fields, with the domain and the time of its message and the id and scope of its template
 abbrev pub record_of : Header → Template → List Field → DataRecord
 record_of h t fields = record { domain = h.domain; export_time = h.export_time; template = t.id; scope = t.scope; fields = fields }
-

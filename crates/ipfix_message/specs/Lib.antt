@@ -1,8 +1,12 @@
 pub mod Faults
 pub mod Outcome
+pub mod Fields
+pub mod FieldViews
 pub mod DataRecords
 pub mod TemplateRecords
 pub mod TemplatesInForce
+pub mod Sets
 pub mod Messages
 pub mod Domains
+pub mod Held
 pub mod Kept

@@ -1,32 +1,24 @@
 -- The templates that are in force after template records (RFC 7011, section 8).
-use Rattle.std.specs.Prelude.{◌≡◌, ℕ, zero, suc, ◌+◌, Bool, true, false, ◌||◌, ◌&&◌, not, nat_lt, ◌==◌, if◌then◌else◌, List, [], ◌∷◌, length, drop, Option, Some, None, Result, Ok, Err}
-use Rattle.std.specs.List.{list_all}
+use Rattle.std.specs.Prelude.{◌≡◌, ℕ, ◌+◌, Bool, true, false, ◌&&◌, not, IsTrue, ◌==◌, if◌then◌else◌, List, [], ◌∷◌, ◌++◌, Option, Some, None, Ok, Err}
 use Rattle.std.specs.Cmp.Lexicographic.{pointwise}
-use Rattle.std.specs.Map.{lookup}
-use Rattle.std.specs.Ordering.{nat_cmp, eq_by_cmp}
-use Rattle.byteorder.specs.Endian.{big_number}
-use Rattle.ipfix_wire.specs.Numbers.{number_at}
-use Rattle.ipfix_wire.specs.FieldSpecifier.{spec_at}
 use Rattle.ipfix_wire.specs.declared.specifier.Spec.{Spec}
-use Rattle.ipfix_message.specs.declared.fault.MessageFault.{MessageFault}
-use Rattle.ipfix_message.specs.declared.fault.MessageFault.TheVariants.{TemplateId, TemplateCut, Scope, ZeroLength, TemplateChanged}
+use Rattle.ipfix_message.specs.declared.fault.MessageFault.TheVariants.{TemplateChanged}
 use Rattle.ipfix_message.specs.declared.record.Template.{Template}
 use Rattle.ipfix_message.specs.declared.template_record.Kind.{Kind}
 use Rattle.ipfix_message.specs.declared.template_record.Kind.TheVariants.{Plain, Options}
 use Rattle.ipfix_message.specs.declared.template_record.Event.{Event}
 use Rattle.ipfix_message.specs.declared.template_record.Event.TheVariants.{Define, Withdraw, WithdrawAll}
-use Rattle.ipfix_message.specs.Outcome.{◌>>=◌, Fails}
-use Rattle.ipfix_wire.specs.InTurn.{parts_of}
-use Rattle.ipfix_message.specs.DataRecords.{least}
-use Rattle.ipfix_message.specs.TemplateRecords.{event_at, is_padding}
+use Rattle.ipfix_message.specs.Outcome.{Read, ◌>>=◌, unless}
+use Rattle.ipfix_message.specs.TemplateRecords.{events_of, fault_after_events}
 
--- ---- the templates in force after events, the newest event first
+-- ---- the template in force for an id; events stand with the newest first
 
+-- an options template has scope fields
 abbrev pub is_of : Kind → Template → Bool
 is_of Plain t = t.scope == 0
 is_of Options t = not (t.scope == 0)
 
--- a template that a withdrawal of a kind leaves
+-- what a withdrawal of a kind leaves in force
 abbrev pub unless_of : Kind → Option Template → Option Template
 unless_of kind None = None
 unless_of kind (Some t) = if is_of kind t then None else Some t
@@ -38,56 +30,67 @@ in_force (Define t ∷ es) id = if id == t.id then Some t else in_force es id
 in_force (Withdraw kind i ∷ es) id = if id == i then unless_of kind (in_force es id) else in_force es id
 in_force (WithdrawAll kind ∷ es) id = unless_of kind (in_force es id)
 
+-- an event that ends t: another definition of its id, or a withdrawal of it or of all templates of its kind
+abbrev pub Ends : Template → Event → Type 0
+Ends t (Define u) = u.id ≡ t.id
+Ends t (Withdraw kind id) = IsTrue (is_of kind t) × (id ≡ t.id)
+Ends t (WithdrawAll kind) = IsTrue (is_of kind t)
+
+-- t outlasts these events
+abbrev pub Outlasts : Template → List Event → Type 0
+Outlasts t [] = Unit {0}
+Outlasts t (e ∷ es) = (¬ Ends t e) × Outlasts t es
+
+-- t was defined, and outlasts all later events
+pub record IsInForce (t : Template) (es : List Event) : Type 0 where
+  pub later : List Event
+  pub earlier : List Event
+  pub order : es ≡ later ++ Define t ∷ earlier
+  pub lasts : Outlasts t later
+
+-- ---- what an event means after the events before it
+
 abbrev pub same_spec : Spec → Spec → Bool
 same_spec a b = (a.element.pen == b.element.pen) && (a.element.number == b.element.number) && (a.width == b.width)
 
+-- the same id, scope field count and field specifiers
 abbrev pub same_template : Template → Template → Bool
 same_template t u = (t.id == u.id) && (t.scope == u.scope) && pointwise same_spec t.specs u.specs
 
--- defining t where a template is in force, or none: a different one is refused
-abbrev pub defining : Template → Option Template → Result Bool MessageFault
-defining t None = Ok false
-defining t (Some u) = if same_template t u then Ok false else Err TemplateChanged
+-- another template is there
+abbrev pub is_other : Template → Option Template → Bool
+is_other t None = false
+is_other t (Some u) = not (same_template t u)
 
-abbrev pub is_ignored : Kind → Option Template → Bool
-is_ignored kind None = true
-is_ignored kind (Some t) = not (is_of kind t)
+-- no template of that kind is there
+abbrev pub is_none_of : Kind → Option Template → Bool
+is_none_of kind None = true
+is_none_of kind (Some t) = not (is_of kind t)
 
--- whether the next event is a withdrawal that is ignored, or its fault
-unfoldable pub event_gives : List Event → Event → Result Bool MessageFault
-event_gives es (Define t) = defining t (in_force es t.id)
-event_gives es (Withdraw kind id) = Ok (is_ignored kind (in_force es id))
-event_gives es (WithdrawAll kind) = Ok false
+-- a definition changes a template where another one is in force for its id
+abbrev pub changes_template : List Event → Event → Bool
+changes_template es (Define t) = is_other t (in_force es t.id)
+changes_template es (Withdraw kind id) = false
+changes_template es (WithdrawAll kind) = false
 
--- events after earlier ones: all of them, the newest first, and how many withdrawals were ignored
-unfoldable pub events_give : List Event → List Event → Result (List Event × ℕ) MessageFault
+-- a withdrawal is ignored where no template of its kind is in force for its id; one of all templates never is
+abbrev pub is_ignored : List Event → Event → Bool
+is_ignored es (Define t) = false
+is_ignored es (Withdraw kind id) = is_none_of kind (in_force es id)
+is_ignored es (WithdrawAll kind) = false
+
+-- whether the next event is a withdrawal that is ignored; a changed template is a fault
+unfoldable pub event_gives : List Event → Event → Read Bool
+event_gives es e = if changes_template es e then Err TemplateChanged else Ok (is_ignored es e)
+
+-- events after the earlier ones es: all of them, the newest first, and how many withdrawals are ignored
+unfoldable pub events_give : List Event → List Event → Read (List Event × ℕ)
 events_give [] es = Ok (es, 0)
 events_give (e ∷ more) es = do
   ignored ← event_gives es e
   rest ← events_give more (e ∷ es)
   Ok (rest.0, (if ignored then 1 else 0) + rest.1)
 
--- what the end of a template set gives: padding, or the fault of what stands there
-abbrev pub ended : {X : Type 0} → Kind → List ℕ → X → Result X MessageFault
-ended kind w x = if is_padding w then Ok x else (event_at kind w >>= λ _. Ok x)
-
--- a template set, after the events es of its domain
-unfoldable pub template_set_gives : Kind → List Event → List ℕ → Result (List Event × ℕ) MessageFault
-template_set_gives kind es w =
-    let parts = parts_of (event_at kind) w in
-    events_give parts.items es >>= λ r. ended kind parts.rest r
-
--- ---- the templates that are kept
-
--- what the entries of a map have at an id
-abbrev pub template_in : List (ℕ × Template) → ℕ → Option Template
-template_in entries id = lookup (eq_by_cmp nat_cmp id) entries
-
--- the entries stand for the events of a domain: at each id they have the template in force
-pub record Agrees (entries : List (ℕ × Template)) (es : List Event) : Type 0 where
-  pub at : (id : ℕ) → template_in entries id ≡ in_force es id
-
--- a template set that was taken: the count of ignored withdrawals, and entries that stand for the events after it
-abbrev pub Updates : Result ℕ MessageFault → List (ℕ × Template) → Result (List Event × ℕ) MessageFault → Type 0
-Updates (Ok n) entries read = (es : List Event) × (read ≡ Ok (es, n)) × Agrees entries es
-Updates (Err e) entries read = Fails e read
+-- a template set, after the events es of its domain: what its events give, and then the fault of what is left of it
+unfoldable pub template_set_gives : Kind → List Event → List ℕ → Read (List Event × ℕ)
+template_set_gives kind es w = events_give (events_of kind w).items es >>= λ r. unless (fault_after_events kind (events_of kind w).rest) r

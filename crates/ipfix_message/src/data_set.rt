@@ -1,18 +1,21 @@
-ghost use Rattle.std.specs.Prelude.{◌≡◌, ◌<◌, ◌++◌, map};
+//! The records of a data set (RFC 7011, sections 3.4.3 and 7).
+
+ghost use Rattle.std.specs.Prelude.{◌≡◌, ◌<◌, ◌^◌, ◌++◌, length, map, IfOk};
 ghost use Rattle.ipfix_message.specs.Outcome.{Gives, map_read};
 ghost use Rattle.ipfix_message.specs.DataRecords;
 ghost use Rattle.ipfix_message.specs.DataRecords.{value_at, fields_at, records_of_body, record_of};
 
 use crate::fault::MessageFault;
-use crate::record::{DataRecord, Field, Template};
-use crate::sequence::Sequence;
+use crate::field_block::Fields;
+use crate::record::{DataRecord, Template};
 use ipfix_wire::{Header, Spec, read_length};
 use std::alloc::Global;
 
 /// The octets of a field of this width, and what follows them.
 #[tactic(auto, unfolding(crate::specs::DataRecords::value_at))]
 fn value_of(width: u16, rest: &[u8]) -> Result<(&[u8], &[u8]), MessageFault>
-    ensures { Gives (λ x. (x.0.now, x.1.now)) result (value_at width rest.now) }
+    ensures gives { Gives (λ x. (x.0.now, x.1.now)) result (value_at width rest.now) }
+    ensures short { IfOk result (λ x. length x.0.now < 2 ^ 16) }
 {
     let (len, rest) = if width == u16::MAX {
         let Some((len, used)) = read_length(rest) else {
@@ -32,18 +35,16 @@ fn value_of(width: u16, rest: &[u8]) -> Result<(&[u8], &[u8]), MessageFault>
 fn fields_of<'a>(
     alloc: Global,
     specs: &[Spec],
+    least: usize,
     octets: &'a [u8],
-) -> Result<(Vec<Field>, &'a [u8]), MessageFault>
-    ensures { Gives (λ x. (x.0.items, x.1.now)) result (fields_at specs.now octets.now) }
+) -> Result<(Fields, &'a [u8]), MessageFault>
+    ensures { Gives (λ x. (x.0, x.1.now)) result (fields_at specs.now octets.now) }
 {
-    let mut fields = Vec::with_capacity(alloc, specs.len())?;
+    let mut fields = Fields::with_capacity(alloc, specs.len(), least)?;
     let mut rest = octets;
     for spec in specs {
         let (value, after) = value_of(spec.width, rest)?;
-        fields.push(Field {
-            element: spec.element,
-            octets: Sequence::from_vec(Vec::from_slice(alloc, value)?),
-        })?;
+        fields.push(spec.element, value)?;
         rest = after;
     }
     Ok((fields, rest))
@@ -65,13 +66,13 @@ pub fn take_records(
 {
     let mut rest = body;
     while rest.len() >= least {
-        let (fields, after) = fields_of(alloc, template.specs.as_slice(), rest)?;
+        let (fields, after) = fields_of(alloc, template.specs.as_slice(), least, rest)?;
         out.push(DataRecord {
             domain: header.domain,
             export_time: header.export_time,
             template: template.id,
             scope: template.scope,
-            fields: Sequence::from_vec(fields),
+            fields,
         })?;
         rest = after;
     }

@@ -1,17 +1,18 @@
-//! The domains of a session, which decode its messages.
+//! The domains of a transport session, which decode its messages (RFC 7011, sections 3.1 and 8).
 
 ghost use Rattle.std.specs.Prelude.{[], ◌≡◌, false, true, IsTrue, OnOk, OnErr, Err, None, option_copied};
 ghost use Rattle.ipfix_message.specs.Domains.{History, StandsFor, Decodes, message_gives, template_for};
 ghost use Rattle.ipfix_message.specs.declared.fault.MessageFault.TheVariants.{Spent};
 
-use crate::message::{Decoded, Templates, read_message};
 use crate::fault::MessageFault;
+use crate::message::{Decoded, Templates, read_message};
 use crate::record::Template;
 use indexmap::IndexMap;
 use std::alloc::Global;
 use std::marker::Model;
 
-/// The domains of a session with their templates.
+/// The observation domains of a transport session, in order of first appearance, with the templates
+/// that are in force in each (RFC 7011, sections 3.1 and 8). There are at most 1,024.
 #[derive(Drop)]
 pub struct Domains {
     known: IndexMap<u32, Templates>,
@@ -28,6 +29,7 @@ impl Model for Domains {
 }
 
 impl Domains {
+    /// No domains, at the start of a session.
     pub fn new(alloc: Global) -> Self
         ensures fresh { result.spent ≡ false }
         ensures empty { StandsFor result.domains [] }
@@ -38,7 +40,14 @@ impl Domains {
         }
     }
 
-    /// Decodes a message. After a fault each further call answers `Spent`.
+    /// Decodes a message: the records of its data sets under the templates in force, and what was
+    /// passed over. Template records take effect in the order in which they stand, for the sets
+    /// after them and for later messages of the domain.
+    ///
+    /// The fault is the first of these: `Spent`; `MessageLength` for fewer than 16 octets; `Version`;
+    /// `MessageLength` for another length than that of the slice; `TooManyDomains`; then set by set
+    /// `SetHeader`, `SetLength` and the faults inside the set in the order of its octets. Want of
+    /// memory may come in place of any other. After a fault each further call answers `Spent`.
     pub fn decode(&mut self, alloc: Global, message: &[u8]) -> Result<Decoded, MessageFault>
         ensures spent { IsTrue self.old.spent → result ≡ Err Spent }
         ensures gives { self.old.spent ≡ false → (ds : History) → StandsFor self.old.domains ds
@@ -54,7 +63,7 @@ impl Domains {
         result
     }
 
-    /// The template in force for an id in a domain.
+    /// The template that is in force for an id in a domain, or `None` after a fault.
     pub fn lookup(&self, domain: u32, id: u16) -> Option<&Template>
         ensures spent { IsTrue self.now.spent → result ≡ None }
         ensures found { self.now.spent ≡ false → (ds : History) → StandsFor self.now.domains ds

@@ -1,16 +1,16 @@
-//! The templates of one domain that are in force.
+//! The templates of one domain that are in force (RFC 7011, section 8).
 
 ghost use Rattle.std.specs.Prelude.{◌≡◌, ◌==◌, ◌∷◌, ℕ, List, Some, if◌then◌else◌, ◌≤◌, length, OnOk, IfOk};
 ghost use Rattle.std.specs.Ordering.{nat_cmp};
 ghost use Rattle.std.specs.BTreeMap.{get};
 ghost use Rattle.ipfix_message.specs.Outcome.{Gives};
-ghost use Rattle.ipfix_message.specs.TemplatesInForce.{defining, is_ignored, unless_of, Agrees, template_set_gives, Updates};
-ghost use Rattle.ipfix_message.specs.TemplatesInForce.{event_gives};
+ghost use Rattle.ipfix_message.specs.TemplatesInForce.{is_none_of, unless_of, event_gives, template_set_gives};
+ghost use Rattle.ipfix_message.specs.Held.{Agrees, defining, Updates};
 ghost use Rattle.ipfix_message.specs.declared.template_record.Event.{Event};
 
-use crate::template_record::{Event, Kind, event_of, is_padding};
 use crate::fault::MessageFault;
 use crate::known::Known;
+use crate::template_record::{Event, Kind, event_of, is_padding};
 use std::alloc::Global;
 use std::collections::BTreeMap;
 
@@ -33,7 +33,7 @@ fn define(templates: &mut BTreeMap<u16, Known>, new: Known) -> Result<bool, Mess
 }
 
 fn withdraw(templates: &mut BTreeMap<u16, Known>, kind: Kind, id: u16) -> bool
-    ensures ignored { result ≡ is_ignored kind (get nat_cmp templates.old id) }
+    ensures ignored { result ≡ is_none_of kind (get nat_cmp templates.old id) }
     ensures left { (q : ℕ) → get nat_cmp templates.new q ≡ (if q == id then unless_of kind (get nat_cmp templates.old q) else get nat_cmp templates.old q) }
 {
     let is_known = match templates.get(&id) {

@@ -1,11 +1,11 @@
-//! Templates in force.
+//! Templates in force (RFC 7011, section 8).
 
 ghost use Rattle.std.specs.Prelude.{◌≡◌, ◌<◌, ◌↔◌, IsTrue};
 ghost use Rattle.ipfix_message.specs.DataRecords;
 ghost use Rattle.ipfix_message.specs.TemplatesInForce;
 
-use crate::template_record::Kind;
 use crate::record::Template;
+use crate::template_record::Kind;
 use ipfix_wire::Spec;
 use std::marker::Model;
 

@@ -1,14 +1,48 @@
 //! Laws of the definitions.
 
-ghost use Rattle.std.specs.Prelude.{◌≡◌, ◌<◌, ℕ, List, Ok};
+ghost use Rattle.std.specs.Prelude.{◌≡◌, ◌<◌, ◌↔◌, ℕ, List, Some, None, Ok, Err, length};
 ghost use Rattle.ipfix_wire.specs.Numbers.{IsOctets};
 ghost use Rattle.ipfix_wire.specs.declared.specifier.Spec.{Spec};
-ghost use Rattle.ipfix_message.specs.declared.record.Field.{Field};
+ghost use Rattle.ipfix_message.specs.Fields.{Field};
 ghost use Rattle.ipfix_message.specs.DataRecords.{IsBody, records_of_body};
 ghost use Rattle.ipfix_message.specs.DataRecords;
+ghost use Rattle.ipfix_wire.specs.InTurn.{IsLongest};
+ghost use Rattle.ipfix_message.specs.TemplateRecords.{SpellsEvent, IsTemplateSet, IsPadding, FaultAt, events_of, fault_after_events};
+ghost use Rattle.ipfix_message.specs.declared.template_record.Kind.{Kind};
+ghost use Rattle.ipfix_message.specs.declared.template_record.Event.{Event};
+ghost use Rattle.ipfix_message.specs.TemplatesInForce.{IsInForce, in_force};
+ghost use Rattle.ipfix_message.specs.declared.record.Template.{Template};
+ghost use Rattle.ipfix_message.specs.Sets.{Set, SpellsSet, next_set, sets_of, fault_after_sets};
+ghost use Rattle.ipfix_message.specs.declared.fault.MessageFault.{MessageFault};
 
 /// A body is read as the one list of records that it is the spelling of, up to padding.
 pub fn one_body()
     ensures found { (specs : List Spec) (w : List ℕ) (rs : List (List Field)) → IsOctets w → records_of_body specs w ≡ Ok rs → IsBody specs rs w }
     ensures only { (specs : List Spec) (w : List ℕ) (rs : List (List Field)) → 0 < DataRecords.least specs → IsBody specs rs w → records_of_body specs w ≡ Ok rs }
+{}
+
+/// The sets of a message are the longest list of sets whose spellings, one after another, begin what
+/// follows the message's header (RFC 7011, section 3.3), and the fault of what is left is that of
+/// reading one more set.
+pub fn longest_sets()
+    ensures found { (w : List ℕ) → IsOctets w → IsLongest SpellsSet (sets_of w).items (sets_of w).rest w }
+    ensures only { (w rest : List ℕ) (sets : List Set) → IsOctets w → IsLongest SpellsSet sets rest w → sets_of w ≡ record { items = sets; rest = rest } }
+    ensures left { (rest : List ℕ) (f : MessageFault) → 0 < length rest → next_set rest ≡ Err f → fault_after_sets rest ≡ Some f }
+{}
+
+/// The template records in the body of a template set are the longest list of definitions and
+/// withdrawals whose records, one after another, begin the body (RFC 7011, sections 3.4.1, 3.4.2 and
+/// 8.1). Where records and padding are the whole body there is no fault, and otherwise the fault is
+/// the first that fits what follows the last record.
+pub fn longest_events()
+    ensures found { (kind : Kind) (w : List ℕ) → IsOctets w → IsLongest (SpellsEvent kind) (events_of kind w).items (events_of kind w).rest w }
+    ensures only { (kind : Kind) (w rest : List ℕ) (events : List Event) → IsOctets w → IsLongest (SpellsEvent kind) events rest w → events_of kind w ≡ record { items = events; rest = rest } }
+    ensures whole { (kind : Kind) (w : List ℕ) (events : List Event) → IsOctets w → IsTemplateSet kind events w ↔ (((events_of kind w).items ≡ events) × (fault_after_events kind (events_of kind w).rest ≡ None)) }
+    ensures fault { (kind : Kind) (rest : List ℕ) (f : MessageFault) → IsOctets rest → (fault_after_events kind rest ≡ Some f) ↔ ((¬ IsPadding rest) × FaultAt kind rest f) }
+{}
+
+/// The template in force for an id is the last one that was defined for it, unless a later
+/// withdrawal of that id or of all templates ended it (RFC 7011, section 8.1).
+pub fn last_definition()
+    ensures { (es : List Event) (id : ℕ) (t : Template) → (in_force es id ≡ Some t) ↔ ((t.id ≡ id) × IsInForce t es) }
 {}

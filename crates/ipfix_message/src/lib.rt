@@ -5,21 +5,21 @@
 mod data_set;
 mod domains;
 mod fault;
+mod field_block;
 mod in_force;
 mod known;
 mod laws;
 mod message;
 mod record;
-mod sequence;
 mod sets;
 mod template_record;
 
 pub use domains::Domains;
 pub use fault::MessageFault;
-pub use laws::one_body;
+pub use field_block::{FieldIter, FieldRef, Fields};
+pub use laws::{last_definition, longest_events, longest_sets, one_body};
 pub use message::Decoded;
-pub use record::{DataRecord, Field, Fields, Octets, Specs, Template};
-pub use sequence::Sequence;
+pub use record::{DataRecord, Specs, Template};
 
 #[cfg(test)]
 mod tests;

@@ -1,18 +1,18 @@
-//! The domains of a session.
+//! A message: its header, its domain and its sets (RFC 7011, section 3.1).
 
 ghost use Rattle.std.specs.Prelude.{◌≡◌, ◌≤◌, length};
 ghost use Rattle.ipfix_message.specs.Outcome.{Gives};
 ghost use Rattle.std.specs.Prelude.{nat_eq, List, OnOk, IsSome};
 ghost use Rattle.indexmap.specs.IndexMap.{get};
 ghost use Rattle.ipfix_message.specs.Domains;
-ghost use Rattle.ipfix_message.specs.Domains.{History, StandsFor, Admits, Decodes, message_gives};
+ghost use Rattle.ipfix_message.specs.Domains.{History, StandsFor, Decodes, message_gives};
+ghost use Rattle.ipfix_message.specs.Held.{Admits};
 ghost use Rattle.ipfix_message.specs.Kept.{kept};
 
-use crate::sets::{Progress, take_sets};
 use crate::fault::MessageFault;
 use crate::known::Known;
 use crate::record::DataRecord;
-use crate::sequence::Sequence;
+use crate::sets::{Progress, take_sets};
 use indexmap::IndexMap;
 use ipfix_wire::{Header, read_header};
 use std::alloc::Global;
@@ -36,6 +36,7 @@ fn header_of(message: &[u8]) -> Result<Header, MessageFault>
     Ok(header)
 }
 
+/// The templates of a domain that are in force, by id.
 pub type Templates = BTreeMap<u16, Known>;
 
 // makes sure that a domain is known
@@ -57,16 +58,22 @@ fn admit(
     Ok(())
 }
 
-/// A message that was read.
-#[derive(Drop)]
+/// What a message gave.
+#[derive(Debug, Drop)]
 pub struct Decoded {
+    /// Its header (RFC 7011, section 3.1).
     pub header: Header,
-    pub records: Sequence<DataRecord>,
+    /// The records of its data sets, in order (RFC 7011, section 3.4.3).
+    pub records: Vec<DataRecord>,
+    /// How many sets had an id of 0, 1 or 4 to 255 (RFC 7011, section 3.3.2).
     pub skipped_sets: u64,
+    /// How many data sets had no template in force (RFC 7011, section 9).
     pub unknown_sets: u64,
+    /// How many withdrawals named a template that was not in force (RFC 7011, section 8.1).
     pub ignored_withdrawals: u64,
 }
 
+/// Reads a message of a session that has these domains.
 pub fn read_message(
     alloc: Global,
     known: &mut IndexMap<u32, Templates>,
@@ -92,7 +99,7 @@ pub fn read_message(
     } = progress;
     Ok(Decoded {
         header,
-        records: Sequence::from_vec(records),
+        records,
         skipped_sets: skipped,
         unknown_sets: unknown,
         ignored_withdrawals: ignored,

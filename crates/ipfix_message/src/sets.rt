@@ -1,17 +1,19 @@
-//! The sets of a message in turn.
+//! The sets of a message in turn (RFC 7011, section 3.3).
 
 ghost use Rattle.std.specs.Prelude.{◌≡◌, ◌+◌, ◌<◌, ◌≤◌, ◌^◌, length, OnOk};
 ghost use Rattle.ipfix_message.specs.Outcome.{Gives};
+ghost use Rattle.ipfix_message.specs.Sets;
 ghost use Rattle.ipfix_message.specs.Messages;
-ghost use Rattle.ipfix_message.specs.Messages.{Decoding, Holds, Reaches, counted, set_gives, sets_from};
+ghost use Rattle.ipfix_message.specs.Messages.{Decoding, set_gives, sets_from};
+ghost use Rattle.ipfix_message.specs.Held.{Holds, Reaches, counted};
 ghost use Rattle.ipfix_message.specs.TemplatesInForce.{in_force};
 
 use crate::data_set::take_records;
-use crate::template_record::Kind;
 use crate::fault::MessageFault;
 use crate::in_force::take_templates;
 use crate::known::Known;
 use crate::record::DataRecord;
+use crate::template_record::Kind;
 use ipfix_wire::{Header, read_set};
 use std::alloc::Global;
 use std::collections::BTreeMap;
@@ -26,10 +28,10 @@ pub struct Progress {
 }
 
 // the id and the body of the next set, and what follows it
-#[tactic(auto, unfolding(crate::specs::Messages::next_set))]
+#[tactic(auto, unfolding(crate::specs::Sets::next_set))]
 fn next_set(rest: &[u8]) -> Result<((u16, &[u8]), &[u8]), MessageFault>
     requires { 0 < length rest.now }
-    ensures { Gives (λ x. ((x.0.0, x.0.1.now), x.1.now)) result (Messages.next_set rest.now) }
+    ensures { Gives (λ x. (record { id = x.0.0; body = x.0.1.now }, x.1.now)) result (Sets.next_set rest.now) }
 {
     let span = read_set(rest)?;
     let (_, rest) = rest.split_at(4);
@@ -95,7 +97,7 @@ fn take_set(
 ) -> Result<(), MessageFault>
     requires { counted progress.old + length body.now + 1 < 2 ^ 64 }
     ensures few { OnOk result (counted progress.new ≤ counted progress.old + length body.now + 1) }
-    ensures gives { (d : Decoding) → Holds templates.old.entries progress.old d → Reaches result templates.new.entries progress.new (set_gives header.now d (id, body.now)) }
+    ensures gives { (d : Decoding) → Holds templates.old.entries progress.old d → Reaches result templates.new.entries progress.new (set_gives header.now d (record { id = id; body = body.now })) }
 {
     if id == 2 {
         take_template_set(alloc, Kind::Plain, body, templates, progress)

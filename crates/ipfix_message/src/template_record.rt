@@ -1,4 +1,4 @@
-//! Template records: definitions and withdrawals.
+//! Template records: definitions and withdrawals (RFC 7011, sections 3.4.1, 3.4.2 and 8.1).
 
 ghost use Rattle.std.specs.Prelude.{◌≡◌, ◌==◌, ◌≤◌, ◌<◌, ◌^◌, length, vec_len, IfOk};
 ghost use Rattle.std.specs.List.{list_all};
@@ -9,8 +9,7 @@ ghost use Rattle.ipfix_message.specs.TemplateRecords.{set_id_of, scope_at, specs
 
 use crate::fault::MessageFault;
 use crate::known::Known;
-use crate::record::Template;
-use crate::sequence::Sequence;
+use crate::record::{Specs, Template};
 use byteorder::{BigEndian, ByteOrder};
 use ipfix_wire::{Spec, read_spec};
 use std::alloc::Global;
@@ -134,7 +133,10 @@ pub fn event_of(alloc: Global, kind: Kind, octets: &[u8]) -> Result<(Event, &[u8
     if least == 0 {
         return Err(MessageFault::ZeroLength);
     }
-    let specs = Sequence::from_vec(specs);
-    let template = Template { id, scope, specs };
+    let template = Template {
+        id,
+        scope,
+        specs: Specs::from_vec(specs),
+    };
     Ok((Event::Define(Known::new(template, least)), rest))
 }

@@ -14,16 +14,16 @@ returns-in_err-fields c =
 
 pub loop-rest-smaller : goal.loop-rest-smaller
 loop-rest-smaller c =
-    let read : fields_at c.args.template.now.specs c.loop-rest.rest.now ≡ Ok (c.in_ok-fields.fields.items, c.in_ok-fields.after.now) = rw c.as_slice.ensures at c.in_ok-fields.ensures in
-    let taken = fields_at-takes c.args.template.now.specs c.loop-rest.rest.now c.in_ok-fields.fields.items c.in_ok-fields.after.now read in
+    let read : fields_at c.args.template.now.specs c.loop-rest.rest.now ≡ Ok (c.in_ok-fields.fields, c.in_ok-fields.after.now) = rw c.as_slice.ensures at c.in_ok-fields.ensures in
+    let taken = fields_at-takes c.args.template.now.specs c.loop-rest.rest.now c.in_ok-fields.fields c.in_ok-fields.after.now read in
     omega (arith, taken, c.requires.sum, c.requires.positive)
 
 pub loop-rest-preserved : goal.loop-rest-preserved
 loop-rest-preserved c =
     let positive : 0 < least c.args.template.now.specs = omega (arith, c.requires.sum, c.requires.positive) in
-    let read : fields_at c.args.template.now.specs c.loop-rest.rest.now ≡ Ok (c.in_ok-fields.fields.items, c.in_ok-fields.after.now) = rw c.as_slice.ensures at c.in_ok-fields.ensures in
-    rw (c.in_ok-push.ensures.items, c.from_vec.ensures)
-    (goes_on c.args.template.now.specs (record_of c.args.header.now c.args.template.now) c.loop-rest.out.items c.loop-rest.rest.now c.in_ok-fields.fields.items c.in_ok-fields.after.now
+    let read : fields_at c.args.template.now.specs c.loop-rest.rest.now ≡ Ok (c.in_ok-fields.fields, c.in_ok-fields.after.now) = rw c.as_slice.ensures at c.in_ok-fields.ensures in
+    rw c.in_ok-push.ensures.items
+    (goes_on c.args.template.now.specs (record_of c.args.header.now c.args.template.now) c.loop-rest.out.items c.loop-rest.rest.now c.in_ok-fields.fields c.in_ok-fields.after.now
     (after c.args.out.now.items (record_of c.args.header.now c.args.template.now) (records_of_body c.args.template.now.specs c.args.body.now)) positive read c.loop-rest.invariant)
 
 pub returns : goal.returns

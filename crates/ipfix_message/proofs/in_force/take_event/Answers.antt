@@ -2,8 +2,8 @@ use Rattle.std.proofs.Common.{Option, Ok, ap, sym, subst, refl}
 use Rattle.std.proofs.lemmas.Result.{on_ok_weaker}
 use Rattle.ipfix_message.specs.declared.record.Template.{Template}
 use Rattle.ipfix_message.specs.Outcome.{Gives}
-use Rattle.ipfix_message.specs.TemplatesInForce.{defining, is_ignored}
-use Rattle.ipfix_message.specs.TemplatesInForce.{event_gives}
+use Rattle.ipfix_message.specs.TemplatesInForce.{is_none_of, event_gives}
+use Rattle.ipfix_message.specs.Held.{defining}
 use Rattle.ipfix_message.proofs.TemplateSets.{agrees_define, agrees_withdraw, agrees_withdraw_all}
 use Rattle.ipfix_message.proofs.in_force.take_event.Goals as goal
 
@@ -19,7 +19,7 @@ returns-in-Define-clause-ok c = λ es agrees.
 pub returns-in-Withdraw-clause-gives : goal.returns-in-Withdraw-clause-gives
 unfolding event_gives
 returns-in-Withdraw-clause-gives c = λ es agrees.
-    rw (c.in-Withdraw.is, c.withdraw.ensures.ignored) (ap (λ (o : Option Template). Ok (is_ignored c.in-Withdraw.kind o)) (sym (agrees.at c.in-Withdraw.id)))
+    rw (c.in-Withdraw.is, c.withdraw.ensures.ignored) (ap (λ (o : Option Template). Ok (is_none_of c.in-Withdraw.kind o)) (sym (agrees.at c.in-Withdraw.id)))
 
 pub returns-in-Withdraw-clause-ok : goal.returns-in-Withdraw-clause-ok
 returns-in-Withdraw-clause-ok c = λ es agrees.

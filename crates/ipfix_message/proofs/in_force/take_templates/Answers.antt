@@ -2,7 +2,8 @@ use Rattle.std.proofs.Common.{◌≡◌, ◌+◌, ℕ, Bool, true, false, Ok, ap
 use Rattle.std.proofs.lemmas.Result.{err_from_is_err_and}
 use Rattle.ipfix_message.specs.TemplateRecords.{is_padding}
 use Rattle.ipfix_message.specs.TemplatesInForce.{template_set_gives}
-use Rattle.ipfix_message.proofs.TemplateSets.{Going, goes_on, ends, changes, is_done, event_at-takes}
+use Rattle.ipfix_message.proofs.TemplateRecords.{event_at-takes}
+use Rattle.ipfix_message.proofs.TemplateSets.{Going, goes_on, ends, changes, is_done}
 use Rattle.ipfix_message.proofs.in_force.take_templates.Goals as goal
 
 pub returns-in_err-event-clause-gives : goal.returns-in_err-event-clause-gives

@@ -1,6 +1,7 @@
 use Rattle.std.proofs.Common.{◌≤◌, ◌+◌, List, length}
 use Rattle.ipfix_message.specs.declared.template_record.Event.{Event}
-use Rattle.ipfix_message.specs.TemplatesInForce.{Agrees, template_set_gives}
+use Rattle.ipfix_message.specs.TemplatesInForce.{template_set_gives}
+use Rattle.ipfix_message.specs.Held.{Agrees}
 use Rattle.ipfix_message.proofs.TemplateSets.{Going}
 use Rattle.ipfix_message.proofs.in_force.take_templates.Given as goal
 

@@ -32,4 +32,4 @@ returns c = λ ds stands.
     (c.in_ok-admit.ensures.gives ds stands) found
     (λ es agrees. record { templates = agrees; records = c.new.ensures.items; skipped = refl; unknown = refl; ignored = refl })
     (λ d holds. rw take_rest at (c.in_ok-take_sets.ensures d holds))
-    (rw c.from_vec.ensures refl) (c.get_mut.follows.holds c.take_sets.new.templates).0
+    refl (c.get_mut.follows.holds c.take_sets.new.templates).0

@@ -1,7 +1,8 @@
 use Rattle.std.proofs.Common.{◌≡◌, ◌<◌, length, arith, rules}
 use Rattle.std.proofs.lemmas.Result.{err_from_is_err_and}
 use Rattle.ipfix_message.specs.Messages.{sets_from}
-use Rattle.ipfix_message.proofs.Decoding.{goes_on, faults, ends, is_done, next_set-less}
+use Rattle.ipfix_message.proofs.MessageSets.{next_set-less}
+use Rattle.ipfix_message.proofs.Decoding.{goes_on, faults, ends, is_done}
 use Rattle.ipfix_message.proofs.sets.take_sets.Goals as goal
 
 pub returns-in_err-id : goal.returns-in_err-id
@@ -12,25 +13,25 @@ returns-in_err-id c = λ d holds.
 
 pub take_set-requires : goal.take_set-requires
 take_set-requires c =
-    let less = next_set-less c.loop-rest.rest.now c.in_ok-id.id c.in_ok-id.body.now c.in_ok-id.after.now c.in_ok-id.ensures in
+    let less = next_set-less c.loop-rest.rest.now (record { id = c.in_ok-id.id; body = c.in_ok-id.body.now }) c.in_ok-id.after.now c.in_ok-id.ensures in
     omega (arith, less, c.loop-rest.invariant.few, c.requires)
 
 pub returns-in_err-take_set : goal.returns-in_err-take_set
 returns-in_err-take_set c = λ d holds.
     let p = err_from_is_err_and c.from_residual-in_err-take_set.result c.from_residual-in_err-take_set.ensures.1 in
-    rw (p.1, p.2) (faults c.in_err-take_set.field-0.0 c.args.header.now c.loop-rest.templates.entries c.loop-rest.progress c.loop-rest.rest.now (c.in_ok-id.id, c.in_ok-id.body.now) c.in_ok-id.after.now (sets_from c.args.header.now d c.args.octets.now)
+    rw (p.1, p.2) (faults c.in_err-take_set.field-0.0 c.args.header.now c.loop-rest.templates.entries c.loop-rest.progress c.loop-rest.rest.now (record { id = c.in_ok-id.id; body = c.in_ok-id.body.now }) c.in_ok-id.after.now (sets_from c.args.header.now d c.args.octets.now)
     c.in_ok-id.ensures (λ e h. c.in_err-take_set.ensures.gives e h) (c.loop-rest.invariant.going d holds))
 
 pub loop-rest-smaller : goal.loop-rest-smaller
 loop-rest-smaller c =
-    let less = next_set-less c.loop-rest.rest.now c.in_ok-id.id c.in_ok-id.body.now c.in_ok-id.after.now c.in_ok-id.ensures in
+    let less = next_set-less c.loop-rest.rest.now (record { id = c.in_ok-id.id; body = c.in_ok-id.body.now }) c.in_ok-id.after.now c.in_ok-id.ensures in
     omega (arith, less)
 
 pub loop-rest-preserved : goal.loop-rest-preserved
 loop-rest-preserved c =
-    let less = next_set-less c.loop-rest.rest.now c.in_ok-id.id c.in_ok-id.body.now c.in_ok-id.after.now c.in_ok-id.ensures in
+    let less = next_set-less c.loop-rest.rest.now (record { id = c.in_ok-id.id; body = c.in_ok-id.body.now }) c.in_ok-id.after.now c.in_ok-id.ensures in
     record {
-      going = λ d holds. goes_on c.args.header.now c.loop-rest.templates.entries c.take_set.new.templates.entries c.loop-rest.progress c.take_set.new.progress c.loop-rest.rest.now (c.in_ok-id.id, c.in_ok-id.body.now) c.in_ok-id.after.now (sets_from c.args.header.now d c.args.octets.now)
+      going = λ d holds. goes_on c.args.header.now c.loop-rest.templates.entries c.take_set.new.templates.entries c.loop-rest.progress c.take_set.new.progress c.loop-rest.rest.now (record { id = c.in_ok-id.id; body = c.in_ok-id.body.now }) c.in_ok-id.after.now (sets_from c.args.header.now d c.args.octets.now)
           c.in_ok-id.ensures (λ e h. c.in_ok-take_set.ensures.gives e h) (c.loop-rest.invariant.going d holds);
       few = omega (arith, less, c.loop-rest.invariant.few, c.in_ok-take_set.ensures.few);
     }

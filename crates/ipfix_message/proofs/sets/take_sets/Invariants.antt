@@ -1,5 +1,6 @@
 use Rattle.std.proofs.Common.{◌≤◌, ◌+◌, length}
-use Rattle.ipfix_message.specs.Messages.{Decoding, Holds, sets_from, counted}
+use Rattle.ipfix_message.specs.Messages.{Decoding, sets_from}
+use Rattle.ipfix_message.specs.Held.{Holds, counted}
 use Rattle.ipfix_message.proofs.Decoding.{Going}
 use Rattle.ipfix_message.proofs.sets.take_sets.Given as goal
 

@@ -1,6 +1,6 @@
 use Rattle.std.proofs.Common.{sym, arith}
 use Rattle.ipfix_message.specs.TemplateRecords.{specs_at}
-use Rattle.ipfix_message.proofs.Specs.{goes_on, ends, is_done}
+use Rattle.ipfix_message.proofs.SpecReading.{goes_on, ends, is_done}
 use Rattle.ipfix_message.proofs.template_record.specs_of.Goals as goal
 
 pub returns-in_default-clause-exact : goal.returns-in_default-clause-exact

@@ -5,7 +5,7 @@ use Rattle.ipfix_wire.specs.declared.specifier.Spec.{Spec}
 use Rattle.ipfix_message.specs.declared.fault.MessageFault.{MessageFault}
 use Rattle.ipfix_message.specs.declared.fault.MessageFault.TheVariants.{OutOfMemory}
 use Rattle.ipfix_message.specs.declared.fault.MessageFault.TheVariants as faults
-use Rattle.ipfix_message.specs.declared.record.Field.{Field}
+use Rattle.ipfix_message.specs.Fields.{Field}
 use Rattle.ipfix_message.specs.Outcome.{◌>>=◌, Fails}
 use Rattle.ipfix_message.specs.DataRecords.{value_at, fields_at}
 

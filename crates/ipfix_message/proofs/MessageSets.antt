@@ -1,0 +1,178 @@
+-- The sets of a message: what is read is what is spelled.
+use Rattle.std.proofs.Common.{◌≡◌, ℕ, ◌+◌, ◌-◌, ◌^◌, ◌<◌, ◌≤◌, false, cond, ltb, eqb, List, [], ◌∷◌, ◌++◌, length, take, drop, Some, Result, Ok, Err, refl, sym, ap, subst, ◌∙◌, append_assoc, arith, inl, inr}
+use Rattle.std.proofs.lemmas.Bool.{ltb-true, ltb-false, le-ltb, lt-ltb}
+use Rattle.std.proofs.lemmas.List.{length-append, length-drop, length-take, take-append-drop, take_at, drop_at}
+use Rattle.byteorder.specs.Endian.{big_number}
+use Rattle.ipfix_wire.specs.Numbers.{number_at, IsOctets}
+use Rattle.ipfix_wire.specs.SetHeader.{set_octets, set_at}
+use Rattle.ipfix_wire.specs.declared.set.SetSpan.{SetSpan}
+use Rattle.ipfix_wire.specs.declared.fault.WireFault.{WireFault}
+use Rattle.ipfix_wire.specs.declared.fault.WireFault.TheVariants as wire
+use Rattle.ipfix_wire.specs.InTurn.{IsLongest}
+use Rattle.ipfix_wire.proofs.Octets.{IsOctets-drop, set_spelled}
+use Rattle.ipfix_wire.proofs.Parts.{Shrinks, Reads, Spelled}
+use Rattle.ipfix_wire.proofs.Longest.{longest_from, longest_only}
+use Rattle.ipfix_message.specs.declared.fault.MessageFault.{MessageFault}
+use Rattle.ipfix_message.specs.Faults.{fault_of}
+use Rattle.ipfix_message.specs.Sets.{Set, SpellsSet, cut_set, next_set, sets_of, fault_after_sets}
+use Rattle.ipfix_message.proofs.Bodies.{chosen, different, ok_is, not_both, fault_is}
+
+-- ---- the header of a set
+
+abbrev span_ok : SetSpan → Result SetSpan WireFault
+span_ok s = Ok s
+
+abbrev span_err : WireFault → Result SetSpan WireFault
+span_err e = Err e
+
+abbrev span : ℕ → ℕ → SetSpan
+span id body = record { id = id; body = body }
+
+span_is : (a b : SetSpan) → span_ok a ≡ span_ok b → a ≡ b
+span_is a b h = cc
+
+span_err_is : (a b : WireFault) → span_err a ≡ span_err b → a ≡ b
+span_err_is a b h = cc
+
+span_not_both : (a : SetSpan) (b : WireFault) → span_ok a ≡ span_err b → ⊥
+span_not_both a b h = cc
+
+-- the header of a whole set
+pub record SetAt (w : List ℕ) (s : SetSpan) : Type 0 where
+  pub room : 4 ≤ length w
+  pub size : 4 ≤ number_at 2 2 w
+  pub whole : number_at 2 2 w ≤ length w
+  pub id : big_number 2 w ≡ s.id
+  pub body : number_at 2 2 w - 4 ≡ s.body
+
+-- the tests of a set header
+by_tests : {A : Type 0} (w : List ℕ) (r : Result SetSpan WireFault) → set_at w ≡ r → (length w < 4 → span_err wire.SetHeader ≡ r → A) → (4 ≤ length w → span_err wire.SetLength ≡ r → A)
+    → (4 ≤ length w → 4 ≤ number_at 2 2 w → number_at 2 2 w ≤ length w → span_ok (span (big_number 2 w) (number_at 2 2 w - 4)) ≡ r → A) → A
+by_tests w r h cut wrong good =
+    let size = number_at 2 2 w in
+    let found = span_ok (span (big_number 2 w) (size - 4)) in
+    elim (chosen (ltb (length w) 4) (span_err wire.SetHeader) (cond (ltb size 4) (span_err wire.SetLength) (cond (ltb (length w) size) (span_err wire.SetLength) found)) r h) [
+      | inl t ↦ cut (ltb-true (length w) 4 t.0) t.1
+      | inr f ↦
+          let room = ltb-false (length w) 4 f.0 in
+          elim (chosen (ltb size 4) (span_err wire.SetLength) (cond (ltb (length w) size) (span_err wire.SetLength) found) r f.1) [
+            | inl t ↦ wrong room t.1
+            | inr g ↦ elim (chosen (ltb (length w) size) (span_err wire.SetLength) found r g.1) [
+              | inl t ↦ wrong room t.1
+              | inr d ↦ good room (ltb-false size 4 g.0) (ltb-false (length w) size d.0) d.1
+            ]
+          ]
+    ]
+
+set_at-ok : (w : List ℕ) (s : SetSpan) → set_at w ≡ span_ok s → SetAt w s
+set_at-ok w s h =
+    by_tests w (span_ok s) h (λ short e. absurd (span_not_both s wire.SetHeader (sym e))) (λ long e. absurd (span_not_both s wire.SetLength (sym e)))
+    (λ room size whole e.
+    let same = span_is (span (big_number 2 w) (number_at 2 2 w - 4)) s e in
+    record { room = room; size = size; whole = whole; id = ap (λ (x : SetSpan). x.id) same; body = ap (λ (x : SetSpan). x.body) same })
+
+same_span : (a b c d : ℕ) → a ≡ b → c ≡ d → span_ok (span a (c - 4)) ≡ span_ok (span b (d - 4))
+same_span a b c d p q = rw (p, q) refl
+
+set_at-is : (w : List ℕ) (id size : ℕ) → 4 ≤ length w → big_number 2 w ≡ id → number_at 2 2 w ≡ size → 4 ≤ size → size ≤ length w → set_at w ≡ span_ok (span id (size - 4))
+set_at-is w id size room i n least whole =
+    let a : ltb (length w) 4 ≡ false = le-ltb (length w) 4 room in
+    let b : ltb (number_at 2 2 w) 4 ≡ false = le-ltb (number_at 2 2 w) 4 (omega (arith, n, least)) in
+    let c : ltb (length w) (number_at 2 2 w) ≡ false = le-ltb (length w) (number_at 2 2 w) (omega (arith, n, whole)) in
+    rw (a, b, c) (same_span (big_number 2 w) id (number_at 2 2 w) size i n)
+
+-- a set header that was written is read again, whatever follows it
+set_at-again : (id n : ℕ) (x : List ℕ) → id < 2 ^ 16 → 4 + n < 2 ^ 16 → n ≤ length x → set_at (set_octets id n ++ x) ≡ span_ok (span id n)
+set_at-again id n x small fits room =
+    let w = set_octets id n ++ x in
+    let len = length-append (set_octets id n) x in
+    let back : (4 + n) - 4 ≡ n = omega arith in
+    let first : big_number 2 (set_octets id n ++ x) ≡ id = omega (arith, small) in
+    let second : number_at 2 2 (set_octets id n ++ x) ≡ 4 + n = omega (arith, fits) in
+    set_at-is w id (4 + n) (omega (arith, len)) first second (omega arith) (omega (arith, len, room)) ∙ ap (λ (k : ℕ). span_ok (span id k)) back
+
+-- ---- the next set
+
+-- by what the header says
+next_set-cases : {A : Type 0} (w : List ℕ) (x : Set) (r : List ℕ) → next_set w ≡ Ok (x, r)
+    → ((s : SetSpan) → SetAt w s → record { id = s.id; body = take s.body (drop 4 w) } ≡ x → drop s.body (drop 4 w) ≡ r → A) → A
+unfolding next_set
+next_set-cases {A} w x r h found = by_cases (set_at w) refl h
+  where
+    by_cases : (o : Result SetSpan WireFault) → set_at w ≡ o → cut_set w o ≡ Ok (x, r) → A
+    by_cases (Err e) is g = absurd (not_both (x, r) (fault_of e) (sym g))
+    by_cases (Ok s) is g =
+        let whole = ok_is (record { id = s.id; body = take s.body (drop 4 w) }, drop s.body (drop 4 w)) (x, r) g in
+        found s (set_at-ok w s is) (ap (λ (p : Set × List ℕ). p.0) whole) (ap (λ (p : Set × List ℕ). p.1) whole)
+
+pub next_set-less : (w : List ℕ) (x : Set) (r : List ℕ) → next_set w ≡ Ok (x, r) → length x.body + length r + 4 ≤ length w
+next_set-less w x r h =
+    next_set-cases w x r h (λ s at same rest.
+    let front : take s.body (drop 4 w) ≡ x.body = ap (λ (y : Set). y.body) same in
+    omega (arith, at.room, ap length rest, ap length front, length-drop s.body (drop 4 w), length-drop 4 w, length-take s.body (drop 4 w)))
+
+next_set-takes : (w : List ℕ) (x : Set) (r : List ℕ) → next_set w ≡ Ok (x, r) → length r < length w
+next_set-takes w x r h = let less = next_set-less w x r h in omega (arith, less)
+
+pub sets_shrink : Shrinks next_set
+sets_shrink = record { less = next_set-takes }
+
+spelled_by : (w : List ℕ) (s : SetSpan) → IsOctets w → SetAt w s → Spelled SpellsSet w (record { id = s.id; body = take s.body (drop 4 w) }) (drop s.body (drop 4 w))
+spelled_by w s fits at =
+    let body = take s.body (drop 4 w) in
+    let rest = drop s.body (drop 4 w) in
+    let two = IsOctets-drop 2 w fits in
+    let len : length body ≡ s.body = omega (arith, at.body, at.size, at.whole, at.room, length-take s.body (drop 4 w), length-drop 4 w) in
+    let head : take 4 w ≡ set_octets s.id (length body) = set_spelled w s.id (number_at 2 2 w) fits at.room (sym at.id) refl at.size ∙ ap (set_octets s.id) (at.body ∙ sym len) in
+    let whole : w ≡ (take 4 w ++ body) ++ rest = sym (take-append-drop 4 w) ∙ ap (λ (t : List ℕ). take 4 w ++ t) (sym (take-append-drop s.body (drop 4 w))) ∙ sym (append_assoc (take 4 w) body rest) in
+    let id : s.id < 2 ^ 16 = omega (arith, at.id, fits 0, fits 1) in
+    let size : 4 + length body < 2 ^ 16 = omega (arith, len, at.body, at.size, two 0, two 1) in
+    record { text = take 4 w ++ body; whole = whole; is = record { id = id; size = size; octets = ap (λ (t : List ℕ). t ++ body) head } }
+
+next_set-found : (w : List ℕ) (x : Set) (r : List ℕ) → IsOctets w → next_set w ≡ Ok (x, r) → Spelled SpellsSet w x r
+next_set-found w x r fits h =
+    next_set-cases w x r h (λ s at same rest.
+    subst (λ (y : Set). Spelled SpellsSet w y r) same (subst (λ (y : List ℕ). Spelled SpellsSet w (record { id = s.id; body = take s.body (drop 4 w) }) y) rest (spelled_by w s fits at)))
+
+next_set-only : (s : Set) (u r : List ℕ) → SpellsSet s u → next_set (u ++ r) ≡ Ok (s, r)
+unfolding next_set
+next_set-only s u r spelled =
+    let n = length s.body in
+    let x = s.body ++ r in
+    let regrouped : u ++ r ≡ set_octets s.id n ++ x = ap (λ (t : List ℕ). t ++ r) spelled.octets ∙ append_assoc (set_octets s.id n) s.body r in
+    let header = set_at-again s.id n x spelled.id spelled.size (omega (arith, length-append s.body r)) in
+    let back : drop 4 (set_octets s.id n ++ x) ≡ x = drop_at (set_octets s.id n) x 4 refl in
+    ap next_set regrouped ∙ ap (cut_set (set_octets s.id n ++ x)) header ∙ rw (back, take_at s.body r n refl, drop_at s.body r n refl) refl
+
+sets_read : Reads SpellsSet next_set
+sets_read = record { found = next_set-found; only = next_set-only }
+
+-- ---- all sets
+
+pub sets_of-found : (w : List ℕ) → IsOctets w → IsLongest SpellsSet (sets_of w).items (sets_of w).rest w
+sets_of-found w fits = longest_from SpellsSet next_set sets_read sets_shrink w fits
+
+pub sets_of-only : (w : List ℕ) (sets : List Set) (rest : List ℕ) → IsOctets w → IsLongest SpellsSet sets rest w → sets_of w ≡ record { items = sets; rest = rest }
+sets_of-only w sets rest fits longest = longest_only SpellsSet next_set sets_read sets_shrink sets rest w fits longest
+
+-- where no set can be read, the fault is that of what is left
+pub next_set-fault : (w : List ℕ) (f : MessageFault) → 0 < length w → next_set w ≡ Err f → fault_after_sets w ≡ Some f
+unfolding next_set
+next_set-fault w f some h = by_cases (set_at w) refl h
+  where
+    no : eqb (length w) 0 ≡ false
+    no = different (length w) 0 (λ e. omega (arith, e, some))
+
+    by_cases : (o : Result SetSpan WireFault) → set_at w ≡ o → cut_set w o ≡ Err f → fault_after_sets w ≡ Some f
+    by_cases (Ok s) is g = absurd (not_both (record { id = s.id; body = take s.body (drop 4 w) }, drop s.body (drop 4 w)) f g)
+    by_cases (Err e) is g =
+        by_tests w (span_err e) is
+        (λ short same. rw (no, lt-ltb (length w) 4 short) (ap (λ (x : MessageFault). Some x) (ap fault_of (span_err_is wire.SetHeader e same) ∙ fault_is (fault_of e) f g)))
+        (λ long same. rw (no, le-ltb (length w) 4 long) (ap (λ (x : MessageFault). Some x) (ap fault_of (span_err_is wire.SetLength e same) ∙ fault_is (fault_of e) f g)))
+        (λ room size whole same. absurd (span_not_both (span (big_number 2 w) (number_at 2 2 w - 4)) e same))
+
+-- nothing holds no set
+pub next_set-nil : (w : List ℕ) → length w ≡ 0 → (f : MessageFault) × (next_set w ≡ Err f)
+unfolding next_set
+next_set-nil [] none = (fault_of wire.SetHeader, refl)
+next_set-nil (b ∷ w) none = absurd (omega (arith, none))
