@@ -1,0 +1,232 @@
+-- What a text gives, message by message.
+use Rattle.std.proofs.Common.{◌≡◌, ℕ, ◌+◌, ◌≤◌, List, [], ◌∷◌, ◌++◌, length, Option, Some, None, Result, Ok, Err, refl, sym, ap, subst, ◌∙◌, append_assoc, arith, inl, inr}
+use Rattle.std.specs.Prelude.{◌≢◌}
+use Rattle.std.proofs.lemmas.List.{append-nil, length-append}
+use Rattle.ipfix_wire.specs.InTurn.{Parts}
+use Rattle.ipfix_wire.proofs.Parts.{cons, nothing, cases_read, parts_of-next, parts_of-none}
+use Rattle.ipfix_wire.proofs.Streams.{join, parts_of-append}
+use Rattle.ipfix_message.specs.Domains.{History, Message, message_gives, StandsFor}
+use Rattle.ipfix_message.specs.declared.fault.MessageFault.{MessageFault}
+use Rattle.ipfix_message.specs.declared.fault.MessageFault.TheVariants.{OutOfMemory}
+use Rattle.ipfix_message.specs.Outcome.{Fails}
+use Rattle.ipfix_message.specs.declared.record.DataRecord.{DataRecord}
+use Rattle.ipfix_message.specs.declared.record.Template.{Template}
+use Rattle.ipfix_session.specs.declared.stop.Stop.{Stop}
+use Rattle.ipfix_session.specs.declared.stop.Stop.TheVariants.{Fault}
+use Rattle.ipfix_session.specs.MessageStream.{rest_stop, next_message, cut}
+use Rattle.ipfix_session.specs.Given.{messages_give, Given, stop_after, gives_after, gives, behind, known_after, IsOpen, IsPrefix, records_in, records_of, count_of, stop_of}
+use Rattle.ipfix_session.proofs.Cut.{found, none_at, next_stop, messages_shrink, messages_stable, bad_goes_on}
+
+-- ---- messages
+
+pub give-none : (ds : History) → messages_give ds [] ≡ ([], None)
+unfolding messages_give
+give-none ds = refl
+
+pub give-next : (ds : History) (m : List ℕ) (ms : List (List ℕ)) (x : Message) → message_gives ds m ≡ Ok x
+    → messages_give ds (m ∷ ms) ≡ (x ∷ (messages_give x.domains ms).0, (messages_give x.domains ms).1)
+unfolding messages_give
+give-next ds m ms x e = rw (e, messages_give) refl
+
+pub give-fault : (ds : History) (m : List ℕ) (ms : List (List ℕ)) (e : MessageFault) → message_gives ds m ≡ Err e
+    → messages_give ds (m ∷ ms) ≡ ([], Some e)
+unfolding messages_give
+give-fault ds m ms e h = rw (h, messages_give) refl
+
+-- ---- a text
+
+abbrev pub stops : Stop → Given
+stops s = record { messages = []; stop = s }
+
+-- what messages that are read, and a rest, give
+abbrev pub closed : List Message × Option MessageFault → List ℕ → Given
+closed read rest = record { messages = read.0; stop = stop_after read.1 (rest_stop rest) }
+
+pub gives_after-is : (ds : History) (text : List ℕ) (p : Parts (List ℕ)) → cut text ≡ p → gives_after ds text ≡ closed (messages_give ds p.items) p.rest
+unfolding gives_after
+gives_after-is ds text p e = ap (λ (q : Parts (List ℕ)). closed (messages_give ds q.items) q.rest) e
+
+-- a text that begins with no message
+pub gives_after-stop : (ds : History) (text : List ℕ) (s : Stop) → next_message text ≡ none_at s → gives_after ds text ≡ stops s
+gives_after-stop ds text s e =
+    gives_after-is ds text (nothing text) (parts_of-none next_message text s e)
+    ∙ ap (λ (r : List Message × Option MessageFault). closed r text) (give-none ds)
+    ∙ ap stops (next_stop text s e)
+
+-- a text that begins with a message
+pub gives_after-next : (ds : History) (text m rest : List ℕ) (x : Message) → next_message text ≡ found m rest → message_gives ds m ≡ Ok x
+    → gives_after ds text ≡ behind (x ∷ []) (gives_after x.domains rest)
+gives_after-next ds text m rest x e h =
+    gives_after-is ds text (cons m (cut rest)) (parts_of-next next_message messages_shrink text m rest e)
+    ∙ ap (λ (r : List Message × Option MessageFault). closed r (cut rest).rest) (give-next ds m (cut rest).items x h)
+    ∙ ap (behind (x ∷ [])) (sym (gives_after-is x.domains rest (cut rest) refl))
+
+-- a text that begins with a message that has a fault
+pub gives_after-fault : (ds : History) (text m rest : List ℕ) (e : MessageFault) → next_message text ≡ found m rest → message_gives ds m ≡ Err e
+    → gives_after ds text ≡ stops (Fault e)
+gives_after-fault ds text m rest e h f =
+    gives_after-is ds text (cons m (cut rest)) (parts_of-next next_message messages_shrink text m rest h)
+    ∙ ap (λ (r : List Message × Option MessageFault). closed r (cut rest).rest) (give-fault ds m (cut rest).items e f)
+
+behind-behind : (ms ns : List Message) (g : Given) → behind ms (behind ns g) ≡ behind (ms ++ ns) g
+behind-behind ms ns g = ap (λ (xs : List Message). record { messages = xs; stop = g.stop }) (sym (append_assoc ms ns g.messages))
+
+-- ---- decoding message by message
+
+-- messages at the front of a text were read, and rest is left
+pub record SoFar (text rest : List ℕ) (kept : List (ℕ × List (ℕ × Template))) (records : List DataRecord) (count : ℕ) : Type 0 where
+  pub known : History
+  pub stands : StandsFor kept known
+  pub messages : List Message
+  pub whole : gives text ≡ behind messages (gives_after known rest)
+  pub are : records ≡ records_in messages
+  pub counted : count ≡ length messages
+  pub room : count + length rest ≤ length text
+
+pub at_first : (text : List ℕ) (kept : List (ℕ × List (ℕ × Template))) → StandsFor kept [] → SoFar text text kept [] 0
+at_first text kept stands = record { known = []; stands = stands; messages = []; whole = refl; are = refl; counted = refl; room = omega arith }
+
+records_in-append : (ms ns : List Message) → records_in (ms ++ ns) ≡ records_in ms ++ records_in ns
+records_in-append [] ns = refl
+records_in-append (m ∷ ms) ns =
+    ap (λ (rs : List DataRecord). m.decoding.records ++ rs) (records_in-append ms ns) ∙ sym (append_assoc m.decoding.records (records_in ms) (records_in ns))
+
+-- one more message
+pub read_on : (text rest m after : List ℕ) (kept news : List (ℕ × List (ℕ × Template))) (records more : List DataRecord) (count : ℕ) (far : SoFar text rest kept records count) (x : Message)
+    → next_message rest ≡ found m after → message_gives far.known m ≡ Ok x → more ≡ x.decoding.records → StandsFor news x.domains
+    → SoFar text after news (records ++ more) (count + 1)
+read_on text rest m after kept news records more count far x begins reads are stands =
+    let less = messages_shrink.less rest m after begins in
+    record {
+      known = x.domains;
+      stands = stands;
+      messages = far.messages ++ x ∷ [];
+      whole = far.whole ∙ ap (behind far.messages) (gives_after-next far.known rest m after x begins reads) ∙ behind-behind far.messages (x ∷ []) (gives_after x.domains after);
+      are = rw (far.are, are) (ap (λ (rs : List DataRecord). records_in far.messages ++ rs) (sym (append-nil x.decoding.records)) ∙ sym (records_in-append far.messages (x ∷ [])));
+      counted = omega (arith, far.counted, length-append far.messages (x ∷ []));
+      room = omega (arith, far.room, less);
+    }
+
+-- what a text gave in all
+pub record Told (text : List ℕ) (records : List DataRecord) (count : ℕ) (stop : Stop) : Type 0 where
+  pub are : records ≡ records_of text
+  pub counted : count ≡ count_of text
+  pub stopped : stop ≡ stop_of text
+
+-- the text stops at what is left
+pub told : (text rest : List ℕ) (kept : List (ℕ × List (ℕ × Template))) (records : List DataRecord) (count : ℕ) (far : SoFar text rest kept records count) (s : Stop)
+    → gives_after far.known rest ≡ stops s → Told text records count s
+told text rest kept records count far s e =
+    let all : gives text ≡ record { messages = far.messages; stop = s } =
+    far.whole ∙ ap (behind far.messages) e ∙ ap (λ (ms : List Message). record { messages = ms; stop = s }) (append-nil far.messages) in
+    record {
+      are = far.are ∙ sym (ap (λ (g : Given). records_in g.messages) all);
+      counted = far.counted ∙ sym (ap (λ (g : Given). length g.messages) all);
+      stopped = sym (ap (λ (g : Given). g.stop) all);
+    }
+
+-- a fault other than want of memory is that of the definition
+pub fails_is : {Y : Type 0} (e : MessageFault) (read : Result Y MessageFault) → e ≢ OutOfMemory → Fails e read → read ≡ Err e
+fails_is OutOfMemory read other h = absurd (other refl)
+fails_is e read other h = h
+
+-- ---- a text that goes on
+
+-- messages that were read, and more of them
+abbrev read_then : List Message → Option MessageFault → History → List (List ℕ) → List Message × Option MessageFault
+read_then xs None ds ms = let more = messages_give (known_after ds xs) ms in (xs ++ more.0, more.1)
+read_then xs (Some e) ds ms = (xs, Some e)
+
+one_before : (x : Message) (xs : List Message) (o : Option MessageFault) (ds : History) (ms : List (List ℕ))
+    → (x ∷ (read_then xs o x.domains ms).0, (read_then xs o x.domains ms).1) ≡ read_then (x ∷ xs) o ds ms
+one_before x xs None ds ms = refl
+one_before x xs (Some e) ds ms = refl
+
+abbrev with_one : Message → List Message × Option MessageFault → List Message × Option MessageFault
+with_one x r = (x ∷ r.0, r.1)
+
+give-append : (ds : History) (ms ns : List (List ℕ)) → messages_give ds (ms ++ ns) ≡ read_then (messages_give ds ms).0 (messages_give ds ms).1 ds ns
+give-append ds [] ns = sym (ap (λ (r : List Message × Option MessageFault). read_then r.0 r.1 ds ns) (give-none ds))
+give-append ds (m ∷ ms) ns =
+    elim (cases_read (message_gives ds m)) [
+      | inl ok ↦
+          let x = ok.0 in
+          give-next ds m (ms ++ ns) x ok.1 ∙ ap (with_one x) (give-append x.domains ms ns)
+          ∙ one_before x (messages_give x.domains ms).0 (messages_give x.domains ms).1 ds ns
+          ∙ sym (ap (λ (r : List Message × Option MessageFault). read_then r.0 r.1 ds ns) (give-next ds m ms x ok.1))
+      | inr err ↦
+          give-fault ds m (ms ++ ns) err.0 err.1
+          ∙ sym (ap (λ (r : List Message × Option MessageFault). read_then r.0 r.1 ds ns) (give-fault ds m ms err.0 err.1))
+    ]
+
+-- what a text gives when it goes on: its messages, and then what its rest gives, unless one of them has a fault
+abbrev pub going_on : List Message → Option MessageFault → History → List ℕ → Given
+going_on xs None ds text = behind xs (gives_after (known_after ds xs) text)
+going_on xs (Some e) ds text = record { messages = xs; stop = Fault e }
+
+closed_is : (xs : List Message) (o : Option MessageFault) (ds : History) (text : List ℕ) → closed (read_then xs o ds (cut text).items) (cut text).rest ≡ going_on xs o ds text
+closed_is xs None ds text = ap (behind xs) (sym (gives_after-is (known_after ds xs) text (cut text) refl))
+closed_is xs (Some e) ds text = refl
+
+pub goes_on : (ds : History) (text more : List ℕ)
+    → gives_after ds (text ++ more) ≡ going_on (messages_give ds (cut text).items).0 (messages_give ds (cut text).items).1 ds ((cut text).rest ++ more)
+goes_on ds text more =
+    let rest = (cut text).rest ++ more in
+    gives_after-is ds (text ++ more) (join (cut text).items (cut rest)) (parts_of-append next_message messages_shrink messages_stable (length text) text more (omega arith))
+    ∙ ap (λ (r : List Message × Option MessageFault). closed r (cut rest).rest) (give-append ds (cut text).items (cut rest).items)
+    ∙ closed_is (messages_give ds (cut text).items).0 (messages_give ds (cut text).items).1 ds rest
+
+-- the same by what was read of the text
+read_goes_on : (ds : History) (text more : List ℕ) (xs : List Message) (o : Option MessageFault) → messages_give ds (cut text).items ≡ (xs, o)
+    → gives_after ds (text ++ more) ≡ going_on xs o ds ((cut text).rest ++ more)
+read_goes_on ds text more xs o e = goes_on ds text more ∙ ap (λ (r : List Message × Option MessageFault). going_on r.0 r.1 ds ((cut text).rest ++ more)) e
+
+read_gives : (ds : History) (text : List ℕ) (xs : List Message) (o : Option MessageFault) → messages_give ds (cut text).items ≡ (xs, o)
+    → gives_after ds text ≡ record { messages = xs; stop = stop_after o (rest_stop (cut text).rest) }
+read_gives ds text xs o e = gives_after-is ds text (cut text) refl ∙ ap (λ (r : List Message × Option MessageFault). closed r (cut text).rest) e
+
+-- ---- behind a fault nothing changes
+
+fault_stays : (ds : History) (text more : List ℕ) (e : MessageFault) (xs : List Message) (o : Option MessageFault) → messages_give ds (cut text).items ≡ (xs, o)
+    → stop_after o (rest_stop (cut text).rest) ≡ Fault e → gives_after ds (text ++ more) ≡ gives_after ds text
+fault_stays ds text more e xs None read stop =
+    read_goes_on ds text more xs None read
+    ∙ ap (behind xs) (gives_after-stop (known_after ds xs) ((cut text).rest ++ more) (Fault e) (bad_goes_on (cut text).rest more e stop))
+    ∙ ap (λ (ms : List Message). record { messages = ms; stop = Fault e }) (append-nil xs)
+    ∙ ap (λ (s : Stop). record { messages = xs; stop = s }) (sym stop)
+    ∙ sym (read_gives ds text xs None read)
+fault_stays ds text more e xs (Some d) read stop = read_goes_on ds text more xs (Some d) read ∙ sym (read_gives ds text xs (Some d) read)
+
+pub gives_after-fault_stays : (ds : History) (text more : List ℕ) (e : MessageFault) → (gives_after ds text).stop ≡ Fault e → gives_after ds (text ++ more) ≡ gives_after ds text
+gives_after-fault_stays ds text more e stop =
+    let read = messages_give ds (cut text).items in
+    fault_stays ds text more e read.0 read.1 refl (sym (ap (λ (g : Given). g.stop) (read_gives ds text read.0 read.1 refl)) ∙ stop)
+
+-- ---- without a fault the text is read on from its rest
+
+open_goes_on : (ds : History) (text more : List ℕ) (xs : List Message) (o : Option MessageFault) → messages_give ds (cut text).items ≡ (xs, o)
+    → IsOpen (stop_after o (rest_stop (cut text).rest)) → gives_after ds (text ++ more) ≡ behind xs (gives_after (known_after ds xs) ((cut text).rest ++ more))
+open_goes_on ds text more xs None read open_yet = read_goes_on ds text more xs None read
+open_goes_on ds text more xs (Some d) read open_yet = absurd open_yet
+
+pub gives_after-open : (ds : History) (text more : List ℕ) → IsOpen (gives_after ds text).stop
+    → gives_after ds (text ++ more) ≡ behind (gives_after ds text).messages (gives_after (known_after ds (gives_after ds text).messages) ((cut text).rest ++ more))
+gives_after-open ds text more open_yet =
+    let read = messages_give ds (cut text).items in
+    let is = read_gives ds text read.0 read.1 refl in
+    open_goes_on ds text more read.0 read.1 refl (subst (λ (g : Given). IsOpen g.stop) is open_yet)
+    ∙ ap (λ (g : Given). behind g.messages (gives_after (known_after ds g.messages) ((cut text).rest ++ more))) (sym is)
+
+-- ---- the records of a text are the first of a longer one's
+
+prefix_on : (ds : History) (xs : List Message) (o : Option MessageFault) (text : List ℕ) → IsPrefix (records_in xs) (records_in (going_on xs o ds text).messages)
+prefix_on ds xs None text = (records_in (gives_after (known_after ds xs) text).messages, records_in-append xs (gives_after (known_after ds xs) text).messages)
+prefix_on ds xs (Some e) text = ([], sym (append-nil (records_in xs)))
+
+pub records_of-prefix : (text more : List ℕ) → IsPrefix (records_of text) (records_of (text ++ more))
+records_of-prefix text more =
+    let read = messages_give [] (cut text).items in
+    let is = ap (λ (g : Given). records_in g.messages) (read_gives [] text read.0 read.1 refl) in
+    let on = ap (λ (g : Given). records_in g.messages) (goes_on [] text more) in
+    let p = prefix_on [] read.0 read.1 ((cut text).rest ++ more) in
+    (p.0, on ∙ p.1 ∙ ap (λ (rs : List DataRecord). rs ++ p.0) (sym is))

@@ -1,0 +1,3 @@
+pub mod Cut
+pub mod Giving
+pub mod Moves

@@ -1,0 +1,4 @@
+pub mod MessageStream
+pub mod Given
+pub mod Reads
+pub mod Faults

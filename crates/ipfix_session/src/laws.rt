@@ -1,0 +1,29 @@
+//! Laws of the definitions.
+
+ghost use Rattle.std.specs.Prelude.{◌≡◌, ◌++◌, [], ℕ, List};
+ghost use Rattle.ipfix_wire.specs.Numbers.{IsOctets};
+ghost use Rattle.ipfix_wire.specs.InTurn.{IsLongest};
+ghost use Rattle.ipfix_message.specs.declared.fault.MessageFault.{MessageFault};
+ghost use Rattle.ipfix_session.specs.MessageStream.{SpellsMessage, cut};
+ghost use Rattle.ipfix_session.specs.Given.{gives, gives_after, behind, known_after, records_of, stop_of, IsOpen, IsPrefix};
+ghost use Rattle.ipfix_session.specs.declared.stop.Stop.TheVariants.{Fault};
+
+/// A text is cut into the longest list of messages that it begins with, one after another, and its
+/// rest, with which no message begins (RFC 5655, section 6).
+pub fn one_cut()
+    ensures found { (text : List ℕ) → IsOctets text → IsLongest SpellsMessage (cut text).items (cut text).rest text }
+    ensures only { (text rest : List ℕ) (messages : List (List ℕ)) → IsOctets text → IsLongest SpellsMessage messages rest text
+        → cut text ≡ record { items = messages; rest = rest } }
+{}
+
+/// What a text gives when it goes on.
+pub fn goes_on()
+    // The records of a text are the first of the longer text's.
+    ensures records { (text more : List ℕ) → IsPrefix (records_of text) (records_of (text ++ more)) }
+    // Behind a fault nothing changes.
+    ensures fault { (text more : List ℕ) (e : MessageFault) → stop_of text ≡ Fault e → gives (text ++ more) ≡ gives text }
+    // Without a fault the longer text is read on from the rest of the shorter, with the domains and
+    // events of its messages. So it doesn't matter how a text is cut into pieces.
+    ensures rest { (text more : List ℕ) → IsOpen (stop_of text)
+        → gives (text ++ more) ≡ behind (gives text).messages (gives_after (known_after [] (gives text).messages) ((cut text).rest ++ more)) }
+{}

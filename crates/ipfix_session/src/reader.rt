@@ -1,0 +1,76 @@
+//! Any reader as a source.
+
+ghost use Rattle.std.specs.Prelude.{◌≡◌, ◌↔◌, [], true, false};
+ghost use Rattle.std.specs.Option.{ForSome};
+ghost use Rattle.std.specs.IoError.{error_kind};
+
+use crate::source::{ReadError, Source};
+use std::io::{self, ErrorKind, Read};
+
+/// A source over a reader. Once it has told its end it doesn't ask the reader again.
+#[derive(Drop)]
+pub struct FromReader<R: Read> {
+    reader: R,
+    reads: u64,
+    failed: u64,
+    ended: bool,
+    ghost behind_the_end: { ended ≡ true → ForSome (R.remaining reader) (λ xs. xs ≡ []) },
+}
+
+impl<R: Read> FromReader<R> {
+    pub fn new(reader: R) -> Self
+        ensures text { ⟦<FromReader<R> as Source>⟧.text result ≡ R.remaining reader }
+        ensures reads { ⟦<FromReader<R> as Source>⟧.reads result ≡ 0 }
+        ensures failed { ⟦<FromReader<R> as Source>⟧.failed result ≡ 0 }
+        ensures ended { ⟦<FromReader<R> as Source>⟧.ended result ≡ false }
+    {
+        FromReader {
+            reader,
+            reads: 0,
+            failed: 0,
+            ended: false,
+        }
+    }
+}
+
+// an interruption may be tried again, and any other error is a failure
+fn read_error(error: &io::Error) -> ReadError
+    ensures { (result ≡ ReadError.Interrupted) ↔ (error_kind error.now ≡ ErrorKind.Interrupted) }
+{
+    match error.kind() {
+        ErrorKind::Interrupted => ReadError::Interrupted,
+        _ => ReadError::Failed,
+    }
+}
+
+impl<R: Read> Source for FromReader<R> {
+    ghost text = { λ s. R.remaining s.reader };
+
+    ghost reads = { λ s. s.reads };
+
+    ghost failed = { λ s. s.failed };
+
+    ghost ended = { λ s. s.ended };
+
+    ghost ended_is_end = { λ s e. s.behind_the_end e };
+
+    fn read(&mut self, buffer: &mut [u8]) -> Result<usize, ReadError> {
+        self.reads = self.reads.saturating_add(1);
+        if self.ended {
+            return Ok(0);
+        }
+        match self.reader.read(buffer) {
+            Ok(count) => {
+                self.ended = count == 0 && !buffer.is_empty();
+                Ok(count)
+            }
+            Err(error) => {
+                let error = read_error(&error);
+                if error == ReadError::Failed {
+                    self.failed = self.failed.saturating_add(1);
+                }
+                Err(error)
+            }
+        }
+    }
+}

@@ -1,0 +1,102 @@
+//! A source over memory, for tests: it gives its text in pieces, and can be interrupted and fail.
+
+ghost use Rattle.std.specs.Prelude.{◌≡◌, ◌≤◌, ◌<◌, [], true, false, Some, drop, take, length, vec_len};
+
+use crate::source::{ReadError, Source};
+
+/// A source that gives a text in pieces.
+#[derive(Drop)]
+pub struct ScriptSource {
+    text: Vec<u8>,
+    given: usize,
+    // what may be given in all, and whether a read behind that fails
+    limit: usize,
+    fails: bool,
+    piece: usize,
+    interrupt_at: Option<u64>,
+    reads: u64,
+    failed: u64,
+    ended: bool,
+    ghost given_within: { given ≤ limit },
+    ghost limit_within: { limit ≤ vec_len text },
+    ghost whole: { fails ≡ false → limit ≡ vec_len text },
+    ghost positive: { 0 < piece },
+    ghost behind_the_end: { ended ≡ true → drop given text.items ≡ [] },
+}
+
+impl ScriptSource {
+    /// Gives at most `piece` octets a read, and none past the first `fail_at`. The read of number
+    /// `interrupt_at`, counted from 1, answers `Interrupted`. Once `fail_at` octets are out each read
+    /// answers `Failed`.
+    pub fn new(
+        text: Vec<u8>,
+        piece: usize,
+        interrupt_at: Option<u64>,
+        fail_at: Option<usize>,
+    ) -> Self
+        requires { 0 < piece }
+        ensures text { ⟦<ScriptSource as Source>⟧.text result ≡ Some text.items }
+        ensures reads { ⟦<ScriptSource as Source>⟧.reads result ≡ 0 }
+        ensures failed { ⟦<ScriptSource as Source>⟧.failed result ≡ 0 }
+        ensures ended { ⟦<ScriptSource as Source>⟧.ended result ≡ false }
+    {
+        let (limit, fails) = match fail_at {
+            Some(at) if at <= text.len() => (at, true),
+            _ => (text.len(), false),
+        };
+        ScriptSource {
+            text,
+            given: 0,
+            limit,
+            fails,
+            piece,
+            interrupt_at,
+            reads: 0,
+            failed: 0,
+            ended: false,
+        }
+    }
+}
+
+// the first octets of a text into the front of a buffer
+fn copy_front(text: &[u8], count: usize, buffer: &mut [u8])
+    requires there { count ≤ length text.now }
+    requires room { count ≤ length buffer.old }
+    ensures { take count buffer.new ≡ take count text.now }
+{
+    buffer[..count].copy_from_slice(&text[..count]);
+}
+
+impl Source for ScriptSource {
+    ghost use Rattle.std.specs.Prelude.{unwrap_or};
+    ghost use Rattle.std.proofs.Common.{sym, ap, ◌∙◌};
+
+    ghost text = { λ s. Some (drop s.given s.text.items) };
+
+    ghost reads = { λ s. s.reads };
+
+    ghost failed = { λ s. s.failed };
+
+    ghost ended = { λ s. s.ended };
+
+    ghost ended_is_end = { λ s e xs h. sym (ap (λ o. unwrap_or o []) h) ∙ s.behind_the_end e };
+
+    #[tactic(auto, using(crate::proofs::Moves::moved))]
+    fn read(&mut self, buffer: &mut [u8]) -> Result<usize, ReadError> {
+        self.reads = self.reads.saturating_add(1);
+        if self.interrupt_at == Some(self.reads) {
+            return Err(ReadError::Interrupted);
+        }
+        if self.given == self.limit && self.fails {
+            self.failed = self.failed.saturating_add(1);
+            return Err(ReadError::Failed);
+        }
+        let count = (self.limit - self.given).min(self.piece).min(buffer.len());
+        copy_front(&self.text[self.given..], count, buffer);
+        self.given += count;
+        if count == 0 && !buffer.is_empty() {
+            self.ended = true;
+        }
+        Ok(count)
+    }
+}
