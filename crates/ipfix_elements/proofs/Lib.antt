@@ -1,0 +1,7 @@
+pub mod Lookups
+pub mod Table
+pub mod Numbered
+pub mod Named
+pub mod CellLemmas
+pub mod Kept
+pub mod Written

@@ -1,0 +1,87 @@
+-- The information elements that are known by name (IANA, "IPFIX Information Elements"; RFC 7012, section 5).
+use Rattle.std.specs.Prelude.{ℕ, ◌==◌, List, [], ◌∷◌, find, codes, Option, None, option_map, if◌then◌else◌}
+use Rattle.std.specs.Option.{option_map_or}
+use denote.Bor.{Bor}
+use Rattle.ipfix_wire.specs.declared.specifier.ElementId.{ElementId}
+use Rattle.ipfix_elements.specs.declared.kind.Width.TheVariants.{One, Two, Four, Eight}
+use Rattle.ipfix_elements.specs.declared.kind.Kind.{Kind}
+use Rattle.ipfix_elements.specs.declared.kind.Kind.TheVariants.{Unsigned, Ipv4, Ipv6, Mac, Seconds, Millis, Octets}
+
+-- an element's number and name in IANA's registry, and the kind that its fields are read by
+pub record Row : Type 0 where
+  pub number : ℕ
+  pub name : List ℕ
+  pub kind : Kind
+
+abbrev pub row : ℕ → List ℕ → Kind → Row
+row number name kind = record { number = number; name = name; kind = kind }
+
+-- a row as the code keeps it
+abbrev pub shown : ℕ × Bor (List ℕ) × Kind → Row
+shown r = row r.0 r.1.now r.2
+
+abbrev pub u8 : Kind
+u8 = Unsigned One
+
+abbrev pub u16 : Kind
+u16 = Unsigned Two
+
+abbrev pub u32 : Kind
+u32 = Unsigned Four
+
+abbrev pub u64 : Kind
+u64 = Unsigned Eight
+
+unfoldable pub elements : List Row
+elements =
+    row 1 (codes "octetDeltaCount") u64 ∷
+    row 2 (codes "packetDeltaCount") u64 ∷
+    row 3 (codes "deltaFlowCount") u64 ∷
+    row 4 (codes "protocolIdentifier") u8 ∷
+    row 5 (codes "ipClassOfService") u8 ∷
+    row 6 (codes "tcpControlBits") u16 ∷
+    row 7 (codes "sourceTransportPort") u16 ∷
+    row 8 (codes "sourceIPv4Address") Ipv4 ∷
+    row 9 (codes "sourceIPv4PrefixLength") u8 ∷
+    row 10 (codes "ingressInterface") u32 ∷
+    row 11 (codes "destinationTransportPort") u16 ∷
+    row 12 (codes "destinationIPv4Address") Ipv4 ∷
+    row 13 (codes "destinationIPv4PrefixLength") u8 ∷
+    row 14 (codes "egressInterface") u32 ∷
+    row 16 (codes "bgpSourceAsNumber") u32 ∷
+    row 17 (codes "bgpDestinationAsNumber") u32 ∷
+    row 23 (codes "postOctetDeltaCount") u64 ∷
+    row 24 (codes "postPacketDeltaCount") u64 ∷
+    row 27 (codes "sourceIPv6Address") Ipv6 ∷
+    row 28 (codes "destinationIPv6Address") Ipv6 ∷
+    row 44 (codes "sourceIPv4Prefix") Ipv4 ∷
+    row 45 (codes "destinationIPv4Prefix") Ipv4 ∷
+    row 56 (codes "sourceMacAddress") Mac ∷
+    row 58 (codes "vlanId") u16 ∷
+    row 60 (codes "ipVersion") u8 ∷
+    row 61 (codes "flowDirection") u8 ∷
+    row 132 (codes "droppedOctetDeltaCount") u64 ∷
+    row 133 (codes "droppedPacketDeltaCount") u64 ∷
+    row 136 (codes "flowEndReason") u8 ∷
+    row 150 (codes "flowStartSeconds") Seconds ∷
+    row 151 (codes "flowEndSeconds") Seconds ∷
+    row 152 (codes "flowStartMilliseconds") Millis ∷
+    row 153 (codes "flowEndMilliseconds") Millis ∷
+    row 210 (codes "paddingOctets") Octets ∷
+    row 375 (codes "originalFlowsPresent") u64 ∷
+    []
+
+-- the row of an element; those of an enterprise have none
+abbrev pub row_of : ElementId → Option Row
+row_of e = if e.pen == 0 then find (λ r. r.number == e.number) elements else None
+
+abbrev pub name_of : ElementId → Option (List ℕ)
+name_of e = option_map (λ r. r.name) (row_of e)
+
+-- what is not in the table is read as octets
+abbrev pub kind_of : ElementId → Kind
+kind_of e = option_map_or (λ r. r.kind) (row_of e) Octets
+
+-- the element of a row
+abbrev pub listed : Row → ElementId
+listed r = record { pen = 0; number = r.number }

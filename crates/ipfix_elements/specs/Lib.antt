@@ -1,0 +1,6 @@
+pub mod Elements
+pub mod Values
+pub mod Names
+pub mod Texts
+pub mod Cells
+pub mod Prefixes

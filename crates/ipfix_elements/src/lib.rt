@@ -1,0 +1,21 @@
+//! Information elements of IPFIX (RFC 7012) and the values of their fields: names, kinds, numbers,
+//! addresses, and all of them as text.
+#![tactic(auto)]
+
+mod cell;
+mod element;
+mod kind;
+mod name;
+mod number;
+mod prefix;
+#[cfg(test)]
+mod tests;
+mod text;
+
+pub use cell::{Cell, cell_order, read_cell, write_cell_octets};
+pub use element::{kind_of, name_of};
+pub use kind::{Kind, Width};
+pub use name::{by_name, write_name};
+pub use number::read_number;
+pub use prefix::mask;
+pub use text::{write_cell, write_value};

@@ -1,0 +1,29 @@
+//! Numbers in fields (RFC 7011, sections 6.1.1, 6.1.7, 6.1.8 and 6.2).
+
+ghost use Rattle.std.specs.Prelude.{◌≡◌, length};
+ghost use Rattle.ipfix_elements.specs.Values.{number_in, is_number_length as is_length};
+
+use crate::kind::Kind;
+use byteorder::{BigEndian, ByteOrder};
+
+fn is_number_length(kind: Kind, length: usize) -> bool
+    ensures { result ≡ is_length kind length }
+{
+    match kind {
+        Kind::Unsigned(width) => 0 < length && length <= width.octets(),
+        Kind::Seconds => length == 4,
+        Kind::Millis => length == 8,
+        Kind::Ipv4 | Kind::Ipv6 | Kind::Mac | Kind::Octets => false,
+    }
+}
+
+/// The number that the octets of a field are: an unsigned number in 1 octet up to its full width,
+/// seconds in 4, milliseconds in 8. `None` for other lengths, and for a kind that is no number.
+pub fn read_number(kind: Kind, octets: &[u8]) -> Option<u64>
+    ensures { result ≡ number_in kind octets.now }
+{
+    if !is_number_length(kind, octets.len()) {
+        return None;
+    }
+    Some(BigEndian::read_uint(octets, octets.len()))
+}

@@ -1,0 +1,287 @@
+use super::*;
+use ipfix_wire::ElementId;
+use std::alloc::Global;
+use std::io;
+use std::io::{ErrorKind, Write};
+use std::test::Fail;
+
+const TABLE: [(u16, &str, Kind); 35] = [
+    (1, "octetDeltaCount", Kind::Unsigned(Width::Eight)),
+    (2, "packetDeltaCount", Kind::Unsigned(Width::Eight)),
+    (3, "deltaFlowCount", Kind::Unsigned(Width::Eight)),
+    (4, "protocolIdentifier", Kind::Unsigned(Width::One)),
+    (5, "ipClassOfService", Kind::Unsigned(Width::One)),
+    (6, "tcpControlBits", Kind::Unsigned(Width::Two)),
+    (7, "sourceTransportPort", Kind::Unsigned(Width::Two)),
+    (8, "sourceIPv4Address", Kind::Ipv4),
+    (9, "sourceIPv4PrefixLength", Kind::Unsigned(Width::One)),
+    (10, "ingressInterface", Kind::Unsigned(Width::Four)),
+    (11, "destinationTransportPort", Kind::Unsigned(Width::Two)),
+    (12, "destinationIPv4Address", Kind::Ipv4),
+    (
+        13,
+        "destinationIPv4PrefixLength",
+        Kind::Unsigned(Width::One),
+    ),
+    (14, "egressInterface", Kind::Unsigned(Width::Four)),
+    (16, "bgpSourceAsNumber", Kind::Unsigned(Width::Four)),
+    (17, "bgpDestinationAsNumber", Kind::Unsigned(Width::Four)),
+    (23, "postOctetDeltaCount", Kind::Unsigned(Width::Eight)),
+    (24, "postPacketDeltaCount", Kind::Unsigned(Width::Eight)),
+    (27, "sourceIPv6Address", Kind::Ipv6),
+    (28, "destinationIPv6Address", Kind::Ipv6),
+    (44, "sourceIPv4Prefix", Kind::Ipv4),
+    (45, "destinationIPv4Prefix", Kind::Ipv4),
+    (56, "sourceMacAddress", Kind::Mac),
+    (58, "vlanId", Kind::Unsigned(Width::Two)),
+    (60, "ipVersion", Kind::Unsigned(Width::One)),
+    (61, "flowDirection", Kind::Unsigned(Width::One)),
+    (132, "droppedOctetDeltaCount", Kind::Unsigned(Width::Eight)),
+    (133, "droppedPacketDeltaCount", Kind::Unsigned(Width::Eight)),
+    (136, "flowEndReason", Kind::Unsigned(Width::One)),
+    (150, "flowStartSeconds", Kind::Seconds),
+    (151, "flowEndSeconds", Kind::Seconds),
+    (152, "flowStartMilliseconds", Kind::Millis),
+    (153, "flowEndMilliseconds", Kind::Millis),
+    (210, "paddingOctets", Kind::Octets),
+    (375, "originalFlowsPresent", Kind::Unsigned(Width::Eight)),
+];
+
+fn iana(number: u16) -> ElementId {
+    ElementId { pen: 0, number }
+}
+
+fn name_text(alloc: Global, element: ElementId) -> Result<Vec<u8>, Fail> {
+    let mut out = Vec::new(alloc);
+    write_name(element, &mut out)?;
+    Ok(out)
+}
+
+fn value_text(alloc: Global, kind: Kind, octets: &[u8]) -> Result<Vec<u8>, Fail> {
+    let mut out = Vec::new(alloc);
+    write_value(kind, octets, &mut out)?;
+    Ok(out)
+}
+
+#[test]
+fn table(rt: HostRuntime) -> Result<(), Fail> {
+    for (number, name, kind) in TABLE {
+        let element = iana(number);
+        assert_eq!(rt; kind_of(element), kind, "kind of {name}");
+        assert_eq!(rt; name_of(element), Some(name), "name of {number}");
+        assert_eq!(rt; by_name(name), Some(element), "element {name}");
+        assert_eq!(rt;
+            name_text(rt.alloc(), element)?.as_slice(),
+            name.as_bytes(),
+            "text of {number}"
+        );
+    }
+    Ok(())
+}
+
+#[test]
+fn names(rt: HostRuntime) -> Result<(), Fail> {
+    let private = ElementId {
+        pen: 32473,
+        number: 1,
+    };
+    assert_eq!(rt; name_of(private), None);
+    assert_eq!(rt; kind_of(private), Kind::Octets);
+    assert_eq!(rt;
+        kind_of(ElementId {
+            pen: 32473,
+            number: 8
+        }),
+        Kind::Octets
+    );
+    assert_eq!(rt;
+        name_text(rt.alloc(), private)?.as_slice(),
+        b"e32473.1".as_slice()
+    );
+    assert_eq!(rt;
+        name_text(rt.alloc(), iana(999))?.as_slice(),
+        b"e0.999".as_slice()
+    );
+    assert_eq!(rt; by_name("e32473.1"), Some(private));
+    assert_eq!(rt; by_name("e0.8"), Some(iana(8)));
+    assert_eq!(rt;
+        by_name("e4294967295.32767"),
+        Some(ElementId {
+            pen: 4294967295,
+            number: 32767
+        })
+    );
+    for refused in [
+        "",
+        "e",
+        "nobody",
+        "e0",
+        "e0.",
+        "e.8",
+        "e0.08",
+        "e00.8",
+        "e+0.8",
+        "e0.+8",
+        "e0.8 ",
+        "E0.8",
+        "e0.8.1",
+        "e4294967296.8",
+        "e0.32768",
+        "octetdeltacount",
+    ] {
+        assert_eq!(rt; by_name(refused), None, "{refused}");
+    }
+    Ok(())
+}
+
+#[test]
+fn numbers(rt: HostRuntime) {
+    let two = Kind::Unsigned(Width::Two);
+    assert_eq!(rt; read_number(two, &[0x12]), Some(18));
+    assert_eq!(rt; read_number(two, &[0, 0x12]), Some(18));
+    assert_eq!(rt; read_number(two, &[]), None);
+    assert_eq!(rt; read_number(two, &[0, 0, 0x12]), None);
+    assert_eq!(rt;
+        read_number(Kind::Unsigned(Width::Eight), &[1, 2, 3]),
+        Some(66051)
+    );
+    assert_eq!(rt;
+        read_number(Kind::Seconds, &[0x65, 0x53, 0xf1, 0]),
+        Some(1700000000)
+    );
+    assert_eq!(rt; read_number(Kind::Seconds, &[0xf1, 0]), None);
+    assert_eq!(rt;
+        read_number(Kind::Millis, &[0, 0, 0, 0, 0, 0, 3, 0xe8]),
+        Some(1000)
+    );
+    assert_eq!(rt; read_number(Kind::Millis, &[0, 0, 3, 0xe8]), None);
+    assert_eq!(rt; read_number(Kind::Ipv4, &[192, 0, 2, 1]), None);
+}
+
+#[test]
+fn cells(rt: HostRuntime) {
+    assert_eq!(rt;
+        read_cell(Kind::Ipv4, &[192, 0, 2, 1]),
+        Some(Cell::Ipv4([192, 0, 2, 1]))
+    );
+    assert_eq!(rt; read_cell(Kind::Ipv4, &[192, 0, 2]), None);
+    assert_eq!(rt;
+        read_cell(Kind::Mac, &[2, 0x42, 0xac, 0x11, 0, 2]),
+        Some(Cell::Mac([2, 0x42, 0xac, 0x11, 0, 2]))
+    );
+    assert_eq!(rt; read_cell(Kind::Ipv6, &[1; 16]), Some(Cell::Ipv6([1; 16])));
+    assert_eq!(rt;
+        read_cell(Kind::Seconds, &[0, 0, 0, 7]),
+        Some(Cell::Number(7))
+    );
+    assert_eq!(rt; read_cell(Kind::Octets, &[1]), None);
+    cell_order();
+    let ascending = [
+        Cell::Number(9),
+        Cell::Number(10),
+        Cell::Ipv4([9, 0, 0, 0]),
+        Cell::Ipv4([10, 0, 0, 0]),
+        Cell::Ipv6([0; 16]),
+        Cell::Mac([0; 6]),
+        Cell::Mac([0, 0, 0, 0, 0, 1]),
+    ];
+    for (low, high) in ascending.iter().zip(&ascending[1..]) {
+        assert!(rt; low < high);
+    }
+}
+
+#[test]
+fn texts(rt: HostRuntime) -> Result<(), Fail> {
+    let address = [0x20, 1, 0x0d, 0xb8, 0, 0, 0, 0, 0, 0, 0, 0, 0, 0, 0, 1];
+    let long = [0x61; 254];
+    let cases: [(Kind, &[u8], &str); 9] = [
+        (Kind::Unsigned(Width::Eight), &[0, 0, 5, 0xdc], "1500"),
+        (Kind::Millis, &[0, 0, 0, 0, 0, 0, 3, 0xe8], "1000"),
+        (Kind::Ipv4, &[192, 0, 2, 1], "192.0.2.1"),
+        (Kind::Ipv4, &[192, 0, 2], "?0xc00002"),
+        (
+            Kind::Ipv6,
+            &address,
+            "2001:0db8:0000:0000:0000:0000:0000:0001",
+        ),
+        (Kind::Mac, &[2, 0x42, 0xac, 0x11, 0, 2], "02:42:ac:11:00:02"),
+        (Kind::Octets, &[], "0x"),
+        (Kind::Octets, &[1, 2, 3, 4, 5], "0x0102030405"),
+        (Kind::Unsigned(Width::Two), &[], "?0x"),
+    ];
+    for (kind, octets, wanted) in cases {
+        assert_eq!(rt;
+            value_text(rt.alloc(), kind, octets)?.as_slice(),
+            wanted.as_bytes(),
+            "{wanted}"
+        );
+    }
+    let text = value_text(rt.alloc(), Kind::Octets, &long)?;
+    assert_eq!(rt; text.len(), 510);
+    assert!(rt; text.as_slice().starts_with(b"0x6161"));
+    assert!(rt;
+        text[2..]
+            .iter()
+            .all(|digit| *digit == b'6' || *digit == b'1')
+    );
+    Ok(())
+}
+
+#[test]
+fn octets_of_cells(rt: HostRuntime) -> Result<(), Fail> {
+    let mut out = Vec::new(rt.alloc());
+    write_cell_octets(&Cell::Number(18), 2, &mut out)?;
+    write_cell_octets(&Cell::Number(1), 9, &mut out)?;
+    write_cell_octets(&Cell::Ipv4([192, 0, 2, 1]), 4, &mut out)?;
+    write_cell_octets(&Cell::Ipv6([6; 16]), 16, &mut out)?;
+    write_cell_octets(&Cell::Mac([3; 6]), 6, &mut out)?;
+    assert_eq!(rt; out.len(), 37);
+    assert_eq!(rt;
+        &out[..15],
+        [0, 0x12, 0, 0, 0, 0, 0, 0, 0, 0, 1, 192, 0, 2, 1].as_slice()
+    );
+    Ok(())
+}
+
+#[test]
+fn masks(rt: HostRuntime) {
+    assert_eq!(rt; mask([192, 0, 2, 1], 24), [192, 0, 2, 0]);
+    assert_eq!(rt; mask([192, 0, 2, 200], 24), [192, 0, 2, 0]);
+    assert_eq!(rt; mask([192, 0, 2, 200], 25), [192, 0, 2, 128]);
+    assert_eq!(rt; mask([192, 0, 2, 200], 0), [0, 0, 0, 0]);
+    assert_eq!(rt; mask([192, 0, 2, 200], 32), [192, 0, 2, 200]);
+}
+
+/// Takes so many octets, and then fails.
+#[derive(Drop)]
+struct Broken {
+    left: usize,
+}
+
+impl Write for Broken {
+    fn write(&mut self, octets: &[u8]) -> io::Result<usize> {
+        if self.left < octets.len() {
+            return Err(io::Error::from(ErrorKind::BrokenPipe));
+        }
+        self.left -= octets.len();
+        Ok(octets.len())
+    }
+
+    fn flush(&mut self) -> io::Result<()> {
+        Ok(())
+    }
+}
+
+#[test]
+fn failing_writers(rt: HostRuntime) {
+    assert!(rt; write_name(iana(8), &mut Broken { left: 16 }).is_err());
+    assert!(rt; write_name(iana(999), &mut Broken { left: 5 }).is_err());
+    for left in [0, 2, 100] {
+        assert!(rt;
+            write_value(Kind::Octets, &[1; 100], &mut Broken { left }).is_err(),
+            "{left}"
+        );
+    }
+    assert!(rt; write_cell(&Cell::Mac([0; 6]), &mut Broken { left: 16 }).is_err());
+    assert!(rt; write_cell(&Cell::Mac([0; 6]), &mut Broken { left: 17 }).is_ok());
+}

@@ -1,0 +1,131 @@
+//! Values as text.
+
+ghost use Rattle.std.specs.Prelude.{◌≡◌, ◌+◌, ◌≤◌, ◌++◌, length, OnOk};
+ghost use Rattle.std.specs.Io.KnownBytes.{Appends};
+ghost use Rattle.arrayvec.specs.ArrayVec.{array_vec_len};
+ghost use Rattle.hex.specs.Hex.{encode_lower};
+ghost use Rattle.ipfix_elements.specs.Texts.{octet_text, ipv4_text as dotted, ipv6_text as groups_of_four, mac_text as groups_of_two, cell_text, hex_mark as mark_of, value_text};
+
+use crate::cell::{Cell, read_cell};
+use crate::kind::Kind;
+use arrayvec::{ArrayString, ArrayVec};
+use itoa::Buffer;
+use std::io;
+use std::io::Write;
+
+const DIGITS: &[u8; 16] = b"0123456789abcdef";
+
+/// The octets that are made into text at a time.
+const PIECE: usize = 64;
+
+/// Writes the value of a field: a number or a time in decimal, an address in its usual form, octets
+/// as `0x` and two hexadecimal digits each, and octets that are no value of the kind as `?0x` and
+/// the digits. An `Err` is the writer's.
+pub fn write_value<W: Write>(kind: Kind, octets: &[u8], out: &mut W) -> io::Result<()>
+    ensures { OnOk result (Appends (W.contents out.old) (W.contents out.new) (value_text kind octets.now)) }
+{
+    match read_cell(kind, octets) {
+        Some(cell) => write_cell(&cell, out),
+        None => write_hex(hex_mark(kind), octets, out),
+    }
+}
+
+/// Writes what `write_value` writes for the same value. An `Err` is the writer's.
+#[tactic(auto, unfolding(crate::specs::Texts::cell_text))]
+pub fn write_cell<W: Write>(cell: &Cell, out: &mut W) -> io::Result<()>
+    ensures { OnOk result (Appends (W.contents out.old) (W.contents out.new) (cell_text cell.now)) }
+{
+    match cell {
+        Cell::Number(number) => out.write_all(Buffer::new().format(*number).as_bytes()),
+        Cell::Ipv4(address) => out.write_all(ipv4_text(address).as_str().as_bytes()),
+        Cell::Ipv6(address) => out.write_all(ipv6_text(address).as_slice()),
+        Cell::Mac(address) => out.write_all(mac_text(address).as_slice()),
+    }
+}
+
+fn hex_mark(kind: Kind) -> &'static str
+    ensures { result.now ≡ mark_of kind }
+{
+    match kind {
+        Kind::Octets => "0x",
+        Kind::Unsigned(_) | Kind::Ipv4 | Kind::Ipv6 | Kind::Mac | Kind::Seconds | Kind::Millis => {
+            "?0x"
+        }
+    }
+}
+
+fn ipv4_text(address: &[u8; 4]) -> ArrayString<15>
+    ensures { result.bytes ≡ dotted address.now }
+{
+    let mut digits = Buffer::new();
+    let mut text = ArrayString::new();
+    text.push_str(digits.format(address[0]));
+    text.push_str(".");
+    text.push_str(digits.format(address[1]));
+    text.push_str(".");
+    text.push_str(digits.format(address[2]));
+    text.push_str(".");
+    text.push_str(digits.format(address[3]));
+    text
+}
+
+fn ipv6_text(address: &[u8; 16]) -> ArrayVec<u8, 39>
+    ensures { result.items ≡ groups_of_four address.now }
+{
+    let mut text = ArrayVec::new();
+    push_octet(&mut text, address[0]);
+    push_octet(&mut text, address[1]);
+    for group in 1..8 {
+        text.push(b':');
+        push_octet(&mut text, address[2 * group]);
+        push_octet(&mut text, address[2 * group + 1]);
+    }
+    text
+}
+
+fn mac_text(address: &[u8; 6]) -> ArrayVec<u8, 17>
+    ensures { result.items ≡ groups_of_two address.now }
+{
+    let mut text = ArrayVec::new();
+    push_octet(&mut text, address[0]);
+    for group in 1..6 {
+        text.push(b':');
+        push_octet(&mut text, address[group]);
+    }
+    text
+}
+
+/// Appends two lower-case hexadecimal digits.
+#[tactic(auto, unfolding(hex::specs::Hex::encode_with))]
+fn push_octet<const N: usize>(text: &mut ArrayVec<u8, N>, octet: u8)
+    requires { array_vec_len text.old + 2 ≤ N }
+    ensures items { text.new.items ≡ text.old.items ++ octet_text octet }
+    ensures len { array_vec_len text.new ≡ array_vec_len text.old + 2 }
+{
+    text.push(DIGITS[usize::from(octet / 16)]);
+    text.push(DIGITS[usize::from(octet % 16)]);
+}
+
+/// Writes a mark, and then each octet as two lower-case hexadecimal digits.
+fn write_hex<W: Write>(mark: &str, octets: &[u8], out: &mut W) -> io::Result<()>
+    ensures { OnOk result (Appends (W.contents out.old) (W.contents out.new) (mark.now ++ encode_lower octets.now)) }
+{
+    out.write_all(mark.as_bytes())?;
+    let mut rest = octets;
+    while !rest.is_empty() {
+        let (piece, more) = rest.split_at(rest.len().min(PIECE));
+        write_piece(piece, out)?;
+        rest = more;
+    }
+    Ok(())
+}
+
+fn write_piece<W: Write>(piece: &[u8], out: &mut W) -> io::Result<()>
+    requires { length piece.now ≤ PIECE }
+    ensures { OnOk result (Appends (W.contents out.old) (W.contents out.new) (encode_lower piece.now)) }
+{
+    let mut digits = [0; 128];
+    let end = 2 * piece.len();
+    hex::encode_to_slice(piece, &mut digits[..end]).unwrap();
+    out.write_all(&digits[..end])
+}
