@@ -1,0 +1,85 @@
+//! The end of a link that receives.
+
+ghost use Rattle.std.specs.Prelude.{◌≡◌};
+
+use crate::parcel::Parcel;
+use crate::waiting::pause;
+use rtrb::Consumer;
+use std::marker::Model;
+use std::sync::Wait;
+
+/// The end of a link that receives. It may move to a thread of its own. Contracts see its `link`,
+/// the `capacity`, and all parcels `received` so far.
+#[derive(Drop)]
+pub struct Receiver {
+    pub(crate) consumer: Consumer<Parcel>,
+}
+
+impl Model for Receiver {
+    ghost use Rattle.rtrb.specs.Ring as ring;
+    ghost use Rattle.flow_link.specs.Ends.{ReceiverView};
+
+    ghost Value = { ReceiverView };
+
+    ghost view = { λ r. record { link = (r.consumer.end.words, r.consumer.end.slots, r.consumer.end.names); capacity = r.consumer.capacity; received = ring.received r.consumer } };
+}
+
+/// What a try to take gives.
+#[derive(Debug, Drop)]
+pub enum Taken {
+    /// The oldest parcel of the ring.
+    Got(Parcel),
+    /// The ring is empty.
+    Empty,
+    /// The ring is empty, and the sender was dropped.
+    Gone,
+}
+
+impl Receiver {
+    ghost use Rattle.std.specs.Prelude.{◌≡◌, ◌∷◌, ◌++◌, [], IfSome, IfNone};
+    ghost use Rattle.rtrb.specs.Ring as ring;
+    ghost use Rattle.flow_link.specs.Taking.{IfGot, UnlessGot};
+
+    pub(crate) fn new(consumer: Consumer<Parcel>) -> Receiver
+        ensures { result ≡ record { link = (consumer.end.words, consumer.end.slots, consumer.end.names); capacity = consumer.capacity; received = ring.received consumer } }
+    {
+        Receiver { consumer }
+    }
+
+    /// Takes the oldest parcel, where one is there. It waits for nobody, and takes no memory.
+    pub fn try_recv(&mut self) -> Taken
+        ensures link { (self.new.link ≡ self.old.link) × (self.new.capacity ≡ self.old.capacity) }
+        ensures got { IfGot result (λ parcel. self.new.received ≡ self.old.received ++ parcel ∷ []) }
+        ensures none { UnlessGot result (self.new ≡ self.old) }
+    {
+        if let Ok(parcel) = self.consumer.pop() {
+            return Taken::Got(parcel);
+        }
+        if !self.consumer.is_abandoned() {
+            return Taken::Empty;
+        }
+        // The sender is gone: one more look finds what it left.
+        match self.consumer.pop() {
+            Ok(parcel) => Taken::Got(parcel),
+            Err(_) => Taken::Gone,
+        }
+    }
+
+    /// Takes the oldest parcel, and waits while the ring is empty. `None` where the sender is gone.
+    pub fn recv(&mut self, rt: &impl Wait) -> Option<Parcel>
+        ensures link { (self.new.link ≡ self.old.link) × (self.new.capacity ≡ self.old.capacity) }
+        ensures some { IfSome result (λ parcel. self.new.received ≡ self.old.received ++ parcel ∷ []) }
+        ensures none { IfNone result (self.new ≡ self.old) }
+    {
+        let mut tries = 0u32;
+        for _ in rt.forever() {
+            match self.try_recv() {
+                Taken::Got(parcel) => return Some(parcel),
+                Taken::Gone => return None,
+                Taken::Empty => pause(rt, tries),
+            }
+            tries = tries.saturating_add(1);
+        }
+        unreachable!()
+    }
+}

@@ -1,0 +1,105 @@
+//! The end of a link that sends.
+
+ghost use Rattle.std.specs.Prelude.{◌≡◌};
+ghost use Rattle.flow_link.specs.Parcels.{is_last as is_last_parcel};
+
+use crate::parcel::Parcel;
+use crate::waiting::pause;
+use rtrb::{Producer, PushError};
+use std::marker::Model;
+use std::sync::Wait;
+
+/// The end of a link that sends. It may move to a thread of its own. Contracts see its `link`, the
+/// `capacity`, and all parcels `sent` so far.
+#[derive(Drop)]
+pub struct Sender {
+    pub(crate) producer: Producer<Parcel>,
+    ended: bool,
+}
+
+impl Model for Sender {
+    ghost use Rattle.std.specs.Prelude.{◌≡◌};
+    ghost use Rattle.rtrb.specs.Ring as ring;
+    ghost use Rattle.flow_link.specs.Ends.{SenderView};
+    ghost use Rattle.flow_link.specs.Parcels.{has_last, LastEnds};
+
+    ghost Value = { SenderView };
+
+    ghost view = { λ s. record { link = (s.producer.end.words, s.producer.end.slots, s.producer.end.names); capacity = s.producer.capacity; sent = ring.sent s.producer } };
+
+    ghost invariant = { λ s. (has_last (ring.sent s.producer) ≡ s.ended) × LastEnds (ring.sent s.producer) };
+}
+
+impl Sender {
+    ghost use Rattle.std.specs.Prelude.{◌≡◌, ◌∷◌, ◌++◌, [], false, OnOk, IfErr};
+    ghost use Rattle.rtrb.specs.Ring as ring;
+    ghost use Rattle.flow_link.specs.Parcels.{has_last, LastEnds};
+
+    #[tactic(auto, using(crate::proofs::ParcelLists::last_ends_empty))]
+    pub(crate) fn new(producer: Producer<Parcel>) -> Sender
+        requires { ring.sent producer ≡ [] }
+        ensures { result ≡ record { link = (producer.end.words, producer.end.slots, producer.end.names); capacity = producer.capacity; sent = [] } }
+    {
+        Sender {
+            producer,
+            ended: false,
+        }
+    }
+
+    /// Sends a parcel, or gives it back where the ring is full. It waits for nobody, and takes no
+    /// memory.
+    #[tactic(auto, using(crate::proofs::ParcelLists::has_last_push, crate::proofs::ParcelLists::last_ends_push))]
+    pub fn try_send(&mut self, parcel: Parcel) -> Result<(), Parcel>
+        requires { has_last self.old.sent ≡ false }
+        ensures link { (self.new.link ≡ self.old.link) × (self.new.capacity ≡ self.old.capacity) }
+        ensures ok { OnOk result (self.new.sent ≡ self.old.sent ++ parcel ∷ []) }
+        ensures err { IfErr result (λ back. (back ≡ parcel) × (self.new ≡ self.old)) }
+    {
+        let last = is_last(&parcel);
+        match self.producer.push(parcel) {
+            Ok(()) => {
+                self.ended = last;
+                Ok(())
+            }
+            Err(PushError::Full(back)) => Err(back),
+        }
+    }
+
+    /// Sends a parcel, and waits while the ring is full. It comes back where the receiver is gone.
+    pub fn send(&mut self, rt: &impl Wait, parcel: Parcel) -> Result<(), Parcel>
+        requires { has_last self.old.sent ≡ false }
+        ensures link { (self.new.link ≡ self.old.link) × (self.new.capacity ≡ self.old.capacity) }
+        ensures ok { OnOk result (self.new.sent ≡ self.old.sent ++ parcel ∷ []) }
+        ensures err { IfErr result (λ back. (back ≡ parcel) × (self.new ≡ self.old)) }
+    {
+        let mut parcel = parcel;
+        let mut tries = 0u32;
+        for _ in rt.forever() {
+            if self.producer.is_abandoned() {
+                return Err(parcel);
+            }
+            match self.try_send(parcel) {
+                Ok(()) => return Ok(()),
+                Err(back) => parcel = back,
+            }
+            pause(rt, tries);
+            tries = tries.saturating_add(1);
+        }
+        unreachable!()
+    }
+
+    /// Whether Last was sent.
+    pub fn ended(&self) -> bool
+        ensures value { result ≡ has_last self.now.sent }
+        // Last stands at most once, at the end.
+        ensures once { LastEnds self.now.sent }
+    {
+        self.ended
+    }
+}
+
+fn is_last(parcel: &Parcel) -> bool
+    ensures { result ≡ is_last_parcel parcel.now }
+{
+    matches!(parcel, Parcel::Last)
+}

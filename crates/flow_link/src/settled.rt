@@ -1,0 +1,43 @@
+//! Both ends of a link in one thread again.
+
+ghost use Rattle.std.specs.Prelude.{◌≡◌, codes};
+
+use crate::parcel::Parcel;
+use crate::receiver::Receiver;
+use crate::sender::Sender;
+
+mod settling;
+
+pub use settling::settle;
+
+/// Both ends of a link, and what was still in the ring.
+#[derive(Drop)]
+pub struct Settled {
+    sender: Sender,
+    receiver: Receiver,
+    /// The parcels that were sent and not taken, the oldest first.
+    pub left: Vec<Parcel>,
+}
+
+/// Why a link was not settled.
+#[derive(Drop)]
+pub enum SettleFault {
+    /// There was no memory for what is left. Both ends come back as they were.
+    OutOfMemory(Sender, Receiver),
+}
+
+impl SettleFault {
+    /// The number that reports give for the fault.
+    pub fn number(&self) -> u8
+        ensures { result ≡ 2 }
+    {
+        2
+    }
+
+    /// The name that reports give for the fault.
+    pub fn name(&self) -> &'static str
+        ensures { result.now ≡ codes "OutOfMemory" }
+    {
+        "OutOfMemory"
+    }
+}
