@@ -1,0 +1,14 @@
+# The proved program, its gate, its cost. `rt`, the toolchain's command, is on the PATH.
+PREFIX = /usr/local
+
+bin/collectd: crates.txt HANDLES $(shell find crates \( -name out -o -name must-fail \) -prune -o -type f -print)
+	cd crates/collectd_cli && rt run -- dump < /dev/null && install -D out/collectd_cli ../../bin/collectd
+
+.PHONY: test bench install clean
+test: ; @tests/gate
+
+bench: bin/collectd ; @bench/run
+
+install: bin/collectd ; install -D bin/collectd $(DESTDIR)$(PREFIX)/bin/collectd
+
+clean: ; rm -rf bin bench/out crates/*/out
