@@ -13,12 +13,12 @@ pub record Row : Type 0 where
   pub name : List ℕ
   pub kind : Kind
 
-abbrev pub row : ℕ → List ℕ → Kind → Row
-row number name kind = record { number = number; name = name; kind = kind }
+abbrev pub element : ℕ → List ℕ → Kind → Row
+element number name kind = record { number = number; name = name; kind = kind }
 
 -- a row as the code keeps it
 abbrev pub shown : ℕ × Bor (List ℕ) × Kind → Row
-shown r = row r.0 r.1.now r.2
+shown r = element r.0 r.1.now r.2
 
 abbrev pub u8 : Kind
 u8 = Unsigned One
@@ -34,41 +34,41 @@ u64 = Unsigned Eight
 
 unfoldable pub elements : List Row
 elements =
-    row 1 (codes "octetDeltaCount") u64 ∷
-    row 2 (codes "packetDeltaCount") u64 ∷
-    row 3 (codes "deltaFlowCount") u64 ∷
-    row 4 (codes "protocolIdentifier") u8 ∷
-    row 5 (codes "ipClassOfService") u8 ∷
-    row 6 (codes "tcpControlBits") u16 ∷
-    row 7 (codes "sourceTransportPort") u16 ∷
-    row 8 (codes "sourceIPv4Address") Ipv4 ∷
-    row 9 (codes "sourceIPv4PrefixLength") u8 ∷
-    row 10 (codes "ingressInterface") u32 ∷
-    row 11 (codes "destinationTransportPort") u16 ∷
-    row 12 (codes "destinationIPv4Address") Ipv4 ∷
-    row 13 (codes "destinationIPv4PrefixLength") u8 ∷
-    row 14 (codes "egressInterface") u32 ∷
-    row 16 (codes "bgpSourceAsNumber") u32 ∷
-    row 17 (codes "bgpDestinationAsNumber") u32 ∷
-    row 23 (codes "postOctetDeltaCount") u64 ∷
-    row 24 (codes "postPacketDeltaCount") u64 ∷
-    row 27 (codes "sourceIPv6Address") Ipv6 ∷
-    row 28 (codes "destinationIPv6Address") Ipv6 ∷
-    row 44 (codes "sourceIPv4Prefix") Ipv4 ∷
-    row 45 (codes "destinationIPv4Prefix") Ipv4 ∷
-    row 56 (codes "sourceMacAddress") Mac ∷
-    row 58 (codes "vlanId") u16 ∷
-    row 60 (codes "ipVersion") u8 ∷
-    row 61 (codes "flowDirection") u8 ∷
-    row 132 (codes "droppedOctetDeltaCount") u64 ∷
-    row 133 (codes "droppedPacketDeltaCount") u64 ∷
-    row 136 (codes "flowEndReason") u8 ∷
-    row 150 (codes "flowStartSeconds") Seconds ∷
-    row 151 (codes "flowEndSeconds") Seconds ∷
-    row 152 (codes "flowStartMilliseconds") Millis ∷
-    row 153 (codes "flowEndMilliseconds") Millis ∷
-    row 210 (codes "paddingOctets") Octets ∷
-    row 375 (codes "originalFlowsPresent") u64 ∷
+    element 1 (codes "octetDeltaCount") u64 ∷
+    element 2 (codes "packetDeltaCount") u64 ∷
+    element 3 (codes "deltaFlowCount") u64 ∷
+    element 4 (codes "protocolIdentifier") u8 ∷
+    element 5 (codes "ipClassOfService") u8 ∷
+    element 6 (codes "tcpControlBits") u16 ∷
+    element 7 (codes "sourceTransportPort") u16 ∷
+    element 8 (codes "sourceIPv4Address") Ipv4 ∷
+    element 9 (codes "sourceIPv4PrefixLength") u8 ∷
+    element 10 (codes "ingressInterface") u32 ∷
+    element 11 (codes "destinationTransportPort") u16 ∷
+    element 12 (codes "destinationIPv4Address") Ipv4 ∷
+    element 13 (codes "destinationIPv4PrefixLength") u8 ∷
+    element 14 (codes "egressInterface") u32 ∷
+    element 16 (codes "bgpSourceAsNumber") u32 ∷
+    element 17 (codes "bgpDestinationAsNumber") u32 ∷
+    element 23 (codes "postOctetDeltaCount") u64 ∷
+    element 24 (codes "postPacketDeltaCount") u64 ∷
+    element 27 (codes "sourceIPv6Address") Ipv6 ∷
+    element 28 (codes "destinationIPv6Address") Ipv6 ∷
+    element 44 (codes "sourceIPv4Prefix") Ipv4 ∷
+    element 45 (codes "destinationIPv4Prefix") Ipv4 ∷
+    element 56 (codes "sourceMacAddress") Mac ∷
+    element 58 (codes "vlanId") u16 ∷
+    element 60 (codes "ipVersion") u8 ∷
+    element 61 (codes "flowDirection") u8 ∷
+    element 132 (codes "droppedOctetDeltaCount") u64 ∷
+    element 133 (codes "droppedPacketDeltaCount") u64 ∷
+    element 136 (codes "flowEndReason") u8 ∷
+    element 150 (codes "flowStartSeconds") Seconds ∷
+    element 151 (codes "flowEndSeconds") Seconds ∷
+    element 152 (codes "flowStartMilliseconds") Millis ∷
+    element 153 (codes "flowEndMilliseconds") Millis ∷
+    element 210 (codes "paddingOctets") Octets ∷
+    element 375 (codes "originalFlowsPresent") u64 ∷
     []
 
 -- the row of an element; those of an enterprise have none

@@ -1,5 +1,5 @@
 -- Fields whose octets stand one after the other in a block.
-use Rattle.std.proofs.Common.{◌≡◌, ℕ, ◌≤◌, List, [], ◌∷◌, ◌++◌, length, take, drop, refl, sym, ap, subst, arith, length-append}
+use Rattle.std.proofs.Common.{◌≡◌, ℕ, List, [], ◌∷◌, ◌++◌, length, take, drop, refl, ap, arith, length-append}
 use Rattle.std.proofs.lemmas.List.{drop_all, drop-append-le, take-append-le, take_all}
 use Rattle.ipfix_message.specs.declared.field_block.Place.{Place}
 use Rattle.ipfix_message.specs.Fields.{Field, fields_in, Fills}
