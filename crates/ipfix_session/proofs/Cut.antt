@@ -164,7 +164,7 @@ rest_bad : (w : List ℕ) (e : MessageFault) → Bad w e → rest_stop w ≡ Fau
 rest_bad [] e bad = absurd (omega (arith, bad.long))
 rest_bad (b ∷ w) e bad = rw (le-ltb (length (b ∷ w)) 16 bad.long, bad.header, bad.is) refl
 
-next_bad : (w : List ℕ) (e : MessageFault) → Bad w e → next_message w ≡ none_at (Fault e)
+pub next_bad : (w : List ℕ) (e : MessageFault) → Bad w e → next_message w ≡ none_at (Fault e)
 unfolding next_message
 next_bad w e bad = rw (le-ltb (length w) 16 bad.long, bad.header) (ap none_at (rest_bad w e bad))
 

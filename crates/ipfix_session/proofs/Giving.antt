@@ -68,7 +68,7 @@ gives_after-fault ds text m rest e h f =
     gives_after-is ds text (cons m (cut rest)) (parts_of-next next_message messages_shrink text m rest h)
     ∙ ap (λ (r : List Message × Option MessageFault). closed r (cut rest).rest) (give-fault ds m (cut rest).items e f)
 
-behind-behind : (ms ns : List Message) (g : Given) → behind ms (behind ns g) ≡ behind (ms ++ ns) g
+pub behind-behind : (ms ns : List Message) (g : Given) → behind ms (behind ns g) ≡ behind (ms ++ ns) g
 behind-behind ms ns g = ap (λ (xs : List Message). record { messages = xs; stop = g.stop }) (sym (append_assoc ms ns g.messages))
 
 -- ---- decoding message by message
@@ -86,7 +86,7 @@ pub record SoFar (text rest : List ℕ) (kept : List (ℕ × List (ℕ × Templa
 pub at_first : (text : List ℕ) (kept : List (ℕ × List (ℕ × Template))) → StandsFor kept [] → SoFar text text kept [] 0
 at_first text kept stands = record { known = []; stands = stands; messages = []; whole = refl; are = refl; counted = refl; room = omega arith }
 
-records_in-append : (ms ns : List Message) → records_in (ms ++ ns) ≡ records_in ms ++ records_in ns
+pub records_in-append : (ms ns : List Message) → records_in (ms ++ ns) ≡ records_in ms ++ records_in ns
 records_in-append [] ns = refl
 records_in-append (m ∷ ms) ns =
     ap (λ (rs : List DataRecord). m.decoding.records ++ rs) (records_in-append ms ns) ∙ sym (append_assoc m.decoding.records (records_in ms) (records_in ns))
@@ -217,16 +217,33 @@ gives_after-open ds text more open_yet =
     open_goes_on ds text more read.0 read.1 refl (subst (λ (g : Given). IsOpen g.stop) is open_yet)
     ∙ ap (λ (g : Given). behind g.messages (gives_after (known_after ds g.messages) ((cut text).rest ++ more))) (sym is)
 
--- ---- the records of a text are the first of a longer one's
+-- ---- the messages and the records of a text are the first of a longer one's
 
-prefix_on : (ds : History) (xs : List Message) (o : Option MessageFault) (text : List ℕ) → IsPrefix (records_in xs) (records_in (going_on xs o ds text).messages)
-prefix_on ds xs None text = (records_in (gives_after (known_after ds xs) text).messages, records_in-append xs (gives_after (known_after ds xs) text).messages)
-prefix_on ds xs (Some e) text = ([], sym (append-nil (records_in xs)))
+prefix_on : (ds : History) (xs : List Message) (o : Option MessageFault) (text : List ℕ) → IsPrefix xs (going_on xs o ds text).messages
+prefix_on ds xs None text = ((gives_after (known_after ds xs) text).messages, refl)
+prefix_on ds xs (Some e) text = ([], sym (append-nil xs))
+
+pub gives-prefix : (text more : List ℕ) → IsPrefix (gives text).messages (gives (text ++ more)).messages
+gives-prefix text more =
+    let read = messages_give [] (cut text).items in
+    let is = ap (λ (g : Given). g.messages) (read_gives [] text read.0 read.1 refl) in
+    let on = ap (λ (g : Given). g.messages) (goes_on [] text more) in
+    let p = prefix_on [] read.0 read.1 ((cut text).rest ++ more) in
+    (p.0, on ∙ p.1 ∙ ap (λ (ms : List Message). ms ++ p.0) (sym is))
 
 pub records_of-prefix : (text more : List ℕ) → IsPrefix (records_of text) (records_of (text ++ more))
 records_of-prefix text more =
-    let read = messages_give [] (cut text).items in
-    let is = ap (λ (g : Given). records_in g.messages) (read_gives [] text read.0 read.1 refl) in
-    let on = ap (λ (g : Given). records_in g.messages) (goes_on [] text more) in
-    let p = prefix_on [] read.0 read.1 ((cut text).rest ++ more) in
-    (p.0, on ∙ p.1 ∙ ap (λ (rs : List DataRecord). rs ++ p.0) (sym is))
+    let p = gives-prefix text more in
+    (records_in p.0, ap records_in p.1 ∙ records_in-append (gives text).messages p.0)
+
+-- ---- without a fault the text stops as its rest does
+
+open_is_rest : (o : Option MessageFault) (s : Stop) → IsOpen (stop_after o s) → stop_after o s ≡ s
+open_is_rest None s is_open = refl
+open_is_rest (Some e) s is_open = absurd is_open
+
+pub stop_is_rest : (ds : History) (text : List ℕ) → IsOpen (gives_after ds text).stop → (gives_after ds text).stop ≡ rest_stop (cut text).rest
+stop_is_rest ds text is_open =
+    let read = messages_give ds (cut text).items in
+    let is = ap (λ (g : Given). g.stop) (read_gives ds text read.0 read.1 refl) in
+    is ∙ open_is_rest read.1 (rest_stop (cut text).rest) (subst IsOpen is is_open)

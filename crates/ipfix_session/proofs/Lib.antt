@@ -1,3 +1,9 @@
 pub mod Cut
 pub mod Giving
 pub mod Moves
+pub mod Accounts
+pub mod Reaching
+pub mod Filling
+pub mod Putting
+pub mod Driving
+pub mod Pieces

@@ -2,3 +2,11 @@ pub mod MessageStream
 pub mod Given
 pub mod Reads
 pub mod Faults
+pub mod Ledger
+pub mod Feeding
+pub mod Intake
+pub mod Tallies
+pub mod Puts
+pub mod Buffers
+pub mod Reports
+pub mod Drives

@@ -1,8 +1,8 @@
 //! A whole text decoded.
 
-ghost use Rattle.std.specs.Prelude.{◌≡◌, ◌≢◌, Ok, Err, IfOk, MatchResult};
+ghost use Rattle.std.specs.Prelude.{◌≡◌, ◌≢◌, ◌<◌, length, Ok, Err, IfOk, IfErr, MatchResult};
 ghost use Rattle.ipfix_session.specs.MessageStream;
-ghost use Rattle.ipfix_session.specs.Given.{records_of, count_of, stop_of};
+ghost use Rattle.ipfix_session.specs.Given.{records_of, count_of, stop_of, IsOpen};
 
 use crate::stop::Stop;
 use ipfix_message::{DataRecord, Domains, MessageFault};
@@ -21,10 +21,12 @@ pub struct DecodedText {
 
 // the message that a text begins with, and what follows it; or why it stops there
 #[tactic(auto, unfolding(crate::specs::MessageStream::next_message))]
-fn next_message(text: &[u8]) -> Result<(&[u8], &[u8]), Stop>
-    ensures { MatchResult result
+pub fn next_message(text: &[u8]) -> Result<(&[u8], &[u8]), Stop>
+    ensures found { MatchResult result
         (λ x. MessageStream.next_message text.now ≡ Ok (x.0.now, x.1.now))
         (λ stop. MessageStream.next_message text.now ≡ Err stop) }
+    // what may begin a message is shorter than the longest
+    ensures begun { IfErr result (λ stop. IsOpen stop → length text.now < 65535) }
 {
     if text.is_empty() {
         return Err(Stop::Clean);

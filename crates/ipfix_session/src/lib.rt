@@ -2,19 +2,31 @@
 //! another, and what they give up to the end or the first fault.
 #![tactic(auto)]
 
+mod buffer;
 mod decoding;
+mod driver;
 mod fault;
+mod intake;
 mod laws;
+mod ledger;
 mod reader;
+mod report;
 mod script;
+mod session;
+mod sink;
 mod source;
 mod stop;
+mod tally;
 
 pub use decoding::{DecodedText, decode_text};
+pub use driver::drive;
 pub use fault::SessionFault;
 pub use laws::{goes_on, one_cut};
 pub use reader::FromReader;
+pub use report::{DomainReport, SessionReport};
 pub use script::ScriptSource;
+pub use session::Session;
+pub use sink::{Sink, VecSink};
 pub use source::{ReadError, Source};
 pub use stop::Stop;
 

@@ -1,0 +1,259 @@
+-- The account of a domain, message by message.
+use Rattle.std.proofs.Common.{◌≡◌, ℕ, ◌+◌, ◌<◌, Bool, true, false, not, cond, eqb, Option, Some, None, List, [], ◌∷◌, ◌++◌, length, map, filter, refl, sym, ap, subst, ◌∙◌, arith, inl, inr, take}
+use Rattle.std.specs.Prelude.{◌≢◌, ◌⊎◌, sum_by}
+use Rattle.std.proofs.lemmas.Bool.Decides.{eqb_tells}
+use Rattle.std.proofs.lemmas.List.Elements.{filter-append}
+use Rattle.std.proofs.lemmas.List.{append-nil, map-append, map_more}
+use Rattle.std.proofs.lemmas.Option.{get_or_from_slice_get}
+use Rattle.std.specs.List.{slice_get}
+use Rattle.std.proofs.lemmas.List.Sums.{sum_by-append}
+use Rattle.std.specs.Map.{lookup}
+use Rattle.std.specs.Option.{unwrap_or}
+use Rattle.indexmap.specs.IndexMap.{insert_entry}
+use Rattle.ipfix_message.specs.Domains.{Message}
+use Rattle.ipfix_session.specs.declared.report.DomainReport.{DomainReport}
+use Rattle.ipfix_session.specs.declared.ledger.Account.{Account}
+use Rattle.ipfix_session.specs.Ledger.{capped, count_in, due_after, lost_at, backward_at, lost_between, backward_between, sum_neighbours, messages_of, first_appearances, domains_of, due_of, account_of, accounts_of, account_after, domain_report, report_of}
+
+-- ---- one more message of a domain
+
+neighbours-push : (f : Message → Message → ℕ) (g : Option ℕ → ℕ → ℕ) → ((n : ℕ) → g None n ≡ 0) → ((m n : Message) → f m n ≡ g (due_after m) n.header.sequence)
+    → (xs : List Message) (m : Message) → sum_neighbours f (xs ++ m ∷ []) ≡ sum_neighbours f xs + g (due_of xs) m.header.sequence
+neighbours-push f g none is [] m = omega (arith, none m.header.sequence)
+neighbours-push f g none is (x ∷ []) m = omega (arith, is x m)
+neighbours-push f g none is (x ∷ y ∷ ys) m = omega (arith, neighbours-push f g none is (y ∷ ys) m)
+
+due_of-push : (xs : List Message) (m : Message) → due_of (xs ++ m ∷ []) ≡ due_after m
+due_of-push [] m = refl
+due_of-push (x ∷ []) m = refl
+due_of-push (x ∷ y ∷ ys) m = due_of-push (y ∷ ys) m
+
+abbrev account : ℕ → ℕ → ℕ → Option ℕ → Account
+account count lost backward due = record { count = count; lost = lost; backward = backward; due = due }
+
+account-same : (a b c d e f : ℕ) (p q : Option ℕ) → a ≡ d → b ≡ e → c ≡ f → p ≡ q → account a b c p ≡ account d e f q
+account-same a b c d e f p q h i j k = rw (h, i, j, k) refl
+
+capped-capped : (a b c : ℕ) → c ≡ a + b → capped c ≡ capped (capped a + b)
+capped-capped a b c e = omega arith
+
+pub account_of-push : (xs : List Message) (m : Message) → account_of (xs ++ m ∷ []) ≡ account_after (account_of xs) m.header.sequence (count_in m) (due_after m)
+account_of-push xs m =
+    account-same _ _ _ _ _ _ _ _
+    (capped-capped (sum_by count_in xs) (count_in m) (sum_by count_in (xs ++ m ∷ [])) (omega (arith, sum_by-append count_in xs (m ∷ []))))
+    (capped-capped (sum_neighbours lost_between xs) (lost_at (due_of xs) m.header.sequence) (sum_neighbours lost_between (xs ++ m ∷ [])) (neighbours-push lost_between lost_at (λ n. refl) (λ a b. refl) xs m))
+    (capped-capped (sum_neighbours backward_between xs) (backward_at (due_of xs) m.header.sequence) (sum_neighbours backward_between (xs ++ m ∷ [])) (neighbours-push backward_between backward_at (λ n. refl) (λ a b. refl) xs m))
+    (due_of-push xs m)
+
+-- ---- the accounts of all domains
+
+-- the key at the end, unless it is there
+abbrev pub insert_key : List ℕ → ℕ → List ℕ
+insert_key [] y = y ∷ []
+insert_key (x ∷ xs) y = cond (eqb y x) (x ∷ xs) (x ∷ insert_key xs y)
+
+-- a key that is none of these
+abbrev Absent : ℕ → List ℕ → Type 0
+Absent y [] = Unit {0}
+Absent y (x ∷ xs) = (x ≢ y) × Absent y xs
+
+abbrev Distinct : List ℕ → Type 0
+Distinct [] = Unit {0}
+Distinct (x ∷ xs) = Absent x xs × Distinct xs
+
+abbrev without : ℕ → List ℕ → List ℕ
+without x xs = filter (λ y. not (eqb y x)) xs
+
+-- keys with their values
+abbrev pub table : {V : Type 0} → (ℕ → V) → List ℕ → List (ℕ × V)
+table f ks = map (λ k. (k, f k)) ks
+
+same_apart : {V : Type 0} (f g : ℕ → V) (d : ℕ) (ks : List ℕ) → Absent d ks → ((k : ℕ) → k ≢ d → f k ≡ g k)
+    → table f ks ≡ table g ks
+same_apart f g d [] absent same = refl
+same_apart {V} f g d (k ∷ ks) absent same =
+    ap (λ (v : V). (k, v) ∷ table f ks) (same k absent.0)
+    ∙ ap (λ (es : List (ℕ × V)). (k, g k) ∷ es) (same_apart f g d ks absent.1 same)
+
+-- a table of values by key, where the value at one key changes or comes
+pub table-insert : {V : Type 0} (f g : ℕ → V) (d : ℕ) (ks : List ℕ) → Distinct ks → ((k : ℕ) → k ≢ d → f k ≡ g k)
+    → insert_entry eqb (table f ks) d (g d) ≡ table g (insert_key ks d)
+table-insert f g d [] distinct same = refl
+table-insert {V} f g d (k ∷ ks) distinct same =
+    elim (eqb_tells d k) [
+      | inl here ↦ rw here.0 (
+          ap (λ (v : V). (k, v) ∷ table f ks) (ap g here.1)
+          ∙ ap (λ (es : List (ℕ × V)). (k, g k) ∷ es) (same_apart f g d ks (subst (λ (n : ℕ). Absent n ks) (sym here.1) distinct.0) same))
+      | inr other ↦ rw other.0 (
+          ap (λ (v : V). (k, v) ∷ insert_entry eqb (table f ks) d (g d)) (same k (λ e. other.1 (sym e)))
+          ∙ ap (λ (es : List (ℕ × V)). (k, g k) ∷ es) (table-insert f g d ks distinct.1 same))
+    ]
+
+absent_without : (y x : ℕ) (zs : List ℕ) → Absent y zs → Absent y (without x zs)
+absent_without y x [] absent = tt
+absent_without y x (z ∷ zs) absent = by_test (eqb z x) (absent_without y x zs absent.1)
+  where
+    by_test : (b : Bool) → Absent y (without x zs) → Absent y (cond (not b) (z ∷ without x zs) (without x zs))
+    by_test true more = more
+    by_test false more = (absent.0, more)
+
+left_out : (x : ℕ) (zs : List ℕ) → Absent x (without x zs)
+left_out x [] = tt
+left_out x (z ∷ zs) =
+    elim (eqb_tells z x) [
+      | inl here ↦ rw here.0 (left_out x zs)
+      | inr other ↦ rw other.0 (other.1, left_out x zs)
+    ]
+
+distinct_without : (x : ℕ) (zs : List ℕ) → Distinct zs → Distinct (without x zs)
+distinct_without x [] distinct = tt
+distinct_without x (z ∷ zs) distinct = by_test (eqb z x) (distinct_without x zs distinct.1)
+  where
+    by_test : (b : Bool) → Distinct (without x zs) → Distinct (cond (not b) (z ∷ without x zs) (without x zs))
+    by_test true more = more
+    by_test false more = (absent_without z x zs distinct.0, more)
+
+pub first_appearances_distinct : (xs : List ℕ) → Distinct (first_appearances xs)
+first_appearances_distinct [] = tt
+first_appearances_distinct (x ∷ xs) = (left_out x (first_appearances xs), distinct_without x (first_appearances xs) (first_appearances_distinct xs))
+
+-- leaving a key out before or after another came
+without-insert_same : (x : ℕ) (zs : List ℕ) → without x (insert_key zs x) ≡ without x zs
+without-insert_same x [] = rw (same x) refl
+  where
+    same : (n : ℕ) → eqb n n ≡ true
+    same n = elim (eqb_tells n n) [ inl y ↦ y.0 | inr m ↦ absurd (m.1 refl) ]
+without-insert_same x (z ∷ zs) =
+    elim (eqb_tells x z) [
+      | inl here ↦ rw here.0 refl
+      | inr other ↦ rw other.0 (ap (λ (ks : List ℕ). cond (not (eqb z x)) (z ∷ ks) ks) (without-insert_same x zs))
+    ]
+
+without-insert_other : (x y : ℕ) (zs : List ℕ) → eqb y x ≡ false → without x (insert_key zs y) ≡ insert_key (without x zs) y
+without-insert_other x y [] other = rw other refl
+without-insert_other x y (z ∷ zs) other =
+    elim (eqb_tells y z) [
+      | inl here ↦
+          let apart : eqb z x ≡ false = subst (λ (n : ℕ). eqb n x ≡ false) here.1 other in
+          rw (here.0, apart, here.0) refl
+      | inr differs ↦ rw differs.0 (by_test (eqb z x) differs.0 (without-insert_other x y zs other))
+    ]
+  where
+    by_test : (b : Bool) → eqb y z ≡ false → without x (insert_key zs y) ≡ insert_key (without x zs) y
+        → cond (not b) (z ∷ without x (insert_key zs y)) (without x (insert_key zs y)) ≡ insert_key (cond (not b) (z ∷ without x zs) (without x zs)) y
+    by_test true e more = more
+    by_test false e more = rw e (ap (λ (ks : List ℕ). z ∷ ks) more)
+
+pub first_appearances-push : (xs : List ℕ) (y : ℕ) → first_appearances (xs ++ y ∷ []) ≡ insert_key (first_appearances xs) y
+first_appearances-push [] y = refl
+first_appearances-push (x ∷ xs) y =
+    ap (λ (ks : List ℕ). x ∷ without x ks) (first_appearances-push xs y)
+    ∙ elim (eqb_tells y x) [
+      | inl here ↦ rw (here.0) (ap (λ (ks : List ℕ). x ∷ ks) (subst (λ (n : ℕ). without x (insert_key (first_appearances xs) n) ≡ without x (first_appearances xs)) (sym here.1) (without-insert_same x (first_appearances xs))))
+      | inr other ↦ rw other.0 (ap (λ (ks : List ℕ). x ∷ ks) (without-insert_other x y (first_appearances xs) other.0))
+    ]
+
+-- ---- one more message
+
+messages_of-push : (d : ℕ) (ms : List Message) (m : Message) → messages_of d (ms ++ m ∷ []) ≡ messages_of d ms ++ cond (eqb m.header.domain d) (m ∷ []) []
+messages_of-push d ms m = filter-append (λ (n : Message). eqb n.header.domain d) ms (m ∷ [])
+
+domains_of-push : (ms : List Message) (m : Message) → domains_of (ms ++ m ∷ []) ≡ insert_key (domains_of ms) m.header.domain
+domains_of-push ms m =
+    ap first_appearances (map-append (λ (n : Message). n.header.domain) ms (m ∷ []))
+    ∙ first_appearances-push (map (λ (n : Message). n.header.domain) ms) m.header.domain
+
+itself : (n : ℕ) → eqb n n ≡ true
+itself n = elim (eqb_tells n n) [ inl y ↦ y.0 | inr m ↦ absurd (m.1 refl) ]
+
+apart : (a b : ℕ) → a ≢ b → eqb a b ≡ false
+apart a b ne = elim (eqb_tells a b) [ inl y ↦ absurd (ne y.1) | inr n ↦ n.0 ]
+
+-- the accounts after one more message: its domain's account goes on, and the others stay
+pub accounts_of-push : (ms : List Message) (m : Message)
+    → insert_entry eqb (accounts_of ms) m.header.domain (account_after (account_of (messages_of m.header.domain ms)) m.header.sequence (count_in m) (due_after m)) ≡ accounts_of (ms ++ m ∷ [])
+accounts_of-push ms m =
+    let d = m.header.domain in
+    let old : ℕ → Account = λ k. account_of (messages_of k ms) in
+    let new : ℕ → Account = λ k. account_of (messages_of k (ms ++ m ∷ [])) in
+    let here : messages_of d (ms ++ m ∷ []) ≡ messages_of d ms ++ m ∷ [] = messages_of-push d ms m ∙ ap (λ (b : Bool). messages_of d ms ++ cond b (m ∷ []) []) (itself d) in
+    let at : account_after (account_of (messages_of d ms)) m.header.sequence (count_in m) (due_after m) ≡ new d = sym (account_of-push (messages_of d ms) m) ∙ ap account_of (sym here) in
+    let others : (k : ℕ) → k ≢ d → old k ≡ new k = λ k ne. ap account_of (sym (append-nil (messages_of k ms)) ∙ ap (λ (b : Bool). messages_of k ms ++ cond b (m ∷ []) []) (sym (apart d k (λ e. ne (sym e)))) ∙ sym (messages_of-push k ms m)) in
+    ap (λ (a : Account). insert_entry eqb (accounts_of ms) d a) at
+    ∙ table-insert old new d (domains_of ms) (first_appearances_distinct (map (λ (n : Message). n.header.domain) ms)) others
+    ∙ ap (λ (ks : List ℕ). table new ks) (sym (domains_of-push ms m))
+
+absent_before : (y x : ℕ) (zs : List ℕ) → x ≢ y → Absent y (without x zs) → Absent y zs
+absent_before y x [] ne absent = tt
+absent_before y x (z ∷ zs) ne absent =
+    elim (eqb_tells z x) [
+      | inl here ↦ (subst (λ (n : ℕ). n ≢ y) (sym here.1) ne, absent_before y x zs ne (subst (λ (b : Bool). Absent y (cond (not b) (z ∷ without x zs) (without x zs))) here.0 absent))
+      | inr other ↦
+          let both = subst (λ (b : Bool). Absent y (cond (not b) (z ∷ without x zs) (without x zs))) other.0 absent in
+          (both.0, absent_before y x zs ne both.1)
+    ]
+
+no_messages : (d : ℕ) (ms : List Message) → Absent d (domains_of ms) → messages_of d ms ≡ []
+no_messages d [] absent = refl
+no_messages d (m ∷ ms) absent =
+    rw (apart m.header.domain d absent.0) (no_messages d ms (absent_before d m.header.domain (domains_of ms) absent.0 absent.1))
+
+abbrev none : Option Account
+none = None
+
+abbrev some : Account → Option Account
+some a = Some a
+
+lookup-table : (f : ℕ → Account) (d : ℕ) (ks : List ℕ) → (Absent d ks × (lookup (eqb d) (table f ks) ≡ none)) ⊎ (lookup (eqb d) (table f ks) ≡ Some (f d))
+lookup-table f d [] = inl (tt, refl)
+lookup-table f d (k ∷ ks) =
+    elim (eqb_tells d k) [
+      | inl here ↦ inr (rw here.0 (ap (λ (n : ℕ). some (f n)) (sym here.1)))
+      | inr other ↦ elim (lookup-table f d ks) [
+        | inl out ↦ inl ((λ e. other.1 (sym e), out.0), rw other.0 out.1)
+        | inr at ↦ inr (rw other.0 at)
+      ]
+    ]
+
+-- the account at a domain is that of its messages, and a domain without one has no messages yet
+pub account_at : (ms : List Message) (d : ℕ) → unwrap_or (lookup (eqb d) (accounts_of ms)) (account_of []) ≡ account_of (messages_of d ms)
+account_at ms d =
+    elim (lookup-table (λ k. account_of (messages_of k ms)) d (domains_of ms)) [
+      | inl out ↦ ap (λ (o : Option Account). unwrap_or o (account_of [])) out.1 ∙ ap account_of (sym (no_messages d ms out.0))
+      | inr at ↦ ap (λ (o : Option Account). unwrap_or o (account_of [])) at
+    ]
+
+-- what an insertion leaves, in the words of the code
+pub taken : (entries news : List (ℕ × Account)) (domain sequence count : ℕ) (due : Option ℕ) (before after : Account) (ms : List Message) (m : Message)
+    → entries ≡ accounts_of ms → domain ≡ m.header.domain → sequence ≡ m.header.sequence → count ≡ count_in m → due ≡ due_after m
+    → before ≡ unwrap_or (lookup (eqb domain) entries) (account_of []) → after ≡ account_after before sequence count due
+    → news ≡ insert_entry eqb entries domain after → news ≡ accounts_of (ms ++ m ∷ [])
+taken entries news domain sequence count due before after ms m are is_domain is_sequence is_count is_due is_before is_after is_news =
+    let found : before ≡ account_of (messages_of m.header.domain ms) =
+    is_before ∙ ap (λ (es : List (ℕ × Account)). unwrap_or (lookup (eqb domain) es) (account_of [])) are
+    ∙ ap (λ (d : ℕ). unwrap_or (lookup (eqb d) (accounts_of ms)) (account_of [])) is_domain ∙ account_at ms m.header.domain in
+    let goes_on : after ≡ account_after (account_of (messages_of m.header.domain ms)) m.header.sequence (count_in m) (due_after m) =
+    is_after ∙ ap (λ (a : Account). account_after a sequence count due) found
+    ∙ ap (λ (n : ℕ). account_after (account_of (messages_of m.header.domain ms)) n count due) is_sequence
+    ∙ ap (λ (n : ℕ). account_after (account_of (messages_of m.header.domain ms)) m.header.sequence n due) is_count
+    ∙ ap (λ (o : Option ℕ). account_after (account_of (messages_of m.header.domain ms)) m.header.sequence (count_in m) o) is_due in
+    is_news ∙ ap (λ (es : List (ℕ × Account)). insert_entry eqb es domain after) are
+    ∙ ap (λ (d : ℕ). insert_entry eqb (accounts_of ms) d after) is_domain
+    ∙ ap (λ (a : Account). insert_entry eqb (accounts_of ms) m.header.domain a) goes_on
+    ∙ accounts_of-push ms m
+
+-- ---- reports
+
+reports_of-table : (ms : List Message) (ks : List ℕ) → map report_of (table (λ domain. account_of (messages_of domain ms)) ks) ≡ map (domain_report ms) ks
+reports_of-table ms [] = refl
+reports_of-table ms (k ∷ ks) = ap (λ (rs : List DomainReport). domain_report ms k ∷ rs) (reports_of-table ms ks)
+
+-- the accounts make the reports of the domains
+pub reports_of-accounts : (ms : List Message) → map report_of (accounts_of ms) ≡ map (domain_report ms) (domains_of ms)
+reports_of-accounts ms = reports_of-table ms (domains_of ms)
+
+-- the reports of the first accounts, and of one more
+pub reports_more : (es : List (ℕ × Account)) (i : ℕ) (e : ℕ × Account) → i < length es → Some e ≡ slice_get es i
+    → map report_of (take (i + 1) es) ≡ map report_of (take i es) ++ report_of e ∷ []
+reports_more es i e lt found =
+    map_more report_of es i e lt ∙ ap (λ (x : ℕ × Account). map report_of (take i es) ++ report_of x ∷ []) (get_or_from_slice_get es i e e (sym found))

@@ -1,0 +1,113 @@
+-- What a session stands for, and what feeding it a piece of its text does.
+use Rattle.std.specs.Prelude.{◌≡◌, ℕ, false, List, [], ◌∷◌, ◌++◌, ◌+◌, length, sum_by, Option, Some, None, Result, Ok, Err}
+use Rattle.std.specs.List.{FoldsTo}
+use Rattle.ipfix_message.specs.Domains.{Session, Message, StandsFor}
+use Rattle.ipfix_message.specs.declared.fault.MessageFault.TheVariants.{OutOfMemory}
+use Rattle.ipfix_message.specs.declared.record.DataRecord.{DataRecord}
+use Rattle.ipfix_session.specs.declared.stop.Stop.{Stop}
+use Rattle.ipfix_session.specs.declared.stop.Stop.TheVariants.{Clean, Short, Fault}
+use Rattle.ipfix_session.specs.declared.fault.SessionFault.{SessionFault}
+use Rattle.ipfix_session.specs.declared.fault.SessionFault.TheVariants as faults
+use Rattle.ipfix_session.specs.declared.ledger.Account.{Account}
+use Rattle.ipfix_session.specs.MessageStream.{cut}
+use Rattle.ipfix_session.specs.Given.{gives, known_after, records_in, records_of, stop_of, IsOpen, IsPrefix}
+use Rattle.ipfix_session.specs.Ledger.{capped, accounts_of}
+use Rattle.ipfix_session.specs.Reads.{one_more}
+
+-- the counts of a session, and the accounts of its domains
+pub record Counts : Type 0 where
+  pub messages : ℕ
+  pub delivered : ℕ
+  pub skipped_sets : ℕ
+  pub unknown_sets : ℕ
+  pub ignored_withdrawals : ℕ
+  pub accounts : List (ℕ × Account)
+
+-- what contracts see of a session
+pub record State : Type 0 where
+  pub counts : Counts
+  pub domains : Session
+  pub buffer : List ℕ
+  pub fault : Option SessionFault
+
+-- the counts are of these messages, and of that many records that were taken
+pub record Tells (c : Counts) (ms : List Message) (delivered : ℕ) : Type 0 where
+  pub messages : c.messages ≡ capped (length ms)
+  pub delivered_is : c.delivered ≡ capped delivered
+  pub skipped_sets : c.skipped_sets ≡ capped (sum_by (λ m. m.decoding.skipped) ms)
+  pub unknown_sets : c.unknown_sets ≡ capped (sum_by (λ m. m.decoding.unknown) ms)
+  pub ignored_withdrawals : c.ignored_withdrawals ≡ capped (sum_by (λ m. m.decoding.ignored) ms)
+  pub accounts : c.accounts ≡ accounts_of ms
+
+-- the fault that a text ends its session with, however it goes on
+abbrev pub fault_at : Stop → Option SessionFault
+fault_at Clean = None
+fault_at Short = None
+fault_at (Fault e) = Some (faults.Message e)
+
+-- it goes on from the rest of a text, with the domains and events of its messages
+pub record GoesOnFrom (s : State) (text : List ℕ) : Type 0 where
+  pub rest : s.buffer ≡ (cut text).rest
+  pub not_spent : s.domains.spent ≡ false
+  pub known : StandsFor s.domains.domains (known_after [] (gives text).messages)
+
+-- a session stands for a text
+pub record StandsForText (s : State) (text : List ℕ) : Type 0 where
+  pub fault : s.fault ≡ fault_at (stop_of text)
+  pub tells : Tells s.counts (gives text).messages (length (records_of text))
+  pub goes_on : IsOpen (stop_of text) → GoesOnFrom s text
+
+module _ {K : Type 0} (took : K → DataRecord → K → Type 0) (refused : K → ℕ) where
+  -- the sink took these records, and gave none back
+  pub record Takes (before : K) (put : List DataRecord) (after : K) : Type 0 where
+    pub chain : FoldsTo took before put after
+    pub none_refused : refused after ≡ refused before
+
+  -- the sink took the records by which those of some messages exceed those of the old ones, and that is told
+  pub record PutsWhole (old whole : List Message) (before after : K) (told : List Message → ℕ → Type 0) : Type 0 where
+    pub put : List DataRecord
+    pub takes : Takes before put after
+    pub records : records_in whole ≡ records_in old ++ put
+    pub tells : told whole (length (records_in whole))
+
+  -- the sink took the records by which the longer text's exceed the shorter's, and the session stands for the longer
+  pub record PutsAll (text piece : List ℕ) (before after : K) (s : State) : Type 0 where
+    pub put : List DataRecord
+    pub takes : Takes before put after
+    pub records : records_of (text ++ piece) ≡ records_of text ++ put
+    pub stands : StandsForText s (text ++ piece)
+
+  -- memory ran out behind some messages, the old ones among them
+  pub record RunsOut (old all : List Message) (before after : K) (told : List Message → ℕ → Type 0) : Type 0 where
+    pub whole : List Message
+    pub from : IsPrefix old whole
+    pub up_to : IsPrefix whole all
+    pub puts : PutsWhole old whole before after told
+
+  -- the sink gave a record of a message back, behind messages that were put whole and the first records of its own
+  pub record IsRefused (old all : List Message) (before after : K) (told : List Message → ℕ → Type 0) : Type 0 where
+    pub whole : List Message
+    pub next : Message
+    pub more : List Message
+    pub from : IsPrefix old whole
+    pub are : all ≡ whole ++ next ∷ more
+    pub first : List DataRecord
+    pub item : DataRecord
+    pub others : List DataRecord
+    pub cut_off : next.decoding.records ≡ first ++ item ∷ others
+    pub put : List DataRecord
+    pub last : K
+    pub takes : Takes before put last
+    pub records : records_in whole ++ first ≡ records_in old ++ put
+    pub back : refused after ≡ one_more (refused last)
+    pub tells : told whole (length (records_in whole) + length first)
+
+  -- what feeding a piece does to a session that stands for a text, by its answer
+  abbrev pub Feeds : Result (Unit {0}) SessionFault → List ℕ → List ℕ → K → K → State → Type 0
+  Feeds (Ok x) text piece before after s = IsOpen (stop_of (text ++ piece)) × PutsAll text piece before after s
+  Feeds (Err (faults.Message OutOfMemory)) text piece before after s = RunsOut (gives text).messages (gives (text ++ piece)).messages before after (Tells s.counts)
+  Feeds (Err (faults.Message e)) text piece before after s = (stop_of (text ++ piece) ≡ Fault e) × PutsAll text piece before after s
+  Feeds (Err faults.SinkClosed) text piece before after s = IsRefused (gives text).messages (gives (text ++ piece)).messages before after (Tells s.counts)
+  Feeds (Err faults.Truncated) text piece before after s = ⊥
+  Feeds (Err faults.ReadFailed) text piece before after s = ⊥
+  Feeds (Err faults.TooManyReads) text piece before after s = ⊥

@@ -1,0 +1,68 @@
+//! Driving a session: a source is read piece by piece, and its octets are fed.
+
+ghost use Rattle.std.specs.Prelude.{ℕ, ◌<◌, ◌≤◌, length};
+ghost use Rattle.ipfix_session.specs.Drives.{Drives};
+
+use crate::fault::SessionFault;
+use crate::report::SessionReport;
+use crate::session::Session;
+use crate::sink::Sink;
+use crate::source::{ReadError, Source};
+use ipfix_message::MessageFault;
+use std::alloc::Global;
+
+/// How many octets a read may give.
+const PIECE: usize = 65536;
+
+/// Reads a source to its end and puts the records of its octets, in at most `limit` reads. The report
+/// says what its messages gave, and the fault that ended them.
+///
+/// It stops reading at the first fault of a message that is whole, or of a header that is whole, so that
+/// less than a read of 65,536 octets is taken behind it. Else
+/// `ReadFailed` is a read that failed, also the last that was allowed; `TooManyReads` where `limit`
+/// reads haven't shown the end; `Truncated` where the octets end within a message. An interrupted
+/// read is tried again, and counts. `SinkClosed` is a record that the sink gave back. Want of memory
+/// may come in place of any other.
+pub fn drive<S: Source, K: Sink>(
+    alloc: Global,
+    source: &mut S,
+    sink: &mut K,
+    limit: u64,
+) -> SessionReport
+    ensures { Drives S.text S.reads S.failed S.ended K.took K.refused limit 65536 source.old source.new sink.old sink.new result }
+{
+    match vec![in alloc; 0; PIECE] {
+        Ok(mut buffer) => drive_through(alloc, source, sink, limit, &mut buffer),
+        Err(_) => {
+            Session::new(alloc).finish_after(SessionFault::Message(MessageFault::OutOfMemory))
+        }
+    }
+}
+
+// the same through this buffer
+#[tactic(auto, using(crate::proofs::Driving::stops_at))]
+fn drive_through<S: Source, K: Sink>(
+    alloc: Global,
+    source: &mut S,
+    sink: &mut K,
+    limit: u64,
+    buffer: &mut [u8],
+) -> SessionReport
+    requires { 0 < length buffer.old }
+    ensures { (most : ℕ) → length buffer.old ≤ most → Drives S.text S.reads S.failed S.ended K.took K.refused limit most source.old source.new sink.old sink.new result }
+{
+    let mut session = Session::new(alloc);
+    for _ in 0..limit {
+        match source.read(buffer) {
+            Ok(0) => return session.finish(),
+            Ok(count) => {
+                if let Err(fault) = session.feed(alloc, &buffer[..count], sink) {
+                    return session.finish_after(fault);
+                }
+            }
+            Err(ReadError::Interrupted) => {}
+            Err(ReadError::Failed) => return session.finish_after(SessionFault::ReadFailed),
+        }
+    }
+    session.finish_after(SessionFault::TooManyReads)
+}

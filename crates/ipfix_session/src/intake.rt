@@ -1,0 +1,128 @@
+//! Taking the messages of a session: each is decoded, its records are put, and then it is counted.
+
+ghost use Rattle.std.specs.Prelude.{◌≡◌, ◌<◌, ◌++◌, ◌∷◌, [], ℕ, List, Ok, MatchResult, length, OnOk, IfOk, IfErr, false};
+ghost use Rattle.ipfix_message.specs.declared.record.DataRecord.{DataRecord};
+ghost use Rattle.ipfix_message.specs.Domains.{Message, StandsFor};
+ghost use Rattle.ipfix_session.specs.MessageStream;
+ghost use Rattle.ipfix_session.specs.Given.{IsOpen};
+ghost use Rattle.ipfix_session.specs.Ledger.{capped};
+ghost use Rattle.ipfix_session.specs.Feeding.{Tells};
+ghost use Rattle.ipfix_session.specs.Intake.{counts_of, IsRest, Reaches, Ends};
+ghost use Rattle.ipfix_session.specs.Puts.{Puts};
+
+use crate::decoding::next_message;
+use crate::fault::SessionFault;
+use crate::sink::Sink;
+use crate::stop::Stop;
+use crate::tally::{Counted, Tally};
+use ipfix_message::{DataRecord, Decoded, Domains, MessageFault};
+use std::alloc::Global;
+
+/// What whole messages of a session left: its domains, and its counts.
+#[derive(Drop)]
+pub struct Intake {
+    pub domains: Domains,
+    pub tally: Tally,
+}
+
+// puts records one by one, up to the first that the sink gives back
+fn put_all<K: Sink>(
+    records: Vec<DataRecord>,
+    delivered: &mut u64,
+    sink: &mut K,
+) -> Result<(), SessionFault>
+    ensures { Puts K.took K.refused result records.items delivered.old delivered.new sink.old sink.new }
+{
+    for record in records {
+        if sink.put(record).is_err() {
+            return Err(SessionFault::SinkClosed);
+        }
+        *delivered = delivered.saturating_add(1);
+    }
+    Ok(())
+}
+
+// a text that stops for a fault goes no further
+pub fn check_open(stop: Stop) -> Result<(), MessageFault>
+    ensures { MatchResult result (λ _. IsOpen stop) (λ fault. stop ≡ Stop.Fault fault) }
+{
+    match stop {
+        Stop::Clean | Stop::Short => Ok(()),
+        Stop::Fault(fault) => Err(fault),
+    }
+}
+
+impl Intake {
+    pub fn new(alloc: Global) -> Self
+        ensures counts { Tells (counts_of result.tally) [] 0 }
+        ensures fresh { result.domains.spent ≡ false }
+        ensures empty { StandsFor result.domains.domains [] }
+    {
+        Intake {
+            domains: Domains::new(alloc),
+            tally: Tally::new(alloc),
+        }
+    }
+
+    /// Takes a whole message.
+    pub fn take_message<K: Sink>(
+        &mut self,
+        alloc: Global,
+        message: &[u8],
+        sink: &mut K,
+    ) -> Result<(), SessionFault>
+        ensures { (old : List Message) (text left rest : List ℕ) (before : K)
+            → Reaches K.took K.refused old text before sink.old (counts_of self.old.tally) self.old.domains left
+            → MessageStream.next_message left ≡ Ok (message.now, rest)
+            → MatchResult result
+            (λ _. Reaches K.took K.refused old text before sink.new (counts_of self.new.tally) self.new.domains rest)
+            (λ fault. Ends K.took K.refused fault old text before sink.new (counts_of self.new.tally)) }
+    {
+        let Decoded {
+            header,
+            records,
+            skipped_sets,
+            unknown_sets,
+            ignored_withdrawals,
+        } = self.domains.decode(alloc, message)?;
+        self.tally.ledger.make_room()?;
+        let counted = Counted {
+            header,
+            records: records.len() as u64,
+            skipped_sets,
+            unknown_sets,
+            ignored_withdrawals,
+        };
+        put_all(records, &mut self.tally.delivered, sink)?;
+        self.tally.take(&counted);
+        Ok(())
+    }
+
+    /// Takes the messages that a text begins with, and gives what follows them.
+    pub fn take_messages<'a, K: Sink>(
+        &mut self,
+        alloc: Global,
+        text: &'a [u8],
+        sink: &mut K,
+    ) -> Result<&'a [u8], SessionFault>
+        ensures takes { (old : List Message) (text_of : List ℕ) (before : K)
+            → Reaches K.took K.refused old text_of before sink.old (counts_of self.old.tally) self.old.domains text.now
+            → MatchResult result
+            (λ rest. Reaches K.took K.refused old text_of before sink.new (counts_of self.new.tally) self.new.domains rest.now × IsRest rest.now)
+            (λ fault. Ends K.took K.refused fault old text_of before sink.new (counts_of self.new.tally)) }
+        ensures begun { IfOk result (λ rest. length rest.now < 65535) }
+    {
+        let mut rest = text;
+        loop {
+            let (message, after) = match next_message(rest) {
+                Ok(found) => found,
+                Err(stop) => {
+                    check_open(stop)?;
+                    return Ok(rest);
+                }
+            };
+            self.take_message(alloc, message, sink)?;
+            rest = after;
+        }
+    }
+}

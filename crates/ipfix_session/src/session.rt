@@ -1,0 +1,136 @@
+//! A transport session that is fed its octets in pieces (RFC 7011, section 3.1).
+
+ghost use Rattle.std.specs.Prelude.{◌≡◌, ◌≤◌, ◌++◌, [], ℕ, length, List, Some, None, Err, IfErr, OnOk};
+ghost use Rattle.std.specs.List.{flat_map};
+ghost use Rattle.ipfix_message.specs.Domains.{Message};
+ghost use Rattle.ipfix_session.specs.Feeding.{Tells, StandsForText, Feeds};
+ghost use Rattle.ipfix_session.specs.Reports.{IsReport, Reports, ended_by};
+
+use crate::buffer::read_on;
+use crate::fault::SessionFault;
+use crate::intake::Intake;
+use crate::report::SessionReport;
+use crate::sink::Sink;
+use std::alloc::Global;
+use std::marker::Model;
+
+/// A transport session. It holds no more of its octets than the front of one message, at most
+/// 65,535 octets.
+#[derive(Drop)]
+pub struct Session {
+    intake: Intake,
+    buffer: Vec<u8>,
+    fault: Option<SessionFault>,
+}
+
+impl Model for Session {
+    ghost use Rattle.std.specs.Prelude.{◌≤◌, length};
+    ghost use Rattle.ipfix_session.specs.Feeding.{State};
+    ghost use Rattle.ipfix_session.specs.Intake.{counts_of};
+
+    ghost Value = { State };
+
+    ghost view = { λ s. record { counts = counts_of s.intake.tally; domains = s.intake.domains; buffer = s.buffer.items; fault = s.fault } };
+
+    ghost invariant = { λ s. length s.buffer.items ≤ 65535 };
+}
+
+impl Session {
+    /// A session of which nothing has come yet.
+    pub fn new(alloc: Global) -> Self
+        ensures { StandsForText result [] }
+    {
+        Session {
+            intake: Intake::new(alloc),
+            buffer: Vec::new(alloc),
+            fault: None,
+        }
+    }
+
+    /// Takes the next octets: the records of each message that is whole by now go to the sink, in order.
+    ///
+    /// The fault is that of the first message that is refused, which gives none of its records; or
+    /// `SinkClosed` where the sink gives a record back. Want of memory may come in place of any other,
+    /// behind whole messages. After a fault each further call answers it again and puts nothing.
+    pub fn feed<K: Sink>(
+        &mut self,
+        alloc: Global,
+        piece: &[u8],
+        sink: &mut K,
+    ) -> Result<(), SessionFault>
+        ensures feeds { (text : List ℕ) → StandsForText self.old text → Feeds K.took K.refused result text piece.now sink.old sink.new self.new }
+        ensures ok { OnOk result (self.new.fault ≡ None) }
+        ensures err { IfErr result (λ fault. self.new.fault ≡ Some fault) }
+        ensures buffer { length self.new.buffer ≤ 65535 }
+        ensures again { (fault : SessionFault) → self.old.fault ≡ Some fault → (result ≡ Err fault) × (self.new ≡ self.old) × (sink.new ≡ sink.old) }
+    {
+        if let Some(fault) = self.fault {
+            return Err(fault);
+        }
+        let result = read_on(alloc, &mut self.intake, &mut self.buffer, piece, sink);
+        self.fault = result.err();
+        result
+    }
+
+    /// Takes the next octets in pieces, one after another. It doesn't matter how they are cut: the
+    /// records, the answer and the session are those of their octets in one piece.
+    pub fn feed_all<K: Sink>(
+        &mut self,
+        alloc: Global,
+        pieces: &[&[u8]],
+        sink: &mut K,
+    ) -> Result<(), SessionFault>
+        ensures feeds { (text : List ℕ) → StandsForText self.old text
+            → Feeds K.took K.refused result text (flat_map (λ piece. piece.now) pieces.now) sink.old sink.new self.new }
+        ensures ok { OnOk result (self.new.fault ≡ None) }
+        ensures err { IfErr result (λ fault. self.new.fault ≡ Some fault) }
+        ensures buffer { length self.new.buffer ≤ 65535 }
+        ensures again { (fault : SessionFault) → self.old.fault ≡ Some fault → (result ≡ Err fault) × (self.new ≡ self.old) × (sink.new ≡ sink.old) }
+    {
+        // where there are no pieces, it answers its fault
+        self.feed(alloc, &[], sink)?;
+        for piece in pieces {
+            self.feed(alloc, piece, sink)?;
+        }
+        Ok(())
+    }
+
+    /// What the session gave, and why it ended early: its fault, or `Truncated` where its octets end
+    /// within a message. This takes no memory.
+    pub fn finish(self) -> SessionReport
+        ensures text { (text : List ℕ) → StandsForText self text → IsReport result text }
+        ensures so_far { (ms : List Message) (delivered : ℕ) → Tells self.counts ms delivered → Reports result ms delivered }
+        ensures fault { (fault : SessionFault) → self.fault ≡ Some fault → result.fault ≡ Some fault }
+    {
+        let Session {
+            intake,
+            buffer,
+            fault,
+        } = self;
+        intake.tally.into_report(fault_at_end(fault, &buffer))
+    }
+
+    // what the session gave, which this fault ended
+    pub(crate) fn finish_after(self, fault: SessionFault) -> SessionReport
+        ensures so_far { (ms : List Message) (delivered : ℕ) → Tells self.counts ms delivered → Reports result ms delivered }
+        ensures fault { result.fault ≡ Some fault }
+    {
+        let Session {
+            intake,
+            buffer: _,
+            fault: _,
+        } = self;
+        intake.tally.into_report(Some(fault))
+    }
+}
+
+// the fault of a session that ends with these octets left
+fn fault_at_end(fault: Option<SessionFault>, rest: &[u8]) -> Option<SessionFault>
+    ensures { result ≡ ended_by fault rest.now }
+{
+    match fault {
+        Some(fault) => Some(fault),
+        None if rest.is_empty() => None,
+        None => Some(SessionFault::Truncated),
+    }
+}

@@ -1,0 +1,109 @@
+//! Messages that are cut, and messages with a wrong length (RFC 7011, section 3).
+
+use super::examples::{ONE_FLOW, VARIABLE_LENGTHS, examples, octets_of};
+use super::runs::{assert_one_meaning, driven};
+use ipfix_message::{Domains, MessageFault};
+use std::alloc::Global;
+use std::process::Abort;
+use std::test::*;
+
+/// That the front of a message is refused.
+fn assert_cut(rt: &impl Abort, alloc: Global, message: &str) -> Result<(), Fail> {
+    let octets = octets_of(alloc, &[message])?;
+    for kept in 0..octets.len() {
+        let front = &octets[..kept];
+        let refused = Domains::new(alloc).decode(alloc, front).err();
+        assert_eq!(rt; refused, Some(MessageFault::MessageLength));
+        let run = driven(alloc, front);
+        let fault = if kept == 0 { None } else { Some(14) };
+        assert_eq!(rt; run.fault(), fault, "{kept} of {message}");
+        assert_eq!(rt; run.report.messages, 0);
+        assert_eq!(rt; run.records().len(), 0);
+    }
+    Ok(())
+}
+
+/// That the fronts of these messages are refused.
+fn assert_all_cut(rt: &impl Abort, alloc: Global, messages: &[&str]) -> Result<(), Fail> {
+    for message in messages {
+        assert_cut(rt, alloc, message)?;
+    }
+    Ok(())
+}
+
+/// Each message cut at every octet.
+#[test]
+fn cut_messages(rt: HostRuntime) -> Result<(), Fail> {
+    for example in examples() {
+        assert_all_cut(&rt, rt.alloc(), example.messages)?;
+    }
+    let long = octets_of(rt.alloc(), &["00090014 6553f100 00000000 00000001"])?;
+    let refused = Domains::new(rt.alloc()).decode(rt.alloc(), &long).err();
+    assert_eq!(rt; refused, Some(MessageFault::Version));
+    Ok(())
+}
+
+/// Puts a number of two octets into a text; false where it ends before.
+fn put_number(text: &mut [u8], at: usize, number: u16) -> bool {
+    let [high, low] = number.to_be_bytes();
+    if at < text.len() && 1 < text.len() - at {
+        text[at] = high;
+        text[at + 1] = low;
+        return true;
+    }
+    false
+}
+
+/// Each length with a wrong number.
+#[test]
+fn wrong_lengths(rt: HostRuntime) -> Result<(), Fail> {
+    let alloc = rt.alloc();
+    let all = [0, 3, 4, 65_535];
+    for (message, at, numbers, fault) in [
+        (ONE_FLOW, 2, &all[..3], 2),
+        (ONE_FLOW, 2, &all[3..], 14),
+        (ONE_FLOW, 18, &[0, 3, 65_535], 4),
+        (ONE_FLOW, 42, &all, 4),
+        (VARIABLE_LENGTHS, 2, &all[..3], 2),
+        (VARIABLE_LENGTHS, 2, &all[3..], 14),
+        (VARIABLE_LENGTHS, 18, &all, 4),
+        (VARIABLE_LENGTHS, 34, &all, 4),
+        (VARIABLE_LENGTHS, 293, &all, 10),
+        (VARIABLE_LENGTHS, 551, &all, 10),
+    ] {
+        for number in numbers {
+            let mut text = octets_of(alloc, &[message])?;
+            assert!(rt; put_number(&mut text, at, *number));
+            let run = assert_one_meaning(&rt, alloc, &text)?;
+            let read = driven(alloc, &text);
+            assert_eq!(rt; run.report, read.report);
+            assert_eq!(rt; run.fault(), Some(fault), "{number} at {at}");
+            assert_eq!(rt; (run.report.messages, run.report.delivered), (0, 0));
+        }
+    }
+    let mut text = octets_of(alloc, &[ONE_FLOW])?;
+    assert!(rt; put_number(&mut text, 18, 4));
+    let run = assert_one_meaning(&rt, alloc, &text)?;
+    assert_eq!(rt; run.fault(), None);
+    let sets = (run.report.skipped_sets, run.report.unknown_sets);
+    assert_eq!(rt; (run.report.delivered, sets), (0, (3, 2)));
+    Ok(())
+}
+
+/// Each two octets at the front of a text, its lengths among them, with other numbers: it has one meaning.
+#[test]
+fn other_numbers(rt: HostRuntime) -> Result<(), Fail> {
+    let alloc = rt.alloc();
+    for example in examples() {
+        let whole = octets_of(alloc, example.messages)?;
+        for at in 0..whole.len().min(200) {
+            for number in [0, 3, 4, 65_535] {
+                let mut text = Vec::from_slice(alloc, &whole)?;
+                if put_number(&mut text, at, number) {
+                    let _ = assert_one_meaning(&rt, alloc, &text)?;
+                }
+            }
+        }
+    }
+    Ok(())
+}

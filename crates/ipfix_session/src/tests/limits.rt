@@ -1,0 +1,156 @@
+//! Limits, failing reads, sinks that take no more, and faults that stay.
+
+use super::drain;
+use super::examples::{NEXT_FLOW, ONE_FLOW, octets_of};
+use super::runs::fed;
+use crate::{ScriptSource, Session, SessionFault, Sink, VecSink, drive};
+use ipfix_message::{DataRecord, MessageFault};
+use std::alloc::Global;
+use std::test::*;
+
+#[test]
+fn failing_reads(rt: HostRuntime) -> Result<(), Fail> {
+    for (texts, piece, limit, fail_at, delivered, number) in [
+        ([""; 2], 1, 1, None, 0, None),
+        ([""; 2], 1, 0, None, 0, Some(17)),
+        ([ONE_FLOW, ""], 1, 3, None, 0, Some(17)),
+        ([ONE_FLOW, ""], 1, 68, None, 1, Some(17)),
+        ([ONE_FLOW, ""], 1, 69, None, 1, None),
+        ([ONE_FLOW, ""], 68, 2, None, 1, None),
+        ([ONE_FLOW, ""], 15, 100, Some(15), 0, Some(15)),
+        ([ONE_FLOW, ONE_FLOW], 80, 100, Some(80), 1, Some(15)),
+        ([ONE_FLOW, ONE_FLOW], 80, 2, Some(80), 1, Some(15)),
+        ([ONE_FLOW, ONE_FLOW], 80, 1, Some(80), 1, Some(17)),
+        (
+            ["00090010 6553f100 00000000 00000001", ""],
+            16,
+            1,
+            Some(16),
+            0,
+            Some(1),
+        ),
+    ] {
+        let text = octets_of(rt.alloc(), &texts)?;
+        let mut source = ScriptSource::new(text, piece, None, fail_at);
+        let mut sink = VecSink::new(rt.alloc());
+        let report = drive(rt.alloc(), &mut source, &mut sink, limit);
+        assert_eq!(rt; report.messages, delivered);
+        assert_eq!(rt; report.delivered, delivered);
+        assert_eq!(rt; report.fault.map(|fault| fault.number()), number);
+        assert_eq!(rt; sink.records.len() as u64, delivered);
+    }
+    Ok(())
+}
+
+/// A fault ends the reading.
+#[test]
+fn no_read_too_many(rt: HostRuntime) -> Result<(), Fail> {
+    let alloc: Global = rt.alloc();
+    let text = octets_of(alloc, &["00090010 6553f100 00000000 00000001", ONE_FLOW])?;
+    let mut source = ScriptSource::new(text, 16, None, None);
+    let report = drive(alloc, &mut source, &mut VecSink::new(alloc), 100);
+    assert_eq!(rt; report.fault.map(|fault| fault.number()), Some(1));
+    let mut left = Vec::new(alloc);
+    let _ = drain(&mut source, &mut left)?;
+    assert_eq!(rt; left, octets_of(alloc, &[ONE_FLOW])?);
+    Ok(())
+}
+
+/// A sink that takes no more than some records.
+#[derive(Drop)]
+struct Narrow {
+    room: usize,
+    records: Vec<DataRecord>,
+    refused: u64,
+}
+
+impl Sink for Narrow {
+    ghost use Rattle.std.specs.Prelude.{◌≡◌, ◌++◌, ◌∷◌, []};
+
+    ghost took = { λ before item after. after.records.items ≡ before.records.items ++ item ∷ [] };
+
+    ghost refused = { λ s. s.refused };
+
+    fn put(&mut self, item: DataRecord) -> Result<(), DataRecord> {
+        if self.records.len() >= self.room {
+            self.refused = self.refused.saturating_add(1);
+            return Err(item);
+        }
+        match self.records.push(item) {
+            Ok(()) => Ok(()),
+            Err(failed) => {
+                self.refused = self.refused.saturating_add(1);
+                Err(failed.value)
+            }
+        }
+    }
+}
+
+#[test]
+fn faults_stay(rt: HostRuntime) -> Result<(), Fail> {
+    let alloc: Global = rt.alloc();
+    let more = octets_of(alloc, &[ONE_FLOW])?;
+    let version = SessionFault::Message(MessageFault::Version);
+    let wrong = "00090010 6553f100 00000000 00000001";
+    for (room, texts, fault, messages) in [
+        (9, [ONE_FLOW, wrong], version, 1),
+        (0, [ONE_FLOW, ""], SessionFault::SinkClosed, 0),
+        (1, [ONE_FLOW, NEXT_FLOW], SessionFault::SinkClosed, 1),
+    ] {
+        let text = octets_of(alloc, &texts)?;
+        let mut sink = Narrow {
+            room,
+            records: Vec::new(alloc),
+            refused: 0,
+        };
+        let mut session = Session::new(alloc);
+        assert_eq!(rt; session.feed(alloc, &text, &mut sink), Err(fault));
+        sink.room = 9;
+        assert_eq!(rt; session.feed(alloc, &more, &mut sink), Err(fault));
+        assert_eq!(rt; session.feed_all(alloc, &[], &mut sink), Err(fault));
+        assert_eq!(rt; sink.records.len() as u64, messages);
+        let report = session.finish();
+        assert_eq!(rt; (report.messages, report.delivered), (messages, messages));
+        assert_eq!(rt; report.fault, Some(fault));
+    }
+    Ok(())
+}
+
+/// Appends a header alone, or a header and a set whose length is wrong.
+fn push_header(text: &mut Vec<u8>, domain: u32, alone: bool) -> Result<(), Fail> {
+    text.extend_from_slice(&[0, 10, 0, if alone { 16 } else { 20 }])?;
+    text.extend_from_slice(&[0x65, 0x53, 0xf1, 0, 0, 0, 0, 0])?;
+    text.extend_from_slice(&domain.to_be_bytes())?;
+    if !alone {
+        text.extend_from_slice(&[1, 0, 0, 3])?;
+    }
+    Ok(())
+}
+
+#[test]
+fn many_domains(rt: HostRuntime) -> Result<(), Fail> {
+    let alloc = rt.alloc();
+    for (last, alone, messages, fault) in [
+        (0, true, 1025, None),
+        (0, false, 1024, Some(4)),
+        (1024, true, 1024, Some(11)),
+        (1024, false, 1024, Some(11)),
+    ] {
+        let mut text = Vec::new(alloc);
+        for domain in 0..1024 {
+            push_header(&mut text, domain, true)?;
+        }
+        push_header(&mut text, last, alone)?;
+        let run = fed(alloc, &text, 1000);
+        assert_eq!(rt; run.fault(), fault);
+        assert_eq!(rt; run.report.messages, messages);
+        assert_eq!(rt; run.report.domains.len(), 1024);
+        for (domain, index) in run.report.domains.iter().zip(0..1024) {
+            assert_eq!(rt;
+                (domain.domain, domain.count, domain.lost, domain.backward),
+                (index, 0, 0, 0)
+            );
+        }
+    }
+    Ok(())
+}
