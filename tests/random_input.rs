@@ -114,7 +114,8 @@ fn put_message(numbers: &mut Numbers, shape: u64, out: &mut Vec<u8>) {
     }
     put(10, out);
     put(16 + sets.len() as u16, out);
-    for number in [1_700_000_000, numbers.below(100) as u32, numbers.of(&[1, 1, 2])] {
+    let sequence = if numbers.one_in(4) { numbers.next() as u32 } else { numbers.below(100) as u32 };
+    for number in [1_700_000_000, sequence, numbers.of(&[1, 1, 2])] {
         out.extend(number.to_be_bytes());
     }
     out.extend(sets);

@@ -32,8 +32,7 @@ fn fill(input: &mut impl Read, room: &mut [u8]) -> Result<usize, Failure> {
 }
 
 /// Writes a line for each data record of the input, message by message.
-fn dump(input: &mut impl Read, output: &mut impl Write) -> Result<(), Failure> {
-    let mut session = Session::default();
+fn dump(input: &mut impl Read, output: &mut impl Write, session: &mut Session) -> Result<(), Failure> {
     let mut message = vec![0; usize::from(u16::MAX)];
     let mut lines = Vec::new();
     loop {
@@ -59,10 +58,14 @@ fn main() -> ExitCode {
     }
     let mut input = BufReader::with_capacity(1 << 16, io::stdin().lock());
     let mut output = BufWriter::with_capacity(1 << 16, io::stdout().lock());
-    let ended = dump(&mut input, &mut output);
+    let mut session = Session::default();
+    let ended = dump(&mut input, &mut output, &mut session);
     if output.flush().is_err() || matches!(ended, Err(Failure::Output)) {
         eprintln!("collectd: dump: fault 2 WriteFailed");
         return ExitCode::from(3);
+    }
+    for domain in session.domains.iter().filter(|domain| domain.lost > 0 || domain.backward > 0) {
+        eprintln!("collectd: session 1: domain {}: lost {} backward {}", domain.number, domain.lost, domain.backward);
     }
     match ended {
         Err(Failure::Input(fault)) => {

@@ -25,9 +25,22 @@ pub enum Fault {
     ReadFailed = 15,
 }
 
+/// An observation domain: its templates, and what the sequence numbers of its messages say.
+#[derive(Default)]
+pub struct Domain {
+    pub number: u32,
+    pub lost: u64,
+    pub backward: u64,
+    templates: Templates,
+    /// The sequence number that is due next, where the last message tells it.
+    due: Option<u32>,
+}
+
 #[derive(Default)]
 pub struct Session {
-    domains: HashMap<u32, Templates>,
+    /// In order of first appearance.
+    pub domains: Vec<Domain>,
+    places: HashMap<u32, usize>,
 }
 
 pub fn u16_at(octets: &[u8], at: usize) -> u16 {
@@ -49,15 +62,32 @@ pub fn length_of(header: &[u8]) -> Result<usize, Fault> {
     }
 }
 
+impl Domain {
+    /// Takes a message with this sequence number into account; `count` is its records, if they could be counted.
+    fn count(&mut self, sequence: u32, count: Option<u32>) {
+        match self.due.map(|due| sequence.wrapping_sub(due)) {
+            Some(gap) if gap < 1 << 31 => self.lost += u64::from(gap),
+            Some(_) => self.backward += 1,
+            None => {}
+        }
+        self.due = count.map(|count| sequence.wrapping_add(count));
+    }
+}
+
 impl Session {
     /// Appends a line for each data record of a message whose header was found to be good. After a fault
     /// the lines mean nothing.
     pub fn decode(&mut self, message: &[u8], lines: &mut Vec<u8>) -> Result<(), Fault> {
-        let (export_time, domain) = (u32_at(message, 4), u32_at(message, 12));
-        if self.domains.len() == DOMAINS && !self.domains.contains_key(&domain) {
+        let (export_time, sequence, number) = (u32_at(message, 4), u32_at(message, 8), u32_at(message, 12));
+        if self.domains.len() == DOMAINS && !self.places.contains_key(&number) {
             return Err(Fault::TooManyDomains);
         }
-        let templates = self.domains.entry(domain).or_default();
+        let place = *self.places.entry(number).or_insert(self.domains.len());
+        if place == self.domains.len() {
+            self.domains.push(Domain { number, ..Domain::default() });
+        }
+        let domain = &mut self.domains[place];
+        let mut count = Some(0u32);
         let mut rest = &message[16..];
         while !rest.is_empty() {
             if rest.len() < 4 {
@@ -70,17 +100,20 @@ impl Session {
             let body = &rest[4..length];
             rest = &rest[length..];
             match id {
-                2 => template::take_set(templates, Kind::Plain, body)?,
-                3 => template::take_set(templates, Kind::Options, body)?,
-                256.. => {
-                    if let Some(template) = templates.get(&id) {
-                        let start = text::start_of_line(domain, id, export_time, template.scope);
-                        template.write_records(body, &start, lines)?;
+                2 => template::take_set(&mut domain.templates, Kind::Plain, body)?,
+                3 => template::take_set(&mut domain.templates, Kind::Options, body)?,
+                256.. => match domain.templates.get(&id) {
+                    Some(template) => {
+                        let start = text::start_of_line(number, id, export_time, template.scope);
+                        let records = template.write_records(body, &start, lines)?;
+                        count = count.map(|count| count + records);
                     }
-                }
+                    None => count = None,
+                },
                 _ => {}
             }
         }
+        domain.count(sequence, count);
         Ok(())
     }
 }

@@ -122,8 +122,9 @@ fn take_value<'a>(rest: &mut &'a [u8], width: u16) -> Option<&'a [u8]> {
 }
 
 impl Template {
-    /// Appends a line for each record of a data set.
-    pub fn write_records(&self, mut body: &[u8], start: &str, lines: &mut Vec<u8>) -> Result<(), Fault> {
+    /// Appends a line for each record of a data set, and gives their number.
+    pub fn write_records(&self, mut body: &[u8], start: &str, lines: &mut Vec<u8>) -> Result<u32, Fault> {
+        let mut count = 0;
         while body.len() >= self.least {
             lines.extend_from_slice(start.as_bytes());
             for field in &self.fields {
@@ -132,7 +133,8 @@ impl Template {
                 text::write_value(field.kind, value, lines);
             }
             lines.push(b'\n');
+            count += 1;
         }
-        Ok(())
+        Ok(count)
     }
 }

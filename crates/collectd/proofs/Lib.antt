@@ -1,1 +1,2 @@
-pub mod InputLemmas
+pub mod Collecting
+pub mod Numbering

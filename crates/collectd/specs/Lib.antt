@@ -1,6 +1,5 @@
 pub mod DumpLines
 pub mod Faults
-pub mod FaultLines
-pub mod Inputs
-pub mod Endings
+pub mod ReportLines
+pub mod Collected
 pub mod Dumped

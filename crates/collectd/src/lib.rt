@@ -3,14 +3,15 @@
 
 mod dumping;
 mod fault;
-mod fault_lines;
-mod input;
 mod line;
+mod line_sink;
+mod reports;
 mod running;
 mod text;
 
 pub use dumping::dump;
 pub use fault::DumpFault;
+pub use reports::write_reports;
 pub use running::run_dump;
 
 #[cfg(test)]

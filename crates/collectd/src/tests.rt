@@ -1,12 +1,16 @@
-//! Sources and writers that fail, and the worked example of one flow.
+//! What a dump writes, of sources and to writers that fail, and over a live connection.
 
 ghost use Rattle.std.specs.Prelude.{◌<◌};
 
 use super::*;
-use ipfix_session::{FromReader, ScriptSource};
+use ipfix_session::{DomainReport, FromReader, ScriptSource, SessionFault, SessionReport};
 use std::alloc::Global;
 use std::io::{self, ErrorKind, Write};
+use std::net::{TcpListener, TcpStream};
+use std::sync::Arc;
+use std::sync::atomic::{AtomicBool, Ordering};
 use std::test::Fail;
+use std::thread;
 
 // A message of domain 1: template 256, and one record of it.
 const ONE_FLOW: [u8; 68] = [
@@ -17,6 +21,33 @@ const ONE_FLOW: [u8; 68] = [
 
 const LINE: &str =
     "d=1 t=256 x=1700000000 s=0 flowStartMilliseconds=1000 flowEndMilliseconds=2000 sourceIPv4Address=192.0.2.1 octetDeltaCount=1500\n";
+
+// Messages of domain 1 whose sequence number and records are (4294967295, 2), (1, 1). Template 256
+// has octetDeltaCount in 4 octets.
+const WRAP: [u8; 64] = [
+    0, 10, 0, 40, 0x65, 0x53, 0xf1, 0, 255, 255, 255, 255, 0, 0, 0, 1, 0, 2, 0, 12, 1, 0, 0, 1, 0,
+    1, 0, 4, 1, 0, 0, 12, 0, 0, 0, 1, 0, 0, 0, 2, 0, 10, 0, 24, 0x65, 0x53, 0xf1, 0, 0, 0, 0, 1, 0,
+    0, 0, 1, 1, 0, 0, 8, 0, 0, 0, 3,
+];
+
+const WRAP_LINES: &str = "d=1 t=256 x=1700000000 s=0 octetDeltaCount=1
+d=1 t=256 x=1700000000 s=0 octetDeltaCount=2
+d=1 t=256 x=1700000000 s=0 octetDeltaCount=3
+";
+
+// The same with (0, 2), (5, 1), (1, 1).
+const GAP: [u8; 88] = [
+    0, 10, 0, 40, 0x65, 0x53, 0xf1, 0, 0, 0, 0, 0, 0, 0, 0, 1, 0, 2, 0, 12, 1, 0, 0, 1, 0, 1, 0, 4,
+    1, 0, 0, 12, 0, 0, 0, 1, 0, 0, 0, 2, 0, 10, 0, 24, 0x65, 0x53, 0xf1, 0, 0, 0, 0, 5, 0, 0, 0, 1,
+    1, 0, 0, 8, 0, 0, 0, 3, 0, 10, 0, 24, 0x65, 0x53, 0xf1, 0, 0, 0, 0, 1, 0, 0, 0, 1, 1, 0, 0, 8,
+    0, 0, 0, 4,
+];
+
+const GAP_LINES: &str = "d=1 t=256 x=1700000000 s=0 octetDeltaCount=1
+d=1 t=256 x=1700000000 s=0 octetDeltaCount=2
+d=1 t=256 x=1700000000 s=0 octetDeltaCount=3
+d=1 t=256 x=1700000000 s=0 octetDeltaCount=4
+";
 
 // A source of one flow twice, that gives it in pieces.
 fn twice(
@@ -33,13 +64,25 @@ fn twice(
 }
 
 #[test]
-fn one_flow(rt: HostRuntime) -> Result<(), Fail> {
-    let mut source = FromReader::new(ONE_FLOW.as_slice());
-    let mut out = Vec::new(rt.alloc());
-    let mut err = Vec::new(rt.alloc());
-    assert_eq!(rt; run_dump(rt.alloc(), &mut source, &mut out, &mut err), 0);
-    assert_eq!(rt; out.as_slice(), LINE.as_bytes());
-    assert!(rt; err.is_empty());
+fn whole_inputs(rt: HostRuntime) -> Result<(), Fail> {
+    let cases: [(&[u8], &str, &str); 4] = [
+        (&[], "", ""),
+        (&ONE_FLOW, LINE, ""),
+        (&WRAP, WRAP_LINES, ""),
+        (
+            &GAP,
+            GAP_LINES,
+            "collectd: session 1: domain 1: lost 3 backward 1\n",
+        ),
+    ];
+    for (input, lines, texts) in cases {
+        let mut source = FromReader::new(input);
+        let mut out = Vec::new(rt.alloc());
+        let mut err = Vec::new(rt.alloc());
+        assert_eq!(rt; run_dump(rt.alloc(), &mut source, &mut out, &mut err), 0);
+        assert_eq!(rt; out.as_slice(), lines.as_bytes());
+        assert_eq!(rt; err.as_slice(), texts.as_bytes());
+    }
     Ok(())
 }
 
@@ -95,10 +138,126 @@ fn a_failing_write(rt: HostRuntime) -> Result<(), Fail> {
     Ok(())
 }
 
+// A report of a session with these domains, given as their numbers, lost and backward.
+fn report(
+    alloc: Global,
+    domains: &[(u32, u64, u64)],
+    fault: Option<SessionFault>,
+) -> Result<SessionReport, Fail> {
+    let mut reports = Vec::new(alloc);
+    for &(domain, lost, backward) in domains {
+        reports.push(DomainReport {
+            domain,
+            count: 1,
+            lost,
+            backward,
+        })?;
+    }
+    Ok(SessionReport {
+        messages: 0,
+        delivered: 0,
+        skipped_sets: 0,
+        unknown_sets: 0,
+        ignored_withdrawals: 0,
+        domains: reports,
+        fault,
+    })
+}
+
+#[test]
+fn reports_of_sessions(rt: HostRuntime) -> Result<(), Fail> {
+    let mut reports = Vec::new(rt.alloc());
+    reports.push(report(rt.alloc(), &[(1, 0, 0)], None)?)?;
+    let domains = [(7, 3, 0), (4294967295, 0, 0), (2, 0, u64::MAX)];
+    let fault = Some(SessionFault::Truncated);
+    reports.push(report(rt.alloc(), &domains, fault)?)?;
+    reports.push(report(rt.alloc(), &[], Some(SessionFault::ReadFailed))?)?;
+    let mut out = Vec::new(rt.alloc());
+    write_reports(&reports, &mut out)?;
+    let wanted = "collectd: session 2: domain 7: lost 3 backward 0
+collectd: session 2: domain 2: lost 0 backward 18446744073709551615
+collectd: session 2: fault 14 Truncated
+collectd: session 3: fault 15 ReadFailed
+";
+    assert_eq!(rt; out.as_slice(), wanted.as_bytes());
+    Ok(())
+}
+
 #[test]
 fn fault_numbers_and_names(rt: HostRuntime) {
     assert_eq!(rt; DumpFault::OutOfMemory.number(), 1);
     assert_eq!(rt; DumpFault::OutOfMemory.name(), "OutOfMemory");
     assert_eq!(rt; DumpFault::WriteFailed.number(), 2);
     assert_eq!(rt; DumpFault::WriteFailed.name(), "WriteFailed");
+}
+
+// Keeps what is written, and notes when a line is whole.
+#[derive(Drop)]
+struct Noting {
+    text: Vec<u8>,
+    line_came: Arc<AtomicBool, Global>,
+}
+
+impl Write for Noting {
+    fn write(&mut self, octets: &[u8]) -> io::Result<usize> {
+        self.text.extend_from_slice(octets)?;
+        if octets.contains(&b'\n') {
+            self.line_came.store(true, Ordering::SeqCst);
+        }
+        Ok(octets.len())
+    }
+
+    fn flush(&mut self) -> io::Result<()> {
+        Ok(())
+    }
+}
+
+// Sends one flow, and closes the connection once its line has come, or gives up. Whether it came.
+fn export(connection: TcpStream, line_came: &AtomicBool) -> bool {
+    let mut connection = connection;
+    if connection.write_all(&ONE_FLOW).is_err() {
+        return false;
+    }
+    for _ in 0..1_000_000 {
+        if line_came.load(Ordering::SeqCst) {
+            return true;
+        }
+        thread::yield_now();
+    }
+    false
+}
+
+#[test]
+fn a_live_connection(rt: HostRuntime) -> Result<(), Fail> {
+    let listener = TcpListener::bind(&rt, "127.0.0.1:0")?;
+    let exporter = TcpStream::connect(&rt, listener.local_addr()?)?;
+    let (collector, _) = listener.accept()?;
+    let line_came = Arc::new(rt.alloc(), AtomicBool::new(false))?;
+    let theirs = Arc::try_clone(&line_came)?;
+    let Ok(thread) = thread::spawn(&rt, move || export(exporter, &theirs)) else {
+        panic!(rt; "no thread");
+    };
+    let mut source = FromReader::new(collector);
+    let mut out = Noting {
+        text: Vec::new(rt.alloc()),
+        line_came,
+    };
+    let report = dump(rt.alloc(), &mut source, &mut out);
+    assert!(rt;
+        thread.join(&rt),
+        "the line came while the connection was open"
+    );
+    assert!(rt;
+        matches!(
+            &report,
+            Ok(SessionReport {
+                messages: 1,
+                delivered: 1,
+                fault: None,
+                ..
+            })
+        )
+    );
+    assert_eq!(rt; out.text.as_slice(), LINE.as_bytes());
+    Ok(())
 }
