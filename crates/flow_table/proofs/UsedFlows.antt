@@ -1,0 +1,112 @@
+-- What is known of a record that is used, and of the intervals that it contributes to.
+use Rattle.std.proofs.Common.{◌≡◌, ℕ, ◌+◌, ◌-◌, ◌*◌, ◌/◌, ◌^◌, ◌<◌, ◌≤◌, inl, inr, zero, suc, Bool, true, false, nat_eq, ltb, cond, is_none, List, [], ◌∷◌, Option, Some, None, refl, sym, ap, ◌∙◌, arith, option_and_then}
+use Rattle.std.specs.List.{list_any, range_with_len}
+use Rattle.std.specs.Option.{option_or, ForSome}
+use Rattle.std.proofs.lemmas.Bool.{cases_Bool, cond-true, cond-false, ltb-true, ltb-false, eqb-true, or_cases}
+use Rattle.std.proofs.lemmas.Nat.{le-div}
+use Rattle.std.proofs.Math.Nat.{div-mul-le_self, mul-le-mul_right, mul-zero}
+use Rattle.ipfix_elements.specs.declared.cell.Cell.{Cell}
+use Rattle.ipfix_message.specs.declared.record.DataRecord.{DataRecord}
+use Rattle.flow_table.specs.declared.class.Class.{Class}
+use Rattle.flow_table.specs.declared.class.Class.TheVariants.{Options, Backward, Unkeyed, TooLong, Used}
+use Rattle.flow_table.specs.declared.method.Method.{Method}
+use Rattle.flow_table.specs.declared.method.Method.TheVariants.{Start, End, Mid, Uniform, Proportional}
+use Rattle.flow_table.specs.Intervals.{covered_by, covers_by}
+use Rattle.flow_table.specs.Plans.{PlanValue}
+use Rattle.flow_table.specs.Reading.{number_of, time_in, time_of, registered, start_of, end_of, key_of, is_too_long, flow_class, class_of, IsUsed}
+use Rattle.flow_table.proofs.UsedRecords.{is_used}
+
+-- ---- times
+
+time_in-small : (t : ℕ) → ForSome (time_in t) (λ u. u < 2 ^ 50)
+time_in-small t u e =
+    elim (cases_Bool (ltb t (2 ^ 50))) as (λ _. u < 2 ^ 50) [
+      | inl small ↦
+          let same : Some t ≡ Some u = sym (cond-true (ltb t (2 ^ 50)) (Some t) None small) ∙ e in
+          let is : t ≡ u = cc in
+          omega (arith, ltb-true t (2 ^ 50) small, is)
+      | inr large ↦
+          let none : None ≡ Some u = sym (cond-false (ltb t (2 ^ 50)) (Some t) None large) ∙ e in
+          cc
+    ]
+
+some_time : (o : Option ℕ) (unit : ℕ) → ForSome (option_and_then (λ n. time_in (n * unit)) o) (λ u. u < 2 ^ 50)
+some_time None unit u e = cc
+some_time (Some n) unit u e = time_in-small (n * unit) u e
+
+or_small : (o p : Option ℕ) → ForSome o (λ u. u < 2 ^ 50) → ForSome p (λ u. u < 2 ^ 50) → ForSome (option_or o p) (λ u. u < 2 ^ 50)
+or_small None p h k = k
+or_small (Some t) p h k = h
+
+end_small : (r : DataRecord) → ForSome (end_of r) (λ u. u < 2 ^ 50)
+unfolding end_of
+end_small r =
+    or_small (time_of (registered 153) 1 r) (time_of (registered 151) 1000 r) (some_time (number_of (registered 153) r) 1) (some_time (number_of (registered 151) r) 1000)
+
+-- ---- a used record
+
+-- start, end and key of a used record
+abbrev pub UsedAs : PlanValue → DataRecord → Type 0
+UsedAs plan r = (s : ℕ) × (e : ℕ) × (key : List Cell) × IsUsed plan r s e key
+
+some_key : (o : Option (List Cell)) → is_none o ≡ false → (key : List Cell) × (o ≡ Some key)
+some_key None h = absurd (cc)
+some_key (Some key) h = (key, refl)
+
+-- what a choice gives that isn't its first
+otherwise : {X : Type 0} (b : Bool) (x y z : X) → cond b x y ≡ z → (x ≡ z → ⊥) → (b ≡ false) × (y ≡ z)
+otherwise true x y z h other = absurd (other h)
+otherwise false x y z h other = (refl, h)
+
+flow_used : (plan : PlanValue) (r : DataRecord) (s e : Option ℕ) → r.scope ≤ 0 → start_of r ≡ s → end_of r ≡ e → flow_class plan r s e ≡ Used → UsedAs plan r
+flow_used plan r None e plain start end h = absurd cc
+flow_used plan r (Some s) None plain start end h = absurd cc
+flow_used plan r (Some s) (Some e) plain start end h =
+    let last : Class = cond (is_too_long plan s e) TooLong Used in
+    let forward = otherwise (ltb e s) Backward (cond (is_none (key_of plan r)) Unkeyed last) Used h (λ q. cc) in
+    let keyed = otherwise (is_none (key_of plan r)) Unkeyed last Used forward.1 (λ q. cc) in
+    let short = otherwise (is_too_long plan s e) TooLong Used Used keyed.1 (λ q. cc) in
+    let key = some_key (key_of plan r) keyed.0 in
+    (s, e, key.0, is_used plan r s e key.0 plain start end (ltb-false e s forward.0) (end_small r e end) key.1 short.0)
+
+pub used_as : (plan : PlanValue) (r : DataRecord) → class_of plan r ≡ Used → UsedAs plan r
+used_as plan r h =
+    let flow = otherwise (ltb 0 r.scope) Options (flow_class plan r (start_of r) (end_of r)) Used h (λ q. cc) in
+    flow_used plan r (start_of r) (end_of r) (ltb-false 0 r.scope flow.0) refl refl flow.1
+
+-- ---- intervals
+
+in_run : (k low n : ℕ) → list_any (nat_eq k) (range_with_len low n) ≡ true → k < low + n
+in_run k low zero h = absurd cc
+in_run k low (suc n) h =
+    elim (or_cases (nat_eq k low) (list_any (nat_eq k) (range_with_len (low + 1) n)) h) as (λ _. k < low + suc n) [
+      | inl here ↦ omega (arith, eqb-true k low here)
+      | inr later ↦ omega (arith, in_run k (low + 1) n later)
+    ]
+
+in_one : (k j : ℕ) → list_any (nat_eq k) (j ∷ []) ≡ true → k ≡ j
+in_one k j h =
+    elim (or_cases (nat_eq k j) false h) as (λ _. k ≡ j)
+    [ inl here ↦ eqb-true k j here | inr none ↦ absurd cc ]
+
+div-le-div : (length s e : ℕ) → 0 < length → s ≤ e → s / length ≤ e / length
+div-le-div length s e some h = le-div (s / length) e length some (omega (arith, div-mul-le_self s length))
+
+-- an interval that a flow contributes to begins no later than the flow ends
+begins : (k length t e : ℕ) → t ≤ e → k ≡ t / length → k * length ≤ e
+begins k length t e h at = omega (arith, div-mul-le_self t length, ap (λ (n : ℕ). n * length) at)
+
+begins_in_run : (k length s e : ℕ) → s ≤ e → list_any (nat_eq k) (covered_by length s e) ≡ true → k * length ≤ e
+begins_in_run k zero s e h in_it = omega (arith, mul-zero k)
+begins_in_run k (suc n) s e h in_it =
+    let ordered = div-le-div (suc n) s e (omega arith) h in
+    let below : k < s / suc n + (e / suc n - s / suc n + 1) = in_run k (s / suc n) (e / suc n - s / suc n + 1) in_it in
+    let within : k ≤ e / suc n = omega arith in
+    omega (arith, div-mul-le_self e (suc n), mul-le-mul_right (suc n) within)
+
+pub begins_in_time : (method : Method) (k length s e : ℕ) → s ≤ e → list_any (nat_eq k) (covers_by method length s e) ≡ true → k * length ≤ e
+begins_in_time Start k length s e h in_it = begins k length s e h (in_one k (s / length) in_it)
+begins_in_time End k length s e h in_it = begins k length e e (omega arith) (in_one k (e / length) in_it)
+begins_in_time Mid k length s e h in_it = begins k length ((s + e) / 2) e (omega arith) (in_one k ((s + e) / 2 / length) in_it)
+begins_in_time Uniform k length s e h in_it = begins_in_run k length s e h in_it
+begins_in_time Proportional k length s e h in_it = begins_in_run k length s e h in_it

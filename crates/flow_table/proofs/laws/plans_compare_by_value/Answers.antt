@@ -1,0 +1,5 @@
+use Rattle.flow_table.specs.SamePlans.{same_plan-tells}
+use Rattle.flow_table.proofs.laws.plans_compare_by_value.Goals as goal
+
+pub returns : goal.returns
+returns c = same_plan-tells

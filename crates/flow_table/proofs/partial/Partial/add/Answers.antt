@@ -1,0 +1,32 @@
+use Rattle.std.proofs.Common.{◌∷◌, ◌++◌, [], Option, refl, sym, ap, subst}
+use Rattle.flow_table.specs.declared.table_fault.TableFault.{TableFault}
+use Rattle.flow_table.specs.Partials.{plan_of, fault_of, StandsFor, StandsBy, unless}
+use Rattle.flow_table.specs.Reading.{class_of}
+use Rattle.flow_table.proofs.Holding.{stands_on, answers, no_fault}
+use Rattle.flow_table.proofs.partial.Partial.add.Goals as goal
+
+pub returns-in-Some-clause-answer : goal.returns-in-Some-clause-answer
+unfolding fault_of
+returns-in-Some-clause-answer c = sym (ap (λ (o : Option TableFault). unless o (class_of (plan_of c.args.self.now) c.args.data_record.now)) c.in-Some.is)
+
+pub returns-in-Some-clause-adds : goal.returns-in-Some-clause-adds
+unfolding StandsFor
+returns-in-Some-clause-adds c = λ rs stands. stands_on c.args.self.now.plan c.args.self.now.cells.entries c.args.self.now.tally rs (c.args.data_record.now ∷ []) c.args.self.now.fault c.in-Some.fault c.in-Some.is stands
+
+pub returns-clause-plan : goal.returns-clause-plan
+unfolding plan_of
+returns-clause-plan c = refl
+
+pub returns-clause-answer : goal.returns-clause-answer
+unfolding fault_of plan_of
+returns-clause-answer c = answers c.take-result.result c.err-self.result (class_of c.args.self.now.plan c.args.data_record.now) c.err-self.ensures.value c.take-result.ensures.class
+
+pub returns-clause-sticky : goal.returns-clause-sticky
+unfolding fault_of
+returns-clause-sticky c = λ some. absurd (no_fault c.args.self.now.fault c.in_default.is some)
+
+pub returns-clause-adds : goal.returns-clause-adds
+unfolding StandsFor
+returns-clause-adds c = λ rs stands.
+    subst (λ (o : Option TableFault). StandsBy o c.args.self.now.plan c.take-result.new.cells.entries c.take-result.new.tally (rs ++ c.args.data_record.now ∷ [])) (sym c.err-self.ensures.value)
+    (c.take-result.ensures.stands rs (subst (λ (o : Option TableFault). StandsBy o c.args.self.now.plan c.args.self.now.cells.entries c.args.self.now.tally rs) c.in_default.is stands))

@@ -1,0 +1,62 @@
+use Rattle.std.proofs.Common.{◌++◌, Option, refl, sym, ap, subst}
+use Rattle.flow_table.specs.declared.table_fault.TableFault.{TableFault}
+use Rattle.flow_table.specs.Partials.{plan_of, fault_of, StandsFor, StandsBy, unless}
+use Rattle.flow_table.proofs.Holding.{stands_on, stands_taken, holds_of, no_fault, one_fault, answers_unit}
+use Rattle.flow_table.proofs.partial.Partial.merge.Goals as goal
+
+pub returns-in-Some-clause-answer : goal.returns-in-Some-clause-answer
+unfolding fault_of
+returns-in-Some-clause-answer c = sym (ap (λ (o : Option TableFault). unless o tt) c.in-Some.is)
+
+pub returns-in-Some-clause-takes_over : goal.returns-in-Some-clause-takes_over
+unfolding fault_of
+returns-in-Some-clause-takes_over c = λ none some. absurd (one_fault c.args.self.now.fault c.in-Some.fault c.in-Some.is none)
+
+pub returns-in-Some-clause-merges : goal.returns-in-Some-clause-merges
+unfolding StandsFor
+returns-in-Some-clause-merges c = λ rs qs stands others. stands_on c.args.self.now.plan c.args.self.now.cells.entries c.args.self.now.tally rs qs c.args.self.now.fault c.in-Some.fault c.in-Some.is stands
+
+pub returns-in-Some-fault-clause-plan : goal.returns-in-Some-fault-clause-plan
+unfolding plan_of
+returns-in-Some-fault-clause-plan c = refl
+
+pub returns-in-Some-fault-clause-answer : goal.returns-in-Some-fault-clause-answer
+unfolding fault_of
+returns-in-Some-fault-clause-answer c = refl
+
+pub returns-in-Some-fault-clause-sticky : goal.returns-in-Some-fault-clause-sticky
+unfolding fault_of
+returns-in-Some-fault-clause-sticky c = λ some. absurd (no_fault c.args.self.now.fault c.in_default.is some)
+
+pub returns-in-Some-fault-clause-takes_over : goal.returns-in-Some-fault-clause-takes_over
+unfolding fault_of
+returns-in-Some-fault-clause-takes_over c = λ none some. sym c.in-Some-fault.is
+
+pub returns-in-Some-fault-clause-merges : goal.returns-in-Some-fault-clause-merges
+unfolding StandsFor plan_of
+returns-in-Some-fault-clause-merges c = λ rs qs stands others.
+    stands_taken c.args.self.now.plan c.args.other.plan c.args.self.now.cells.entries c.args.other.cells.entries c.args.self.now.tally c.args.other.tally rs qs c.args.other.fault c.in-Some-fault.fault c.requires c.in-Some-fault.is others
+
+pub returns-clause-plan : goal.returns-clause-plan
+unfolding plan_of
+returns-clause-plan c = refl
+
+pub returns-clause-answer : goal.returns-clause-answer
+unfolding fault_of
+returns-clause-answer c = answers_unit c.join-result.result c.err-self.result c.err-self.ensures.value
+
+pub returns-clause-sticky : goal.returns-clause-sticky
+unfolding fault_of
+returns-clause-sticky c = λ some. absurd (no_fault c.args.self.now.fault c.in_default.is some)
+
+pub returns-clause-takes_over : goal.returns-clause-takes_over
+unfolding fault_of
+returns-clause-takes_over c = λ none some. absurd (no_fault c.args.other.fault c.in_default-fault.is some)
+
+pub returns-clause-merges : goal.returns-clause-merges
+unfolding StandsFor plan_of
+returns-clause-merges c = λ rs qs stands others.
+    subst (λ (o : Option TableFault). StandsBy o c.args.self.now.plan c.join-result.new.cells.entries c.join-result.new.tally (rs ++ qs)) (sym c.err-self.ensures.value)
+    (c.join-result.ensures c.args.self.now.plan rs qs
+    (subst (λ (o : Option TableFault). StandsBy o c.args.self.now.plan c.args.self.now.cells.entries c.args.self.now.tally rs) c.in_default.is stands)
+    (holds_of c.args.self.now.plan c.args.other.plan c.args.other.cells.entries c.args.other.tally qs c.args.other.fault c.requires c.in_default-fault.is others))

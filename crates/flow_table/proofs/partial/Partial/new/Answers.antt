@@ -1,0 +1,16 @@
+use Rattle.std.proofs.Common.{refl}
+use Rattle.flow_table.specs.Partials.{plan_of, fault_of, StandsFor}
+use Rattle.flow_table.proofs.Holding.{holds_none}
+use Rattle.flow_table.proofs.partial.Partial.new.Goals as goal
+
+pub returns-clause-plan : goal.returns-clause-plan
+unfolding plan_of
+returns-clause-plan c = c.in_ok-copy.ensures
+
+pub returns-clause-fault : goal.returns-clause-fault
+unfolding fault_of
+returns-clause-fault c = refl
+
+pub returns-clause-empty : goal.returns-clause-empty
+unfolding StandsFor
+returns-clause-empty c = holds_none c.in_ok-copy.field-0 c.new.result.entries c.new.ensures.empty

@@ -1,0 +1,28 @@
+-- What one flow adds to the totals.
+use Rattle.std.specs.Prelude.{ℕ, ◌&&◌, nat_eq, nat_le, nat_lt, Bool, if◌then◌else◌, List, map, Option, None}
+use Rattle.std.specs.List.{list_any}
+use Rattle.ipfix_elements.specs.declared.cell.Cell.{Cell}
+use Rattle.flow_table.specs.Intervals.{covers, share}
+use Rattle.flow_table.specs.Plans.{PlanValue}
+use Rattle.flow_table.specs.Rows.{part_at}
+use Rattle.flow_table.specs.Totals.{Total, total}
+
+-- the shares of the counters of a flow from s to e at interval k
+abbrev pub shares_of : PlanValue → ℕ → ℕ → List ℕ → ℕ → List ℕ
+shares_of plan s e counters k = map (λ v. share plan s e v k) counters
+
+-- what the flow adds to the totals there
+unfoldable pub flow_total : PlanValue → ℕ → ℕ → List ℕ → ℕ → Total
+flow_total plan s e counters k = total (shares_of plan s e counters k) 1
+
+-- what the flow adds at an interval and a key
+unfoldable pub flow_part : PlanValue → ℕ → ℕ → List Cell → List ℕ → ℕ → List Cell → Option Total
+flow_part plan s e key counters k q = if list_any (nat_eq k) (covers plan s e) then part_at key (flow_total plan s e counters k) q else None
+
+-- k is an interval from the first one on and below another
+unfoldable pub is_in_run : ℕ → ℕ → ℕ → Bool
+is_in_run first end k = nat_le first k && nat_lt k end
+
+-- totals at each of these intervals and one key alone
+abbrev pub run_part : ℕ → ℕ → List Cell → (ℕ → Total) → ℕ → List Cell → Option Total
+run_part first end key f k q = if is_in_run first end k then part_at key (f k) q else None

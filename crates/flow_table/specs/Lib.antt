@@ -1,0 +1,16 @@
+pub mod PlanFaults
+pub mod Plans
+pub mod Intervals
+pub mod Reading
+pub mod Readings
+pub mod TableFaults
+pub mod Tables
+pub mod Totals
+pub mod Rows
+pub mod Partials
+pub mod Flows
+pub mod Fitting
+pub mod Bags
+pub mod SamePlans
+pub mod SameTables
+pub mod Finishing

@@ -1,0 +1,87 @@
+-- What a partial table stands for: a list of data records.
+use Rattle.std.specs.Prelude.{◌≡◌, ℕ, ◌+◌, ◌==◌, if◌then◌else◌, List, map, Option, Some, None, Result, Ok, Err, Vec}
+use Rattle.std.specs.BTreeMap.{BTreeMap}
+use Rattle.std.specs.Global.{Global}
+use Rattle.ipfix_elements.specs.declared.cell.Cell.{Cell}
+use Rattle.ipfix_message.specs.declared.record.DataRecord.{DataRecord}
+use Rattle.flow_table.specs.declared.class.Class.{Class}
+use Rattle.flow_table.specs.declared.class.Class.TheVariants.{Options, Untimed, Backward, Unkeyed, TooLong, Used}
+use Rattle.flow_table.specs.declared.table_fault.TableFault.{TableFault}
+use Rattle.flow_table.specs.declared.table_fault.TableFault.TheVariants.{OutOfMemory, SumTooLarge}
+use Rattle.flow_table.specs.declared.tally.Tally.{Tally}
+use Rattle.flow_table.specs.declared.partial.Partial.{Partial}
+use Rattle.flow_table.specs.Fitting.{KeysFit}
+use Rattle.flow_table.specs.Plans.{PlanValue}
+use Rattle.flow_table.specs.Rows.{cell_at}
+use Rattle.flow_table.specs.Tables.{flows_at, sum_at, tally_of, IsTooLarge}
+use Rattle.flow_table.specs.Totals.{Total, total}
+
+-- the totals of the row of an interval and a key, where there is one
+unfoldable pub totals_at : PlanValue → List DataRecord → ℕ → List Cell → Option Total
+totals_at plan rs k key = if flows_at plan rs k key == 0 then None else Some (total (map (sum_at plan rs k key) plan.counters) (flows_at plan rs k key))
+
+-- totals by interval and key
+abbrev pub CellEntries : Type 0
+CellEntries = List (ℕ × BTreeMap (Vec Cell Global) Total)
+
+-- the totals and the tally are those of the table of a list that isn't too large, and whose keys fit
+pub record Holds (plan : PlanValue) (cells : CellEntries) (tally : Tally) (rs : List DataRecord) : Type 0 where
+  pub cells_are : (k : ℕ) (key : List Cell) → cell_at cells k key ≡ totals_at plan rs k key
+  pub tally_is : tally ≡ tally_of plan rs
+  pub small : IsTooLarge plan rs → ⊥
+  pub keys_fit : KeysFit plan rs
+
+-- without a fault it holds the table of the list; with SumTooLarge the list is too large; after want of memory it tells nothing of it
+abbrev pub StandsBy : Option TableFault → PlanValue → CellEntries → Tally → List DataRecord → Type 0
+StandsBy None plan cells tally rs = Holds plan cells tally rs
+StandsBy (Some SumTooLarge) plan cells tally rs = IsTooLarge plan rs
+StandsBy (Some OutOfMemory) plan cells tally rs = Unit {0}
+
+-- the plan of a partial table
+unfoldable pub plan_of : Partial → PlanValue
+plan_of p = p.plan
+
+-- the fault that it answers
+unfoldable pub fault_of : Partial → Option TableFault
+fault_of p = p.fault
+
+-- a partial table stands for a list of records
+unfoldable pub StandsFor : Partial → List DataRecord → Type 0
+StandsFor p rs = StandsBy p.fault p.plan p.cells.entries p.tally rs
+
+-- x, unless there is a fault
+abbrev pub unless : {X : Type 0} → Option TableFault → X → Result X TableFault
+unless None x = Ok x
+unless (Some fault) x = Err fault
+
+-- ---- tallies
+
+abbrev pub tally_sum : Tally → Tally → Tally
+tally_sum a b = record {
+  options = a.options + b.options;
+  untimed = a.untimed + b.untimed;
+  backward = a.backward + b.backward;
+  unkeyed = a.unkeyed + b.unkeyed;
+  too_long = a.too_long + b.too_long;
+  used = a.used + b.used;
+}
+
+abbrev pub tally : ℕ → ℕ → ℕ → ℕ → ℕ → ℕ → Tally
+tally options untimed backward unkeyed too_long used = record { options = options; untimed = untimed; backward = backward; unkeyed = unkeyed; too_long = too_long; used = used }
+
+-- one record
+abbrev pub one_of : Class → Tally
+one_of Options = tally 1 0 0 0 0 0
+one_of Untimed = tally 0 1 0 0 0 0
+one_of Backward = tally 0 0 1 0 0 0
+one_of Unkeyed = tally 0 0 0 1 0 0
+one_of TooLong = tally 0 0 0 0 1 0
+one_of Used = tally 0 0 0 0 0 1
+
+abbrev pub count_in : Tally → Class → ℕ
+count_in t Options = t.options
+count_in t Untimed = t.untimed
+count_in t Backward = t.backward
+count_in t Unkeyed = t.unkeyed
+count_in t TooLong = t.too_long
+count_in t Used = t.used

@@ -1,0 +1,26 @@
+-- The numbers and names that reports give for the faults of plans.
+use Rattle.std.specs.Prelude.{ℕ, List, codes}
+use Rattle.flow_table.specs.declared.plan_fault.PlanFault.{PlanFault}
+use Rattle.flow_table.specs.declared.plan_fault.PlanFault.TheVariants.{Length, Spread, KeyCount, KeyKind, Prefix, CounterCount, CounterKind, Repeated, OutOfMemory}
+
+abbrev pub number_of : PlanFault → ℕ
+number_of Length = 1
+number_of Spread = 2
+number_of KeyCount = 3
+number_of KeyKind = 4
+number_of CounterCount = 5
+number_of CounterKind = 6
+number_of Repeated = 7
+number_of OutOfMemory = 8
+number_of Prefix = 9
+
+abbrev pub name_of : PlanFault → List ℕ
+name_of Length = codes "Length"
+name_of Spread = codes "Spread"
+name_of KeyCount = codes "KeyCount"
+name_of KeyKind = codes "KeyKind"
+name_of CounterCount = codes "CounterCount"
+name_of CounterKind = codes "CounterKind"
+name_of Repeated = codes "Repeated"
+name_of OutOfMemory = codes "OutOfMemory"
+name_of Prefix = codes "Prefix"

@@ -1,0 +1,131 @@
+-- Plans of an aggregation (RFC 7015, section 5), and what makes arguments no plan.
+use Rattle.std.specs.Prelude.{◌≡◌, ℕ, ◌≤◌, ◌==◌, ◌&&◌, ◌||◌, not, Bool, true, false, nat_lt, nat_le, List, [], ◌∷◌, ◌++◌, length, map, Option, Some, None, is_some, if◌then◌else◌}
+use Rattle.std.specs.List.{list_any, list_all}
+use Rattle.std.specs.Option.{ForSome}
+use Rattle.ipfix_wire.specs.declared.specifier.ElementId.{ElementId}
+use Rattle.ipfix_elements.specs.Elements.{kind_of}
+use Rattle.ipfix_elements.specs.declared.kind.Kind.{Kind}
+use Rattle.ipfix_elements.specs.declared.kind.Kind.TheVariants as kinds
+use Rattle.flow_table.specs.declared.method.Method.{Method}
+use Rattle.flow_table.specs.declared.key.Key.{Key}
+use Rattle.flow_table.specs.declared.key.Side.{Side}
+use Rattle.flow_table.specs.declared.key.Side.TheVariants.{Read, Exported}
+use Rattle.flow_table.specs.declared.plan_fault.PlanFault.{PlanFault}
+use Rattle.flow_table.specs.declared.plan_fault.PlanFault.TheVariants.{Length, Spread, KeyCount, KeyKind, Prefix, CounterCount, CounterKind, Repeated}
+
+-- the length of an interval in milliseconds, how a flow's counters are distributed, the keys and counters of the
+-- table, and the most intervals that a flow may cover where it is spread over them
+pub record PlanValue : Type 0 where
+  pub length : ℕ
+  pub method : Method
+  pub keys : List Key
+  pub counters : List ElementId
+  pub max_spread : ℕ
+
+abbrev pub plan_of : ℕ → Method → List Key → List ElementId → ℕ → PlanValue
+plan_of length method keys counters max_spread = record { length = length; method = method; keys = keys; counters = counters; max_spread = max_spread }
+
+-- the kinds that the fields of keys are read by
+abbrev pub kinds_of : List Key → List Kind
+kinds_of keys = map (λ k. kind_of k.element) keys
+
+abbrev pub is_between : ℕ → ℕ → ℕ → Bool
+is_between low high n = nat_le low n && nat_le n high
+
+abbrev pub same_element : ElementId → ElementId → Bool
+same_element a b = (a.pen == b.pen) && (a.number == b.number)
+
+-- an element of IANA's registry with one of these numbers
+abbrev pub is_of_iana : List ℕ → ElementId → Bool
+is_of_iana numbers e = (e.pen == 0) && list_any (λ n. n == e.number) numbers
+
+-- numbers and addresses can be compared, times and octets are no keys
+abbrev pub is_key_kind : Kind → Bool
+is_key_kind (kinds.Unsigned width) = true
+is_key_kind kinds.Ipv4 = true
+is_key_kind kinds.Ipv6 = true
+is_key_kind kinds.Mac = true
+is_key_kind kinds.Seconds = false
+is_key_kind kinds.Millis = false
+is_key_kind kinds.Octets = false
+
+-- sourceIPv4Address (8) and destinationIPv4Address (12) may have a prefix of up to 32 bits
+abbrev pub is_prefix_of : ElementId → Option ℕ → Bool
+is_prefix_of e None = true
+is_prefix_of e (Some bits) = is_of_iana (8 ∷ 12 ∷ []) e && nat_le bits 32
+
+-- an IPv4 address has 32 bits
+abbrev pub HasPrefix : Key → Type 0
+HasPrefix k = ForSome k.prefix (λ bits. bits ≤ 32)
+
+-- the delta counters of octets, packets and flows
+abbrev pub is_counter : ElementId → Bool
+is_counter e = is_of_iana (1 ∷ 2 ∷ 3 ∷ 23 ∷ 24 ∷ 132 ∷ 133 ∷ []) e
+
+-- the element of a prefix of an address: sourceIPv4Prefix (44) of sourceIPv4Address, destinationIPv4Prefix (45) of the other
+abbrev pub prefix_element : ElementId → ElementId
+prefix_element e = record { pen = 0; number = if e.number == 8 then 44 else 45 }
+
+-- the element that a key is exported as
+abbrev pub exported_element : Key → ElementId
+exported_element k = if is_some k.prefix then prefix_element k.element else k.element
+
+-- the element of a key in the records that are read, and in those that are exported
+abbrev pub element_in : Side → Key → ElementId
+element_in Read k = k.element
+element_in Exported k = exported_element k
+
+-- the elements of a plan's keys and counters there
+abbrev pub elements_in : Side → List Key → List ElementId → List ElementId
+elements_in side keys counters = map (element_in side) keys ++ counters
+
+-- whether an element stands twice in a list
+abbrev pub has_twice : List ElementId → Bool
+has_twice [] = false
+has_twice (e ∷ es) = list_any (λ other. same_element other e) es || has_twice es
+
+-- the first of two faults, where there is one
+abbrev pub or_else : Option PlanFault → Option PlanFault → Option PlanFault
+or_else None second = second
+or_else (Some fault) second = Some fault
+
+-- a fault that fits where a test fails
+abbrev pub unless : Bool → PlanFault → Option PlanFault
+unless holds fault = if holds then None else Some fault
+
+abbrev pub length_fault : ℕ → Option PlanFault
+length_fault length = unless (nat_lt 0 length) Length
+
+abbrev pub spread_fault : ℕ → Option PlanFault
+spread_fault max_spread = unless (is_between 1 4096 max_spread) Spread
+
+abbrev pub key_fault : List Key → Option PlanFault
+key_fault keys =
+    or_else (unless (nat_le (length keys) 8) KeyCount)
+    (or_else (unless (list_all (λ k. is_key_kind (kind_of k.element)) keys) KeyKind)
+    (unless (list_all (λ k. is_prefix_of k.element k.prefix) keys) Prefix))
+
+abbrev pub counter_fault : List ElementId → Option PlanFault
+counter_fault counters =
+    or_else (unless (is_between 1 4 (length counters)) CounterCount)
+    (unless (list_all is_counter counters) CounterKind)
+
+-- no element may stand twice, neither in the records that are read nor in those that are exported
+abbrev pub repeat_fault : List Key → List ElementId → Option PlanFault
+repeat_fault keys counters = unless (not (has_twice (elements_in Read keys counters) || has_twice (elements_in Exported keys counters))) Repeated
+
+-- the first fault that fits arguments
+abbrev pub first_fault : ℕ → List Key → List ElementId → ℕ → Option PlanFault
+first_fault length keys counters max_spread =
+    or_else (length_fault length)
+    (or_else (spread_fault max_spread)
+    (or_else (key_fault keys)
+    (or_else (counter_fault counters)
+    (repeat_fault keys counters))))
+
+abbrev pub first_fault_of : PlanValue → Option PlanFault
+first_fault_of p = first_fault p.length p.keys p.counters p.max_spread
+
+-- a plan that no fault fits
+abbrev pub IsPlan : PlanValue → Type 0
+IsPlan p = first_fault_of p ≡ None

@@ -1,0 +1,142 @@
+//! Partial tables, which records are added to and which are merged into one.
+
+ghost use Rattle.std.specs.Prelude.{◌≡◌, ◌++◌, ◌∷◌, [], List, None, Err, IfOk, IfErr, OnOk, IfSome, IsSome};
+ghost use Rattle.ipfix_message.specs.declared.record.DataRecord.{DataRecord};
+ghost use Rattle.flow_table.specs.Fitting.{FitsPlan};
+ghost use Rattle.flow_table.specs.Partials.{StandsFor, fault_of, plan_of, unless};
+ghost use Rattle.flow_table.specs.Reading.{class_of};
+ghost use Rattle.flow_table.specs.Tables.{IsTable, IsTooLarge};
+ghost use Rattle.flow_table.specs.declared.table_fault.TableFault.TheVariants.{OutOfMemory, SumTooLarge};
+
+use crate::class::Class;
+use crate::finishing::finish_table;
+use crate::merging::join;
+use crate::plan::Plan;
+use crate::rows::Cells;
+use crate::table::Table;
+use crate::table_fault::TableFault;
+use crate::taking::{Room, take};
+use crate::tally::Tally;
+use ipfix_message::DataRecord;
+use std::alloc::Global;
+use std::collections::BTreeMap;
+
+/// The table of some data records under a plan, to which more are added, and which is merged with
+/// that of others. It stands for the list of all these records.
+///
+/// After a fault it answers this fault for ever.
+#[derive(Drop)]
+pub struct Partial {
+    alloc: Global,
+    plan: Plan,
+    cells: Cells,
+    tally: Tally,
+    fault: Option<TableFault>,
+    room: Room,
+}
+
+impl Partial {
+    /// The table of no records. It keeps a copy of the plan.
+    ///
+    /// The fault is `OutOfMemory`, where an allocation was refused.
+    pub fn new(alloc: Global, plan: &Plan) -> Result<Partial, TableFault>
+        ensures plan { IfOk result (λ p. plan_of p ≡ plan.now) }
+        ensures fault { IfOk result (λ p. fault_of p ≡ None) }
+        ensures empty { IfOk result (λ p. StandsFor p []) }
+        ensures err { IfErr result (λ e. e ≡ OutOfMemory) }
+    {
+        Ok(Partial {
+            alloc,
+            plan: plan.copy(alloc)?,
+            cells: BTreeMap::new(alloc),
+            tally: Tally::EMPTY,
+            fault: None,
+            room: Room {
+                key: Vec::new(alloc),
+                counters: Vec::new(alloc),
+                shares: Vec::new(alloc),
+            },
+        })
+    }
+
+    /// Adds a record, and answers its class.
+    ///
+    /// The fault is `SumTooLarge` where a sum, a number of flows or a count of the tally would be 2^64
+    /// or more with the record, and `OutOfMemory` where an allocation was refused. Each later call
+    /// answers it again.
+    pub fn add(&mut self, data_record: &DataRecord) -> Result<Class, TableFault>
+        ensures plan { plan_of self.new ≡ plan_of self.old }
+        ensures answer { result ≡ unless (fault_of self.new) (class_of (plan_of self.old) data_record.now) }
+        ensures sticky { IsSome (fault_of self.old) → fault_of self.new ≡ fault_of self.old }
+        ensures adds { (rs : List DataRecord) → StandsFor self.old rs → StandsFor self.new (rs ++ data_record.now ∷ []) }
+    {
+        if let Some(fault) = self.fault {
+            return Err(fault);
+        }
+        let result = take(
+            self.alloc,
+            &self.plan,
+            &mut self.cells,
+            &mut self.tally,
+            &mut self.room,
+            data_record,
+        );
+        self.fault = result.err();
+        result
+    }
+
+    /// Adds all records of another partial table of the same plan.
+    ///
+    /// The fault is this table's own earlier one, then that of the other, then `SumTooLarge` where a
+    /// sum, a number of flows or a count of the tally would be 2^64 or more, or `OutOfMemory` where an
+    /// allocation was refused. Each later call answers it again.
+    pub fn merge(&mut self, other: Partial) -> Result<(), TableFault>
+        requires { plan_of other ≡ plan_of self.old }
+        ensures plan { plan_of self.new ≡ plan_of self.old }
+        ensures answer { result ≡ unless (fault_of self.new) tt }
+        ensures sticky { IsSome (fault_of self.old) → fault_of self.new ≡ fault_of self.old }
+        ensures takes_over { fault_of self.old ≡ None → IsSome (fault_of other) → fault_of self.new ≡ fault_of other }
+        ensures merges { (rs qs : List DataRecord) → StandsFor self.old rs → StandsFor other qs → StandsFor self.new (rs ++ qs) }
+    {
+        let Partial {
+            cells,
+            tally,
+            fault,
+            ..
+        } = other;
+        if let Some(fault) = self.fault {
+            return Err(fault);
+        }
+        if let Some(fault) = fault {
+            self.fault = Some(fault);
+            return Err(fault);
+        }
+        let result = join(self.alloc, &mut self.cells, &mut self.tally, cells, &tally);
+        self.fault = result.err();
+        result
+    }
+
+    /// The table of all records.
+    ///
+    /// The fault is the earlier one, or `OutOfMemory` where an allocation was refused.
+    pub fn finish(self) -> Result<Table, TableFault>
+        ensures fault { IfSome (fault_of self) (λ fault. result ≡ Err fault) }
+        ensures err { fault_of self ≡ None → IfErr result (λ e. e ≡ OutOfMemory) }
+        ensures table { (rs : List DataRecord) → StandsFor self rs → IfOk result (IsTable (plan_of self) rs) }
+        ensures fits { (rs : List DataRecord) → StandsFor self rs → IfOk result (FitsPlan (plan_of self)) }
+        ensures small { (rs : List DataRecord) → StandsFor self rs → OnOk result (IsTooLarge (plan_of self) rs → ⊥) }
+        ensures large { (rs : List DataRecord) → StandsFor self rs → IfErr result (λ e. e ≡ SumTooLarge → IsTooLarge (plan_of self) rs) }
+    {
+        let Partial {
+            alloc,
+            cells,
+            tally,
+            fault,
+            ..
+        } = self;
+        match fault {
+            Some(fault) => Err(fault),
+            None => finish_table(alloc, cells, tally),
+        }
+    }
+}

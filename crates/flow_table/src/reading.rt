@@ -1,0 +1,139 @@
+//! Data records read under a plan (RFC 7015, section 5).
+
+ghost use Rattle.std.specs.Prelude.{◌≡◌, ◌≤◌, ◌<◌, ◌^◌, true, Some, None, IsTrue, IfOk, IfSome, All, if◌then◌else◌};
+ghost use Rattle.std.specs.List.{AllPass};
+ghost use Rattle.ipfix_elements.specs.Elements.{kind_of as kind_in};
+ghost use Rattle.ipfix_elements.specs.Values.{cell_in};
+ghost use Rattle.flow_table.specs.Fitting.{FitsKeys, IsCellOf};
+ghost use Rattle.flow_table.specs.Plans.{HasPrefix, kinds_of, is_key_kind};
+ghost use Rattle.flow_table.specs.Reading.{counter_of, cell_of, cells_of, projected, is_too_long as is_too_long_in};
+ghost use Rattle.flow_table.specs.Readings.{Reads};
+
+use crate::class::Class;
+use crate::key::Key;
+use crate::method::Method;
+use crate::plan::Plan;
+use crate::times::{end_of, start_of};
+use ipfix_elements::{Cell, Kind, kind_of, mask, read_cell, read_number};
+use ipfix_message::DataRecord;
+use ipfix_wire::ElementId;
+use std::alloc::AllocError;
+
+/// A data record as a plan sees it.
+#[derive(Clone, Copy, Debug)]
+pub(crate) enum Reading {
+    /// It is left out of the table, for this class.
+    Left(Class),
+    /// It is a flow from `start` to `end`, in milliseconds since 1970-01-01 UTC.
+    Used { start: u64, end: u64 },
+}
+
+/// Reads a record, and leaves the cells of a used one in `key`. Nothing is allocated unless `key` has
+/// to grow.
+#[tactic(auto, using(crate::proofs::UsedRecords::is_used))]
+pub(crate) fn read(
+    plan: &Plan,
+    data_record: &DataRecord,
+    key: &mut Vec<Cell>,
+) -> Result<Reading, AllocError>
+    ensures { IfOk result (Reads plan.now data_record.now key.new.items) }
+{
+    if data_record.scope > 0 {
+        return Ok(Reading::Left(Class::Options));
+    }
+    let (Some(start), Some(end)) = (start_of(data_record), end_of(data_record)) else {
+        return Ok(Reading::Left(Class::Untimed));
+    };
+    if end < start {
+        return Ok(Reading::Left(Class::Backward));
+    }
+    if !read_key(plan.keys(), plan.kinds(), data_record, key)? {
+        return Ok(Reading::Left(Class::Unkeyed));
+    }
+    if is_too_long(plan, start, end) {
+        return Ok(Reading::Left(Class::TooLong));
+    }
+    Ok(Reading::Used { start, end })
+}
+
+/// Whether a flow would be spread over more intervals than the plan allows.
+fn is_too_long(plan: &Plan, start: u64, end: u64) -> bool
+    requires order { start ≤ end }
+    requires small { end < 2 ^ 50 }
+    ensures { result ≡ is_too_long_in plan.now start end }
+{
+    let length = u64::from(plan.length());
+    match plan.method() {
+        Method::Start | Method::End | Method::Mid => false,
+        Method::Uniform | Method::Proportional => {
+            u64::from(plan.max_spread()) < end / length - start / length + 1
+        }
+    }
+}
+
+/// Leaves the cells of the keys in `cells`, and tells whether each has one.
+fn read_key(
+    keys: &[Key],
+    kinds: &[Kind],
+    data_record: &DataRecord,
+    cells: &mut Vec<Cell>,
+) -> Result<bool, AllocError>
+    requires prefixes { All HasPrefix keys.now }
+    requires kinds { kinds.now ≡ kinds_of keys.now }
+    requires comparable { AllPass is_key_kind kinds.now }
+    ensures cells { IfOk result (λ whole. cells_of keys.now data_record.now ≡ (if whole then Some cells.new.items else None)) }
+    ensures fits { IfOk result (λ whole. IsTrue whole → FitsKeys keys.now cells.new.items) }
+{
+    cells.clear();
+    for i in 0..keys.len() {
+        let Some(cell) = read_cell_of(keys[i], kinds[i], data_record) else {
+            return Ok(false);
+        };
+        cells.push(cell)?;
+    }
+    Ok(true)
+}
+
+/// The cell of a key, if the record has one.
+#[tactic(auto, unfolding(crate::specs::Reading::cell_of), using(crate::proofs::Fits::projected_fits))]
+fn read_cell_of(key: Key, kind: Kind, data_record: &DataRecord) -> Option<Cell>
+    requires prefix { HasPrefix key }
+    requires kind { kind ≡ kind_in key.element }
+    requires comparable { is_key_kind kind ≡ true }
+    ensures value { result ≡ cell_of key data_record.now }
+    ensures fits { IfSome result (IsCellOf kind) }
+{
+    let octets = data_record.fields.find(key.element)?;
+    let cell = read_key_cell(kind, octets)?;
+    Some(project(key, cell))
+}
+
+/// The cell that octets are, by a kind of keys.
+fn read_key_cell(kind: Kind, octets: &[u8]) -> Option<Cell>
+    requires { is_key_kind kind ≡ true }
+    ensures value { result ≡ cell_in kind octets.now }
+    ensures fits { IfSome result (IsCellOf kind) }
+{
+    read_cell(kind, octets)
+}
+
+/// The cell under a key: an IPv4 address with its prefix alone, where the key has one.
+fn project(key: Key, cell: Cell) -> Cell
+    requires { HasPrefix key }
+    ensures { result ≡ projected key.prefix cell }
+{
+    match (cell, key.prefix) {
+        (Cell::Ipv4(address), Some(bits)) => Cell::Ipv4(mask(address, bits)),
+        _ => cell,
+    }
+}
+
+/// The counter in the first field of an element, 0 where that is missing or no number.
+pub(crate) fn counter(data_record: &DataRecord, element: ElementId) -> u64
+    ensures { result ≡ counter_of element data_record.now }
+{
+    match data_record.fields.find(element) {
+        Some(octets) => read_number(kind_of(element), octets).unwrap_or(0),
+        None => 0,
+    }
+}

@@ -1,0 +1,64 @@
+//! Totals by key and by interval.
+
+ghost use Rattle.std.specs.Prelude.{◌≡◌, ℕ, List, Some, OnOk, IfErr};
+ghost use Rattle.ipfix_elements.specs.declared.cell.Cell.{Cell};
+ghost use Rattle.flow_table.specs.Totals.{IsLarge, IsLargeAt, joined, total};
+ghost use Rattle.flow_table.specs.Rows.{row_at, cell_at, part_at, cell_part};
+ghost use Rattle.flow_table.specs.declared.table_fault.TableFault.TheVariants.{SumTooLarge};
+
+use crate::table_fault::TableFault;
+use crate::totals::Totals;
+use ipfix_elements::Cell;
+use std::alloc::Global;
+use std::collections::BTreeMap;
+
+/// The totals of an interval by key.
+pub type Rows = BTreeMap<Vec<Cell>, Totals>;
+
+/// The rows of all intervals.
+pub type Cells = BTreeMap<u64, Rows>;
+
+/// Adds sums and flows to the row of a key, which is made where it is missing.
+pub fn add_to_row(
+    alloc: Global,
+    rows: &mut Rows,
+    key: &[Cell],
+    sums: &[u64],
+    flows: u64,
+) -> Result<(), TableFault>
+    ensures ok { OnOk result ((q : List Cell) → row_at rows.new.entries q ≡ joined (row_at rows.old.entries q) (part_at key.now (total sums.now flows) q)) }
+    ensures fits { OnOk result (IsLargeAt (row_at rows.new.entries key.now) → ⊥) }
+    ensures large { IfErr result (λ e. e ≡ SumTooLarge → IsLargeAt (joined (row_at rows.old.entries key.now) (Some (total sums.now flows)))) }
+{
+    if let Some(totals) = rows.get_mut(key) {
+        return totals.add(sums, flows);
+    }
+    let totals = Totals {
+        sums: sums.to_vec(alloc)?,
+        flows,
+    };
+    rows.insert(key.to_vec(alloc)?, totals)?;
+    Ok(())
+}
+
+/// Adds sums and flows to the row of an interval and a key.
+pub fn add_to_cell(
+    alloc: Global,
+    cells: &mut Cells,
+    interval: u64,
+    key: &[Cell],
+    sums: &[u64],
+    flows: u64,
+) -> Result<(), TableFault>
+    ensures ok { OnOk result ((k : ℕ) (q : List Cell) → cell_at cells.new.entries k q ≡ joined (cell_at cells.old.entries k q) (cell_part interval key.now (total sums.now flows) k q)) }
+    ensures fits { OnOk result (IsLargeAt (cell_at cells.new.entries interval key.now) → ⊥) }
+    ensures large { IfErr result (λ e. e ≡ SumTooLarge → IsLargeAt (joined (cell_at cells.old.entries interval key.now) (Some (total sums.now flows)))) }
+{
+    if let Some(rows) = cells.get_mut(&interval) {
+        return add_to_row(alloc, rows, key, sums, flows);
+    }
+    let mut rows = BTreeMap::new(alloc);
+    add_to_row(alloc, &mut rows, key, sums, flows)?;
+    cells.insert(interval, rows)?;
+    Ok(())
+}

@@ -1,0 +1,27 @@
+//! The aggregate of data records (RFC 7015, section 5).
+
+use crate::tally::Tally;
+use ipfix_elements::Cell;
+
+/// What the flows with the same key contribute to an interval: an aggregated flow (RFC 7015, section 2).
+#[derive(Debug, Drop)]
+pub struct Row {
+    /// The interval, counted from that of 1970-01-01 UTC.
+    pub interval: u64,
+    /// A cell for each key, in the order of the plan.
+    pub key: Vec<Cell>,
+    /// The sum of the shares of each counter, in the order of the plan.
+    pub sums: Vec<u64>,
+    /// The number of flows that contribute, also with shares of 0 (the non-conservative count of
+    /// original flows of RFC 7015, section 5.2.1).
+    pub flows: u64,
+}
+
+/// The rows ascend by interval, and then by the cells of the key in the order of the plan.
+#[derive(Debug, Drop)]
+pub struct Table {
+    /// A row for each interval and key that some flow contributes to.
+    pub rows: Vec<Row>,
+    /// All records by class.
+    pub tally: Tally,
+}

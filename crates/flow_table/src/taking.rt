@@ -1,0 +1,84 @@
+//! Taking data records into totals and a tally.
+
+ghost use Rattle.std.specs.Prelude.{◌≡◌, ◌++◌, ◌∷◌, [], ℕ, List, OnOk, IfOk, IfErr};
+ghost use Rattle.std.specs.Result.{result_err};
+ghost use Rattle.ipfix_elements.specs.declared.cell.Cell.{Cell};
+ghost use Rattle.ipfix_message.specs.declared.record.DataRecord.{DataRecord};
+ghost use Rattle.flow_table.specs.Partials.{Holds, StandsBy, totals_at};
+ghost use Rattle.flow_table.specs.Reading.{class_of, IsUsed};
+ghost use Rattle.flow_table.specs.Rows.{cell_at};
+ghost use Rattle.flow_table.specs.Totals.{IsLargeAt, joined};
+ghost use Rattle.flow_table.specs.declared.table_fault.TableFault.TheVariants.{SumTooLarge};
+
+use crate::adding::{add_flow, read_counters};
+use crate::class::Class;
+use crate::plan::Plan;
+use crate::reading::{Reading, read};
+use crate::rows::Cells;
+use crate::table_fault::TableFault;
+use crate::tally::{Tally, one, together};
+use ipfix_elements::Cell;
+use ipfix_message::DataRecord;
+use std::alloc::Global;
+
+/// Room for what is read of a record, so that nothing is allocated for each of them.
+#[derive(Drop)]
+pub struct Room {
+    pub key: Vec<Cell>,
+    pub counters: Vec<u64>,
+    pub shares: Vec<u64>,
+}
+
+/// Adds the shares of a used record, whose key was read, to the totals.
+fn take_flow(
+    alloc: Global,
+    plan: &Plan,
+    cells: &mut Cells,
+    room: &mut Room,
+    data_record: &DataRecord,
+    start: u64,
+    end: u64,
+) -> Result<(), TableFault>
+    requires { IsUsed plan.now data_record.now start end room.old.key.items }
+    ensures ok { OnOk result ((k : ℕ) (q : List Cell) → cell_at cells.new.entries k q ≡ joined (cell_at cells.old.entries k q) (totals_at plan.now (data_record.now ∷ []) k q)) }
+    ensures fits { OnOk result ((k : ℕ) (q : List Cell) → (IsLargeAt (cell_at cells.old.entries k q) → ⊥) → IsLargeAt (cell_at cells.new.entries k q) → ⊥) }
+    ensures large { IfErr result (λ e. e ≡ SumTooLarge → (k : ℕ) × (q : List Cell) × IsLargeAt (joined (cell_at cells.old.entries k q) (totals_at plan.now (data_record.now ∷ []) k q))) }
+{
+    read_counters(plan.counters(), data_record, &mut room.counters)?;
+    add_flow(
+        alloc,
+        plan,
+        cells,
+        start,
+        end,
+        &room.key,
+        &room.counters,
+        &mut room.shares,
+    )
+}
+
+/// Takes a record into the totals and the tally, and answers its class.
+pub fn take(
+    alloc: Global,
+    plan: &Plan,
+    cells: &mut Cells,
+    tally: &mut Tally,
+    room: &mut Room,
+    data_record: &DataRecord,
+) -> Result<Class, TableFault>
+    ensures class { IfOk result (λ class. class ≡ class_of plan.now data_record.now) }
+    ensures stands { (rs : List DataRecord) → Holds plan.now cells.old.entries tally.old rs
+        → StandsBy (result_err result) plan.now cells.new.entries tally.new (rs ++ data_record.now ∷ []) }
+{
+    match read(plan, data_record, &mut room.key)? {
+        Reading::Left(class) => {
+            *tally = together(tally, &one(class))?;
+            Ok(class)
+        }
+        Reading::Used { start, end } => {
+            *tally = together(tally, &one(Class::Used))?;
+            take_flow(alloc, plan, cells, room, data_record, start, end)?;
+            Ok(Class::Used)
+        }
+    }
+}

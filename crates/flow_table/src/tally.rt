@@ -1,0 +1,79 @@
+//! How many data records are of each class.
+
+ghost use Rattle.std.specs.Prelude.{◌≡◌, ◌+◌, ◌<◌, ◌≤◌, ◌^◌, IfOk, IfErr};
+ghost use Rattle.flow_table.specs.declared.class.Class.{Class as ClassValue};
+ghost use Rattle.flow_table.specs.Partials.{count_in, one_of, tally_sum};
+ghost use Rattle.flow_table.specs.declared.table_fault.TableFault.TheVariants.{SumTooLarge};
+
+use crate::class::Class;
+use crate::table_fault::TableFault;
+
+/// How many data records are of each class.
+#[derive(Clone, Copy, Debug, PartialEq, Eq)]
+pub struct Tally {
+    /// Records whose templates have scope fields.
+    pub options: u64,
+    /// Records without a start or an end.
+    pub untimed: u64,
+    /// Records that end before they start.
+    pub backward: u64,
+    /// Records without one of the plan's keys.
+    pub unkeyed: u64,
+    /// Records that would be given to too many intervals.
+    pub too_long: u64,
+    /// Records that contribute to the table.
+    pub used: u64,
+}
+
+impl Tally {
+    pub(crate) const EMPTY: Tally = Tally {
+        options: 0,
+        untimed: 0,
+        backward: 0,
+        unkeyed: 0,
+        too_long: 0,
+        used: 0,
+    };
+}
+
+// the sum of two counts
+fn sum(a: u64, b: u64) -> Result<u64, TableFault>
+    ensures ok { IfOk result (λ n. (n ≡ a + b) × (n < 2 ^ 64)) }
+    ensures large { IfErr result (λ e. (e ≡ SumTooLarge) × (2 ^ 64 ≤ a + b)) }
+{
+    match a.checked_add(b) {
+        Some(n) => Ok(n),
+        None => Err(TableFault::SumTooLarge),
+    }
+}
+
+/// The tally of the records of two tallies.
+pub fn together(a: &Tally, b: &Tally) -> Result<Tally, TableFault>
+    ensures ok { IfOk result (λ t. (t ≡ tally_sum a.now b.now) × ((class : ClassValue) → count_in t class < 2 ^ 64)) }
+    ensures large { IfErr result (λ e. (e ≡ SumTooLarge) × ((class : ClassValue) × (2 ^ 64 ≤ count_in a.now class + count_in b.now class))) }
+{
+    Ok(Tally {
+        options: sum(a.options, b.options)?,
+        untimed: sum(a.untimed, b.untimed)?,
+        backward: sum(a.backward, b.backward)?,
+        unkeyed: sum(a.unkeyed, b.unkeyed)?,
+        too_long: sum(a.too_long, b.too_long)?,
+        used: sum(a.used, b.used)?,
+    })
+}
+
+/// The tally of one record.
+pub fn one(class: Class) -> Tally
+    ensures { result ≡ one_of class }
+{
+    let mut tally = Tally::EMPTY;
+    match class {
+        Class::Options => tally.options = 1,
+        Class::Untimed => tally.untimed = 1,
+        Class::Backward => tally.backward = 1,
+        Class::Unkeyed => tally.unkeyed = 1,
+        Class::TooLong => tally.too_long = 1,
+        Class::Used => tally.used = 1,
+    }
+    tally
+}

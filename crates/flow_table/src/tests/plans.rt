@@ -1,0 +1,263 @@
+use crate::{Key, Method, Plan, PlanFault, share};
+use ipfix_wire::ElementId;
+use std::alloc::Global;
+use std::test::Fail;
+
+fn iana(number: u16) -> ElementId {
+    ElementId { pen: 0, number }
+}
+
+fn key(number: u16) -> Key {
+    Key {
+        element: iana(number),
+        prefix: None,
+    }
+}
+
+fn prefix_key(number: u16, bits: u8) -> Key {
+    Key {
+        element: iana(number),
+        prefix: Some(bits),
+    }
+}
+
+// Why keys and counters make no plan of a minute's intervals.
+fn fault(alloc: Global, keys: &[Key], counters: &[ElementId]) -> Option<PlanFault> {
+    Plan::new(alloc, 60_000, Method::Start, keys, counters, 4096).err()
+}
+
+// The octets of each source address, minute by minute.
+fn by_source(alloc: Global, method: Method) -> Result<Plan, PlanFault> {
+    Plan::new(alloc, 60_000, method, &[key(8)], &[iana(1)], 4096)
+}
+
+#[test]
+fn keeps_its_arguments(rt: HostRuntime) -> Result<(), Fail> {
+    let plan = by_source(rt.alloc(), Method::Mid)?;
+    assert_eq!(rt; plan.length(), 60_000);
+    assert_eq!(rt; plan.method(), Method::Mid);
+    assert_eq!(rt; plan.keys(), [key(8)].as_slice());
+    assert_eq!(rt; plan.counters(), [iana(1)].as_slice());
+    assert_eq!(rt; plan.max_spread(), 4096);
+    Ok(())
+}
+
+#[test]
+fn compares_by_value(rt: HostRuntime) -> Result<(), Fail> {
+    let one = by_source(rt.alloc(), Method::Start)?;
+    let same = one.copy(rt.alloc())?;
+    let other = by_source(rt.alloc(), Method::End)?;
+    let prefixed = Plan::new(
+        rt.alloc(),
+        60_000,
+        Method::Start,
+        &[prefix_key(8, 32)],
+        &[iana(1)],
+        4096,
+    )?;
+    assert!(rt; one == same);
+    assert!(rt; one != other);
+    assert!(rt; one != prefixed);
+    Ok(())
+}
+
+#[test]
+fn plan_faults(rt: HostRuntime) {
+    let alloc = rt.alloc();
+    let counters = [iana(1)];
+    for (length, max_spread, want) in [
+        (0, 4096, Some(PlanFault::Length)),
+        (60_000, 0, Some(PlanFault::Spread)),
+        (60_000, 4097, Some(PlanFault::Spread)),
+        (0, 0, Some(PlanFault::Length)),
+        (1, 1, None),
+        (u32::MAX, 4096, None),
+    ] {
+        let plan = Plan::new(
+            alloc,
+            length,
+            Method::Start,
+            &[key(8)],
+            &counters,
+            max_spread,
+        );
+        assert_eq!(rt; plan.err(), want, "at {length} and {max_spread}");
+    }
+    let nine = [4, 5, 6, 7, 8, 9, 10, 11, 12].map(key);
+    assert_eq!(rt; fault(alloc, &nine, &counters), Some(PlanFault::KeyCount));
+    assert_eq!(rt;
+        fault(alloc, &[key(152)], &counters),
+        Some(PlanFault::KeyKind)
+    );
+    let enterprise = Key {
+        element: ElementId {
+            pen: 32473,
+            number: 8,
+        },
+        prefix: None,
+    };
+    assert_eq!(rt;
+        fault(alloc, &[enterprise], &counters),
+        Some(PlanFault::KeyKind)
+    );
+    assert_eq!(rt; fault(alloc, &[key(8)], &[]), Some(PlanFault::CounterCount));
+    let five = [1, 2, 3, 23, 24].map(iana);
+    assert_eq!(rt;
+        fault(alloc, &[key(8)], &five),
+        Some(PlanFault::CounterCount)
+    );
+    assert_eq!(rt;
+        fault(alloc, &[key(8)], &[iana(4)]),
+        Some(PlanFault::CounterKind)
+    );
+    assert_eq!(rt;
+        fault(alloc, &[key(1)], &counters),
+        Some(PlanFault::Repeated)
+    );
+    assert_eq!(rt;
+        fault(alloc, &[key(8), key(8)], &counters),
+        Some(PlanFault::Repeated)
+    );
+    assert_eq!(rt;
+        fault(alloc, &[key(8)], &[iana(1), iana(1)]),
+        Some(PlanFault::Repeated)
+    );
+    assert_eq!(rt; fault(alloc, &[], &counters), None);
+    assert_eq!(rt;
+        fault(
+            alloc,
+            &[4, 5, 6, 7, 8, 9, 10, 11].map(key),
+            &[1, 2, 3, 23].map(iana)
+        ),
+        None
+    );
+    assert_eq!(rt;
+        fault(alloc, &[27, 56].map(key), &[24, 132, 133].map(iana)),
+        None
+    );
+}
+
+#[test]
+fn prefix_faults(rt: HostRuntime) {
+    let alloc = rt.alloc();
+    let counters = [iana(1)];
+    assert_eq!(rt;
+        fault(alloc, &[prefix_key(8, 33)], &counters),
+        Some(PlanFault::Prefix)
+    );
+    assert_eq!(rt;
+        fault(alloc, &[prefix_key(7, 8)], &counters),
+        Some(PlanFault::Prefix)
+    );
+    // A prefix comes behind all kinds, and before the counters.
+    assert_eq!(rt;
+        fault(alloc, &[prefix_key(8, 33), key(152)], &counters),
+        Some(PlanFault::KeyKind)
+    );
+    assert_eq!(rt;
+        fault(alloc, &[prefix_key(8, 33)], &[]),
+        Some(PlanFault::Prefix)
+    );
+    assert_eq!(rt;
+        fault(alloc, &[prefix_key(8, 24), prefix_key(8, 16)], &counters),
+        Some(PlanFault::Repeated)
+    );
+    assert_eq!(rt;
+        fault(alloc, &[prefix_key(8, 24), key(44)], &counters),
+        Some(PlanFault::Repeated)
+    );
+    assert_eq!(rt;
+        fault(alloc, &[prefix_key(12, 24), key(45)], &counters),
+        Some(PlanFault::Repeated)
+    );
+    assert_eq!(rt;
+        fault(alloc, &[prefix_key(8, 24), key(45)], &counters),
+        None
+    );
+    assert_eq!(rt; fault(alloc, &[key(8), key(44)], &counters), None);
+    for bits in [0, 24, 25, 32] {
+        assert_eq!(rt;
+            fault(
+                alloc,
+                &[prefix_key(8, bits), prefix_key(12, bits)],
+                &counters
+            ),
+            None
+        );
+    }
+}
+
+#[test]
+fn exported_elements(rt: HostRuntime) {
+    assert_eq!(rt; prefix_key(8, 24).exported_element(), iana(44));
+    assert_eq!(rt; prefix_key(12, 24).exported_element(), iana(45));
+    assert_eq!(rt; key(8).exported_element(), iana(8));
+}
+
+#[test]
+fn one_flow_over_two_intervals(rt: HostRuntime) -> Result<(), Fail> {
+    for (method, want) in [
+        (Method::Start, [7, 0]),
+        (Method::End, [0, 7]),
+        (Method::Mid, [0, 7]),
+        (Method::Uniform, [4, 3]),
+        (Method::Proportional, [3, 4]),
+    ] {
+        let plan = by_source(rt.alloc(), method)?;
+        assert_eq!(rt; share(&plan, 59_000, 61_000, 7, 0), want[0]);
+        assert_eq!(rt; share(&plan, 59_000, 61_000, 7, 1), want[1]);
+        assert_eq!(rt; share(&plan, 59_000, 61_000, 7, 2), 0);
+        assert_eq!(rt; share(&plan, 59_000, 61_000, 7, u64::MAX), 0);
+    }
+    Ok(())
+}
+
+#[test]
+fn ends_and_zero_shares(rt: HostRuntime) -> Result<(), Fail> {
+    let end = by_source(rt.alloc(), Method::End)?;
+    assert_eq!(rt; share(&end, 0, 60_000, 5, 0), 0);
+    assert_eq!(rt; share(&end, 0, 60_000, 5, 1), 5);
+    let uniform = by_source(rt.alloc(), Method::Uniform)?;
+    let proportional = by_source(rt.alloc(), Method::Proportional)?;
+    for (k, even, by_time) in [(0, 1, 0), (1, 0, 0), (2, 0, 1), (3, 0, 0)] {
+        assert_eq!(rt; share(&uniform, 0, 120_000, 1, k), even);
+        assert_eq!(rt; share(&proportional, 0, 120_000, 1, k), by_time);
+    }
+    Ok(())
+}
+
+#[test]
+fn proportional_shares(rt: HostRuntime) -> Result<(), Fail> {
+    let plan = by_source(rt.alloc(), Method::Proportional)?;
+    let most = 18_446_744_073_709_551_615;
+    assert_eq!(rt;
+        share(&plan, 0, 119_999, most, 0),
+        9_223_372_036_854_775_807
+    );
+    assert_eq!(rt;
+        share(&plan, 0, 119_999, most, 1),
+        9_223_372_036_854_775_808
+    );
+    assert_eq!(rt; share(&plan, 0, 119_999, most, 2), 0);
+    assert_eq!(rt; share(&plan, 59_999, 59_999, 5, 0), 5);
+    assert_eq!(rt; share(&plan, 59_999, 59_999, 5, 1), 0);
+    Ok(())
+}
+
+#[test]
+fn numbers_and_names(rt: HostRuntime) {
+    for (fault, number, name) in [
+        (PlanFault::Length, 1, "Length"),
+        (PlanFault::Spread, 2, "Spread"),
+        (PlanFault::KeyCount, 3, "KeyCount"),
+        (PlanFault::KeyKind, 4, "KeyKind"),
+        (PlanFault::CounterCount, 5, "CounterCount"),
+        (PlanFault::CounterKind, 6, "CounterKind"),
+        (PlanFault::Repeated, 7, "Repeated"),
+        (PlanFault::OutOfMemory, 8, "OutOfMemory"),
+        (PlanFault::Prefix, 9, "Prefix"),
+    ] {
+        assert_eq!(rt; fault.number(), number);
+        assert_eq!(rt; fault.name(), name);
+    }
+}
