@@ -7,7 +7,7 @@ bin/collectd: crates.txt HANDLES $(shell find crates \( -name out -o -name must-
 .PHONY: test bench install clean
 test: ; @tests/gate
 
-bench: bin/collectd ; @bench/run
+bench: bin/collectd ; @bench/run && bench/table/run
 
 install: bin/collectd ; install -D bin/collectd $(DESTDIR)$(PREFIX)/bin/collectd
 
