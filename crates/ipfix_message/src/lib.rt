@@ -20,6 +20,3 @@ pub use field_block::{FieldIter, FieldRef, Fields};
 pub use laws::{last_definition, longest_events, longest_sets, one_body};
 pub use message::Decoded;
 pub use record::{DataRecord, Specs, Template};
-
-#[cfg(test)]
-mod tests;
