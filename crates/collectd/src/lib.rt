@@ -13,6 +13,3 @@ pub use dumping::dump;
 pub use fault::DumpFault;
 pub use reports::write_reports;
 pub use running::run_dump;
-
-#[cfg(test)]
-mod tests;

@@ -2,7 +2,7 @@
 
 ghost use Rattle.std.specs.Prelude.{◌<◌};
 
-use super::*;
+use collectd::*;
 use ipfix_session::{DomainReport, FromReader, ScriptSource, SessionFault, SessionReport};
 use std::alloc::Global;
 use std::io::{self, ErrorKind, Write};
