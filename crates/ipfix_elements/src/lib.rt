@@ -8,8 +8,6 @@ mod kind;
 mod name;
 mod number;
 mod prefix;
-#[cfg(test)]
-mod tests;
 mod text;
 
 pub use cell::{Cell, cell_order, read_cell, write_cell_octets};

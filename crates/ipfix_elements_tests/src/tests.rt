@@ -1,4 +1,4 @@
-use super::*;
+use ipfix_elements::*;
 use ipfix_wire::ElementId;
 use std::alloc::Global;
 use std::io;
