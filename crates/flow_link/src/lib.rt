@@ -17,6 +17,3 @@ pub use receiver::{Receiver, Taken};
 pub use sender::Sender;
 pub use settled::{SettleFault, Settled, settle};
 pub use waiting::pause;
-
-#[cfg(test)]
-mod tests;

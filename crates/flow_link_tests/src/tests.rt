@@ -1,4 +1,4 @@
-use super::*;
+use flow_link::*;
 use ipfix_message::{DataRecord, Fields};
 use std::alloc::Global;
 use std::sync::Wait;
