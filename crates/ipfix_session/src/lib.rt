@@ -29,6 +29,3 @@ pub use session::Session;
 pub use sink::{Sink, VecSink};
 pub use source::{ReadError, Source};
 pub use stop::Stop;
-
-#[cfg(test)]
-mod tests;

@@ -3,8 +3,10 @@
 ghost use Rattle.std.specs.Prelude.{◌<◌};
 
 use super::examples::are_same;
-use crate::{FromReader, ScriptSource, Session, SessionReport, Stop, VecSink, decode_text, drive};
 use ipfix_message::DataRecord;
+use ipfix_session::{
+    FromReader, ScriptSource, Session, SessionReport, Stop, VecSink, decode_text, drive,
+};
 use std::alloc::Global;
 use std::process::Abort;
 use std::test::*;

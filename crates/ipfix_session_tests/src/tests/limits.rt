@@ -2,10 +2,13 @@
 
 use super::drain;
 use super::examples::{NEXT_FLOW, ONE_FLOW, octets_of};
-use super::runs::fed;
-use crate::{ScriptSource, Session, SessionFault, Sink, VecSink, drive};
+use super::runs::{Run, fed};
 use ipfix_message::{DataRecord, MessageFault};
+use ipfix_session::{
+    DomainReport, ScriptSource, Session, SessionFault, SessionReport, Sink, VecSink, drive,
+};
 use std::alloc::Global;
+use std::process::Abort;
 use std::test::*;
 
 #[test]
@@ -32,14 +35,20 @@ fn failing_reads(rt: HostRuntime) -> Result<(), Fail> {
     ] {
         let text = octets_of(rt.alloc(), &texts)?;
         let mut source = ScriptSource::new(text, piece, None, fail_at);
-        let mut sink = VecSink::new(rt.alloc());
-        let report = drive(rt.alloc(), &mut source, &mut sink, limit);
-        assert_eq!(rt; report.messages, delivered);
-        assert_eq!(rt; report.delivered, delivered);
-        assert_eq!(rt; report.fault.map(|fault| fault.number()), number);
-        assert_eq!(rt; sink.records.len() as u64, delivered);
+        let run = driven_from(rt.alloc(), &mut source, limit);
+        assert_eq!(rt; run.report.messages, delivered);
+        assert_eq!(rt; run.report.delivered, delivered);
+        assert_eq!(rt; run.fault(), number);
+        assert_eq!(rt; run.records().len() as u64, delivered);
     }
     Ok(())
+}
+
+/// What a source gives in so many reads.
+fn driven_from(alloc: Global, source: &mut ScriptSource, limit: u64) -> Run {
+    let mut sink = VecSink::new(alloc);
+    let report = drive(alloc, source, &mut sink, limit);
+    Run { sink, report }
 }
 
 /// A fault ends the reading.
@@ -103,17 +112,28 @@ fn faults_stay(rt: HostRuntime) -> Result<(), Fail> {
             records: Vec::new(alloc),
             refused: 0,
         };
-        let mut session = Session::new(alloc);
-        assert_eq!(rt; session.feed(alloc, &text, &mut sink), Err(fault));
-        sink.room = 9;
-        assert_eq!(rt; session.feed(alloc, &more, &mut sink), Err(fault));
-        assert_eq!(rt; session.feed_all(alloc, &[], &mut sink), Err(fault));
+        let report = fed_after_fault(&rt, alloc, [&text, &more], &mut sink, fault);
         assert_eq!(rt; sink.records.len() as u64, messages);
-        let report = session.finish();
         assert_eq!(rt; (report.messages, report.delivered), (messages, messages));
         assert_eq!(rt; report.fault, Some(fault));
     }
     Ok(())
+}
+
+/// The report of a session that is fed a text with this fault, and then more of it to a sink with room.
+fn fed_after_fault(
+    rt: &impl Abort,
+    alloc: Global,
+    [text, more]: [&[u8]; 2],
+    sink: &mut Narrow,
+    fault: SessionFault,
+) -> SessionReport {
+    let mut session = Session::new(alloc);
+    assert_eq!(rt; session.feed(alloc, text, sink), Err(fault));
+    sink.room = 9;
+    assert_eq!(rt; session.feed(alloc, more, sink), Err(fault));
+    assert_eq!(rt; session.feed_all(alloc, &[], sink), Err(fault));
+    session.finish()
 }
 
 /// Appends a header alone, or a header and a set whose length is wrong.
@@ -136,21 +156,32 @@ fn many_domains(rt: HostRuntime) -> Result<(), Fail> {
         (1024, true, 1024, Some(11)),
         (1024, false, 1024, Some(11)),
     ] {
-        let mut text = Vec::new(alloc);
-        for domain in 0..1024 {
-            push_header(&mut text, domain, true)?;
-        }
-        push_header(&mut text, last, alone)?;
+        let text = text_of_domains(alloc, last, alone)?;
         let run = fed(alloc, &text, 1000);
         assert_eq!(rt; run.fault(), fault);
         assert_eq!(rt; run.report.messages, messages);
-        assert_eq!(rt; run.report.domains.len(), 1024);
-        for (domain, index) in run.report.domains.iter().zip(0..1024) {
-            assert_eq!(rt;
-                (domain.domain, domain.count, domain.lost, domain.backward),
-                (index, 0, 0, 0)
-            );
-        }
+        assert_empty_domains(&rt, &run.report.domains);
     }
     Ok(())
+}
+
+/// A message for each of 1,024 domains, and one more for the last.
+fn text_of_domains(alloc: Global, last: u32, alone: bool) -> Result<Vec<u8>, Fail> {
+    let mut text = Vec::new(alloc);
+    for domain in 0..1024 {
+        push_header(&mut text, domain, true)?;
+    }
+    push_header(&mut text, last, alone)?;
+    Ok(text)
+}
+
+/// That these are 1,024 domains, counted from 0, without records or losses.
+fn assert_empty_domains(rt: &impl Abort, domains: &[DomainReport]) {
+    assert_eq!(rt; domains.len(), 1024);
+    for (domain, index) in domains.iter().zip(0..1024) {
+        assert_eq!(rt;
+            (domain.domain, domain.count, domain.lost, domain.backward),
+            (index, 0, 0, 0)
+        );
+    }
 }

@@ -33,17 +33,28 @@ fn worked_examples(rt: HostRuntime) -> Result<(), Fail> {
         let text = octets_of(alloc, example.messages)?;
         let run = assert_one_meaning(&rt, alloc, &text)?;
         assert_gives(&rt, &run, &example);
-        for size in [7, 16, 17, 100] {
-            let pieces = fed(alloc, &text, size);
-            assert_gives(&rt, &pieces, &example);
-            assert!(rt; are_same(run.records(), pieces.records()));
-            let parts = fed_all(alloc, &text, size);
-            assert_gives(&rt, &parts, &example);
-        }
+        assert_same_in_pieces(&rt, alloc, &text, &run, &example);
         for read in [driven(alloc, &text), trickled(alloc, &text)?] {
             assert_gives(&rt, &read, &example);
             assert!(rt; are_same(run.records(), read.records()));
         }
     }
     Ok(())
+}
+
+/// That a text gives the same in pieces.
+fn assert_same_in_pieces(
+    rt: &impl Abort,
+    alloc: Global,
+    text: &[u8],
+    run: &Run,
+    example: &Example,
+) {
+    for size in [7, 16, 17, 100] {
+        let pieces = fed(alloc, text, size);
+        assert_gives(rt, &pieces, example);
+        assert!(rt; are_same(run.records(), pieces.records()));
+        let parts = fed_all(alloc, text, size);
+        assert_gives(rt, &parts, example);
+    }
 }

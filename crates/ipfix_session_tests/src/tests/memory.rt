@@ -2,8 +2,8 @@
 //! their allocations can be refused in turn.
 
 use super::runs::{Run, driven, fed};
-use crate::{SessionFault, decode_text};
 use ipfix_message::MessageFault;
+use ipfix_session::{SessionFault, decode_text};
 use std::process::Abort;
 use std::test::*;
 

@@ -1,7 +1,7 @@
 //! Messages that are cut, and messages with a wrong length (RFC 7011, section 3).
 
 use super::examples::{ONE_FLOW, VARIABLE_LENGTHS, examples, octets_of};
-use super::runs::{assert_one_meaning, driven};
+use super::runs::{Run, assert_one_meaning, driven};
 use ipfix_message::{Domains, MessageFault};
 use std::alloc::Global;
 use std::process::Abort;
@@ -11,16 +11,19 @@ use std::test::*;
 fn assert_cut(rt: &impl Abort, alloc: Global, message: &str) -> Result<(), Fail> {
     let octets = octets_of(alloc, &[message])?;
     for kept in 0..octets.len() {
-        let front = &octets[..kept];
-        let refused = Domains::new(alloc).decode(alloc, front).err();
-        assert_eq!(rt; refused, Some(MessageFault::MessageLength));
-        let run = driven(alloc, front);
-        let fault = if kept == 0 { None } else { Some(14) };
-        assert_eq!(rt; run.fault(), fault, "{kept} of {message}");
-        assert_eq!(rt; run.report.messages, 0);
-        assert_eq!(rt; run.records().len(), 0);
+        assert_front(rt, alloc, &octets[..kept]);
     }
     Ok(())
+}
+
+fn assert_front(rt: &impl Abort, alloc: Global, front: &[u8]) {
+    let refused = Domains::new(alloc).decode(alloc, front).err();
+    assert_eq!(rt; refused, Some(MessageFault::MessageLength));
+    let run = driven(alloc, front);
+    let fault = if front.is_empty() { None } else { Some(14) };
+    assert_eq!(rt; run.fault(), fault, "{}", front.len());
+    assert_eq!(rt; run.report.messages, 0);
+    assert_eq!(rt; run.records().len(), 0);
 }
 
 /// That the fronts of these messages are refused.
@@ -72,18 +75,34 @@ fn wrong_lengths(rt: HostRuntime) -> Result<(), Fail> {
         (VARIABLE_LENGTHS, 551, &all, 10),
     ] {
         for number in numbers {
-            let mut text = octets_of(alloc, &[message])?;
-            assert!(rt; put_number(&mut text, at, *number));
-            let run = assert_one_meaning(&rt, alloc, &text)?;
-            let read = driven(alloc, &text);
-            assert_eq!(rt; run.report, read.report);
+            let run = with_number(&rt, alloc, message, at, *number)?;
             assert_eq!(rt; run.fault(), Some(fault), "{number} at {at}");
             assert_eq!(rt; (run.report.messages, run.report.delivered), (0, 0));
         }
     }
-    let mut text = octets_of(alloc, &[ONE_FLOW])?;
-    assert!(rt; put_number(&mut text, 18, 4));
-    let run = assert_one_meaning(&rt, alloc, &text)?;
+    Ok(())
+}
+
+/// What a message gives, fed and driven, with another number of two octets.
+fn with_number(
+    rt: &impl Abort,
+    alloc: Global,
+    message: &str,
+    at: usize,
+    number: u16,
+) -> Result<Run, Fail> {
+    let mut text = octets_of(alloc, &[message])?;
+    assert!(rt; put_number(&mut text, at, number));
+    let run = assert_one_meaning(rt, alloc, &text)?;
+    let read = driven(alloc, &text);
+    assert_eq!(rt; run.report, read.report);
+    Ok(run)
+}
+
+/// What stood in the template set is read as sets then.
+#[test]
+fn template_set_cut_short(rt: HostRuntime) -> Result<(), Fail> {
+    let run = with_number(&rt, rt.alloc(), ONE_FLOW, 18, 4)?;
     assert_eq!(rt; run.fault(), None);
     let sets = (run.report.skipped_sets, run.report.unknown_sets);
     assert_eq!(rt; (run.report.delivered, sets), (0, (3, 2)));

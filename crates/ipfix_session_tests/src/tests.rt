@@ -7,8 +7,8 @@ mod memory;
 mod runs;
 mod texts;
 
-use super::*;
 use ipfix_message::MessageFault;
+use ipfix_session::*;
 use std::test::*;
 
 /// The octets that a source gives until its end or its failure, the reads it took, and whether it
