@@ -1,4 +1,5 @@
 pub mod AddedSums
+pub mod Addresses
 pub mod Keyed
 pub mod Places
 pub mod RowMaps

@@ -1,10 +1,9 @@
 -- Merging the maps of two partial tables, entry by entry.
-use Rattle.std.proofs.Common.{◌≡◌, ◌≢◌, ◌⊎◌, ℕ, Bool, true, false, cond, List, [], ◌∷◌, Option, Some, None, Vec, refl, sym, ap, ◌∙◌, subst, inl, inr, nat_cmp}
+use Rattle.std.proofs.Common.{◌≡◌, ◌≢◌, ◌⊎◌, ℕ, Bool, true, false, cond, List, [], ◌∷◌, Option, Some, None, refl, sym, ap, ◌∙◌, subst, inl, inr, nat_cmp}
 use Rattle.std.specs.Map.{lookup, keys_of}
 use Rattle.std.specs.List.{AllByRecursion}
 use Rattle.std.specs.List.Sorted.{IsStrictlySortedBy}
 use Rattle.std.specs.BTreeMap.{BTreeMap}
-use Rattle.std.specs.Cmp.Lexicographic.{slice_cmp}
 use Rattle.std.specs.Option.{option_and_then}
 use Rattle.std.specs.Ordering.{is_eq}
 use Rattle.std.specs.declared.cmp.Ordering.{Ordering}
@@ -12,15 +11,11 @@ use Rattle.std.specs.declared.cmp.Ordering.TheVariants.{Less}
 use Rattle.std.proofs.lemmas.Map.Keys.{sorted_head, sorted_tail}
 use Rattle.ipfix_elements.specs.declared.cell.Cell.{Cell}
 use Rattle.flow_table.specs.Tables.{key_cmp}
-use Rattle.flow_table.specs.Totals.{Total, total, joined, IsLargeAt}
-use Rattle.flow_table.specs.Rows.{is_same_key, is_same_interval, row_at, cell_at, part_at, rows_part}
+use Rattle.flow_table.specs.Totals.{Total, joined, IsLarge, IsLargeAt}
+use Rattle.flow_table.specs.Rows.{RowEntries, CellEntries, is_same_key, is_same_interval, row_at, cell_at, part_at, rows_part}
 use Rattle.flow_table.proofs.RowMaps.{rows_of}
 use Rattle.flow_table.proofs.Keyed.{Tells, itself}
-use Rattle.flow_table.proofs.Places.{keys_tell, intervals_tell, code_cmp, code_order}
-
--- the code's order of keys
-abbrev pub code_key_cmp : {A : Type 0} → Vec Cell A → Vec Cell A → Ordering
-code_key_cmp x y = slice_cmp code_cmp x.items y.items
+use Rattle.flow_table.proofs.Places.{keys_tell, intervals_tell}
 
 -- ---- entries in order
 
@@ -40,55 +35,72 @@ module _ {B : Type 0} (S : B → B → Bool) (tells : Tells S) where
 
 -- ---- the rows of an interval
 
-module _ {A : Type 0} where
-  keys_apart : (x y : Vec Cell A) → code_key_cmp x y ≡ Less → x.items ≢ y.items
-  keys_apart x y less same =
-      let s : is_same_key x.items x.items ≡ true = itself is_same_key keys_tell x.items in
-      let h : slice_cmp code_cmp x.items x.items ≡ Less = subst (λ (ys : List Cell). slice_cmp code_cmp x.items ys ≡ Less) (sym same) less in
-      let l : key_cmp x.items x.items ≡ Less = subst (λ (R : Cell → Cell → Ordering). slice_cmp R x.items x.items ≡ Less) (sym code_order) h in
-      let e : is_same_key x.items x.items ≡ false = ap is_eq l in
-      cc (s, e)
+keys_apart : (x y : List Cell) → key_cmp x y ≡ Less → x ≢ y
+keys_apart x y less same =
+    let s : is_same_key x x ≡ true = itself is_same_key keys_tell x in
+    let h : key_cmp x x ≡ Less = subst (λ (ys : List Cell). key_cmp x ys ≡ Less) (sym same) less in
+    let e : is_same_key x x ≡ false = ap is_eq h in
+    cc (s, e)
 
-  pub rows_step : (old new : List Cell → Option Total) (key : Vec Cell A) (v : Total) (all rest : List (Vec Cell A × Total)) (init others : List Cell → Option Total)
-      → all ≡ (key, v) ∷ rest → IsStrictlySortedBy code_key_cmp (keys_of all)
-      → ((q : List Cell) → new q ≡ joined (old q) (part_at key.items v q))
-      → ((q : List Cell) → joined (old q) (row_at all q) ≡ joined (init q) (others q))
-      → (q : List Cell) → joined (new q) (row_at rest q) ≡ joined (init q) (others q)
-  rows_step old new key v all rest init others is sorted step before q =
-      sym (sym (before q) ∙ ap (λ (es : List (Vec Cell A × Total)). joined (old q) (row_at es q)) is ∙ by_key)
-    where
-      by_key : joined (old q) (row_at ((key, v) ∷ rest) q) ≡ joined (new q) (row_at rest q)
-      by_key =
-          let ordered : IsStrictlySortedBy code_key_cmp (keys_of ((key, v) ∷ rest)) = subst (λ (es : List (Vec Cell A × Total)). IsStrictlySortedBy code_key_cmp (keys_of es)) is sorted in
-          elim (keys_tell q key.items) [
-            | inl y ↦
-                let none : row_at rest q ≡ None = head_alone is_same_key keys_tell (λ k. k.items) code_key_cmp keys_apart key v rest q ordered y.0 y.1 in
-                let now : new q ≡ joined (old q) (Some v) = step q ∙ ap (λ (b : Bool). joined (old q) (cond b (Some v) None)) y.0 in
-                rw (y.0, none, now) refl
-            | inr n ↦
-                let now : new q ≡ old q = step q ∙ ap (λ (b : Bool). joined (old q) (cond b (Some v) None)) n.0 in
-                rw (n.0, now) refl
-          ]
+pub rows_step : (old new : List Cell → Option Total) (key : List Cell) (v : Total) (all rest : RowEntries) (init others : List Cell → Option Total)
+    → all ≡ (key, v) ∷ rest → IsStrictlySortedBy key_cmp (keys_of all)
+    → ((q : List Cell) → new q ≡ joined (old q) (part_at key v q))
+    → ((q : List Cell) → joined (old q) (row_at all q) ≡ joined (init q) (others q))
+    → (q : List Cell) → joined (new q) (row_at rest q) ≡ joined (init q) (others q)
+rows_step old new key v all rest init others is sorted step before q =
+    sym (sym (before q) ∙ ap (λ (es : RowEntries). joined (old q) (row_at es q)) is ∙ by_key)
+  where
+    by_key : joined (old q) (row_at ((key, v) ∷ rest) q) ≡ joined (new q) (row_at rest q)
+    by_key =
+        let ordered : IsStrictlySortedBy key_cmp (keys_of ((key, v) ∷ rest)) = subst (λ (es : RowEntries). IsStrictlySortedBy key_cmp (keys_of es)) is sorted in
+        elim (keys_tell q key) [
+          | inl y ↦
+              let none : row_at rest q ≡ None = head_alone is_same_key keys_tell (λ k. k) key_cmp keys_apart key v rest q ordered y.0 y.1 in
+              let now : new q ≡ joined (old q) (Some v) = step q ∙ ap (λ (b : Bool). joined (old q) (cond b (Some v) None)) y.0 in
+              rw (y.0, none, now) refl
+          | inr n ↦
+              let now : new q ≡ old q = step q ∙ ap (λ (b : Bool). joined (old q) (cond b (Some v) None)) n.0 in
+              rw (n.0, now) refl
+        ]
 
-  pub rows_sorted : (all rest : List (Vec Cell A × Total)) (key : Vec Cell A) (v : Total) → all ≡ (key, v) ∷ rest → IsStrictlySortedBy code_key_cmp (keys_of all) → IsStrictlySortedBy code_key_cmp (keys_of rest)
-  rows_sorted all rest key v is sorted = sorted_tail code_key_cmp key (keys_of rest) (subst (λ (es : List (Vec Cell A × Total)). IsStrictlySortedBy code_key_cmp (keys_of es)) is sorted)
+pub rows_sorted : (all rest : RowEntries) (key : List Cell) (v : Total) → all ≡ (key, v) ∷ rest → IsStrictlySortedBy key_cmp (keys_of all) → IsStrictlySortedBy key_cmp (keys_of rest)
+rows_sorted all rest key v is sorted = sorted_tail key_cmp key (keys_of rest) (subst (λ (es : RowEntries). IsStrictlySortedBy key_cmp (keys_of es)) is sorted)
 
-  -- at the first key of what is left
-  pub rows_large : (old : List Cell → Option Total) (key : Vec Cell A) (v : Total) (all rest : List (Vec Cell A × Total)) (init others : List Cell → Option Total)
-      → all ≡ (key, v) ∷ rest → ((q : List Cell) → joined (old q) (row_at all q) ≡ joined (init q) (others q))
-      → IsLargeAt (joined (old key.items) (Some v)) → (q : List Cell) × IsLargeAt (joined (init q) (others q))
-  rows_large old key v all rest init others is before big =
-      let at : row_at all key.items ≡ Some v = ap (λ (es : List (Vec Cell A × Total)). row_at es key.items) is ∙ ap (λ (b : Bool). cond b (Some v) (row_at rest key.items)) (itself is_same_key keys_tell key.items) in
-      (key.items, subst IsLargeAt (sym (ap (λ (o : Option Total). joined (old key.items) o) at) ∙ before key.items) big)
+-- the row that comes next
+first_row : (all rest : RowEntries) (key : List Cell) (t : Total) → all ≡ (key, t) ∷ rest → row_at all key ≡ Some t
+first_row all rest key t is = ap (λ (es : RowEntries). row_at es key) is ∙ ap (λ (b : Bool). cond b (Some t) (row_at rest key)) (itself is_same_key keys_tell key)
+
+-- at the first key of what is left
+pub rows_large : (old : List Cell → Option Total) (key : List Cell) (v : Total) (all rest : RowEntries) (init others : List Cell → Option Total)
+    → all ≡ (key, v) ∷ rest → ((q : List Cell) → joined (old q) (row_at all q) ≡ joined (init q) (others q))
+    → IsLargeAt (joined (old key) (Some v)) → (q : List Cell) × IsLargeAt (joined (init q) (others q))
+rows_large old key v all rest init others is before big =
+    (key, subst IsLargeAt (sym (ap (λ (o : Option Total). joined (old key) o) (first_row all rest key v is)) ∙ before key) big)
+
+pub rows_left : (all rest : RowEntries) (key : List Cell) (t : Total) (others : List Cell → Option Total) → all ≡ (key, t) ∷ rest → IsStrictlySortedBy key_cmp (keys_of all)
+    → ((q : List Cell) → IsLargeAt (row_at all q) → IsLargeAt (others q)) → (q : List Cell) → IsLargeAt (row_at rest q) → IsLargeAt (others q)
+rows_left all rest key t others is sorted before q big =
+    elim (keys_tell q key) [
+      | inl y ↦
+          let ordered : IsStrictlySortedBy key_cmp (keys_of ((key, t) ∷ rest)) = subst (λ (es : RowEntries). IsStrictlySortedBy key_cmp (keys_of es)) is sorted in
+          let none : row_at rest q ≡ None = head_alone is_same_key keys_tell (λ k. k) key_cmp keys_apart key t rest q ordered y.0 y.1 in
+          absurd (subst IsLargeAt none big)
+      | inr n ↦
+          let same : row_at all q ≡ row_at rest q = ap (λ (es : RowEntries). row_at es q) is ∙ ap (λ (b : Bool). cond b (Some t) (row_at rest q)) n.0 in
+          before q (subst IsLargeAt (sym same) big)
+    ]
 
 -- what fitted before, and at the key that was added to, fits
-pub rows_fit : (old new : List Cell → Option Total) (key : List Cell) (v : Total)
-    → ((q : List Cell) → new q ≡ joined (old q) (part_at key v q)) → (IsLargeAt (new key) → ⊥)
-    → (q : List Cell) → (IsLargeAt (old q) → ⊥) → IsLargeAt (new q) → ⊥
-rows_fit old new key v step here q before big =
+pub rows_fit : (old new : List Cell → Option Total) (key : List Cell) (t : Total)
+    → ((q : List Cell) → new q ≡ joined (old q) (part_at key t q)) → ((IsLarge t → ⊥) → IsLargeAt (new key) → ⊥)
+    → (all rest : RowEntries) (others : List Cell → Option Total) → all ≡ (key, t) ∷ rest → ((q : List Cell) → IsLargeAt (row_at all q) → IsLargeAt (others q))
+    → (q : List Cell) → (IsLargeAt (old q) → ⊥) → (IsLargeAt (others q) → ⊥) → IsLargeAt (new q) → ⊥
+rows_fit old new key t step here all rest others is left q before apart big =
     elim (keys_tell q key) [
-      | inl y ↦ here (subst (λ (p : List Cell). IsLargeAt (new p)) y.1 big)
-      | inr n ↦ before (subst IsLargeAt (step q ∙ ap (λ (b : Bool). joined (old q) (cond b (Some v) None)) n.0) big)
+      | inl y ↦
+          here (λ large. apart (subst (λ (p : List Cell). IsLargeAt (others p)) (sym y.1) (left key (subst IsLargeAt (sym (first_row all rest key t is)) large))))
+          (subst (λ (p : List Cell). IsLargeAt (new p)) y.1 big)
+      | inr n ↦ before (subst IsLargeAt (step q ∙ ap (λ (b : Bool). joined (old q) (cond b (Some t) None)) n.0) big)
     ]
 
 -- ---- all intervals
@@ -100,83 +112,67 @@ intervals_apart x y less same =
     let e : is_same_interval x x ≡ false = ap is_eq h in
     cc (s, e)
 
-module _ {A : Type 0} where
-  abbrev rows_at : Option (BTreeMap (Vec Cell A) Total) → List Cell → Option Total
-  rows_at o q = option_and_then (λ rows. row_at rows.entries q) o
+abbrev rows_at : Option (BTreeMap (List Cell) Total) → List Cell → Option Total
+rows_at o q = option_and_then (λ rows. row_at rows.entries q) o
 
-  -- a place in the rows of the first interval, or behind it
-  by_interval : (interval : ℕ) (rows : BTreeMap (Vec Cell A) Total) (rest : List (ℕ × BTreeMap (Vec Cell A) Total)) (k : ℕ) (q : List Cell) → IsStrictlySortedBy nat_cmp (keys_of ((interval, rows) ∷ rest))
-      → ((is_same_interval k interval ≡ true) × (k ≡ interval) × (cell_at ((interval, rows) ∷ rest) k q ≡ row_at rows.entries q) × (cell_at rest k q ≡ None))
-      ⊎ ((is_same_interval k interval ≡ false) × (cell_at ((interval, rows) ∷ rest) k q ≡ cell_at rest k q))
-  by_interval interval rows rest k q sorted =
-      elim (intervals_tell k interval) [
-        | inl y ↦
-            let none = head_alone is_same_interval intervals_tell (λ i. i) nat_cmp intervals_apart interval rows rest k sorted y.0 y.1 in
-            inl (y.0, y.1, ap (λ (b : Bool). rows_at (cond b (Some rows) (rows_of rest k)) q) y.0, ap (λ (o : Option (BTreeMap (Vec Cell A) Total)). rows_at o q) none)
-        | inr n ↦ inr (n.0, ap (λ (b : Bool). rows_at (cond b (Some rows) (rows_of rest k)) q) n.0)
-      ]
+-- a place in the rows of the first interval, or behind it
+by_interval : (interval : ℕ) (rows : BTreeMap (List Cell) Total) (rest : CellEntries) (k : ℕ) (q : List Cell) → IsStrictlySortedBy nat_cmp (keys_of ((interval, rows) ∷ rest))
+    → ((is_same_interval k interval ≡ true) × (k ≡ interval) × (cell_at ((interval, rows) ∷ rest) k q ≡ row_at rows.entries q) × (cell_at rest k q ≡ None))
+    ⊎ ((is_same_interval k interval ≡ false) × (cell_at ((interval, rows) ∷ rest) k q ≡ cell_at rest k q))
+by_interval interval rows rest k q sorted =
+    elim (intervals_tell k interval) [
+      | inl y ↦
+          let none = head_alone is_same_interval intervals_tell (λ i. i) nat_cmp intervals_apart interval rows rest k sorted y.0 y.1 in
+          inl (y.0, y.1, ap (λ (b : Bool). rows_at (cond b (Some rows) (rows_of rest k)) q) y.0, ap (λ (o : Option (BTreeMap (List Cell) Total)). rows_at o q) none)
+      | inr n ↦ inr (n.0, ap (λ (b : Bool). rows_at (cond b (Some rows) (rows_of rest k)) q) n.0)
+    ]
 
-  abbrev Sorted : List (ℕ × BTreeMap (Vec Cell A) Total) → Type 0
-  Sorted es = IsStrictlySortedBy nat_cmp (keys_of es)
+abbrev Sorted : CellEntries → Type 0
+Sorted es = IsStrictlySortedBy nat_cmp (keys_of es)
 
-  pub cells_step : (old new : ℕ → List Cell → Option Total) (interval : ℕ) (rows : BTreeMap (Vec Cell A) Total) (all rest : List (ℕ × BTreeMap (Vec Cell A) Total)) (init others : ℕ → List Cell → Option Total)
-      → all ≡ (interval, rows) ∷ rest → Sorted all
-      → ((k : ℕ) (q : List Cell) → new k q ≡ joined (old k q) (rows_part interval rows.entries k q))
-      → ((k : ℕ) (q : List Cell) → joined (old k q) (cell_at all k q) ≡ joined (init k q) (others k q))
-      → (k : ℕ) (q : List Cell) → joined (new k q) (cell_at rest k q) ≡ joined (init k q) (others k q)
-  cells_step old new interval rows all rest init others is sorted step before k q =
-      sym (sym (before k q) ∙ ap (λ (es : List (ℕ × BTreeMap (Vec Cell A) Total)). joined (old k q) (cell_at es k q)) is
-      ∙ elim (by_interval interval rows rest k q (subst Sorted is sorted)) [
-        | inl y ↦
-            let now : new k q ≡ joined (old k q) (row_at rows.entries q) = step k q ∙ ap (λ (b : Bool). joined (old k q) (cond b (row_at rows.entries q) None)) y.0 in
-            ap (λ (o : Option Total). joined (old k q) o) y.2 ∙ sym now ∙ ap (λ (o : Option Total). joined (new k q) o) (sym y.3)
-        | inr n ↦
-            let now : new k q ≡ old k q = step k q ∙ ap (λ (b : Bool). joined (old k q) (cond b (row_at rows.entries q) None)) n.0 in
-            ap (λ (o : Option Total). joined (old k q) o) n.1 ∙ ap (λ (o : Option Total). joined o (cell_at rest k q)) (sym now)
-      ])
+pub cells_step : (old new : ℕ → List Cell → Option Total) (interval : ℕ) (rows : BTreeMap (List Cell) Total) (all rest : CellEntries) (init others : ℕ → List Cell → Option Total)
+    → all ≡ (interval, rows) ∷ rest → Sorted all
+    → ((k : ℕ) (q : List Cell) → new k q ≡ joined (old k q) (rows_part interval rows.entries k q))
+    → ((k : ℕ) (q : List Cell) → joined (old k q) (cell_at all k q) ≡ joined (init k q) (others k q))
+    → (k : ℕ) (q : List Cell) → joined (new k q) (cell_at rest k q) ≡ joined (init k q) (others k q)
+cells_step old new interval rows all rest init others is sorted step before k q =
+    sym (sym (before k q) ∙ ap (λ (es : CellEntries). joined (old k q) (cell_at es k q)) is
+    ∙ elim (by_interval interval rows rest k q (subst Sorted is sorted)) [
+      | inl y ↦
+          let now : new k q ≡ joined (old k q) (row_at rows.entries q) = step k q ∙ ap (λ (b : Bool). joined (old k q) (cond b (row_at rows.entries q) None)) y.0 in
+          ap (λ (o : Option Total). joined (old k q) o) y.2 ∙ sym now ∙ ap (λ (o : Option Total). joined (new k q) o) (sym y.3)
+      | inr n ↦
+          let now : new k q ≡ old k q = step k q ∙ ap (λ (b : Bool). joined (old k q) (cond b (row_at rows.entries q) None)) n.0 in
+          ap (λ (o : Option Total). joined (old k q) o) n.1 ∙ ap (λ (o : Option Total). joined o (cell_at rest k q)) (sym now)
+    ])
 
-  pub cells_sorted : (all rest : List (ℕ × BTreeMap (Vec Cell A) Total)) (interval : ℕ) (rows : BTreeMap (Vec Cell A) Total) → all ≡ (interval, rows) ∷ rest → Sorted all → Sorted rest
-  cells_sorted all rest interval rows is sorted = sorted_tail nat_cmp interval (keys_of rest) (subst Sorted is sorted)
+pub cells_sorted : (all rest : CellEntries) (interval : ℕ) (rows : BTreeMap (List Cell) Total) → all ≡ (interval, rows) ∷ rest → Sorted all → Sorted rest
+cells_sorted all rest interval rows is sorted = sorted_tail nat_cmp interval (keys_of rest) (subst Sorted is sorted)
 
-  -- the rows that come next
-  first_rows : (all rest : List (ℕ × BTreeMap (Vec Cell A) Total)) (interval : ℕ) (rows : BTreeMap (Vec Cell A) Total) (q : List Cell) → all ≡ (interval, rows) ∷ rest → cell_at all interval q ≡ row_at rows.entries q
-  first_rows all rest interval rows q is =
-      ap (λ (es : List (ℕ × BTreeMap (Vec Cell A) Total)). cell_at es interval q) is
-      ∙ ap (λ (b : Bool). option_and_then (λ (m : BTreeMap (Vec Cell A) Total). row_at m.entries q) (cond b (Some rows) (rows_of rest interval))) (itself is_same_interval intervals_tell interval)
+-- the rows that come next
+first_rows : (all rest : CellEntries) (interval : ℕ) (rows : BTreeMap (List Cell) Total) (q : List Cell) → all ≡ (interval, rows) ∷ rest → cell_at all interval q ≡ row_at rows.entries q
+first_rows all rest interval rows q is =
+    ap (λ (es : CellEntries). cell_at es interval q) is
+    ∙ ap (λ (b : Bool). option_and_then (λ (m : BTreeMap (List Cell) Total). row_at m.entries q) (cond b (Some rows) (rows_of rest interval))) (itself is_same_interval intervals_tell interval)
 
-  pub cells_left : (all rest : List (ℕ × BTreeMap (Vec Cell A) Total)) (interval : ℕ) (rows : BTreeMap (Vec Cell A) Total) (others : ℕ → List Cell → Option Total) → all ≡ (interval, rows) ∷ rest → Sorted all
-      → ((k : ℕ) (q : List Cell) → IsLargeAt (cell_at all k q) → IsLargeAt (others k q)) → (k : ℕ) (q : List Cell) → IsLargeAt (cell_at rest k q) → IsLargeAt (others k q)
-  cells_left all rest interval rows others is sorted before k q big =
-      elim (by_interval interval rows rest k q (subst Sorted is sorted)) [
-        | inl y ↦ absurd (subst IsLargeAt y.3 big)
-        | inr n ↦ before k q (subst IsLargeAt (sym n.1 ∙ ap (λ (es : List (ℕ × BTreeMap (Vec Cell A) Total)). cell_at es k q) (sym is)) big)
-      ]
+pub cells_left : (all rest : CellEntries) (interval : ℕ) (rows : BTreeMap (List Cell) Total) (others : ℕ → List Cell → Option Total) → all ≡ (interval, rows) ∷ rest → Sorted all
+    → ((k : ℕ) (q : List Cell) → IsLargeAt (cell_at all k q) → IsLargeAt (others k q)) → (k : ℕ) (q : List Cell) → IsLargeAt (cell_at rest k q) → IsLargeAt (others k q)
+cells_left all rest interval rows others is sorted before k q big =
+    elim (by_interval interval rows rest k q (subst Sorted is sorted)) [
+      | inl y ↦ absurd (subst IsLargeAt y.3 big)
+      | inr n ↦ before k q (subst IsLargeAt (sym n.1 ∙ ap (λ (es : CellEntries). cell_at es k q) (sym is)) big)
+    ]
 
-  pub cells_fit : (old new : ℕ → List Cell → Option Total) (all rest : List (ℕ × BTreeMap (Vec Cell A) Total)) (interval : ℕ) (rows : BTreeMap (Vec Cell A) Total) (others : ℕ → List Cell → Option Total) → all ≡ (interval, rows) ∷ rest
-      → ((k : ℕ) (q : List Cell) → new k q ≡ joined (old k q) (rows_part interval rows.entries k q))
-      → ((q : List Cell) → (IsLargeAt (old interval q) → ⊥) → (IsLargeAt (row_at rows.entries q) → ⊥) → IsLargeAt (new interval q) → ⊥)
-      → ((k : ℕ) (q : List Cell) → IsLargeAt (cell_at all k q) → IsLargeAt (others k q))
-      → (k : ℕ) (q : List Cell) → (IsLargeAt (old k q) → ⊥) → (IsLargeAt (others k q) → ⊥) → IsLargeAt (new k q) → ⊥
-  cells_fit old new all rest interval rows others is step here left k q before apart big =
-      elim (intervals_tell k interval) [
-        | inl y ↦
-            here q (λ b. before (subst (λ (j : ℕ). IsLargeAt (old j q)) (sym y.1) b))
-            (λ b. apart (left k q (subst (λ (j : ℕ). IsLargeAt (cell_at all j q)) (sym y.1) (subst IsLargeAt (sym (first_rows all rest interval rows q is)) b))))
-            (subst (λ (j : ℕ). IsLargeAt (new j q)) y.1 big)
-        | inr n ↦ before (subst IsLargeAt (step k q ∙ ap (λ (b : Bool). joined (old k q) (cond b (row_at rows.entries q) None)) n.0) big)
-      ]
-
--- ---- in the words of the code
-
-pub row_words : (old new : List Cell → Option Total) (lent key : List Cell) (shares sums : List ℕ) (flows : ℕ) (v : Total) → lent ≡ key → shares ≡ sums → total sums flows ≡ v
-    → ((q : List Cell) → new q ≡ joined (old q) (part_at lent (total shares flows) q)) → (q : List Cell) → new q ≡ joined (old q) (part_at key v q)
-row_words old new lent key shares sums flows v k s t step q =
-    step q ∙ ap (λ (ks : List Cell). joined (old q) (part_at ks (total shares flows) q)) k ∙ ap (λ (u : Total). joined (old q) (part_at key u q)) (ap (λ (ns : List ℕ). total ns flows) s ∙ t)
-
-pub fits_words : (new : List Cell → Option Total) (lent key : List Cell) → lent ≡ key → (IsLargeAt (new lent) → ⊥) → IsLargeAt (new key) → ⊥
-fits_words new lent key k fits big = fits (subst (λ (ks : List Cell). IsLargeAt (new ks)) (sym k) big)
-
-pub large_words : (old : List Cell → Option Total) (lent key : List Cell) (shares sums : List ℕ) (flows : ℕ) (v : Total) → lent ≡ key → shares ≡ sums → total sums flows ≡ v
-    → IsLargeAt (joined (old lent) (Some (total shares flows))) → IsLargeAt (joined (old key) (Some v))
-large_words old lent key shares sums flows v k s t big =
-    subst (λ (u : Total). IsLargeAt (joined (old key) (Some u))) (ap (λ (ns : List ℕ). total ns flows) s ∙ t) (subst (λ (ks : List Cell). IsLargeAt (joined (old ks) (Some (total shares flows)))) k big)
+pub cells_fit : (old new : ℕ → List Cell → Option Total) (all rest : CellEntries) (interval : ℕ) (rows : BTreeMap (List Cell) Total) (others : ℕ → List Cell → Option Total) → all ≡ (interval, rows) ∷ rest
+    → ((k : ℕ) (q : List Cell) → new k q ≡ joined (old k q) (rows_part interval rows.entries k q))
+    → ((q : List Cell) → (IsLargeAt (old interval q) → ⊥) → (IsLargeAt (row_at rows.entries q) → ⊥) → IsLargeAt (new interval q) → ⊥)
+    → ((k : ℕ) (q : List Cell) → IsLargeAt (cell_at all k q) → IsLargeAt (others k q))
+    → (k : ℕ) (q : List Cell) → (IsLargeAt (old k q) → ⊥) → (IsLargeAt (others k q) → ⊥) → IsLargeAt (new k q) → ⊥
+cells_fit old new all rest interval rows others is step here left k q before apart big =
+    elim (intervals_tell k interval) [
+      | inl y ↦
+          here q (λ b. before (subst (λ (j : ℕ). IsLargeAt (old j q)) (sym y.1) b))
+          (λ b. apart (left k q (subst (λ (j : ℕ). IsLargeAt (cell_at all j q)) (sym y.1) (subst IsLargeAt (sym (first_rows all rest interval rows q is)) b))))
+          (subst (λ (j : ℕ). IsLargeAt (new j q)) y.1 big)
+      | inr n ↦ before (subst IsLargeAt (step k q ∙ ap (λ (b : Bool). joined (old k q) (cond b (row_at rows.entries q) None)) n.0) big)
+    ]

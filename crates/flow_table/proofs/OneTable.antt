@@ -16,7 +16,7 @@ use Rattle.flow_table.specs.declared.table.Table.{Table}
 use Rattle.flow_table.specs.Plans.{PlanValue}
 use Rattle.flow_table.specs.SameTables.{RowValue, row_value, value_of, IsSameTable}
 use Rattle.flow_table.specs.Tables.{sum_at, flows_at, place_of, place_cmp, key_cmp, IsRow, IsTable}
-use Rattle.flow_table.proofs.Places.{key_total}
+use Rattle.flow_table.specs.RowKeys.{keys_total}
 
 -- ---- what is among a list
 
@@ -89,7 +89,7 @@ both_below Equal Equal Greater d p q h k = cc
 
 places_asymmetric : Asymmetric place_cmp
 places_asymmetric a b h k =
-    both_below (nat_cmp a.0 b.0) (nat_cmp b.0 a.0) (key_cmp a.1 b.1) (key_cmp b.1 a.1) (nat_cmp_total.antisymm a.0 b.0) (key_total.antisymm a.1 b.1) h k
+    both_below (nat_cmp a.0 b.0) (nat_cmp b.0 a.0) (key_cmp a.1 b.1) (key_cmp b.1 a.1) (nat_cmp_total.antisymm a.0 b.0) (keys_total.antisymm a.1 b.1) h k
 
 -- ---- tables
 

@@ -1,18 +1,16 @@
 -- Intervals and keys are told apart by their orders.
 use Rattle.std.proofs.Common.{◌≡◌, ◌≢◌, ◌⊎◌, Bool, true, false, List, [], ◌∷◌, refl, sym, subst, inl, inr}
 use Rattle.std.specs.Cmp.{IsTotalOrder, eq_by_cmp_equiv}
-use Rattle.std.specs.Cmp.Lexicographic.{lists_total}
 use Rattle.std.specs.Ordering.{ordering_then, is_eq}
 use Rattle.std.specs.declared.cmp.Ordering.{Ordering}
 use Rattle.std.specs.declared.cmp.Ordering.TheVariants.{Less, Equal, Greater}
 use Rattle.std.proofs.lemmas.Cmp.{nat_cmp_total}
 use Rattle.std.proofs.lemmas.Map.Lookups.{exact_unsigned}
 use Rattle.ipfix_elements.specs.declared.cell.Cell.{Cell}
-use Rattle.ipfix_elements.specs.declared.cell.Cell.TheVariants.{Number, Ipv4, Ipv6, Mac}
-use Rattle.ipfix_elements.specs.contracts.cell.CellOrd.TheImpl.{ghosts}
 use Rattle.ipfix_elements.specs.Cells.{cell_cmp}
-use Rattle.ipfix_elements.proofs.CellLemmas.{cell_cmp-total, cell_equal}
+use Rattle.ipfix_elements.proofs.CellLemmas.{cell_equal}
 use Rattle.flow_table.specs.Tables.{key_cmp}
+use Rattle.flow_table.specs.RowKeys.{keys_total}
 use Rattle.flow_table.specs.Rows.{is_same_key, is_same_interval}
 use Rattle.flow_table.proofs.Keyed.{Tells}
 
@@ -39,36 +37,8 @@ key_equal [] (y ∷ ys) h = cc
 key_equal (x ∷ xs) [] h = cc
 key_equal (x ∷ xs) (y ∷ ys) h = then_equal x y xs ys (cell_cmp x y) refl (key_equal xs ys) h
 
-pub key_total : IsTotalOrder key_cmp
-key_total = lists_total cell_cmp-total
-
 pub keys_tell : Tells is_same_key
-keys_tell = tells_by key_total key_equal
+keys_tell = tells_by keys_total key_equal
 
 pub intervals_tell : Tells is_same_interval
 intervals_tell = tells_by nat_cmp_total exact_unsigned
-
--- the order of the code
-abbrev pub code_cmp : Cell → Cell → Ordering
-code_cmp = ghosts.cmp
-
-code_order_at : (a b : Cell) → cell_cmp a b ≡ code_cmp a b
-code_order_at (Number m) (Number n) = refl
-code_order_at (Number m) (Ipv4 b) = refl
-code_order_at (Number m) (Ipv6 b) = refl
-code_order_at (Number m) (Mac b) = refl
-code_order_at (Ipv4 a) (Number n) = refl
-code_order_at (Ipv4 a) (Ipv4 b) = refl
-code_order_at (Ipv4 a) (Ipv6 b) = refl
-code_order_at (Ipv4 a) (Mac b) = refl
-code_order_at (Ipv6 a) (Number n) = refl
-code_order_at (Ipv6 a) (Ipv4 b) = refl
-code_order_at (Ipv6 a) (Ipv6 b) = refl
-code_order_at (Ipv6 a) (Mac b) = refl
-code_order_at (Mac a) (Number n) = refl
-code_order_at (Mac a) (Ipv4 b) = refl
-code_order_at (Mac a) (Ipv6 b) = refl
-code_order_at (Mac a) (Mac b) = refl
-
-pub code_order : cell_cmp ≡ code_cmp
-code_order = λ i a b. code_order_at a b i

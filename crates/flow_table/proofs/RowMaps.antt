@@ -1,21 +1,18 @@
 -- What adding to a row leaves in the maps of a partial table.
-use Rattle.std.proofs.Common.{◌≡◌, ◌≢◌, ◌^◌, ◌<◌, ℕ, Bool, true, false, cond, List, [], get_or, Option, Some, None, Result, Ok, Err, OnOk, Vec, refl, sym, ap, ◌∙◌, subst, inl, inr, arith}
+use Rattle.std.proofs.Common.{◌≡◌, ◌≢◌, ◌^◌, ◌<◌, ℕ, Bool, true, false, cond, List, [], get_or, Option, Some, None, Result, Ok, Err, OnOk, refl, sym, ap, ◌∙◌, subst, inl, inr, arith}
 use Rattle.std.specs.Map.{lookup, set_value}
 use Rattle.std.specs.BTreeMap.{BTreeMap, insert_entry}
-use Rattle.std.specs.Cmp.Lexicographic.{slice_cmp}
 use Rattle.std.specs.Option.{option_and_then}
 use Rattle.std.specs.Ordering.{nat_cmp, is_eq}
-use Rattle.std.specs.declared.cmp.Ordering.{Ordering}
 use Rattle.std.specs.declared.cmp.Ordering.TheVariants.{Greater}
 use Rattle.std.proofs.lemmas.Map.Lookups.{exact_unsigned}
 use Rattle.ipfix_elements.specs.declared.cell.Cell.{Cell}
-use Rattle.ipfix_elements.specs.Cells.{cell_cmp}
 use Rattle.flow_table.specs.Tables.{key_cmp}
 use Rattle.flow_table.specs.Totals.{Total, total, sum_of, joined, IsLarge, IsLargeAt}
-use Rattle.flow_table.specs.Rows.{is_same_key, is_same_interval, row_at, cell_at, part_at}
+use Rattle.flow_table.specs.Rows.{RowEntries, CellEntries, is_same_key, is_same_interval, row_at, cell_at, part_at}
 use Rattle.flow_table.proofs.AddedSums.{none_large}
 use Rattle.flow_table.proofs.Keyed.{itself, found_set, found_insert}
-use Rattle.flow_table.proofs.Places.{key_equal, keys_tell, intervals_tell, code_cmp, code_order}
+use Rattle.flow_table.proofs.Places.{key_equal, keys_tell, intervals_tell}
 
 -- ---- sums at one key
 
@@ -33,61 +30,24 @@ joined_at o v t e = ap (λ (x : Option Total). joined x (Some t)) e
 joined_new : (o : Option Total) (t : Total) → o ≡ None → joined o (Some t) ≡ Some t
 joined_new o t e = ap (λ (x : Option Total). joined x (Some t)) e
 
--- the code's order of cells is R
-abbrev pub row_by : {A : Type 0} → (Cell → Cell → Ordering) → List (Vec Cell A × Total) → List Cell → Option Total
-row_by R es key = lookup (λ k. is_eq (slice_cmp R key k.items)) es
+differ : (x y : List Cell) → key_cmp x y ≡ Greater → x ≢ y
+differ x y greater same =
+    let h : key_cmp x x ≡ Greater = subst (λ (ys : List Cell). key_cmp x ys ≡ Greater) (sym same) greater in
+    let s : is_same_key x x ≡ true = itself is_same_key keys_tell x in
+    let e : is_same_key x x ≡ false = ap is_eq h in
+    cc (s, e)
 
-abbrev pub set_by : {A : Type 0} → (Cell → Cell → Ordering) → List (Vec Cell A × Total) → List Cell → Total → List (Vec Cell A × Total)
-set_by R es key w = set_value (λ k. is_eq (slice_cmp R key k.items)) es w
+pub added_found : (es news : RowEntries) (key : List Cell) (v w t : Total) → row_at es key ≡ Some v → news ≡ set_value (λ k. is_same_key key k) es w → w ≡ sum_of v t
+    → (q : List Cell) → row_at news q ≡ joined (row_at es q) (part_at key t q)
+added_found es news key v w t was is sum =
+    row_joined (row_at es) (row_at news) key t w (joined_at (row_at es key) v t was ∙ ap (λ (x : Total). Some x) (sym sum))
+    (λ q. ap (λ (fs : RowEntries). row_at fs q) is ∙ found_set is_same_key keys_tell (λ k. k) es key q v w was)
 
-abbrev pub insert_by : {A : Type 0} → (Cell → Cell → Ordering) → List (Vec Cell A × Total) → Vec Cell A → Total → List (Vec Cell A × Total)
-insert_by R es k v = insert_entry (λ x y. slice_cmp R x.items y.items) es k v
-
-abbrev pub Found : Type 0 → (Cell → Cell → Ordering) → Type 0
-Found A R = (es : List (Vec Cell A × Total)) (key : List Cell) (o : Option Total) → row_by R es key ≡ o → row_at es key ≡ o
-
-abbrev Written : Type 0 → (Cell → Cell → Ordering) → Type 0
-Written A R = (es news : List (Vec Cell A × Total)) (key : List Cell) (v w : Total) → row_at es key ≡ Some v → news ≡ set_by R es key w
-    → (q : List Cell) → row_at news q ≡ cond (is_same_key q key) (Some w) (row_at es q)
-
-abbrev Inserted : Type 0 → (Cell → Cell → Ordering) → Type 0
-Inserted A R = (es news : List (Vec Cell A × Total)) (k : Vec Cell A) (w : Total) → news ≡ insert_by R es k w
-    → (q : List Cell) → row_at news q ≡ cond (is_same_key q k.items) (Some w) (row_at es q)
-
-module _ {A : Type 0} where
-  written : Written A cell_cmp
-  written es news key v w was is q = ap (λ (fs : List (Vec Cell A × Total)). row_at fs q) is ∙ found_set is_same_key keys_tell (λ k. k.items) es key q v w was
-
-  inserted : Inserted A cell_cmp
-  inserted es news k w is q =
-      ap (λ (fs : List (Vec Cell A × Total)). row_at fs q) is
-      ∙ found_insert is_same_key keys_tell (λ j. j.items) (λ x y. key_cmp x.items y.items) (λ x y h. key_equal x.items y.items h) differ es k w q
-    where
-      differ : (x y : Vec Cell A) → key_cmp x.items y.items ≡ Greater → x.items ≢ y.items
-      differ x y g same =
-          let h : key_cmp x.items x.items ≡ Greater = subst (λ (ys : List Cell). key_cmp x.items ys ≡ Greater) (sym same) g in
-          let s : is_same_key x.items x.items ≡ true = itself is_same_key keys_tell x.items in
-          let e : is_same_key x.items x.items ≡ false = ap is_eq h in
-          cc (s, e)
-
-  pub row_found : Found A code_cmp
-  row_found = subst (Found A) code_order (λ es key o h. h)
-
-  row_written : Written A code_cmp
-  row_written = subst (Written A) code_order written
-
-  row_inserted : Inserted A code_cmp
-  row_inserted = subst (Inserted A) code_order inserted
-
-  pub added_found : (es news : List (Vec Cell A × Total)) (key : List Cell) (v w t : Total) → row_at es key ≡ Some v → news ≡ set_by code_cmp es key w → w ≡ sum_of v t
-      → (q : List Cell) → row_at news q ≡ joined (row_at es q) (part_at key t q)
-  added_found es news key v w t was is sum = row_joined (row_at es) (row_at news) key t w (joined_at (row_at es key) v t was ∙ ap (λ (x : Total). Some x) (sym sum)) (row_written es news key v w was is)
-
-  pub added_new : (es news : List (Vec Cell A × Total)) (k : Vec Cell A) (key : List Cell) (w t : Total) → k.items ≡ key → row_at es key ≡ None → news ≡ insert_by code_cmp es k w → w ≡ t
-      → (q : List Cell) → row_at news q ≡ joined (row_at es q) (part_at key t q)
-  added_new es news k key w t named was is same =
-      row_joined (row_at es) (row_at news) key t w (joined_new (row_at es key) t was ∙ ap (λ (x : Total). Some x) (sym same))
-      (subst (λ (ks : List Cell). (q : List Cell) → row_at news q ≡ cond (is_same_key q ks) (Some w) (row_at es q)) named (row_inserted es news k w is))
+pub added_new : (es news : RowEntries) (key : List Cell) (t : Total) → row_at es key ≡ None → news ≡ insert_entry key_cmp es key t
+    → (q : List Cell) → row_at news q ≡ joined (row_at es q) (part_at key t q)
+added_new es news key t was is =
+    row_joined (row_at es) (row_at news) key t t (joined_new (row_at es key) t was)
+    (λ q. ap (λ (fs : RowEntries). row_at fs q) is ∙ found_insert is_same_key keys_tell (λ k. k) key_cmp key_equal differ es key t q)
 
 -- at the key itself
 pub at_key : (old new : List Cell → Option Total) (key : List Cell) (t : Total) → ((q : List Cell) → new q ≡ joined (old q) (part_at key t q)) → new key ≡ joined (old key) (Some t)
@@ -101,15 +61,19 @@ fits_found old new v w t was is sum fits big =
 pub large_found : (old : Option Total) (v t : Total) → old ≡ Some v → IsLarge (sum_of v t) → IsLargeAt (joined old (Some t))
 large_found old v t was big = subst IsLargeAt (sym (joined_at old v t was)) big
 
+-- the totals of a new row
+pub fits_whole : (old new : Option Total) (t : Total) → old ≡ None → new ≡ joined old (Some t) → (IsLarge t → ⊥) → IsLargeAt new → ⊥
+fits_whole old new t was is small big = small (subst IsLargeAt (is ∙ joined_new old t was) big)
+
 small_total : (sums : List ℕ) (flows : ℕ) → ((k : ℕ) → get_or sums k 0 < 2 ^ 64) → flows < 2 ^ 64 → IsLarge (total sums flows) → ⊥
 small_total sums flows small room (inl l) = none_large sums small l
 small_total sums flows small room (inr l) = omega arith
 
 pub fits_new : (old new : Option Total) (sums : List ℕ) (flows : ℕ) → old ≡ None → new ≡ joined old (Some (total sums flows)) → ((k : ℕ) → get_or sums k 0 < 2 ^ 64) → flows < 2 ^ 64 → IsLargeAt new → ⊥
-fits_new old new sums flows was is small room big = small_total sums flows small room (subst IsLargeAt (is ∙ joined_new old (total sums flows) was) big)
+fits_new old new sums flows was is small room = fits_whole old new (total sums flows) was is (small_total sums flows small room)
 
 -- in the words of the code
-pub fits_added : {A E : Type 0} (r : Result (Unit {0}) E) (es news : List (Vec Cell A × Total)) (key : List Cell) (v w t : Total) → row_at es key ≡ Some v → news ≡ set_by code_cmp es key w
+pub fits_added : {E : Type 0} (r : Result (Unit {0}) E) (es news : RowEntries) (key : List Cell) (v w t : Total) → row_at es key ≡ Some v → news ≡ set_value (λ k. is_same_key key k) es w
     → OnOk r (w ≡ sum_of v t) → OnOk r (IsLarge w → ⊥) → OnOk r (IsLargeAt (row_at news key) → ⊥)
 fits_added (Err e) es news key v w t was is sum fits = tt
 fits_added (Ok x) es news key v w t was is sum fits =
@@ -128,74 +92,73 @@ joined_none : (o : Option Total) → o ≡ joined None o
 joined_none None = refl
 joined_none (Some t) = refl
 
-module _ {A : Type 0} where
-  abbrev pub rows_of : List (ℕ × BTreeMap (Vec Cell A) Total) → ℕ → Option (BTreeMap (Vec Cell A) Total)
-  rows_of cells k = lookup (λ interval. is_same_interval k interval) cells
+abbrev pub rows_of : CellEntries → ℕ → Option (BTreeMap (List Cell) Total)
+rows_of cells k = lookup (λ interval. is_same_interval k interval) cells
 
-  abbrev rows_at : Option (BTreeMap (Vec Cell A) Total) → List Cell → Option Total
-  rows_at o q = option_and_then (λ rows. row_at rows.entries q) o
+abbrev rows_at : Option (BTreeMap (List Cell) Total) → List Cell → Option Total
+rows_at o q = option_and_then (λ rows. row_at rows.entries q) o
 
-  cell_joined : (es news : List (ℕ × BTreeMap (Vec Cell A) Total)) (interval : ℕ) (rows : BTreeMap (Vec Cell A) Total) (part : List Cell → Option Total)
-      → ((k : ℕ) → rows_of news k ≡ cond (is_same_interval k interval) (Some rows) (rows_of es k))
-      → ((q : List Cell) → row_at rows.entries q ≡ joined (cell_at es interval q) (part q))
-      → (k : ℕ) (q : List Cell) → cell_at news k q ≡ joined (cell_at es k q) (cond (is_same_interval k interval) (part q) None)
-  cell_joined es news interval rows part step inner k q =
-      ap (λ (o : Option (BTreeMap (Vec Cell A) Total)). rows_at o q) (step k)
-      ∙ elim (intervals_tell k interval) [
-        | inl y ↦ rw y.0 (inner q ∙ ap (λ (j : ℕ). joined (cell_at es j q) (part q)) (sym y.1))
-        | inr n ↦ rw n.0 refl
-      ]
+cell_joined : (es news : CellEntries) (interval : ℕ) (rows : BTreeMap (List Cell) Total) (part : List Cell → Option Total)
+    → ((k : ℕ) → rows_of news k ≡ cond (is_same_interval k interval) (Some rows) (rows_of es k))
+    → ((q : List Cell) → row_at rows.entries q ≡ joined (cell_at es interval q) (part q))
+    → (k : ℕ) (q : List Cell) → cell_at news k q ≡ joined (cell_at es k q) (cond (is_same_interval k interval) (part q) None)
+cell_joined es news interval rows part step inner k q =
+    ap (λ (o : Option (BTreeMap (List Cell) Total)). rows_at o q) (step k)
+    ∙ elim (intervals_tell k interval) [
+      | inl y ↦ rw y.0 (inner q ∙ ap (λ (j : ℕ). joined (cell_at es j q) (part q)) (sym y.1))
+      | inr n ↦ rw n.0 refl
+    ]
 
-  rows_written : (es news : List (ℕ × BTreeMap (Vec Cell A) Total)) (interval : ℕ) (was rows : BTreeMap (Vec Cell A) Total)
-      → rows_of es interval ≡ Some was → news ≡ set_value (λ i. is_eq (nat_cmp interval i)) es rows
-      → (k : ℕ) → rows_of news k ≡ cond (is_same_interval k interval) (Some rows) (rows_of es k)
-  rows_written es news interval was rows there is k =
-      ap (λ (fs : List (ℕ × BTreeMap (Vec Cell A) Total)). rows_of fs k) is ∙ found_set is_same_interval intervals_tell (λ i. i) es interval k was rows there
+rows_written : (es news : CellEntries) (interval : ℕ) (was rows : BTreeMap (List Cell) Total)
+    → rows_of es interval ≡ Some was → news ≡ set_value (λ i. is_eq (nat_cmp interval i)) es rows
+    → (k : ℕ) → rows_of news k ≡ cond (is_same_interval k interval) (Some rows) (rows_of es k)
+rows_written es news interval was rows there is k =
+    ap (λ (fs : CellEntries). rows_of fs k) is ∙ found_set is_same_interval intervals_tell (λ i. i) es interval k was rows there
 
-  rows_inserted : (es news : List (ℕ × BTreeMap (Vec Cell A) Total)) (interval : ℕ) (rows : BTreeMap (Vec Cell A) Total) → news ≡ insert_entry nat_cmp es interval rows
-      → (k : ℕ) → rows_of news k ≡ cond (is_same_interval k interval) (Some rows) (rows_of es k)
-  rows_inserted es news interval rows is k =
-      ap (λ (fs : List (ℕ × BTreeMap (Vec Cell A) Total)). rows_of fs k) is
-      ∙ found_insert is_same_interval intervals_tell (λ i. i) nat_cmp exact_unsigned greater_apart es interval rows k
+rows_inserted : (es news : CellEntries) (interval : ℕ) (rows : BTreeMap (List Cell) Total) → news ≡ insert_entry nat_cmp es interval rows
+    → (k : ℕ) → rows_of news k ≡ cond (is_same_interval k interval) (Some rows) (rows_of es k)
+rows_inserted es news interval rows is k =
+    ap (λ (fs : CellEntries). rows_of fs k) is
+    ∙ found_insert is_same_interval intervals_tell (λ i. i) nat_cmp exact_unsigned greater_apart es interval rows k
 
-  -- rows that were there are changed
-  pub cell_found : (es news : List (ℕ × BTreeMap (Vec Cell A) Total)) (interval : ℕ) (was rows : BTreeMap (Vec Cell A) Total) (part : List Cell → Option Total)
-      → rows_of es interval ≡ Some was → news ≡ set_value (λ i. is_eq (nat_cmp interval i)) es rows
-      → ((q : List Cell) → row_at rows.entries q ≡ joined (row_at was.entries q) (part q))
-      → (k : ℕ) (q : List Cell) → cell_at news k q ≡ joined (cell_at es k q) (cond (is_same_interval k interval) (part q) None)
-  cell_found es news interval was rows part there is inner =
-      cell_joined es news interval rows part (rows_written es news interval was rows there is)
-      (λ q. inner q ∙ ap (λ (o : Option (BTreeMap (Vec Cell A) Total)). joined (rows_at o q) (part q)) (sym there))
+-- rows that were there are changed
+pub cell_found : (es news : CellEntries) (interval : ℕ) (was rows : BTreeMap (List Cell) Total) (part : List Cell → Option Total)
+    → rows_of es interval ≡ Some was → news ≡ set_value (λ i. is_eq (nat_cmp interval i)) es rows
+    → ((q : List Cell) → row_at rows.entries q ≡ joined (row_at was.entries q) (part q))
+    → (k : ℕ) (q : List Cell) → cell_at news k q ≡ joined (cell_at es k q) (cond (is_same_interval k interval) (part q) None)
+cell_found es news interval was rows part there is inner =
+    cell_joined es news interval rows part (rows_written es news interval was rows there is)
+    (λ q. inner q ∙ ap (λ (o : Option (BTreeMap (List Cell) Total)). joined (rows_at o q) (part q)) (sym there))
 
-  -- rows come where there were none
-  pub cell_new : (es news : List (ℕ × BTreeMap (Vec Cell A) Total)) (interval : ℕ) (rows : BTreeMap (Vec Cell A) Total) (part : List Cell → Option Total)
-      → rows_of es interval ≡ None → news ≡ insert_entry nat_cmp es interval rows
-      → ((q : List Cell) → row_at rows.entries q ≡ joined None (part q))
-      → (k : ℕ) (q : List Cell) → cell_at news k q ≡ joined (cell_at es k q) (cond (is_same_interval k interval) (part q) None)
-  cell_new es news interval rows part absent is inner =
-      cell_joined es news interval rows part (rows_inserted es news interval rows is)
-      (λ q. inner q ∙ ap (λ (o : Option (BTreeMap (Vec Cell A) Total)). joined (rows_at o q) (part q)) (sym absent))
+-- rows come where there were none
+pub cell_new : (es news : CellEntries) (interval : ℕ) (rows : BTreeMap (List Cell) Total) (part : List Cell → Option Total)
+    → rows_of es interval ≡ None → news ≡ insert_entry nat_cmp es interval rows
+    → ((q : List Cell) → row_at rows.entries q ≡ joined None (part q))
+    → (k : ℕ) (q : List Cell) → cell_at news k q ≡ joined (cell_at es k q) (cond (is_same_interval k interval) (part q) None)
+cell_new es news interval rows part absent is inner =
+    cell_joined es news interval rows part (rows_inserted es news interval rows is)
+    (λ q. inner q ∙ ap (λ (o : Option (BTreeMap (List Cell) Total)). joined (rows_at o q) (part q)) (sym absent))
 
-  -- an interval's rows begin empty
-  pub from_empty : (was : BTreeMap (Vec Cell A) Total) (rows : BTreeMap (Vec Cell A) Total) (part : List Cell → Option Total) → was.entries ≡ []
-      → ((q : List Cell) → row_at rows.entries q ≡ joined (row_at was.entries q) (part q)) → (q : List Cell) → row_at rows.entries q ≡ joined None (part q)
-  from_empty was rows part empty inner q = inner q ∙ ap (λ (fs : List (Vec Cell A × Total)). joined (row_at fs q) (part q)) empty
+-- an interval's rows begin empty
+pub from_empty : (was : BTreeMap (List Cell) Total) (rows : BTreeMap (List Cell) Total) (part : List Cell → Option Total) → was.entries ≡ []
+    → ((q : List Cell) → row_at rows.entries q ≡ joined (row_at was.entries q) (part q)) → (q : List Cell) → row_at rows.entries q ≡ joined None (part q)
+from_empty was rows part empty inner q = inner q ∙ ap (λ (fs : RowEntries). joined (row_at fs q) (part q)) empty
 
-  pub as_they_are : (rows : BTreeMap (Vec Cell A) Total) (q : List Cell) → row_at rows.entries q ≡ joined None (row_at rows.entries q)
-  as_they_are rows q = joined_none (row_at rows.entries q)
+pub as_they_are : (rows : BTreeMap (List Cell) Total) (q : List Cell) → row_at rows.entries q ≡ joined None (row_at rows.entries q)
+as_they_are rows q = joined_none (row_at rows.entries q)
 
-  -- the rows of the interval itself
-  pub at_found : (es : List (ℕ × BTreeMap (Vec Cell A) Total)) (interval : ℕ) (was : BTreeMap (Vec Cell A) Total) (q : List Cell) → rows_of es interval ≡ Some was → cell_at es interval q ≡ row_at was.entries q
-  at_found es interval was q there = ap (λ (o : Option (BTreeMap (Vec Cell A) Total)). rows_at o q) there
+-- the rows of the interval itself
+pub at_found : (es : CellEntries) (interval : ℕ) (was : BTreeMap (List Cell) Total) (q : List Cell) → rows_of es interval ≡ Some was → cell_at es interval q ≡ row_at was.entries q
+at_found es interval was q there = ap (λ (o : Option (BTreeMap (List Cell) Total)). rows_at o q) there
 
-  pub at_written : (es news : List (ℕ × BTreeMap (Vec Cell A) Total)) (interval : ℕ) (was rows : BTreeMap (Vec Cell A) Total) (q : List Cell)
-      → rows_of es interval ≡ Some was → news ≡ set_value (λ i. is_eq (nat_cmp interval i)) es rows → cell_at news interval q ≡ row_at rows.entries q
-  at_written es news interval was rows q there is =
-      ap (λ (o : Option (BTreeMap (Vec Cell A) Total)). rows_at o q) (rows_written es news interval was rows there is interval)
-      ∙ ap (λ (b : Bool). rows_at (cond b (Some rows) (rows_of es interval)) q) (itself is_same_interval intervals_tell interval)
+pub at_written : (es news : CellEntries) (interval : ℕ) (was rows : BTreeMap (List Cell) Total) (q : List Cell)
+    → rows_of es interval ≡ Some was → news ≡ set_value (λ i. is_eq (nat_cmp interval i)) es rows → cell_at news interval q ≡ row_at rows.entries q
+at_written es news interval was rows q there is =
+    ap (λ (o : Option (BTreeMap (List Cell) Total)). rows_at o q) (rows_written es news interval was rows there is interval)
+    ∙ ap (λ (b : Bool). rows_at (cond b (Some rows) (rows_of es interval)) q) (itself is_same_interval intervals_tell interval)
 
-  pub at_inserted : (es news : List (ℕ × BTreeMap (Vec Cell A) Total)) (interval : ℕ) (rows : BTreeMap (Vec Cell A) Total) (q : List Cell)
-      → news ≡ insert_entry nat_cmp es interval rows → cell_at news interval q ≡ row_at rows.entries q
-  at_inserted es news interval rows q is =
-      ap (λ (o : Option (BTreeMap (Vec Cell A) Total)). rows_at o q) (rows_inserted es news interval rows is interval)
-      ∙ ap (λ (b : Bool). rows_at (cond b (Some rows) (rows_of es interval)) q) (itself is_same_interval intervals_tell interval)
+pub at_inserted : (es news : CellEntries) (interval : ℕ) (rows : BTreeMap (List Cell) Total) (q : List Cell)
+    → news ≡ insert_entry nat_cmp es interval rows → cell_at news interval q ≡ row_at rows.entries q
+at_inserted es news interval rows q is =
+    ap (λ (o : Option (BTreeMap (List Cell) Total)). rows_at o q) (rows_inserted es news interval rows is interval)
+    ∙ ap (λ (b : Bool). rows_at (cond b (Some rows) (rows_of es interval)) q) (itself is_same_interval intervals_tell interval)

@@ -7,6 +7,7 @@ pub mod TableFaults
 pub mod Tables
 pub mod Totals
 pub mod Rows
+pub mod RowKeys
 pub mod Partials
 pub mod Flows
 pub mod Fitting

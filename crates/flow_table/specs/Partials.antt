@@ -1,7 +1,5 @@
 -- What a partial table stands for: a list of data records.
-use Rattle.std.specs.Prelude.{◌≡◌, ℕ, ◌+◌, ◌==◌, if◌then◌else◌, List, map, Option, Some, None, Result, Ok, Err, Vec}
-use Rattle.std.specs.BTreeMap.{BTreeMap}
-use Rattle.std.specs.Global.{Global}
+use Rattle.std.specs.Prelude.{◌≡◌, ℕ, ◌+◌, ◌==◌, if◌then◌else◌, List, map, Option, Some, None, Result, Ok, Err}
 use Rattle.ipfix_elements.specs.declared.cell.Cell.{Cell}
 use Rattle.ipfix_message.specs.declared.record.DataRecord.{DataRecord}
 use Rattle.flow_table.specs.declared.class.Class.{Class}
@@ -12,17 +10,13 @@ use Rattle.flow_table.specs.declared.tally.Tally.{Tally}
 use Rattle.flow_table.specs.declared.partial.Partial.{Partial}
 use Rattle.flow_table.specs.Fitting.{KeysFit}
 use Rattle.flow_table.specs.Plans.{PlanValue}
-use Rattle.flow_table.specs.Rows.{cell_at}
+use Rattle.flow_table.specs.Rows.{CellEntries, cell_at}
 use Rattle.flow_table.specs.Tables.{flows_at, sum_at, tally_of, IsTooLarge}
 use Rattle.flow_table.specs.Totals.{Total, total}
 
 -- the totals of the row of an interval and a key, where there is one
 unfoldable pub totals_at : PlanValue → List DataRecord → ℕ → List Cell → Option Total
 totals_at plan rs k key = if flows_at plan rs k key == 0 then None else Some (total (map (sum_at plan rs k key) plan.counters) (flows_at plan rs k key))
-
--- totals by interval and key
-abbrev pub CellEntries : Type 0
-CellEntries = List (ℕ × BTreeMap (Vec Cell Global) Total)
 
 -- the totals and the tally are those of the table of a list that isn't too large, and whose keys fit
 pub record Holds (plan : PlanValue) (cells : CellEntries) (tally : Tally) (rs : List DataRecord) : Type 0 where

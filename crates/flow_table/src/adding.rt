@@ -10,10 +10,10 @@ ghost use Rattle.flow_table.specs.declared.table_fault.TableFault.TheVariants.{S
 
 use crate::plan::Plan;
 use crate::reading::counter;
+use crate::row_key::RowKey;
 use crate::rows::{Cells, add_to_cell};
 use crate::sharing::{covered, share};
 use crate::table_fault::TableFault;
-use ipfix_elements::Cell;
 use ipfix_message::DataRecord;
 use ipfix_wire::ElementId;
 use std::alloc::{AllocError, Global};
@@ -61,7 +61,7 @@ fn add_at(
     start: u64,
     end: u64,
     interval: u64,
-    key: &[Cell],
+    key: &RowKey,
     counters: &[u64],
     shares: &mut Vec<u64>,
 ) -> Result<(), TableFault>
@@ -82,7 +82,7 @@ pub fn add_flow(
     cells: &mut Cells,
     start: u64,
     end: u64,
-    key: &[Cell],
+    key: &RowKey,
     counters: &[u64],
     shares: &mut Vec<u64>,
 ) -> Result<(), TableFault>

@@ -2,7 +2,8 @@
 
 ghost use Rattle.std.specs.Prelude.{◌≡◌, ◌++◌, ℕ, List, map, OnOk, IfOk, IfErr};
 ghost use Rattle.std.specs.List.Sorted.{IsStrictlySortedBy};
-ghost use Rattle.flow_table.specs.Finishing.{line_of, lines_at, lines_in, keys_in, AreAscending};
+ghost use Rattle.std.specs.BTreeMap.{keys};
+ghost use Rattle.flow_table.specs.Finishing.{line_of, lines_at, lines_in, AreAscending};
 ghost use Rattle.ipfix_elements.specs.declared.cell.Cell.{Cell};
 ghost use Rattle.ipfix_message.specs.declared.record.DataRecord.{DataRecord};
 ghost use Rattle.flow_table.specs.Plans.{PlanValue};
@@ -21,13 +22,13 @@ use std::alloc::{AllocError, Global};
 /// Appends the rows of an interval.
 fn push_rows(interval: u64, rows: Rows, out: &mut Vec<Row>) -> Result<(), AllocError>
     ensures lines { OnOk result (map line_of out.new.items ≡ map line_of out.old.items ++ lines_at interval rows.entries) }
-    ensures ascending { OnOk result (IsStrictlySortedBy key_cmp (keys_in rows)) }
+    ensures ascending { OnOk result (IsStrictlySortedBy key_cmp (keys rows)) }
 {
     for (key, totals) in rows {
         let Totals { sums, flows } = totals;
         out.push(Row {
             interval,
-            key,
+            key: key.into_cells(),
             sums,
             flows,
         })?;

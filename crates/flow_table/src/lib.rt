@@ -15,6 +15,7 @@ mod partial;
 mod plan;
 mod plan_fault;
 mod reading;
+mod row_key;
 mod rows;
 mod sharing;
 mod table;
@@ -36,6 +37,3 @@ pub use sharing::share;
 pub use table::{Row, Table};
 pub use table_fault::TableFault;
 pub use tally::Tally;
-
-#[cfg(test)]
-mod tests;

@@ -1,65 +1,73 @@
 //! Merging the totals of two lists of flows.
 
-ghost use Rattle.std.specs.Prelude.{◌≡◌, ◌++◌, ℕ, List, OnOk, IfErr};
+ghost use Rattle.std.specs.Prelude.{◌≡◌, ◌++◌, ℕ, List, Some, OnOk, IfErr};
 ghost use Rattle.std.specs.Result.{result_err};
 ghost use Rattle.ipfix_elements.specs.declared.cell.Cell.{Cell};
 ghost use Rattle.ipfix_message.specs.declared.record.DataRecord.{DataRecord};
 ghost use Rattle.flow_table.specs.Plans.{PlanValue};
 ghost use Rattle.flow_table.specs.Partials.{Holds, StandsBy};
-ghost use Rattle.flow_table.specs.Totals.{IsLargeAt, joined};
-ghost use Rattle.flow_table.specs.Rows.{cell_at, row_at, rows_part};
+ghost use Rattle.flow_table.specs.Totals.{IsLarge, IsLargeAt, joined};
+ghost use Rattle.flow_table.specs.Rows.{cell_at, part_at, row_at, rows_part};
 ghost use Rattle.flow_table.specs.declared.table_fault.TableFault.TheVariants.{SumTooLarge};
 
-use crate::rows::{Cells, Rows, add_to_row};
+use crate::row_key::RowKey;
+use crate::rows::{Cells, Rows};
 use crate::table_fault::TableFault;
 use crate::tally::{Tally, together};
-use std::alloc::Global;
+use crate::totals::Totals;
+
+/// Adds totals to those of a key, or makes a row of them.
+fn merge_row(rows: &mut Rows, key: RowKey, totals: Totals) -> Result<(), TableFault>
+    ensures ok { OnOk result ((q : List Cell) → row_at rows.new.entries q ≡ joined (row_at rows.old.entries q) (part_at key totals q)) }
+    ensures fits { OnOk result ((IsLarge totals → ⊥) → IsLargeAt (row_at rows.new.entries key) → ⊥) }
+    ensures large { IfErr result (λ e. e ≡ SumTooLarge → IsLargeAt (joined (row_at rows.old.entries key) (Some totals))) }
+{
+    if let Some(own) = rows.get_mut(&key) {
+        return own.add(&totals.sums, totals.flows);
+    }
+    rows.insert(key, totals)?;
+    Ok(())
+}
 
 /// Adds the totals of all keys of an interval.
-pub fn merge_rows(alloc: Global, rows: &mut Rows, others: Rows) -> Result<(), TableFault>
+fn merge_rows(rows: &mut Rows, others: Rows) -> Result<(), TableFault>
     ensures ok { OnOk result ((q : List Cell) → row_at rows.new.entries q ≡ joined (row_at rows.old.entries q) (row_at others.entries q)) }
     ensures fits { OnOk result ((q : List Cell) → (IsLargeAt (row_at rows.old.entries q) → ⊥) → (IsLargeAt (row_at others.entries q) → ⊥) → IsLargeAt (row_at rows.new.entries q) → ⊥) }
     ensures large { IfErr result (λ e. e ≡ SumTooLarge → (q : List Cell) × IsLargeAt (joined (row_at rows.old.entries q) (row_at others.entries q))) }
 {
     for (key, totals) in others {
-        add_to_row(alloc, rows, &key, &totals.sums, totals.flows)?;
+        merge_row(rows, key, totals)?;
     }
     Ok(())
 }
 
 /// Adds the totals of all keys to those of an interval.
-fn merge_interval(
-    alloc: Global,
-    cells: &mut Cells,
-    interval: u64,
-    others: Rows,
-) -> Result<(), TableFault>
+fn merge_interval(cells: &mut Cells, interval: u64, others: Rows) -> Result<(), TableFault>
     ensures ok { OnOk result ((k : ℕ) (q : List Cell) → cell_at cells.new.entries k q ≡ joined (cell_at cells.old.entries k q) (rows_part interval others.entries k q)) }
     ensures fits { OnOk result ((q : List Cell) → (IsLargeAt (cell_at cells.old.entries interval q) → ⊥) → (IsLargeAt (row_at others.entries q) → ⊥) → IsLargeAt (cell_at cells.new.entries interval q) → ⊥) }
     ensures large { IfErr result (λ e. e ≡ SumTooLarge → (q : List Cell) × IsLargeAt (joined (cell_at cells.old.entries interval q) (row_at others.entries q))) }
 {
     if let Some(rows) = cells.get_mut(&interval) {
-        return merge_rows(alloc, rows, others);
+        return merge_rows(rows, others);
     }
     cells.insert(interval, others)?;
     Ok(())
 }
 
 /// Adds the totals of all intervals and keys.
-pub fn merge_cells(alloc: Global, cells: &mut Cells, others: Cells) -> Result<(), TableFault>
+fn merge_cells(cells: &mut Cells, others: Cells) -> Result<(), TableFault>
     ensures ok { OnOk result ((k : ℕ) (q : List Cell) → cell_at cells.new.entries k q ≡ joined (cell_at cells.old.entries k q) (cell_at others.entries k q)) }
     ensures fits { OnOk result ((k : ℕ) (q : List Cell) → (IsLargeAt (cell_at cells.old.entries k q) → ⊥) → (IsLargeAt (cell_at others.entries k q) → ⊥) → IsLargeAt (cell_at cells.new.entries k q) → ⊥) }
     ensures large { IfErr result (λ e. e ≡ SumTooLarge → (k : ℕ) × (q : List Cell) × IsLargeAt (joined (cell_at cells.old.entries k q) (cell_at others.entries k q))) }
 {
     for (interval, rows) in others {
-        merge_interval(alloc, cells, interval, rows)?;
+        merge_interval(cells, interval, rows)?;
     }
     Ok(())
 }
 
 /// Adds the totals and the tally of other records.
 pub fn join(
-    alloc: Global,
     cells: &mut Cells,
     tally: &mut Tally,
     others: Cells,
@@ -69,5 +77,5 @@ pub fn join(
         → StandsBy (result_err result) plan cells.new.entries tally.new (rs ++ qs) }
 {
     *tally = together(tally, more)?;
-    merge_cells(alloc, cells, others)
+    merge_cells(cells, others)
 }

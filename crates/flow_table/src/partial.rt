@@ -12,6 +12,7 @@ use crate::class::Class;
 use crate::finishing::finish_table;
 use crate::merging::join;
 use crate::plan::Plan;
+use crate::row_key::RowKey;
 use crate::rows::Cells;
 use crate::table::Table;
 use crate::table_fault::TableFault;
@@ -52,7 +53,7 @@ impl Partial {
             tally: Tally::EMPTY,
             fault: None,
             room: Room {
-                key: Vec::new(alloc),
+                key: RowKey::new(alloc),
                 counters: Vec::new(alloc),
                 shares: Vec::new(alloc),
             },
@@ -111,7 +112,7 @@ impl Partial {
             self.fault = Some(fault);
             return Err(fault);
         }
-        let result = join(self.alloc, &mut self.cells, &mut self.tally, cells, &tally);
+        let result = join(&mut self.cells, &mut self.tally, cells, &tally);
         self.fault = result.err();
         result
     }

@@ -13,6 +13,7 @@ use crate::class::Class;
 use crate::key::Key;
 use crate::method::Method;
 use crate::plan::Plan;
+use crate::row_key::RowKey;
 use crate::times::{end_of, start_of};
 use ipfix_elements::{Cell, Kind, kind_of, mask, read_cell, read_number};
 use ipfix_message::DataRecord;
@@ -34,9 +35,9 @@ pub(crate) enum Reading {
 pub(crate) fn read(
     plan: &Plan,
     data_record: &DataRecord,
-    key: &mut Vec<Cell>,
+    key: &mut RowKey,
 ) -> Result<Reading, AllocError>
-    ensures { IfOk result (Reads plan.now data_record.now key.new.items) }
+    ensures { IfOk result (Reads plan.now data_record.now key.new) }
 {
     if data_record.scope > 0 {
         return Ok(Reading::Left(Class::Options));
@@ -76,13 +77,13 @@ fn read_key(
     keys: &[Key],
     kinds: &[Kind],
     data_record: &DataRecord,
-    cells: &mut Vec<Cell>,
+    cells: &mut RowKey,
 ) -> Result<bool, AllocError>
     requires prefixes { All HasPrefix keys.now }
     requires kinds { kinds.now ≡ kinds_of keys.now }
     requires comparable { AllPass is_key_kind kinds.now }
-    ensures cells { IfOk result (λ whole. cells_of keys.now data_record.now ≡ (if whole then Some cells.new.items else None)) }
-    ensures fits { IfOk result (λ whole. IsTrue whole → FitsKeys keys.now cells.new.items) }
+    ensures cells { IfOk result (λ whole. cells_of keys.now data_record.now ≡ (if whole then Some cells.new else None)) }
+    ensures fits { IfOk result (λ whole. IsTrue whole → FitsKeys keys.now cells.new) }
 {
     cells.clear();
     for i in 0..keys.len() {

@@ -6,14 +6,14 @@ ghost use Rattle.flow_table.specs.Totals.{IsLarge, IsLargeAt, joined, total};
 ghost use Rattle.flow_table.specs.Rows.{row_at, cell_at, part_at, cell_part};
 ghost use Rattle.flow_table.specs.declared.table_fault.TableFault.TheVariants.{SumTooLarge};
 
+use crate::row_key::RowKey;
 use crate::table_fault::TableFault;
 use crate::totals::Totals;
-use ipfix_elements::Cell;
 use std::alloc::Global;
 use std::collections::BTreeMap;
 
 /// The totals of an interval by key.
-pub type Rows = BTreeMap<Vec<Cell>, Totals>;
+pub type Rows = BTreeMap<RowKey, Totals>;
 
 /// The rows of all intervals.
 pub type Cells = BTreeMap<u64, Rows>;
@@ -22,7 +22,7 @@ pub type Cells = BTreeMap<u64, Rows>;
 pub fn add_to_row(
     alloc: Global,
     rows: &mut Rows,
-    key: &[Cell],
+    key: &RowKey,
     sums: &[u64],
     flows: u64,
 ) -> Result<(), TableFault>
@@ -37,7 +37,7 @@ pub fn add_to_row(
         sums: sums.to_vec(alloc)?,
         flows,
     };
-    rows.insert(key.to_vec(alloc)?, totals)?;
+    rows.insert(key.copy(alloc)?, totals)?;
     Ok(())
 }
 
@@ -46,7 +46,7 @@ pub fn add_to_cell(
     alloc: Global,
     cells: &mut Cells,
     interval: u64,
-    key: &[Cell],
+    key: &RowKey,
     sums: &[u64],
     flows: u64,
 ) -> Result<(), TableFault>

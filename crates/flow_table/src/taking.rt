@@ -14,17 +14,17 @@ use crate::adding::{add_flow, read_counters};
 use crate::class::Class;
 use crate::plan::Plan;
 use crate::reading::{Reading, read};
+use crate::row_key::RowKey;
 use crate::rows::Cells;
 use crate::table_fault::TableFault;
 use crate::tally::{Tally, one, together};
-use ipfix_elements::Cell;
 use ipfix_message::DataRecord;
 use std::alloc::Global;
 
 /// Room for what is read of a record, so that nothing is allocated for each of them.
 #[derive(Drop)]
 pub struct Room {
-    pub key: Vec<Cell>,
+    pub key: RowKey,
     pub counters: Vec<u64>,
     pub shares: Vec<u64>,
 }
@@ -39,7 +39,7 @@ fn take_flow(
     start: u64,
     end: u64,
 ) -> Result<(), TableFault>
-    requires { IsUsed plan.now data_record.now start end room.old.key.items }
+    requires { IsUsed plan.now data_record.now start end room.old.key }
     ensures ok { OnOk result ((k : ℕ) (q : List Cell) → cell_at cells.new.entries k q ≡ joined (cell_at cells.old.entries k q) (totals_at plan.now (data_record.now ∷ []) k q)) }
     ensures fits { OnOk result ((k : ℕ) (q : List Cell) → (IsLargeAt (cell_at cells.old.entries k q) → ⊥) → IsLargeAt (cell_at cells.new.entries k q) → ⊥) }
     ensures large { IfErr result (λ e. e ≡ SumTooLarge → (k : ℕ) × (q : List Cell) × IsLargeAt (joined (cell_at cells.old.entries k q) (totals_at plan.now (data_record.now ∷ []) k q))) }

@@ -1,6 +1,7 @@
 use Rattle.std.proofs.Common.{◌≡◌, ◌++◌, map, All}
 use Rattle.std.specs.List.Sorted.{IsStrictlySortedBy}
-use Rattle.flow_table.specs.Finishing.{line_of, lines_in, keys_in}
+use Rattle.std.specs.BTreeMap.{keys}
+use Rattle.flow_table.specs.Finishing.{line_of, lines_in}
 use Rattle.flow_table.specs.Tables.{key_cmp}
 use Rattle.flow_table.proofs.finishing.into_rows.Given as goal
 
@@ -8,5 +9,5 @@ use Rattle.flow_table.proofs.finishing.into_rows.Given as goal
 abbrev pub invariant-loop-interval : goal.invariant-loop-interval
 invariant-loop-interval l = record {
   lines : map line_of l.out.items ++ lines_in l.interval-iterator ≡ lines_in l.fn.cells.entries;
-  keys : All (λ e. IsStrictlySortedBy key_cmp (keys_in e.1)) l.interval-iterator → All (λ e. IsStrictlySortedBy key_cmp (keys_in e.1)) l.fn.cells.entries;
+  keys : All (λ e. IsStrictlySortedBy key_cmp (keys e.1)) l.interval-iterator → All (λ e. IsStrictlySortedBy key_cmp (keys e.1)) l.fn.cells.entries;
 }

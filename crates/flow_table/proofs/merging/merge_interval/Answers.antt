@@ -1,4 +1,4 @@
-use Rattle.std.proofs.Common.{ℕ, Vec, Global, Option, sym, ap, ◌∙◌, subst, nat_cmp}
+use Rattle.std.proofs.Common.{ℕ, List, Option, sym, ap, ◌∙◌, subst, nat_cmp}
 use Rattle.std.specs.BTreeMap.{BTreeMap, insert_entry}
 use Rattle.std.specs.Option.{option_copied_mut}
 use Rattle.std.proofs.lemmas.Result.{on_ok_weaker, IfErr-weaker}
@@ -30,10 +30,10 @@ returns-in-Some-clause-large c =
 pub returns-clause-ok : goal.returns-clause-ok
 returns-clause-ok c =
     let absent = sym c.get_mut.ensures.value ∙ ap option_copied_mut c.in_default.is in
-    let is = c.in_ok-insert.ensures.entries ∙ ap (λ (m : BTreeMap ℕ (BTreeMap (Vec Cell Global) Total)). insert_entry nat_cmp m.entries c.args.interval c.args.others) c.get_mut.follows.holds-at-none in
+    let is = c.in_ok-insert.ensures.entries ∙ ap (λ (m : BTreeMap ℕ (BTreeMap (List Cell) Total)). insert_entry nat_cmp m.entries c.args.interval c.args.others) c.get_mut.follows.holds-at-none in
     cell_new c.args.cells.now.entries c.insert.new.self.entries c.args.interval c.args.others (row_at c.args.others.entries) absent is (as_they_are c.args.others)
 
 pub returns-clause-fits : goal.returns-clause-fits
 returns-clause-fits c =
-    let is = c.in_ok-insert.ensures.entries ∙ ap (λ (m : BTreeMap ℕ (BTreeMap (Vec Cell Global) Total)). insert_entry nat_cmp m.entries c.args.interval c.args.others) c.get_mut.follows.holds-at-none in
+    let is = c.in_ok-insert.ensures.entries ∙ ap (λ (m : BTreeMap ℕ (BTreeMap (List Cell) Total)). insert_entry nat_cmp m.entries c.args.interval c.args.others) c.get_mut.follows.holds-at-none in
     λ q before apart big. apart (subst IsLargeAt (at_inserted c.args.cells.now.entries c.insert.new.self.entries c.args.interval c.args.others q is) big)

@@ -1,5 +1,5 @@
 use Rattle.std.proofs.Common.{sym, ap, ◌∙◌}
-use Rattle.std.proofs.Common.{ℕ, Vec, Global, nat_cmp}
+use Rattle.std.proofs.Common.{ℕ, List, nat_cmp}
 use Rattle.std.specs.BTreeMap.{BTreeMap, insert_entry}
 use Rattle.ipfix_elements.specs.declared.cell.Cell.{Cell}
 use Rattle.std.specs.Option.{option_copied_mut}
@@ -19,6 +19,6 @@ pub returns-clause-ok : goal.returns-clause-ok
 returns-clause-ok c =
     let t = total c.args.sums.now c.args.flows in
     let absent = sym c.get_mut.ensures.value ∙ ap option_copied_mut c.in_default.is in
-    let is = c.in_ok-insert.ensures.entries ∙ ap (λ (m : BTreeMap ℕ (BTreeMap (Vec Cell Global) Total)). insert_entry nat_cmp m.entries c.args.interval c.add_to_row-2.new.rows) c.get_mut.follows.holds-at-none in
+    let is = c.in_ok-insert.ensures.entries ∙ ap (λ (m : BTreeMap ℕ (BTreeMap (List Cell) Total)). insert_entry nat_cmp m.entries c.args.interval c.add_to_row-2.new.rows) c.get_mut.follows.holds-at-none in
     let inner = from_empty c.new-rows.result c.add_to_row-2.new.rows (part_at c.args.key.now t) c.new-rows.ensures.empty c.in_ok-add_to_row.ensures.ok in
     cell_new c.args.cells.now.entries c.insert.new.self.entries c.args.interval c.add_to_row-2.new.rows (part_at c.args.key.now t) absent is inner

@@ -1,4 +1,4 @@
-use Rattle.std.proofs.Common.{List, map, ap, ◌∙◌}
+use Rattle.std.proofs.Common.{List, map, refl, ap, ◌∙◌}
 use Rattle.ipfix_wire.specs.declared.specifier.ElementId.{ElementId}
 use Rattle.flow_table.specs.Reading.{counter_of}
 use Rattle.flow_table.specs.Rows.{cell_at}
@@ -7,10 +7,10 @@ use Rattle.flow_table.proofs.taking.take_flow.Goals as goal
 
 pub returns-clause-ok : goal.returns-clause-ok
 returns-clause-ok c =
-    flow_ok c.args.plan.now c.args.data_record.now c.args.start c.args.end c.args.room.now.key.items c.deref.result.now c.deref-2.result.now (cell_at c.args.cells.now.entries) (cell_at c.add_flow.new.cells.entries) c.add_flow.result
-    c.requires c.deref.ensures.value (c.deref-2.ensures.value ∙ c.in_ok-read_counters.ensures ∙ ap (λ (cs : List ElementId). map (λ e. counter_of e c.args.data_record.now) cs) c.counters.ensures.value) c.add_flow.ensures.ok
+    flow_ok c.args.plan.now c.args.data_record.now c.args.start c.args.end c.args.room.now.key c.args.room.now.key c.deref.result.now (cell_at c.args.cells.now.entries) (cell_at c.add_flow.new.cells.entries) c.add_flow.result
+    c.requires refl (c.deref.ensures.value ∙ c.in_ok-read_counters.ensures ∙ ap (λ (cs : List ElementId). map (λ e. counter_of e c.args.data_record.now) cs) c.counters.ensures.value) c.add_flow.ensures.ok
 
 pub returns-clause-large : goal.returns-clause-large
 returns-clause-large c =
-    flow_large c.args.plan.now c.args.data_record.now c.args.start c.args.end c.args.room.now.key.items c.deref.result.now c.deref-2.result.now (cell_at c.args.cells.now.entries) c.add_flow.result
-    c.requires c.deref.ensures.value (c.deref-2.ensures.value ∙ c.in_ok-read_counters.ensures ∙ ap (λ (cs : List ElementId). map (λ e. counter_of e c.args.data_record.now) cs) c.counters.ensures.value) c.add_flow.ensures.large
+    flow_large c.args.plan.now c.args.data_record.now c.args.start c.args.end c.args.room.now.key c.args.room.now.key c.deref.result.now (cell_at c.args.cells.now.entries) c.add_flow.result
+    c.requires refl (c.deref.ensures.value ∙ c.in_ok-read_counters.ensures ∙ ap (λ (cs : List ElementId). map (λ e. counter_of e c.args.data_record.now) cs) c.counters.ensures.value) c.add_flow.ensures.large

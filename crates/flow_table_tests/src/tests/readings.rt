@@ -1,11 +1,9 @@
 //! Data records read under a plan: worked examples of classes, times, keys and counters.
 
-use crate::reading::{Reading, counter, read};
-use crate::times::{end_of, start_of};
-use crate::{Class, Key, Method, Plan};
+use super::records::{by_source, class_of, iana, record_of, table_of_one};
+use flow_table::{Class, Method, Plan};
 use ipfix_elements::Cell;
-use ipfix_message::{DataRecord, Fields};
-use ipfix_wire::ElementId;
+use ipfix_message::DataRecord;
 use std::alloc::Global;
 use std::test::Fail;
 
@@ -31,48 +29,6 @@ const TWO_MINUTES: &[u8] = &[0, 0, 0, 0, 0, 1, 212, 192];
 const BEFORE_MINUTE: &[u8] = &[0, 0, 0, 0, 0, 0, 230, 120];
 
 const AFTER_MINUTE: &[u8] = &[0, 0, 0, 0, 0, 0, 238, 72];
-
-fn iana(number: u16) -> ElementId {
-    ElementId { pen: 0, number }
-}
-
-/// A record with these fields: numbers of IANA's elements, and the octets.
-fn record_of(alloc: Global, scope: u16, fields: &[(u16, &[u8])]) -> Result<DataRecord, Fail> {
-    let mut kept = Fields::new(alloc);
-    for (number, octets) in fields {
-        u16::try_from(octets.len())?;
-        kept.push(iana(*number), octets)?;
-    }
-    Ok(DataRecord {
-        domain: 1,
-        export_time: 1_700_000_000,
-        template: 256,
-        scope,
-        fields: kept,
-    })
-}
-
-/// A plan with intervals of a minute, by source address.
-fn by_source(
-    alloc: Global,
-    method: Method,
-    prefix: Option<u8>,
-    max_spread: u32,
-) -> Result<Plan, Fail> {
-    let key = Key {
-        element: iana(8),
-        prefix,
-    };
-    Ok(Plan::new(alloc, 60_000, method, &[key], &[iana(1)], max_spread)?)
-}
-
-fn class_of(alloc: Global, plan: &Plan, data_record: &DataRecord) -> Result<Class, Fail> {
-    let mut key = Vec::new(alloc);
-    match read(plan, data_record, &mut key)? {
-        Reading::Left(class) => Ok(class),
-        Reading::Used { .. } => Ok(Class::Used),
-    }
-}
 
 #[test]
 fn record_classes(rt: HostRuntime) -> Result<(), Fail> {
@@ -169,15 +125,27 @@ fn too_long(rt: HostRuntime) -> Result<(), Fail> {
             "at {max_spread}"
         );
     }
+    Ok(())
+}
+
+#[test]
+fn unkeyed_before_too_long(rt: HostRuntime) -> Result<(), Fail> {
     let plan = by_source(rt.alloc(), Method::Uniform, None, 2)?;
     let unkeyed = record_of(rt.alloc(), 0, &[(152, ZERO), (153, TWO_MINUTES)])?;
     assert_eq!(rt; class_of(rt.alloc(), &plan, &unkeyed)?, Class::Unkeyed);
     Ok(())
 }
 
+/// The start, or the end, in milliseconds: the interval of a table whose intervals have one.
+fn time_of(alloc: Global, method: Method, data_record: &DataRecord) -> Result<Option<u64>, Fail> {
+    let plan = Plan::new(alloc, 1, method, &[], &[iana(1)], 4096)?;
+    let table = table_of_one(alloc, &plan, data_record)?;
+    Ok(table.rows.first().map(|row| row.interval))
+}
+
 #[test]
 fn times(rt: HostRuntime) -> Result<(), Fail> {
-    let cases: [(&str, &[(u16, &[u8])], Option<u64>, Option<u64>); 5] = [
+    let cases: [(&str, &[(u16, &[u8])], Option<u64>, Option<u64>); 6] = [
         (
             "milliseconds before seconds",
             &[
@@ -211,18 +179,32 @@ fn times(rt: HostRuntime) -> Result<(), Fail> {
             &[
                 (152, ONE_SECOND),
                 (152, THREE_SECONDS),
-                (153, TOO_LATE),
+                (153, THREE_SECONDS),
                 (153, TWO_SECONDS),
             ],
             Some(1000),
+            Some(3000),
+        ),
+        (
+            "repeated, and the first too late",
+            &[(152, ONE_SECOND), (153, TOO_LATE), (153, TWO_SECONDS)],
+            None,
             None,
         ),
         ("none", &[(8, ADDRESS)], None, None),
     ];
     for (name, fields, start, end) in cases {
         let data_record = record_of(rt.alloc(), 0, fields)?;
-        assert_eq!(rt; start_of(&data_record), start, "start, {name}");
-        assert_eq!(rt; end_of(&data_record), end, "end, {name}");
+        assert_eq!(rt;
+            time_of(rt.alloc(), Method::Start, &data_record)?,
+            start,
+            "start, {name}"
+        );
+        assert_eq!(rt;
+            time_of(rt.alloc(), Method::End, &data_record)?,
+            end,
+            "end, {name}"
+        );
     }
     Ok(())
 }
@@ -246,30 +228,39 @@ fn keys(rt: HostRuntime) -> Result<(), Fail> {
         (Some(24), [192, 0, 2, 0]),
         (Some(0), [0, 0, 0, 0]),
     ];
-    let mut key = Vec::new(rt.alloc());
     for (prefix, address) in cases {
         let plan = by_source(rt.alloc(), Method::Mid, prefix, 4096)?;
-        let Reading::Used { start, end } = read(&plan, &flow, &mut key)? else {
-            return Err("a used record".into());
-        };
-        assert_eq!(rt; (start, end), (59_000, 61_000));
-        assert_eq!(rt; key.as_slice(), [Cell::Ipv4(address)].as_slice());
+        let table = table_of_one(rt.alloc(), &plan, &flow)?;
+        assert_eq!(rt; table.rows.len(), 1);
+        let row = &table.rows[0];
+        assert_eq!(rt; row.interval, 1);
+        assert_eq!(rt; row.key.as_slice(), [Cell::Ipv4(address)].as_slice());
     }
     Ok(())
+}
+
+/// The sum of the octets of one record.
+fn sum_of(alloc: Global, data_record: &DataRecord) -> Result<Option<u64>, Fail> {
+    let plan = Plan::new(alloc, 60_000, Method::Start, &[], &[iana(1)], 4096)?;
+    let table = table_of_one(alloc, &plan, data_record)?;
+    Ok(table.rows.first().and_then(|row| row.sums.first().copied()))
 }
 
 #[test]
 fn counters(rt: HostRuntime) -> Result<(), Fail> {
     let cases: [(&[(u16, &[u8])], u64); 5] = [
-        (&[(1, &[0, 0, 5, 220])], 1500),
-        (&[(1, &[9]), (1, &[7])], 9),
-        (&[(1, &[255; 8])], 18_446_744_073_709_551_615),
-        (&[(1, &[0; 9]), (1, &[7])], 0),
-        (&[(2, &[7])], 0),
+        (&[(152, ZERO), (153, ZERO), (1, &[0, 0, 5, 220])], 1500),
+        (&[(152, ZERO), (153, ZERO), (1, &[9]), (1, &[7])], 9),
+        (
+            &[(152, ZERO), (153, ZERO), (1, &[255; 8])],
+            18_446_744_073_709_551_615,
+        ),
+        (&[(152, ZERO), (153, ZERO), (1, &[0; 9]), (1, &[7])], 0),
+        (&[(152, ZERO), (153, ZERO), (2, &[7])], 0),
     ];
     for (fields, value) in cases {
         let data_record = record_of(rt.alloc(), 0, fields)?;
-        assert_eq!(rt; counter(&data_record, iana(1)), value);
+        assert_eq!(rt; sum_of(rt.alloc(), &data_record)?, Some(value));
     }
     Ok(())
 }

@@ -1,11 +1,8 @@
-use crate::{Key, Method, Plan, PlanFault, share};
+use super::records::iana;
+use flow_table::{Key, Method, Plan, PlanFault, share};
 use ipfix_wire::ElementId;
 use std::alloc::Global;
 use std::test::Fail;
-
-fn iana(number: u16) -> ElementId {
-    ElementId { pen: 0, number }
-}
 
 fn key(number: u16) -> Key {
     Key {
@@ -62,9 +59,7 @@ fn compares_by_value(rt: HostRuntime) -> Result<(), Fail> {
 }
 
 #[test]
-fn plan_faults(rt: HostRuntime) {
-    let alloc = rt.alloc();
-    let counters = [iana(1)];
+fn lengths_and_spreads(rt: HostRuntime) {
     for (length, max_spread, want) in [
         (0, 4096, Some(PlanFault::Length)),
         (60_000, 0, Some(PlanFault::Spread)),
@@ -73,118 +68,86 @@ fn plan_faults(rt: HostRuntime) {
         (1, 1, None),
         (u32::MAX, 4096, None),
     ] {
+        let keys = [key(8)];
         let plan = Plan::new(
-            alloc,
+            rt.alloc(),
             length,
             Method::Start,
-            &[key(8)],
-            &counters,
+            &keys,
+            &[iana(1)],
             max_spread,
         );
         assert_eq!(rt; plan.err(), want, "at {length} and {max_spread}");
     }
-    let nine = [4, 5, 6, 7, 8, 9, 10, 11, 12].map(key);
-    assert_eq!(rt; fault(alloc, &nine, &counters), Some(PlanFault::KeyCount));
-    assert_eq!(rt;
-        fault(alloc, &[key(152)], &counters),
-        Some(PlanFault::KeyKind)
-    );
-    let enterprise = Key {
-        element: ElementId {
-            pen: 32473,
-            number: 8,
-        },
+}
+
+// A key of this number of an enterprise.
+fn enterprise_key(number: u16) -> Key {
+    Key {
+        element: ElementId { pen: 32473, number },
         prefix: None,
-    };
-    assert_eq!(rt;
-        fault(alloc, &[enterprise], &counters),
-        Some(PlanFault::KeyKind)
-    );
-    assert_eq!(rt; fault(alloc, &[key(8)], &[]), Some(PlanFault::CounterCount));
-    let five = [1, 2, 3, 23, 24].map(iana);
-    assert_eq!(rt;
-        fault(alloc, &[key(8)], &five),
-        Some(PlanFault::CounterCount)
-    );
-    assert_eq!(rt;
-        fault(alloc, &[key(8)], &[iana(4)]),
-        Some(PlanFault::CounterKind)
-    );
-    assert_eq!(rt;
-        fault(alloc, &[key(1)], &counters),
-        Some(PlanFault::Repeated)
-    );
-    assert_eq!(rt;
-        fault(alloc, &[key(8), key(8)], &counters),
-        Some(PlanFault::Repeated)
-    );
-    assert_eq!(rt;
-        fault(alloc, &[key(8)], &[iana(1), iana(1)]),
-        Some(PlanFault::Repeated)
-    );
-    assert_eq!(rt; fault(alloc, &[], &counters), None);
-    assert_eq!(rt;
-        fault(
-            alloc,
-            &[4, 5, 6, 7, 8, 9, 10, 11].map(key),
-            &[1, 2, 3, 23].map(iana)
-        ),
-        None
-    );
-    assert_eq!(rt;
-        fault(alloc, &[27, 56].map(key), &[24, 132, 133].map(iana)),
-        None
-    );
+    }
 }
 
 #[test]
-fn prefix_faults(rt: HostRuntime) {
-    let alloc = rt.alloc();
-    let counters = [iana(1)];
-    assert_eq!(rt;
-        fault(alloc, &[prefix_key(8, 33)], &counters),
-        Some(PlanFault::Prefix)
-    );
-    assert_eq!(rt;
-        fault(alloc, &[prefix_key(7, 8)], &counters),
-        Some(PlanFault::Prefix)
-    );
-    // A prefix comes behind all kinds, and before the counters.
-    assert_eq!(rt;
-        fault(alloc, &[prefix_key(8, 33), key(152)], &counters),
-        Some(PlanFault::KeyKind)
-    );
-    assert_eq!(rt;
-        fault(alloc, &[prefix_key(8, 33)], &[]),
-        Some(PlanFault::Prefix)
-    );
-    assert_eq!(rt;
-        fault(alloc, &[prefix_key(8, 24), prefix_key(8, 16)], &counters),
-        Some(PlanFault::Repeated)
-    );
-    assert_eq!(rt;
-        fault(alloc, &[prefix_key(8, 24), key(44)], &counters),
-        Some(PlanFault::Repeated)
-    );
-    assert_eq!(rt;
-        fault(alloc, &[prefix_key(12, 24), key(45)], &counters),
-        Some(PlanFault::Repeated)
-    );
-    assert_eq!(rt;
-        fault(alloc, &[prefix_key(8, 24), key(45)], &counters),
-        None
-    );
-    assert_eq!(rt; fault(alloc, &[key(8), key(44)], &counters), None);
-    for bits in [0, 24, 25, 32] {
-        assert_eq!(rt;
-            fault(
-                alloc,
-                &[prefix_key(8, bits), prefix_key(12, bits)],
-                &counters
-            ),
-            None
-        );
+fn key_faults(rt: HostRuntime) {
+    let nine = [4, 5, 6, 7, 8, 9, 10, 11, 12].map(key);
+    let cases: [(&[Key], Option<PlanFault>); 9] = [
+        (&nine, Some(PlanFault::KeyCount)),
+        (&nine[..8], None),
+        (&[key(152)], Some(PlanFault::KeyKind)),
+        (&[enterprise_key(8)], Some(PlanFault::KeyKind)),
+        (&[key(1)], Some(PlanFault::Repeated)),
+        (&[key(8), key(8)], Some(PlanFault::Repeated)),
+        (&[key(8), key(44)], None),
+        (&[key(27), key(56)], None),
+        (&[], None),
+    ];
+    for (keys, want) in cases {
+        assert_eq!(rt; fault(rt.alloc(), keys, &[iana(1)]), want);
     }
+}
+
+#[test]
+fn counter_faults(rt: HostRuntime) {
+    let five = [1, 2, 3, 23, 24].map(iana);
+    let cases: [(&[ElementId], Option<PlanFault>); 6] = [
+        (&[], Some(PlanFault::CounterCount)),
+        (&five, Some(PlanFault::CounterCount)),
+        (&five[..4], None),
+        (&[iana(4)], Some(PlanFault::CounterKind)),
+        (&[iana(1), iana(1)], Some(PlanFault::Repeated)),
+        (&[iana(24), iana(132), iana(133)], None),
+    ];
+    for (counters, want) in cases {
+        assert_eq!(rt; fault(rt.alloc(), &[key(8)], counters), want);
+    }
+}
+
+// A prefix comes behind all kinds, and before the counters.
+#[test]
+fn prefix_faults(rt: HostRuntime) {
+    let cases: [(&[Key], Option<PlanFault>); 11] = [
+        (&[prefix_key(8, 33)], Some(PlanFault::Prefix)),
+        (&[prefix_key(7, 8)], Some(PlanFault::Prefix)),
+        (&[prefix_key(8, 33), key(152)], Some(PlanFault::KeyKind)),
+        (
+            &[prefix_key(8, 24), prefix_key(8, 16)],
+            Some(PlanFault::Repeated),
+        ),
+        (&[prefix_key(8, 24), key(44)], Some(PlanFault::Repeated)),
+        (&[prefix_key(12, 24), key(45)], Some(PlanFault::Repeated)),
+        (&[prefix_key(8, 24), key(45)], None),
+        (&[prefix_key(8, 0), prefix_key(12, 0)], None),
+        (&[prefix_key(8, 24), prefix_key(12, 24)], None),
+        (&[prefix_key(8, 25), prefix_key(12, 25)], None),
+        (&[prefix_key(8, 32), prefix_key(12, 32)], None),
+    ];
+    for (keys, want) in cases {
+        assert_eq!(rt; fault(rt.alloc(), keys, &[iana(1)]), want);
+    }
+    let prefix = Some(PlanFault::Prefix);
+    assert_eq!(rt; fault(rt.alloc(), &[prefix_key(8, 33)], &[]), prefix);
 }
 
 #[test]

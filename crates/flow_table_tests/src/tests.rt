@@ -1,3 +1,4 @@
 mod plans;
 mod readings;
+mod records;
 mod tables;
