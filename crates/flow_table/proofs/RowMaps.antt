@@ -37,17 +37,20 @@ differ x y greater same =
     let e : is_same_key x x ≡ false = ap is_eq h in
     cc (s, e)
 
-pub added_found : (es news : RowEntries) (key : List Cell) (v w t : Total) → row_at es key ≡ Some v → news ≡ set_value (λ k. is_same_key key k) es w → w ≡ sum_of v t
+-- what an entry leaves behind once w was written
+written : (es news : RowEntries) (key : List Cell) (t w : Total) → joined (row_at es key) (Some t) ≡ Some w → news ≡ insert_entry key_cmp es key w
     → (q : List Cell) → row_at news q ≡ joined (row_at es q) (part_at key t q)
-added_found es news key v w t was is sum =
-    row_joined (row_at es) (row_at news) key t w (joined_at (row_at es key) v t was ∙ ap (λ (x : Total). Some x) (sym sum))
-    (λ q. ap (λ (fs : RowEntries). row_at fs q) is ∙ found_set is_same_key keys_tell (λ k. k) es key q v w was)
+written es news key t w at is =
+    row_joined (row_at es) (row_at news) key t w at
+    (λ q. ap (λ (fs : RowEntries). row_at fs q) is ∙ found_insert is_same_key keys_tell (λ k. k) key_cmp key_equal differ es key w q)
+
+pub added_found : (es news : RowEntries) (key : List Cell) (v w t : Total) → row_at es key ≡ Some v → news ≡ insert_entry key_cmp es key w → w ≡ sum_of v t
+    → (q : List Cell) → row_at news q ≡ joined (row_at es q) (part_at key t q)
+added_found es news key v w t was is sum = written es news key t w (joined_at (row_at es key) v t was ∙ ap (λ (x : Total). Some x) (sym sum)) is
 
 pub added_new : (es news : RowEntries) (key : List Cell) (t : Total) → row_at es key ≡ None → news ≡ insert_entry key_cmp es key t
     → (q : List Cell) → row_at news q ≡ joined (row_at es q) (part_at key t q)
-added_new es news key t was is =
-    row_joined (row_at es) (row_at news) key t t (joined_new (row_at es key) t was)
-    (λ q. ap (λ (fs : RowEntries). row_at fs q) is ∙ found_insert is_same_key keys_tell (λ k. k) key_cmp key_equal differ es key t q)
+added_new es news key t was is = written es news key t t (joined_new (row_at es key) t was) is
 
 -- at the key itself
 pub at_key : (old new : List Cell → Option Total) (key : List Cell) (t : Total) → ((q : List Cell) → new q ≡ joined (old q) (part_at key t q)) → new key ≡ joined (old key) (Some t)
@@ -73,7 +76,7 @@ pub fits_new : (old new : Option Total) (sums : List ℕ) (flows : ℕ) → old 
 fits_new old new sums flows was is small room = fits_whole old new (total sums flows) was is (small_total sums flows small room)
 
 -- in the words of the code
-pub fits_added : {E : Type 0} (r : Result (Unit {0}) E) (es news : RowEntries) (key : List Cell) (v w t : Total) → row_at es key ≡ Some v → news ≡ set_value (λ k. is_same_key key k) es w
+pub fits_added : {E : Type 0} (r : Result (Unit {0}) E) (es news : RowEntries) (key : List Cell) (v w t : Total) → row_at es key ≡ Some v → news ≡ insert_entry key_cmp es key w
     → OnOk r (w ≡ sum_of v t) → OnOk r (IsLarge w → ⊥) → OnOk r (IsLargeAt (row_at news key) → ⊥)
 fits_added (Err e) es news key v w t was is sum fits = tt
 fits_added (Ok x) es news key v w t was is sum fits =

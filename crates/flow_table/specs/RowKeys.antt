@@ -14,11 +14,12 @@ pub record Spells (address : List ℕ) (number : ℕ) : Type 0 where
   pub four : length address ≡ 4
   pub octets : (k : ℕ) → get_or address k 0 < 256
 
--- where a number is told, it is the one of an address that is the first of some cells
+-- the number of the address that is the first of some cells, and none where no address is
 abbrev pub Leads : List Cell → Option ℕ → Type 0
-Leads cells None = Unit {0}
 Leads (Ipv4 address ∷ others) (Some number) = Spells address number
+Leads (Ipv4 address ∷ others) None = ⊥
 Leads cells (Some number) = ⊥
+Leads cells None = Unit {0}
 
 pub keys_total : IsTotalOrder key_cmp
 keys_total = lists_total cell_cmp-total

@@ -15,6 +15,7 @@ use crate::rows::{Cells, Rows};
 use crate::table_fault::TableFault;
 use crate::tally::{Tally, together};
 use crate::totals::Totals;
+use std::collections::btree_map::Entry;
 
 /// Adds totals to those of a key, or makes a row of them.
 fn merge_row(rows: &mut Rows, key: RowKey, totals: Totals) -> Result<(), TableFault>
@@ -22,11 +23,13 @@ fn merge_row(rows: &mut Rows, key: RowKey, totals: Totals) -> Result<(), TableFa
     ensures fits { OnOk result ((IsLarge totals → ⊥) → IsLargeAt (row_at rows.new.entries key) → ⊥) }
     ensures large { IfErr result (λ e. e ≡ SumTooLarge → IsLargeAt (joined (row_at rows.old.entries key) (Some totals))) }
 {
-    if let Some(own) = rows.get_mut(&key) {
-        return own.add(&totals.sums, totals.flows);
+    match rows.entry(key)? {
+        Entry::Occupied(row) => row.into_mut().add(&totals.sums, totals.flows),
+        Entry::Vacant(place) => {
+            place.insert(totals);
+            Ok(())
+        }
     }
-    rows.insert(key, totals)?;
-    Ok(())
 }
 
 /// Adds the totals of all keys of an interval.

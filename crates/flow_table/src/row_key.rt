@@ -68,7 +68,6 @@ impl RowKey {
     pub fn push(&mut self, cell: Cell) -> Result<(), AllocError>
         ensures { OnOk result (self.new ≡ self.old ++ cell ∷ []) }
     {
-        self.address = None;
         self.cells.push(cell)?;
         self.address = address_of(&self.cells);
         Ok(())

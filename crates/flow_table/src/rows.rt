@@ -11,6 +11,7 @@ use crate::table_fault::TableFault;
 use crate::totals::Totals;
 use std::alloc::Global;
 use std::collections::BTreeMap;
+use std::collections::btree_map::Entry;
 
 /// The totals of an interval by key.
 pub type Rows = BTreeMap<RowKey, Totals>;
@@ -30,15 +31,14 @@ pub fn add_to_row(
     ensures fits { OnOk result (IsLargeAt (row_at rows.new.entries key.now) → ⊥) }
     ensures large { IfErr result (λ e. e ≡ SumTooLarge → IsLargeAt (joined (row_at rows.old.entries key.now) (Some (total sums.now flows)))) }
 {
-    if let Some(totals) = rows.get_mut(key) {
-        return totals.add(sums, flows);
+    match rows.entry(key.copy(alloc)?)? {
+        Entry::Occupied(row) => row.into_mut().add(sums, flows),
+        Entry::Vacant(place) => {
+            let sums = sums.to_vec(alloc)?;
+            place.insert(Totals { sums, flows });
+            Ok(())
+        }
     }
-    let totals = Totals {
-        sums: sums.to_vec(alloc)?,
-        flows,
-    };
-    rows.insert(key.copy(alloc)?, totals)?;
-    Ok(())
 }
 
 /// Adds sums and flows to the row of an interval and a key.

@@ -1,42 +1,61 @@
-use Rattle.std.proofs.Common.{ℕ, List, sym, ap, ◌∙◌, arith}
-use Rattle.std.specs.BTreeMap.{BTreeMap, insert_entry}
-use Rattle.std.specs.Option.{option_copied_mut}
+use Rattle.std.proofs.Common.{◌≡◌, ℕ, List, Some, None, OnOk, sym, ap, ◌∙◌, subst, arith}
+use Rattle.std.specs.BTreeMap.{BTreeMap, ContainsKey, get, get_key, insert_entry}
+use Rattle.std.specs.BTreeMap.Entry.{entry_key, entry_map_ref, entry_value, IsEntryFor, MatchEntry}
 use Rattle.std.proofs.lemmas.Result.{on_ok_weaker, IfErr-weaker}
 use Rattle.ipfix_elements.specs.declared.cell.Cell.{Cell}
 use Rattle.flow_table.specs.Tables.{key_cmp}
-use Rattle.flow_table.specs.Totals.{Total, total}
-use Rattle.flow_table.specs.Rows.{row_at}
+use Rattle.flow_table.specs.Totals.{Total, total, joined, IsLargeAt}
+use Rattle.flow_table.specs.Rows.{row_at, part_at}
 use Rattle.flow_table.proofs.RowMaps.{added_found, added_new, at_key, fits_added, fits_new, large_found}
 use Rattle.flow_table.proofs.rows.add_to_row.Goals as goal
 
-pub returns-in-Some-clause-ok : goal.returns-in-Some-clause-ok
-returns-in-Some-clause-ok c =
-    let found = sym c.get_mut.ensures.value ∙ ap option_copied_mut c.in-Some.is in
-    on_ok_weaker c.add.result (added_found c.args.rows.now.entries (c.get_mut.follows.lender c.add.new.self).entries c.args.key.now c.in-Some.totals.now c.add.new.self (total c.args.sums.now c.args.flows)
-    found (c.get_mut.follows.holds c.add.new.self).0) c.add.ensures.ok
+pub returns-in-Occupied-clause-ok : goal.returns-in-Occupied-clause-ok
+returns-in-Occupied-clause-ok c =
+    let es = c.args.rows.now.entries in
+    let t = total c.args.sums.now c.args.flows in
+    let key = c.in_ok-copy.field-0 in
+    let update = subst (λ e. IsEntryFor key_cmp c.args.rows.now key e) c.in-Occupied.is c.in_ok-row.ensures.update in
+    let found = sym c.in_ok-row.ensures.value ∙ ap (λ e. entry_value e) c.in-Occupied.is ∙ c.into_mut.ensures.value in
+    let here = sym c.in_ok-row.ensures.same_map ∙ ap (λ e. (entry_map_ref e).ghost_name) c.in-Occupied.is in
+    let is = ap (λ (m : BTreeMap (List Cell) Total). m.entries) (c.rows-in-Occupied-2-1.given.1 here) ∙ update.1 c.add.new.self in
+    on_ok_weaker c.add.result (λ sum q. added_found es _ key c.into_mut.result.now c.add.new.self t found is sum q
+    ∙ ap (λ (k : List Cell). joined (row_at es q) (part_at k t q)) c.in_ok-copy.ensures) c.add.ensures.ok
 
-pub returns-in-Some-clause-fits : goal.returns-in-Some-clause-fits
-returns-in-Some-clause-fits c =
-    let found = sym c.get_mut.ensures.value ∙ ap option_copied_mut c.in-Some.is in
-    fits_added c.add.result c.args.rows.now.entries (c.get_mut.follows.lender c.add.new.self).entries c.args.key.now c.in-Some.totals.now c.add.new.self (total c.args.sums.now c.args.flows)
-    found (c.get_mut.follows.holds c.add.new.self).0 c.add.ensures.ok c.add.ensures.fits
+pub returns-in-Occupied-clause-fits : goal.returns-in-Occupied-clause-fits
+returns-in-Occupied-clause-fits c =
+    let key = c.in_ok-copy.field-0 in
+    let update = subst (λ e. IsEntryFor key_cmp c.args.rows.now key e) c.in-Occupied.is c.in_ok-row.ensures.update in
+    let found = sym c.in_ok-row.ensures.value ∙ ap (λ e. entry_value e) c.in-Occupied.is ∙ c.into_mut.ensures.value in
+    let here = sym c.in_ok-row.ensures.same_map ∙ ap (λ e. (entry_map_ref e).ghost_name) c.in-Occupied.is in
+    let is = ap (λ (m : BTreeMap (List Cell) Total). m.entries) (c.rows-in-Occupied-2-1.given.1 here) ∙ update.1 c.add.new.self in
+    subst (λ (k : List Cell). OnOk c.add.result (IsLargeAt (row_at c.rows-in-Occupied-2-1.given.0.entries k) → ⊥)) c.in_ok-copy.ensures
+    (fits_added c.add.result c.args.rows.now.entries _ key c.into_mut.result.now c.add.new.self (total c.args.sums.now c.args.flows) found is c.add.ensures.ok c.add.ensures.fits)
 
-pub returns-in-Some-clause-large : goal.returns-in-Some-clause-large
-returns-in-Some-clause-large c =
-    let found = sym c.get_mut.ensures.value ∙ ap option_copied_mut c.in-Some.is in
-    IfErr-weaker c.add.result _ _ (λ e h same. large_found (row_at c.args.rows.now.entries c.args.key.now) c.in-Some.totals.now (total c.args.sums.now c.args.flows) found h.1) c.add.ensures.large
+pub returns-in-Occupied-clause-large : goal.returns-in-Occupied-clause-large
+returns-in-Occupied-clause-large c =
+    let es = c.args.rows.now.entries in
+    let t = total c.args.sums.now c.args.flows in
+    let found = sym c.in_ok-row.ensures.value ∙ ap (λ e. entry_value e) c.in-Occupied.is ∙ c.into_mut.ensures.value in
+    IfErr-weaker c.add.result _ _ (λ e h same. subst (λ (k : List Cell). IsLargeAt (joined (row_at es k) (Some t))) c.in_ok-copy.ensures
+    (large_found (row_at es c.in_ok-copy.field-0) c.into_mut.result.now t found h.1)) c.add.ensures.large
 
-pub returns-clause-ok : goal.returns-clause-ok
-returns-clause-ok c =
-    let absent = sym c.get_mut.ensures.value ∙ ap option_copied_mut c.in_default.is in
-    let same = c.in_ok-to_vec.ensures.items_if_clones_equal (λ x y h. h) in
-    let is = c.in_ok-insert.ensures.entries ∙ ap (λ (m : BTreeMap (List Cell) Total). insert_entry key_cmp m.entries c.in_ok-copy.field-0 (total c.in_ok-to_vec.field-0.items c.args.flows)) c.get_mut.follows.holds-at-none
-    ∙ ap (λ (k : List Cell). insert_entry key_cmp c.args.rows.now.entries k (total c.in_ok-to_vec.field-0.items c.args.flows)) c.in_ok-copy.ensures
-    ∙ ap (λ (xs : List ℕ). insert_entry key_cmp c.args.rows.now.entries c.args.key.now (total xs c.args.flows)) same in
-    added_new c.args.rows.now.entries c.insert.new.self.entries c.args.key.now (total c.args.sums.now c.args.flows) absent is
+pub returns-in_ok-sums-in-Vacant-clause-ok : goal.returns-in_ok-sums-in-Vacant-clause-ok
+returns-in_ok-sums-in-Vacant-clause-ok c =
+    let m = c.args.rows.now in
+    let t = total c.args.sums.now c.args.flows in
+    let key = c.in_ok-copy.field-0 in
+    let update = subst (λ e. IsEntryFor key_cmp m key e) c.in-Vacant.is c.in_ok-row.ensures.update in
+    let absent = subst (λ e. MatchEntry e (ContainsKey key_cmp m key × (get_key key_cmp m key ≡ Some (entry_key e))) (get key_cmp m key ≡ None)) c.in-Vacant.is c.in_ok-row.ensures.found in
+    let here = sym c.in_ok-row.ensures.same_map ∙ ap (λ e. (entry_map_ref e).ghost_name) c.in-Vacant.is in
+    let same = c.insert.ensures.value ∙ ap (λ (xs : List ℕ). total xs c.args.flows) (c.in_ok-sums-in-Vacant.ensures.items_if_clones_equal (λ x y h. h)) in
+    let is = ap (λ (m : BTreeMap (List Cell) Total). m.entries) (c.rows-in-Vacant-2-1.given.1 here) ∙ update.1 c.insert.result.now in
+    λ q. added_new m.entries _ key t absent (is ∙ ap (λ (w : Total). insert_entry key_cmp m.entries key w) same) q ∙ ap (λ (k : List Cell). joined (row_at m.entries q) (part_at k t q)) c.in_ok-copy.ensures
 
-pub returns-clause-fits : goal.returns-clause-fits
-returns-clause-fits c =
-    let absent = sym c.get_mut.ensures.value ∙ ap option_copied_mut c.in_default.is in
-    fits_new (row_at c.args.rows.now.entries c.args.key.now) (row_at c.insert.new.self.entries c.args.key.now) c.args.sums.now c.args.flows absent
-    (at_key (row_at c.args.rows.now.entries) (row_at c.insert.new.self.entries) c.args.key.now (total c.args.sums.now c.args.flows) (returns-clause-ok c)) (λ k. omega (arith, c.type_inv.sums k)) c.ranges.flows.fits
+pub returns-in_ok-sums-in-Vacant-clause-fits : goal.returns-in_ok-sums-in-Vacant-clause-fits
+returns-in_ok-sums-in-Vacant-clause-fits c =
+    let m = c.args.rows.now in
+    let key = c.in_ok-copy.field-0 in
+    let absent = subst (λ e. MatchEntry e (ContainsKey key_cmp m key × (get_key key_cmp m key ≡ Some (entry_key e))) (get key_cmp m key ≡ None)) c.in-Vacant.is c.in_ok-row.ensures.found in
+    let none = subst (λ (k : List Cell). row_at m.entries k ≡ None) c.in_ok-copy.ensures absent in
+    fits_new (row_at m.entries c.args.key.now) _ c.args.sums.now c.args.flows none
+    (at_key (row_at m.entries) _ c.args.key.now (total c.args.sums.now c.args.flows) (returns-in_ok-sums-in-Vacant-clause-ok c)) (λ k. omega (arith, c.type_inv.sums k)) c.ranges.flows.fits
