@@ -39,17 +39,17 @@ module _ {S K : Type 0} (text : S → Option (List ℕ)) (reads failed : S → �
   taken_by (Some faults.SinkClosed) limit gave before after first last told e none = absurd (omega (arith, e.back, none))
 
   -- the sink took what was collected
-  pub record Collected (limit : ℕ) (before after : S) (first last : K) (r : SessionReport) : Type 0 where
+  pub record Collected (limit most : ℕ) (before after : S) (first last : K) (r : SessionReport) : Type 0 where
     pub records : List DataRecord
-    pub collects : Collects text reads failed ended limit before after records r
+    pub collects : Collects text reads failed ended limit most before after records r
     pub chain : FoldsTo took first records last
 
-  pub collected : (limit most : ℕ) (before after : S) (first last : K) (r : SessionReport) → drives.Drives text reads failed ended took refused limit most before after first last r → refused last ≡ 0 → Collected limit before after first last r
+  pub collected : (limit most : ℕ) (before after : S) (first last : K) (r : SessionReport) → drives.Drives text reads failed ended took refused limit most before after first last r → refused last ≡ 0 → Collected limit most before after first last r
   collected limit most before after first last r d none =
       let (ms, ends, taken) = taken_by r.fault limit d.gave before after first last (Reports r) d.ends none in
       record {
         records = records_in ms;
-        collects = record { gave = d.gave; octets = d.given.octets; within = d.given.within; messages = ms; are = refl; ends = ends; reports = taken.tells };
+        collects = record { gave = d.gave; octets = d.given.octets; within = d.given.within; stops = d.stops; messages = ms; are = refl; ends = ends; reports = taken.tells };
         chain = taken.chain;
       }
 

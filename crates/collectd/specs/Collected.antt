@@ -8,6 +8,7 @@ use Rattle.ipfix_session.specs.declared.report.SessionReport.{SessionReport}
 use Rattle.ipfix_session.specs.declared.stop.Stop.TheVariants.{Clean, Short, Fault}
 use Rattle.ipfix_session.specs.declared.fault.SessionFault.{SessionFault}
 use Rattle.ipfix_session.specs.declared.fault.SessionFault.TheVariants as faults
+use Rattle.ipfix_session.specs.Drives.{StopsAtFault}
 use Rattle.ipfix_session.specs.Given.{gives, stop_of, records_in, IsOpen, IsPrefix}
 use Rattle.ipfix_session.specs.Reads.{one_more}
 use Rattle.ipfix_session.specs.Reports.{Reports}
@@ -29,11 +30,13 @@ module _ {S : Type 0} (text : S → Option (List ℕ)) (reads failed : S → ℕ
   EndsWith (Some (faults.Message e)) limit gave ms before after = AreAll ms gave × (stop_of gave ≡ Fault e)
   EndsWith (Some faults.SinkClosed) limit gave ms before after = ⊥
 
-  -- in at most that many reads a source gave octets, of whose messages these records were collected; the report tells it
-  pub record Collects (limit : ℕ) (before after : S) (records : List DataRecord) (r : SessionReport) : Type 0 where
+  -- in at most that many reads, each of at most so many octets, a source gave octets, of whose messages these records were
+  -- collected; the report tells it, and nothing was read behind a fault
+  pub record Collects (limit most : ℕ) (before after : S) (records : List DataRecord) (r : SessionReport) : Type 0 where
     pub gave : List ℕ
     pub octets : Consumes (text before) (text after) gave
     pub within : reads after ≤ reads before + limit
+    pub stops : StopsAtFault most gave
     pub messages : List Message
     pub are : records ≡ records_in messages
     pub ends : EndsWith r.fault limit gave messages before after

@@ -12,10 +12,14 @@ use Rattle.collectd.specs.DumpLines.{dump_lines}
 abbrev pub read_limit : ℕ
 read_limit = 2 ^ 40
 
+-- the most octets of a read
+abbrev pub read_size : ℕ
+read_size = 65536
+
 -- records were collected of a source, and their lines were written
 pub record Dumps {S : Type 0} (text : S → Option (List ℕ)) (reads failed : S → ℕ) (ended : S → Bool) (before after : S) (old new : Option (List ℕ)) (r : SessionReport) : Type 0 where
   pub records : List DataRecord
-  pub collects : Collects text reads failed ended read_limit before after records r
+  pub collects : Collects text reads failed ended read_limit read_size before after records r
   pub written : Appends old new (dump_lines records)
 
 -- where a source tells its octets, the lines of all of them were written, and no fault was met
