@@ -1,3 +1,4 @@
+pub mod Ascii
 pub mod Elements
 pub mod Values
 pub mod Names

@@ -5,6 +5,7 @@ use Rattle.std.specs.List.{before_first, after_first}
 use Rattle.std.specs.Str.{bytes_eq}
 use Rattle.std.specs.Str.Parse.{digits_value}
 use Rattle.ipfix_wire.specs.declared.specifier.ElementId.{ElementId}
+use Rattle.ipfix_elements.specs.Ascii.{dot}
 use Rattle.ipfix_elements.specs.Elements.{elements, listed, name_of}
 
 -- an element's numbers are in range (RFC 7011, section 3.2)
@@ -26,7 +27,7 @@ IsNameOf e t = (name_of e ≡ Some t) ⊎ (IsElement e × (t ≡ numbered_text e
 
 -- the numbers after the first letter, before and after the dot
 unfoldable pub numbers_in : List ℕ → ElementId
-numbers_in t = record { pen = digits_value 10 (before_first (λ b. b == 46) (drop 1 t)); number = digits_value 10 (after_first (λ b. b == 46) (drop 1 t)) }
+numbers_in t = record { pen = digits_value 10 (before_first (λ b. b == dot) (drop 1 t)); number = digits_value 10 (after_first (λ b. b == dot) (drop 1 t)) }
 
 -- the element whose numbers the text gives, in the one form that is written
 abbrev pub numbered_element : List ℕ → Option ElementId

@@ -4,6 +4,7 @@ use Rattle.std.specs.Option.{option_map_or}
 use Rattle.std.specs.Fmt.{decimal}
 use Rattle.std.specs.List.{join_with_byte}
 use Rattle.hex.specs.Hex.{encode_lower}
+use Rattle.ipfix_elements.specs.Ascii.{dot, colon}
 use Rattle.ipfix_elements.specs.declared.kind.Kind.{Kind}
 use Rattle.ipfix_elements.specs.declared.kind.Kind.TheVariants as kinds
 use Rattle.ipfix_elements.specs.declared.cell.Cell.{Cell}
@@ -22,15 +23,15 @@ pairs (a ∷ b ∷ rest) = (a ∷ b ∷ []) ∷ pairs rest
 
 -- four decimal numbers joined by dots
 abbrev pub ipv4_text : List ℕ → List ℕ
-ipv4_text address = join_with_byte 46 (map decimal address)
+ipv4_text address = join_with_byte dot (map decimal address)
 
 -- eight groups of four hexadecimal digits joined by colons
 abbrev pub ipv6_text : List ℕ → List ℕ
-ipv6_text address = join_with_byte 58 (map encode_lower (pairs address))
+ipv6_text address = join_with_byte colon (map encode_lower (pairs address))
 
 -- six groups of two hexadecimal digits joined by colons
 abbrev pub mac_text : List ℕ → List ℕ
-mac_text address = join_with_byte 58 (map octet_text address)
+mac_text address = join_with_byte colon (map octet_text address)
 
 unfoldable pub cell_text : Cell → List ℕ
 cell_text (Number n) = decimal n

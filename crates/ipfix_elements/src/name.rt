@@ -4,6 +4,7 @@ ghost use Rattle.std.specs.Prelude.{◌≡◌, ◌≢◌, ◌<◌, ◌^◌, ◌�
 ghost use Rattle.std.specs.Fmt.{decimal};
 ghost use Rattle.std.specs.Io.KnownBytes.{Appends};
 ghost use Rattle.ipfix_wire.specs.declared.specifier.ElementId.{ElementId};
+ghost use Rattle.ipfix_elements.specs.Ascii.{dot, letter_e};
 ghost use Rattle.ipfix_elements.specs.Names.{IsElement, IsNameOf, numbered_text, name_text, numbered_element as numbered_in, element_named};
 
 use crate::element::{listed_element, name_of};
@@ -86,7 +87,7 @@ fn numbers_of(name: &str) -> Option<ElementId>
 
 /// What stands between the `e` and the first dot, and what stands behind that.
 fn parts_of(name: &str) -> Option<(&str, &str)>
-    ensures { (pen number : List ℕ) → ((i : ℕ) → i < length pen → get_or pen i 0 ≢ 46) → name.now ≡ 101 ∷ (pen ++ 46 ∷ number)
+    ensures { (pen number : List ℕ) → ((i : ℕ) → i < length pen → get_or pen i 0 ≢ dot) → name.now ≡ letter_e ∷ (pen ++ dot ∷ number)
         → IsSomeAnd result (λ r. (r.0.now ≡ pen) × (r.1.now ≡ number)) }
 {
     let numbers = name.strip_prefix('e')?;
