@@ -1,5 +1,6 @@
 pub mod Lookups
 pub mod Table
+pub mod Rising
 pub mod Numbered
 pub mod Named
 pub mod CellLemmas

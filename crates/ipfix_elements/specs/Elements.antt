@@ -1,5 +1,5 @@
 -- The information elements that are known by name (IANA, "IPFIX Information Elements"; RFC 7012, section 5).
-use Rattle.std.specs.Prelude.{ℕ, ◌==◌, List, [], ◌∷◌, find, codes, Option, None, option_map, if◌then◌else◌}
+use Rattle.std.specs.Prelude.{ℕ, Bool, true, nat_lt, ◌&&◌, ◌==◌, List, [], ◌∷◌, find, codes, Option, None, option_map, if◌then◌else◌}
 use Rattle.std.specs.Option.{option_map_or}
 use denote.Bor.{Bor}
 use Rattle.ipfix_wire.specs.declared.specifier.ElementId.{ElementId}
@@ -85,3 +85,9 @@ kind_of e = option_map_or (λ r. r.kind) (row_of e) Octets
 -- the element of a row
 abbrev pub listed : Row → ElementId
 listed r = record { pen = 0; number = r.number }
+
+-- numbers that ascend
+abbrev pub rise : List ℕ → Bool
+rise [] = true
+rise (n ∷ []) = true
+rise (m ∷ n ∷ ns) = nat_lt m n && rise (n ∷ ns)

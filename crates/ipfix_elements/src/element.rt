@@ -1,9 +1,9 @@
 //! The information elements that are known by name (IANA, "IPFIX Information Elements").
 
-ghost use Rattle.std.specs.Prelude.{◌≡◌, ◌==◌, find, map};
+ghost use Rattle.std.specs.Prelude.{◌≡◌, ◌==◌, true, find, map};
 ghost use Rattle.std.specs.Option.{option_copied, option_map};
 ghost use Rattle.std.specs.Str.{bytes_eq};
-ghost use Rattle.ipfix_elements.specs.Elements.{elements, listed, shown, row_of as row_in, kind_of as kind_in, name_of as name_in};
+ghost use Rattle.ipfix_elements.specs.Elements.{elements, listed, rise, shown, row_of as row_in, kind_of as kind_in, name_of as name_in};
 
 use crate::kind::{Kind, Width};
 use ipfix_wire::ElementId;
@@ -57,16 +57,12 @@ static ELEMENTS: [Row; 35] = [
     (375, "originalFlowsPresent", U64),
 ];
 
-fn find_by_number(mut table: &'static [Row], number: u16) -> Option<Row>
-    ensures { option_map shown result ≡ find (λ r. r.number == number) (map shown table.entry.now) }
+fn find_by_number(table: &'static [Row], number: u16) -> Option<Row>
+    requires { rise (map (λ r. r.0) table.now) ≡ true }
+    ensures { option_map shown result ≡ find (λ r. r.number == number) (map shown table.now) }
 {
-    while let [row, rest @ ..] = table {
-        if row.0 == number {
-            return Some(*row);
-        }
-        table = rest;
-    }
-    None
+    let place = table.binary_search_by_key(&number, |row| row.0).ok()?;
+    Some(table[place])
 }
 
 #[tactic(auto, unfolding(crate::specs::Elements::elements))]
