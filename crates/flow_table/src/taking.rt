@@ -21,7 +21,7 @@ use crate::tally::{Tally, one, together};
 use ipfix_message::DataRecord;
 use std::alloc::Global;
 
-/// Room for what is read of a record, so that nothing is allocated for each of them.
+/// Room for what is read of a record, so that reading allocates nothing for each of them.
 #[derive(Drop)]
 pub struct Room {
     pub key: RowKey,
