@@ -1,6 +1,6 @@
 -- The cells of keys are of their kinds, and every table fits its plan.
-use Rattle.std.proofs.Common.{◌≡◌, ℕ, zero, suc, ◌+◌, ◌*◌, ◌^◌, ◌<◌, ◌≤◌, inl, inr, Bool, true, false, nat_eq, ◌&&◌, unwrap_or, eqb, leb, ltb, cond, length, List, [], ◌∷◌, ◌++◌, find, filter, All, slice_index, Option, Some, None, option_map, option_and_then, refl, sym, ap, ◌∙◌, subst, arith}
-use Rattle.std.specs.List.{list_all, list_any}
+use Rattle.std.proofs.Common.{◌≡◌, ℕ, zero, suc, ◌+◌, ◌*◌, ◌^◌, ◌<◌, ◌≤◌, inl, inr, Bool, true, false, nat_eq, ◌&&◌, unwrap_or, eqb, leb, ltb, cond, length, List, [], ◌∷◌, ◌++◌, map, find, filter, All, slice_index, Option, Some, None, option_map, option_and_then, refl, sym, ap, ◌∙◌, subst, arith}
+use Rattle.std.specs.List.{list_all, list_any, Contains}
 use Rattle.std.specs.Option.{IfSome}
 use Rattle.std.proofs.lemmas.Bool.{cases_Bool, cases_lt, cond-true, cond-false, and_parts, eqb-true, leb-true}
 use Rattle.std.proofs.lemmas.List.{length-map}
@@ -8,6 +8,7 @@ use Rattle.std.proofs.lemmas.List.Elements.{All-nil, All-cons, All-head, All-tai
 use Rattle.std.proofs.lemmas.Nat.{mul-add-lt}
 use Rattle.std.proofs.Math.Nat.{pow-suc, pow-le-pow_right}
 use Rattle.byteorder.specs.Endian.{big_from, big_number}
+use Rattle.ipfix_wire.specs.declared.specifier.ElementId.{ElementId}
 use Rattle.ipfix_elements.specs.Elements.{kind_of}
 use Rattle.ipfix_elements.specs.Values.{octets_of as width_of, is_number_length, number_in, cell_in}
 use Rattle.ipfix_elements.specs.declared.cell.Cell.{Cell}
@@ -29,7 +30,7 @@ use Rattle.flow_table.specs.Reading.{projected, cell_of, cells_of, key_of, class
 use Rattle.flow_table.specs.Readings.{Reads}
 use Rattle.flow_table.specs.declared.reading.Reading.{Reading}
 use Rattle.flow_table.specs.declared.reading.Reading.TheVariants as readings
-use Rattle.flow_table.specs.Tables.{is_class, begin_of, finish_of, key_cmp, is_key, contributes, sum_at, flows_at, IsRow, IsTable}
+use Rattle.flow_table.specs.Tables.{is_class, begin_of, finish_of, key_cmp, is_key, contributes, sum_at, flows_at, IsRow, IsTable, IsTooLarge}
 use Rattle.flow_table.proofs.Places.{equal_from, key_equal}
 use Rattle.flow_table.proofs.PlanKeys.{key_kinds_of_plan}
 use Rattle.flow_table.proofs.Sums.{flows_at-append}
@@ -201,19 +202,31 @@ interval_fits plan rs k key some =
 
 -- ---- tables
 
-row_fits : (plan : PlanValue) (rs : List DataRecord) → KeysFit plan rs → (row : Row) → IsRow plan rs row → FitsRow plan row
-row_fits plan rs fit row is_row =
+-- what is not 2^64 or more is below
+below : (n : ℕ) → (2 ^ 64 ≤ n → ⊥) → n < 2 ^ 64
+below n not_large = elim (cases_lt n (2 ^ 64)) [ inl less ↦ less | inr large ↦ absurd (not_large large) ]
+
+small_map : (f : ElementId → ℕ) (cs : List ElementId) → ((c : ElementId) → Contains cs c → f c < 2 ^ 64) → All (λ sum. sum < 2 ^ 64) (map f cs)
+small_map f [] each = All-nil (λ sum. sum < 2 ^ 64)
+small_map f (c ∷ cs) each = All-cons (λ sum. sum < 2 ^ 64) (f c) (map f cs) (each c (zero, omega arith, refl)) (small_map f cs (λ d h. each d (suc h.0, let inside = h.1 in omega (arith, inside), h.2)))
+
+row_fits : (plan : PlanValue) (rs : List DataRecord) → KeysFit plan rs → (IsTooLarge plan rs → ⊥) → (row : Row) → IsRow plan rs row → FitsRow plan row
+row_fits plan rs fit not_large row is_row =
+    let k = row.interval in
+    let key = row.key.items in
     record {
-      interval = interval_fits plan rs row.interval row.key.items is_row.some;
-      key = fit row.interval row.key.items is_row.some;
-      sums = ap length is_row.sums ∙ length-map plan.counters (sum_at plan rs row.interval row.key.items);
+      interval = interval_fits plan rs k key is_row.some;
+      key = fit k key is_row.some;
+      sums = ap length is_row.sums ∙ length-map plan.counters (sum_at plan rs k key);
+      small = subst (λ (sums : List ℕ). All (λ sum. sum < 2 ^ 64) sums) (sym is_row.sums) (small_map (sum_at plan rs k key) plan.counters (λ c h. below (sum_at plan rs k key c) (λ large. not_large (inl (k, key, c, h, large)))));
+      few = subst (λ (n : ℕ). n < 2 ^ 64) (sym is_row.flows) (below (flows_at plan rs k key) (λ large. not_large (inr (inl (k, key, large)))));
     }
 
-pub table_fits : (plan : PlanValue) (rs : List DataRecord) (table : Table) → KeysFit plan rs → IsTable plan rs table → FitsPlan plan table
-table_fits plan rs table fit is_table =
+pub table_fits : (plan : PlanValue) (rs : List DataRecord) (table : Table) → KeysFit plan rs → (IsTooLarge plan rs → ⊥) → IsTable plan rs table → FitsPlan plan table
+table_fits plan rs table fit not_large is_table =
     record {
       ascending = is_table.ascending;
-      rows = All-weaker (IsRow plan rs) (FitsRow plan) (row_fits plan rs fit) table.rows.items is_table.rows;
+      rows = All-weaker (IsRow plan rs) (FitsRow plan) (row_fits plan rs fit not_large) table.rows.items is_table.rows;
     }
 
 -- ---- lists whose keys fit
@@ -223,7 +236,7 @@ octets_keys_fit plan rs is_plan octets k key some =
     from_flow plan HasOctets (FitsKeys plan.keys key) rs k key
     (λ r small does. keys_fit plan.keys r key (key_kinds_of_plan plan is_plan) small (contributes_at plan k key r does).2) octets some
 
-pub tables_fit_of : (plan : PlanValue) (rs : List DataRecord) (table : Table) → IsPlan plan → All HasOctets rs → IsTable plan rs table → FitsPlan plan table
+pub tables_fit_of : (plan : PlanValue) (rs : List DataRecord) (table : Table) → IsPlan plan → All HasOctets rs → (IsTooLarge plan rs → ⊥) → IsTable plan rs table → FitsPlan plan table
 tables_fit_of plan rs table is_plan octets = table_fits plan rs table (octets_keys_fit plan rs is_plan octets)
 
 no_flows : (plan : PlanValue) (k : ℕ) (key : List Cell) → 0 < flows_at plan [] k key → ⊥

@@ -20,7 +20,7 @@ use Rattle.flow_table.specs.RowKeys.{keys_total}
 
 -- ---- what is among a list
 
-abbrev Among : {X : Type 0} → List X → X → Type 0
+abbrev pub Among : {X : Type 0} → List X → X → Type 0
 Among [] z = ⊥
 Among (x ∷ xs) z = (x ≡ z) ⊎ Among xs z
 
@@ -29,12 +29,12 @@ at_place [] k z inside here = absurd (omega arith)
 at_place (x ∷ xs) zero z inside here = inl here
 at_place (x ∷ xs) (suc k) z inside here = inr (at_place xs k z (omega arith) here)
 
-among : {X : Type 0} (xs : List X) (z : X) → Contains xs z → Among xs z
+pub among : {X : Type 0} (xs : List X) (z : X) → Contains xs z → Among xs z
 among xs z h = at_place xs h.0 z h.1 h.2
 
 -- ---- sorted lists with the same elements are the same
 
-abbrev Asymmetric : {K : Type 0} → (K → K → Ordering) → Type 0
+abbrev pub Asymmetric : {K : Type 0} → (K → K → Ordering) → Type 0
 Asymmetric {K} R = (x y : K) → R x y ≡ Less → R y x ≡ Less → ⊥
 
 below_all : {K : Type 0} (R : K → K → Ordering) (x : K) (xs : List K) (z : K) → All (λ y. R x y ≡ Less) xs → Among xs z → R x z ≡ Less
@@ -59,7 +59,7 @@ behind R x xs ys order s within z h =
       | inr later ↦ later
     ]
 
-same_sorted : {K : Type 0} (R : K → K → Ordering) (xs ys : List K) → Asymmetric R → IsStrictlySortedBy R xs → IsStrictlySortedBy R ys → ((z : K) → Among xs z → Among ys z) → ((z : K) → Among ys z → Among xs z) → xs ≡ ys
+pub same_sorted : {K : Type 0} (R : K → K → Ordering) (xs ys : List K) → Asymmetric R → IsStrictlySortedBy R xs → IsStrictlySortedBy R ys → ((z : K) → Among xs z → Among ys z) → ((z : K) → Among ys z → Among xs z) → xs ≡ ys
 same_sorted R [] [] order s t there back = refl
 same_sorted R [] (y ∷ ys) order s t there back = absurd (back y (inl refl))
 same_sorted R (x ∷ xs) [] order s t there back = absurd (there x (inl refl))
@@ -87,24 +87,24 @@ both_below Equal Equal Less Greater p q h k = cc
 both_below Equal Equal Equal d p q h k = cc
 both_below Equal Equal Greater d p q h k = cc
 
-places_asymmetric : Asymmetric place_cmp
+pub places_asymmetric : Asymmetric place_cmp
 places_asymmetric a b h k =
     both_below (nat_cmp a.0 b.0) (nat_cmp b.0 a.0) (key_cmp a.1 b.1) (key_cmp b.1 a.1) (nat_cmp_total.antisymm a.0 b.0) (keys_total.antisymm a.1 b.1) h k
 
 -- ---- tables
 
 -- a flow contributes to each place of a row
-some_flow : (plan : PlanValue) (rs : List DataRecord) (rows : List Row) (z : ℕ × List Cell) → All (IsRow plan rs) rows → Among (map place_of rows) z → 0 < flows_at plan rs z.0 z.1
+pub some_flow : (plan : PlanValue) (rs : List DataRecord) (rows : List Row) (z : ℕ × List Cell) → All (IsRow plan rs) rows → Among (map place_of rows) z → 0 < flows_at plan rs z.0 z.1
 some_flow plan rs [] z all h = absurd h
 some_flow plan rs (row ∷ rows) z all (inl here) =
     subst (λ (w : ℕ × List Cell). 0 < flows_at plan rs w.0 w.1) here (All-head (IsRow plan rs) row rows all).some
 some_flow plan rs (row ∷ rows) z all (inr later) = some_flow plan rs rows z (All-tail (IsRow plan rs) row rows all) later
 
 -- the row at a place
-abbrev row_at : PlanValue → List DataRecord → ℕ × List Cell → RowValue
+abbrev pub row_at : PlanValue → List DataRecord → ℕ × List Cell → RowValue
 row_at plan rs place = row_value place.0 place.1 (map (sum_at plan rs place.0 place.1) plan.counters) (flows_at plan rs place.0 place.1)
 
-rows_by_place : (plan : PlanValue) (rs : List DataRecord) (rows : List Row) → All (IsRow plan rs) rows → map value_of rows ≡ map (row_at plan rs) (map place_of rows)
+pub rows_by_place : (plan : PlanValue) (rs : List DataRecord) (rows : List Row) → All (IsRow plan rs) rows → map value_of rows ≡ map (row_at plan rs) (map place_of rows)
 rows_by_place plan rs [] all = refl
 rows_by_place plan rs (row ∷ rows) all =
     let is_row = All-head (IsRow plan rs) row rows all in

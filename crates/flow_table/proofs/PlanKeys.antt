@@ -1,15 +1,16 @@
 -- The tests that the keys of a plan pass.
-use Rattle.std.proofs.Common.{◌≡◌, Bool, true, false, nat_le, List, [], ◌∷◌, length, Option, Some, None, All, refl, ◌∙◌}
+use Rattle.std.proofs.Common.{◌≡◌, Bool, true, false, nat_lt, nat_le, ◌||◌, not, List, [], ◌∷◌, ◌++◌, length, map, Option, Some, None, All, refl, ◌∙◌}
 use Rattle.std.specs.List.{list_all, AllPass}
 use Rattle.std.proofs.lemmas.List.Folds.{list_all-map}
 use Rattle.ipfix_elements.specs.Elements.{kind_of}
 use Rattle.flow_table.specs.declared.plan_fault.PlanFault.{PlanFault}
-use Rattle.flow_table.specs.declared.plan_fault.PlanFault.TheVariants.{KeyCount, KeyKind, Prefix}
+use Rattle.flow_table.specs.declared.plan_fault.PlanFault.TheVariants.{Length, KeyCount, KeyKind, Prefix, CounterCount, CounterKind, Repeated}
+use Rattle.flow_table.specs.declared.key.Side.TheVariants.{Read, Exported}
 use Rattle.std.proofs.lemmas.List.Sums.{AllPass-from_list_all}
 use Rattle.std.proofs.lemmas.Bool.{and_parts, leb-true}
 use Rattle.std.proofs.lemmas.List.Elements.{All-nil, All-cons}
 use Rattle.flow_table.specs.declared.key.Key.{Key}
-use Rattle.flow_table.specs.Plans.{PlanValue, IsPlan, HasPrefix, is_prefix_of, is_key_kind, kinds_of, unless, or_else, length_fault, spread_fault, key_fault, counter_fault, repeat_fault}
+use Rattle.flow_table.specs.Plans.{PlanValue, IsPlan, HasPrefix, is_prefix_of, is_key_kind, is_counter, is_between, has_twice, elements_in, exported_element, kinds_of, unless, or_else, length_fault, spread_fault, key_fault, counter_fault, repeat_fault}
 
 has_prefix : (k : Key) → is_prefix_of k.element k.prefix ≡ true → HasPrefix k
 has_prefix k h bits e =
@@ -30,12 +31,17 @@ passed_test : (holds : Bool) (fault : PlanFault) → unless holds fault ≡ None
 passed_test true fault h = refl
 passed_test false fault h = absurd cc
 
--- the tests that the keys of a plan pass
-record PassedTests (p : PlanValue) : Type 0 where
+-- the tests that a plan passes
+pub record PassedTests (p : PlanValue) : Type 0 where
+  pub positive : nat_lt 0 p.length ≡ true
+  pub few : nat_le (length p.keys) 8 ≡ true
   pub kinds : list_all (λ k. is_key_kind (kind_of k.element)) p.keys ≡ true
   pub prefixes : list_all (λ k. is_prefix_of k.element k.prefix) p.keys ≡ true
+  pub some : is_between 1 4 (length p.counters) ≡ true
+  pub counters : list_all is_counter p.counters ≡ true
+  pub apart : not (has_twice (elements_in Read p.keys p.counters) || has_twice (elements_in Exported p.keys p.counters)) ≡ true
 
-passed_tests : (p : PlanValue) → IsPlan p → PassedTests p
+pub passed_tests : (p : PlanValue) → IsPlan p → PassedTests p
 passed_tests p h =
     let kind = unless (list_all (λ k. is_key_kind (kind_of k.element)) p.keys) KeyKind in
     let prefix = unless (list_all (λ k. is_prefix_of k.element k.prefix) p.keys) Prefix in
@@ -45,9 +51,16 @@ passed_tests p h =
     let counters = passed_first (key_fault p.keys) (or_else (counter_fault p.counters) rest) keys.1 in
     let after_count = passed_first (unless (nat_le (length p.keys) 8) KeyCount) (or_else kind prefix) counters.0 in
     let after_kind = passed_first kind prefix after_count.1 in
+    let last = passed_first (counter_fault p.counters) rest counters.1 in
+    let of_counters = passed_first (unless (is_between 1 4 (length p.counters)) CounterCount) (unless (list_all is_counter p.counters) CounterKind) last.0 in
     record {
+      positive = passed_test _ Length spread.0;
+      few = passed_test _ KeyCount after_count.0;
       kinds = passed_test _ KeyKind after_kind.0;
       prefixes = passed_test _ Prefix after_kind.1;
+      some = passed_test _ CounterCount of_counters.0;
+      counters = passed_test _ CounterKind of_counters.1;
+      apart = passed_test _ Repeated last.1;
     }
 
 pub prefixes_of_plan : (p : PlanValue) → IsPlan p → All HasPrefix p.keys
@@ -59,3 +72,12 @@ key_kinds_of_plan p h = (passed_tests p h).kinds
 pub kinds_of_plan : (p : PlanValue) → IsPlan p → AllPass is_key_kind (kinds_of p.keys)
 kinds_of_plan p h =
     AllPass-from_list_all is_key_kind (kinds_of p.keys) (list_all-map is_key_kind (λ (k : Key). kind_of k.element) p.keys ∙ (passed_tests p h).kinds)
+
+-- no element stands twice among those that are exported
+pub exported_apart : (p : PlanValue) → IsPlan p → has_twice (map exported_element p.keys ++ p.counters) ≡ false
+exported_apart p h = (or_both (has_twice (elements_in Read p.keys p.counters)) (has_twice (elements_in Exported p.keys p.counters)) (passed_tests p h).apart).1
+  where
+    or_both : (a b : Bool) → not (a || b) ≡ true → (a ≡ false) × (b ≡ false)
+    or_both true b e = absurd cc
+    or_both false true e = absurd cc
+    or_both false false e = (refl, refl)

@@ -27,11 +27,13 @@ IsCellOf kind cell = ⊥
 abbrev pub FitsKeys : List Key → List Cell → Type 0
 FitsKeys keys cells = AllZip (λ key cell. IsCellOf (kind_of key.element) cell) keys cells
 
--- an interval that begins in time, a cell for each key and a sum for each counter
+-- an interval that begins in time, a cell for each key, a sum for each counter, and numbers that have a place in 64 bits
 pub record FitsRow (plan : PlanValue) (row : Row) : Type 0 where
   pub interval : row.interval * plan.length < 2 ^ 50
   pub key : FitsKeys plan.keys row.key.items
   pub sums : length row.sums.items ≡ length plan.counters
+  pub small : All (λ sum. sum < 2 ^ 64) row.sums.items
+  pub few : row.flows < 2 ^ 64
 
 -- rows that fit, in order
 pub record FitsPlan (plan : PlanValue) (table : Table) : Type 0 where

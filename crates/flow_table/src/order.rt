@@ -27,7 +27,7 @@ pub fn too_large_stays()
     ensures { (plan : PlanValue) (rs qs : List DataRecord) → IsTooLarge plan rs → IsTooLarge plan (rs ++ qs) }
 {}
 
-/// The table of a list of records fits the plan.
+/// The table of a list of records that isn't too large fits the plan.
 pub fn tables_fit()
-    ensures { (plan : PlanValue) (rs : List DataRecord) (table : Table) → IsPlan plan → All HasOctets rs → IsTable plan rs table → FitsPlan plan table }
+    ensures { (plan : PlanValue) (rs : List DataRecord) (table : Table) → IsPlan plan → All HasOctets rs → (IsTooLarge plan rs → ⊥) → IsTable plan rs table → FitsPlan plan table }
 {}

@@ -101,6 +101,8 @@ impl Plan {
     pub fn length(&self) -> u32
         ensures value { result ≡ self.now.length }
         ensures positive { 0 < result }
+        // No fault fits a plan that was made.
+        ensures sound { IsPlan self.now }
     {
         self.length
     }

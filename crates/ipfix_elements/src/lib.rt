@@ -4,6 +4,7 @@
 
 mod cell;
 mod element;
+pub mod iana;
 mod kind;
 mod name;
 mod number;

@@ -134,7 +134,7 @@ next_set-found w x r fits h =
     next_set-cases w x r h (λ s at same rest.
     subst (λ (y : Set). Spelled SpellsSet w y r) same (subst (λ (y : List ℕ). Spelled SpellsSet w (record { id = s.id; body = take s.body (drop 4 w) }) y) rest (spelled_by w s fits at)))
 
-next_set-only : (s : Set) (u r : List ℕ) → SpellsSet s u → next_set (u ++ r) ≡ Ok (s, r)
+pub next_set-only : (s : Set) (u r : List ℕ) → SpellsSet s u → next_set (u ++ r) ≡ Ok (s, r)
 unfolding next_set
 next_set-only s u r spelled =
     let n = length s.body in
@@ -144,7 +144,7 @@ next_set-only s u r spelled =
     let back : drop 4 (set_octets s.id n ++ x) ≡ x = drop_at (set_octets s.id n) x 4 refl in
     ap next_set regrouped ∙ ap (cut_set (set_octets s.id n ++ x)) header ∙ rw (back, take_at s.body r n refl, drop_at s.body r n refl) refl
 
-sets_read : Reads SpellsSet next_set
+pub sets_read : Reads SpellsSet next_set
 sets_read = record { found = next_set-found; only = next_set-only }
 
 -- ---- all sets

@@ -377,7 +377,7 @@ event_at-only kind (Define t) u r spelled =
     ∙ ap (λ (s : Result (List Spec × List ℕ) MessageFault). s >>= λ specs. definition t.id t.scope specs) (specs_at-only t.specs spelled.fields r spelled.in_turn)
     ∙ defined t r spelled.positive
 
-events_read : (kind : Kind) → Reads (SpellsEvent kind) (event_at kind)
+pub events_read : (kind : Kind) → Reads (SpellsEvent kind) (event_at kind)
 events_read kind = record { found = event_at-found kind; only = event_at-only kind }
 
 -- ---- how much a template record takes

@@ -96,15 +96,15 @@ driving_again text reads failed took refused n before now after first last s d k
 -- ---- nothing is read behind a fault
 
 -- octets without a fault
-stops_open : (most : ℕ) (gave : List ℕ) → IsOpen (stop_of gave) → StopsAtFault most gave
-stops_open most gave is_open = record { earlier = gave; last = []; is = sym (append-nil gave); no_fault = is_open; one_read = omega arith }
+stops_open : {S : Type 0} (text : S → Option (List ℕ)) (reads : S → ℕ) (most : ℕ) (before now after : S) (gave : List ℕ) → Consumes (text before) (text now) gave → reads after ≤ reads now + 1 → IsOpen (stop_of gave) → StopsAtFault text reads most before gave after
+stops_open text reads most before now after gave octets few is_open = record { at = now; earlier = gave; last = []; is = sym (append-nil gave); octets = octets; no_fault = is_open; one_read = few; size = omega arith }
 
-pub stops_at : (most : ℕ) (gave : List ℕ) (s : State) → StandsForText s gave → s.fault ≡ None → StopsAtFault most gave
-stops_at most gave s stands none = stops_open most gave (may_go_on s gave stands none)
+pub stops_at : {S : Type 0} (text : S → Option (List ℕ)) (reads : S → ℕ) (most : ℕ) (before now after : S) (gave : List ℕ) (s : State) → Consumes (text before) (text now) gave → reads after ≤ reads now + 1 → StandsForText s gave → s.fault ≡ None → StopsAtFault text reads most before gave after
+stops_at text reads most before now after gave s octets few stands none = stops_open text reads most before now after gave octets few (may_go_on s gave stands none)
 
 -- octets without a fault, and those of one more read
-stops_after : (most : ℕ) (gave piece : List ℕ) (s : State) → StandsForText s gave → s.fault ≡ None → length piece ≤ most → StopsAtFault most (gave ++ piece)
-stops_after most gave piece s stands none fits = record { earlier = gave; last = piece; is = refl; no_fault = may_go_on s gave stands none; one_read = fits }
+stops_after : {S : Type 0} (text : S → Option (List ℕ)) (reads : S → ℕ) (most : ℕ) (before now after : S) (gave piece : List ℕ) (s : State) → Consumes (text before) (text now) gave → reads after ≤ reads now + 1 → StandsForText s gave → s.fault ≡ None → length piece ≤ most → StopsAtFault text reads most before (gave ++ piece) after
+stops_after text reads most before now after gave piece s octets few stands none fits = record { at = now; earlier = gave; last = piece; is = refl; octets = octets; no_fault = may_go_on s gave stands none; one_read = few; size = fits }
 
 pub read_fits : (most n : ℕ) (buffer : List ℕ) → n ≤ length buffer → length buffer ≤ most → length (take n buffer) ≤ most
 read_fits most n buffer fits room = let taken = length-take-le n buffer fits in omega (arith, taken, fits, room)
@@ -161,7 +161,7 @@ drives_fault text reads failed ended took refused limit most n before now after 
     record {
       gave = d.gave ++ piece;
       given = record { octets = Consumes-trans (text before) (text now) (text after) d.gave piece d.octets octets; within = omega (arith, d.within, counted, less) };
-      stops = stops_after most d.gave piece s d.stands d.no_fault fits;
+      stops = stops_after text reads most before now after d.gave piece s d.octets (omega (arith, counted)) d.stands d.no_fault fits;
       ends = subst (λ (o : Option SessionFault). EndsWith text reads failed ended took refused o limit (d.gave ++ piece) before after first more (Reports r)) (sym fault)
           (fault_from text reads failed ended took refused limit before after first last more t d.gave piece (Reports r) f tell d.takes fed);
     }
@@ -173,24 +173,54 @@ told_end true now n buffer is zero room = is
 told_end false now n buffer is zero room = is ∙ ap (λ m. (m == 0) && nat_lt 0 (length buffer)) zero ∙ lt-ltb 0 (length buffer) room
 
 ends_at : {S K : Type 0} (text : S → Option (List ℕ)) (reads failed : S → ℕ) (ended : S → Bool) (took : K → DataRecord → K → Type 0) (refused : K → ℕ) (limit : ℕ) (before after : S) (first last : K) (gave : List ℕ) (told : List Message → ℕ → Type 0)
-    (s : Stop) → stop_of gave ≡ s → IsOpen s → ended after ≡ true → PutsWhole took refused [] (gives gave).messages first last told
+    (s : Stop) → stop_of gave ≡ s → IsOpen s → ended after ≡ true → failed after ≡ failed before → PutsWhole took refused [] (gives gave).messages first last told
     → EndsWith text reads failed ended took refused (fault_at_end s) limit gave before after first last told
-ends_at text reads failed ended took refused limit before after first last gave told Clean is is_open end puts = (is, end, puts)
-ends_at text reads failed ended took refused limit before after first last gave told Short is is_open end puts = (is, end, puts)
-ends_at text reads failed ended took refused limit before after first last gave told (Fault e) is is_open end puts = absurd is_open
+ends_at text reads failed ended took refused limit before after first last gave told Clean is is_open end same puts = (is, end, same, puts)
+ends_at text reads failed ended took refused limit before after first last gave told Short is is_open end same puts = (is, end, same, puts)
+ends_at text reads failed ended took refused limit before after first last gave told (Fault e) is is_open end same puts = absurd is_open
 
 pub drives_ended : {S K : Type 0} (text : S → Option (List ℕ)) (reads failed : S → ℕ) (ended : S → Bool) (took : K → DataRecord → K → Type 0) (refused : K → ℕ) (limit most n : ℕ) (before now after : S) (first last : K) (s : State) (r : SessionReport)
-    → (d : Driving text reads failed took refused n before now first last s) → n < limit → Consumes (text now) (text after) [] → reads after ≡ one_more (reads now) → ended after ≡ true → IsReport r d.gave
+    → (d : Driving text reads failed took refused n before now first last s) → n < limit → Consumes (text now) (text after) [] → reads after ≡ one_more (reads now) → failed after ≡ failed now → ended after ≡ true → IsReport r d.gave
     → Drives text reads failed ended took refused limit most before after first last r
-drives_ended text reads failed ended took refused limit most n before now after first last s r d less octets counted end report =
+drives_ended text reads failed ended took refused limit most n before now after first last s r d less octets counted same end report =
     let is_open = may_go_on s d.gave d.stands d.no_fault in
     record {
       gave = d.gave;
       given = record { octets = subst (λ gave. Consumes (text before) (text after) gave) (append-nil d.gave) (Consumes-trans (text before) (text now) (text after) d.gave [] d.octets octets); within = omega (arith, d.within, counted, less) };
-      stops = stops_open most d.gave is_open;
+      stops = stops_open text reads most before now after d.gave d.octets (omega (arith, counted)) is_open;
       ends = subst (λ (o : Option SessionFault). EndsWith text reads failed ended took refused o limit d.gave before after first last (Reports r)) (sym report.fault)
-          (ends_at text reads failed ended took refused limit before after first last d.gave (Reports r) (stop_of d.gave) refl is_open end
+          (ends_at text reads failed ended took refused limit before after first last d.gave (Reports r) (stop_of d.gave) refl is_open end (same ∙ d.none_failed)
           (record { put = records_of d.gave; takes = d.takes; records = refl; tells = report.reports }));
+    }
+
+pub drives_failed : {S K : Type 0} (text : S → Option (List ℕ)) (reads failed : S → ℕ) (ended : S → Bool) (took : K → DataRecord → K → Type 0) (refused : K → ℕ) (limit most n : ℕ) (before now after : S) (first last : K) (s : State) (r : SessionReport)
+    → (d : Driving text reads failed took refused n before now first last s) → n < limit → Keeps (text now) (text after) → reads after ≡ one_more (reads now) → failed after ≡ one_more (failed now)
+    → ((ms : List Message) (delivered : ℕ) → Tells s.counts ms delivered → Reports r ms delivered) → r.fault ≡ Some faults.ReadFailed
+    → Drives text reads failed ended took refused limit most before after first last r
+drives_failed text reads failed ended took refused limit most n before now after first last s r d less kept counted grew tell fault =
+    record {
+      gave = d.gave;
+      given = record { octets = Consumes-kept (text before) (text now) (text after) d.gave d.octets kept; within = omega (arith, d.within, counted, less) };
+      stops = stops_at text reads most before now after d.gave s d.octets (omega (arith, counted)) d.stands d.no_fault;
+      ends = subst (λ (o : Option SessionFault). EndsWith text reads failed ended took refused o limit d.gave before after first last (Reports r)) (sym fault)
+          (may_go_on s d.gave d.stands d.no_fault, grew ∙ ap one_more d.none_failed,
+           record { put = records_of d.gave; takes = d.takes; records = refl; tells = tell _ _ d.stands.tells });
+    }
+
+pub drives_limit : {S K : Type 0} (text : S → Option (List ℕ)) (reads failed : S → ℕ) (ended : S → Bool) (took : K → DataRecord → K → Type 0) (refused : K → ℕ) (limit most n : ℕ) (before now : S) (first last : K) (s : State) (r : SessionReport)
+    → (d : Driving text reads failed took refused n before now first last s) → n ≡ limit
+    → ((ms : List Message) (delivered : ℕ) → Tells s.counts ms delivered → Reports r ms delivered) → r.fault ≡ Some faults.TooManyReads
+    → Drives text reads failed ended took refused limit most before now first last r
+drives_limit text reads failed ended took refused limit most n before now first last s r d all tell fault =
+    record {
+      gave = d.gave;
+      given = record { octets = d.octets; within = omega (arith, d.within, all) };
+      stops = stops_at text reads most before now now d.gave s d.octets (omega arith) d.stands d.no_fault;
+      ends = subst (λ (o : Option SessionFault). EndsWith text reads failed ended took refused o limit d.gave before now first last (Reports r)) (sym fault)
+          (may_go_on s d.gave d.stands d.no_fault,
+           subst (λ (k : ℕ). (reads now ≡ reads before + k) ⊎ (reads now ≡ 2 ^ 64 - 1)) all d.counted,
+           d.none_failed,
+           record { put = records_of d.gave; takes = d.takes; records = refl; tells = tell _ _ d.stands.tells });
     }
 
 -- ---- no memory for a buffer
@@ -205,6 +235,6 @@ drives_nowhere text reads failed ended took refused limit most source sink s r s
     record {
       gave = [];
       given = record { octets = Consumes-nil (text source); within = omega arith };
-      stops = stops_open most [] (subst (λ (g : Given). IsOpen g.stop) (sym gives_first) tt);
+      stops = stops_open text reads most source source source [] (Consumes-nil (text source)) (omega arith) (subst (λ (g : Given). IsOpen g.stop) (sym gives_first) tt);
       ends = subst (λ (o : Option SessionFault). EndsWith text reads failed ended took refused o limit [] source source sink sink (Reports r)) (sym fault) out;
     }

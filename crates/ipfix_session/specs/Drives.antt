@@ -14,12 +14,15 @@ use Rattle.ipfix_session.specs.Reads.{one_more}
 use Rattle.ipfix_session.specs.Reports.{Reports}
 
 -- nothing is read behind a fault: all but the last octets, at most as many as a read gives, have none
-pub record StopsAtFault (most : ℕ) (gave : List ℕ) : Type 0 where
+pub record StopsAtFault {S : Type 0} (text : S → Option (List ℕ)) (reads : S → ℕ) (most : ℕ) (before : S) (gave : List ℕ) (after : S) : Type 0 where
+  pub at : S
   pub earlier : List ℕ
   pub last : List ℕ
   pub is : gave ≡ earlier ++ last
+  pub octets : Consumes (text before) (text at) earlier
   pub no_fault : IsOpen (stop_of earlier)
-  pub one_read : length last ≤ most
+  pub one_read : reads after ≤ reads at + 1
+  pub size : length last ≤ most
 
 module _ {S K : Type 0} (text : S → Option (List ℕ)) (reads failed : S → ℕ) (ended : S → Bool) (took : K → DataRecord → K → Type 0) (refused : K → ℕ) where
   -- a source gave these octets, in at most that many reads
@@ -31,13 +34,13 @@ module _ {S K : Type 0} (text : S → Option (List ℕ)) (reads failed : S → �
   -- the records of these octets
   abbrev pub EndsWith : Option SessionFault → ℕ → List ℕ → S → S → K → K → (List Message → ℕ → Type 0) → Type 0
   EndsWith None limit gave before after first last told =
-      (stop_of gave ≡ Clean) × (ended after ≡ true) × PutsWhole took refused [] (gives gave).messages first last told
+      (stop_of gave ≡ Clean) × (ended after ≡ true) × (failed after ≡ failed before) × PutsWhole took refused [] (gives gave).messages first last told
   EndsWith (Some faults.Truncated) limit gave before after first last told =
-      (stop_of gave ≡ Short) × (ended after ≡ true) × PutsWhole took refused [] (gives gave).messages first last told
+      (stop_of gave ≡ Short) × (ended after ≡ true) × (failed after ≡ failed before) × PutsWhole took refused [] (gives gave).messages first last told
   EndsWith (Some faults.ReadFailed) limit gave before after first last told =
       IsOpen (stop_of gave) × (failed after ≡ one_more (failed before)) × PutsWhole took refused [] (gives gave).messages first last told
   EndsWith (Some faults.TooManyReads) limit gave before after first last told =
-      IsOpen (stop_of gave) × ((reads after ≡ reads before + limit) ⊎ (reads after ≡ 2 ^ 64 - 1)) × PutsWhole took refused [] (gives gave).messages first last told
+      IsOpen (stop_of gave) × ((reads after ≡ reads before + limit) ⊎ (reads after ≡ 2 ^ 64 - 1)) × (failed after ≡ failed before) × PutsWhole took refused [] (gives gave).messages first last told
   EndsWith (Some (faults.Message OutOfMemory)) limit gave before after first last told =
       RunsOut took refused [] (gives gave).messages first last told
   EndsWith (Some (faults.Message e)) limit gave before after first last told =
@@ -49,5 +52,5 @@ module _ {S K : Type 0} (text : S → Option (List ℕ)) (reads failed : S → �
   pub record Drives (limit most : ℕ) (before after : S) (first last : K) (r : SessionReport) : Type 0 where
     pub gave : List ℕ
     pub given : Gave limit before gave after
-    pub stops : StopsAtFault most gave
+    pub stops : StopsAtFault text reads most before gave after
     pub ends : EndsWith r.fault limit gave before after first last (Reports r)

@@ -12,6 +12,9 @@ use std::alloc::AllocError;
 
 const VERSION: u16 = 10;
 
+/// Octets of a message header.
+pub const HEADER_LENGTH: usize = 16;
+
 /// What a message header says.
 #[derive(Clone, Copy, Debug, PartialEq, Eq)]
 pub struct Header {

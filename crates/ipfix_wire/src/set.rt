@@ -9,6 +9,18 @@ use crate::numbers::u16_at;
 use byteorder::{BigEndian, ByteOrder};
 use std::alloc::AllocError;
 
+/// Octets of a set header.
+pub const SET_HEADER_LENGTH: usize = 4;
+
+/// The id of a template set.
+pub const TEMPLATE_SET_ID: u16 = 2;
+
+/// The id of an options template set.
+pub const OPTIONS_TEMPLATE_SET_ID: u16 = 3;
+
+/// The least id of a template, and of a data set (RFC 7011, section 3.4.1).
+pub const FIRST_TEMPLATE_ID: u16 = 256;
+
 /// A set: its id, and how many octets its body has.
 #[derive(Clone, Copy, Debug, PartialEq, Eq)]
 pub struct SetSpan {

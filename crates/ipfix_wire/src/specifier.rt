@@ -10,6 +10,9 @@ use std::alloc::AllocError;
 
 const ENTERPRISE_BIT: u16 = 0x8000;
 
+/// The width of a field that says its own length (RFC 7011, section 7).
+pub const VARIABLE_WIDTH: u16 = 65535;
+
 /// An information element.
 #[derive(Clone, Copy, Debug, PartialEq, Eq)]
 pub struct ElementId {
@@ -19,11 +22,20 @@ pub struct ElementId {
     pub number: u16,
 }
 
+impl ElementId {
+    /// An element of IANA's registry.
+    pub fn iana(number: u16) -> ElementId
+        ensures { result ≡ record { pen = 0; number = number } }
+    {
+        ElementId { pen: 0, number }
+    }
+}
+
 /// A field specifier: an element and the width of its fields.
 #[derive(Clone, Copy, Debug, PartialEq, Eq)]
 pub struct Spec {
     pub element: ElementId,
-    /// Octets of a field, or 65535 where each field says its own length.
+    /// Octets of a field, or [`VARIABLE_WIDTH`].
     pub width: u16,
 }
 

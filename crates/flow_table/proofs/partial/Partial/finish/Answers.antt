@@ -31,7 +31,7 @@ pub returns-clause-fits : goal.returns-clause-fits
 unfolding StandsFor plan_of
 returns-clause-fits c = λ rs stands.
     let holds = holds_of c.args.self.plan c.args.self.plan c.args.self.cells.entries c.args.self.tally rs c.args.self.fault refl c.in-None.is stands in
-    IfOk-weaker c.finish_table.result _ _ (λ table h. table_fits c.args.self.plan rs table holds.keys_fit (h c.args.self.plan rs holds.cells_are holds.tally_is)) c.finish_table.ensures.table
+    IfOk-weaker c.finish_table.result _ _ (λ table h. table_fits c.args.self.plan rs table holds.keys_fit holds.small (h c.args.self.plan rs holds.cells_are holds.tally_is)) c.finish_table.ensures.table
 
 pub returns-clause-small : goal.returns-clause-small
 unfolding StandsFor plan_of
