@@ -1,5 +1,5 @@
 -- The domains of a session with their events, and what a message gives after them (RFC 7011, sections 3.1 and 8).
-use Rattle.std.specs.Prelude.{◌≡◌, ℕ, Bool, nat_lt, ◌==◌, nat_eq, is_some, if◌then◌else◌, List, [], ◌∷◌, ◌++◌, length, drop, Option, Result, Ok, Err}
+use Rattle.std.specs.Prelude.{◌≡◌, ℕ, Bool, nat_lt, ◌==◌, nat_eq, is_some, if◌then◌else◌, List, [], ◌∷◌, ◌++◌, length, drop, Option, Result, Ok, Err, IsOk}
 use Rattle.std.specs.Map.{lookup, keys_of, set_value}
 use Rattle.std.specs.Option.{unwrap_or, option_and_then}
 use Rattle.std.specs.Ordering.{nat_cmp, eq_by_cmp}
@@ -46,6 +46,12 @@ admit ds domain =
     if is_some (lookup (nat_eq domain) ds) then Ok ds
     else if nat_lt (length ds) 1024 then Ok (ds ++ (domain, []) ∷ [])
     else Err TooManyDomains
+
+-- the header of a message is good, and its domain is one of those before it or finds room among them
+pub record IsAdmitted (ds : History) (m : List ℕ) : Type 0 where
+  pub header : Header
+  pub good : message_header m ≡ Ok header
+  pub domain : IsOk (admit ds header.domain)
 
 -- with other events at a domain
 abbrev pub with_events : History → ℕ → List Event → History

@@ -1,12 +1,12 @@
 //! A message: its header, its domain and its sets (RFC 7011, section 3.1).
 
-ghost use Rattle.std.specs.Prelude.{◌≡◌, ◌≤◌, length};
-ghost use Rattle.ipfix_message.specs.Outcome.{Gives};
-ghost use Rattle.std.specs.Prelude.{nat_eq, List, OnOk, IsSome};
+ghost use Rattle.std.specs.Prelude.{◌≡◌, ◌≤◌, nat_eq, List, length, IsOk, IsErrOf, OnOk, IsSome};
 ghost use Rattle.indexmap.specs.IndexMap.{get};
 ghost use Rattle.ipfix_message.specs.Domains;
-ghost use Rattle.ipfix_message.specs.Domains.{History, StandsFor, Decodes, message_gives};
+ghost use Rattle.ipfix_message.specs.Domains.{History, StandsFor, Decodes, IsAdmitted, message_gives};
 ghost use Rattle.ipfix_message.specs.Held.{Admits};
+ghost use Rattle.ipfix_message.specs.Outcome.{Gives};
+ghost use Rattle.ipfix_message.specs.declared.fault.MessageFault.TheVariants.{OutOfMemory};
 ghost use Rattle.ipfix_message.specs.Kept.{kept};
 
 use crate::fault::MessageFault;
@@ -24,6 +24,7 @@ pub const DOMAINS: usize = 1024;
 #[tactic(auto, unfolding(crate::specs::Domains::message_header))]
 fn header_of(message: &[u8]) -> Result<Header, MessageFault>
     ensures gives { Gives (λ h. h) result (Domains.message_header message.now) }
+    ensures memory { ¬ IsErrOf result OutOfMemory }
     ensures long { OnOk result (16 ≤ length message.now) }
 {
     if message.len() < 16 {
@@ -46,6 +47,7 @@ fn admit(
     domain: u32,
 ) -> Result<(), MessageFault>
     ensures gives { (ds : History) → StandsFor (kept known.old.entries) ds → Admits result (kept known.new.entries) (Domains.admit ds domain) }
+    ensures memory { IsErrOf result OutOfMemory → (ds : History) → StandsFor (kept known.old.entries) ds → IsOk (Domains.admit ds domain) }
     ensures present { OnOk result (IsSome (get nat_eq known.new domain)) }
 {
     if known.contains_key(&domain) {
@@ -79,7 +81,8 @@ pub fn read_message(
     known: &mut IndexMap<u32, Templates>,
     message: &[u8],
 ) -> Result<Decoded, MessageFault>
-    ensures { (ds : History) → StandsFor (kept known.old.entries) ds → Decodes result (kept known.new.entries) (message_gives ds message.now) }
+    ensures gives { (ds : History) → StandsFor (kept known.old.entries) ds → Decodes result (kept known.new.entries) (message_gives ds message.now) }
+    ensures memory { IsErrOf result OutOfMemory → (ds : History) → StandsFor (kept known.old.entries) ds → IsAdmitted ds message.now }
 {
     let header = header_of(message)?;
     admit(alloc, known, header.domain)?;
