@@ -249,10 +249,11 @@ pub events_of : (xs : List (ℕ × BTreeMap ℕ Template)) (ds : History) (domai
 events_of xs ds domain m stands here =
     events_at (lookup (eqb domain) (kept xs)) ds domain (lookup (eqb domain) ds) m.entries (lookup-kept domain xs ∙ ap (option_map (λ (x : BTreeMap ℕ Template). x.entries)) here) refl (stands-at (kept xs) ds stands domain)
 
-abbrev after_admit : Header → List ℕ → History → Result Message MessageFault
+-- what follows in a message once its domain is admitted, and once its sets are read
+abbrev pub after_admit : Header → List ℕ → History → Result Message MessageFault
 after_admit h m known = sets_from h (before (unwrap_or (lookup (eqb h.domain) known) [])) (drop 16 m) >>= λ d. Ok (record { header = h; decoding = d; domains = with_events known h.domain d.events })
 
-abbrev after_sets : Header → History → Decoding → Result Message MessageFault
+abbrev pub after_sets : Header → History → Decoding → Result Message MessageFault
 after_sets h known d = Ok (record { header = h; decoding = d; domains = with_events known h.domain d.events })
 
 gives_header : (ds : History) (m : List ℕ) (read : Result Header MessageFault) → message_header m ≡ read → message_gives ds m ≡ (read >>= λ h. admit ds h.domain >>= λ known. after_admit h m known)

@@ -1,5 +1,5 @@
 -- Data records and the body of a data set (RFC 7011, sections 3.4.3 and 7).
-use Rattle.std.specs.Prelude.{◌≡◌, ◌≢◌, ℕ, ◌+◌, ◌<◌, ◌⊎◌, nat_lt, ◌==◌, if◌then◌else◌, List, [], ◌∷◌, ◌++◌, length, take, drop, Option, Some, None, Result, Ok, Err}
+use Rattle.std.specs.Prelude.{◌≡◌, ◌≢◌, ℕ, ◌+◌, ◌<◌, ◌⊎◌, nat_lt, ◌==◌, if◌then◌else◌, List, [], ◌∷◌, ◌++◌, length, take, drop, Option, Some, None, Result, Ok, Err, All}
 use Rattle.ipfix_wire.specs.VariableLength.{SpellsLength, length_at}
 use Rattle.ipfix_wire.specs.declared.specifier.Spec.{Spec}
 use Rattle.ipfix_message.specs.declared.fault.MessageFault.{MessageFault}
@@ -73,3 +73,7 @@ records_of_body specs w = finished (least specs) (parts_of (fields_at specs) w)
 -- a data record: its fields, with the domain and the time of its message and the id and scope of its template
 abbrev pub record_of : Header → Template → List Field → DataRecord
 record_of h t fields = record { domain = h.domain; export_time = h.export_time; template = t.id; scope = t.scope; fields = fields }
+
+-- all octets of all fields are octets
+abbrev pub HasOctets : DataRecord → Type 0
+HasOctets r = All (λ field. All (λ b. b < 256) field.octets) r.fields

@@ -17,6 +17,6 @@ mod template_record;
 pub use domains::Domains;
 pub use fault::MessageFault;
 pub use field_block::{FieldIter, FieldRef, Fields};
-pub use laws::{last_definition, longest_events, longest_sets, one_body};
+pub use laws::{last_definition, longest_events, longest_sets, one_body, records_of_octets};
 pub use message::Decoded;
 pub use record::{DataRecord, Specs, Template};
