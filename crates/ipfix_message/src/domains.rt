@@ -5,7 +5,8 @@ ghost use Rattle.ipfix_message.specs.Domains.{History, StandsFor, Decodes, IsAdm
 ghost use Rattle.ipfix_message.specs.declared.fault.MessageFault.TheVariants.{OutOfMemory, Spent};
 
 use crate::fault::MessageFault;
-use crate::message::{Decoded, Templates, read_message};
+use crate::in_force::Templates;
+use crate::message::{Decoded, read_message};
 use crate::record::Template;
 use indexmap::IndexMap;
 use std::alloc::Global;

@@ -7,11 +7,11 @@ mod domains;
 mod fault;
 mod field_block;
 mod in_force;
-mod known;
 mod laws;
 mod message;
 mod record;
 mod sets;
+mod template_in_force;
 mod template_record;
 
 pub use domains::Domains;

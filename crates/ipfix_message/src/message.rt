@@ -10,24 +10,25 @@ ghost use Rattle.ipfix_message.specs.declared.fault.MessageFault.TheVariants.{Ou
 ghost use Rattle.ipfix_message.specs.Kept.{kept};
 
 use crate::fault::MessageFault;
-use crate::known::Known;
+use crate::in_force::Templates;
 use crate::record::DataRecord;
 use crate::sets::{Progress, take_sets};
 use indexmap::IndexMap;
-use ipfix_wire::{Header, read_header};
+use ipfix_wire::{HEADER_LENGTH, Header, read_header};
 use std::alloc::Global;
 use std::collections::BTreeMap;
 
-/// How many domains a session may have.
-pub const DOMAINS: usize = 1024;
+// how many domains a session may have
+const MAX_DOMAINS: usize = 1024;
 
+// the header, whose length is that of the message
 #[tactic(auto, unfolding(crate::specs::Domains::message_header))]
 fn header_of(message: &[u8]) -> Result<Header, MessageFault>
     ensures gives { Gives (λ h. h) result (Domains.message_header message.now) }
     ensures memory { ¬ IsErrOf result OutOfMemory }
-    ensures long { OnOk result (16 ≤ length message.now) }
+    ensures long { OnOk result (HEADER_LENGTH ≤ length message.now) }
 {
-    if message.len() < 16 {
+    if message.len() < HEADER_LENGTH {
         return Err(MessageFault::MessageLength);
     }
     let header = read_header(message)?;
@@ -36,9 +37,6 @@ fn header_of(message: &[u8]) -> Result<Header, MessageFault>
     }
     Ok(header)
 }
-
-/// The templates of a domain that are in force, by id.
-pub type Templates = BTreeMap<u16, Known>;
 
 // makes sure that a domain is known
 fn admit(
@@ -53,7 +51,7 @@ fn admit(
     if known.contains_key(&domain) {
         return Ok(());
     }
-    if known.len() >= DOMAINS {
+    if known.len() >= MAX_DOMAINS {
         return Err(MessageFault::TooManyDomains);
     }
     let _ = known.insert(domain, BTreeMap::new(alloc))?;
@@ -93,7 +91,13 @@ pub fn read_message(
         ignored: 0,
     };
     let templates = known.get_mut(&header.domain).unwrap();
-    take_sets(alloc, &header, &message[16..], templates, &mut progress)?;
+    take_sets(
+        alloc,
+        &header,
+        &message[HEADER_LENGTH..],
+        templates,
+        &mut progress,
+    )?;
     let Progress {
         records,
         skipped,
