@@ -1,18 +1,21 @@
 -- What a driven session gave, if its sink gave no record back.
-use Rattle.std.proofs.Common.{◌≡◌, ℕ, List, [], ◌++◌, Option, None, Some, length, refl, sym, ap, subst, ◌∙◌, append-nil, arith}
+use Rattle.std.proofs.Common.{◌≡◌, ℕ, List, [], ◌++◌, Option, None, Some, length, refl, sym, ap, subst, ◌∙◌, append-nil, arith, true}
 use Rattle.std.specs.Prelude.{◌≢◌}
+use Rattle.std.specs.Option.{ForSome}
+use Rattle.std.specs.Io.KnownBytes.{Consumes}
 use Rattle.ipfix_message.specs.Domains.{Message}
 use Rattle.ipfix_message.specs.declared.fault.MessageFault.TheVariants.{OutOfMemory}
 use Rattle.ipfix_message.specs.declared.record.DataRecord.{DataRecord}
 use Rattle.ipfix_session.specs.declared.fault.SessionFault.{SessionFault}
 use Rattle.ipfix_session.specs.declared.fault.SessionFault.TheVariants as faults
+use Rattle.ipfix_session.specs.declared.stop.Stop.TheVariants.{Clean}
 use Rattle.ipfix_session.specs.declared.report.SessionReport.{SessionReport}
-use Rattle.ipfix_session.specs.Given.{gives, records_in, records_of, IsPrefix}
+use Rattle.ipfix_session.specs.Given.{gives, records_in, records_of, stop_of, IsPrefix}
 use Rattle.ipfix_session.specs.Sources.{SourceView}
 use Rattle.ipfix_session.specs.Sinks.{SinkView, Takes}
 use Rattle.ipfix_session.specs.Feeding.{PutsWhole}
 use Rattle.ipfix_session.specs.Reports.{Reports}
-use Rattle.ipfix_session.specs.Drives.{Gave, IsGiven, PutsUpTo, Drives, TakesGiven}
+use Rattle.ipfix_session.specs.Drives.{IsDue, IsGiven, PutsUpTo, Drives, TakesGiven}
 use Rattle.ipfix_session.proofs.Giving.{gives-prefix}
 use Rattle.ipfix_session.proofs.Reaching.{takes-append}
 
@@ -72,3 +75,19 @@ module _ {K : Type 0} (view : SinkView K) (limit most : ℕ) (before after : Sou
 
   pub driven_took_all : Drives view limit most before after first last r → view.refused last ≡ 0 → TakesGiven view limit most before after first last r
   driven_took_all d none = driven_is_given d (closed_not r.fault _ _ _ _ none d.puts)
+
+-- ---- a session without a fault
+
+consumed_all : (before after : Option (List ℕ)) (whole gave : List ℕ) → before ≡ Some whole → Consumes before after gave → ForSome after (λ xs. xs ≡ []) → gave ≡ whole
+consumed_all before None whole gave is some end = absurd (subst (λ b. Consumes b None gave) is some)
+consumed_all before (Some left) whole gave is some end =
+    let all : whole ≡ gave ++ left = subst (λ b. Consumes b (Some left) gave) is some in
+    sym (all ∙ ap (λ (w : List ℕ). gave ++ w) (end left refl) ∙ append-nil gave)
+
+pub given_all_of : (limit most : ℕ) (before after : SourceView) (r : SessionReport) (records : List DataRecord) (whole : List ℕ) → (after.ended ≡ true → ForSome after.text (λ xs. xs ≡ []))
+    → IsGiven limit most before after r records → r.fault ≡ None → before.text ≡ Some whole → (stop_of whole ≡ Clean) × (records ≡ records_of whole)
+given_all_of limit most before after r records whole at_end g none is =
+    let due : IsDue None limit g.gave before after = subst (λ (o : Option SessionFault). IsDue o limit g.gave before after) none g.given.fault_is_due in
+    let all : g.gave ≡ whole = consumed_all before.text after.text whole g.gave is g.given.octets (at_end due.1) in
+    let memory : r.fault ≢ Some (faults.Message OutOfMemory) = λ e. let no : None ≡ Some (faults.Message OutOfMemory) = sym none ∙ e in cc in
+    (ap stop_of (sym all) ∙ due.0, g.records_are ∙ ap records_in (g.all memory) ∙ ap records_of all)

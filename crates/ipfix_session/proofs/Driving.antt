@@ -239,9 +239,9 @@ drives_ended view limit most n count before now after first last s buffer r d le
     drives_still view limit most n before now after first last s r d
     (subst same (append-nil d.gave) (Consumes-trans before.text now.text after.text d.gave [] d.octets moved)) (omega (arith, d.within, read.counted, less)) (omega (arith, read.counted))
     (subst (λ (o : Option SessionFault). IsDue o limit d.gave before after) (sym report.fault)
-        (due_at limit before after d.gave (stop_of d.gave) refl is_open (told_end now.ended after.ended count buffer read.end none room) (read.failures ∙ d.none_failed)))
+    (due_at limit before after d.gave (stop_of d.gave) refl is_open (told_end now.ended after.ended count buffer read.end none room) (read.failures ∙ d.none_failed)))
     (subst (λ (o : Option SessionFault). PutsUpTo view o (gives d.gave).messages (gives d.gave).messages last last (Reports r)) (sym report.fault)
-        (put_at view last last (gives d.gave).messages (gives d.gave).messages (Reports r) (stop_of d.gave) is_open (puts_none view last d.gave (Reports r) report.reports)))
+    (put_at view last last (gives d.gave).messages (gives d.gave).messages (Reports r) (stop_of d.gave) is_open (puts_none view last d.gave (Reports r) report.reports)))
 
 -- ---- a read that failed
 
@@ -264,7 +264,7 @@ pub drives_limit : {K : Type 0} (view : SinkView K) (limit most n : ℕ) (before
 drives_limit view limit most n before now first last s r d all tell fault =
     drives_still view limit most n before now now first last s r d d.octets (omega (arith, d.within, all)) (omega arith)
     (subst (λ (o : Option SessionFault). IsDue o limit d.gave before now) (sym fault)
-        (may_go_on s d.gave d.stands d.no_fault, subst (λ (k : ℕ). (now.reads ≡ before.reads + k) ⊎ (now.reads ≡ 2 ^ 64 - 1)) all d.counted, d.none_failed, d.not_ended))
+    (may_go_on s d.gave d.stands d.no_fault, subst (λ (k : ℕ). (now.reads ≡ before.reads + k) ⊎ (now.reads ≡ 2 ^ 64 - 1)) all d.counted, d.none_failed, d.not_ended))
     (subst (λ (o : Option SessionFault). PutsUpTo view o (gives d.gave).messages (gives d.gave).messages last last (Reports r)) (sym fault) (puts_none view last d.gave (Reports r) (tell _ _ d.stands.tells)))
 
 -- ---- no memory for a buffer
@@ -277,7 +277,7 @@ drives_nowhere view limit most source sink s r stands tell fault =
     let d = driving_first view source sink s stands in
     let ms = (gives []).messages in
     let out : RunsOut view ms ms sink sink (Reports r) =
-        record { whole = ms; from = ([], sym (append-nil ms)); up_to = ([], sym (append-nil ms)); puts = puts_none view sink [] (Reports r) (tell _ _ stands.tells) } in
+    record { whole = ms; from = ([], sym (append-nil ms)); up_to = ([], sym (append-nil ms)); puts = puts_none view sink [] (Reports r) (tell _ _ stands.tells) } in
     drives_still view limit most 0 source source source sink sink s r d d.octets (omega arith) (omega arith)
     (subst (λ (o : Option SessionFault). IsDue o limit [] source source) (sym fault) tt)
     (subst (λ (o : Option SessionFault). PutsUpTo view o ms ms sink sink (Reports r)) (sym fault) out)

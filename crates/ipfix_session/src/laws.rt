@@ -1,18 +1,20 @@
 //! Laws of the definitions.
 
-ghost use Rattle.std.specs.Prelude.{◌≡◌, ◌≢◌, ◌++◌, [], ℕ, List, Some};
+ghost use Rattle.std.specs.Prelude.{◌≡◌, ◌≢◌, ◌++◌, [], ℕ, List, Some, None};
 ghost use Rattle.ipfix_wire.specs.Numbers.{IsOctets};
 ghost use Rattle.ipfix_wire.specs.InTurn.{IsLongest};
 ghost use Rattle.ipfix_message.specs.declared.fault.MessageFault.{MessageFault};
+ghost use Rattle.ipfix_message.specs.declared.record.DataRecord.{DataRecord};
 ghost use Rattle.ipfix_session.specs.MessageStream.{SpellsMessage, cut};
 ghost use Rattle.ipfix_session.specs.Given.{gives, gives_after, behind, known_after, records_of, stop_of, IsOpen, IsPrefix};
 ghost use Rattle.ipfix_session.specs.Sources.{SourceView};
-ghost use Rattle.ipfix_session.specs.Drives.{Drives, TakesGiven};
-ghost use Rattle.ipfix_session.specs.declared.stop.Stop.TheVariants.{Fault};
+ghost use Rattle.ipfix_session.specs.Drives.{Drives, IsGiven, TakesGiven};
+ghost use Rattle.ipfix_session.specs.declared.stop.Stop.TheVariants.{Clean, Fault};
 ghost use Rattle.ipfix_session.specs.declared.fault.SessionFault.TheVariants.{SinkClosed};
 ghost use Rattle.ipfix_session.specs.declared.report.SessionReport.{SessionReport};
 
 use crate::sink::Sink;
+use crate::source::Source;
 
 /// A text is cut into the longest list of messages that it begins with, one after another, and its
 /// rest, with which no message begins (RFC 5655, section 6).
@@ -41,4 +43,12 @@ pub fn driven_is_given<K: Sink>()
         → Drives K.seen limit most before after first last r → K.seen.refused last ≡ 0 → TakesGiven K.seen limit most before after first last r }
     ensures fault { (limit most : ℕ) (before after : SourceView) (first last : K) (r : SessionReport)
         → Drives K.seen limit most before after first last r → r.fault ≢ Some SinkClosed → TakesGiven K.seen limit most before after first last r }
+{}
+
+/// A session without a fault has read all that its source held: whole messages, of which it has all
+/// records.
+pub fn no_fault_is_all<S: Source>()
+    ensures { (limit most : ℕ) (before after : S) (r : SessionReport) (records : List DataRecord) (text : List ℕ)
+        → IsGiven limit most (S.seen before) (S.seen after) r records → r.fault ≡ None → (S.seen before).text ≡ Some text
+        → (stop_of text ≡ Clean) × (records ≡ records_of text) }
 {}
