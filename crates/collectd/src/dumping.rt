@@ -10,7 +10,7 @@ use std::alloc::Global;
 use std::io::Write;
 
 /// The most reads of a session.
-const READ_LIMIT: u64 = 1 << 40;
+pub const READ_LIMIT: u64 = 1 << 40;
 
 /// Reads a source to its end and writes a line for each data record of its octets, up to the end or
 /// the first fault. The lines of a message are written as soon as it is whole.
