@@ -2,7 +2,6 @@
 use Rattle.std.proofs.Common.{◌≡◌, ◌≢◌, ◌+◌, ◌^◌, ◌<◌, ◌≤◌, ℕ, true, false, List, [], ◌∷◌, ◌++◌, map, Option, Some, None, Result, Ok, Err, OnOk, IfOk, IfErr, refl, sym, ap, ◌∙◌, subst, inr, arith}
 use Rattle.std.specs.Result.{result_err}
 use Rattle.std.specs.Option.{IsSome, IfSome}
-use Rattle.std.proofs.lemmas.List.Sums.{sum_by-append}
 use Rattle.ipfix_elements.specs.declared.cell.Cell.{Cell}
 use Rattle.ipfix_message.specs.declared.record.DataRecord.{DataRecord}
 use Rattle.flow_table.specs.declared.class.Class.{Class}
@@ -10,7 +9,6 @@ use Rattle.flow_table.specs.declared.class.Class.TheVariants.{Options, Untimed, 
 use Rattle.flow_table.specs.declared.tally.Tally.{Tally}
 use Rattle.flow_table.specs.declared.table_fault.TableFault.{TableFault}
 use Rattle.flow_table.specs.declared.table_fault.TableFault.TheVariants.{OutOfMemory, SumTooLarge}
-use Rattle.flow_table.specs.Bags.{IsSameBag}
 use Rattle.flow_table.specs.declared.reading.Reading.TheVariants.{Left}
 use Rattle.flow_table.specs.Fitting.{KeysFit}
 use Rattle.flow_table.specs.Flows.{flow_part}
@@ -21,7 +19,7 @@ use Rattle.flow_table.specs.Partials.{totals_at, Holds, StandsBy, unless, tally_
 use Rattle.flow_table.specs.Tables.{count_of, flows_at, tally_of, IsTooLarge}
 use Rattle.flow_table.specs.Totals.{Total, joined, IsLargeAt}
 use Rattle.flow_table.proofs.Fits.{no_keys_fit, read_keys_fit, both_keys_fit}
-use Rattle.flow_table.proofs.Bags.{too_large_bag, too_large_more as too_large_stay}
+use Rattle.flow_table.proofs.Bags.{turned, too_large_bag, too_large_more as too_large_stay}
 use Rattle.flow_table.proofs.Sums.{same_tally, totals_at-append, totals_at-left, totals_at-used, tally_of-append, tally_of-one, count_of-append, too_large_at, small_from}
 
 -- ---- tallies
@@ -190,12 +188,9 @@ join_stands plan old new others before more after rs qs (Err e) a b sum counts s
     let at = large same in
     too_large_sum plan old before rs qs a (at.0, at.1, subst (λ (o : Option Total). IsLargeAt (joined (cell_at old at.0 at.1) o)) (b.cells_are at.0 at.1) at.2))
 
-turned : (rs qs : List DataRecord) → IsSameBag (qs ++ rs) (rs ++ qs)
-turned rs qs weight = omega (arith, sum_by-append weight rs qs, sum_by-append weight qs rs)
-
 -- more records before those that are too many
 too_large_behind : (plan : PlanValue) (rs qs : List DataRecord) → IsTooLarge plan qs → IsTooLarge plan (rs ++ qs)
-too_large_behind plan rs qs large = too_large_bag plan (qs ++ rs) (rs ++ qs) (turned rs qs) (too_large_stay plan qs rs large)
+too_large_behind plan rs qs large = too_large_bag plan (qs ++ rs) (rs ++ qs) (turned qs rs) (too_large_stay plan qs rs large)
 
 -- the fault of what is merged in
 pub stands_taken : (plan other : PlanValue) (cells others : CellEntries) (t u : Tally) (rs qs : List DataRecord) (o : Option TableFault) (e : TableFault) → other ≡ plan → o ≡ Some e → StandsBy o other others u qs → StandsBy (Some e) plan cells t (rs ++ qs)
@@ -231,3 +226,12 @@ if_none {X} o r is = subst (λ (p : Option TableFault). IfSome p (λ f. r ≡ Er
 pub on_ok : {X A : Type 0} (r : Result X TableFault) → A → OnOk r A
 on_ok (Ok x) a = a
 on_ok (Err e) a = tt
+
+-- an answer with the fault that is kept, and the list that is then stood for
+pub small_on_ok : {X : Type 0} (r : Result X TableFault) (plan : PlanValue) (cells : CellEntries) (t : Tally) (rs : List DataRecord) → StandsBy (result_err r) plan cells t rs → OnOk r (IsTooLarge plan rs → ⊥)
+small_on_ok (Ok x) plan cells t rs stands = stands.small
+small_on_ok (Err e) plan cells t rs stands = tt
+
+pub large_if_err : {X : Type 0} (r : Result X TableFault) (plan : PlanValue) (cells : CellEntries) (t : Tally) (rs : List DataRecord) → StandsBy (result_err r) plan cells t rs → IfErr r (λ e. e ≡ SumTooLarge → IsTooLarge plan rs)
+large_if_err (Ok x) plan cells t rs stands = tt
+large_if_err (Err e) plan cells t rs stands = λ large. subst (λ (f : TableFault). StandsBy (Some f) plan cells t rs) large stands

@@ -70,6 +70,8 @@ impl Partial {
         ensures answer { result ≡ unless (fault_of self.new) (class_of (plan_of self.old) data_record.now) }
         ensures sticky { IsSome (fault_of self.old) → fault_of self.new ≡ fault_of self.old }
         ensures adds { (rs : List DataRecord) → StandsFor self.old rs → StandsFor self.new (rs ++ data_record.now ∷ []) }
+        ensures small { (rs : List DataRecord) → StandsFor self.old rs → OnOk result (IsTooLarge (plan_of self.old) (rs ++ data_record.now ∷ []) → ⊥) }
+        ensures large { (rs : List DataRecord) → StandsFor self.old rs → IfErr result (λ e. e ≡ SumTooLarge → IsTooLarge (plan_of self.old) (rs ++ data_record.now ∷ [])) }
     {
         if let Some(fault) = self.fault {
             return Err(fault);
@@ -98,6 +100,8 @@ impl Partial {
         ensures sticky { IsSome (fault_of self.old) → fault_of self.new ≡ fault_of self.old }
         ensures takes_over { fault_of self.old ≡ None → IsSome (fault_of other) → fault_of self.new ≡ fault_of other }
         ensures merges { (rs qs : List DataRecord) → StandsFor self.old rs → StandsFor other qs → StandsFor self.new (rs ++ qs) }
+        ensures small { (rs qs : List DataRecord) → StandsFor self.old rs → StandsFor other qs → OnOk result (IsTooLarge (plan_of self.old) (rs ++ qs) → ⊥) }
+        ensures large { (rs qs : List DataRecord) → StandsFor self.old rs → StandsFor other qs → IfErr result (λ e. e ≡ SumTooLarge → IsTooLarge (plan_of self.old) (rs ++ qs)) }
     {
         let Partial {
             cells,
