@@ -82,6 +82,12 @@ fits_added (Err e) es news key v w t was is sum fits = tt
 fits_added (Ok x) es news key v w t was is sum fits =
     fits_found (row_at es key) (row_at news key) v w t was (at_key (row_at es) (row_at news) key t (added_found es news key v w t was is sum)) sum fits
 
+-- the same, where the key is told by another word
+pub fits_at : {E : Type 0} (r : Result (Unit {0}) E) (es news : RowEntries) (key other : List Cell) (v w t : Total) → key ≡ other → row_at es key ≡ Some v → news ≡ insert_entry key_cmp es key w
+    → OnOk r (w ≡ sum_of v t) → OnOk r (IsLarge w → ⊥) → OnOk r (IsLargeAt (row_at news other) → ⊥)
+fits_at r es news key other v w t same was is sum fits =
+    subst (λ (k : List Cell). OnOk r (IsLargeAt (row_at news k) → ⊥)) same (fits_added r es news key v w t was is sum fits)
+
 -- ---- sums at one interval and one key
 
 greater_apart : (x y : ℕ) → nat_cmp x y ≡ Greater → x ≢ y
