@@ -13,7 +13,7 @@ use crate::finishing::finish_table;
 use crate::merging::join;
 use crate::plan::Plan;
 use crate::row_key::RowKey;
-use crate::rows::Cells;
+use crate::rows::Intervals;
 use crate::table::Table;
 use crate::table_fault::TableFault;
 use crate::taking::{Room, take};
@@ -30,7 +30,7 @@ use std::collections::BTreeMap;
 pub struct Partial {
     alloc: Global,
     plan: Plan,
-    cells: Cells,
+    intervals: Intervals,
     tally: Tally,
     fault: Option<TableFault>,
     room: Room,
@@ -49,7 +49,7 @@ impl Partial {
         Ok(Partial {
             alloc,
             plan: plan.copy(alloc)?,
-            cells: BTreeMap::new(alloc),
+            intervals: BTreeMap::new(alloc),
             tally: Tally::EMPTY,
             fault: None,
             room: Room {
@@ -79,7 +79,7 @@ impl Partial {
         let result = take(
             self.alloc,
             &self.plan,
-            &mut self.cells,
+            &mut self.intervals,
             &mut self.tally,
             &mut self.room,
             data_record,
@@ -104,7 +104,7 @@ impl Partial {
         ensures large { (rs qs : List DataRecord) → StandsFor self.old rs → StandsFor other qs → IfErr result (λ e. e ≡ SumTooLarge → IsTooLarge (plan_of self.old) (rs ++ qs)) }
     {
         let Partial {
-            cells,
+            intervals,
             tally,
             fault,
             ..
@@ -116,7 +116,7 @@ impl Partial {
             self.fault = Some(fault);
             return Err(fault);
         }
-        let result = join(&mut self.cells, &mut self.tally, cells, &tally);
+        let result = join(&mut self.intervals, &mut self.tally, intervals, &tally);
         self.fault = result.err();
         result
     }
@@ -134,14 +134,14 @@ impl Partial {
     {
         let Partial {
             alloc,
-            cells,
+            intervals,
             tally,
             fault,
             ..
         } = self;
         match fault {
             Some(fault) => Err(fault),
-            None => finish_table(alloc, cells, tally),
+            None => finish_table(alloc, intervals, tally),
         }
     }
 }
