@@ -1,5 +1,5 @@
 -- Lists of parcels.
-use Rattle.std.proofs.Common.{◌≡◌, sym, true, false, ◌-◌, List, [], ◌∷◌, ◌++◌, length, take, refl, arith}
+use Rattle.std.proofs.Common.{◌≡◌, sym, ℕ, true, false, ◌-◌, List, [], ◌∷◌, ◌++◌, length, take, refl, arith}
 use Rattle.std.proofs.lemmas.Grind.{common_steps}
 use Rattle.flow_link.specs.declared.parcel.Parcel.{Parcel}
 use Rattle.flow_link.specs.declared.parcel.Parcel.TheVariants.{Item, Last}
@@ -38,9 +38,9 @@ gave_all (Item r ∷ taken) left all e ends h =
     let e'' : all ≡ (Item r ∷ before) ++ Last ∷ after = cc in ends (Item r ∷ before) after e''
     ) in gave_all taken left (taken ++ left) refl ends' h
 
--- what was taken of a whole list is the list but for what is left
-pub taken_of_all : (taken left all : List Parcel) → taken ++ left ≡ all → take (length all - length left) all ≡ taken
-taken_of_all taken left all e = grind (arith, common_steps, e)
+-- of all that was taken, what was taken before the newest
+pub taken_before : (before start newest all : List Parcel) (count : ℕ) → start ≡ before → all ≡ start ++ newest → length newest ≡ count → take (length all - count) all ≡ before
+taken_before before start newest all count s e n = grind (arith, common_steps, s, e, n)
 
 -- two equal lists in the place of two
 pub joined_as : (taken taken' left left' all all' : List Parcel) → taken ≡ taken' → left' ≡ left → taken ++ left ≡ all → all ≡ all' → taken' ++ left' ≡ all'

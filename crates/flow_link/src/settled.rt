@@ -15,6 +15,8 @@ pub use settling::settle;
 pub struct Settled {
     sender: Sender,
     receiver: Receiver,
+    // How many of the parcels that the receiver took were taken by `settle` itself.
+    drained: usize,
     /// The parcels that were sent and not taken, the oldest first.
     pub left: Vec<Parcel>,
 }
