@@ -4,11 +4,13 @@ PREFIX = /usr/local
 bin/collectd: crates.txt HANDLES $(shell find crates \( -name out -o -name must-fail \) -prune -o -type f -print)
 	cd crates/collectd_cli && rt run -- dump < /dev/null && install -D out/collectd_cli ../../bin/collectd
 
-.PHONY: test bench install clean
+.PHONY: test bench compare install clean
 test: ; @tests/gate
 
-bench: bin/collectd ; @bench/run && bench/table/run
+bench: bin/collectd ; @for run in bench/*/run; do $$run || exit 1; done
+
+compare: bin/collectd ; @tests/compare
 
 install: bin/collectd ; install -D bin/collectd $(DESTDIR)$(PREFIX)/bin/collectd
 
-clean: ; rm -rf bin bench/out crates/*/out
+clean: ; rm -rf bin tests/out crates/*/out

@@ -11,5 +11,5 @@ mod text;
 
 pub use dumping::dump;
 pub use fault::DumpFault;
-pub use reports::write_reports;
+pub use reports::{write_dump_fault, write_reports};
 pub use running::run_dump;

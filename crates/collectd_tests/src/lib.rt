@@ -3,4 +3,6 @@
 #![tactic(auto)]
 
 #[cfg(test)]
+mod flushing;
+#[cfg(test)]
 mod tests;
