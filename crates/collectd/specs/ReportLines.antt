@@ -5,6 +5,11 @@ use Rattle.ipfix_session.specs.declared.report.DomainReport.{DomainReport}
 use Rattle.ipfix_session.specs.declared.report.SessionReport.{SessionReport}
 use Rattle.ipfix_session.specs.declared.fault.SessionFault.{SessionFault}
 use Rattle.ipfix_session.specs.Faults.{number_of, name_of}
+use Rattle.flow_table.specs.PlanFaults as plan
+use Rattle.flow_table.specs.declared.tally.Tally.{Tally}
+use Rattle.plan_file.specs.Faults as text
+use Rattle.plan_file.specs.declared.fault.PlanTextFault.{PlanTextFault}
+use Rattle.plan_file.specs.declared.fault.PlanTextFault.TheVariants.{Plan}
 
 -- a fault, by its number and its name, at the end of a line
 unfoldable pub fault_text : ℕ → List ℕ → List ℕ
@@ -30,3 +35,14 @@ session_lines session r = flat_map (domain_lines session) r.domains.items ++ fau
 -- the sessions in order, counted from 1
 abbrev pub report_lines : List SessionReport → List ℕ
 report_lines reports = flat_map (λ x. session_lines x.0 x.1) (enumerate_from 1 reports)
+
+-- how many records of each class there were
+unfoldable pub tally_line : Tally → List ℕ
+tally_line t =
+    codes "collectd: records: used " ++ (decimal t.used ++ (codes " options " ++ (decimal t.options ++ (codes " untimed " ++ (decimal t.untimed ++ (codes " backward " ++ (decimal t.backward ++
+    (codes " unkeyed " ++ (decimal t.unkeyed ++ (codes " too_long " ++ (decimal t.too_long ++ codes "\n")))))))))))
+
+-- the fault of a plan's text, and the plan's own after it
+abbrev pub plan_fault_text : PlanTextFault → List ℕ
+plan_fault_text (Plan fault) = codes ": fault 6 Plan" ++ fault_text (plan.number_of fault) (plan.name_of fault)
+plan_fault_text fault = fault_text (text.number_of fault) (text.name_of fault)

@@ -3,13 +3,27 @@
 
 mod dumping;
 mod fault;
+mod files;
 mod line;
 mod line_sink;
+mod network;
+mod plans;
 mod reports;
+mod run;
+mod run_fault;
 mod running;
+mod status;
 mod text;
 
 pub use dumping::dump;
 pub use fault::DumpFault;
-pub use reports::{write_dump_fault, write_reports};
+pub use files::run_files;
+pub use network::run_tcp;
+pub use plans::load_plan;
+pub use reports::{
+    write_collect_fault, write_dump_fault, write_export_fault, write_plan_fault, write_reports,
+    write_tally,
+};
+pub use run::{Output, run};
 pub use running::run_dump;
+pub use status::Status;

@@ -4,9 +4,17 @@ ghost use Rattle.std.specs.Prelude.{◌++◌, codes, decimal, OnOk};
 ghost use Rattle.std.specs.List.{flat_map};
 ghost use Rattle.std.specs.Io.KnownBytes.{Appends};
 ghost use Rattle.collectd.specs.Faults.{number_of, name_of};
-ghost use Rattle.collectd.specs.ReportLines.{domain_lines, fault_text, loss_line, report_lines, session_lines};
+ghost use Rattle.flow_collect.specs.Faults as collect;
+ghost use Rattle.flow_export.specs.Faults as export;
+ghost use Rattle.flow_table.specs.PlanFaults as plan;
+ghost use Rattle.plan_file.specs.Faults as text;
+ghost use Rattle.collectd.specs.ReportLines.{domain_lines, fault_text, loss_line, plan_fault_text, report_lines, session_lines, tally_line};
 
 use crate::fault::DumpFault;
+use flow_collect::CollectFault;
+use flow_export::ExportFault;
+use flow_table::{PlanFault, Tally};
+use plan_file::PlanTextFault;
 use ipfix_session::{DomainReport, SessionReport};
 use std::io::{self, Write};
 
@@ -78,4 +86,71 @@ pub fn write_dump_fault<W: Write>(fault: DumpFault, out: &mut W) -> io::Result<(
     let number = fault.number();
     let name = fault.name();
     writeln!(out, "collectd: dump: fault {number} {name}")
+}
+
+/// Writes the line that counts the records of each class.
+#[tactic(auto, unfolding(crate::specs::ReportLines::tally_line))]
+pub fn write_tally<W: Write>(tally: &Tally, out: &mut W) -> io::Result<()>
+    ensures { OnOk result (Appends (W.contents out.old) (W.contents out.new) (tally_line tally.now)) }
+{
+    let Tally {
+        options,
+        untimed,
+        backward,
+        unkeyed,
+        too_long,
+        used,
+    } = *tally;
+    writeln!(
+        out,
+        "collectd: records: used {used} options {options} untimed {untimed} backward {backward} unkeyed {unkeyed} too_long {too_long}"
+    )
+}
+
+/// Writes the line of a fault of collecting.
+#[tactic(auto, unfolding(crate::specs::ReportLines::fault_text))]
+pub fn write_collect_fault<W: Write>(fault: CollectFault, out: &mut W) -> io::Result<()>
+    ensures { OnOk result (Appends (W.contents out.old) (W.contents out.new) (codes "collectd: collect" ++ fault_text (collect.number_of fault) (collect.name_of fault))) }
+{
+    let number = fault.number();
+    let name = fault.name();
+    writeln!(out, "collectd: collect: fault {number} {name}")
+}
+
+/// Writes the line of a fault of the export.
+#[tactic(auto, unfolding(crate::specs::ReportLines::fault_text))]
+pub fn write_export_fault<W: Write>(fault: ExportFault, out: &mut W) -> io::Result<()>
+    ensures { OnOk result (Appends (W.contents out.old) (W.contents out.new) (codes "collectd: export" ++ fault_text (export.number_of fault) (export.name_of fault))) }
+{
+    let number = fault.number();
+    let name = fault.name();
+    writeln!(out, "collectd: export: fault {number} {name}")
+}
+
+/// Writes the line of a fault of a plan's text, with the plan's own fault if it has one.
+pub fn write_plan_fault<W: Write>(fault: PlanTextFault, out: &mut W) -> io::Result<()>
+    ensures { OnOk result (Appends (W.contents out.old) (W.contents out.new) (codes "collectd: plan" ++ plan_fault_text fault)) }
+{
+    match fault {
+        PlanTextFault::Plan(inner) => write_inner_fault(inner, out),
+        _ => write_text_fault(fault, out),
+    }
+}
+
+#[tactic(auto, unfolding(crate::specs::ReportLines::fault_text))]
+fn write_text_fault<W: Write>(fault: PlanTextFault, out: &mut W) -> io::Result<()>
+    ensures { OnOk result (Appends (W.contents out.old) (W.contents out.new) (codes "collectd: plan" ++ fault_text (text.number_of fault) (text.name_of fault))) }
+{
+    let number = fault.number();
+    let name = fault.name();
+    writeln!(out, "collectd: plan: fault {number} {name}")
+}
+
+#[tactic(auto, unfolding(crate::specs::ReportLines::fault_text))]
+fn write_inner_fault<W: Write>(fault: PlanFault, out: &mut W) -> io::Result<()>
+    ensures { OnOk result (Appends (W.contents out.old) (W.contents out.new) (codes "collectd: plan: fault 6 Plan" ++ fault_text (plan.number_of fault) (plan.name_of fault))) }
+{
+    let number = fault.number();
+    let name = fault.name();
+    writeln!(out, "collectd: plan: fault 6 Plan: fault {number} {name}")
 }

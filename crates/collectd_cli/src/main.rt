@@ -1,26 +1,25 @@
 //! The command `collectd`: words in, one call of the library, the exit status out.
 #![tactic(auto)]
 
+mod words;
+
 use clap::error::ErrorKind;
-use clap::{ArgMatches, Command, Error};
-use collectd::{DumpFault, run_dump, write_dump_fault};
+use clap::{ArgMatches, Error};
+use collectd::{
+    DumpFault, Output, Status, load_plan, run_dump, run_files, run_tcp, write_dump_fault,
+    write_export_fault,
+};
+use flow_collect::Pool;
+use flow_export::{ExportFault, Format};
+use flow_table::Plan;
 use ipfix_session::FromReader;
-use std::alloc::{AllocError, Global};
 use std::env;
-use std::io::{self, BufWriter};
+use std::io::{self, BufWriter, Stdout, Write};
+use std::net::TcpListener;
 use std::process::ExitCode;
 
-/// The version, which `--version` prints and `CHANGELOG.md` describes.
-const VERSION: &str = "0.1.0";
-
-/// The exit status where all that was asked for is written.
-const SUCCESS: u8 = 0;
-
-/// The exit status where the words of the command line can't be served.
+/// The exit status if the words of the command line can't be served.
 const COMMAND_LINE: u8 = 2;
-
-/// The exit status where the output can't be made or written.
-const OUTPUT: u8 = 3;
 
 /// The octets that are gathered before they are written.
 const OUTPUT_BUFFER: usize = 1 << 16;
@@ -41,52 +40,139 @@ fn run(rt: &HostRuntime) -> io::Result<u8> {
     for word in env::args(rt)? {
         words.push(word)?;
     }
-    match matches_of(rt.alloc(), words.as_slice()) {
-        Ok(matches) => match matches.subcommand_name() {
-            Some(_) => Ok(dump(rt)),
-            None => Ok(COMMAND_LINE),
-        },
+    match words::matches_of(rt.alloc(), words.as_slice()) {
+        Ok(matches) => Ok(match matches.subcommand() {
+            Some(("dump", _)) => dump(rt),
+            Some(("files", chosen)) => files(rt, chosen),
+            Some(("tcp", chosen)) => tcp(rt, chosen),
+            _ => COMMAND_LINE,
+        }),
         Err(error) => Ok(show(rt, &error)),
     }
-}
-
-fn matches_of<'a>(alloc: Global, words: &'a [String]) -> Result<ArgMatches<'a>, Error> {
-    command(alloc)?.try_get_matches_from(words)
-}
-
-// The words that the program takes.
-fn command<'a>(alloc: Global) -> Result<Command<'a>, AllocError> {
-    let dump = Command::new(alloc, "dump").about(
-        "Reads IPFIX messages from standard input and writes a line for each data record",
-    );
-    Command::new(alloc, "collectd")
-        .version(VERSION)
-        .about("An IPFIX collecting process")
-        .subcommand_required(true)
-        .arg_required_else_help(true)
-        .subcommand(dump)
 }
 
 // Prints the parser's text: the version, help, or what the words lack.
 fn show(rt: &HostRuntime, error: &Error) -> u8 {
     let printed = error.print(rt);
     match error.kind() {
-        ErrorKind::DisplayVersion if printed.is_ok() => SUCCESS,
-        ErrorKind::DisplayVersion => OUTPUT,
+        ErrorKind::DisplayVersion if printed.is_ok() => Status::Well.number(),
+        ErrorKind::DisplayVersion => Status::Failed.number(),
         _ => COMMAND_LINE,
     }
 }
 
+// Standard output behind a buffer.
+fn buffered_output(rt: &HostRuntime) -> Option<BufWriter<Stdout>> {
+    // (only memory can be refused here)
+    BufWriter::with_capacity(rt.alloc(), OUTPUT_BUFFER, rt.stdout()).ok()
+}
+
 // `collectd dump`: standard input to standard output.
 fn dump(rt: &HostRuntime) -> u8 {
-    let mut source = FromReader::new(rt.stdin());
     let mut err = rt.stderr();
-    match BufWriter::with_capacity(rt.alloc(), OUTPUT_BUFFER, rt.stdout()) {
-        Ok(mut out) => run_dump(rt.alloc(), &mut source, &mut out, &mut err),
-        // (only memory can be refused here)
-        Err(_) => {
-            let _ = write_dump_fault(DumpFault::OutOfMemory, &mut err);
-            OUTPUT
+    let Some(mut out) = buffered_output(rt) else {
+        let _ = write_dump_fault(DumpFault::OutOfMemory, &mut err);
+        return Status::Failed.number();
+    };
+    let mut source = FromReader::new(rt.stdin());
+    run_dump(rt.alloc(), &mut source, &mut out, &mut err)
+}
+
+// What `files` and `tcp` are told alike.
+struct Job {
+    plan: Plan,
+    pool: Pool,
+    output: Output,
+}
+
+// The plan, which is read here, and the options. `None` if there is no plan, and that was told.
+fn job(rt: &HostRuntime, chosen: &ArgMatches) -> Option<Job> {
+    let plan = load_plan(rt, rt.alloc(), chosen.get_str("plan")?, &mut rt.stderr())?;
+    let workers = *chosen.get_one::<u32>("workers")?;
+    let capacity = *chosen.get_one::<u32>("ring")?;
+    let time = *chosen.get_one::<u32>("time")?;
+    let format = match chosen.get_str("format")? {
+        "ipfix" => Format::Ipfix,
+        _ => Format::Csv,
+    };
+    Some(Job {
+        plan,
+        pool: Pool {
+            workers: workers as usize,
+            capacity: capacity as usize,
+        },
+        output: Output { format, time },
+    })
+}
+
+// `collectd files`: the table of the sessions in files to standard output.
+fn files(rt: &HostRuntime, chosen: &ArgMatches) -> u8 {
+    let mut err = rt.stderr();
+    let mut paths = Vec::new(rt.alloc());
+    let mut inputs = 0u32;
+    for path in chosen.get_strs("file").into_iter().flatten() {
+        if path == "-" {
+            inputs = inputs.saturating_add(1);
+        }
+        if paths.push(path).is_err() {
+            let _ = writeln!(err, "collectd: open: {path}");
+            return Status::NotOpened.number();
         }
     }
+    if inputs > 1 {
+        let _ = writeln!(
+            err,
+            "error: standard input ('-') can be one of the files only once"
+        );
+        return COMMAND_LINE;
+    }
+    let Some(job) = job(rt, chosen) else {
+        return Status::NotOpened.number();
+    };
+    let Some(mut out) = buffered_output(rt) else {
+        let _ = write_export_fault(ExportFault::OutOfMemory, &mut err);
+        return Status::Failed.number();
+    };
+    run_files(
+        rt,
+        rt.alloc(),
+        &paths,
+        &job.plan,
+        job.pool,
+        job.output,
+        &mut out,
+        &mut err,
+    )
+}
+
+// `collectd tcp`: the table of the sessions that come over connections to standard output.
+fn tcp(rt: &HostRuntime, chosen: &ArgMatches) -> u8 {
+    let mut err = rt.stderr();
+    let (Some(addr), Some(sessions)) = (chosen.get_str("listen"), chosen.get_one::<u32>("sessions"))
+    else {
+        return COMMAND_LINE;
+    };
+    let Some(job) = job(rt, chosen) else {
+        return Status::NotOpened.number();
+    };
+    let Ok(listener) = TcpListener::bind(rt, addr) else {
+        let _ = writeln!(err, "collectd: listen: {addr}");
+        return Status::NotOpened.number();
+    };
+    let Some(mut out) = buffered_output(rt) else {
+        let _ = write_export_fault(ExportFault::OutOfMemory, &mut err);
+        return Status::Failed.number();
+    };
+    run_tcp(
+        rt,
+        rt.alloc(),
+        &listener,
+        addr,
+        *sessions as usize,
+        &job.plan,
+        job.pool,
+        job.output,
+        &mut out,
+        &mut err,
+    )
 }

@@ -1,0 +1,131 @@
+//! Collecting and writing the table.
+
+ghost use Rattle.std.specs.Prelude.{◌≡◌, ◌≢◌, ◌⊎◌, IfOk, OnOk, All};
+ghost use Rattle.std.specs.Io.KnownBytes.{Appends};
+ghost use Rattle.flow_table.specs.Fitting.{FitsPlan};
+ghost use Rattle.flow_collect.specs.Headline.{Headline};
+ghost use Rattle.flow_collect.specs.Texts.{HasNoFault};
+ghost use Rattle.collectd.specs.Runs.{export_text, Collects, WritesTable, WritesWholeTable};
+
+use crate::reports::{write_collect_fault, write_export_fault, write_reports, write_tally};
+use crate::run_fault::RunFault;
+use crate::status::Status;
+use flow_collect::{Collected, OpenGate, Pool, collect};
+use flow_export::{ExportFault, Format, write_csv, write_ipfix};
+use flow_table::{Plan, Table};
+use ipfix_session::{SessionReport, Source};
+use std::alloc::Global;
+use std::io::{self, Write};
+use std::sync::Wait;
+use std::thread::Threads;
+
+/// How a table is written.
+#[derive(Clone, Copy, Debug, PartialEq, Eq)]
+pub struct Output {
+    pub format: Format,
+    /// The export time of messages of IPFIX, in seconds since 1970-01-01 UTC. CSV has none.
+    pub time: u32,
+}
+
+/// Runs each source as a session, writes the table of all their records to `out`, and answers the exit
+/// status: 0 if all was well; 1 if some session ended with a fault, and the table is written; 3 if
+/// nothing was collected, or the table couldn't be written.
+///
+/// To `err` it writes what there is to tell of the sessions, and then how many records of each class
+/// there were; at status 3 the line of the fault alone. A fault of `err` is passed over. Before a
+/// fault of collecting nothing is written to `out`.
+pub fn run<S: Source + Send + Drop, W: Write, E: Write, R: Threads + Wait + Sync>(
+    rt: &R,
+    alloc: Global,
+    sources: Vec<S>,
+    plan: &Plan,
+    pool: Pool,
+    output: Output,
+    out: &mut W,
+    err: &mut E,
+) -> u8
+    ensures statuses { (result ≡ 0) ⊎ (result ≡ 1) ⊎ (result ≡ 3) }
+    // The table of what was received of each session was written, and nothing else.
+    ensures table { result ≢ 3 → WritesTable S.seen sources.items plan.now output (W.contents out.old) (W.contents out.new) }
+    // The table of all whole texts was written, and each of them ends with a whole message.
+    ensures all { result ≡ 0 → WritesWholeTable S.seen sources.items plan.now output (W.contents out.old) (W.contents out.new) }
+{
+    match collect_and_write(rt, alloc, sources, plan, pool, output, out) {
+        Ok(collected) => {
+            let _ = tell(&collected, err);
+            status_of(&collected.sessions).number()
+        }
+        Err(fault) => {
+            let _ = tell_fault(fault, err);
+            Status::Failed.number()
+        }
+    }
+}
+
+// Collects, and writes the table.
+fn collect_and_write<S: Source + Send + Drop, W: Write, R: Threads + Wait + Sync>(
+    rt: &R,
+    alloc: Global,
+    sources: Vec<S>,
+    plan: &Plan,
+    pool: Pool,
+    output: Output,
+    out: &mut W,
+) -> Result<Collected<S>, RunFault>
+    ensures { IfOk result (λ c. Headline S.seen sources.items plan.now pool c
+        × Appends (W.contents out.old) (W.contents out.new) (export_text output plan.now c.table)) }
+{
+    let collected = match collect(rt, alloc, sources, plan, pool, &OpenGate) {
+        Ok(collected) => collected,
+        Err(fault) => return Err(RunFault::Collect(fault)),
+    };
+    match export(alloc, plan, &collected.table, output, out) {
+        Ok(()) => Ok(collected),
+        Err(fault) => Err(RunFault::Export(fault)),
+    }
+}
+
+// Writes a table, and sees to it that nothing is left in the writer's buffer.
+fn export<W: Write>(
+    alloc: Global,
+    plan: &Plan,
+    table: &Table,
+    output: Output,
+    out: &mut W,
+) -> Result<(), ExportFault>
+    requires { FitsPlan plan.now table.now }
+    ensures { OnOk result (Appends (W.contents out.old) (W.contents out.new) (export_text output plan.now table.now)) }
+{
+    match output.format {
+        Format::Csv => write_csv(alloc, plan, table, out)?,
+        Format::Ipfix => write_ipfix(alloc, plan, table, output.time, out)?,
+    }
+    out.flush()?;
+    Ok(())
+}
+
+// How sessions ended.
+fn status_of(reports: &[SessionReport]) -> Status
+    ensures ends { (result ≡ Status.Well) ⊎ (result ≡ Status.SessionFault) }
+    ensures well { result ≡ Status.Well → All HasNoFault reports.now }
+{
+    for report in reports {
+        if report.fault.is_some() {
+            return Status::SessionFault;
+        }
+    }
+    Status::Well
+}
+
+// What there is to tell of sessions and their records.
+fn tell<S, E: Write>(collected: &Collected<S>, err: &mut E) -> io::Result<()> {
+    write_reports(&collected.sessions, err)?;
+    write_tally(&collected.table.tally, err)
+}
+
+fn tell_fault<E: Write>(fault: RunFault, err: &mut E) -> io::Result<()> {
+    match fault {
+        RunFault::Collect(fault) => write_collect_fault(fault, err),
+        RunFault::Export(fault) => write_export_fault(fault, err),
+    }
+}

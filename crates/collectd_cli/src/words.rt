@@ -1,0 +1,106 @@
+//! The words that the program takes.
+
+use clap::{Arg, ArgMatches, Command, Error, value_parser};
+use std::alloc::{AllocError, Global};
+
+/// The version, which `--version` prints and `CHANGELOG.md` describes.
+const VERSION: &str = "0.1.0";
+
+static FORMATS: [&str; 2] = ["csv", "ipfix"];
+
+/// What the words of a command line say, or the text that the parser has for them.
+pub fn matches_of<'a>(alloc: Global, words: &'a [String]) -> Result<ArgMatches<'a>, Error> {
+    command(alloc)?.try_get_matches_from(words)
+}
+
+fn command<'a>(alloc: Global) -> Result<Command<'a>, AllocError> {
+    Command::new(alloc, "collectd")
+        .version(VERSION)
+        .about("An IPFIX collecting process")
+        .subcommand_required(true)
+        .arg_required_else_help(true)
+        .subcommand(dump_command(alloc))?
+        .subcommand(files_command(alloc)?)?
+        .subcommand(tcp_command(alloc)?)
+}
+
+fn dump_command<'a>(alloc: Global) -> Command<'a> {
+    Command::new(alloc, "dump")
+        .about("Reads IPFIX messages from standard input and writes a line for each data record")
+        .after_help("Example:\n  collectd dump < flows.ipfix")
+}
+
+fn files_command<'a>(alloc: Global) -> Result<Command<'a>, AllocError> {
+    let file = Arg::new(alloc, "file")
+        .value_name("FILE")
+        .required(true)
+        .num_args(1..)
+        .help("A file of IPFIX messages, each file a session; '-' is standard input");
+    let files = Command::new(alloc, "files")
+        .about("Aggregates the flows in files and writes their table")
+        .after_help(
+            "Example:\n  collectd files --plan plan.toml --workers 4 one.ipfix two.ipfix > table.csv",
+        );
+    with_options(alloc, files)?.arg(file)
+}
+
+fn tcp_command<'a>(alloc: Global) -> Result<Command<'a>, AllocError> {
+    let listen = Arg::new(alloc, "listen")
+        .long("listen")
+        .value_name("ADDR")
+        .required(true)
+        .help("The address and port to listen on");
+    let sessions = Arg::new(alloc, "sessions")
+        .long("sessions")
+        .value_name("K")
+        .required(true)
+        .value_parser(value_parser!(u32).range(1..=64))
+        .help("How many connections to accept, each a session");
+    let tcp = Command::new(alloc, "tcp")
+        .about(
+            "Accepts connections, aggregates their flows and writes their table when all have ended",
+        )
+        .after_help(
+            "Example:\n  collectd tcp --plan plan.toml --listen 0.0.0.0:4739 --sessions 2 > table.csv",
+        );
+    with_options(alloc, tcp)?.arg(listen)?.arg(sessions)
+}
+
+// The options that `files` and `tcp` share.
+fn with_options<'a>(alloc: Global, command: Command<'a>) -> Result<Command<'a>, AllocError> {
+    let plan = Arg::new(alloc, "plan")
+        .long("plan")
+        .value_name("P")
+        .required(true)
+        .help("The plan of the aggregation, a TOML file");
+    let workers = Arg::new(alloc, "workers")
+        .long("workers")
+        .value_name("N")
+        .default_value("1")
+        .value_parser(value_parser!(u32))
+        .help("Threads that aggregate, 1 to 16; more than sessions or processors are of no use");
+    let ring = Arg::new(alloc, "ring")
+        .long("ring")
+        .value_name("C")
+        .default_value("64")
+        .value_parser(value_parser!(u32))
+        .help("Records that may wait between a session and its worker, 1 to 65536");
+    let format = Arg::new(alloc, "format")
+        .long("format")
+        .value_name("FORMAT")
+        .default_value("csv")
+        .value_parser(FORMATS.as_slice())
+        .help("How the table is written");
+    let time = Arg::new(alloc, "time")
+        .long("time")
+        .value_name("T")
+        .default_value("0")
+        .value_parser(value_parser!(u32))
+        .help("The export time of messages of IPFIX, in seconds since 1970-01-01 UTC");
+    command
+        .arg(plan)?
+        .arg(workers)?
+        .arg(ring)?
+        .arg(format)?
+        .arg(time)
+}
