@@ -1,0 +1,5 @@
+pub mod GivenLists
+pub mod Driven
+pub mod Settled
+pub mod Runs
+pub mod Serials

@@ -1,0 +1,9 @@
+pub mod Faults
+pub mod Places
+pub mod Texts
+pub mod Headline
+pub mod Refusals
+pub mod Driven
+pub mod Promises
+pub mod Adds
+pub mod Serials

@@ -1,0 +1,20 @@
+//! Collecting: sessions of IPFIX (RFC 7011) and the aggregate of their data records (RFC 7015),
+//! in threads and on one.
+#![tactic(auto)]
+
+mod collected;
+mod fault;
+mod laws;
+mod parts;
+mod serial;
+
+pub use collected::{Collected, MAX_SESSIONS, MAX_WORKERS, Pool, READS, Serial};
+pub use fault::CollectFault;
+pub use laws::{
+    delivered_are_the_records, first_of_whole_texts, links_aside, reports_are_of_the_octets,
+    same_octets_same_table, whole_texts_add_up,
+};
+pub use parts::{
+    driven_is_given, merged_is_added_up, run_is_headline, settled_is_received, too_large_is_due,
+};
+pub use serial::{Ran, TableSink, collect_serial};
