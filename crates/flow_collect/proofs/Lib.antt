@@ -3,3 +3,7 @@ pub mod Driven
 pub mod Settled
 pub mod Runs
 pub mod Serials
+pub mod SendLists
+pub mod LaneLists
+pub mod ZipLists
+pub mod Deals

@@ -7,3 +7,7 @@ pub mod Driven
 pub mod Promises
 pub mod Adds
 pub mod Serials
+pub mod Sends
+pub mod Sessions
+pub mod Lanes
+pub mod Dealt

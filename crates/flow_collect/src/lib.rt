@@ -3,18 +3,32 @@
 #![tactic(auto)]
 
 mod collected;
+mod dealing;
 mod fault;
+mod gate;
 mod laws;
+mod link_sink;
 mod parts;
+mod run_fault;
 mod serial;
+mod session_thread;
+mod threads;
+mod worker;
 
 pub use collected::{Collected, MAX_SESSIONS, MAX_WORKERS, Pool, READS, Serial};
+pub use dealing::{Dealt, deal};
 pub use fault::CollectFault;
+pub use gate::{Gate, OpenGate};
 pub use laws::{
     delivered_are_the_records, first_of_whole_texts, links_aside, reports_are_of_the_octets,
     same_octets_same_table, whole_texts_add_up,
 };
+pub use link_sink::LinkSink;
 pub use parts::{
     driven_is_given, merged_is_added_up, run_is_headline, settled_is_received, too_large_is_due,
 };
+pub use run_fault::RunFault;
 pub use serial::{Ran, TableSink, collect_serial};
+pub use session_thread::{EndedSession, Start, run_session};
+pub use threads::{Joined, in_threads};
+pub use worker::{Lane, Lot, Worked, run_worker};
