@@ -2,7 +2,7 @@
 use Rattle.std.proofs.Common.{◌≡◌, ℕ, List, [], ◌∷◌, ◌++◌, zero, suc, refl, ap, sym, ◌∙◌, subst, length, map, arith}
 use Rattle.std.specs.Prelude.{Some, slice_get, All}
 use Rattle.std.proofs.lemmas.List.{map_push}
-use Rattle.std.proofs.lemmas.List.Elements.{All-head, All-tail, All-append, All-cons, All-weaker}
+use Rattle.std.proofs.lemmas.List.Elements.{All-head, All-tail, All-append, All-cons, All-nil, All-weaker}
 use Rattle.flow_link.specs.Ends.{LinkName}
 use Rattle.flow_table.specs.Partials.{StandsFor, plan_of}
 use Rattle.flow_table.specs.Plans.{PlanValue}
@@ -12,11 +12,8 @@ use Rattle.flow_collect.specs.declared.session_thread.Start.{Start}
 use Rattle.flow_collect.specs.declared.worker.Lane.{Lane}
 use Rattle.flow_collect.specs.declared.worker.Lot.{Lot}
 
-pub all_none : {A : Type 0} (P : A → Type 0) → All P []
-all_none P = λ k d h. absurd (omega arith)
-
 pub all_one : {A : Type 0} (P : A → Type 0) (x : A) → P x → All P (x ∷ [])
-all_one P x p = All-cons P x [] p (all_none P)
+all_one P x p = All-cons P x [] p (All-nil P)
 
 get_more : {A : Type 0} (xs ys : List A) (n : ℕ) (x : A) → slice_get xs n ≡ Some x → slice_get (xs ++ ys) n ≡ Some x
 get_more [] ys n x e = cc e
@@ -69,8 +66,8 @@ pub empty_lot : (plan : PlanValue) (lot : Lot) → plan_of lot.partial ≡ plan 
 empty_lot plan lot is stands e =
     record {
       plan_is = is;
-      unused = (stands, subst (All (λ (lane : Lane). lane.receiver.received ≡ [])) (sym e) (all_none (λ (lane : Lane). lane.receiver.received ≡ [])));
-      paired = subst (All (IsPaired [])) (sym e) (all_none (IsPaired []));
+      unused = (stands, subst (All (λ (lane : Lane). lane.receiver.received ≡ [])) (sym e) (All-nil (λ (lane : Lane). lane.receiver.received ≡ [])));
+      paired = subst (All (IsPaired [])) (sym e) (All-nil (IsPaired []));
     }
 
 pub lots_more : (plan : PlanValue) (lots lots' : List Lot) (lot : Lot) → All (IsNewLot plan []) lots → IsNewLot plan [] lot → lots' ≡ lots ++ lot ∷ [] → All (IsNewLot plan []) lots'
@@ -78,4 +75,4 @@ lots_more plan lots lots' lot h new e = rw e (All-append (IsNewLot plan []) lots
 
 pub first_dealt : {S : Type 0} (plan : PlanValue) (capacity : ℕ) (starts : List (Start S)) (lots : List Lot) → starts ≡ [] → All (IsNewLot plan []) lots → IsDealt plan capacity [] starts lots
 first_dealt {S} plan capacity starts lots e h =
-    rw e (record { sources_are = refl; new_starts = all_none (IsNewStart {S = S} capacity); new_lots = h })
+    rw e (record { sources_are = refl; new_starts = All-nil (IsNewStart {S = S} capacity); new_lots = h })

@@ -4,7 +4,7 @@ use Rattle.std.specs.Prelude.{sum_by, All}
 use Rattle.std.proofs.Math.ListN.{set}
 use Rattle.std.proofs.Math.Seq.{map-set_same}
 use Rattle.std.proofs.lemmas.List.Sums.{sum_by-append, sum_by-set, sum_by-cons}
-use Rattle.std.proofs.lemmas.List.Elements.{All-tail, All-head, All-cons}
+use Rattle.std.proofs.lemmas.List.Elements.{All-tail, All-head, All-cons, All-nil}
 use Rattle.ipfix_message.specs.declared.record.DataRecord.{DataRecord}
 use Rattle.flow_link.specs.Ends.{LinkName, ReceiverView}
 use Rattle.flow_link.specs.Parcels.{has_last, records_in}
@@ -14,7 +14,7 @@ use Rattle.flow_table.specs.Bags.{IsSameBag}
 use Rattle.flow_table.specs.Partials.{StandsFor, plan_of}
 use Rattle.flow_table.specs.declared.partial.Partial.{Partial}
 use Rattle.flow_collect.specs.Promises.{WorkerTook, taken_from}
-use Rattle.flow_collect.specs.Lanes.{lane_key, lane_records, lane_weight, receivers_of, TakesInto, RoundsInto, StandsForLanes, WorkerRan}
+use Rattle.flow_collect.specs.Lanes.{lane_key, lane_records, lane_weight, receivers_of, TakesInto, RoundsInto, StandsForLanes, IsEnded, WorkerRan}
 use Rattle.flow_collect.specs.declared.worker.Lane.{Lane}
 use Rattle.flow_collect.specs.declared.worker.Lot.{Lot}
 use Rattle.flow_collect.specs.declared.worker.Worked.{Worked}
@@ -84,14 +84,13 @@ links_same (x ∷ xs) (y ∷ ys) e =
     let here : x.receiver.link ≡ y.receiver.link = ap (λ (k : ℕ × LinkName). k.1) first in
     cc
 
-ended_receivers : (lanes : List Lane) → All (λ (lane : Lane). has_last lane.receiver.received ≡ true) lanes → All (λ (r : ReceiverView). has_last r.received ≡ true) (receivers_of lanes)
-ended_receivers [] h = λ k d lt. absurd (omega arith)
+ended_receivers : (lanes : List Lane) → All IsEnded lanes → All (λ (r : ReceiverView). has_last r.received ≡ true) (receivers_of lanes)
+ended_receivers [] h = All-nil (λ (r : ReceiverView). has_last r.received ≡ true)
 ended_receivers (lane ∷ lanes) h =
-    let P = λ (lane : Lane). has_last lane.receiver.received ≡ true in
-    All-cons (λ (r : ReceiverView). has_last r.received ≡ true) lane.receiver (receivers_of lanes) (All-head P lane lanes h) (ended_receivers lanes (All-tail P lane lanes h))
+    All-cons (λ (r : ReceiverView). has_last r.received ≡ true) lane.receiver (receivers_of lanes) (All-head IsEnded lane lanes h) (ended_receivers lanes (All-tail IsEnded lane lanes h))
 
 pub worker_ran : (lot : Lot) (w : Worked) → map lane_key w.lanes.items ≡ map lane_key lot.lanes.items → plan_of w.partial ≡ plan_of lot.partial
-    → All (λ (lane : Lane). has_last lane.receiver.received ≡ true) w.lanes.items → StandsForLanes w.partial w.lanes.items → WorkerRan lot w
+    → All IsEnded w.lanes.items → StandsForLanes w.partial w.lanes.items → WorkerRan lot w
 worker_ran lot w keys plan ended s =
     record {
       keys = keys;

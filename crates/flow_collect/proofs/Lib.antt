@@ -7,3 +7,4 @@ pub mod SendLists
 pub mod LaneLists
 pub mod ZipLists
 pub mod Deals
+pub mod SettleLists

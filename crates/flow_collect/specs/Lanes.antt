@@ -1,8 +1,8 @@
 -- What a worker's thread does.
-use Rattle.std.specs.Prelude.{◌≡◌, ℕ, ◌+◌, List, [], ◌++◌, All, map, sum_by}
+use Rattle.std.specs.Prelude.{◌≡◌, ℕ, ◌+◌, List, [], ◌++◌, All, true, map, sum_by}
 use Rattle.ipfix_message.specs.declared.record.DataRecord.{DataRecord}
 use Rattle.flow_link.specs.Ends.{LinkName, ReceiverView}
-use Rattle.flow_link.specs.Parcels.{records_in}
+use Rattle.flow_link.specs.Parcels.{has_last, records_in}
 use Rattle.flow_table.specs.Partials.{StandsFor, plan_of}
 use Rattle.flow_table.specs.declared.partial.Partial.{Partial}
 use Rattle.flow_collect.specs.Promises.{WorkerTook}
@@ -23,6 +23,10 @@ lane_records lane = records_in lane.receiver.received
 
 abbrev pub lane_weight : (DataRecord → ℕ) → Lane → ℕ
 lane_weight weight lane = sum_by weight (lane_records lane)
+
+-- Last came over the lane
+abbrev pub IsEnded : Lane → Type 0
+IsEnded lane = has_last lane.receiver.received ≡ true
 
 -- ---- a worker's rounds
 

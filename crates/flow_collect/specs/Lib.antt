@@ -11,3 +11,4 @@ pub mod Sends
 pub mod Sessions
 pub mod Lanes
 pub mod Dealt
+pub mod Finished

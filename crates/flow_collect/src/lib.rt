@@ -12,6 +12,7 @@ mod parts;
 mod run_fault;
 mod serial;
 mod session_thread;
+mod settling;
 mod threads;
 mod worker;
 
@@ -30,5 +31,6 @@ pub use parts::{
 pub use run_fault::RunFault;
 pub use serial::{Ran, TableSink, collect_serial};
 pub use session_thread::{EndedSession, Start, run_session};
+pub use settling::finish_all;
 pub use threads::{Joined, in_threads};
 pub use worker::{Lane, Lot, Worked, run_worker};

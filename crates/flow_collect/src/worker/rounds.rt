@@ -1,10 +1,10 @@
 //! Rounds of a worker.
 
-ghost use Rattle.std.specs.Prelude.{◌≡◌, List, [], ◌∷◌, ◌++◌, All, IfSome, IsTrue, true};
+ghost use Rattle.std.specs.Prelude.{◌≡◌, List, [], ◌∷◌, ◌++◌, All, IfSome, IsTrue};
 ghost use Rattle.ipfix_message.specs.declared.record.DataRecord.{DataRecord};
-ghost use Rattle.flow_link.specs.Parcels.{has_last, is_last, records_in};
+ghost use Rattle.flow_link.specs.Parcels.{is_last, records_in};
 ghost use Rattle.flow_table.specs.Partials.{StandsFor, plan_of};
-ghost use Rattle.flow_collect.specs.Lanes.{TakesInto, RoundsInto, IsUnused, WorkerRan};
+ghost use Rattle.flow_collect.specs.Lanes.{TakesInto, RoundsInto, IsEnded, IsUnused, WorkerRan};
 
 use super::{Lane, Lot, Worked};
 use crate::gate::Gate;
@@ -50,7 +50,7 @@ fn rest<R: Wait>(rt: &R, found: bool, tries: u32) -> u32 {
 }
 
 fn all_ended(lanes: &[Lane]) -> bool
-    ensures { IsTrue result → All (λ lane. has_last lane.receiver.received ≡ true) lanes.now }
+    ensures { IsTrue result → All IsEnded lanes.now }
 {
     for lane in lanes {
         if !lane.last {

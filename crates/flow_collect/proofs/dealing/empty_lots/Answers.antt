@@ -1,4 +1,4 @@
-use Rattle.flow_collect.proofs.Deals.{all_none, lots_more}
+use Rattle.flow_collect.proofs.Deals.{lots_more}
 use Rattle.flow_collect.proofs.dealing.empty_lots.Goals as goal
 
 pub loop-worker-preserved : goal.loop-worker-preserved

@@ -1,7 +1,6 @@
-use Rattle.std.proofs.Common.{◌≡◌, ◌∙◌, refl, subst, true}
+use Rattle.std.proofs.Common.{◌∙◌, refl, subst}
 use Rattle.std.specs.Prelude.{All}
-use Rattle.flow_link.specs.Parcels.{has_last}
-use Rattle.flow_collect.specs.declared.worker.Lane.{Lane}
+use Rattle.flow_collect.specs.Lanes.{IsEnded}
 use Rattle.flow_collect.proofs.LaneLists.{stands_first, stands_on, worker_ran}
 use Rattle.flow_collect.proofs.worker.rounds.run_worker.Goals as goal
 
@@ -15,5 +14,5 @@ loop-preserved g c =
 pub returns-then-all_ended : goal.returns-then-all_ended
 returns-then-all_ended g c =
     worker_ran _ _ (c.go_round-round.ensures.keys ∙ c.loop.invariant.0) (c.go_round-round.ensures.plan ∙ c.loop.invariant.1)
-    (subst (All (λ (lane : Lane). has_last lane.receiver.received ≡ true)) c.deref.ensures.value (c.all_ended.ensures c.if-all_ended.true))
+    (subst (All IsEnded) c.deref.ensures.value (c.all_ended.ensures c.if-all_ended.true))
     (stands_on _ _ _ _ c.loop.invariant.2 c.go_round-round.ensures)
