@@ -10,10 +10,9 @@ use Rattle.flow_link.specs.Ends.{LinkName, ReceiverView}
 use Rattle.flow_link.specs.Parcels.{has_last, records_in}
 use Rattle.flow_link.specs.declared.parcel.Parcel.{Parcel}
 use Rattle.flow_link.specs.declared.parcel.Parcel.TheVariants.{Item, Last}
-use Rattle.flow_table.specs.Bags.{IsSameBag}
 use Rattle.flow_table.specs.Partials.{StandsFor, plan_of}
 use Rattle.flow_table.specs.declared.partial.Partial.{Partial}
-use Rattle.flow_collect.specs.Promises.{WorkerTook, taken_from}
+use Rattle.flow_collect.specs.Promises.{taken_from}
 use Rattle.flow_collect.specs.Lanes.{lane_key, lane_records, lane_weight, receivers_of, TakesInto, RoundsInto, StandsForLanes, IsEnded, WorkerRan}
 use Rattle.flow_collect.specs.declared.worker.Lane.{Lane}
 use Rattle.flow_collect.specs.declared.worker.Lot.{Lot}

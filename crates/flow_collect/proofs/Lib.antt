@@ -8,3 +8,4 @@ pub mod LaneLists
 pub mod ZipLists
 pub mod Deals
 pub mod SettleLists
+pub mod CollectLists

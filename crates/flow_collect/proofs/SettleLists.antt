@@ -1,5 +1,5 @@
 -- Settled links and merged tables, one more.
-use Rattle.std.proofs.Common.{◌≡◌, ℕ, ◌+◌, List, [], ◌∷◌, ◌++◌, true, refl, ap, sym, ◌∙◌, subst, append_assoc, append-nil, length, map, arith}
+use Rattle.std.proofs.Common.{◌≡◌, ℕ, List, [], ◌∷◌, ◌++◌, refl, ap, sym, ◌∙◌, append_assoc, append-nil, length, map, arith}
 use Rattle.std.specs.Prelude.{Some, slice_get, All, sum_by, IsPermutation}
 use Rattle.std.proofs.lemmas.List.{map_push}
 use Rattle.std.proofs.lemmas.List.Elements.{All-head, All-tail, All-append, All-nil}
@@ -10,7 +10,7 @@ use Rattle.ipfix_session.specs.declared.report.SessionReport.{SessionReport}
 use Rattle.flow_link.specs.Parcels.{records_in}
 use Rattle.flow_link.specs.Settling.{settled_received}
 use Rattle.flow_link.specs.declared.settled.Settled.{Settled}
-use Rattle.flow_table.specs.Partials.{StandsFor, plan_of}
+use Rattle.flow_table.specs.Partials.{StandsFor}
 use Rattle.flow_table.specs.Plans.{PlanValue}
 use Rattle.flow_table.specs.declared.partial.Partial.{Partial}
 use Rattle.flow_collect.specs.Dealt.{IsPaired}

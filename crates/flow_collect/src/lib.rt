@@ -3,6 +3,7 @@
 #![tactic(auto)]
 
 mod collected;
+mod collecting;
 mod dealing;
 mod fault;
 mod gate;
@@ -17,7 +18,7 @@ mod threads;
 mod worker;
 
 pub use collected::{Collected, MAX_SESSIONS, MAX_WORKERS, Pool, READS, Serial};
-pub use dealing::{Dealt, deal};
+pub use collecting::collect;
 pub use fault::CollectFault;
 pub use gate::{Gate, OpenGate};
 pub use laws::{
@@ -28,9 +29,4 @@ pub use link_sink::LinkSink;
 pub use parts::{
     driven_is_given, merged_is_added_up, run_is_headline, settled_is_received, too_large_is_due,
 };
-pub use run_fault::RunFault;
 pub use serial::{Ran, TableSink, collect_serial};
-pub use session_thread::{EndedSession, Start, run_session};
-pub use settling::finish_all;
-pub use threads::{Joined, in_threads};
-pub use worker::{Lane, Lot, Worked, run_worker};

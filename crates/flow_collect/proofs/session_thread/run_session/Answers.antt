@@ -1,4 +1,4 @@
-use Rattle.std.proofs.Common.{◌≡◌, ◌∷◌, ◌++◌, [], true, sym, ap, ◌∙◌}
+use Rattle.std.proofs.Common.{◌∷◌, ◌++◌, [], sym, ap, ◌∙◌}
 use Rattle.flow_link.specs.Parcels.{items}
 use Rattle.flow_link.specs.declared.parcel.Parcel.TheVariants.{Last}
 use Rattle.flow_collect.proofs.Driven.{drove}

@@ -1,4 +1,4 @@
-use Rattle.std.proofs.Common.{◌≡◌, List, sym, subst, map}
+use Rattle.std.proofs.Common.{sym, subst, map}
 use Rattle.std.specs.Prelude.{All}
 use Rattle.std.proofs.lemmas.List.Sorted.{All-permutation}
 use Rattle.flow_table.specs.Fitting.{FitsPlan}
@@ -7,7 +7,6 @@ use Rattle.flow_table.specs.Tables.{IsTable, IsTooLarge}
 use Rattle.flow_collect.specs.Dealt.{IsPaired}
 use Rattle.flow_collect.specs.Finished.{ended_link}
 use Rattle.flow_collect.specs.Lanes.{StandsForLanes, IsEnded}
-use Rattle.flow_collect.specs.declared.worker.Lane.{Lane}
 use Rattle.flow_collect.proofs.SettleLists.{came_over, lanes_ended}
 use Rattle.flow_collect.proofs.settling.finishing.finish_all.Goals as goal
 

@@ -1,4 +1,4 @@
-use Rattle.std.proofs.Common.{◌≡◌, List, ◌∷◌, ◌++◌}
+use Rattle.std.proofs.Common.{◌≡◌, List, ◌++◌}
 use Rattle.std.specs.Prelude.{All}
 use Rattle.std.specs.VecDeque.{deque_len}
 use Rattle.flow_table.specs.Partials.{plan_of}
