@@ -1,9 +1,10 @@
-pub mod Faults
+-- what public contracts cite
 pub mod Places
-pub mod Texts
 pub mod Headline
+pub mod Texts
 pub mod Refusals
-pub mod Driven
-pub mod Promises
+pub mod Faults
+-- what is known inside a run
 pub mod Adds
 pub mod Serials
+pub mod Promises

@@ -5,7 +5,6 @@
 mod collected;
 mod fault;
 mod laws;
-mod parts;
 mod serial;
 
 pub use collected::{Collected, MAX_SESSIONS, MAX_WORKERS, Pool, READS, Serial};
@@ -14,7 +13,4 @@ pub use laws::{
     delivered_are_the_records, first_of_whole_texts, links_aside, reports_are_of_the_octets,
     same_octets_same_table, whole_texts_add_up,
 };
-pub use parts::{
-    driven_is_given, merged_is_added_up, run_is_headline, settled_is_received, too_large_is_due,
-};
-pub use serial::{Ran, TableSink, collect_serial};
+pub use serial::collect_serial;
