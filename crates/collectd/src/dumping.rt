@@ -23,7 +23,7 @@ pub fn dump<S: Source, W: Write>(
     source: &mut S,
     out: &mut W,
 ) -> Result<SessionReport, DumpFault>
-    ensures { IfOk result (λ report. Dumps S.text S.reads S.failed S.ended source.old source.new (W.contents out.old) (W.contents out.new) report) }
+    ensures { IfOk result (λ report. Dumps (S.seen source.old) (S.seen source.new) (W.contents out.old) (W.contents out.new) report) }
 {
     let mut line = Vec::new(alloc);
     let mut sink = LineSink::new(&mut line, out);

@@ -4,6 +4,7 @@ use Rattle.std.specs.Prelude.{All, MatchOption, slice_get}
 use Rattle.std.specs.List.{AllZip}
 use Rattle.std.proofs.lemmas.List.Elements.{All-head, All-tail, All-append, All-cons, All-nil}
 use Rattle.ipfix_message.specs.declared.record.DataRecord.{DataRecord}
+use Rattle.ipfix_session.specs.Sources.{SourceView}
 use Rattle.ipfix_session.specs.declared.report.SessionReport.{SessionReport}
 use Rattle.flow_link.specs.Ends.{LinkName, ReceiverView}
 use Rattle.flow_link.specs.Parcels.{has_last}
@@ -27,7 +28,7 @@ use Rattle.flow_collect.specs.declared.session_thread.Start.{Start}
 use Rattle.flow_collect.specs.declared.worker.Lane.{Lane}
 use Rattle.flow_collect.specs.declared.worker.Lot.{Lot}
 use Rattle.flow_collect.specs.declared.worker.Worked.{Worked}
-use Rattle.flow_collect.proofs.GivenLists.{first_each, too_large_whole}
+use Rattle.flow_collect.proofs.GivenLists.{too_large_due}
 use Rattle.flow_collect.proofs.LaneLists.{taken_weighs}
 use Rattle.flow_collect.proofs.Runs.{told, run_headline}
 
@@ -78,8 +79,8 @@ all_paired plan links (l ∷ lots) (w ∷ ws) e h =
 
 -- ---- sessions
 
-module _ {S : Type 0} (text : S → Option (List ℕ)) (reads failed : S → ℕ) (ended : S → Bool) where
-  pub links_same : (starts : List (Start S)) (ts : List (EndedSession S)) → AllZip (WholeSession text reads failed ended) starts ts → map ended_link ts ≡ map start_link starts
+module _ {S : Type 0} (seen : S → SourceView) where
+  pub links_same : (starts : List (Start S)) (ts : List (EndedSession S)) → AllZip (WholeSession seen) starts ts → map ended_link ts ≡ map start_link starts
   links_same [] [] e = refl
   links_same [] (t ∷ ts) e = absurd e
   links_same (s ∷ starts) [] e = absurd e
@@ -88,15 +89,11 @@ module _ {S : Type 0} (text : S → Option (List ℕ)) (reads failed : S → ℕ
       let rest = links_same starts ts e.1 in cc
 
   sessions_settled : (capacity : ℕ) (starts : List (Start S)) (ts : List (EndedSession S)) (ls : List Lane) (ks : List Settled)
-      → AllZip (WholeSession text reads failed ended) starts ts → All (IsNewStart capacity) starts → Each3 SettlesEnds ts ls ks → All IsEnded ls
-      → Each4 (IsSettled text reads failed ended capacity) (map (λ (s : Start S). s.source) starts) (map (λ (t : EndedSession S). t.source) ts) (map (λ (t : EndedSession S). t.report) ts) ks
+      → AllZip (WholeSession seen) starts ts → All (IsNewStart capacity) starts → Each3 SettlesEnds ts ls ks → All IsEnded ls
+      → Each4 (IsSettled seen capacity) (map (λ (s : Start S). s.source) starts) (map (λ (t : EndedSession S). t.source) ts) (map (λ (t : EndedSession S). t.report) ts) ks
   sessions_settled capacity [] [] [] [] e n z h = tt
-  sessions_settled capacity [] [] [] (k ∷ ks) e n z h = absurd z
-  sessions_settled capacity [] [] (l ∷ ls) ks e n z h = absurd z
   sessions_settled capacity [] (t ∷ ts) ls ks e n z h = absurd e
   sessions_settled capacity (s ∷ starts) [] ls ks e n z h = absurd e
-  sessions_settled capacity (s ∷ starts) (t ∷ ts) [] ks e n z h = absurd z
-  sessions_settled capacity (s ∷ starts) (t ∷ ts) (l ∷ ls) [] e n z h = absurd z
   sessions_settled capacity (s ∷ starts) (t ∷ ts) (l ∷ ls) (k ∷ ks) e n z h =
       let new = All-head (IsNewStart capacity) s starts n in (
         record {
@@ -110,30 +107,31 @@ module _ {S : Type 0} (text : S → Option (List ℕ)) (reads failed : S → ℕ
         },
         sessions_settled capacity starts ts ls ks e.1 (All-tail (IsNewStart capacity) s starts n) z.1 (All-tail IsEnded l ls h),
       )
+  sessions_settled capacity starts ts ls ks e n z h = absurd z
 
   came_settled : (plan : PlanValue) (capacity : ℕ) (sources : List S) (starts : List (Start S)) (lots : List Lot) (ts : List (EndedSession S)) (reports : List SessionReport) (links : List Settled) (afters : List S) (records : List DataRecord)
-      → IsDealt plan capacity sources starts lots → AllZip (WholeSession text reads failed ended) starts ts → CameOver ts reports links afters records
-      → Each4 (IsSettled text reads failed ended capacity) sources afters reports links
+      → IsDealt plan capacity sources starts lots → AllZip (WholeSession seen) starts ts → CameOver ts reports links afters records
+      → Each4 (IsSettled seen capacity) sources afters reports links
   came_settled plan capacity sources starts lots ts reports links afters records d e came =
       rw (sym d.sources_are, came.settled.sources_are, came.settled.reports_are) (sessions_settled capacity starts ts came.lanes links e d.new_starts came.settled.links_are came.ended)
 
   finished : (plan : PlanValue) (pool : Pool) (sources : List S) (starts : List (Start S)) (lots : List Lot) (ts : List (EndedSession S)) (c : Collected S)
-      → IsDealt plan pool.capacity sources starts lots → AllZip (WholeSession text reads failed ended) starts ts → FinishedAs plan ts c
-      → Headline text reads failed ended sources plan pool c × FitsPlan plan c.table
+      → IsDealt plan pool.capacity sources starts lots → AllZip (WholeSession seen) starts ts → FinishedAs plan ts c
+      → Headline seen sources plan pool c × FitsPlan plan c.table
   finished plan pool sources starts lots ts c d e f =
       let each = came_settled plan pool.capacity sources starts lots ts c.sessions.items c.links.items c.sources.items f.records d e f.came in
-      (run_headline text reads failed ended sources plan pool c f.records each f.came.same f.table_is f.small, f.fits)
+      (run_headline seen sources plan pool c f.records each f.came.same f.table_is f.small, f.fits)
 
   overfull : (plan : PlanValue) (capacity : ℕ) (sources : List S) (starts : List (Start S)) (lots : List Lot) (ts : List (EndedSession S))
-      → IsDealt plan capacity sources starts lots → AllZip (WholeSession text reads failed ended) starts ts → IsOverfull plan ts → AreTooLarge text plan sources
-  overfull plan capacity sources starts lots ts d e f texts t =
+      → IsDealt plan capacity sources starts lots → AllZip (WholeSession seen) starts ts → IsOverfull plan ts → AreTooLarge seen plan sources
+  overfull plan capacity sources starts lots ts d e f =
       let each = came_settled plan capacity sources starts lots ts f.reports f.links f.sources f.records d e f.came in
-      let all = told text reads failed ended capacity sources f.sources f.reports f.links each in
+      let all = told seen capacity sources f.sources f.reports f.links each in
       let same : IsSameBag f.records (all_of all.records) = subst (λ (x : List DataRecord). IsSameBag f.records x) all.all f.came.same in
-      too_large_whole plan all.records texts (first_each text reads failed ended sources f.sources f.reports all.records texts all.given t) (too_large_bag plan f.records (all_of all.records) same f.large)
+      too_large_due seen plan sources f.sources f.reports all.records f.records all.given same f.large
 
   pub answered : (plan : PlanValue) (pool : Pool) (sources : List S) (starts : List (Start S)) (lots : List Lot) (ts : List (EndedSession S)) (answer : Option (Collected S))
-      → IsDealt plan pool.capacity sources starts lots → AllZip (WholeSession text reads failed ended) starts ts → MatchOption answer (IsOverfull plan ts) (λ c. FinishedAs plan ts c)
-      → MatchOption answer (AreTooLarge text plan sources) (λ c. Headline text reads failed ended sources plan pool c × FitsPlan plan c.table)
+      → IsDealt plan pool.capacity sources starts lots → AllZip (WholeSession seen) starts ts → MatchOption answer (IsOverfull plan ts) (λ c. FinishedAs plan ts c)
+      → MatchOption answer (AreTooLarge seen plan sources) (λ c. Headline seen sources plan pool c × FitsPlan plan c.table)
   answered plan pool sources starts lots ts None d e f = overfull plan pool.capacity sources starts lots ts d e f
   answered plan pool sources starts lots ts (Some c) d e f = finished plan pool sources starts lots ts c d e f

@@ -8,8 +8,6 @@ use Rattle.std.proofs.lemmas.List.Elements.{All-tail, All-head, All-cons, All-ni
 use Rattle.ipfix_message.specs.declared.record.DataRecord.{DataRecord}
 use Rattle.flow_link.specs.Ends.{LinkName, ReceiverView}
 use Rattle.flow_link.specs.Parcels.{has_last, records_in}
-use Rattle.flow_link.specs.declared.parcel.Parcel.{Parcel}
-use Rattle.flow_link.specs.declared.parcel.Parcel.TheVariants.{Item, Last}
 use Rattle.flow_table.specs.Partials.{StandsFor, plan_of}
 use Rattle.flow_table.specs.declared.partial.Partial.{Partial}
 use Rattle.flow_collect.specs.Promises.{taken_from}
@@ -17,11 +15,6 @@ use Rattle.flow_collect.specs.Lanes.{lane_key, lane_records, lane_weight, receiv
 use Rattle.flow_collect.specs.declared.worker.Lane.{Lane}
 use Rattle.flow_collect.specs.declared.worker.Lot.{Lot}
 use Rattle.flow_collect.specs.declared.worker.Worked.{Worked}
-
-pub records_in_push : (ps : List Parcel) (p : Parcel) → records_in (ps ++ p ∷ []) ≡ records_in ps ++ records_in (p ∷ [])
-records_in_push [] p = refl
-records_in_push (Item x ∷ ps) p = ap (λ rs. x ∷ rs) (records_in_push ps p)
-records_in_push (Last ∷ ps) p = records_in_push ps p
 
 -- what was taken of one lane joins what was taken in the round
 pub rounds_on : (lanes : List Lane) (p : Partial) (mid : List Lane) (q : Partial) (k : ℕ) (lane lane' : Lane) (q' : Partial) → k < length mid → lane ≡ get_or mid k lane
@@ -36,19 +29,18 @@ rounds_on lanes p mid q k lane lane' q' in_range here r t =
           let e = ap (lane_weight w) here in
           let a = sum_by-append w r.taken t.taken in
           omega (arith, r.weighs w);
-      plan = t.plan ∙ r.plan;
-      stands = λ rs st. subst (StandsFor q') (append_assoc rs r.taken t.taken) (t.stands (rs ++ r.taken) (r.stands rs st));
+      adds = (t.adds.0 ∙ r.adds.0, λ rs st. subst (StandsFor q') (append_assoc rs r.taken t.taken) (t.adds.1 (rs ++ r.taken) (r.adds.1 rs st)));
     }
 
 pub rounds_none : (lanes : List Lane) (p : Partial) → RoundsInto lanes p lanes p
 rounds_none lanes p =
-    record { taken = []; keys = refl; weighs = λ w. omega arith; plan = refl; stands = λ rs st. subst (StandsFor p) (sym (append-nil rs)) st }
+    record { taken = []; keys = refl; weighs = λ w. omega arith; adds = (refl, λ rs st. subst (StandsFor p) (sym (append-nil rs)) st) }
 
 pub stands_on : (lanes lanes' : List Lane) (p p' : Partial) → StandsForLanes p lanes → RoundsInto lanes p lanes' p' → StandsForLanes p' lanes'
 stands_on lanes lanes' p p' s r =
     record {
       records = s.records ++ r.taken;
-      stands = r.stands s.records s.stands;
+      stands = r.adds.1 s.records s.stands;
       weighs = λ w. let a = sum_by-append w s.records r.taken in omega (arith, s.weighs w, r.weighs w);
     }
 

@@ -1,5 +1,6 @@
+pub mod PlaceLists
 pub mod GivenLists
-pub mod Driven
+pub mod SameRuns
 pub mod Settled
 pub mod Runs
 pub mod Serials

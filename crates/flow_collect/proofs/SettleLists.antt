@@ -22,7 +22,7 @@ use Rattle.flow_collect.specs.declared.session_thread.EndedSession.{EndedSession
 use Rattle.flow_collect.specs.declared.worker.Lane.{Lane}
 use Rattle.flow_collect.specs.declared.worker.Worked.{Worked}
 use Rattle.flow_collect.proofs.Deals.{at_seam}
-use Rattle.flow_collect.proofs.ZipLists.{each3_push}
+use Rattle.flow_collect.proofs.ZipLists.{each3_more}
 
 -- the lane at a session's place has that session's link
 pub paired_here : {S : Type 0} (all ts rest rest' : List (EndedSession S)) (t : EndedSession S) (number : ℕ) (lane : Lane)
@@ -38,7 +38,7 @@ settled_on {S} ts ls rs ks ss t lane rs' ks' ss' all one =
     record {
       reports_are = one.reports_are ∙ (ap (λ r. r ++ t.report ∷ []) all.reports_are ∙ sym (map_push (λ (t : EndedSession S). t.report) ts t));
       sources_are = one.sources_are ∙ (ap (λ r. r ++ t.source ∷ []) all.sources_are ∙ sym (map_push (λ (t : EndedSession S). t.source) ts t));
-      links_are = rw one.links_are (each3_push _ ts ls ks t lane one.link all.links_are one.settled);
+      links_are = rw one.links_are (each3_more _ ts ls ks t lane one.link all.links_are one.settled);
     }
 
 pub settled_end : {S : Type 0} (ts : List (EndedSession S)) (ls : List Lane) (rs : List SessionReport) (ks : List Settled) (ss : List S) (ts0 : List (EndedSession S)) (ls0 : List Lane)
@@ -61,15 +61,12 @@ stands_joined p q r xs ys merged a b =
 pub links_weigh : {S : Type 0} (w : DataRecord → ℕ) (ts : List (EndedSession S)) (ls : List Lane) (ks : List Settled)
     → Each3 SettlesEnds ts ls ks → sum_by (lane_weight w) ls ≡ sum_by w (settled_records ks)
 links_weigh w [] [] [] e = refl
-links_weigh w [] [] (k ∷ ks) e = absurd e
-links_weigh w [] (l ∷ ls) ks e = absurd e
-links_weigh w (t ∷ ts) [] ks e = absurd e
-links_weigh w (t ∷ ts) (l ∷ ls) [] e = absurd e
 links_weigh w (t ∷ ts) (l ∷ ls) (k ∷ ks) e =
     let more = links_weigh w ts ls ks e.1 in
     let here : sum_by w (records_in (settled_received k)) ≡ lane_weight w l = ap (λ ps. sum_by w (records_in ps)) e.0.received_is in
     let a = sum_by-append w (records_in (settled_received k)) (settled_records ks) in
     omega (arith, sum_by-cons (lane_weight w) l ls)
+links_weigh w ts ls ks e = absurd e
 
 pub stands_sorted : (p : Partial) (xs ys : List Lane) → IsPermutation xs ys → StandsForLanes p xs → StandsForLanes p ys
 stands_sorted p xs ys same s =

@@ -3,19 +3,16 @@ use Rattle.std.proofs.Common.{◌≡◌, List, [], ◌∷◌, ◌++◌, refl, ap
 use Rattle.std.specs.List.{AllZip}
 use Rattle.flow_collect.specs.Places.{Each3}
 
-pub each3_push : {A B C : Type 0} (P : A → B → C → Type 0) (xs : List A) (ys : List B) (zs : List C) (x : A) (y : B) (z : C) → Each3 P xs ys zs → P x y z → Each3 P (xs ++ x ∷ []) (ys ++ y ∷ []) (zs ++ z ∷ [])
-each3_push P [] [] [] x y z e p = (p, tt)
-each3_push P [] [] (c ∷ zs) x y z e p = absurd e
-each3_push P [] (b ∷ ys) zs x y z e p = absurd e
-each3_push P (a ∷ xs) [] zs x y z e p = absurd e
-each3_push P (a ∷ xs) (b ∷ ys) [] x y z e p = absurd e
-each3_push P (a ∷ xs) (b ∷ ys) (c ∷ zs) x y z e p = (e.0, each3_push P xs ys zs x y z e.1 p)
+pub each3_more : {A B C : Type 0} (P : A → B → C → Type 0) (xs : List A) (ys : List B) (zs : List C) (x : A) (y : B) (z : C) → Each3 P xs ys zs → P x y z → Each3 P (xs ++ x ∷ []) (ys ++ y ∷ []) (zs ++ z ∷ [])
+each3_more P [] [] [] x y z e p = (p, tt)
+each3_more P (a ∷ xs) (b ∷ ys) (c ∷ zs) x y z e p = (e.0, each3_more P xs ys zs x y z e.1 p)
+each3_more P xs ys zs x y z e p = absurd e
 
-pub zip_push : {A B : Type 0} (P : A → B → Type 0) (xs : List A) (ys : List B) (x : A) (y : B) → AllZip P xs ys → P x y → AllZip P (xs ++ x ∷ []) (ys ++ y ∷ [])
-zip_push P [] [] x y e p = (p, tt)
-zip_push P [] (b ∷ ys) x y e p = absurd e
-zip_push P (a ∷ xs) [] x y e p = absurd e
-zip_push P (a ∷ xs) (b ∷ ys) x y e p = (e.0, zip_push P xs ys x y e.1 p)
+pub zip_more : {A B : Type 0} (P : A → B → Type 0) (xs : List A) (ys : List B) (x : A) (y : B) → AllZip P xs ys → P x y → AllZip P (xs ++ x ∷ []) (ys ++ y ∷ [])
+zip_more P [] [] x y e p = (p, tt)
+zip_more P [] (b ∷ ys) x y e p = absurd e
+zip_more P (a ∷ xs) [] x y e p = absurd e
+zip_more P (a ∷ xs) (b ∷ ys) x y e p = (e.0, zip_more P xs ys x y e.1 p)
 
 -- what each thread was given, and what it gave
 pub zip_join : {A H R : Type 0} (g : H → A) (P : A → R → Type 0) (xs : List A) (hs : List H) (rs : List R)

@@ -1,6 +1,7 @@
 -- What the threads are given.
 use Rattle.std.specs.Prelude.{◌≡◌, ℕ, ◌<◌, ◌≤◌, List, [], ◌∷◌, ◌++◌, length, map, All, Some, slice_get}
 use Rattle.flow_link.specs.Ends.{LinkName, IsNewLink}
+use Rattle.flow_link.specs.declared.making.TheConstants.{MAX_CAPACITY}
 use Rattle.flow_table.specs.Partials.{plan_of}
 use Rattle.flow_table.specs.Plans.{PlanValue}
 use Rattle.flow_collect.specs.Lanes.{IsUnused}
@@ -10,7 +11,7 @@ use Rattle.flow_collect.specs.declared.worker.Lot.{Lot}
 
 -- what a link may hold
 abbrev pub IsCapacity : ℕ → Type 0
-IsCapacity n = (0 < n) × (n ≤ 65536)
+IsCapacity n = (0 < n) × (n ≤ MAX_CAPACITY)
 
 -- the lane's link is that of its session
 abbrev pub IsPaired : List LinkName → Lane → Type 0

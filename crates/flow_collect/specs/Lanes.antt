@@ -5,6 +5,7 @@ use Rattle.flow_link.specs.Ends.{LinkName, ReceiverView}
 use Rattle.flow_link.specs.Parcels.{has_last, records_in}
 use Rattle.flow_table.specs.Partials.{StandsFor, plan_of}
 use Rattle.flow_table.specs.declared.partial.Partial.{Partial}
+use Rattle.flow_collect.specs.Adds.{AddsAll}
 use Rattle.flow_collect.specs.Promises.{WorkerTook}
 use Rattle.flow_collect.specs.declared.worker.Lane.{Lane}
 use Rattle.flow_collect.specs.declared.worker.Lot.{Lot}
@@ -35,16 +36,14 @@ pub record TakesInto (lane : Lane) (p : Partial) (lane' : Lane) (p' : Partial) :
   pub taken : List DataRecord
   pub key : lane_key lane' ≡ lane_key lane
   pub records_is : lane_records lane' ≡ lane_records lane ++ taken
-  pub plan : plan_of p' ≡ plan_of p
-  pub stands : (rs : List DataRecord) → StandsFor p rs → StandsFor p' (rs ++ taken)
+  pub adds : AddsAll p taken p'
 
 -- what came over the lanes was added
 pub record RoundsInto (lanes : List Lane) (p : Partial) (lanes' : List Lane) (p' : Partial) : Type 0 where
   pub taken : List DataRecord
   pub keys : map lane_key lanes' ≡ map lane_key lanes
   pub weighs : (weight : DataRecord → ℕ) → sum_by (lane_weight weight) lanes' ≡ sum_by (lane_weight weight) lanes + sum_by weight taken
-  pub plan : plan_of p' ≡ plan_of p
-  pub stands : (rs : List DataRecord) → StandsFor p rs → StandsFor p' (rs ++ taken)
+  pub adds : AddsAll p taken p'
 
 -- the partial table stands for a list of just the records that came over the lanes
 pub record StandsForLanes (p : Partial) (lanes : List Lane) : Type 0 where

@@ -1,12 +1,13 @@
-pub mod Faults
+-- what public contracts cite
 pub mod Places
-pub mod Texts
 pub mod Headline
+pub mod Texts
 pub mod Refusals
-pub mod Driven
-pub mod Promises
+pub mod Faults
+-- what is known inside a run
 pub mod Adds
 pub mod Serials
+pub mod Promises
 pub mod Sends
 pub mod Sessions
 pub mod Lanes

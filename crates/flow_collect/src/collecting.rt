@@ -1,10 +1,10 @@
 //! Collecting in threads.
 
-ghost use Rattle.std.specs.Prelude.{◌≡◌, IfOk, IfNone, IsErrOf, MatchOption, vec_len};
+ghost use Rattle.std.specs.Prelude.{◌≡◌, Err, IfOk, IfErr, IfSome, IfNone, IsErrOf, MatchOption, vec_len};
 ghost use Rattle.flow_table.specs.Fitting.{FitsPlan};
 ghost use Rattle.flow_collect.specs.Dealt.{IsCapacity};
 ghost use Rattle.flow_collect.specs.Headline.{Headline};
-ghost use Rattle.flow_collect.specs.Refusals.{argument_fault, AreTooLarge, IsLateInThreads, Judges};
+ghost use Rattle.flow_collect.specs.Refusals.{fault_of_arguments, AreTooLarge, IsLate};
 
 use crate::collected::{Collected, MAX_SESSIONS, MAX_WORKERS, Pool};
 use crate::dealing::deal;
@@ -38,13 +38,14 @@ pub fn collect<S: Source + Send + Drop, G: Gate + Sync, R: Threads + Wait + Sync
     gate: &G,
 ) -> Result<Collected<S>, CollectFault>
     // The headline.
-    ensures ok { IfOk result (λ c. Headline S.text S.reads S.failed S.ended sources.items plan.now pool c) }
-    // The table fits the plan, as the export asks.
+    ensures ok { IfOk result (λ c. Headline S.seen sources.items plan.now pool c) }
+    // The table fits the plan, as an export asks.
     ensures fits { IfOk result (λ c. FitsPlan plan.now c.table) }
-    // `Workers`, `Sessions` and `Link` are answered exactly for their arguments, in this order.
-    ensures arguments { Judges (argument_fault pool (vec_len sources)) IsLateInThreads result }
-    // `SumTooLarge` only where the records of the sources' whole texts are too large.
-    ensures too_large { IsErrOf result CollectFault.SumTooLarge → AreTooLarge S.text plan.now sources.items }
+    // `Workers`, `Sessions` and `Link` exactly for their arguments, in this order.
+    ensures arguments { IfSome (fault_of_arguments pool (vec_len sources)) (λ fault. result ≡ Err fault) }
+    ensures others { IfNone (fault_of_arguments pool (vec_len sources)) (IfErr result IsLate) }
+    // Only if the records of the sources' whole texts are too large.
+    ensures too_large { IsErrOf result CollectFault.SumTooLarge → AreTooLarge S.seen plan.now sources.items }
 {
     if let Some(fault) = judge(pool, sources.len()) {
         return Err(fault);
@@ -59,7 +60,7 @@ pub fn collect<S: Source + Send + Drop, G: Gate + Sync, R: Threads + Wait + Sync
 
 // The first fault of the arguments.
 fn judge(pool: Pool, sessions: usize) -> Option<CollectFault>
-    ensures fault { result ≡ argument_fault pool sessions }
+    ensures fault { result ≡ fault_of_arguments pool sessions }
     ensures fits { IfNone result (IsCapacity pool.capacity) }
 {
     if pool.workers == 0 || pool.workers > MAX_WORKERS {
@@ -84,8 +85,8 @@ fn collect_judged<S: Source + Send + Drop, G: Gate + Sync, R: Threads + Wait + S
     gate: &G,
 ) -> Result<Option<Collected<S>>, RunFault>
     requires { IsCapacity pool.capacity }
-    ensures { IfOk result (λ answer. MatchOption answer (AreTooLarge S.text plan.now sources.items)
-        (λ c. Headline S.text S.reads S.failed S.ended sources.items plan.now pool c × FitsPlan plan.now c.table)) }
+    ensures { IfOk result (λ answer. MatchOption answer (AreTooLarge S.seen plan.now sources.items)
+        (λ c. Headline S.seen sources.items plan.now pool c × FitsPlan plan.now c.table)) }
 {
     let dealt = deal(alloc, sources, plan, pool)?;
     let joined = in_threads(rt, alloc, gate, dealt)?;

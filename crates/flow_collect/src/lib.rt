@@ -9,7 +9,6 @@ mod fault;
 mod gate;
 mod laws;
 mod link_sink;
-mod parts;
 mod run_fault;
 mod serial;
 mod session_thread;
@@ -26,7 +25,4 @@ pub use laws::{
     same_octets_same_table, whole_texts_add_up,
 };
 pub use link_sink::LinkSink;
-pub use parts::{
-    driven_is_given, merged_is_added_up, run_is_headline, settled_is_received, too_large_is_due,
-};
-pub use serial::{Ran, TableSink, collect_serial};
+pub use serial::collect_serial;

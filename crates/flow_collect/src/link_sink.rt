@@ -59,9 +59,10 @@ impl<'a, R: Wait, G: Gate> LinkSink<'a, R, G> {
 impl<'a, R: Wait, G: Gate> Sink for LinkSink<'a, R, G> {
     ghost use Rattle.flow_collect.specs.Sends.{SendsItem};
 
-    ghost took = { λ before item after. SendsItem before.sender item after.sender };
-
-    ghost refused = { λ s. s.refused };
+    ghost seen = { record {
+      took = λ before item after. SendsItem before.sender item after.sender;
+      refused = λ s. s.refused;
+    } };
 
     /// Sends the record. It comes back if Last was sent, or if the receiver is gone.
     fn put(&mut self, item: DataRecord) -> Result<(), DataRecord> {

@@ -1,14 +1,13 @@
 //! A session's thread: what its source gives goes over its link.
 
-ghost use Rattle.std.specs.Prelude.{◌≡◌, ◌≢◌, [], Some, IsTrue};
-ghost use Rattle.ipfix_session.specs.declared.fault.SessionFault.TheVariants.{SinkClosed};
+ghost use Rattle.std.specs.Prelude.{◌≡◌, []};
 ghost use Rattle.flow_collect.specs.Sessions.{SessionRan};
 
 use crate::collected::READS;
 use crate::gate::Gate;
 use crate::link_sink::LinkSink;
 use flow_link::Sender;
-use ipfix_session::{SessionFault, SessionReport, Source, drive};
+use ipfix_session::{SessionReport, Source, drive};
 use std::alloc::Global;
 use std::sync::Wait;
 
@@ -39,7 +38,7 @@ pub fn run_session<S: Source, G: Gate, R: Wait>(
     start: Start<S>,
 ) -> EndedSession<S>
     requires { start.sender.sent ≡ [] }
-    ensures { SessionRan S.text S.reads S.failed S.ended start result }
+    ensures { SessionRan S.seen start result }
 {
     let Start {
         session,
@@ -49,19 +48,13 @@ pub fn run_session<S: Source, G: Gate, R: Wait>(
     let mut source = source;
     let mut sink = LinkSink::new(rt, gate, session, sender);
     let report = drive(alloc, &mut source, &mut sink, READS);
+    let took_all = sink.refused == 0;
     let sent = sink.send_last();
-    let whole = sent && took_all(report.fault);
+    let whole = sent && took_all;
     EndedSession {
         report,
         source,
         sender: sink.sender,
         whole,
     }
-}
-
-// Whether the sink gave no record back.
-fn took_all(fault: Option<SessionFault>) -> bool
-    ensures { IsTrue result → fault ≢ Some SinkClosed }
-{
-    !matches!(fault, Some(SessionFault::SinkClosed))
 }

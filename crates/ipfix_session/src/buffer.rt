@@ -54,12 +54,12 @@ fn take_begun<'a, K: Sink>(
     sink: &mut K,
 ) -> Result<Option<&'a [u8]>, SessionFault>
     ensures takes { (old : List Message) (text : List ℕ) (before : K) → IsRest buffer.old.items
-        → Reaches K.took K.refused old text before sink.old (counts_of intake.old.tally) intake.old.domains (buffer.old.items ++ piece.now)
+        → Reaches K.seen old text before sink.old (counts_of intake.old.tally) intake.old.domains (buffer.old.items ++ piece.now)
         → MatchResult result
         (λ o. MatchOption o
-        (Reaches K.took K.refused old text before sink.new (counts_of intake.new.tally) intake.new.domains buffer.new.items × IsRest buffer.new.items)
-        (λ left. Reaches K.took K.refused old text before sink.new (counts_of intake.new.tally) intake.new.domains left.now))
-        (λ fault. Ends K.took K.refused fault old text before sink.new (counts_of intake.new.tally)) }
+        (Reaches K.seen old text before sink.new (counts_of intake.new.tally) intake.new.domains buffer.new.items × IsRest buffer.new.items)
+        (λ left. Reaches K.seen old text before sink.new (counts_of intake.new.tally) intake.new.domains left.now))
+        (λ fault. Ends K.seen fault old text before sink.new (counts_of intake.new.tally)) }
     ensures emptied { IfOk result (λ o. ForSome o (λ left. buffer.new.items ≡ [])) }
     ensures at_most { length buffer.new.items ≤ max 65535 (length buffer.old.items) }
 {
@@ -88,10 +88,10 @@ pub fn read_on<K: Sink>(
     sink: &mut K,
 ) -> Result<(), SessionFault>
     ensures reads { (old : List Message) (text : List ℕ) (before : K) → IsRest buffer.old.items
-        → Reaches K.took K.refused old text before sink.old (counts_of intake.old.tally) intake.old.domains (buffer.old.items ++ piece.now)
+        → Reaches K.seen old text before sink.old (counts_of intake.old.tally) intake.old.domains (buffer.old.items ++ piece.now)
         → MatchResult result
-        (λ _. Reaches K.took K.refused old text before sink.new (counts_of intake.new.tally) intake.new.domains buffer.new.items × IsRest buffer.new.items)
-        (λ fault. Ends K.took K.refused fault old text before sink.new (counts_of intake.new.tally)) }
+        (λ _. Reaches K.seen old text before sink.new (counts_of intake.new.tally) intake.new.domains buffer.new.items × IsRest buffer.new.items)
+        (λ fault. Ends K.seen fault old text before sink.new (counts_of intake.new.tally)) }
     ensures at_most { length buffer.new.items ≤ max 65535 (length buffer.old.items) }
 {
     let left = match take_begun(alloc, intake, buffer, piece, sink)? {

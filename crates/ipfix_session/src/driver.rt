@@ -29,7 +29,7 @@ pub fn drive<S: Source, K: Sink>(
     sink: &mut K,
     limit: u64,
 ) -> SessionReport
-    ensures { Drives S.text S.reads S.failed S.ended K.took K.refused limit 65536 source.old source.new sink.old sink.new result }
+    ensures { Drives K.seen limit 65536 (S.seen source.old) (S.seen source.new) sink.old sink.new result }
 {
     match vec![in alloc; 0; PIECE] {
         Ok(mut buffer) => drive_through(alloc, source, sink, limit, &mut buffer),
@@ -40,7 +40,6 @@ pub fn drive<S: Source, K: Sink>(
 }
 
 // the same through this buffer
-#[tactic(auto, using(crate::proofs::Driving::stops_at))]
 fn drive_through<S: Source, K: Sink>(
     alloc: Global,
     source: &mut S,
@@ -49,7 +48,7 @@ fn drive_through<S: Source, K: Sink>(
     buffer: &mut [u8],
 ) -> SessionReport
     requires { 0 < length buffer.old }
-    ensures { (most : ℕ) → length buffer.old ≤ most → Drives S.text S.reads S.failed S.ended K.took K.refused limit most source.old source.new sink.old sink.new result }
+    ensures { (most : ℕ) → length buffer.old ≤ most → Drives K.seen limit most (S.seen source.old) (S.seen source.new) sink.old sink.new result }
 {
     let mut session = Session::new(alloc);
     for _ in 0..limit {

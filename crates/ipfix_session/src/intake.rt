@@ -31,7 +31,7 @@ fn put_all<K: Sink>(
     delivered: &mut u64,
     sink: &mut K,
 ) -> Result<(), SessionFault>
-    ensures { Puts K.took K.refused result records.items delivered.old delivered.new sink.old sink.new }
+    ensures { Puts K.seen result records.items delivered.old delivered.new sink.old sink.new }
 {
     for record in records {
         if sink.put(record).is_err() {
@@ -72,11 +72,11 @@ impl Intake {
         sink: &mut K,
     ) -> Result<(), SessionFault>
         ensures { (old : List Message) (text left rest : List ℕ) (before : K)
-            → Reaches K.took K.refused old text before sink.old (counts_of self.old.tally) self.old.domains left
+            → Reaches K.seen old text before sink.old (counts_of self.old.tally) self.old.domains left
             → MessageStream.next_message left ≡ Ok (message.now, rest)
             → MatchResult result
-            (λ _. Reaches K.took K.refused old text before sink.new (counts_of self.new.tally) self.new.domains rest)
-            (λ fault. Ends K.took K.refused fault old text before sink.new (counts_of self.new.tally)) }
+            (λ _. Reaches K.seen old text before sink.new (counts_of self.new.tally) self.new.domains rest)
+            (λ fault. Ends K.seen fault old text before sink.new (counts_of self.new.tally)) }
     {
         let Decoded {
             header,
@@ -106,10 +106,10 @@ impl Intake {
         sink: &mut K,
     ) -> Result<&'a [u8], SessionFault>
         ensures takes { (old : List Message) (text_of : List ℕ) (before : K)
-            → Reaches K.took K.refused old text_of before sink.old (counts_of self.old.tally) self.old.domains text.now
+            → Reaches K.seen old text_of before sink.old (counts_of self.old.tally) self.old.domains text.now
             → MatchResult result
-            (λ rest. Reaches K.took K.refused old text_of before sink.new (counts_of self.new.tally) self.new.domains rest.now × IsRest rest.now)
-            (λ fault. Ends K.took K.refused fault old text_of before sink.new (counts_of self.new.tally)) }
+            (λ rest. Reaches K.seen old text_of before sink.new (counts_of self.new.tally) self.new.domains rest.now × IsRest rest.now)
+            (λ fault. Ends K.seen fault old text_of before sink.new (counts_of self.new.tally)) }
         ensures begun { IfOk result (λ rest. length rest.now < 65535) }
     {
         let mut rest = text;

@@ -21,7 +21,7 @@ mod tally;
 pub use decoding::{DecodedText, decode_text};
 pub use driver::drive;
 pub use fault::SessionFault;
-pub use laws::{goes_on, one_cut};
+pub use laws::{driven_is_given, goes_on, no_fault_is_all, one_cut};
 pub use reader::FromReader;
 pub use report::{DomainReport, SessionReport};
 pub use script::ScriptSource;

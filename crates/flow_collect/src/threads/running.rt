@@ -36,7 +36,7 @@ pub fn in_threads<S: Source + Send + Drop, G: Gate + Sync, R: Threads + Wait + S
 ) -> Result<Joined<S>, RunFault>
     requires unused { All (λ start. start.sender.sent ≡ []) dealt.starts.items }
     requires lots { All IsUnused dealt.lots.items }
-    ensures sessions { IfOk result (λ r. AllZip (WholeSession S.text S.reads S.failed S.ended) dealt.starts.items r.sessions.items) }
+    ensures sessions { IfOk result (λ r. AllZip (WholeSession S.seen) dealt.starts.items r.sessions.items) }
     ensures workers { IfOk result (λ r. AllZip WorkerRan dealt.lots.items r.worked.items) }
 {
     thread::scope(
@@ -45,7 +45,7 @@ pub fn in_threads<S: Source + Send + Drop, G: Gate + Sync, R: Threads + Wait + S
         |scope| -> Result<Joined<S>, RunFault>
             requires unused { All (λ start. start.sender.sent ≡ []) dealt.starts.items }
             requires lots { All IsUnused dealt.lots.items }
-            ensures sessions { IfOk result (λ r. AllZip (WholeSession S.text S.reads S.failed S.ended) dealt.starts.items r.sessions.items) }
+            ensures sessions { IfOk result (λ r. AllZip (WholeSession S.seen) dealt.starts.items r.sessions.items) }
             ensures workers { IfOk result (λ r. AllZip WorkerRan dealt.lots.items r.worked.items) }
         { run_all(scope, rt, alloc, gate, dealt) },
     )
@@ -62,7 +62,7 @@ fn run_all<'s, 'e, S: Source + Send + Drop + 's, G: Gate + Sync, R: Threads + Wa
 ) -> Result<Joined<S>, RunFault>
     requires unused { All (λ start. start.sender.sent ≡ []) dealt.starts.items }
     requires lots { All IsUnused dealt.lots.items }
-    ensures sessions { IfOk result (λ r. AllZip (WholeSession S.text S.reads S.failed S.ended) dealt.starts.items r.sessions.items) }
+    ensures sessions { IfOk result (λ r. AllZip (WholeSession S.seen) dealt.starts.items r.sessions.items) }
     ensures workers { IfOk result (λ r. AllZip WorkerRan dealt.lots.items r.worked.items) }
 {
     let Dealt { starts, lots } = dealt;

@@ -21,7 +21,7 @@ pub struct SessionOf<S> {
 }
 
 impl<S: Source> Promise<EndedSession<S>> for SessionOf<S> {
-    ghost kept_by = { λ p r. SessionRan S.text S.reads S.failed S.ended p.start.value r };
+    ghost kept_by = { λ p r. SessionRan S.seen p.start.value r };
 }
 
 /// Starts a thread for each session. The second part says whether all could be started: if one
@@ -70,7 +70,7 @@ pub fn join_sessions<S: Source + Drop, R: Threads>(
     room: VecDeque<EndedSession<S>>,
 ) -> (VecDeque<EndedSession<S>>, bool)
     requires { (room.items ≡ []) × (deque_len room ≡ 0) × (deque_len handles ≤ deque_capacity room) }
-    ensures { IsTrue result.1 → AllZip (λ h r. WholeSession S.text S.reads S.failed S.ended h.promise.start.value r) handles.items result.0.items }
+    ensures { IsTrue result.1 → AllZip (λ h r. WholeSession S.seen h.promise.start.value r) handles.items result.0.items }
 {
     let mut handles = handles;
     let mut sessions = room;

@@ -1,9 +1,8 @@
 //! Rounds of a worker.
 
-ghost use Rattle.std.specs.Prelude.{◌≡◌, List, [], ◌∷◌, ◌++◌, All, IfSome, IsTrue};
-ghost use Rattle.ipfix_message.specs.declared.record.DataRecord.{DataRecord};
+ghost use Rattle.std.specs.Prelude.{◌≡◌, [], ◌∷◌, All, IfSome, IsTrue};
 ghost use Rattle.flow_link.specs.Parcels.{is_last, records_in};
-ghost use Rattle.flow_table.specs.Partials.{StandsFor, plan_of};
+ghost use Rattle.flow_collect.specs.Adds.{AddsAll};
 ghost use Rattle.flow_collect.specs.Lanes.{TakesInto, RoundsInto, IsEnded, IsUnused, WorkerRan};
 
 use super::{Lane, Lot, Worked};
@@ -119,8 +118,7 @@ fn try_lane<G: Gate>(
 // takes the record, too.
 fn absorb(partial: &mut Partial, parcel: Parcel) -> bool
     ensures last { result ≡ is_last parcel }
-    ensures plan { plan_of partial.new ≡ plan_of partial.old }
-    ensures adds { (rs : List DataRecord) → StandsFor partial.old rs → StandsFor partial.new (rs ++ records_in (parcel ∷ [])) }
+    ensures adds { AddsAll partial.old (records_in (parcel ∷ [])) partial.new }
 {
     match parcel {
         Parcel::Item(item) => {

@@ -23,10 +23,10 @@ finish_all-requires-clause-taken g c = (c.args.plan.now, all_taken _ _ _ _ c.in_
 pub finish_all-requires-clause-paired : goal.finish_all-requires-clause-paired
 finish_all-requires-clause-paired g c =
     subst (λ (links : List LinkName). All (IsPaired links) (lanes_of c.in_ok-joined.joined.worked.items))
-    (sym (links_same g.S.Source.text g.S.Source.reads g.S.Source.failed g.S.Source.ended _ _ c.in_ok-joined.ensures.sessions))
+    (sym (links_same g.S.Source.seen _ _ c.in_ok-joined.ensures.sessions))
     (all_paired _ _ _ _ c.in_ok-joined.ensures.workers c.in_ok-dealt.ensures.new_lots)
 
 pub returns : goal.returns
 returns g c =
-    answered g.S.Source.text g.S.Source.reads g.S.Source.failed g.S.Source.ended _ _ _ _ _ _ _ c.in_ok-dealt.ensures c.in_ok-joined.ensures.sessions
+    answered g.S.Source.seen _ _ _ _ _ _ _ c.in_ok-dealt.ensures c.in_ok-joined.ensures.sessions
     (c.in_ok-answer.ensures c.args.plan.now (all_taken _ _ _ _ c.in_ok-joined.ensures.workers c.in_ok-dealt.ensures.new_lots))

@@ -5,7 +5,7 @@ use Rattle.flow_collect.proofs.threads.running.run_all.Goals as goal
 
 pub returns-clause-sessions : goal.returns-clause-sessions
 returns-clause-sessions g c =
-    zip_join (λ h. h.promise.start.value) (WholeSession g.S.Source.text g.S.Source.reads g.S.Source.failed g.S.Source.ended) _ _ _
+    zip_join (λ h. h.promise.start.value) (WholeSession g.S.Source.seen) _ _ _
     (c.start_sessions-handles.ensures.started c.if-not-all_run.false) (c.join_sessions-sessions.ensures c.if-not-all_sent.false)
 
 pub returns-clause-workers : goal.returns-clause-workers

@@ -1,5 +1,5 @@
 use Rattle.std.proofs.Common.{◌≡◌, ◌∷◌, ◌++◌, [], arith, true}
-use Rattle.flow_collect.proofs.ZipLists.{zip_push, split_on}
+use Rattle.flow_collect.proofs.ZipLists.{zip_more, split_on}
 use Rattle.flow_collect.proofs.threads.sessions.join_sessions.Goals as goal
 use Rattle.flow_collect.proofs.threads.sessions.join_sessions.Goals.{then-not-session, else-not-session}
 
@@ -15,5 +15,5 @@ loop-handle-preserved g c =
             | then-not-session w ↦ cc (w.whole-is, whole)
             | else-not-session w ↦ (cc (w.whole-is, whole), w.if-not-session.false)
           ] in
-          rw c.push_back_reserved.ensures.items (zip_push _ _ _ _ _ (inv.3 both.0) (c.join-session.ensures both.1)),
+          rw c.push_back_reserved.ensures.items (zip_more _ _ _ _ _ (inv.3 both.0) (c.join-session.ensures both.1)),
     )

@@ -9,7 +9,7 @@ invariant-loop-handle g l =
     (hs : List _)
     × (l.initial.handles.items ≡ hs ++ l.handles.items)
     × (deque_len l.sessions + deque_len l.handles ≤ deque_capacity l.sessions)
-    × (l.whole ≡ true → AllZip (λ h r. WholeSession g.S.Source.text g.S.Source.reads g.S.Source.failed g.S.Source.ended h.promise.start.value r) hs l.sessions.items)
+    × (l.whole ≡ true → AllZip (λ h r. WholeSession g.S.Source.seen h.promise.start.value r) hs l.sessions.items)
 
 abbrev pub decreases-loop-handle : goal.decreases-loop-handle
 decreases-loop-handle g l = deque_len l.handles

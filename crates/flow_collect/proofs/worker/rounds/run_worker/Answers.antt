@@ -9,10 +9,10 @@ loop-init g c = (refl, refl, stands_first _ _ c.requires.0 c.requires.1)
 
 pub loop-preserved : goal.loop-preserved
 loop-preserved g c =
-    (c.go_round-round.ensures.keys ∙ c.loop.invariant.0, c.go_round-round.ensures.plan ∙ c.loop.invariant.1, stands_on _ _ _ _ c.loop.invariant.2 c.go_round-round.ensures)
+    (c.go_round-round.ensures.keys ∙ c.loop.invariant.0, c.go_round-round.ensures.adds.0 ∙ c.loop.invariant.1, stands_on _ _ _ _ c.loop.invariant.2 c.go_round-round.ensures)
 
 pub returns-then-all_ended : goal.returns-then-all_ended
 returns-then-all_ended g c =
-    worker_ran _ _ (c.go_round-round.ensures.keys ∙ c.loop.invariant.0) (c.go_round-round.ensures.plan ∙ c.loop.invariant.1)
+    worker_ran _ _ (c.go_round-round.ensures.keys ∙ c.loop.invariant.0) (c.go_round-round.ensures.adds.0 ∙ c.loop.invariant.1)
     (subst (All IsEnded) c.deref.ensures.value (c.all_ended.ensures c.if-all_ended.true))
     (stands_on _ _ _ _ c.loop.invariant.2 c.go_round-round.ensures)

@@ -1,7 +1,6 @@
 use Rattle.std.proofs.Common.{◌∷◌, [], sym, ap, ◌∙◌}
-use Rattle.flow_link.proofs.ParcelLists.{has_last_push}
+use Rattle.flow_link.proofs.ParcelLists.{has_last_push, records_in-append}
 use Rattle.flow_link.specs.Parcels.{has_last, records_in}
-use Rattle.flow_collect.proofs.LaneLists.{records_in_push}
 use Rattle.flow_collect.proofs.worker.rounds.try_lane.Goals as goal
 
 pub invariant_of-lane : goal.invariant_of-lane
@@ -13,7 +12,6 @@ returns-in-Got g c =
     record {
       taken = records_in (c.in-Got.parcel ∷ []);
       key = ap (λ link. (c.args.lane.now.session, link)) c.in-Got.ensures.link.0;
-      records_is = ap records_in c.in-Got.ensures.got ∙ records_in_push c.args.lane.now.receiver.received c.in-Got.parcel;
-      plan = c.absorb-lane.ensures.plan;
-      stands = c.absorb-lane.ensures.adds;
+      records_is = ap records_in c.in-Got.ensures.got ∙ records_in-append c.args.lane.now.receiver.received (c.in-Got.parcel ∷ []);
+      adds = c.absorb-lane.ensures.adds;
     }
