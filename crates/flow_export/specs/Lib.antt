@@ -1,0 +1,4 @@
+pub mod Faults
+pub mod CsvText
+pub mod IpfixText
+pub mod Examples

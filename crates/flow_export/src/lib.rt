@@ -1,0 +1,11 @@
+//! Tables of aggregated flows as text: as CSV (RFC 4180), and as messages of IPFIX (RFC 7011).
+#![tactic(auto)]
+
+mod examples;
+mod fault;
+mod format;
+mod ipfix_rows;
+
+pub use fault::ExportFault;
+pub use format::Format;
+pub use ipfix_rows::ROWS_A_MESSAGE;
