@@ -1,0 +1,3 @@
+pub mod InBlocks
+pub mod Plain
+pub mod AsWritten

@@ -1,4 +1,5 @@
 pub mod Faults
 pub mod CsvText
 pub mod IpfixText
+pub mod Written
 pub mod Examples
