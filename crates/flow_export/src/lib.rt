@@ -8,6 +8,7 @@ mod fault;
 mod format;
 mod ipfix_rows;
 mod laws;
+mod widths;
 
 pub use csv_export::write_csv;
 pub use fault::ExportFault;
