@@ -1,0 +1,218 @@
+-- The template of a plan has room, and its elements are apart.
+use Rattle.std.proofs.Common.{◌≡◌, ℕ, ◌+◌, ◌*◌, ◌^◌, ◌<◌, ◌≤◌, Bool, true, false, cond, eqb, ltb, nat_le, List, [], ◌∷◌, ◌++◌, length, map, find, All, Some, refl, sym, ap, subst, ◌∙◌, arith, inl, inr}
+use Rattle.std.specs.Prelude.{◌≢◌, is_some}
+use Rattle.std.specs.List.{list_all, list_any}
+use Rattle.std.proofs.lemmas.Bool.{cases_Bool, and_parts, eqb-true, ltb-true, leb-true}
+use Rattle.std.proofs.lemmas.List.{length-append, length-map}
+use Rattle.std.proofs.lemmas.List.Elements.{All-nil, All-cons, All-append}
+use Rattle.ipfix_wire.specs.declared.specifier.ElementId.{ElementId}
+use Rattle.ipfix_wire.specs.declared.specifier.Spec.{Spec}
+use Rattle.ipfix_elements.specs.Elements.{Row, kind_of, elements}
+use Rattle.ipfix_elements.specs.Values.{octets_of}
+use Rattle.ipfix_elements.specs.declared.kind.Kind.{Kind}
+use Rattle.ipfix_elements.specs.declared.kind.Kind.TheVariants.{Unsigned, Ipv4, Ipv6, Mac, Seconds, Millis, Octets}
+use Rattle.ipfix_elements.specs.declared.kind.Width.{Width}
+use Rattle.ipfix_elements.specs.declared.kind.Width.TheVariants.{One, Two, Four, Eight}
+use Rattle.ipfix_elements.proofs.Lookups.{find_passes, cases_Option}
+use Rattle.ipfix_message.specs.DataRecords.{least}
+use Rattle.flow_table.specs.declared.key.Key.{Key}
+use Rattle.flow_table.specs.Plans.{PlanValue, IsPlan, is_key_kind, is_counter, prefix_element}
+use Rattle.flow_table.proofs.PlanKeys.{passed_tests}
+use Rattle.flow_export.specs.IpfixText.{iana, width_of, key_width, key_spec, number_spec}
+use Rattle.flow_export.proofs.Room.{IsSpec, HasRoom}
+
+-- ---- elements of keys
+
+-- an element of IANA's registry that is no flow's start or end
+pub record IsValue (e : ElementId) : Type 0 where
+  pub iana : e.pen ≡ 0
+  pub number : e.number < 2 ^ 15
+  pub no_start : e.number ≢ 152
+  pub no_end : e.number ≢ 153
+
+small_row : Row → Bool
+small_row r = ltb r.number (2 ^ 15)
+
+all_small : list_all small_row elements ≡ true
+unfolding elements small_row
+all_small = refl
+
+find_all : (q f : Row → Bool) (xs : List Row) (y : Row) → list_all q xs ≡ true → find f xs ≡ Some y → q y ≡ true
+find_all q f [] y all found = absurd cc
+find_all q f (x ∷ xs) y all found =
+    let both = and_parts (q x) (list_all q xs) all in
+    by (f x) found both.0 (find_all q f xs y both.1)
+  where
+    by : (b : Bool) → cond b (Some x) (find f xs) ≡ Some y → q x ≡ true → (find f xs ≡ Some y → q y ≡ true) → q y ≡ true
+    by true e a later = let same : x ≡ y = cc in subst (λ (r : Row). q r ≡ true) same a
+    by false e a later = later e
+
+-- what has the kind of a key is in the table
+in_table : (e : ElementId) → is_key_kind (kind_of e) ≡ true → (e.pen ≡ 0) × ((r : Row) × (find (λ x. eqb x.number e.number) elements ≡ Some r))
+in_table e key = elim (cases_Bool (eqb e.pen 0)) as (λ _. (e.pen ≡ 0) × ((r : Row) × (find (λ x. eqb x.number e.number) elements ≡ Some r))) [
+  | inl t ↦ elim (cases_Option (find (λ x. eqb x.number e.number) elements)) as (λ _. (e.pen ≡ 0) × ((r : Row) × (find (λ x. eqb x.number e.number) elements ≡ Some r))) [
+    | inl none ↦ absurd (let no : false ≡ true = rw (t, none) at key in cc)
+    | inr some ↦ (eqb-true e.pen 0 t, some)
+  ]
+  | inr f ↦ absurd (let no : false ≡ true = rw f at key in cc)
+]
+
+kind_by_number : (e : ElementId) (n : ℕ) → e.pen ≡ 0 → e.number ≡ n → kind_of e ≡ kind_of (iana n)
+kind_by_number e n p q = rw (p, q) refl
+
+start_kind : kind_of (iana 152) ≡ Millis
+unfolding elements
+start_kind = refl
+
+end_kind : kind_of (iana 153) ≡ Millis
+unfolding elements
+end_kind = refl
+
+pub key_is_value : (e : ElementId) → is_key_kind (kind_of e) ≡ true → IsValue e
+unfolding small_row
+key_is_value e key =
+    let at = in_table e key in
+    let passes : eqb at.1.0.number e.number ≡ true = find_passes (λ x. eqb x.number e.number) elements at.1.0 at.1.1 in
+    let small : ltb at.1.0.number (2 ^ 15) ≡ true = find_all small_row (λ x. eqb x.number e.number) elements at.1.0 all_small at.1.1 in
+    let no : (n : ℕ) → kind_of (iana n) ≡ Millis → e.number ≢ n = λ n millis same.
+    let kind : kind_of e ≡ Millis = kind_by_number e n at.0 same ∙ millis in
+    let wrong : false ≡ true = sym (ap is_key_kind kind) ∙ key in cc in
+    record {
+      iana = at.0;
+      number = omega (arith, eqb-true at.1.0.number e.number passes, ltb-true at.1.0.number (2 ^ 15) small);
+      no_start = no 152 start_kind;
+      no_end = no 153 end_kind;
+    }
+
+narrow_number : (width : Width) → octets_of width ≤ 16
+narrow_number One = omega arith
+narrow_number Two = omega arith
+narrow_number Four = omega arith
+narrow_number Eight = omega arith
+
+pub key_narrow : (kind : Kind) → is_key_kind kind ≡ true → width_of kind ≤ 16
+key_narrow (Unsigned width) key = narrow_number width
+key_narrow Ipv4 key = omega arith
+key_narrow Ipv6 key = omega arith
+key_narrow Mac key = omega arith
+key_narrow Seconds key = omega arith
+key_narrow Millis key = omega arith
+key_narrow Octets key = absurd cc
+
+-- ---- counters
+
+abbrev Each : (ℕ → Type 0) → List ℕ → Type 0
+Each P [] = Unit {0}
+Each P (n ∷ ns) = P n × Each P ns
+
+any_of : (P : ℕ → Type 0) (ns : List ℕ) (x : ℕ) → Each P ns → list_any (λ n. eqb n x) ns ≡ true → P x
+any_of P [] x each any = absurd cc
+any_of P (n ∷ ns) x each any = elim (cases_Bool (eqb n x)) [
+  | inl t ↦ subst P (eqb-true n x t) each.0
+  | inr f ↦ any_of P ns x each.1 (rw f at any)
+]
+
+abbrev Counts : ℕ → Type 0
+Counts n = (kind_of (iana n) ≡ Unsigned Eight) × (n < 2 ^ 15) × (n ≢ 152) × (n ≢ 153)
+
+each_counts : Each Counts (1 ∷ 2 ∷ 3 ∷ 23 ∷ 24 ∷ 132 ∷ 133 ∷ [])
+unfolding elements
+each_counts = (
+  (refl, omega arith, λ e. omega (arith, e), λ e. omega (arith, e)),
+  (
+    (refl, omega arith, λ e. omega (arith, e), λ e. omega (arith, e)),
+    (
+      (refl, omega arith, λ e. omega (arith, e), λ e. omega (arith, e)),
+      (
+        (refl, omega arith, λ e. omega (arith, e), λ e. omega (arith, e)),
+        (
+          (refl, omega arith, λ e. omega (arith, e), λ e. omega (arith, e)),
+          (
+            (refl, omega arith, λ e. omega (arith, e), λ e. omega (arith, e)),
+            ((refl, omega arith, λ e. omega (arith, e), λ e. omega (arith, e)), tt),
+          ),
+        ),
+      ),
+    ),
+  ),
+)
+
+pub counter_is_value : (e : ElementId) → is_counter e ≡ true → (kind_of e ≡ Unsigned Eight) × IsValue e
+counter_is_value e counter =
+    let both = and_parts (eqb e.pen 0) (list_any (λ n. eqb n e.number) (1 ∷ 2 ∷ 3 ∷ 23 ∷ 24 ∷ 132 ∷ 133 ∷ [])) counter in
+    let iana = eqb-true e.pen 0 both.0 in
+    let counts = any_of Counts (1 ∷ 2 ∷ 3 ∷ 23 ∷ 24 ∷ 132 ∷ 133 ∷ []) e.number each_counts both.1 in
+    (kind_by_number e e.number iana refl ∙ counts.0, record { iana = iana; number = counts.1; no_start = counts.2; no_end = counts.3 })
+
+-- ---- room
+
+abbrev KeysOf : List Key → Type 0
+KeysOf keys = list_all (λ k. is_key_kind (kind_of k.element)) keys ≡ true
+
+abbrev CountersOf : List ElementId → Type 0
+CountersOf counters = list_all is_counter counters ≡ true
+
+value_spec : (e : ElementId) (width : ℕ) → e.pen ≡ 0 → e.number < 2 ^ 15 → width ≤ 16 → IsSpec (record { element = e; width = width })
+value_spec e width iana number narrow = record { pen = omega (arith, iana); number = number; width = omega (arith, narrow) }
+
+prefix_small : (b : Bool) → cond b 44 45 < 2 ^ 15
+prefix_small true = omega arith
+prefix_small false = omega arith
+
+key_spec_fits : (e : ElementId) (b : Bool) (width : ℕ) → IsValue e → width ≤ 16 → IsSpec (record { element = cond b (prefix_element e) e; width = width })
+key_spec_fits e true width value narrow = value_spec (prefix_element e) width refl (prefix_small (eqb e.number 8)) narrow
+key_spec_fits e false width value narrow = value_spec e width value.iana value.number narrow
+
+key_fits : (k : Key) → is_key_kind (kind_of k.element) ≡ true → IsSpec (key_spec k)
+key_fits k key = key_spec_fits k.element (is_some k.prefix) (key_width k) (key_is_value k.element key) (key_narrow (kind_of k.element) key)
+
+keys_fit : (ks : List Key) → KeysOf ks → All IsSpec (map key_spec ks)
+keys_fit [] keys = All-nil IsSpec
+keys_fit (k ∷ ks) keys =
+    let both = and_parts (is_key_kind (kind_of k.element)) (list_all (λ k. is_key_kind (kind_of k.element)) ks) keys in
+    All-cons IsSpec (key_spec k) (map key_spec ks) (key_fits k both.0) (keys_fit ks both.1)
+
+counters_fit : (cs : List ElementId) → CountersOf cs → All IsSpec (map number_spec cs)
+counters_fit [] counters = All-nil IsSpec
+counters_fit (c ∷ cs) counters =
+    let both = and_parts (is_counter c) (list_all is_counter cs) counters in
+    let value = (counter_is_value c both.0).1 in
+    All-cons IsSpec (number_spec c) (map number_spec cs) (value_spec c 8 value.iana value.number (omega arith)) (counters_fit cs both.1)
+
+least-append : (ss rs : List Spec) → least (ss ++ rs) ≡ least ss + least rs
+least-append [] rs = omega arith
+least-append (s ∷ ss) rs = omega (arith, least-append ss rs)
+
+counted_once : (n : ℕ) → n ≤ 16 → cond (eqb n 65535) 1 n ≤ 16
+counted_once n narrow = elim (cases_Bool (eqb n 65535)) [ inl t ↦ rw t (omega arith) | inr f ↦ rw f narrow ]
+
+least-keys : (ks : List Key) → KeysOf ks → least (map key_spec ks) ≤ 16 * length ks
+least-keys [] keys = omega arith
+least-keys (k ∷ ks) keys =
+    let both = and_parts (is_key_kind (kind_of k.element)) (list_all (λ k. is_key_kind (kind_of k.element)) ks) keys in
+    omega (arith, counted_once (key_width k) (key_narrow (kind_of k.element) both.0), least-keys ks both.1)
+
+least-counters : (cs : List ElementId) → least (map number_spec cs) ≡ 8 * length cs
+least-counters [] = refl
+least-counters (c ∷ cs) = omega (arith, least-counters cs)
+
+pub has_room : (plan : PlanValue) → IsPlan plan → HasRoom plan
+has_room plan is =
+    let tests = passed_tests plan is in
+    let eight = leb-true (length plan.keys) 8 tests.few in
+    let four = leb-true (length plan.counters) 4 (and_parts (nat_le 1 (length plan.counters)) (nat_le (length plan.counters) 4) tests.some).1 in
+    let keys_len : length (map key_spec plan.keys) ≡ length plan.keys = length-map _ _ in
+    let counters_len : length (map number_spec plan.counters) ≡ length plan.counters = length-map _ _ in
+    let start : Spec = record { element = iana 152; width = 8 } in
+    let end : Spec = record { element = iana 153; width = 8 } in
+    let last : Spec = record { element = iana 375; width = 8 } in
+    let counters = map number_spec plan.counters ++ last ∷ [] in
+    let fixed : (n : ℕ) → n < 2 ^ 15 → IsSpec (record { element = iana n; width = 8 }) = λ n small. value_spec (iana n) 8 refl small (omega arith) in
+    let bodies : All IsSpec (map key_spec plan.keys ++ counters) =
+    All-append IsSpec (map key_spec plan.keys) counters (keys_fit plan.keys tests.kinds)
+    (All-append IsSpec (map number_spec plan.counters) (last ∷ []) (counters_fit plan.counters tests.counters) (All-cons IsSpec last [] (fixed 375 (omega arith)) (All-nil IsSpec))) in
+    record {
+      specs = All-cons IsSpec start (end ∷ (map key_spec plan.keys ++ counters)) (fixed 152 (omega arith)) (All-cons IsSpec end (map key_spec plan.keys ++ counters) (fixed 153 (omega arith)) bodies);
+      few = omega (arith, eight, four, length-append (map key_spec plan.keys) counters, length-append (map number_spec plan.counters) (last ∷ []), keys_len, counters_len);
+      short = omega (arith, eight, four, least-append (map key_spec plan.keys) counters, least-append (map number_spec plan.counters) (last ∷ []), least-keys plan.keys tests.kinds, least-counters plan.counters);
+    }

@@ -1,0 +1,8 @@
+use Rattle.flow_export.proofs.AsWritten.{heading_written, row_written}
+use Rattle.flow_export.proofs.laws.nothing_is_quoted.Goals as goal
+
+pub returns-clause-names : goal.returns-clause-names
+returns-clause-names c = heading_written
+
+pub returns-clause-rows : goal.returns-clause-rows
+returns-clause-rows c = row_written

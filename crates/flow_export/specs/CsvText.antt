@@ -1,0 +1,49 @@
+-- A table as CSV (RFC 4180, section 2), with a line feed alone at the end of each line.
+use Rattle.std.specs.Prelude.{ℕ, ◌+◌, ◌-◌, ◌*◌, List, [], ◌∷◌, ◌++◌, map, flat_map, codes, Option, Some, None}
+use Rattle.std.specs.Fmt.{decimal}
+use Rattle.std.specs.List.{join_with_byte}
+use Rattle.ipfix_elements.specs.Names.{name_text}
+use Rattle.ipfix_elements.specs.Texts.{cell_text}
+use Rattle.flow_table.specs.declared.key.Key.{Key}
+use Rattle.flow_table.specs.Plans.{PlanValue}
+use Rattle.flow_table.specs.SameTables.{RowValue}
+
+-- the first and the last millisecond of a row's interval
+abbrev pub first_of : PlanValue → RowValue → ℕ
+first_of plan row = row.interval * plan.length
+
+abbrev pub last_of : PlanValue → RowValue → ℕ
+last_of plan row = row.interval * plan.length + plan.length - 1
+
+abbrev pub comma : ℕ
+comma = 44
+
+abbrev pub line_feed : ℕ
+line_feed = 10
+
+-- fields with commas between them, and the end of the line
+abbrev pub line : List (List ℕ) → List ℕ
+line fields = join_with_byte comma fields ++ line_feed ∷ []
+
+-- a key by its element's name, and a slash and the prefix if it has one
+abbrev pub prefix_text : Option ℕ → List ℕ
+prefix_text None = []
+prefix_text (Some bits) = codes "/" ++ decimal bits
+
+abbrev pub key_text : Key → List ℕ
+key_text key = name_text key.element ++ prefix_text key.prefix
+
+-- the names of the fields
+abbrev pub heading : PlanValue → List (List ℕ)
+heading plan = codes "start" ∷ codes "end" ∷ (map key_text plan.keys ++ (map name_text plan.counters ++ codes "flows" ∷ []))
+
+-- the fields of a row: its interval, its key, its sums and the number of its flows
+abbrev pub row_texts : PlanValue → RowValue → List (List ℕ)
+row_texts plan row = decimal (first_of plan row) ∷ decimal (last_of plan row) ∷ (map cell_text row.key ++ (map decimal row.sums ++ decimal row.flows ∷ []))
+
+abbrev pub row_line : PlanValue → RowValue → List ℕ
+row_line plan row = line (row_texts plan row)
+
+-- a line of names, and then a line for each row
+abbrev pub csv_text : PlanValue → List RowValue → List ℕ
+csv_text plan rows = line (heading plan) ++ flat_map (row_line plan) rows

@@ -1,0 +1,124 @@
+-- A table as messages of IPFIX (RFC 7011): a template, and then the rows as its data records.
+use Rattle.std.specs.Prelude.{ℕ, ◌+◌, ◌*◌, ◌/◌, ◌-◌, List, [], ◌∷◌, ◌++◌, length, map, take, drop, zip, flat_map}
+use Rattle.std.specs.List.{range_with_len}
+use Rattle.byteorder.specs.Endian.{big_bytes}
+use Rattle.ipfix_wire.specs.MessageHeader.{header_octets}
+use Rattle.ipfix_wire.specs.SetHeader.{set_octets}
+use Rattle.ipfix_wire.specs.FieldSpecifier.{spec_octets}
+use Rattle.ipfix_wire.specs.declared.header.TheConstants.{HEADER_LENGTH}
+use Rattle.ipfix_wire.specs.declared.set.TheConstants.{FIRST_TEMPLATE_ID, SET_HEADER_LENGTH, TEMPLATE_SET_ID}
+use Rattle.ipfix_wire.specs.declared.specifier.TheConstants.{VARIABLE_WIDTH}
+use Rattle.ipfix_wire.specs.declared.specifier.ElementId.{ElementId}
+use Rattle.ipfix_wire.specs.declared.specifier.Spec.{Spec}
+use Rattle.ipfix_elements.specs.declared.cell.Cell.{Cell}
+use Rattle.ipfix_elements.specs.declared.iana.TheConstants.{FLOW_START_MILLISECONDS, FLOW_END_MILLISECONDS, ORIGINAL_FLOWS_PRESENT}
+use Rattle.ipfix_elements.specs.declared.kind.Kind.{Kind}
+use Rattle.ipfix_elements.specs.declared.kind.Kind.TheVariants as kinds
+use Rattle.ipfix_elements.specs.Cells.{cell_octets}
+use Rattle.ipfix_elements.specs.Elements.{kind_of}
+use Rattle.ipfix_elements.specs.Values.{octets_of}
+use Rattle.ipfix_message.specs.Fields.{Field}
+use Rattle.ipfix_message.specs.declared.record.Template.{Template}
+use Rattle.flow_table.specs.declared.key.Key.{Key}
+use Rattle.flow_table.specs.Plans.{PlanValue, exported_element}
+use Rattle.flow_table.specs.SameTables.{RowValue}
+use Rattle.flow_export.specs.declared.ipfix_rows.TheConstants.{ROWS_A_MESSAGE}
+use Rattle.flow_export.specs.CsvText.{first_of, last_of}
+
+-- ---- the template (RFC 7011, section 3.4.1)
+
+abbrev pub iana : ℕ → ElementId
+iana number = record { pen = 0; number = number }
+
+abbrev pub spec : ElementId → ℕ → Spec
+spec element width = record { element = element; width = width }
+
+-- the octets of a kind's values, none left out (sections 6.1 and 6.2)
+abbrev pub width_of : Kind → ℕ
+width_of (kinds.Unsigned width) = octets_of width
+width_of kinds.Ipv4 = 4
+width_of kinds.Ipv6 = 16
+width_of kinds.Mac = 6
+width_of kinds.Seconds = 4
+width_of kinds.Millis = 8
+width_of kinds.Octets = VARIABLE_WIDTH
+
+abbrev pub key_width : Key → ℕ
+key_width key = width_of (kind_of key.element)
+
+-- a prefix is exported as an element of its own
+abbrev pub key_spec : Key → Spec
+key_spec key = spec (exported_element key) (key_width key)
+
+-- times in milliseconds, sums and numbers of flows are numbers of 64 bits
+abbrev pub number_width : ℕ
+number_width = 8
+
+abbrev pub number_spec : ElementId → Spec
+number_spec element = spec element number_width
+
+-- the interval (RFC 7015, section 7.1), the keys, the counters and the number of flows (section 7.2)
+abbrev pub field_specs : PlanValue → List Spec
+field_specs plan =
+    number_spec (iana FLOW_START_MILLISECONDS) ∷ number_spec (iana FLOW_END_MILLISECONDS) ∷
+    (map key_spec plan.keys ++ (map number_spec plan.counters ++ number_spec (iana ORIGINAL_FLOWS_PRESENT) ∷ []))
+
+abbrev pub template : PlanValue → Template
+template plan = record { id = FIRST_TEMPLATE_ID; scope = 0; specs = field_specs plan }
+
+abbrev pub template_octets : Template → List ℕ
+template_octets t = big_bytes 2 t.id ++ (big_bytes 2 (length t.specs) ++ flat_map spec_octets t.specs)
+
+-- ---- the rows (RFC 7011, sections 3.4.3 and 6.1)
+
+abbrev pub field : ElementId → List ℕ → Field
+field element octets = record { element = element; octets = octets }
+
+abbrev pub number_octets : ℕ → List ℕ
+number_octets n = big_bytes number_width n
+
+abbrev pub number_field : ElementId × ℕ → Field
+number_field p = field p.0 (number_octets p.1)
+
+abbrev pub key_field : Key × Cell → Field
+key_field p = field (exported_element p.0) (cell_octets p.1 (key_width p.0))
+
+-- the first and the last millisecond of the interval, the key, the sums and the number of flows
+abbrev pub row_fields : PlanValue → RowValue → List Field
+row_fields plan row =
+    number_field (iana FLOW_START_MILLISECONDS, first_of plan row) ∷ number_field (iana FLOW_END_MILLISECONDS, last_of plan row) ∷
+    (map key_field (zip plan.keys row.key) ++ (map number_field (zip plan.counters row.sums) ++ number_field (iana ORIGINAL_FLOWS_PRESENT, row.flows) ∷ []))
+
+-- a row is its fields, one after another
+abbrev pub row_octets : PlanValue → RowValue → List ℕ
+row_octets plan row = flat_map (λ f. f.octets) (row_fields plan row)
+
+-- ---- messages (sections 3.1 and 3.3)
+
+-- a message of one set, in domain 0
+abbrev pub message : ℕ → ℕ → ℕ → List ℕ → List ℕ
+message time sequence id body =
+    header_octets (record { length = HEADER_LENGTH + SET_HEADER_LENGTH + length body; export_time = time; sequence = sequence; domain = 0 })
+    ++ (set_octets id (length body) ++ body)
+
+abbrev pub template_message : PlanValue → ℕ → List ℕ
+template_message plan time = message time 0 TEMPLATE_SET_ID (template_octets (template plan))
+
+abbrev pub data_message : PlanValue → ℕ → ℕ → List RowValue → List ℕ
+data_message plan time sequence rows = message time sequence FIRST_TEMPLATE_ID (flat_map (row_octets plan) rows)
+
+-- the rows of message i, counted from 0: a hundred, or those that are left
+abbrev pub rows_of_message : List RowValue → ℕ → List RowValue
+rows_of_message rows i = take ROWS_A_MESSAGE (drop (ROWS_A_MESSAGE * i) rows)
+
+-- the messages that rows fill, the last of them in part
+abbrev pub message_count : List RowValue → ℕ
+message_count rows = (length rows + (ROWS_A_MESSAGE - 1)) / ROWS_A_MESSAGE
+
+-- the message of rows i: its sequence number counts the rows before it
+abbrev pub message_of_rows : PlanValue → ℕ → List RowValue → ℕ → List ℕ
+message_of_rows plan time rows i = data_message plan time (ROWS_A_MESSAGE * i) (rows_of_message rows i)
+
+-- the template, and then the rows, so many in a message
+abbrev pub ipfix_text : PlanValue → ℕ → List RowValue → List ℕ
+ipfix_text plan time rows = template_message plan time ++ flat_map (message_of_rows plan time rows) (range_with_len 0 (message_count rows))

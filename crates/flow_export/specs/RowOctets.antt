@@ -1,0 +1,24 @@
+-- The octets of rows, and of the cells of a key.
+use Rattle.std.specs.Prelude.{ℕ, List, zip, flat_map}
+use Rattle.ipfix_elements.specs.Cells.{cell_octets}
+use Rattle.ipfix_elements.specs.declared.cell.Cell.{Cell}
+use Rattle.ipfix_elements.specs.declared.kind.Kind.{Kind}
+use Rattle.flow_table.specs.declared.table.Row.{Row}
+use Rattle.flow_table.specs.Plans.{PlanValue}
+use Rattle.flow_table.specs.SameTables.{value_of}
+use Rattle.flow_export.specs.IpfixText.{row_octets, width_of}
+
+-- a cell as wide as its kind says
+abbrev pub wide_octets : Kind × Cell → List ℕ
+wide_octets p = cell_octets p.1 (width_of p.0)
+
+-- the cells of a key
+abbrev pub cells_octets : List Kind → List Cell → List ℕ
+cells_octets kinds cells = flat_map wide_octets (zip kinds cells)
+
+-- a row, and rows one after another
+abbrev pub octets_of_row : PlanValue → Row → List ℕ
+octets_of_row plan row = row_octets plan (value_of row)
+
+abbrev pub octets_of_rows : PlanValue → List Row → List ℕ
+octets_of_rows plan rows = flat_map (octets_of_row plan) rows

@@ -1,0 +1,17 @@
+//! Tables of aggregated flows as text: as CSV (RFC 4180), and as messages of IPFIX (RFC 7011).
+#![tactic(auto)]
+
+mod csv_export;
+mod csv_line;
+mod examples;
+mod fault;
+mod format;
+mod ipfix_rows;
+mod laws;
+mod widths;
+
+pub use csv_export::write_csv;
+pub use fault::ExportFault;
+pub use format::Format;
+pub use ipfix_rows::ROWS_A_MESSAGE;
+pub use laws::nothing_is_quoted;
