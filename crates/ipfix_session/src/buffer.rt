@@ -13,7 +13,7 @@ use crate::sink::Sink;
 use ipfix_wire::{HEADER_LENGTH, read_header};
 use std::alloc::{AllocError, Global};
 
-// moves octets from the front of a piece until the buffer has this size, and gives what is left
+// Moves octets from the front of a piece until the buffer has this size, and gives what is left.
 fn move_up_to<'a>(
     size: usize,
     buffer: &mut Vec<u8>,
@@ -28,8 +28,8 @@ fn move_up_to<'a>(
     Ok(left)
 }
 
-// moves octets from the front of a piece until the buffer is a whole message, or begins with a header
-// that is refused, and gives what is left
+// Moves octets from the front of a piece until the buffer is a whole message, or begins with a header
+// that is refused, and gives what is left.
 fn fill<'a>(buffer: &mut Vec<u8>, piece: &'a [u8]) -> Result<&'a [u8], AllocError>
     ensures fills { IsRest buffer.old.items → IfOk result (λ left. Fills buffer.old.items buffer.new.items piece.now left.now) }
     ensures at_most { length buffer.new.items ≤ max 65535 (length buffer.old.items) }
@@ -44,8 +44,8 @@ fn fill<'a>(buffer: &mut Vec<u8>, piece: &'a [u8]) -> Result<&'a [u8], AllocErro
     }
 }
 
-// takes the message that the buffer begins, where the piece ends it, and gives what follows it;
-// `None` where it doesn't, and the buffer keeps it all
+// Takes the message that the buffer begins, if the piece ends it, and gives what follows it; `None` if
+// it doesn't, and the buffer keeps it all.
 fn take_begun<'a, K: Sink>(
     alloc: Global,
     intake: &mut Intake,

@@ -23,7 +23,7 @@ pub struct Intake {
     pub tally: Tally,
 }
 
-// puts records one by one, up to the first that the sink gives back
+// Puts records one by one, up to the first that the sink gives back.
 fn put_all<K: Sink>(
     records: Vec<DataRecord>,
     delivered: &mut u64,
