@@ -136,8 +136,7 @@ fn push_reports(accounts: &IndexMap<u32, Account>, reports: &mut Vec<DomainRepor
     requires room { index_map_len accounts.now ≤ vec_capacity reports.old }
     ensures { reports.new.items ≡ map report_of accounts.now.entries }
 {
-    for i in 0..accounts.len() {
-        let (domain, account) = accounts.get_index(i).unwrap();
+    for (domain, account) in accounts.iter() {
         let report = DomainReport {
             domain: *domain,
             count: account.count,

@@ -3,6 +3,7 @@
 ghost use Rattle.std.specs.Prelude.{◌≡◌, ◌≤◌, ◌++◌, [], ℕ, length, List, Some, None, Err, IfErr, OnOk};
 ghost use Rattle.std.specs.List.{flat_map};
 ghost use Rattle.ipfix_message.specs.Domains.{Message};
+ghost use Rattle.ipfix_session.specs.declared.message_stream.TheConstants.{LONGEST_MESSAGE};
 ghost use Rattle.ipfix_session.specs.Feeding.{Tells, StandsForText, Feeds};
 ghost use Rattle.ipfix_session.specs.Reports.{IsReport, Reports, ended_by};
 
@@ -15,7 +16,7 @@ use std::alloc::Global;
 use std::marker::Model;
 
 /// A transport session. It holds no more of its octets than the front of one message, at most
-/// 65,535 octets.
+/// [`LONGEST_MESSAGE`](crate::LONGEST_MESSAGE) octets.
 #[derive(Drop)]
 pub struct Session {
     intake: Intake,
@@ -25,6 +26,7 @@ pub struct Session {
 
 impl Model for Session {
     ghost use Rattle.std.specs.Prelude.{◌≤◌, length};
+    ghost use Rattle.ipfix_session.specs.declared.message_stream.TheConstants.{LONGEST_MESSAGE};
     ghost use Rattle.ipfix_session.specs.Feeding.{State};
     ghost use Rattle.ipfix_session.specs.Intake.{counts_of};
 
@@ -32,7 +34,7 @@ impl Model for Session {
 
     ghost view = { λ s. record { counts = counts_of s.intake.tally; domains = s.intake.domains; buffer = s.buffer.items; fault = s.fault } };
 
-    ghost invariant = { λ s. length s.buffer.items ≤ 65535 };
+    ghost invariant = { λ s. length s.buffer.items ≤ LONGEST_MESSAGE };
 }
 
 impl Session {
@@ -61,7 +63,7 @@ impl Session {
         ensures feeds { (text : List ℕ) → StandsForText self.old text → Feeds K.seen result text piece.now sink.old sink.new self.new }
         ensures ok { OnOk result (self.new.fault ≡ None) }
         ensures err { IfErr result (λ fault. self.new.fault ≡ Some fault) }
-        ensures buffer { length self.new.buffer ≤ 65535 }
+        ensures buffer { length self.new.buffer ≤ LONGEST_MESSAGE }
         ensures again { (fault : SessionFault) → self.old.fault ≡ Some fault → (result ≡ Err fault) × (self.new ≡ self.old) × (sink.new ≡ sink.old) }
     {
         if let Some(fault) = self.fault {
@@ -84,7 +86,7 @@ impl Session {
             → Feeds K.seen result text (flat_map (λ piece. piece.now) pieces.now) sink.old sink.new self.new }
         ensures ok { OnOk result (self.new.fault ≡ None) }
         ensures err { IfErr result (λ fault. self.new.fault ≡ Some fault) }
-        ensures buffer { length self.new.buffer ≤ 65535 }
+        ensures buffer { length self.new.buffer ≤ LONGEST_MESSAGE }
         ensures again { (fault : SessionFault) → self.old.fault ≡ Some fault → (result ≡ Err fault) × (self.new ≡ self.old) × (sink.new ≡ sink.old) }
     {
         // If there are no pieces, it answers its fault.
