@@ -1,2 +1,2 @@
-pub mod Collecting
+pub mod Writing
 pub mod Numbering

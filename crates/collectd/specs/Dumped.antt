@@ -1,25 +1,20 @@
 -- What a dump of a source wrote, and what its report says.
-use Rattle.std.specs.Prelude.{◌≡◌, ℕ, ◌^◌, Bool, List, Option, Some, None}
+use Rattle.std.specs.Prelude.{◌≡◌, ℕ, ◌^◌, List, Option, Some, None}
 use Rattle.std.specs.Io.KnownBytes.{Appends}
 use Rattle.ipfix_message.specs.declared.record.DataRecord.{DataRecord}
 use Rattle.ipfix_session.specs.declared.report.SessionReport.{SessionReport}
 use Rattle.ipfix_session.specs.declared.stop.Stop.TheVariants.{Clean}
 use Rattle.ipfix_session.specs.Given.{records_of, stop_of}
-use Rattle.collectd.specs.Collected.{Collects}
+use Rattle.ipfix_session.specs.Sources.{SourceView}
+use Rattle.ipfix_session.specs.Drives.{IsGiven}
+use Rattle.ipfix_session.specs.declared.driver.TheConstants.{READ_SIZE}
+use Rattle.collectd.specs.declared.dumping.TheConstants.{READ_LIMIT}
 use Rattle.collectd.specs.DumpLines.{dump_lines}
 
--- the most reads of a session
-abbrev pub read_limit : ℕ
-read_limit = 2 ^ 40
-
--- the most octets of a read
-abbrev pub read_size : ℕ
-read_size = 65536
-
--- records were collected of a source, and their lines were written
-pub record Dumps {S : Type 0} (text : S → Option (List ℕ)) (reads failed : S → ℕ) (ended : S → Bool) (before after : S) (old new : Option (List ℕ)) (r : SessionReport) : Type 0 where
+-- a source gave octets that have these records, as the report tells, and their lines were written
+pub record Dumps (before after : SourceView) (old new : Option (List ℕ)) (report : SessionReport) : Type 0 where
   pub records : List DataRecord
-  pub collects : Collects text reads failed ended read_limit read_size before after records r
+  pub given : IsGiven READ_LIMIT READ_SIZE before after report records
   pub written : Appends old new (dump_lines records)
 
 -- where a source tells its octets, the lines of all of them were written, and no fault was met

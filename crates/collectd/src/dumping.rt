@@ -10,7 +10,7 @@ use std::alloc::Global;
 use std::io::Write;
 
 /// The most reads of a session.
-const READ_LIMIT: u64 = 1 << 40;
+pub const READ_LIMIT: u64 = 1 << 40;
 
 /// Reads a source to its end and writes a line for each data record of its octets, up to the end or
 /// the first fault. The lines of a message are written as soon as it is whole.
@@ -23,7 +23,7 @@ pub fn dump<S: Source, W: Write>(
     source: &mut S,
     out: &mut W,
 ) -> Result<SessionReport, DumpFault>
-    ensures { IfOk result (λ report. Dumps S.text S.reads S.failed S.ended source.old source.new (W.contents out.old) (W.contents out.new) report) }
+    ensures { IfOk result (λ report. Dumps (S.seen source.old) (S.seen source.new) (W.contents out.old) (W.contents out.new) report) }
 {
     let mut line = Vec::new(alloc);
     let mut sink = LineSink::new(&mut line, out);

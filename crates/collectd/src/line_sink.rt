@@ -50,10 +50,10 @@ impl<'a, W: Write> LineSink<'a, W> {
 }
 
 impl<W: Write> Sink for LineSink<'_, W> {
-    ghost took = { λ before item after. (after.out.ghost_name ≡ before.out.ghost_name)
-        × Appends (W.contents before.out.now) (W.contents after.out.now) (dump_line item) };
-
-    ghost refused = { λ s. s.refused };
+    ghost seen = { record {
+      took = λ before item after. (after.out.ghost_name ≡ before.out.ghost_name) × Appends (W.contents before.out.now) (W.contents after.out.now) (dump_line item);
+      refused = λ s. s.refused;
+    } };
 
     fn put(&mut self, item: DataRecord) -> Result<(), DataRecord> {
         match self.write_line(&item) {

@@ -23,9 +23,9 @@ pub fn run_dump<S: Source, W: Write, E: Write>(
     err: &mut E,
 ) -> u8
     ensures statuses { (result ≡ 0) ⊎ (result ≡ 1) ⊎ (result ≡ 3) }
-    ensures all { result ≡ 0 → DumpsAll (S.text source.old) (W.contents out.old) (W.contents out.new) }
+    ensures all { result ≡ 0 → DumpsAll (S.seen source.old).text (W.contents out.old) (W.contents out.new) }
     ensures fault { result ≡ 1 → (report : SessionReport) × (fault : SessionFault) × (report.fault ≡ Some fault)
-        × Dumps S.text S.reads S.failed S.ended source.old source.new (W.contents out.old) (W.contents out.new) report }
+        × Dumps (S.seen source.old) (S.seen source.new) (W.contents out.old) (W.contents out.new) report }
 {
     match dump_whole(alloc, source, out) {
         Ok(report) => {
@@ -48,7 +48,7 @@ fn dump_whole<S: Source, W: Write>(
     source: &mut S,
     out: &mut W,
 ) -> Result<SessionReport, DumpFault>
-    ensures { IfOk result (λ report. Dumps S.text S.reads S.failed S.ended source.old source.new (W.contents out.old) (W.contents out.new) report) }
+    ensures { IfOk result (λ report. Dumps (S.seen source.old) (S.seen source.new) (W.contents out.old) (W.contents out.new) report) }
 {
     let report = dump(alloc, source, out)?;
     out.flush()?;

@@ -1,5 +1,6 @@
-pub mod Faults
-pub mod Parcels
+-- what public contracts cite
 pub mod Ends
+pub mod Parcels
 pub mod Taking
 pub mod Settling
+pub mod Faults

@@ -17,11 +17,11 @@ settled_capacity t = t.sender.capacity
 abbrev pub settled_sent : Settled → List Parcel
 settled_sent t = t.sender.sent
 
--- what was taken from it before it was settled
+-- what its receiver took before it was settled: all that it took but what `settle` took itself
 abbrev pub settled_received : Settled → List Parcel
-settled_received t = take (length t.sender.sent - length t.left.items) t.sender.sent
+settled_received t = take (length t.receiver.received - t.drained) t.receiver.received
 
--- what was taken and then what was left is what was sent, and where Last was taken all was
+-- what was taken and then what was left is what was sent, and if Last was taken all was
 pub record Settles (s : SenderView) (r : ReceiverView) (t : Settled) : Type 0 where
   pub link_is : settled_link t ≡ s.link
   pub capacity_is : settled_capacity t ≡ s.capacity

@@ -3,6 +3,7 @@
 #![tactic(auto)]
 
 mod fault;
+mod laws;
 mod making;
 mod parcel;
 mod receiver;
@@ -11,6 +12,7 @@ mod settled;
 mod waiting;
 
 pub use fault::LinkFault;
+pub use laws::whole_sessions;
 pub use making::{MAX_CAPACITY, link};
 pub use parcel::Parcel;
 pub use receiver::{Receiver, Taken};

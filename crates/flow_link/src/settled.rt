@@ -1,7 +1,9 @@
 //! Both ends of a link in one thread again.
 
-ghost use Rattle.std.specs.Prelude.{◌≡◌, codes};
+ghost use Rattle.std.specs.Prelude.{◌≡◌};
+ghost use Rattle.flow_link.specs.Faults.{number_of, name_of};
 
+use crate::fault::LinkFault;
 use crate::parcel::Parcel;
 use crate::receiver::Receiver;
 use crate::sender::Sender;
@@ -15,6 +17,8 @@ pub use settling::settle;
 pub struct Settled {
     sender: Sender,
     receiver: Receiver,
+    /// How many of the parcels that the receiver took were taken by `settle` itself.
+    drained: usize,
     /// The parcels that were sent and not taken, the oldest first.
     pub left: Vec<Parcel>,
 }
@@ -27,17 +31,17 @@ pub enum SettleFault {
 }
 
 impl SettleFault {
-    /// The number that reports give for the fault.
+    /// The number that reports give for the fault: that of [`LinkFault::OutOfMemory`].
     pub fn number(&self) -> u8
-        ensures { result ≡ 2 }
+        ensures { result ≡ number_of LinkFault.OutOfMemory }
     {
-        2
+        LinkFault::OutOfMemory.number()
     }
 
     /// The name that reports give for the fault.
     pub fn name(&self) -> &'static str
-        ensures { result.now ≡ codes "OutOfMemory" }
+        ensures { result.now ≡ name_of LinkFault.OutOfMemory }
     {
-        "OutOfMemory"
+        LinkFault::OutOfMemory.name()
     }
 }

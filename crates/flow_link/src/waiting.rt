@@ -5,18 +5,20 @@ use std::sync::Wait;
 use std::thread::{Parker, yield_now};
 use std::time::Duration;
 
-// So many tries in a row only spin, and those up to the next bound give way to other threads.
+/// Before this many tries in a row a wait only spins.
 const SPINS: u32 = 64;
 
+/// From then on, and before this many, it gives way to other threads.
 const YIELDS: u32 = 128;
 
-// Each later try sleeps by so many microseconds longer than the one before, up to a bound.
+/// From then on it sleeps, each time longer than before by so many microseconds.
 const NAP: u32 = 50;
 
+/// The longest sleep, in microseconds.
 const LONGEST_NAP: u32 = 1000;
 
-/// Waits a little before the next try, where the `tries` before it in a row found nothing: first
-/// it spins, then it gives way to other threads, and then it sleeps, for 1 ms at most.
+/// Waits a little before the next try, after so many `tries` in a row that found nothing: first it
+/// spins, then it gives way to other threads, and then it sleeps, for 1 ms at most.
 pub fn pause(rt: &impl Wait, tries: u32) {
     if tries < SPINS {
         spin_loop();

@@ -3,4 +3,10 @@
 #![tactic(auto)]
 
 #[cfg(test)]
+mod faults;
+#[cfg(test)]
+mod leaving;
+#[cfg(test)]
+mod silence;
+#[cfg(test)]
 mod tests;

@@ -6,11 +6,11 @@ use std::test::Fail;
 use std::thread;
 use std::thread::Threads;
 
-// So often a try is made again before a test gives up.
+/// So often a try is made again before a test gives up.
 const TRIES: u32 = 1_000_000;
 
-// An item that its number tells from the others. It takes no memory.
-fn item(alloc: Global, number: u32) -> Parcel {
+/// An item that its number tells from the others. It takes no memory.
+pub(crate) fn item(alloc: Global, number: u32) -> Parcel {
     Parcel::Item(DataRecord {
         domain: number,
         export_time: 1_700_000_000,
@@ -66,7 +66,7 @@ fn dropped_ends(rt: HostRuntime) -> Result<(), Fail> {
     Ok(())
 }
 
-// Where memory for what is left was refused, a second call gives it.
+/// If memory for what is left was refused, a second call gives it.
 #[test]
 fn settles_what_is_left(rt: HostRuntime) -> Result<(), Fail> {
     let (mut sender, mut receiver) = link(rt.alloc(), 4)?;
@@ -92,7 +92,7 @@ fn settles_what_is_left(rt: HostRuntime) -> Result<(), Fail> {
     Ok(())
 }
 
-// Tries to send until there is room. It gives up in the end.
+/// Tries to send until there is room. It gives up in the end.
 fn send_soon(sender: &mut Sender, parcel: Parcel) -> bool {
     let mut parcel = parcel;
     for _ in 0..TRIES {
@@ -108,7 +108,7 @@ fn send_soon(sender: &mut Sender, parcel: Parcel) -> bool {
     false
 }
 
-// Tries to take until a parcel is there. It gives up in the end.
+/// Tries to take until a parcel is there. It gives up in the end.
 fn receive_soon(receiver: &mut Receiver) -> Option<Parcel> {
     for _ in 0..TRIES {
         match receiver.try_recv() {
@@ -120,7 +120,7 @@ fn receive_soon(receiver: &mut Receiver) -> Option<Parcel> {
     None
 }
 
-// Whether the items below `count` and then Last went out.
+/// Whether the items below `count` and then Last went out.
 fn send_all(alloc: Global, sender: Sender, count: u32) -> bool {
     let mut sender = sender;
     for number in 0..count {
@@ -131,7 +131,7 @@ fn send_all(alloc: Global, sender: Sender, count: u32) -> bool {
     send_soon(&mut sender, Parcel::Last)
 }
 
-// Whether the items below `count` and then Last came, in this order.
+/// Whether the items below `count` and then Last came, in this order.
 fn receive_all(receiver: Receiver, count: u32) -> bool {
     let mut receiver = receiver;
     for expected in 0..count {
@@ -166,7 +166,7 @@ fn two_threads(rt: HostRuntime) -> Result<(), Fail> {
     Ok(())
 }
 
-// As `send_all`, by the call that waits.
+/// As `send_all`, by the call that waits.
 fn send_waiting<R: Wait>(rt: &R, alloc: Global, sender: Sender, count: u32) -> bool {
     let mut sender = sender;
     for number in 0..count {
@@ -177,7 +177,7 @@ fn send_waiting<R: Wait>(rt: &R, alloc: Global, sender: Sender, count: u32) -> b
     !sender.ended() && sender.send(rt, Parcel::Last).is_ok()
 }
 
-// As `receive_all`, by the call that waits.
+/// As `receive_all`, by the call that waits.
 fn receive_waiting<R: Wait>(rt: &R, receiver: Receiver, count: u32) -> bool {
     let mut receiver = receiver;
     for expected in 0..count {

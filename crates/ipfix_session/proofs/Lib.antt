@@ -6,4 +6,5 @@ pub mod Reaching
 pub mod Filling
 pub mod Putting
 pub mod Driving
+pub mod Driven
 pub mod Pieces

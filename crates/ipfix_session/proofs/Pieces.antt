@@ -11,6 +11,7 @@ use Rattle.ipfix_session.specs.declared.stop.Stop.TheVariants.{Fault}
 use Rattle.ipfix_session.specs.declared.fault.SessionFault.{SessionFault}
 use Rattle.ipfix_session.specs.declared.fault.SessionFault.TheVariants as faults
 use Rattle.ipfix_session.specs.Given.{Given, gives, records_in, records_of, stop_of, IsOpen, IsPrefix}
+use Rattle.ipfix_session.specs.Sinks.{SinkView}
 use Rattle.ipfix_session.specs.Feeding.{State, Tells, fault_at, StandsForText, PutsWhole, PutsAll, RunsOut, IsRefused, Feeds}
 use Rattle.ipfix_session.proofs.Giving.{gives-prefix, gives_after-fault_stays}
 use Rattle.ipfix_session.proofs.Reaching.{takes-append}
@@ -35,30 +36,30 @@ other_pieces octets pieces i d within =
 
 -- ---- one piece, and then another
 
-module _ {K : Type 0} (took : K → DataRecord → K → Type 0) (refused : K → ℕ) where
-  puts_then : (s later : State) (text p q : List ℕ) (before now after : K) → PutsAll took refused text p before now s → PutsAll took refused (text ++ p) q now after later
-      → PutsAll took refused text (p ++ q) before after later
+module _ {K : Type 0} (view : SinkView K) where
+  puts_then : (s later : State) (text p q : List ℕ) (before now after : K) → PutsAll view text p before now s → PutsAll view (text ++ p) q now after later
+      → PutsAll view text (p ++ q) before after later
   puts_then s later text p q before now after a b =
       let e = append_assoc text p q in
       record {
         put = a.put ++ b.put;
-        takes = takes-append took refused before now after a.put b.put a.takes b.takes;
+        takes = takes-append view before now after a.put b.put a.takes b.takes;
         records = ap records_of (sym e) ∙ b.records ∙ ap (λ (rs : List DataRecord). rs ++ b.put) a.records ∙ append_assoc (records_of text) a.put b.put;
         stands = subst (StandsForText later) e b.stands;
       }
 
-  whole_then : (s : State) (text p : List ℕ) (whole : List Message) (before now after : K) (told : List Message → ℕ → Type 0) → PutsAll took refused text p before now s → PutsWhole took refused (gives (text ++ p)).messages whole now after told
-      → PutsWhole took refused (gives text).messages whole before after told
+  whole_then : (s : State) (text p : List ℕ) (whole : List Message) (before now after : K) (told : List Message → ℕ → Type 0) → PutsAll view text p before now s → PutsWhole view (gives (text ++ p)).messages whole now after told
+      → PutsWhole view (gives text).messages whole before after told
   whole_then s text p whole before now after told a b =
       record {
         put = a.put ++ b.put;
-        takes = takes-append took refused before now after a.put b.put a.takes b.takes;
+        takes = takes-append view before now after a.put b.put a.takes b.takes;
         records = b.records ∙ ap (λ (rs : List DataRecord). rs ++ b.put) a.records ∙ append_assoc (records_of text) a.put b.put;
         tells = b.tells;
       }
 
-  refused_then : (s : State) (text p : List ℕ) (all : List Message) (before now after : K) (told : List Message → ℕ → Type 0) → PutsAll took refused text p before now s → IsRefused took refused (gives (text ++ p)).messages all now after told
-      → IsRefused took refused (gives text).messages all before after told
+  refused_then : (s : State) (text p : List ℕ) (all : List Message) (before now after : K) (told : List Message → ℕ → Type 0) → PutsAll view text p before now s → IsRefused view (gives (text ++ p)).messages all now after told
+      → IsRefused view (gives text).messages all before after told
   refused_then s text p all before now after told a b =
       record {
         whole = b.whole;
@@ -72,14 +73,14 @@ module _ {K : Type 0} (took : K → DataRecord → K → Type 0) (refused : K �
         cut_off = b.cut_off;
         put = a.put ++ b.put;
         last = b.last;
-        takes = takes-append took refused before now b.last a.put b.put a.takes b.takes;
+        takes = takes-append view before now b.last a.put b.put a.takes b.takes;
         records = b.records ∙ ap (λ (rs : List DataRecord). rs ++ b.put) a.records ∙ append_assoc (records_of text) a.put b.put;
         back = b.back;
         tells = b.tells;
       }
 
-  pub feeds_then : (s later : State) (text p q : List ℕ) (before now after : K) (x : Unit {0}) (r : Result (Unit {0}) SessionFault) → Feeds took refused (Ok x) text p before now s → Feeds took refused r (text ++ p) q now after later
-      → Feeds took refused r text (p ++ q) before after later
+  pub feeds_then : (s later : State) (text p q : List ℕ) (before now after : K) (x : Unit {0}) (r : Result (Unit {0}) SessionFault) → Feeds view (Ok x) text p before now s → Feeds view r (text ++ p) q now after later
+      → Feeds view r text (p ++ q) before after later
   feeds_then s later text p q before now after x (Ok y) a b =
       (subst (λ (w : List ℕ). IsOpen (stop_of w)) (append_assoc text p q) b.0, puts_then s later text p q before now after a.1 b.1)
   feeds_then s later text p q before now after x (Err (faults.Message OutOfMemory)) a b =
@@ -93,15 +94,15 @@ module _ {K : Type 0} (took : K → DataRecord → K → Type 0) (refused : K �
       (ap stop_of (sym (append_assoc text p q)) ∙ b.0, puts_then s later text p q before now after a.1 b.1)
   feeds_then s later text p q before now after x (Err faults.SinkClosed) a b =
       refused_then s text p (gives (text ++ (p ++ q))).messages before now after (Tells later.counts) a.1
-      (subst (λ (w : List ℕ). IsRefused took refused (gives (text ++ p)).messages (gives w).messages now after (Tells later.counts)) (append_assoc text p q) b)
+      (subst (λ (w : List ℕ). IsRefused view (gives (text ++ p)).messages (gives w).messages now after (Tells later.counts)) (append_assoc text p q) b)
   feeds_then s later text p q before now after x (Err faults.Truncated) a b = absurd b
   feeds_then s later text p q before now after x (Err faults.ReadFailed) a b = absurd b
   feeds_then s later text p q before now after x (Err faults.TooManyReads) a b = absurd b
 
   -- ---- behind a fault the pieces don't matter
 
-  up_to_more : (s : State) (text p q : List ℕ) (before after : K) → RunsOut took refused (gives text).messages (gives (text ++ p)).messages before after (Tells s.counts)
-      → RunsOut took refused (gives text).messages (gives (text ++ (p ++ q))).messages before after (Tells s.counts)
+  up_to_more : (s : State) (text p q : List ℕ) (before after : K) → RunsOut view (gives text).messages (gives (text ++ p)).messages before after (Tells s.counts)
+      → RunsOut view (gives text).messages (gives (text ++ (p ++ q))).messages before after (Tells s.counts)
   up_to_more s text p q before after r =
       record {
         whole = r.whole;
@@ -111,8 +112,8 @@ module _ {K : Type 0} (took : K → DataRecord → K → Type 0) (refused : K �
         puts = r.puts;
       }
 
-  refused_more : (s : State) (text p q : List ℕ) (before after : K) → IsRefused took refused (gives text).messages (gives (text ++ p)).messages before after (Tells s.counts)
-      → IsRefused took refused (gives text).messages (gives (text ++ (p ++ q))).messages before after (Tells s.counts)
+  refused_more : (s : State) (text p q : List ℕ) (before after : K) → IsRefused view (gives text).messages (gives (text ++ p)).messages before after (Tells s.counts)
+      → IsRefused view (gives text).messages (gives (text ++ (p ++ q))).messages before after (Tells s.counts)
   refused_more s text p q before after r =
       let on = subst (λ (w : List ℕ). IsPrefix (gives (text ++ p)).messages (gives w).messages) (append_assoc text p q) (gives-prefix (text ++ p) q) in
       record {
@@ -133,8 +134,8 @@ module _ {K : Type 0} (took : K → DataRecord → K → Type 0) (refused : K �
         tells = r.tells;
       }
 
-  puts_more : (s : State) (text p q : List ℕ) (before after : K) (e : MessageFault) → stop_of (text ++ p) ≡ Fault e → PutsAll took refused text p before after s
-      → (stop_of (text ++ (p ++ q)) ≡ Fault e) × PutsAll took refused text (p ++ q) before after s
+  puts_more : (s : State) (text p q : List ℕ) (before after : K) (e : MessageFault) → stop_of (text ++ p) ≡ Fault e → PutsAll view text p before after s
+      → (stop_of (text ++ (p ++ q)) ≡ Fault e) × PutsAll view text (p ++ q) before after s
   puts_more s text p q before after e stop a =
       let same : gives (text ++ (p ++ q)) ≡ gives (text ++ p) = ap gives (sym (append_assoc text p q)) ∙ gives_after-fault_stays [] (text ++ p) q e stop in
       let stops : stop_of (text ++ (p ++ q)) ≡ Fault e = ap (λ (g : Given). g.stop) same ∙ stop in (
@@ -151,7 +152,7 @@ module _ {K : Type 0} (took : K → DataRecord → K → Type 0) (refused : K �
         },
       )
 
-  pub feeds_more : (s : State) (text p q : List ℕ) (before after : K) (f : SessionFault) → Feeds took refused (Err f) text p before after s → Feeds took refused (Err f) text (p ++ q) before after s
+  pub feeds_more : (s : State) (text p q : List ℕ) (before after : K) (f : SessionFault) → Feeds view (Err f) text p before after s → Feeds view (Err f) text (p ++ q) before after s
   feeds_more s text p q before after (faults.Message OutOfMemory) r = up_to_more s text p q before after r
   feeds_more s text p q before after (faults.Message e) r = puts_more s text p q before after e r.0 r.1
   feeds_more s text p q before after faults.SinkClosed r = refused_more s text p q before after r
@@ -163,26 +164,26 @@ module _ {K : Type 0} (took : K → DataRecord → K → Type 0) (refused : K �
 
   -- a session that stood for a text was fed these octets
   abbrev pub WasFed : State → State → List ℕ → K → K → Type 0
-  WasFed first s octets before now = (text : List ℕ) → StandsForText first text → Feeds took refused (Ok tt) text octets before now s
+  WasFed first s octets before now = (text : List ℕ) → StandsForText first text → Feeds view (Ok tt) text octets before now s
 
   fed_next : (first s later : State) (text octets piece : List ℕ) (before now after : K) (r : Result (Unit {0}) SessionFault) → StandsForText first text → WasFed first s octets before now
-      → ((t : List ℕ) → StandsForText s t → Feeds took refused r t piece now after later) → Feeds took refused r text (octets ++ piece) before after later
+      → ((t : List ℕ) → StandsForText s t → Feeds view r t piece now after later) → Feeds view r text (octets ++ piece) before after later
   fed_next first s later text octets piece before now after r stands fed next =
       let a = fed text stands in
       feeds_then s later text octets piece before now after tt r a (next (text ++ octets) a.1.stands)
 
   pub fed_on : {X : Type 0} (octets : X → List ℕ) (pieces : List X) (i : ℕ) (d : X) (first s later : State) (before now after : K) (x : Unit {0}) → i < length pieces → WasFed first s (flat_map octets (take i pieces)) before now
-      → ((t : List ℕ) → StandsForText s t → Feeds took refused (Ok x) t (octets (get_or pieces i d)) now after later) → WasFed first later (flat_map octets (take (i + 1) pieces)) before after
+      → ((t : List ℕ) → StandsForText s t → Feeds view (Ok x) t (octets (get_or pieces i d)) now after later) → WasFed first later (flat_map octets (take (i + 1) pieces)) before after
   fed_on octets pieces i d first s later before now after x within fed next = λ text stands.
-      subst (λ (w : List ℕ). Feeds took refused (Ok tt) text w before after later) (sym (one_more_piece octets pieces i d within))
+      subst (λ (w : List ℕ). Feeds view (Ok tt) text w before after later) (sym (one_more_piece octets pieces i d within))
       (fed_next first s later text (flat_map octets (take i pieces)) (octets (get_or pieces i d)) before now after (Ok x) stands fed next)
 
   pub fed_up_to : {X : Type 0} (octets : X → List ℕ) (pieces : List X) (i : ℕ) (d : X) (first s later : State) (text : List ℕ) (before now after : K) (f : SessionFault) → i < length pieces → StandsForText first text
-      → WasFed first s (flat_map octets (take i pieces)) before now → ((t : List ℕ) → StandsForText s t → Feeds took refused (Err f) t (octets (get_or pieces i d)) now after later)
-      → Feeds took refused (Err f) text (flat_map octets pieces) before after later
+      → WasFed first s (flat_map octets (take i pieces)) before now → ((t : List ℕ) → StandsForText s t → Feeds view (Err f) t (octets (get_or pieces i d)) now after later)
+      → Feeds view (Err f) text (flat_map octets pieces) before after later
   fed_up_to octets pieces i d first s later text before now after f within stands fed next =
       let up_to = flat_map octets (take i pieces) ++ octets (get_or pieces i d) in
       let left = flat_map octets (drop (i + 1) pieces) in
-      subst (λ (w : List ℕ). Feeds took refused (Err f) text w before after later) (sym (other_pieces octets pieces i d within))
+      subst (λ (w : List ℕ). Feeds view (Err f) text w before after later) (sym (other_pieces octets pieces i d within))
       (feeds_more later text up_to left before after f
       (fed_next first s later text (flat_map octets (take i pieces)) (octets (get_or pieces i d)) before now after (Err f) stands fed next))

@@ -4,32 +4,32 @@ use Rattle.std.proofs.lemmas.List.{append-nil, length-append}
 use Rattle.std.proofs.lemmas.Fn.{FoldsTo-push}
 use Rattle.ipfix_message.specs.declared.record.DataRecord.{DataRecord}
 use Rattle.ipfix_session.specs.Ledger.{capped}
-use Rattle.ipfix_session.specs.Reads.{one_more}
-use Rattle.ipfix_session.specs.Feeding.{Takes}
+use Rattle.ipfix_session.specs.Sources.{one_more}
+use Rattle.ipfix_session.specs.Sinks.{SinkView, Takes}
 use Rattle.ipfix_session.specs.Puts.{CountsOn, GivesBack}
 
 -- the first records were put, and these are left
-pub record Putting {K : Type 0} (took : K → DataRecord → K → Type 0) (refused : K → ℕ) (records : List DataRecord) (old now : ℕ) (before after : K) (left : List DataRecord) (size : ℕ) : Type 0 where
+pub record Putting {K : Type 0} (view : SinkView K) (records : List DataRecord) (old now : ℕ) (before after : K) (left : List DataRecord) (size : ℕ) : Type 0 where
   pub put : List DataRecord
   pub whole : records ≡ put ++ left
-  pub takes : Takes took refused before put after
+  pub takes : Takes view before put after
   pub counted : CountsOn old (length put) now
   pub sized : size ≡ length left
 
-pub put_none : {K : Type 0} (took : K → DataRecord → K → Type 0) (refused : K → ℕ) (records left : List DataRecord) (old size : ℕ) (k : K) → left ≡ records → size ≡ length records → Putting took refused records old old k k left size
-put_none took refused records left old size k e n =
+pub put_none : {K : Type 0} (view : SinkView K) (records left : List DataRecord) (old size : ℕ) (k : K) → left ≡ records → size ≡ length records → Putting view records old old k k left size
+put_none view records left old size k e n =
     record { put = []; whole = sym e; takes = record { chain = refl; none_refused = refl }; counted = λ m h. omega (arith, h); sized = n ∙ ap length (sym e) }
 
-pub put_next : {K : Type 0} (took : K → DataRecord → K → Type 0) (refused : K → ℕ) (records left rest : List DataRecord) (old now next size less : ℕ) (before after last : K) (item : DataRecord)
-    → Putting took refused records old now before after left size → left ≡ item ∷ rest → less + 1 ≡ size → took after item last → refused last ≡ refused after → next ≡ capped (now + 1)
-    → Putting took refused records old next before last rest less
-put_next took refused records left rest old now next size less before after last item p e n t r c =
+pub put_next : {K : Type 0} (view : SinkView K) (records left rest : List DataRecord) (old now next size less : ℕ) (before after last : K) (item : DataRecord)
+    → Putting view records old now before after left size → left ≡ item ∷ rest → less + 1 ≡ size → view.took after item last → view.refused last ≡ view.refused after → next ≡ capped (now + 1)
+    → Putting view records old next before last rest less
+put_next view records left rest old now next size less before after last item p e n t r c =
     let grown : length (p.put ++ item ∷ []) ≡ length p.put + 1 = omega (arith, length-append p.put (item ∷ [])) in
     let smaller : length left ≡ length rest + 1 = omega (arith, ap length e) in
     record {
       put = p.put ++ item ∷ [];
       whole = p.whole ∙ ap (λ (rs : List DataRecord). p.put ++ rs) e ∙ sym (append_assoc p.put (item ∷ []) rest);
-      takes = record { chain = FoldsTo-push took before p.put after item last p.takes.chain t; none_refused = r ∙ p.takes.none_refused };
+      takes = record { chain = FoldsTo-push view.took before p.put after item last p.takes.chain t; none_refused = r ∙ p.takes.none_refused };
       counted = λ m h. let was = p.counted m h in omega (arith, was, c, grown);
       sized = omega (arith, p.sized, smaller, n);
     }
@@ -38,13 +38,13 @@ none_are_left : (left : List DataRecord) → length left ≡ 0 → left ≡ []
 none_are_left [] e = refl
 none_are_left (x ∷ xs) e = absurd (omega (arith, e))
 
-pub put_done : {K : Type 0} (took : K → DataRecord → K → Type 0) (refused : K → ℕ) (records left : List DataRecord) (old now size : ℕ) (before after : K) → Putting took refused records old now before after left size → size ≡ 0
-    → Takes took refused before records after × CountsOn old (length records) now
-put_done took refused records left old now size before after p e =
+pub put_done : {K : Type 0} (view : SinkView K) (records left : List DataRecord) (old now size : ℕ) (before after : K) → Putting view records old now before after left size → size ≡ 0
+    → Takes view before records after × CountsOn old (length records) now
+put_done view records left old now size before after p e =
     let all : records ≡ p.put = p.whole ∙ ap (λ (rs : List DataRecord). p.put ++ rs) (none_are_left left (omega (arith, p.sized, e))) ∙ append-nil p.put in
-    (subst (λ (rs : List DataRecord). Takes took refused before rs after) (sym all) p.takes, subst (λ (rs : List DataRecord). CountsOn old (length rs) now) (sym all) p.counted)
+    (subst (λ (rs : List DataRecord). Takes view before rs after) (sym all) p.takes, subst (λ (rs : List DataRecord). CountsOn old (length rs) now) (sym all) p.counted)
 
-pub put_back : {K : Type 0} (took : K → DataRecord → K → Type 0) (refused : K → ℕ) (records left rest : List DataRecord) (old now size : ℕ) (before after last : K) (item : DataRecord)
-    → Putting took refused records old now before after left size → left ≡ item ∷ rest → refused last ≡ one_more (refused after) → GivesBack took refused records old now before last
-put_back took refused records left rest old now size before after last item p e back =
+pub put_back : {K : Type 0} (view : SinkView K) (records left rest : List DataRecord) (old now size : ℕ) (before after last : K) (item : DataRecord)
+    → Putting view records old now before after left size → left ≡ item ∷ rest → view.refused last ≡ one_more (view.refused after) → GivesBack view records old now before last
+put_back view records left rest old now size before after last item p e back =
     record { first = p.put; item = item; others = rest; are = p.whole ∙ ap (λ (rs : List DataRecord). p.put ++ rs) e; last = after; takes = p.takes; back = back; counted = p.counted }

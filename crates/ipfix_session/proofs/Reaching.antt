@@ -28,8 +28,9 @@ use Rattle.ipfix_wire.specs.MessageHeader.{header_at}
 use Rattle.ipfix_wire.specs.declared.header.Header.{Header}
 use Rattle.ipfix_wire.specs.declared.fault.WireFault.{WireFault}
 use Rattle.ipfix_session.specs.Given.{Given, gives, gives_after, behind, known_after, records_in, records_of, stop_of, IsOpen, IsPrefix}
-use Rattle.ipfix_session.specs.Feeding.{Counts, State, Tells, fault_at, StandsForText, Takes, PutsWhole, PutsAll, RunsOut, IsRefused, Feeds}
-use Rattle.ipfix_session.specs.Intake.{IsRest, Reaches, Ends}
+use Rattle.ipfix_session.specs.Sinks.{SinkView, Takes}
+use Rattle.ipfix_session.specs.Feeding.{Counts, State, Tells, fault_at, StandsForText, PutsWhole, PutsAll, RunsOut, IsRefused, Feeds}
+use Rattle.ipfix_session.specs.Intake.{IsRest, IsBetween, GoesNoFurther}
 use Rattle.ipfix_session.specs.Puts.{CountsOn, GivesBack, Puts}
 use Rattle.ipfix_session.proofs.Cut.{found, none_at, next_stop, messages_shrink, messages_stable}
 use Rattle.ipfix_session.proofs.Giving.{stops, gives_after-stop, gives_after-next, gives_after-fault, behind-behind, records_in-append, gives_after-open, gives_after-fault_stays, stop_is_rest}
@@ -40,13 +41,13 @@ chain-append : {K : Type 0} (took : K → DataRecord → K → Type 0) (p : K) (
 chain-append {K} took p [] ys q u e more = subst (λ (k : K). FoldsTo took k ys u) (sym e) more
 chain-append took p (x ∷ xs) ys q u chain more = (chain.0, chain.1, chain-append took chain.0 xs ys q u chain.2 more)
 
-pub takes-append : {K : Type 0} (took : K → DataRecord → K → Type 0) (refused : K → ℕ) (before now after : K) (xs ys : List DataRecord) → Takes took refused before xs now → Takes took refused now ys after
-    → Takes took refused before (xs ++ ys) after
-takes-append took refused before now after xs ys a b =
-    record { chain = chain-append took before xs ys now after a.chain b.chain; none_refused = b.none_refused ∙ a.none_refused }
+pub takes-append : {K : Type 0} (view : SinkView K) (before now after : K) (xs ys : List DataRecord) → Takes view before xs now → Takes view now ys after
+    → Takes view before (xs ++ ys) after
+takes-append view before now after xs ys a b =
+    record { chain = chain-append view.took before xs ys now after a.chain b.chain; none_refused = b.none_refused ∙ a.none_refused }
 
-pub takes-none : {K : Type 0} (took : K → DataRecord → K → Type 0) (refused : K → ℕ) (k : K) → Takes took refused k [] k
-takes-none took refused k = record { chain = refl; none_refused = refl }
+pub takes-none : {K : Type 0} (view : SinkView K) (k : K) → Takes view k [] k
+takes-none view k = record { chain = refl; none_refused = refl }
 
 -- ---- counts
 
@@ -76,11 +77,11 @@ prefix-push old whole x p = (p.0 ++ x ∷ [], ap (λ (ms : List Message). ms ++ 
 pub put_more : (has old put more : List DataRecord) → has ≡ old ++ put → has ++ more ≡ old ++ (put ++ more)
 put_more has old put more e = ap (λ (rs : List DataRecord). rs ++ more) e ∙ append_assoc old put more
 
-pub reaches_on : {K : Type 0} (took : K → DataRecord → K → Type 0) (refused : K → ℕ) (old : List Message) (text left m rest : List ℕ) (before now after : K) (c news : Counts) (domains later : Session)
-    (r : Reaches took refused old text before now c domains left) → next_message left ≡ found m rest → (x : Message) → message_gives (known_after [] r.whole) m ≡ Ok x
-    → Takes took refused now x.decoding.records after → Tells news (r.whole ++ x ∷ []) (length (records_in r.whole) + length x.decoding.records) → later.spent ≡ false → StandsFor later.domains x.domains
-    → Reaches took refused old text before after news later rest
-reaches_on took refused old text left m rest before now after c news domains later r begins x reads takes tells fresh stands =
+pub reaches_on : {K : Type 0} (view : SinkView K) (old : List Message) (text left m rest : List ℕ) (before now after : K) (c news : Counts) (domains later : Session)
+    (r : IsBetween view old text before now c domains left) → next_message left ≡ found m rest → (x : Message) → message_gives (known_after [] r.whole) m ≡ Ok x
+    → Takes view now x.decoding.records after → Tells news (r.whole ++ x ∷ []) (length (records_in r.whole) + length x.decoding.records) → later.spent ≡ false → StandsFor later.domains x.domains
+    → IsBetween view old text before after news later rest
+reaches_on view old text left m rest before now after c news domains later r begins x reads takes tells fresh stands =
     let known = known_after [] r.whole in
     let now_known : known_after [] (r.whole ++ x ∷ []) ≡ x.domains = known_after-push [] r.whole x in
     record {
@@ -91,7 +92,7 @@ reaches_on took refused old text left m rest before now after c news domains lat
       rest = r.rest ∙ ap (λ (p : Parts (List ℕ)). p.rest) (parts_of-next next_message messages_shrink left m rest begins);
       puts = record {
         put = r.puts.put ++ x.decoding.records;
-        takes = takes-append took refused before now after r.puts.put x.decoding.records r.puts.takes takes;
+        takes = takes-append view before now after r.puts.put x.decoding.records r.puts.takes takes;
         records = records_in-push r.whole x ∙ put_more (records_in r.whole) (records_in old) r.puts.put x.decoding.records r.puts.records;
         tells = subst (λ (d : ℕ). Tells news (r.whole ++ x ∷ []) d) (sym (delivered-push r.whole x)) tells;
       };
@@ -101,9 +102,9 @@ reaches_on took refused old text left m rest before now after c news domains lat
 
 -- ---- why it goes no further
 
-pub ends_out : {K : Type 0} (took : K → DataRecord → K → Type 0) (refused : K → ℕ) (old : List Message) (text left : List ℕ) (before now : K) (c news : Counts) (domains : Session)
-    (r : Reaches took refused old text before now c domains left) → Tells news r.whole (length (records_in r.whole)) → RunsOut took refused old (gives text).messages before now (Tells news)
-ends_out took refused old text left before now c news domains r tells =
+pub ends_out : {K : Type 0} (view : SinkView K) (old : List Message) (text left : List ℕ) (before now : K) (c news : Counts) (domains : Session)
+    (r : IsBetween view old text before now c domains left) → Tells news r.whole (length (records_in r.whole)) → RunsOut view old (gives text).messages before now (Tells news)
+ends_out view old text left before now c news domains r tells =
     record {
       whole = r.whole;
       from = r.from;
@@ -116,29 +117,29 @@ stops_there : (text left : List ℕ) (whole : List Message) (s : Stop) → gives
     → gives text ≡ record { messages = whole; stop = s }
 stops_there text left whole s is e = is ∙ ap (behind whole) e ∙ ap (λ (ms : List Message). record { messages = ms; stop = s }) (append-nil whole)
 
-puts_all : {K : Type 0} (took : K → DataRecord → K → Type 0) (refused : K → ℕ) (old : List Message) (text : List ℕ) (before now : K) (c : Counts) (whole : List Message) (s : Stop)
-    → gives text ≡ record { messages = whole; stop = s } → PutsWhole took refused old whole before now (Tells c) → PutsWhole took refused old (gives text).messages before now (Tells c)
-puts_all took refused old text before now c whole s all puts =
-    subst (λ (ms : List Message). PutsWhole took refused old ms before now (Tells c)) (sym (ap (λ (g : Given). g.messages) all)) puts
+puts_all : {K : Type 0} (view : SinkView K) (old : List Message) (text : List ℕ) (before now : K) (c : Counts) (whole : List Message) (s : Stop)
+    → gives text ≡ record { messages = whole; stop = s } → PutsWhole view old whole before now (Tells c) → PutsWhole view old (gives text).messages before now (Tells c)
+puts_all view old text before now c whole s all puts =
+    subst (λ (ms : List Message). PutsWhole view old ms before now (Tells c)) (sym (ap (λ (g : Given). g.messages) all)) puts
 
-pub ends_at : {K : Type 0} (took : K → DataRecord → K → Type 0) (refused : K → ℕ) (old : List Message) (text left : List ℕ) (before now : K) (c : Counts) (domains : Session) (e : MessageFault)
-    (r : Reaches took refused old text before now c domains left) → gives_after (known_after [] r.whole) left ≡ stops (Fault e) → Ends took refused (faults.Message e) old text before now c
-ends_at took refused old text left before now c domains OutOfMemory r stop = ends_out took refused old text left before now c c domains r r.puts.tells
-ends_at took refused old text left before now c domains e r stop =
+pub ends_at : {K : Type 0} (view : SinkView K) (old : List Message) (text left : List ℕ) (before now : K) (c : Counts) (domains : Session) (e : MessageFault)
+    (r : IsBetween view old text before now c domains left) → gives_after (known_after [] r.whole) left ≡ stops (Fault e) → GoesNoFurther view (faults.Message e) old text before now c
+ends_at view old text left before now c domains OutOfMemory r stop = ends_out view old text left before now c c domains r r.puts.tells
+ends_at view old text left before now c domains e r stop =
     let all = stops_there text left r.whole (Fault e) r.is stop in
-    (ap (λ (g : Given). g.stop) all, puts_all took refused old text before now c r.whole (Fault e) all r.puts)
+    (ap (λ (g : Given). g.stop) all, puts_all view old text before now c r.whole (Fault e) all r.puts)
 
-pub ends_decoding : {K : Type 0} (took : K → DataRecord → K → Type 0) (refused : K → ℕ) (old : List Message) (text left m rest : List ℕ) (before now : K) (c : Counts) (domains : Session) (e : MessageFault)
-    (r : Reaches took refused old text before now c domains left) → next_message left ≡ found m rest → Fails e (message_gives (known_after [] r.whole) m) → Ends took refused (faults.Message e) old text before now c
-ends_decoding took refused old text left m rest before now c domains OutOfMemory r begins fails = ends_out took refused old text left before now c c domains r r.puts.tells
-ends_decoding took refused old text left m rest before now c domains e r begins fails =
-    ends_at took refused old text left before now c domains e r (gives_after-fault (known_after [] r.whole) left m rest e begins fails)
+pub ends_decoding : {K : Type 0} (view : SinkView K) (old : List Message) (text left m rest : List ℕ) (before now : K) (c : Counts) (domains : Session) (e : MessageFault)
+    (r : IsBetween view old text before now c domains left) → next_message left ≡ found m rest → Fails e (message_gives (known_after [] r.whole) m) → GoesNoFurther view (faults.Message e) old text before now c
+ends_decoding view old text left m rest before now c domains OutOfMemory r begins fails = ends_out view old text left before now c c domains r r.puts.tells
+ends_decoding view old text left m rest before now c domains e r begins fails =
+    ends_at view old text left before now c domains e r (gives_after-fault (known_after [] r.whole) left m rest e begins fails)
 
-pub ends_refused : {K : Type 0} (took : K → DataRecord → K → Type 0) (refused : K → ℕ) (old : List Message) (text left m rest : List ℕ) (before now after : K) (c news : Counts) (domains : Session) (was is : ℕ)
-    (r : Reaches took refused old text before now c domains left) → next_message left ≡ found m rest → (x : Message) → message_gives (known_after [] r.whole) m ≡ Ok x
-    → (b : GivesBack took refused x.decoding.records was is now after) → Tells news r.whole (length (records_in r.whole) + length b.first)
-    → IsRefused took refused old (gives text).messages before after (Tells news)
-ends_refused took refused old text left m rest before now after c news domains was is r begins x reads b tells =
+pub ends_refused : {K : Type 0} (view : SinkView K) (old : List Message) (text left m rest : List ℕ) (before now after : K) (c news : Counts) (domains : Session) (was is : ℕ)
+    (r : IsBetween view old text before now c domains left) → next_message left ≡ found m rest → (x : Message) → message_gives (known_after [] r.whole) m ≡ Ok x
+    → (b : GivesBack view x.decoding.records was is now after) → Tells news r.whole (length (records_in r.whole) + length b.first)
+    → IsRefused view old (gives text).messages before after (Tells news)
+ends_refused view old text left m rest before now after c news domains was is r begins x reads b tells =
     record {
       whole = r.whole;
       next = x;
@@ -151,7 +152,7 @@ ends_refused took refused old text left m rest before now after c news domains w
       cut_off = b.are;
       put = r.puts.put ++ b.first;
       last = b.last;
-      takes = takes-append took refused before now b.last r.puts.put b.first r.puts.takes b.takes;
+      takes = takes-append view before now b.last r.puts.put b.first r.puts.takes b.takes;
       records = put_more (records_in r.whole) (records_in old) r.puts.put b.first r.puts.records;
       back = b.back;
       tells = tells;
@@ -160,9 +161,9 @@ ends_refused took refused old text left m rest before now after c news domains w
 -- ---- a piece of a text
 
 -- before the piece
-pub reaches_first : {K : Type 0} (took : K → DataRecord → K → Type 0) (refused : K → ℕ) (s : State) (text piece : List ℕ) (k : K) → StandsForText s text → IsOpen (stop_of text)
-    → Reaches took refused (gives text).messages (text ++ piece) k k s.counts s.domains (s.buffer ++ piece)
-reaches_first took refused s text piece k stands is_open =
+pub reaches_first : {K : Type 0} (view : SinkView K) (s : State) (text piece : List ℕ) (k : K) → StandsForText s text → IsOpen (stop_of text)
+    → IsBetween view (gives text).messages (text ++ piece) k k s.counts s.domains (s.buffer ++ piece)
+reaches_first view s text piece k stands is_open =
     let on = stands.goes_on is_open in
     let again = ap (λ (w : List ℕ). w ++ piece) (sym on.rest) in
     record {
@@ -170,7 +171,7 @@ reaches_first took refused s text piece k stands is_open =
       from = ([], sym (append-nil (gives text).messages));
       is = gives_after-open [] text piece is_open ∙ ap (λ (w : List ℕ). behind (gives text).messages (gives_after (known_after [] (gives text).messages) w)) again;
       rest = ap (λ (p : Parts (List ℕ)). p.rest) (parts_of-append next_message messages_shrink messages_stable (length text) text piece (omega arith)) ∙ ap (λ (w : List ℕ). (cut w).rest) again;
-      puts = record { put = []; takes = takes-none took refused k; records = sym (append-nil (records_of text)); tells = stands.tells };
+      puts = record { put = []; takes = takes-none view k; records = sym (append-nil (records_of text)); tells = stands.tells };
       not_spent = on.not_spent;
       stands = on.known;
     }
@@ -181,14 +182,14 @@ no_fault Short o = refl
 no_fault (Fault e) o = absurd o
 
 -- behind the piece, where it may go on
-pub fed : {K : Type 0} (took : K → DataRecord → K → Type 0) (refused : K → ℕ) (s : State) (text piece : List ℕ) (before after : K)
-    → Reaches took refused (gives text).messages (text ++ piece) before after s.counts s.domains s.buffer → IsRest s.buffer → s.fault ≡ None
-    → IsOpen (stop_of (text ++ piece)) × PutsAll took refused text piece before after s
-fed took refused s text piece before after r rest none =
+pub fed : {K : Type 0} (view : SinkView K) (s : State) (text piece : List ℕ) (before after : K)
+    → IsBetween view (gives text).messages (text ++ piece) before after s.counts s.domains s.buffer → IsRest s.buffer → s.fault ≡ None
+    → IsOpen (stop_of (text ++ piece)) × PutsAll view text piece before after s
+fed view s text piece before after r rest none =
     let all = stops_there (text ++ piece) s.buffer r.whole rest.stop r.is (gives_after-stop (known_after [] r.whole) s.buffer rest.stop rest.none) in
     let stop : stop_of (text ++ piece) ≡ rest.stop = ap (λ (g : Given). g.stop) all in
     let is_open = subst IsOpen (sym stop) rest.is_open in
-    let puts = puts_all took refused (gives text).messages (text ++ piece) before after s.counts r.whole rest.stop all r.puts in (
+    let puts = puts_all view (gives text).messages (text ++ piece) before after s.counts r.whole rest.stop all r.puts in (
       is_open,
       record {
         put = puts.put;
@@ -207,11 +208,11 @@ fed took refused s text piece before after r rest none =
     )
 
 -- behind the piece, where it goes no further
-pub fed_fault : {K : Type 0} (took : K → DataRecord → K → Type 0) (refused : K → ℕ) (s : State) (text piece : List ℕ) (before after : K) (f : SessionFault)
-    → Ends took refused f (gives text).messages (text ++ piece) before after s.counts → s.fault ≡ Some f
-    → Feeds took refused (Err f) text piece before after s
-fed_fault took refused s text piece before after (faults.Message OutOfMemory) ends fault = ends
-fed_fault took refused s text piece before after (faults.Message e) ends fault = (
+pub fed_fault : {K : Type 0} (view : SinkView K) (s : State) (text piece : List ℕ) (before after : K) (f : SessionFault)
+    → GoesNoFurther view f (gives text).messages (text ++ piece) before after s.counts → s.fault ≡ Some f
+    → Feeds view (Err f) text piece before after s
+fed_fault view s text piece before after (faults.Message OutOfMemory) ends fault = ends
+fed_fault view s text piece before after (faults.Message e) ends fault = (
   ends.0,
   record {
     put = ends.1.put;
@@ -224,10 +225,10 @@ fed_fault took refused s text piece before after (faults.Message e) ends fault =
     };
   },
 )
-fed_fault took refused s text piece before after faults.SinkClosed ends fault = ends
-fed_fault took refused s text piece before after faults.Truncated ends fault = absurd ends
-fed_fault took refused s text piece before after faults.ReadFailed ends fault = absurd ends
-fed_fault took refused s text piece before after faults.TooManyReads ends fault = absurd ends
+fed_fault view s text piece before after faults.SinkClosed ends fault = ends
+fed_fault view s text piece before after faults.Truncated ends fault = absurd ends
+fed_fault view s text piece before after faults.ReadFailed ends fault = absurd ends
+fed_fault view s text piece before after faults.TooManyReads ends fault = absurd ends
 
 -- ---- behind a fault
 
@@ -247,27 +248,27 @@ no_fault_is (Fault m) e = let same : None ≡ some_fault (faults.Message m) = e 
 pub may_go_on : (s : State) (text : List ℕ) → StandsForText s text → s.fault ≡ None → IsOpen (stop_of text)
 may_go_on s text stands none = no_fault_is (stop_of text) (sym none ∙ stands.fault)
 
-stays : {K : Type 0} (took : K → DataRecord → K → Type 0) (refused : K → ℕ) (s : State) (text longer : List ℕ) (k : K) (e : MessageFault) → StandsForText s text → gives longer ≡ gives text → stop_of text ≡ Fault e
-    → Ends took refused (faults.Message e) (gives text).messages longer k k s.counts
-stays took refused s text longer k OutOfMemory stands same stop =
+stays : {K : Type 0} (view : SinkView K) (s : State) (text longer : List ℕ) (k : K) (e : MessageFault) → StandsForText s text → gives longer ≡ gives text → stop_of text ≡ Fault e
+    → GoesNoFurther view (faults.Message e) (gives text).messages longer k k s.counts
+stays view s text longer k OutOfMemory stands same stop =
     record {
       whole = (gives text).messages;
       from = ([], sym (append-nil (gives text).messages));
       up_to = ([], ap (λ (g : Given). g.messages) same ∙ sym (append-nil (gives text).messages));
-      puts = record { put = []; takes = takes-none took refused k; records = sym (append-nil (records_of text)); tells = stands.tells };
+      puts = record { put = []; takes = takes-none view k; records = sym (append-nil (records_of text)); tells = stands.tells };
     }
-stays took refused s text longer k e stands same stop = (
+stays view s text longer k e stands same stop = (
   ap (λ (g : Given). g.stop) same ∙ stop,
-  subst (λ (ms : List Message). PutsWhole took refused (gives text).messages ms k k (Tells s.counts)) (sym (ap (λ (g : Given). g.messages) same))
-      (record { put = []; takes = takes-none took refused k; records = sym (append-nil (records_of text)); tells = stands.tells }),
+  subst (λ (ms : List Message). PutsWhole view (gives text).messages ms k k (Tells s.counts)) (sym (ap (λ (g : Given). g.messages) same))
+      (record { put = []; takes = takes-none view k; records = sym (append-nil (records_of text)); tells = stands.tells }),
 )
 
-pub fed_again : {K : Type 0} (took : K → DataRecord → K → Type 0) (refused : K → ℕ) (s : State) (text piece : List ℕ) (k : K) (f : SessionFault) → StandsForText s text → s.fault ≡ Some f
-    → Feeds took refused (Err f) text piece k k s
-fed_again took refused s text piece k f stands fault =
+pub fed_again : {K : Type 0} (view : SinkView K) (s : State) (text piece : List ℕ) (k : K) (f : SessionFault) → StandsForText s text → s.fault ≡ Some f
+    → Feeds view (Err f) text piece k k s
+fed_again view s text piece k f stands fault =
     let is = fault_is (stop_of text) f (sym fault ∙ stands.fault) in
-    let ends = stays took refused s text (text ++ piece) k is.0 stands (gives_after-fault_stays [] text piece is.0 is.1) is.1 in
-    fed_fault took refused s text piece k k f (subst (λ (g : SessionFault). Ends took refused g (gives text).messages (text ++ piece) k k s.counts) (sym is.2) ends) fault
+    let ends = stays view s text (text ++ piece) k is.0 stands (gives_after-fault_stays [] text piece is.0 is.1) is.1 in
+    fed_fault view s text piece k k f (subst (λ (g : SessionFault). GoesNoFurther view g (gives text).messages (text ++ piece) k k s.counts) (sym is.2) ends) fault
 
 -- ---- the rest of a text
 
@@ -285,39 +286,39 @@ buffer_is_rest s text stands none =
 -- ---- many messages
 
 -- from one place in a text to a later one
-abbrev pub GoesOver : {K : Type 0} (took : K → DataRecord → K → Type 0) (refused : K → ℕ) (was now : K) (c news : Counts) (domains later : Session) (left rest : List ℕ) → Type 0
-GoesOver {K} took refused was now c news domains later left rest =
-    (old : List Message) (text : List ℕ) (before : K) → Reaches took refused old text before was c domains left → Reaches took refused old text before now news later rest
+abbrev pub GoesOver : {K : Type 0} (view : SinkView K) (was now : K) (c news : Counts) (domains later : Session) (left rest : List ℕ) → Type 0
+GoesOver {K} view was now c news domains later left rest =
+    (old : List Message) (text : List ℕ) (before : K) → IsBetween view old text before was c domains left → IsBetween view old text before now news later rest
 
-pub reaches_from : {K : Type 0} (took : K → DataRecord → K → Type 0) (refused : K → ℕ) (old : List Message) (text : List ℕ) (before now : K) (c : Counts) (domains : Session) (left same : List ℕ) → left ≡ same
-    → Reaches took refused old text before now c domains left → Reaches took refused old text before now c domains same
-reaches_from took refused old text before now c domains left same e r = subst (λ (w : List ℕ). Reaches took refused old text before now c domains w) e r
+pub reaches_from : {K : Type 0} (view : SinkView K) (old : List Message) (text : List ℕ) (before now : K) (c : Counts) (domains : Session) (left same : List ℕ) → left ≡ same
+    → IsBetween view old text before now c domains left → IsBetween view old text before now c domains same
+reaches_from view old text before now c domains left same e r = subst (λ (w : List ℕ). IsBetween view old text before now c domains w) e r
 
-pub reaches_kept : {K : Type 0} (took : K → DataRecord → K → Type 0) (refused : K → ℕ) (old : List Message) (text : List ℕ) (before now : K) (c : Counts) (domains : Session) (left same : List ℕ) → left ≡ same
-    → Reaches took refused old text before now c domains left × IsRest left → Reaches took refused old text before now c domains same × IsRest same
-reaches_kept took refused old text before now c domains left same e both =
-    (subst (λ (w : List ℕ). Reaches took refused old text before now c domains w) e both.0, subst IsRest e both.1)
+pub reaches_kept : {K : Type 0} (view : SinkView K) (old : List Message) (text : List ℕ) (before now : K) (c : Counts) (domains : Session) (left same : List ℕ) → left ≡ same
+    → IsBetween view old text before now c domains left × IsRest left → IsBetween view old text before now c domains same × IsRest same
+reaches_kept view old text before now c domains left same e both =
+    (subst (λ (w : List ℕ). IsBetween view old text before now c domains w) e both.0, subst IsRest e both.1)
 
 -- ---- a message whose records are put
 
-pub ends_put : {K : Type 0} (took : K → DataRecord → K → Type 0) (refused : K → ℕ) (old : List Message) (text left m rest : List ℕ) (before now after : K) (c : Counts) (domains : Session) (accounts : List (ℕ × Account)) (delivered : ℕ)
-    (f : SessionFault) (records : List DataRecord) (r : Reaches took refused old text before now c domains left) → next_message left ≡ found m rest → (x : Message) → message_gives (known_after [] r.whole) m ≡ Ok x → records ≡ x.decoding.records
-    → accounts ≡ c.accounts → Puts took refused (Err f) records c.delivered delivered now after
-    → Ends took refused f old text before after (record c { accounts = accounts; delivered = delivered })
-ends_put took refused old text left m rest before now after c domains accounts delivered faults.SinkClosed records r begins x reads are same puts =
-    let gives_back = subst (λ (rs : List DataRecord). GivesBack took refused rs c.delivered delivered now after) are puts in
-    ends_refused took refused old text left m rest before now after c (record c { accounts = accounts; delivered = delivered }) domains c.delivered delivered r begins x reads gives_back
+pub ends_put : {K : Type 0} (view : SinkView K) (old : List Message) (text left m rest : List ℕ) (before now after : K) (c : Counts) (domains : Session) (accounts : List (ℕ × Account)) (delivered : ℕ)
+    (f : SessionFault) (records : List DataRecord) (r : IsBetween view old text before now c domains left) → next_message left ≡ found m rest → (x : Message) → message_gives (known_after [] r.whole) m ≡ Ok x → records ≡ x.decoding.records
+    → accounts ≡ c.accounts → Puts view (Err f) records c.delivered delivered now after
+    → GoesNoFurther view f old text before after (record c { accounts = accounts; delivered = delivered })
+ends_put view old text left m rest before now after c domains accounts delivered faults.SinkClosed records r begins x reads are same puts =
+    let gives_back = subst (λ (rs : List DataRecord). GivesBack view rs c.delivered delivered now after) are puts in
+    ends_refused view old text left m rest before now after c (record c { accounts = accounts; delivered = delivered }) domains c.delivered delivered r begins x reads gives_back
     (tells_delivered (record c { accounts = accounts }) delivered (length gives_back.first) r.whole (length (records_in r.whole)) (tells_accounts c accounts r.whole (length (records_in r.whole)) r.puts.tells same) gives_back.counted)
-ends_put took refused old text left m rest before now after c domains accounts delivered (faults.Message e) records r begins x reads are same puts = absurd puts
-ends_put took refused old text left m rest before now after c domains accounts delivered faults.Truncated records r begins x reads are same puts = absurd puts
-ends_put took refused old text left m rest before now after c domains accounts delivered faults.ReadFailed records r begins x reads are same puts = absurd puts
-ends_put took refused old text left m rest before now after c domains accounts delivered faults.TooManyReads records r begins x reads are same puts = absurd puts
+ends_put view old text left m rest before now after c domains accounts delivered (faults.Message e) records r begins x reads are same puts = absurd puts
+ends_put view old text left m rest before now after c domains accounts delivered faults.Truncated records r begins x reads are same puts = absurd puts
+ends_put view old text left m rest before now after c domains accounts delivered faults.ReadFailed records r begins x reads are same puts = absurd puts
+ends_put view old text left m rest before now after c domains accounts delivered faults.TooManyReads records r begins x reads are same puts = absurd puts
 
-pub tells_put : {K : Type 0} (took : K → DataRecord → K → Type 0) (refused : K → ℕ) (now after : K) (c : Counts) (accounts : List (ℕ × Account)) (delivered : ℕ) (whole : List Message) (records : List DataRecord) (x : Message)
-    → Tells c whole (length (records_in whole)) → records ≡ x.decoding.records → accounts ≡ c.accounts → Takes took refused now records after × CountsOn c.delivered (length records) delivered
-    → Takes took refused now x.decoding.records after × Tells (record c { accounts = accounts; delivered = delivered }) whole (length (records_in whole) + length x.decoding.records)
-tells_put took refused now after c accounts delivered whole records x tells are same puts = (
-  subst (λ (rs : List DataRecord). Takes took refused now rs after) are puts.0,
+pub tells_put : {K : Type 0} (view : SinkView K) (now after : K) (c : Counts) (accounts : List (ℕ × Account)) (delivered : ℕ) (whole : List Message) (records : List DataRecord) (x : Message)
+    → Tells c whole (length (records_in whole)) → records ≡ x.decoding.records → accounts ≡ c.accounts → Takes view now records after × CountsOn c.delivered (length records) delivered
+    → Takes view now x.decoding.records after × Tells (record c { accounts = accounts; delivered = delivered }) whole (length (records_in whole) + length x.decoding.records)
+tells_put view now after c accounts delivered whole records x tells are same puts = (
+  subst (λ (rs : List DataRecord). Takes view now rs after) are puts.0,
   subst (λ (rs : List DataRecord). Tells (record c { accounts = accounts; delivered = delivered }) whole (length (records_in whole) + length rs)) are
       (tells_delivered (record c { accounts = accounts }) delivered (length records) whole (length (records_in whole)) (tells_accounts c accounts whole (length (records_in whole)) tells same) puts.1),
 )
@@ -352,11 +353,11 @@ stands_first s tells fresh none buffer fault =
 
 -- ---- by the answer
 
-pub fed_by : {K : Type 0} (took : K → DataRecord → K → Type 0) (refused : K → ℕ) (s : State) (text piece : List ℕ) (before after : K) (r : Result (Unit {0}) SessionFault)
-    → MatchResult r (λ x. Reaches took refused (gives text).messages (text ++ piece) before after s.counts s.domains s.buffer × IsRest s.buffer) (λ f. Ends took refused f (gives text).messages (text ++ piece) before after s.counts)
-    → s.fault ≡ result_err r → Feeds took refused r text piece before after s
-fed_by took refused s text piece before after (Ok x) done fault = fed took refused s text piece before after done.0 done.1 fault
-fed_by took refused s text piece before after (Err f) done fault = fed_fault took refused s text piece before after f done fault
+pub fed_by : {K : Type 0} (view : SinkView K) (s : State) (text piece : List ℕ) (before after : K) (r : Result (Unit {0}) SessionFault)
+    → MatchResult r (λ x. IsBetween view (gives text).messages (text ++ piece) before after s.counts s.domains s.buffer × IsRest s.buffer) (λ f. GoesNoFurther view f (gives text).messages (text ++ piece) before after s.counts)
+    → s.fault ≡ result_err r → Feeds view r text piece before after s
+fed_by view s text piece before after (Ok x) done fault = fed view s text piece before after done.0 done.1 fault
+fed_by view s text piece before after (Err f) done fault = fed_fault view s text piece before after f done fault
 
 -- ---- the end
 

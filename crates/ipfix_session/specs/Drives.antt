@@ -1,5 +1,5 @@
 -- Driving a session: reading a source piece by piece, and feeding the session.
-use Rattle.std.specs.Prelude.{◌≡◌, ℕ, ◌+◌, ◌-◌, ◌^◌, ◌≤◌, ◌⊎◌, Bool, true, List, [], ◌++◌, length, Option, Some, None}
+use Rattle.std.specs.Prelude.{◌≡◌, ◌≢◌, ℕ, ◌+◌, ◌-◌, ◌^◌, ◌≤◌, ◌⊎◌, true, List, ◌++◌, length, Option, Some, None}
 use Rattle.std.specs.Io.KnownBytes.{Consumes}
 use Rattle.ipfix_message.specs.Domains.{Message}
 use Rattle.ipfix_message.specs.declared.fault.MessageFault.TheVariants.{OutOfMemory}
@@ -8,49 +8,94 @@ use Rattle.ipfix_session.specs.declared.report.SessionReport.{SessionReport}
 use Rattle.ipfix_session.specs.declared.stop.Stop.TheVariants.{Clean, Short, Fault}
 use Rattle.ipfix_session.specs.declared.fault.SessionFault.{SessionFault}
 use Rattle.ipfix_session.specs.declared.fault.SessionFault.TheVariants as faults
-use Rattle.ipfix_session.specs.Given.{gives, stop_of, IsOpen}
+use Rattle.ipfix_session.specs.Given.{gives, records_in, records_of, stop_of, IsOpen, IsPrefix}
+use Rattle.ipfix_session.specs.Sources.{SourceView, one_more}
+use Rattle.ipfix_session.specs.Sinks.{SinkView, Takes}
 use Rattle.ipfix_session.specs.Feeding.{PutsWhole, RunsOut, IsRefused}
-use Rattle.ipfix_session.specs.Reads.{one_more}
 use Rattle.ipfix_session.specs.Reports.{Reports}
 
--- nothing is read behind a fault: all but the last octets, at most as many as a read gives, have none
-pub record StopsAtFault {S : Type 0} (text : S → Option (List ℕ)) (reads : S → ℕ) (most : ℕ) (before : S) (gave : List ℕ) (after : S) : Type 0 where
-  pub at : S
+-- ---- what a source and its octets say
+
+-- a report has no fault, or this one, only if the octets that the source gave, and the source, say so
+abbrev pub IsDue : Option SessionFault → ℕ → List ℕ → SourceView → SourceView → Type 0
+-- no fault: the octets are whole messages (RFC 7011, section 3.1), the source has told its end, and no read failed
+IsDue None limit gave before after = (stop_of gave ≡ Clean) × (after.ended ≡ true) × (after.failed ≡ before.failed)
+-- the octets end within a message, the source has told its end, and no read failed
+IsDue (Some faults.Truncated) limit gave before after = (stop_of gave ≡ Short) × (after.ended ≡ true) × (after.failed ≡ before.failed)
+-- the octets have no malformed message, and a read failed
+IsDue (Some faults.ReadFailed) limit gave before after = IsOpen (stop_of gave) × (after.failed ≡ one_more before.failed)
+-- the octets have no malformed message, there were as many reads as were allowed, or the source can't count any more of
+-- them, and none of them failed or told the end
+IsDue (Some faults.TooManyReads) limit gave before after =
+    IsOpen (stop_of gave) × ((after.reads ≡ before.reads + limit) ⊎ (after.reads ≡ 2 ^ 64 - 1)) × (after.failed ≡ before.failed) × (after.ended ≡ before.ended)
+-- memory ran out, or the sink gave a record back, which neither the octets nor the source can say
+IsDue (Some (faults.Message OutOfMemory)) limit gave before after = Unit {0}
+IsDue (Some faults.SinkClosed) limit gave before after = Unit {0}
+-- the first malformed message of the octets has this fault (RFC 7011, section 9.1)
+IsDue (Some (faults.Message e)) limit gave before after = stop_of gave ≡ Fault e
+
+-- reading stops at the first malformed message, at the first read that fails, and at the end: before the last read there
+-- was none of these
+pub record StopsAtFault (most : ℕ) (before : SourceView) (gave : List ℕ) (after : SourceView) : Type 0 where
+  -- the source before the last read, and what it had given by then
+  pub at : SourceView
   pub earlier : List ℕ
+  pub octets : Consumes before.text at.text earlier
+  pub no_fault : IsOpen (stop_of earlier)
+  pub none_failed : at.failed ≡ before.failed
+  pub not_ended : at.ended ≡ before.ended
+  -- there was at most one read more, which gave at most that many octets
+  pub one_read : after.reads ≤ at.reads + 1
   pub last : List ℕ
   pub is : gave ≡ earlier ++ last
-  pub octets : Consumes (text before) (text at) earlier
-  pub no_fault : IsOpen (stop_of earlier)
-  pub one_read : reads after ≤ reads at + 1
   pub size : length last ≤ most
 
-module _ {S K : Type 0} (text : S → Option (List ℕ)) (reads failed : S → ℕ) (ended : S → Bool) (took : K → DataRecord → K → Type 0) (refused : K → ℕ) where
-  -- a source gave these octets, in at most that many reads
-  pub record Gave (limit : ℕ) (before : S) (gave : List ℕ) (after : S) : Type 0 where
-    pub octets : Consumes (text before) (text after) gave
-    pub within : reads after ≤ reads before + limit
+-- a source gave these octets, in at most that many reads of at most so many octets each, until this fault, which is due
+pub record Gave (limit most : ℕ) (before : SourceView) (gave : List ℕ) (after : SourceView) (fault : Option SessionFault) : Type 0 where
+  -- what the source held before is these, and then what it holds after
+  pub octets : Consumes before.text after.text gave
+  pub within : after.reads ≤ before.reads + limit
+  pub stops : StopsAtFault most before gave after
+  pub fault_is_due : IsDue fault limit gave before after
 
-  -- how it ended: where the report has this fault, the source says so or the octets that it gave do, and the sink took
-  -- the records of these octets
-  abbrev pub EndsWith : Option SessionFault → ℕ → List ℕ → S → S → K → K → (List Message → ℕ → Type 0) → Type 0
-  EndsWith None limit gave before after first last told =
-      (stop_of gave ≡ Clean) × (ended after ≡ true) × (failed after ≡ failed before) × PutsWhole took refused [] (gives gave).messages first last told
-  EndsWith (Some faults.Truncated) limit gave before after first last told =
-      (stop_of gave ≡ Short) × (ended after ≡ true) × (failed after ≡ failed before) × PutsWhole took refused [] (gives gave).messages first last told
-  EndsWith (Some faults.ReadFailed) limit gave before after first last told =
-      IsOpen (stop_of gave) × (failed after ≡ one_more (failed before)) × PutsWhole took refused [] (gives gave).messages first last told
-  EndsWith (Some faults.TooManyReads) limit gave before after first last told =
-      IsOpen (stop_of gave) × ((reads after ≡ reads before + limit) ⊎ (reads after ≡ 2 ^ 64 - 1)) × (failed after ≡ failed before) × PutsWhole took refused [] (gives gave).messages first last told
-  EndsWith (Some (faults.Message OutOfMemory)) limit gave before after first last told =
-      RunsOut took refused [] (gives gave).messages first last told
-  EndsWith (Some (faults.Message e)) limit gave before after first last told =
-      (stop_of gave ≡ Fault e) × PutsWhole took refused [] (gives gave).messages first last told
-  EndsWith (Some faults.SinkClosed) limit gave before after first last told =
-      IsRefused took refused [] (gives gave).messages first last told
+-- ---- a session of a source
 
-  -- by reads of at most that many octets
-  pub record Drives (limit most : ℕ) (before after : S) (first last : K) (r : SessionReport) : Type 0 where
+-- a source gave octets that have these records, and the report tells of them; no record was given back
+pub record IsGiven (limit most : ℕ) (before after : SourceView) (report : SessionReport) (records : List DataRecord) : Type 0 where
+  pub gave : List ℕ
+  pub given : Gave limit most before gave after report.fault
+  -- the messages that count are the first of those that RFC 7011 (sections 3 and 8) gives for the octets before their
+  -- first malformed one
+  pub counted : List Message
+  pub first : IsPrefix counted (gives gave).messages
+  -- and are all of those, unless memory ran out; even then those of what was given before the last read are among them
+  pub all : report.fault ≢ Some (faults.Message OutOfMemory) → counted ≡ (gives gave).messages
+  pub earlier : IsPrefix (gives given.stops.earlier).messages counted
+  -- the records are all data records of these messages, in their order (RFC 7011, section 3.4.3)
+  pub records_are : records ≡ records_in counted
+  -- the report counts these messages and records, and what their sequence numbers say was lost (RFC 7011, section 3.1)
+  pub report_is : Reports report counted (length records)
+  -- no record was given back
+  pub not_closed : report.fault ≢ Some faults.SinkClosed
+
+module _ {K : Type 0} (view : SinkView K) where
+  -- what a sink that had taken the old ones' records took of all these messages, by the fault of the report
+  abbrev pub PutsUpTo : Option SessionFault → List Message → List Message → K → K → (List Message → ℕ → Type 0) → Type 0
+  PutsUpTo (Some (faults.Message OutOfMemory)) old all before after told = RunsOut view old all before after told
+  PutsUpTo (Some faults.SinkClosed) old all before after told = IsRefused view old all before after told
+  PutsUpTo fault old all before after told = PutsWhole view old all before after told
+
+  -- a source gave octets, and a sink took their records, by reads of at most that many octets
+  pub record Drives (limit most : ℕ) (before after : SourceView) (first last : K) (report : SessionReport) : Type 0 where
     pub gave : List ℕ
-    pub given : Gave limit before gave after
-    pub stops : StopsAtFault text reads most before gave after
-    pub ends : EndsWith r.fault limit gave before after first last (Reports r)
+    pub given : Gave limit most before gave after report.fault
+    -- before the last read the sink had taken all records of what was given by then, and had given none back
+    pub middle : K
+    pub earlier : Takes view first (records_of given.stops.earlier) middle
+    pub puts : PutsUpTo report.fault (gives given.stops.earlier).messages (gives gave).messages middle last (Reports report)
+
+  -- the sink took, one after another, the records that a source gave
+  pub record TakesGiven (limit most : ℕ) (before after : SourceView) (first last : K) (report : SessionReport) : Type 0 where
+    pub records : List DataRecord
+    pub given : IsGiven limit most before after report records
+    pub takes : Takes view first records last

@@ -1,6 +1,5 @@
 -- What a session stands for, and what feeding it a piece of its text does.
 use Rattle.std.specs.Prelude.{◌≡◌, ℕ, false, List, [], ◌∷◌, ◌++◌, ◌+◌, length, sum_by, Option, Some, None, Result, Ok, Err}
-use Rattle.std.specs.List.{FoldsTo}
 use Rattle.ipfix_message.specs.Domains.{Session, Message, StandsFor}
 use Rattle.ipfix_message.specs.declared.fault.MessageFault.TheVariants.{OutOfMemory}
 use Rattle.ipfix_message.specs.declared.record.DataRecord.{DataRecord}
@@ -12,7 +11,8 @@ use Rattle.ipfix_session.specs.declared.ledger.Account.{Account}
 use Rattle.ipfix_session.specs.MessageStream.{cut}
 use Rattle.ipfix_session.specs.Given.{gives, known_after, records_in, records_of, stop_of, IsOpen, IsPrefix}
 use Rattle.ipfix_session.specs.Ledger.{capped, accounts_of}
-use Rattle.ipfix_session.specs.Reads.{one_more}
+use Rattle.ipfix_session.specs.Sources.{one_more}
+use Rattle.ipfix_session.specs.Sinks.{SinkView, Takes}
 
 -- the counts of a session, and the accounts of its domains
 pub record Counts : Type 0 where
@@ -57,23 +57,18 @@ pub record StandsForText (s : State) (text : List ℕ) : Type 0 where
   pub tells : Tells s.counts (gives text).messages (length (records_of text))
   pub goes_on : IsOpen (stop_of text) → GoesOnFrom s text
 
-module _ {K : Type 0} (took : K → DataRecord → K → Type 0) (refused : K → ℕ) where
-  -- the sink took these records, and gave none back
-  pub record Takes (before : K) (put : List DataRecord) (after : K) : Type 0 where
-    pub chain : FoldsTo took before put after
-    pub none_refused : refused after ≡ refused before
-
+module _ {K : Type 0} (view : SinkView K) where
   -- the sink took the records by which those of some messages exceed those of the old ones, and that is told
   pub record PutsWhole (old whole : List Message) (before after : K) (told : List Message → ℕ → Type 0) : Type 0 where
     pub put : List DataRecord
-    pub takes : Takes before put after
+    pub takes : Takes view before put after
     pub records : records_in whole ≡ records_in old ++ put
     pub tells : told whole (length (records_in whole))
 
   -- the sink took the records by which the longer text's exceed the shorter's, and the session stands for the longer
   pub record PutsAll (text piece : List ℕ) (before after : K) (s : State) : Type 0 where
     pub put : List DataRecord
-    pub takes : Takes before put after
+    pub takes : Takes view before put after
     pub records : records_of (text ++ piece) ≡ records_of text ++ put
     pub stands : StandsForText s (text ++ piece)
 
@@ -97,9 +92,9 @@ module _ {K : Type 0} (took : K → DataRecord → K → Type 0) (refused : K �
     pub cut_off : next.decoding.records ≡ first ++ item ∷ others
     pub put : List DataRecord
     pub last : K
-    pub takes : Takes before put last
+    pub takes : Takes view before put last
     pub records : records_in whole ++ first ≡ records_in old ++ put
-    pub back : refused after ≡ one_more (refused last)
+    pub back : view.refused after ≡ one_more (view.refused last)
     pub tells : told whole (length (records_in whole) + length first)
 
   -- what feeding a piece does to a session that stands for a text, by its answer

@@ -10,6 +10,7 @@ use Rattle.ipfix_session.specs.declared.fault.SessionFault.TheVariants as faults
 use Rattle.ipfix_session.specs.declared.tally.Tally.{Tally}
 use Rattle.ipfix_session.specs.MessageStream.{cut, next_message}
 use Rattle.ipfix_session.specs.Given.{gives, gives_after, behind, known_after, stop_of, IsOpen, IsPrefix}
+use Rattle.ipfix_session.specs.Sinks.{SinkView}
 use Rattle.ipfix_session.specs.Feeding.{Counts, Tells, PutsWhole, RunsOut, IsRefused}
 
 -- the counts that a tally keeps
@@ -22,22 +23,22 @@ pub record IsRest (w : List ℕ) : Type 0 where
   pub none : next_message w ≡ Err stop
   pub is_open : IsOpen stop
 
-module _ {K : Type 0} (took : K → DataRecord → K → Type 0) (refused : K → ℕ) where
+module _ {K : Type 0} (view : SinkView K) where
   -- whole messages of a text were put, the old ones before, and left is what follows them
-  pub record Reaches (old : List Message) (text : List ℕ) (before after : K) (c : Counts) (domains : Session) (left : List ℕ) : Type 0 where
+  pub record IsBetween (old : List Message) (text : List ℕ) (before after : K) (c : Counts) (domains : Session) (left : List ℕ) : Type 0 where
     pub whole : List Message
     pub from : IsPrefix old whole
     pub is : gives text ≡ behind whole (gives_after (known_after [] whole) left)
     pub rest : (cut text).rest ≡ (cut left).rest
-    pub puts : PutsWhole took refused old whole before after (Tells c)
+    pub puts : PutsWhole view old whole before after (Tells c)
     pub not_spent : domains.spent ≡ false
     pub stands : StandsFor domains.domains (known_after [] whole)
 
   -- why it went no further
-  abbrev pub Ends : SessionFault → List Message → List ℕ → K → K → Counts → Type 0
-  Ends (faults.Message OutOfMemory) old text before after c = RunsOut took refused old (gives text).messages before after (Tells c)
-  Ends (faults.Message e) old text before after c = (stop_of text ≡ Fault e) × PutsWhole took refused old (gives text).messages before after (Tells c)
-  Ends faults.SinkClosed old text before after c = IsRefused took refused old (gives text).messages before after (Tells c)
-  Ends faults.Truncated old text before after c = ⊥
-  Ends faults.ReadFailed old text before after c = ⊥
-  Ends faults.TooManyReads old text before after c = ⊥
+  abbrev pub GoesNoFurther : SessionFault → List Message → List ℕ → K → K → Counts → Type 0
+  GoesNoFurther (faults.Message OutOfMemory) old text before after c = RunsOut view old (gives text).messages before after (Tells c)
+  GoesNoFurther (faults.Message e) old text before after c = (stop_of text ≡ Fault e) × PutsWhole view old (gives text).messages before after (Tells c)
+  GoesNoFurther faults.SinkClosed old text before after c = IsRefused view old (gives text).messages before after (Tells c)
+  GoesNoFurther faults.Truncated old text before after c = ⊥
+  GoesNoFurther faults.ReadFailed old text before after c = ⊥
+  GoesNoFurther faults.TooManyReads old text before after c = ⊥

@@ -1,6 +1,7 @@
 pub mod MessageStream
 pub mod Given
-pub mod Reads
+pub mod Sources
+pub mod Sinks
 pub mod Faults
 pub mod Ledger
 pub mod Feeding

@@ -53,6 +53,17 @@ impl Account {
     }
 }
 
+// The sequence number that is due after a message, unless records of it couldn't be counted.
+fn due_next(sequence: u32, records: u64, unknown_sets: u64) -> Option<u32>
+    ensures { (m : Message) → m.header.sequence ≡ sequence → count_in m ≡ records → m.decoding.unknown ≡ unknown_sets → result ≡ due_after m }
+{
+    if unknown_sets == 0 {
+        Some(sequence.wrapping_add((records % (1 << 32)) as u32))
+    } else {
+        None
+    }
+}
+
 /// The accounts of a session's domains, in order of first appearance.
 #[derive(Drop)]
 pub struct Ledger {
@@ -92,15 +103,17 @@ impl Ledger {
             .unwrap_or(Account::EMPTY)
     }
 
-    /// Takes a message into account.
-    pub fn take(&mut self, header: &Header, count: u64, due: Option<u32>)
+    /// Takes a message into account: so many records, and so many data sets whose records couldn't be
+    /// counted.
+    pub fn take(&mut self, header: &Header, records: u64, unknown_sets: u64)
         requires account { 0 < spare self.old.accounts }
         requires report { index_map_len self.old.accounts < vec_capacity self.old.reports }
-        ensures { (ms : List Message) (m : Message) → self.old.accounts.entries ≡ accounts_of ms → m.header ≡ header.now → count_in m ≡ count → due_after m ≡ due
+        ensures { (ms : List Message) (m : Message) → self.old.accounts.entries ≡ accounts_of ms → m.header ≡ header.now → count_in m ≡ records → m.decoding.unknown ≡ unknown_sets
             → self.new.accounts.entries ≡ accounts_of (ms ++ m ∷ []) }
     {
         let before = self.account(header.domain);
-        let after = before.after(header.sequence, count, due);
+        let due = due_next(header.sequence, records, unknown_sets);
+        let after = before.after(header.sequence, records, due);
         let _ = self.accounts.insert(header.domain, after).unwrap();
     }
 

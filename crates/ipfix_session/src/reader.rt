@@ -19,10 +19,7 @@ pub struct FromReader<R: Read> {
 
 impl<R: Read> FromReader<R> {
     pub fn new(reader: R) -> Self
-        ensures text { ⟦<FromReader<R> as Source>⟧.text result ≡ R.remaining reader }
-        ensures reads { ⟦<FromReader<R> as Source>⟧.reads result ≡ 0 }
-        ensures failed { ⟦<FromReader<R> as Source>⟧.failed result ≡ 0 }
-        ensures ended { ⟦<FromReader<R> as Source>⟧.ended result ≡ false }
+        ensures { ⟦<FromReader<R> as Source>⟧.seen result ≡ record { text = R.remaining reader; reads = 0; failed = 0; ended = false } }
     {
         FromReader {
             reader,
@@ -44,13 +41,7 @@ fn read_error(error: &io::Error) -> ReadError
 }
 
 impl<R: Read> Source for FromReader<R> {
-    ghost text = { λ s. R.remaining s.reader };
-
-    ghost reads = { λ s. s.reads };
-
-    ghost failed = { λ s. s.failed };
-
-    ghost ended = { λ s. s.ended };
+    ghost seen = { λ s. record { text = R.remaining s.reader; reads = s.reads; failed = s.failed; ended = s.ended } };
 
     ghost ended_is_end = { λ s e. s.behind_the_end e };
 

@@ -35,10 +35,7 @@ impl ScriptSource {
         fail_at: Option<usize>,
     ) -> Self
         requires { 0 < piece }
-        ensures text { ⟦<ScriptSource as Source>⟧.text result ≡ Some text.items }
-        ensures reads { ⟦<ScriptSource as Source>⟧.reads result ≡ 0 }
-        ensures failed { ⟦<ScriptSource as Source>⟧.failed result ≡ 0 }
-        ensures ended { ⟦<ScriptSource as Source>⟧.ended result ≡ false }
+        ensures { ⟦<ScriptSource as Source>⟧.seen result ≡ record { text = Some text.items; reads = 0; failed = 0; ended = false } }
     {
         let (limit, fails) = match fail_at {
             Some(at) if at <= text.len() => (at, true),
@@ -71,13 +68,7 @@ impl Source for ScriptSource {
     ghost use Rattle.std.specs.Prelude.{unwrap_or};
     ghost use Rattle.std.proofs.Common.{sym, ap, ◌∙◌};
 
-    ghost text = { λ s. Some (drop s.given s.text.items) };
-
-    ghost reads = { λ s. s.reads };
-
-    ghost failed = { λ s. s.failed };
-
-    ghost ended = { λ s. s.ended };
+    ghost seen = { λ s. record { text = Some (drop s.given s.text.items); reads = s.reads; failed = s.failed; ended = s.ended } };
 
     ghost ended_is_end = { λ s e xs h. sym (ap (λ o. unwrap_or o []) h) ∙ s.behind_the_end e };
 

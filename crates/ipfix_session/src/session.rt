@@ -58,7 +58,7 @@ impl Session {
         piece: &[u8],
         sink: &mut K,
     ) -> Result<(), SessionFault>
-        ensures feeds { (text : List ℕ) → StandsForText self.old text → Feeds K.took K.refused result text piece.now sink.old sink.new self.new }
+        ensures feeds { (text : List ℕ) → StandsForText self.old text → Feeds K.seen result text piece.now sink.old sink.new self.new }
         ensures ok { OnOk result (self.new.fault ≡ None) }
         ensures err { IfErr result (λ fault. self.new.fault ≡ Some fault) }
         ensures buffer { length self.new.buffer ≤ 65535 }
@@ -81,7 +81,7 @@ impl Session {
         sink: &mut K,
     ) -> Result<(), SessionFault>
         ensures feeds { (text : List ℕ) → StandsForText self.old text
-            → Feeds K.took K.refused result text (flat_map (λ piece. piece.now) pieces.now) sink.old sink.new self.new }
+            → Feeds K.seen result text (flat_map (λ piece. piece.now) pieces.now) sink.old sink.new self.new }
         ensures ok { OnOk result (self.new.fault ≡ None) }
         ensures err { IfErr result (λ fault. self.new.fault ≡ Some fault) }
         ensures buffer { length self.new.buffer ≤ 65535 }

@@ -1,27 +1,24 @@
 //! Where the records of a session go.
 
-ghost use Rattle.std.specs.Prelude.{◌≡◌, ◌++◌, ◌∷◌, [], ℕ, OnOk, OnErr, IfErr};
-ghost use Rattle.ipfix_session.specs.Reads.{one_more};
+ghost use Rattle.std.specs.Prelude.{◌≡◌, ◌++◌, ◌∷◌, [], OnOk, OnErr, IfErr};
+ghost use Rattle.ipfix_session.specs.Sources.{one_more};
 
 use ipfix_message::DataRecord;
 use std::alloc::Global;
 
 /// Takes data records, or gives them back. Its count stops at `u64::MAX`.
 pub trait Sink {
-    ghost use Rattle.ipfix_message.specs.declared.record.DataRecord.{DataRecord};
+    ghost use Rattle.ipfix_session.specs.Sinks.{SinkView};
 
-    /// What a record that it took changes.
-    ghost took: { Self → DataRecord → Self → Type 0 };
-
-    /// How many records it gave back.
-    ghost refused: { Self → ℕ };
+    /// What contracts see of it: what a record that it took changes, and how many records it gave back.
+    ghost seen: { SinkView Self };
 
     /// Takes a record, or gives it back.
     fn put(&mut self, item: DataRecord) -> Result<(), DataRecord>
-        ensures ok { OnOk result (took self.old item self.new) }
-        ensures none_refused { OnOk result (refused self.new ≡ refused self.old) }
+        ensures ok { OnOk result (seen.took self.old item self.new) }
+        ensures none_refused { OnOk result (seen.refused self.new ≡ seen.refused self.old) }
         ensures back { IfErr result (λ given. given ≡ item) }
-        ensures refused { OnErr result (refused self.new ≡ one_more (refused self.old)) };
+        ensures refused { OnErr result (seen.refused self.new ≡ one_more (seen.refused self.old)) };
 }
 
 /// A sink that keeps the records.
@@ -46,9 +43,7 @@ impl VecSink {
 }
 
 impl Sink for VecSink {
-    ghost took = { λ before item after. after.records.items ≡ before.records.items ++ item ∷ [] };
-
-    ghost refused = { λ s. s.refused };
+    ghost seen = { record { took = λ before item after. after.records.items ≡ before.records.items ++ item ∷ []; refused = λ s. s.refused } };
 
     fn put(&mut self, item: DataRecord) -> Result<(), DataRecord>
         ensures ok { OnOk result (self.new.records.items ≡ self.old.records.items ++ item ∷ []) }

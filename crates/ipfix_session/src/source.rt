@@ -1,6 +1,6 @@
 //! Where the octets of a session come from.
 
-ghost use Rattle.std.specs.Prelude.{◌≡◌, ℕ, List, [], Bool, true, Option};
+ghost use Rattle.std.specs.Prelude.{◌≡◌, [], true};
 ghost use Rattle.std.specs.Option.{ForSome};
 
 use thiserror::Error;
@@ -17,25 +17,18 @@ pub enum ReadError {
 
 /// A source of octets. Its counts stop at `u64::MAX`.
 pub trait Source {
-    ghost use Rattle.ipfix_session.specs.Reads.{Reads};
+    ghost use Rattle.ipfix_session.specs.Sources.{SourceView, IsRead};
 
-    /// The octets that it still holds, where it tells them.
-    ghost text: { Self → Option (List ℕ) };
-
-    /// How many reads there were.
-    ghost reads: { Self → ℕ };
-
-    /// How many of them answered `Failed`.
-    ghost failed: { Self → ℕ };
-
-    /// Whether a read has told the end: it answered 0 octets where there was room for some.
-    ghost ended: { Self → Bool };
+    /// What contracts see of it: the octets that it still holds, if it tells them; how many reads there
+    /// were; how many of them answered `Failed`; and whether one has told the end, that is, answered 0
+    /// octets with room for some.
+    ghost seen: { Self → SourceView };
 
     /// Moves octets from the front of the text into the front of the buffer, and answers how many. An
     /// `Err` moves none.
     fn read(&mut self, buffer: &mut [u8]) -> Result<usize, ReadError>
-        ensures { Reads text reads failed ended self.old result self.new buffer.new };
+        ensures { IsRead (seen self.old) result (seen self.new) buffer.new };
 
-    /// Behind its end it holds nothing.
-    ghost ended_is_end: { (s : Self) → ended s ≡ true → ForSome (text s) (λ xs. xs ≡ []) };
+    /// After its end it holds nothing.
+    ghost ended_is_end: { (s : Self) → (seen s).ended ≡ true → ForSome (seen s).text (λ xs. xs ≡ []) };
 }

@@ -1,4 +1,4 @@
-ghost use Rattle.std.specs.Prelude.{◌≡◌, ◌≤◌, length, vec_capacity, vec_len, IfOk, IfErr};
+ghost use Rattle.std.specs.Prelude.{◌≡◌, ◌≤◌, ◌++◌, length, vec_capacity, vec_len, IfOk, IfErr};
 ghost use Rattle.rtrb.specs.Ring as ring;
 ghost use Rattle.flow_link.specs.Ends.{IsPair};
 ghost use Rattle.flow_link.specs.Settling.{Settles, HandsBack};
@@ -10,8 +10,8 @@ use crate::sender::Sender;
 use rtrb::Consumer;
 use std::alloc::Global;
 
-/// Takes out what is left in the ring, once both ends are in one thread again. Where memory runs
-/// out nothing was taken out.
+/// Takes out what is left in the ring, once both ends are in one thread again. If it runs out of
+/// memory, nothing was taken out.
 pub fn settle(alloc: Global, sender: Sender, receiver: Receiver) -> Result<Settled, SettleFault>
     requires { IsPair sender receiver }
     ensures ok { IfOk result (λ settled. Settles sender receiver settled) }
@@ -27,6 +27,7 @@ pub fn settle(alloc: Global, sender: Sender, receiver: Receiver) -> Result<Settl
     Ok(Settled {
         sender,
         receiver,
+        drained: count,
         left,
     })
 }
@@ -34,7 +35,8 @@ pub fn settle(alloc: Global, sender: Sender, receiver: Receiver) -> Result<Settl
 fn drain(consumer: &mut Consumer<Parcel>, left: &mut Vec<Parcel>, count: usize)
     requires count { length (ring.known_items consumer.old) ≡ count }
     requires room { (vec_len left.old ≡ 0) × (count ≤ vec_capacity left.old) }
-    ensures { left.new.items ≡ ring.known_items consumer.old }
+    ensures left { left.new.items ≡ ring.known_items consumer.old }
+    ensures taken { ring.received consumer.new ≡ ring.received consumer.old ++ ring.known_items consumer.old }
 {
     for _ in 0..count {
         left.push_reserved(consumer.pop_known());

@@ -5,4 +5,5 @@ use Rattle.flow_link.proofs.settled.settling.drain.Given as goal
 abbrev pub invariant-loop : goal.invariant-loop
 invariant-loop l =
     (vec_items l.left ++ ring.known_items l.consumer ≡ ring.known_items l.initial.consumer)
+    × (ring.received l.consumer ≡ ring.received l.initial.consumer ++ vec_items l.left)
     × (vec_len l.left ≡ l.counter) × (l.count ≤ vec_capacity l.left)

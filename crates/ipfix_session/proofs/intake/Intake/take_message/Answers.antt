@@ -8,14 +8,14 @@ use Rattle.ipfix_session.proofs.intake.Intake.take_message.Goals as goal
 pub returns-in_err-header : goal.returns-in_err-header
 returns-in_err-header g c = λ old text left rest before r begins.
     let p = err_from_is_err_and c.from_residual.result c.from_residual.ensures.1 in
-    rw (p.1, p.2) (ends_decoding g.K.Sink.took g.K.Sink.refused old text left c.args.message.now rest before c.args.sink.now (counts_of c.args.self.now.tally) c.args.self.now.domains c.in_err-header.field-0.0 r begins
+    rw (p.1, p.2) (ends_decoding g.K.Sink.seen old text left c.args.message.now rest before c.args.sink.now (counts_of c.args.self.now.tally) c.args.self.now.domains c.in_err-header.field-0.0 r begins
     (c.in_err-header.ensures.gives r.not_spent (known_after [] r.whole) r.stands))
 
 pub returns-in_err-put_all : goal.returns-in_err-put_all
 returns-in_err-put_all g c = λ old text left rest before r begins.
     let read = c.in_ok-header.ensures.gives r.not_spent (known_after [] r.whole) r.stands in
     let p = err_from_is_err_and c.from_residual-in_err-put_all.result c.from_residual-in_err-put_all.ensures.1 in
-    rw (p.1, p.2) (ends_put g.K.Sink.took g.K.Sink.refused old text left c.args.message.now rest before c.args.sink.now c.put_all.new.sink (counts_of c.args.self.now.tally) c.args.self.now.domains
+    rw (p.1, p.2) (ends_put g.K.Sink.seen old text left c.args.message.now rest before c.args.sink.now c.put_all.new.sink (counts_of c.args.self.now.tally) c.args.self.now.domains
     c.make_room.new.self.accounts.entries c.put_all.new.delivered c.in_err-put_all.field-0.0 c.in_ok-header.field-0.records.items r begins read.0 read.1 read.2.records c.in_ok-make_room.ensures.same c.in_err-put_all.ensures)
 
 pub returns : goal.returns
@@ -23,10 +23,10 @@ returns g c = λ old text left rest before r begins.
     let read = c.in_ok-header.ensures.gives r.not_spent (known_after [] r.whole) r.stands in
     let x = read.0 in
     let size : c.len.result ≡ length c.in_ok-header.field-0.records.items = omega arith in
-    let puts = tells_put g.K.Sink.took g.K.Sink.refused c.args.sink.now c.put_all.new.sink (counts_of c.args.self.now.tally) c.make_room.new.self.accounts.entries c.put_all.new.delivered r.whole c.in_ok-header.field-0.records.items x
+    let puts = tells_put g.K.Sink.seen c.args.sink.now c.put_all.new.sink (counts_of c.args.self.now.tally) c.make_room.new.self.accounts.entries c.put_all.new.delivered r.whole c.in_ok-header.field-0.records.items x
     r.puts.tells read.2.records c.in_ok-make_room.ensures.same c.in_ok-put_all.ensures in
     let counted = is_counted (record { header = c.in_ok-header.field-0.header; records = c.len.result; skipped_sets = c.in_ok-header.field-0.skipped_sets; unknown_sets = c.in_ok-header.field-0.unknown_sets; ignored_withdrawals = c.in_ok-header.field-0.ignored_withdrawals })
     x c.in_ok-header.field-0.records.items read.2.header read.2.records size read.2.skipped_sets read.2.unknown_sets
     read.2.ignored_withdrawals in
-    reaches_on g.K.Sink.took g.K.Sink.refused old text left c.args.message.now rest before c.args.sink.now c.put_all.new.sink (counts_of c.args.self.now.tally) _ c.args.self.now.domains c.decode.new.self
+    reaches_on g.K.Sink.seen old text left c.args.message.now rest before c.args.sink.now c.put_all.new.sink (counts_of c.args.self.now.tally) _ c.args.self.now.domains c.decode.new.self
     r begins x read.1 puts.0 (c.take.ensures r.whole x _ puts.1 counted) c.in_ok-header.ensures.ok read.3

@@ -13,7 +13,7 @@ returns-in_err-check_open-in-Err-clause-takes g c = λ old text before first.
     let r = c.loop-found.invariant old text before first in
     let p = err_from_is_err_and c.from_residual.result c.from_residual.ensures.1 in
     let e = c.in_err-check_open-in-Err.field-0.0 in
-    rw (p.1, p.2) (ends_at g.K.Sink.took g.K.Sink.refused old text c.loop-found.rest.now before c.loop-found.sink (counts_of c.loop-found.self.tally) c.loop-found.self.domains e r
+    rw (p.1, p.2) (ends_at g.K.Sink.seen old text c.loop-found.rest.now before c.loop-found.sink (counts_of c.loop-found.self.tally) c.loop-found.self.domains e r
     (gives_after-stop (known_after [] r.whole) c.loop-found.rest.now (Fault e) (c.in-Err.ensures.found ∙ ap none_at c.in_err-check_open-in-Err.ensures)))
 
 pub loop-found-smaller : goal.loop-found-smaller

@@ -12,13 +12,13 @@ octets_of piece = piece.now
 pub returns-in_err-feed-clause-feeds : goal.returns-in_err-feed-clause-feeds
 returns-in_err-feed-clause-feeds g c = λ text stands.
     let p = err_from_is_err_and c.from_residual.result c.from_residual.ensures.1 in
-    rw (p.1, p.2) (feeds_more g.K.Sink.took g.K.Sink.refused c.feed.new.self text [] (flat_map octets_of c.args.pieces.now) c.args.sink.now c.feed.new.sink c.in_err-feed.field-0.0
+    rw (p.1, p.2) (feeds_more g.K.Sink.seen c.feed.new.self text [] (flat_map octets_of c.args.pieces.now) c.args.sink.now c.feed.new.sink c.in_err-feed.field-0.0
     (c.in_err-feed.ensures.feeds text stands))
 
 pub returns-in_err-feed-2-clause-feeds : goal.returns-in_err-feed-2-clause-feeds
 returns-in_err-feed-2-clause-feeds g c = λ text stands.
     let p = err_from_is_err_and c.from_residual-in_err-feed-2.result c.from_residual-in_err-feed-2.ensures.1 in
-    rw (p.1, p.2) (fed_up_to g.K.Sink.took g.K.Sink.refused octets_of c.args.pieces.now c.loop-piece.piece-index _ c.args.self.now c.loop-piece.self c.feed-in-loop-piece.new.self text c.args.sink.now c.loop-piece.sink
+    rw (p.1, p.2) (fed_up_to g.K.Sink.seen octets_of c.args.pieces.now c.loop-piece.piece-index _ c.args.self.now c.loop-piece.self c.feed-in-loop-piece.new.self text c.args.sink.now c.loop-piece.sink
     c.feed-in-loop-piece.new.sink c.in_err-feed-2.field-0.0 c.loop-piece-test.true stands c.loop-piece.invariant.fed c.in_err-feed-2.ensures.feeds)
 
 pub loop-piece-init : goal.loop-piece-init
@@ -33,7 +33,7 @@ loop-piece-init g c =
 pub loop-piece-preserved : goal.loop-piece-preserved
 loop-piece-preserved g c =
     record {
-      fed = fed_on g.K.Sink.took g.K.Sink.refused octets_of c.args.pieces.now c.loop-piece.piece-index _ c.args.self.now c.loop-piece.self c.feed-in-loop-piece.new.self c.args.sink.now c.loop-piece.sink
+      fed = fed_on g.K.Sink.seen octets_of c.args.pieces.now c.loop-piece.piece-index _ c.args.self.now c.loop-piece.self c.feed-in-loop-piece.new.self c.args.sink.now c.loop-piece.sink
           c.feed-in-loop-piece.new.sink tt c.loop-piece-test.true c.loop-piece.invariant.fed c.in_ok-feed-2.ensures.feeds;
       open_yet = c.in_ok-feed-2.ensures.ok;
       begun = c.feed-in-loop-piece.ensures.buffer;

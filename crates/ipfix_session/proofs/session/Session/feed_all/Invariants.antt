@@ -8,7 +8,7 @@ use Rattle.ipfix_session.proofs.session.Session.feed_all.Given as goal
 abbrev pub invariant-loop-piece : goal.invariant-loop-piece
 invariant-loop-piece g l =
     record {
-      fed : WasFed g.K.Sink.took g.K.Sink.refused l.fn.self l.self (flat_map (λ (piece : Bor (List ℕ)). piece.now) (take l.piece-index l.pieces)) l.fn.sink l.sink;
+      fed : WasFed g.K.Sink.seen l.fn.self l.self (flat_map (λ (piece : Bor (List ℕ)). piece.now) (take l.piece-index l.pieces)) l.fn.sink l.sink;
       open_yet : l.self.fault ≡ None;
       begun : length l.self.buffer ≤ 65535;
       open_first : (fault : SessionFault) → l.fn.self.fault ≡ Some fault → ⊥;

@@ -1,0 +1,88 @@
+//! Templates in force (RFC 7011, section 8).
+
+ghost use Rattle.std.specs.Prelude.{◌≡◌, ◌<◌, ◌↔◌, IsTrue};
+ghost use Rattle.ipfix_message.specs.DataRecords;
+ghost use Rattle.ipfix_message.specs.TemplatesInForce;
+
+use crate::record::Template;
+use crate::template_record::Kind;
+use ipfix_wire::Spec;
+use std::marker::Model;
+
+/// A template in force, with the least length of its records at hand. Contracts see the template.
+#[derive(Drop)]
+pub struct TemplateInForce {
+    template: Template,
+    least: usize,
+}
+
+impl Model for TemplateInForce {
+    ghost use Rattle.std.specs.Prelude.{◌≡◌, ◌<◌};
+    ghost use Rattle.ipfix_message.specs.declared.record.Template.{Template};
+    ghost use Rattle.ipfix_message.specs.DataRecords;
+
+    ghost Value = { Template };
+
+    ghost view = { λ k. k.template };
+
+    ghost invariant = { λ k. (k.least ≡ DataRecords.least k.template.specs) × (0 < k.least) };
+}
+
+impl TemplateInForce {
+    pub fn new(template: Template, least: usize) -> Self
+        requires sum { least ≡ DataRecords.least template.specs }
+        requires positive { 0 < least }
+        ensures { result ≡ template }
+    {
+        TemplateInForce { template, least }
+    }
+
+    pub fn id(&self) -> u16
+        ensures { result ≡ self.now.id }
+    {
+        self.template.id
+    }
+
+    pub fn template(&self) -> &Template
+        ensures { result.now ≡ self.now }
+    {
+        &self.template
+    }
+
+    /// The least length of a record.
+    pub fn least(&self) -> usize
+        ensures sum { result ≡ DataRecords.least self.now.specs }
+        ensures positive { 0 < result }
+    {
+        self.least
+    }
+
+    pub fn is_of(&self, kind: Kind) -> bool
+        ensures { result ≡ TemplatesInForce.is_of kind self.now }
+    {
+        match kind {
+            Kind::Plain => self.template.scope == 0,
+            Kind::Options => self.template.scope != 0,
+        }
+    }
+
+    pub fn is_same(&self, other: &TemplateInForce) -> bool
+        ensures { result ≡ TemplatesInForce.same_template self.now other.now }
+    {
+        is_same_template(&self.template, &other.template)
+    }
+}
+
+fn is_same_list(specs: &[Spec], others: &[Spec]) -> bool
+    ensures { IsTrue result ↔ (specs.now ≡ others.now) }
+{
+    specs == others
+}
+
+fn is_same_template(template: &Template, other: &Template) -> bool
+    ensures { IsTrue result ↔ (template.now ≡ other.now) }
+{
+    template.id == other.id
+        && template.scope == other.scope
+        && is_same_list(template.specs.as_slice(), other.specs.as_slice())
+}

@@ -1,0 +1,4 @@
+mod Bits
+mod Listed
+mod Slashes
+mod Values

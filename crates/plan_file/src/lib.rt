@@ -1,0 +1,10 @@
+//! The plan of an aggregation (RFC 7015, section 5) as a text that people write: a TOML document.
+#![tactic(auto)]
+
+mod fault;
+mod fields;
+mod named;
+mod reading;
+
+pub use fault::PlanTextFault;
+pub use reading::read_plan;

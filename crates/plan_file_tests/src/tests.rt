@@ -1,0 +1,173 @@
+use flow_table::{Key, Method, PlanFault};
+use ipfix_wire::ElementId;
+use plan_file::{PlanTextFault, read_plan};
+use std::alloc::Global;
+use std::test::Fail;
+
+const BY_SOURCE: &str = "interval_ms = 60000
+method = \"start\"
+keys = [\"sourceIPv4Address\"]
+counters = [\"octetDeltaCount\"]
+";
+
+const BY_NETWORK: &str = "# a comment
+counters = ['packetDeltaCount', \"e0.1\"]
+max_spread = 2
+keys = [\"sourceIPv4Address/24\", \"protocolIdentifier\"]
+method = \"proportional\"
+interval_ms = 1_000
+";
+
+// Why a text is no plan.
+fn fault(alloc: Global, text: &str) -> Option<PlanTextFault> {
+    read_plan(alloc, text).err()
+}
+
+#[test]
+fn reads_a_plan(rt: HostRuntime) -> Result<(), Fail> {
+    let plan = read_plan(rt.alloc(), BY_SOURCE)?;
+    let source = Key {
+        element: ElementId::iana(8),
+        prefix: None,
+    };
+    assert_eq!(rt; plan.length(), 60_000);
+    assert_eq!(rt; plan.method(), Method::Start);
+    assert_eq!(rt; plan.max_spread(), 4096);
+    assert_eq!(rt; plan.keys(), [source].as_slice());
+    assert_eq!(rt; plan.counters(), [ElementId::iana(1)].as_slice());
+    Ok(())
+}
+
+#[test]
+fn reads_keys_in_any_order(rt: HostRuntime) -> Result<(), Fail> {
+    let plan = read_plan(rt.alloc(), BY_NETWORK)?;
+    let network = Key {
+        element: ElementId::iana(8),
+        prefix: Some(24),
+    };
+    let protocol = Key {
+        element: ElementId::iana(4),
+        prefix: None,
+    };
+    assert_eq!(rt; plan.length(), 1000);
+    assert_eq!(rt; plan.method(), Method::Proportional);
+    assert_eq!(rt; plan.max_spread(), 2);
+    assert_eq!(rt; plan.keys(), [network, protocol].as_slice());
+    assert_eq!(rt;
+        plan.counters(),
+        [ElementId::iana(2), ElementId::iana(1)].as_slice()
+    );
+    Ok(())
+}
+
+#[test]
+fn refuses_documents(rt: HostRuntime) -> Result<(), Fail> {
+    for (text, want) in [
+        ("interval_ms =", PlanTextFault::NotToml),
+        ("interval_ms = 1\ninterval_ms = 1", PlanTextFault::NotToml),
+        ("colour = 1", PlanTextFault::UnknownField),
+        ("", PlanTextFault::Missing),
+        ("interval_ms = 0", PlanTextFault::Missing),
+        ("interval_ms = -1", PlanTextFault::WrongKind),
+        ("interval_ms = 4294967296", PlanTextFault::WrongKind),
+        ("interval_ms = 1.0", PlanTextFault::WrongKind),
+        (
+            "interval_ms = 1\nmethod = \"middle\"",
+            PlanTextFault::WrongKind,
+        ),
+        ("interval_ms = 1\nmethod = 1", PlanTextFault::WrongKind),
+        ("method = \"middle\"\nkeys = 1", PlanTextFault::Missing),
+    ] {
+        assert_eq!(rt; fault(rt.alloc(), text), Some(want), "{text}");
+    }
+    Ok(())
+}
+
+// A plan with these keys and counters, and what else stands before them.
+fn with(alloc: Global, more: &str, keys: &str, counters: &str) -> Result<String, Fail> {
+    Ok(format!(in alloc;
+        "interval_ms = 1\nmethod = \"mid\"\n{more}\nkeys = {keys}\ncounters = {counters}\n"
+    )?)
+}
+
+#[test]
+fn refuses_values(rt: HostRuntime) -> Result<(), Fail> {
+    for (more, keys, counters, want) in [
+        ("max_spread = true", "[]", "[]", PlanTextFault::WrongKind),
+        ("", "[1]", "[]", PlanTextFault::WrongKind),
+        ("", "\"vlanId\"", "[]", PlanTextFault::WrongKind),
+        ("", "[\"nobody\"]", "[1]", PlanTextFault::WrongKind),
+        ("", "[\"nobody\"]", "[]", PlanTextFault::UnknownElement),
+        ("", "[]", "[\"nobody\"]", PlanTextFault::UnknownElement),
+        (
+            "",
+            "[]",
+            "[\"octetDeltaCount/8\"]",
+            PlanTextFault::UnknownElement,
+        ),
+        ("", "[]", "[]", PlanTextFault::Plan(PlanFault::CounterCount)),
+        (
+            "max_spread = 0",
+            "[]",
+            "[]",
+            PlanTextFault::Plan(PlanFault::Spread),
+        ),
+    ] {
+        let text = with(rt.alloc(), more, keys, counters)?;
+        assert_eq!(rt; fault(rt.alloc(), text.as_str()), Some(want), "{text}");
+    }
+    Ok(())
+}
+
+#[test]
+fn refuses_prefixes(rt: HostRuntime) -> Result<(), Fail> {
+    for (key, want) in [
+        ("sourceIPv4Address/024", Some(PlanTextFault::UnknownElement)),
+        ("sourceIPv4Address/+24", Some(PlanTextFault::UnknownElement)),
+        ("sourceIPv4Address/256", Some(PlanTextFault::UnknownElement)),
+        ("sourceIPv4Address/", Some(PlanTextFault::UnknownElement)),
+        ("sourceIPv4Address/2/4", Some(PlanTextFault::UnknownElement)),
+        (
+            "sourceIPv4Address/33",
+            Some(PlanTextFault::Plan(PlanFault::Prefix)),
+        ),
+        (
+            "sourceTransportPort/8",
+            Some(PlanTextFault::Plan(PlanFault::Prefix)),
+        ),
+        ("e0.8/0", None),
+        ("destinationIPv4Address/32", None),
+    ] {
+        let keys = format!(in rt.alloc(); "[\"{key}\"]")?;
+        let text = with(rt.alloc(), "", keys.as_str(), "[\"octetDeltaCount\"]")?;
+        assert_eq!(rt; fault(rt.alloc(), text.as_str()), want, "{key}");
+    }
+    Ok(())
+}
+
+#[test]
+fn a_length_of_0_makes_no_plan(rt: HostRuntime) -> Result<(), Fail> {
+    let text = "interval_ms = 0\nmethod = \"start\"\nkeys = []\ncounters = [\"octetDeltaCount\"]";
+    assert_eq!(rt;
+        fault(rt.alloc(), text),
+        Some(PlanTextFault::Plan(PlanFault::Length))
+    );
+    Ok(())
+}
+
+#[test]
+fn faults_have_numbers_and_names(rt: HostRuntime) -> Result<(), Fail> {
+    for (fault, number, name) in [
+        (PlanTextFault::NotToml, 1, "NotToml"),
+        (PlanTextFault::UnknownField, 2, "UnknownField"),
+        (PlanTextFault::Missing, 3, "Missing"),
+        (PlanTextFault::WrongKind, 4, "WrongKind"),
+        (PlanTextFault::UnknownElement, 5, "UnknownElement"),
+        (PlanTextFault::Plan(PlanFault::Length), 6, "Plan"),
+        (PlanTextFault::OutOfMemory, 7, "OutOfMemory"),
+    ] {
+        assert_eq!(rt; fault.number(), number);
+        assert_eq!(rt; fault.name(), name);
+    }
+    Ok(())
+}
