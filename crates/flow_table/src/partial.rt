@@ -120,6 +120,13 @@ impl Partial {
         result
     }
 
+    /// The fault that it answers, if any.
+    pub fn fault(&self) -> Option<TableFault>
+        ensures { result ≡ fault_of self.now }
+    {
+        self.fault
+    }
+
     /// The table of all records.
     ///
     /// The fault is the earlier one, or `OutOfMemory` where an allocation was refused.

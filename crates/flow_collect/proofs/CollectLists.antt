@@ -1,0 +1,137 @@
+-- What all threads left, put together.
+use Rattle.std.proofs.Common.{◌≡◌, ℕ, List, [], ◌∷◌, Bool, true, Option, None, Some, refl, sym, ◌∙◌, subst, map}
+use Rattle.std.specs.Prelude.{All, MatchOption, slice_get}
+use Rattle.std.specs.List.{AllZip}
+use Rattle.std.proofs.lemmas.List.Elements.{All-head, All-tail, All-append, All-cons, All-nil}
+use Rattle.ipfix_message.specs.declared.record.DataRecord.{DataRecord}
+use Rattle.ipfix_session.specs.Sources.{SourceView}
+use Rattle.ipfix_session.specs.declared.report.SessionReport.{SessionReport}
+use Rattle.flow_link.specs.Ends.{LinkName, ReceiverView}
+use Rattle.flow_link.specs.Parcels.{has_last}
+use Rattle.flow_link.specs.declared.settled.Settled.{Settled}
+use Rattle.flow_table.specs.Bags.{IsSameBag}
+use Rattle.flow_table.specs.Fitting.{FitsPlan}
+use Rattle.flow_table.specs.Plans.{PlanValue}
+use Rattle.flow_table.proofs.Bags.{too_large_bag}
+use Rattle.flow_collect.specs.Dealt.{IsPaired, IsNewLot, IsNewStart, IsDealt, start_link}
+use Rattle.flow_collect.specs.Finished.{HasTaken, lanes_of, ended_link, SettlesEnds, CameOver, FinishedAs, IsOverfull}
+use Rattle.flow_collect.specs.Headline.{Headline, all_of}
+use Rattle.flow_collect.specs.Lanes.{IsEnded, WorkerRan, lane_key, receivers_of}
+use Rattle.flow_collect.specs.Places.{Each3, Each4}
+use Rattle.flow_collect.specs.Promises.{IsSettled}
+use Rattle.flow_collect.specs.Refusals.{AreTooLarge}
+use Rattle.flow_collect.specs.Sessions.{WholeSession}
+use Rattle.flow_collect.specs.declared.collected.Collected.{Collected}
+use Rattle.flow_collect.specs.declared.collected.Pool.{Pool}
+use Rattle.flow_collect.specs.declared.session_thread.EndedSession.{EndedSession}
+use Rattle.flow_collect.specs.declared.session_thread.Start.{Start}
+use Rattle.flow_collect.specs.declared.worker.Lane.{Lane}
+use Rattle.flow_collect.specs.declared.worker.Lot.{Lot}
+use Rattle.flow_collect.specs.declared.worker.Worked.{Worked}
+use Rattle.flow_collect.proofs.GivenLists.{too_large_due}
+use Rattle.flow_collect.proofs.LaneLists.{taken_weighs}
+use Rattle.flow_collect.proofs.Runs.{told, run_headline}
+
+-- ---- workers
+
+ended_lanes : (lanes : List Lane) → All (λ (r : ReceiverView). has_last r.received ≡ true) (receivers_of lanes) → All IsEnded lanes
+ended_lanes [] h = All-nil IsEnded
+ended_lanes (lane ∷ lanes) h =
+    let P = λ (r : ReceiverView). has_last r.received ≡ true in
+    All-cons IsEnded lane lanes (All-head P lane.receiver (receivers_of lanes) h) (ended_lanes lanes (All-tail P lane.receiver (receivers_of lanes) h))
+
+has_taken : (plan : PlanValue) (links : List LinkName) (lot : Lot) (w : Worked) → WorkerRan lot w → IsNewLot plan links lot → HasTaken plan w
+has_taken plan links lot w ran new =
+    record {
+      plan_is = ran.took.plan_is ∙ new.plan_is;
+      ended = ended_lanes w.lanes.items ran.took.ended;
+      table = record { records = ran.took.records; stands = ran.took.stands; weighs = λ weight. ran.took.are_taken weight ∙ taken_weighs weight w.lanes.items };
+    }
+
+pub all_taken : (plan : PlanValue) (links : List LinkName) (lots : List Lot) (ws : List Worked) → AllZip WorkerRan lots ws → All (IsNewLot plan links) lots → All (HasTaken plan) ws
+all_taken plan links [] [] e h = All-nil (HasTaken plan)
+all_taken plan links [] (w ∷ ws) e h = absurd e
+all_taken plan links (l ∷ lots) [] e h = absurd e
+all_taken plan links (l ∷ lots) (w ∷ ws) e h =
+    let P = IsNewLot plan links in
+    All-cons (HasTaken plan) w ws (has_taken plan links l w e.0 (All-head P l lots h)) (all_taken plan links lots ws e.1 (All-tail P l lots h))
+
+-- what is said of the lanes' keys alone goes over to lanes with the same keys
+all_by_keys : (P : ℕ × LinkName → Type 0) (xs ys : List Lane) → map lane_key xs ≡ map lane_key ys → All (λ (lane : Lane). P (lane_key lane)) ys → All (λ (lane : Lane). P (lane_key lane)) xs
+all_by_keys P [] ys e h = All-nil (λ (lane : Lane). P (lane_key lane))
+all_by_keys P (x ∷ xs) [] e h = cc e
+all_by_keys P (x ∷ xs) (y ∷ ys) e h =
+    let Q = λ (lane : Lane). P (lane_key lane) in
+    let first : lane_key x ≡ lane_key y = cc e in
+    let rest : map lane_key xs ≡ map lane_key ys = cc e in
+    All-cons Q x xs (subst P (sym first) (All-head Q y ys h)) (all_by_keys P xs ys rest (All-tail Q y ys h))
+
+pub all_paired : (plan : PlanValue) (links : List LinkName) (lots : List Lot) (ws : List Worked) → AllZip WorkerRan lots ws → All (IsNewLot plan links) lots → All (IsPaired links) (lanes_of ws)
+all_paired plan links [] [] e h = All-nil (IsPaired links)
+all_paired plan links [] (w ∷ ws) e h = absurd e
+all_paired plan links (l ∷ lots) [] e h = absurd e
+all_paired plan links (l ∷ lots) (w ∷ ws) e h =
+    let P = IsNewLot plan links in
+    let first = All-head P l lots h in
+    All-append (IsPaired links) w.lanes.items (lanes_of ws)
+    (all_by_keys (λ k. slice_get links k.0 ≡ Some k.1) w.lanes.items l.lanes.items e.0.keys first.paired)
+    (all_paired plan links lots ws e.1 (All-tail P l lots h))
+
+-- ---- sessions
+
+module _ {S : Type 0} (seen : S → SourceView) where
+  pub links_same : (starts : List (Start S)) (ts : List (EndedSession S)) → AllZip (WholeSession seen) starts ts → map ended_link ts ≡ map start_link starts
+  links_same [] [] e = refl
+  links_same [] (t ∷ ts) e = absurd e
+  links_same (s ∷ starts) [] e = absurd e
+  links_same (s ∷ starts) (t ∷ ts) e =
+      let first : ended_link t ≡ start_link s = e.0.link_is in
+      let rest = links_same starts ts e.1 in cc
+
+  sessions_settled : (capacity : ℕ) (starts : List (Start S)) (ts : List (EndedSession S)) (ls : List Lane) (ks : List Settled)
+      → AllZip (WholeSession seen) starts ts → All (IsNewStart capacity) starts → Each3 SettlesEnds ts ls ks → All IsEnded ls
+      → Each4 (IsSettled seen capacity) (map (λ (s : Start S). s.source) starts) (map (λ (t : EndedSession S). t.source) ts) (map (λ (t : EndedSession S). t.report) ts) ks
+  sessions_settled capacity [] [] [] [] e n z h = tt
+  sessions_settled capacity [] (t ∷ ts) ls ks e n z h = absurd e
+  sessions_settled capacity (s ∷ starts) [] ls ks e n z h = absurd e
+  sessions_settled capacity (s ∷ starts) (t ∷ ts) (l ∷ ls) (k ∷ ks) e n z h =
+      let new = All-head (IsNewStart capacity) s starts n in (
+        record {
+          new = s.sender;
+          used = t.sender;
+          receiver = l.receiver;
+          sent = e.0;
+          room = new.1;
+          settles = z.0;
+          took_last = All-head IsEnded l ls h;
+        },
+        sessions_settled capacity starts ts ls ks e.1 (All-tail (IsNewStart capacity) s starts n) z.1 (All-tail IsEnded l ls h),
+      )
+  sessions_settled capacity starts ts ls ks e n z h = absurd z
+
+  came_settled : (plan : PlanValue) (capacity : ℕ) (sources : List S) (starts : List (Start S)) (lots : List Lot) (ts : List (EndedSession S)) (reports : List SessionReport) (links : List Settled) (afters : List S) (records : List DataRecord)
+      → IsDealt plan capacity sources starts lots → AllZip (WholeSession seen) starts ts → CameOver ts reports links afters records
+      → Each4 (IsSettled seen capacity) sources afters reports links
+  came_settled plan capacity sources starts lots ts reports links afters records d e came =
+      rw (sym d.sources_are, came.settled.sources_are, came.settled.reports_are) (sessions_settled capacity starts ts came.lanes links e d.new_starts came.settled.links_are came.ended)
+
+  finished : (plan : PlanValue) (pool : Pool) (sources : List S) (starts : List (Start S)) (lots : List Lot) (ts : List (EndedSession S)) (c : Collected S)
+      → IsDealt plan pool.capacity sources starts lots → AllZip (WholeSession seen) starts ts → FinishedAs plan ts c
+      → Headline seen sources plan pool c × FitsPlan plan c.table
+  finished plan pool sources starts lots ts c d e f =
+      let each = came_settled plan pool.capacity sources starts lots ts c.sessions.items c.links.items c.sources.items f.records d e f.came in
+      (run_headline seen sources plan pool c f.records each f.came.same f.table_is f.small, f.fits)
+
+  overfull : (plan : PlanValue) (capacity : ℕ) (sources : List S) (starts : List (Start S)) (lots : List Lot) (ts : List (EndedSession S))
+      → IsDealt plan capacity sources starts lots → AllZip (WholeSession seen) starts ts → IsOverfull plan ts → AreTooLarge seen plan sources
+  overfull plan capacity sources starts lots ts d e f =
+      let each = came_settled plan capacity sources starts lots ts f.reports f.links f.sources f.records d e f.came in
+      let all = told seen capacity sources f.sources f.reports f.links each in
+      let same : IsSameBag f.records (all_of all.records) = subst (λ (x : List DataRecord). IsSameBag f.records x) all.all f.came.same in
+      too_large_due seen plan sources f.sources f.reports all.records f.records all.given same f.large
+
+  pub answered : (plan : PlanValue) (pool : Pool) (sources : List S) (starts : List (Start S)) (lots : List Lot) (ts : List (EndedSession S)) (answer : Option (Collected S))
+      → IsDealt plan pool.capacity sources starts lots → AllZip (WholeSession seen) starts ts → MatchOption answer (IsOverfull plan ts) (λ c. FinishedAs plan ts c)
+      → MatchOption answer (AreTooLarge seen plan sources) (λ c. Headline seen sources plan pool c × FitsPlan plan c.table)
+  answered plan pool sources starts lots ts None d e f = overfull plan pool.capacity sources starts lots ts d e f
+  answered plan pool sources starts lots ts (Some c) d e f = finished plan pool sources starts lots ts c d e f

@@ -1,0 +1,12 @@
+pub mod PlaceLists
+pub mod GivenLists
+pub mod SameRuns
+pub mod Settled
+pub mod Runs
+pub mod Serials
+pub mod SendLists
+pub mod LaneLists
+pub mod ZipLists
+pub mod Deals
+pub mod SettleLists
+pub mod CollectLists

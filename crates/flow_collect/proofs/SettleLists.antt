@@ -1,0 +1,84 @@
+-- Settled links and merged tables, one more.
+use Rattle.std.proofs.Common.{◌≡◌, ℕ, List, [], ◌∷◌, ◌++◌, refl, ap, sym, ◌∙◌, append_assoc, append-nil, length, map, arith}
+use Rattle.std.specs.Prelude.{Some, slice_get, All, sum_by, IsPermutation}
+use Rattle.std.proofs.lemmas.List.{map_push}
+use Rattle.std.proofs.lemmas.List.Elements.{All-head, All-tail, All-append, All-nil}
+use Rattle.std.proofs.lemmas.List.Sorted.{sum_by-IsPermutation}
+use Rattle.std.proofs.lemmas.List.Sums.{sum_by-append, sum_by-cons}
+use Rattle.ipfix_message.specs.declared.record.DataRecord.{DataRecord}
+use Rattle.ipfix_session.specs.declared.report.SessionReport.{SessionReport}
+use Rattle.flow_link.specs.Parcels.{records_in}
+use Rattle.flow_link.specs.Settling.{settled_received}
+use Rattle.flow_link.specs.declared.settled.Settled.{Settled}
+use Rattle.flow_table.specs.Partials.{StandsFor}
+use Rattle.flow_table.specs.Plans.{PlanValue}
+use Rattle.flow_table.specs.declared.partial.Partial.{Partial}
+use Rattle.flow_collect.specs.Dealt.{IsPaired}
+use Rattle.flow_collect.specs.Finished.{HasTaken, lanes_of, ended_link, SettlesEnds, SettledAll, SettlesOne, CameOver}
+use Rattle.flow_collect.specs.Lanes.{StandsForLanes, IsEnded, lane_weight}
+use Rattle.flow_collect.specs.Places.{Each3}
+use Rattle.flow_collect.specs.Promises.{settled_records}
+use Rattle.flow_collect.specs.declared.session_thread.EndedSession.{EndedSession}
+use Rattle.flow_collect.specs.declared.worker.Lane.{Lane}
+use Rattle.flow_collect.specs.declared.worker.Worked.{Worked}
+use Rattle.flow_collect.proofs.Deals.{at_seam}
+use Rattle.flow_collect.proofs.ZipLists.{each3_more}
+
+-- the lane at a session's place has that session's link
+pub paired_here : {S : Type 0} (all ts rest rest' : List (EndedSession S)) (t : EndedSession S) (number : ℕ) (lane : Lane)
+    → all ≡ ts ++ rest → rest ≡ t ∷ rest' → number ≡ length ts → lane.session ≡ number → IsPaired (map ended_link all) lane → ended_link t ≡ lane.receiver.link
+paired_here all ts rest rest' t number lane e f n m p =
+    let whole : all ≡ ts ++ t ∷ rest' = e ∙ ap (λ r. ts ++ r) f in
+    let here : slice_get (map ended_link all) lane.session ≡ Some (ended_link t) = rw (whole, m, n) (at_seam ended_link ts t rest') in
+    cc
+
+pub settled_on : {S : Type 0} (ts : List (EndedSession S)) (ls : List Lane) (rs : List SessionReport) (ks : List Settled) (ss : List S) (t : EndedSession S) (lane : Lane) (rs' : List SessionReport) (ks' : List Settled) (ss' : List S)
+    → SettledAll ts ls rs ks ss → SettlesOne t lane rs ks ss rs' ks' ss' → SettledAll (ts ++ t ∷ []) (ls ++ lane ∷ []) rs' ks' ss'
+settled_on {S} ts ls rs ks ss t lane rs' ks' ss' all one =
+    record {
+      reports_are = one.reports_are ∙ (ap (λ r. r ++ t.report ∷ []) all.reports_are ∙ sym (map_push (λ (t : EndedSession S). t.report) ts t));
+      sources_are = one.sources_are ∙ (ap (λ r. r ++ t.source ∷ []) all.sources_are ∙ sym (map_push (λ (t : EndedSession S). t.source) ts t));
+      links_are = rw one.links_are (each3_more _ ts ls ks t lane one.link all.links_are one.settled);
+    }
+
+pub settled_end : {S : Type 0} (ts : List (EndedSession S)) (ls : List Lane) (rs : List SessionReport) (ks : List Settled) (ss : List S) (ts0 : List (EndedSession S)) (ls0 : List Lane)
+    → ts0 ≡ ts → ls0 ≡ ls → SettledAll ts ls rs ks ss → SettledAll ts0 ls0 rs ks ss
+settled_end {S} ts ls rs ks ss ts0 ls0 e f all = rw (e, f) all
+
+pub lanes_of_push : (ws : List Worked) (w : Worked) → lanes_of (ws ++ w ∷ []) ≡ lanes_of ws ++ w.lanes.items
+lanes_of_push [] w = append-nil w.lanes.items
+lanes_of_push (x ∷ ws) w = ap (λ r. x.lanes.items ++ r) (lanes_of_push ws w) ∙ sym (append_assoc x.lanes.items (lanes_of ws) w.lanes.items)
+
+pub stands_joined : (p q r : Partial) (xs ys : List Lane) → ((rs qs : List DataRecord) → StandsFor p rs → StandsFor q qs → StandsFor r (rs ++ qs)) → StandsForLanes p xs → StandsForLanes q ys → StandsForLanes r (xs ++ ys)
+stands_joined p q r xs ys merged a b =
+    record {
+      records = a.records ++ b.records;
+      stands = merged a.records b.records a.stands b.stands;
+      weighs = λ w. let s = sum_by-append w a.records b.records in let l = sum_by-append (lane_weight w) xs ys in omega (arith, a.weighs w, b.weighs w);
+    }
+
+-- the lanes weigh what the settled links weigh
+pub links_weigh : {S : Type 0} (w : DataRecord → ℕ) (ts : List (EndedSession S)) (ls : List Lane) (ks : List Settled)
+    → Each3 SettlesEnds ts ls ks → sum_by (lane_weight w) ls ≡ sum_by w (settled_records ks)
+links_weigh w [] [] [] e = refl
+links_weigh w (t ∷ ts) (l ∷ ls) (k ∷ ks) e =
+    let more = links_weigh w ts ls ks e.1 in
+    let here : sum_by w (records_in (settled_received k)) ≡ lane_weight w l = ap (λ ps. sum_by w (records_in ps)) e.0.received_is in
+    let a = sum_by-append w (records_in (settled_received k)) (settled_records ks) in
+    omega (arith, sum_by-cons (lane_weight w) l ls)
+links_weigh w ts ls ks e = absurd e
+
+pub stands_sorted : (p : Partial) (xs ys : List Lane) → IsPermutation xs ys → StandsForLanes p xs → StandsForLanes p ys
+stands_sorted p xs ys same s =
+    record { records = s.records; stands = s.stands; weighs = λ w. s.weighs w ∙ sym (sum_by-IsPermutation (lane_weight w) xs ys same) }
+
+pub lanes_ended : (plan : PlanValue) (ws : List Worked) → All (HasTaken plan) ws → All IsEnded (lanes_of ws)
+lanes_ended plan [] h = All-nil IsEnded
+lanes_ended plan (w ∷ ws) h =
+    let first = All-head (HasTaken plan) w ws h in
+    All-append IsEnded w.lanes.items (lanes_of ws) first.ended (lanes_ended plan ws (All-tail (HasTaken plan) w ws h))
+
+pub came_over : {S : Type 0} (ts : List (EndedSession S)) (lanes : List Lane) (reports : List SessionReport) (links : List Settled) (sources : List S) (p : Partial)
+    → SettledAll ts lanes reports links sources → All IsEnded lanes → (s : StandsForLanes p lanes) → CameOver ts reports links sources s.records
+came_over ts lanes reports links sources p settled ended s =
+    record { lanes = lanes; settled = settled; ended = ended; same = λ w. s.weighs w ∙ links_weigh w ts lanes links settled.links_are }

@@ -1,0 +1,22 @@
+use Rattle.std.proofs.Common.{◌≡◌, length, sym, ◌∙◌, subst, refl, arith}
+use Rattle.flow_link.specs.Ends.{ReceiverView, IsNewLink}
+use Rattle.flow_collect.proofs.dealing.deal_one.Goals as goal
+
+pub returns : goal.returns
+returns g c =
+    let place : c.len-session.result ≡ length c.args.starts.now.items = omega (arith, c.args.starts.now.ok.0) in
+    record {
+      start = record { session = c.len-session.result; source = c.args.source; sender = c.in_ok-sender.sender };
+      lane = c.new_lane-lane.result;
+      first = c.in-Some.lot;
+      dealt = record c.in-Some.lot { lanes = c.push.new.self };
+      others = c.pop_front.new.self.items;
+      source_is = refl;
+      link = subst (λ (r : ReceiverView). IsNewLink c.args.capacity c.in_ok-sender.sender r) (sym c.new_lane-lane.ensures.1) c.in_ok-sender.ensures;
+      session_is = c.new_lane-lane.ensures.0 ∙ place;
+      starts_are = c.in_ok-push_back-2.ensures.items;
+      lots_were = c.in-Some.ensures.items;
+      lots_are = c.in_ok-push_back.ensures.items;
+      lanes_are = c.in_ok-push.ensures.items;
+      partial_is = refl;
+    }

@@ -1,0 +1,43 @@
+use Rattle.std.proofs.Common.{sym, subst, map}
+use Rattle.std.specs.Prelude.{All}
+use Rattle.std.proofs.lemmas.List.Sorted.{All-permutation}
+use Rattle.flow_table.specs.Fitting.{FitsPlan}
+use Rattle.flow_table.specs.Plans.{PlanValue}
+use Rattle.flow_table.specs.Tables.{IsTable, IsTooLarge}
+use Rattle.flow_collect.specs.Dealt.{IsPaired}
+use Rattle.flow_collect.specs.Finished.{ended_link}
+use Rattle.flow_collect.specs.Lanes.{StandsForLanes, IsEnded}
+use Rattle.flow_collect.proofs.SettleLists.{came_over, lanes_ended}
+use Rattle.flow_collect.proofs.settling.finishing.finish_all.Goals as goal
+
+pub settle_all-requires : goal.settle_all-requires
+settle_all-requires g c =
+    let P = IsPaired (map ended_link c.args.joined.sessions.items) in
+    subst (All P) (sym c.from_vec.ensures.items) (All-permutation P _ _ c.in_ok-gathered.ensures.lanes c.requires.paired)
+
+pub returns-in-Err-SumTooLarge : goal.returns-in-Err-SumTooLarge
+returns-in-Err-SumTooLarge g c = λ plan all.
+    let ended = subst (All IsEnded) (sym c.from_vec.ensures.items) (All-permutation IsEnded _ _ c.in_ok-gathered.ensures.lanes (lanes_ended plan _ all)) in
+    let table = subst (StandsForLanes c.in_ok-gathered.gathered.partial) (sym c.from_vec.ensures.items) c.in_ok-gathered.ensures.table in
+    let is = c.in_ok-gathered.ensures.plan plan all in
+    record {
+      reports = c.in_ok-parts.parts.sessions.items;
+      links = c.in_ok-parts.parts.links.items;
+      sources = c.in_ok-parts.parts.sources.items;
+      records = table.records;
+      came = came_over _ _ _ _ _ _ c.in_ok-parts.ensures ended table;
+      large = subst (λ (p : PlanValue). IsTooLarge p table.records) is (c.in-Err-SumTooLarge.ensures.large table.records table.stands c.in-Err-SumTooLarge.field-0-is);
+    }
+
+pub returns : goal.returns
+returns g c = λ plan all.
+    let ended = subst (All IsEnded) (sym c.from_vec.ensures.items) (All-permutation IsEnded _ _ c.in_ok-gathered.ensures.lanes (lanes_ended plan _ all)) in
+    let table = subst (StandsForLanes c.in_ok-gathered.gathered.partial) (sym c.from_vec.ensures.items) c.in_ok-gathered.ensures.table in
+    let is = c.in_ok-gathered.ensures.plan plan all in
+    record {
+      records = table.records;
+      came = came_over _ _ _ _ _ _ c.in_ok-parts.ensures ended table;
+      table_is = subst (λ (p : PlanValue). IsTable p table.records c.in-Ok.table) is (c.in-Ok.ensures.table table.records table.stands);
+      small = subst (λ (p : PlanValue). IsTooLarge p table.records → ⊥) is (c.in-Ok.ensures.small table.records table.stands);
+      fits = subst (λ (p : PlanValue). FitsPlan p c.in-Ok.table) is (c.in-Ok.ensures.fits table.records table.stands);
+    }

@@ -1,0 +1,20 @@
+use Rattle.std.proofs.Common.{◌≡◌, List, ◌++◌}
+use Rattle.std.specs.Prelude.{All}
+use Rattle.std.specs.VecDeque.{deque_len}
+use Rattle.flow_table.specs.Partials.{plan_of}
+use Rattle.flow_collect.specs.Finished.{HasTaken, lanes_of}
+use Rattle.flow_collect.specs.Lanes.{StandsForLanes}
+use Rattle.flow_collect.specs.declared.worker.Worked.{Worked}
+use Rattle.flow_collect.proofs.settling.gathering.merge_all.Given as goal
+
+abbrev pub invariant-loop-other : goal.invariant-loop-other
+invariant-loop-other l =
+    (ws : List Worked)
+    × (l.fn.worked.items ≡ ws ++ l.worked.items)
+    × (l.lanes.items ≡ lanes_of ws)
+    × All (HasTaken (plan_of l.partial)) l.worked.items
+    × (plan_of l.partial ≡ plan_of l.initial.partial)
+    × StandsForLanes l.partial l.lanes.items
+
+abbrev pub decreases-loop-other : goal.decreases-loop-other
+decreases-loop-other l = deque_len l.worked

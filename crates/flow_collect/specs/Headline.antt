@@ -1,0 +1,86 @@
+-- The headline: each session's worker has received over its link exactly the data records that RFC 7011 gives for that
+-- session's octets up to their end or first fault, each once, in export order, nothing after; and the table is the
+-- aggregate of RFC 7015 of all these records, taken on one thread.
+--
+-- It has three parts: what was received, what was given, and what was added up.
+use Rattle.std.specs.Prelude.{◌≡◌, ℕ, ◌^◌, List, [], ◌∷◌, ◌++◌}
+use Rattle.std.specs.List.{AllZip, flat_map}
+use Rattle.ipfix_message.specs.declared.record.DataRecord.{DataRecord}
+use Rattle.ipfix_session.specs.Drives.{IsGiven}
+use Rattle.ipfix_session.specs.Sources.{SourceView}
+use Rattle.ipfix_session.specs.declared.report.SessionReport.{SessionReport}
+use Rattle.flow_link.specs.Parcels.{items}
+use Rattle.flow_link.specs.Settling.{settled_capacity, settled_sent, settled_received}
+use Rattle.flow_link.specs.declared.parcel.Parcel.TheVariants.{Last}
+use Rattle.flow_link.specs.declared.settled.Settled.{Settled}
+use Rattle.flow_table.specs.Plans.{PlanValue}
+use Rattle.flow_table.specs.Tables.{IsTable, IsTooLarge}
+use Rattle.flow_table.specs.declared.table.Table.{Table}
+use Rattle.flow_collect.specs.Places.{Each4}
+use Rattle.flow_collect.specs.declared.collected.Pool.{Pool}
+use Rattle.flow_collect.specs.declared.collected.Collected.{Collected}
+use Rattle.flow_collect.specs.declared.collected.Serial.{Serial}
+
+-- ---- what was received
+
+-- the worker has received exactly these records over the session's link, each once, in export order, nothing after
+pub record IsReceived (capacity : ℕ) (link : Settled) (records : List DataRecord) : Type 0 where
+  -- the link has room for that many parcels
+  pub capacity_is : settled_capacity link ≡ capacity
+  -- the session sent the records as Items, and then Last
+  pub sent_is : settled_sent link ≡ items records ++ Last ∷ []
+  -- the worker took the same, in the same order
+  pub received_is : settled_received link ≡ items records ++ Last ∷ []
+  -- and nothing is left in the link
+  pub left_is : link.left.items ≡ []
+
+-- ---- what was given
+
+-- the records are exactly those that RFC 7011 gives for the octets of the session's source up to their end or first fault,
+-- in at most 2^40 reads of at most 65,536 octets each. `IsGiven` says: the source held these octets, and then what it holds
+-- now; the records are all of their messages before the first malformed one, and the report tells of these; a fault stands
+-- in the report only if it is due (`IsDue`). Memory that ran out in the session is the one exception: then the records, and
+-- the report, are of the first of these messages. No report has SinkClosed
+abbrev pub IsGivenBy : {S : Type 0} → (S → SourceView) → S → S → SessionReport → List DataRecord → Type 0
+IsGivenBy seen before after report records = IsGiven (2 ^ 40) 65536 (seen before) (seen after) report records
+
+-- ---- what was added up
+
+-- the table is the aggregate of these records, taken on one thread
+pub record IsAddedUp (plan : PlanValue) (records : List DataRecord) (table : Table) : Type 0 where
+  -- its rows are those of RFC 7015 (section 5), with the sums and the numbers of flows of all these records, and its tally
+  -- counts them
+  pub table_is : IsTable plan records table
+  -- none of these numbers is 2^64 or more
+  pub not_too_large : IsTooLarge plan records → ⊥
+
+-- ---- the headline
+
+-- the records of all sessions, session after session
+abbrev pub all_of : List (List DataRecord) → List DataRecord
+all_of records = flat_map (λ q. q) records
+
+module _ {S : Type 0} (seen : S → SourceView) where
+  -- of a run in threads, with any number of workers and links of any capacity
+  pub record Headline (sources : List S) (plan : PlanValue) (pool : Pool) (c : Collected S) : Type 0 where
+    -- for each session there are records
+    pub records : List (List DataRecord)
+    -- which its worker received over its link, and nothing else
+    pub received : AllZip (IsReceived pool.capacity) c.links.items records
+    -- which are those of the octets that its source gave, as its report tells
+    pub given : Each4 (IsGivenBy seen) sources c.sources.items c.sessions.items records
+    -- and of which all together the table is the aggregate
+    pub added_up : IsAddedUp plan (all_of records) c.table
+
+  -- of a run on one thread, which has no links
+  pub record SerialHeadline (sources : List S) (plan : PlanValue) (s : Serial S) : Type 0 where
+    -- for each session there are records
+    pub records : List (List DataRecord)
+    -- which are those of the octets that its source gave, as its report tells
+    pub given : Each4 (IsGivenBy seen) sources s.sources.items s.sessions.items records
+    -- and of which all together the table is the aggregate
+    pub added_up : IsAddedUp plan (all_of records) s.table
+
+-- a run in threads, without its links
+abbrev pub without_links : {S : Type 0} → Collected S → Serial S
+without_links c = record { sessions = c.sessions; sources = c.sources; table = c.table }

@@ -1,0 +1,15 @@
+-- what public contracts cite
+pub mod Places
+pub mod Headline
+pub mod Texts
+pub mod Refusals
+pub mod Faults
+-- what is known inside a run
+pub mod Adds
+pub mod Serials
+pub mod Promises
+pub mod Sends
+pub mod Sessions
+pub mod Lanes
+pub mod Dealt
+pub mod Finished

@@ -1,0 +1,95 @@
+//! Collecting in threads.
+
+ghost use Rattle.std.specs.Prelude.{◌≡◌, Err, IfOk, IfErr, IfSome, IfNone, IsErrOf, MatchOption, vec_len};
+ghost use Rattle.flow_table.specs.Fitting.{FitsPlan};
+ghost use Rattle.flow_collect.specs.Dealt.{IsCapacity};
+ghost use Rattle.flow_collect.specs.Headline.{Headline};
+ghost use Rattle.flow_collect.specs.Refusals.{fault_of_arguments, AreTooLarge, IsLate};
+
+use crate::collected::{Collected, MAX_SESSIONS, MAX_WORKERS, Pool};
+use crate::dealing::deal;
+use crate::fault::CollectFault;
+use crate::gate::Gate;
+use crate::run_fault::RunFault;
+use crate::settling::finish_all;
+use crate::threads::in_threads;
+use flow_link::MAX_CAPACITY;
+use flow_table::Plan;
+use ipfix_session::Source;
+use std::alloc::Global;
+use std::sync::Wait;
+use std::thread::Threads;
+
+/// Runs each source as a session in a thread of its own, and adds up their records in the threads of
+/// the workers. Session i, counted from 0, sends over a link of its own to worker `i mod workers`.
+///
+/// It reads a source at most [`READS`](crate::READS) times. A session's own fault, want of memory
+/// included, stands in its report. Each thread has ended when it returns.
+///
+/// The fault is the first of `Workers`, `Sessions` and `Link` that the arguments have, and then nothing
+/// was read; else the first of `NoThread`, `OutOfMemory` and `SumTooLarge` that came up. A fault drops
+/// the sources.
+pub fn collect<S: Source + Send + Drop, G: Gate + Sync, R: Threads + Wait + Sync>(
+    rt: &R,
+    alloc: Global,
+    sources: Vec<S>,
+    plan: &Plan,
+    pool: Pool,
+    gate: &G,
+) -> Result<Collected<S>, CollectFault>
+    // The headline.
+    ensures ok { IfOk result (λ c. Headline S.seen sources.items plan.now pool c) }
+    // The table fits the plan, as an export asks.
+    ensures fits { IfOk result (λ c. FitsPlan plan.now c.table) }
+    // `Workers`, `Sessions` and `Link` exactly for their arguments, in this order.
+    ensures arguments { IfSome (fault_of_arguments pool (vec_len sources)) (λ fault. result ≡ Err fault) }
+    ensures others { IfNone (fault_of_arguments pool (vec_len sources)) (IfErr result IsLate) }
+    // Only if the records of the sources' whole texts are too large.
+    ensures too_large { IsErrOf result CollectFault.SumTooLarge → AreTooLarge S.seen plan.now sources.items }
+{
+    if let Some(fault) = judge(pool, sources.len()) {
+        return Err(fault);
+    }
+    match collect_judged(rt, alloc, sources, plan, pool, gate) {
+        Ok(Some(collected)) => Ok(collected),
+        Ok(None) => Err(CollectFault::SumTooLarge),
+        Err(RunFault::NoThread) => Err(CollectFault::NoThread),
+        Err(RunFault::OutOfMemory) => Err(CollectFault::OutOfMemory),
+    }
+}
+
+// The first fault of the arguments.
+fn judge(pool: Pool, sessions: usize) -> Option<CollectFault>
+    ensures fault { result ≡ fault_of_arguments pool sessions }
+    ensures fits { IfNone result (IsCapacity pool.capacity) }
+{
+    if pool.workers == 0 || pool.workers > MAX_WORKERS {
+        return Some(CollectFault::Workers);
+    }
+    if sessions == 0 || sessions > MAX_SESSIONS {
+        return Some(CollectFault::Sessions);
+    }
+    if pool.capacity == 0 || pool.capacity > MAX_CAPACITY {
+        return Some(CollectFault::Link);
+    }
+    None
+}
+
+// The same for arguments without a fault. `None` if a sum is too large.
+fn collect_judged<S: Source + Send + Drop, G: Gate + Sync, R: Threads + Wait + Sync>(
+    rt: &R,
+    alloc: Global,
+    sources: Vec<S>,
+    plan: &Plan,
+    pool: Pool,
+    gate: &G,
+) -> Result<Option<Collected<S>>, RunFault>
+    requires { IsCapacity pool.capacity }
+    ensures { IfOk result (λ answer. MatchOption answer (AreTooLarge S.seen plan.now sources.items)
+        (λ c. Headline S.seen sources.items plan.now pool c × FitsPlan plan.now c.table)) }
+{
+    let dealt = deal(alloc, sources, plan, pool)?;
+    let joined = in_threads(rt, alloc, gate, dealt)?;
+    let answer = finish_all(alloc, joined)?;
+    Ok(answer)
+}

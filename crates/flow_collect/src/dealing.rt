@@ -1,0 +1,115 @@
+//! A link for each session, whose receiving ends are dealt out to the workers.
+
+ghost use Rattle.std.specs.Prelude.{◌≡◌, [], All, IfOk, OnOk, IfSome};
+ghost use Rattle.flow_link.specs.Ends.{IsNewLink};
+ghost use Rattle.flow_collect.specs.Dealt.{IsCapacity, IsDealt, IsNewLot, DealsOne};
+
+use crate::collected::Pool;
+use crate::run_fault::RunFault;
+use crate::session_thread::Start;
+use crate::worker::{Lane, Lot};
+use flow_link::{LinkFault, Receiver, Sender, link};
+use flow_table::{Partial, Plan};
+use std::alloc::Global;
+use std::collections::VecDeque;
+
+/// What the threads are given: that of the sessions, in order, and that of the workers.
+#[derive(Drop)]
+pub struct Dealt<S> {
+    pub starts: VecDeque<Start<S>>,
+    pub lots: VecDeque<Lot>,
+}
+
+/// Makes a link for each source. The receiving ends go to the workers by turns.
+pub fn deal<S: Drop>(
+    alloc: Global,
+    sources: Vec<S>,
+    plan: &Plan,
+    pool: Pool,
+) -> Result<Dealt<S>, RunFault>
+    requires { IsCapacity pool.capacity }
+    ensures { IfOk result (λ d. IsDealt plan.now pool.capacity sources.items d.starts.items d.lots.items) }
+{
+    let mut sources = VecDeque::from_vec(sources);
+    let mut starts = VecDeque::new(alloc);
+    let mut lots = empty_lots(alloc, plan, pool.workers)?;
+    while let Some(source) = sources.pop_front() {
+        deal_one(alloc, pool.capacity, source, &mut starts, &mut lots)?;
+    }
+    Ok(Dealt { starts, lots })
+}
+
+fn empty_lots(alloc: Global, plan: &Plan, workers: usize) -> Result<VecDeque<Lot>, RunFault>
+    ensures { IfOk result (λ lots. All (IsNewLot plan.now []) lots.items) }
+{
+    let mut lots = VecDeque::new(alloc);
+    for worker in 0..workers {
+        let lot = empty_lot(alloc, plan, worker)?;
+        lots.push_back(lot)?;
+    }
+    Ok(lots)
+}
+
+fn empty_lot(alloc: Global, plan: &Plan, worker: usize) -> Result<Lot, RunFault>
+    ensures { IfOk result (λ lot. IsNewLot plan.now [] lot) }
+{
+    let Ok(partial) = Partial::new(alloc, plan) else {
+        return Err(RunFault::OutOfMemory);
+    };
+    Ok(Lot {
+        worker,
+        lanes: Vec::new(alloc),
+        partial,
+    })
+}
+
+// A new link: its sender goes to the source, and its receiver to the first lot, which goes to the
+// end.
+fn deal_one<S: Drop>(
+    alloc: Global,
+    capacity: usize,
+    source: S,
+    starts: &mut VecDeque<Start<S>>,
+    lots: &mut VecDeque<Lot>,
+) -> Result<(), RunFault>
+    requires { IsCapacity capacity }
+    ensures { OnOk result (DealsOne capacity source starts.old.items lots.old.items starts.new.items lots.new.items) }
+{
+    let (sender, receiver) = new_link(alloc, capacity)?;
+    let Some(mut lot) = lots.pop_front() else {
+        return Err(RunFault::NoThread);
+    };
+    let session = starts.len();
+    let lane = new_lane(session, receiver);
+    let start = Start {
+        session,
+        source,
+        sender,
+    };
+    lot.lanes.push(lane)?;
+    lots.push_back(lot)?;
+    starts.push_back(start)?;
+    Ok(())
+}
+
+fn new_link(alloc: Global, capacity: usize) -> Result<(Sender, Receiver), RunFault>
+    requires { IsCapacity capacity }
+    ensures { IfOk result (λ ends. IsNewLink capacity ends.0 ends.1) }
+{
+    match link(alloc, capacity) {
+        Ok(ends) => Ok(ends),
+        Err(LinkFault::Capacity) => unreachable!(),
+        Err(LinkFault::OutOfMemory) => Err(RunFault::OutOfMemory),
+    }
+}
+
+fn new_lane(session: usize, receiver: Receiver) -> Lane
+    requires { receiver.received ≡ [] }
+    ensures { (result.session ≡ session) × (result.receiver ≡ receiver) }
+{
+    Lane {
+        session,
+        receiver,
+        last: false,
+    }
+}

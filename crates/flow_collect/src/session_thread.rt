@@ -1,0 +1,60 @@
+//! A session's thread: what its source gives goes over its link.
+
+ghost use Rattle.std.specs.Prelude.{◌≡◌, []};
+ghost use Rattle.flow_collect.specs.Sessions.{SessionRan};
+
+use crate::collected::READS;
+use crate::gate::Gate;
+use crate::link_sink::LinkSink;
+use flow_link::Sender;
+use ipfix_session::{SessionReport, Source, drive};
+use std::alloc::Global;
+use std::sync::Wait;
+
+/// What a session's thread is given.
+#[derive(Drop)]
+pub struct Start<S> {
+    /// The session's number, counted from 0.
+    pub session: usize,
+    pub source: S,
+    pub sender: Sender,
+}
+
+/// What a session's thread hands back.
+#[derive(Drop)]
+pub struct EndedSession<S> {
+    pub report: SessionReport,
+    pub source: S,
+    pub sender: Sender,
+    /// Whether the worker could take everything: no record came back, and Last was sent.
+    pub whole: bool,
+}
+
+/// Runs a session to its end, and then sends Last, whatever ended it.
+pub fn run_session<S: Source, G: Gate, R: Wait>(
+    rt: &R,
+    alloc: Global,
+    gate: &G,
+    start: Start<S>,
+) -> EndedSession<S>
+    requires { start.sender.sent ≡ [] }
+    ensures { SessionRan S.seen start result }
+{
+    let Start {
+        session,
+        source,
+        sender,
+    } = start;
+    let mut source = source;
+    let mut sink = LinkSink::new(rt, gate, session, sender);
+    let report = drive(alloc, &mut source, &mut sink, READS);
+    let took_all = sink.refused == 0;
+    let sent = sink.send_last();
+    let whole = sent && took_all;
+    EndedSession {
+        report,
+        source,
+        sender: sink.sender,
+        whole,
+    }
+}

@@ -1,0 +1,48 @@
+//! The answer of a run.
+
+ghost use Rattle.std.specs.Prelude.{◌≡◌, All, IfOk, MatchOption, map};
+ghost use Rattle.flow_table.specs.Plans.{PlanValue};
+ghost use Rattle.flow_collect.specs.Dealt.{IsPaired};
+ghost use Rattle.flow_collect.specs.Finished.{HasTaken, ended_link, lanes_of, FinishedAs, IsOverfull};
+
+use super::gathering::gather;
+use super::pairing::settle_all;
+use super::{Gathered, Parts};
+use crate::collected::Collected;
+use crate::run_fault::RunFault;
+use crate::threads::Joined;
+use flow_table::TableFault;
+use std::alloc::Global;
+use std::collections::VecDeque;
+
+/// Settles the links and merges the tables. `None` if a sum is too large.
+pub fn finish_all<S: Drop>(
+    alloc: Global,
+    joined: Joined<S>,
+) -> Result<Option<Collected<S>>, RunFault>
+    requires taken { (plan : PlanValue) × All (HasTaken plan) joined.worked.items }
+    requires paired { All (IsPaired (map ended_link joined.sessions.items)) (lanes_of joined.worked.items) }
+    ensures { (plan : PlanValue) → All (HasTaken plan) joined.worked.items
+        → IfOk result (λ answer. MatchOption answer (IsOverfull plan joined.sessions.items) (λ c. FinishedAs plan joined.sessions.items c)) }
+{
+    let Joined { sessions, worked } = joined;
+    let gathered = gather(worked)?;
+    let Gathered { lanes, partial } = gathered;
+    let parts = settle_all(alloc, sessions, VecDeque::from_vec(lanes))?;
+    let table = match partial.finish() {
+        Ok(table) => table,
+        Err(TableFault::SumTooLarge) => return Ok(None),
+        Err(TableFault::OutOfMemory) => return Err(RunFault::OutOfMemory),
+    };
+    let Parts {
+        sessions,
+        links,
+        sources,
+    } = parts;
+    Ok(Some(Collected {
+        sessions,
+        links,
+        sources,
+        table,
+    }))
+}
