@@ -7,7 +7,7 @@ mod fault;
 mod laws;
 mod serial;
 
-pub use collected::{Collected, MAX_SESSIONS, MAX_WORKERS, Pool, READS, Serial};
+pub use collected::{Collected, MAX_SESSIONS, MAX_WORKERS, Pool, READ_LIMIT, Serial};
 pub use fault::CollectFault;
 pub use laws::{
     delivered_are_the_records, first_of_whole_texts, links_aside, reports_are_of_the_octets,

@@ -6,9 +6,11 @@ use ipfix_session::{FromReader, ScriptSource, Source};
 use std::alloc::Global;
 use std::process::Abort;
 use std::test::*;
+use worked_examples::faults::VERSION_9;
+use worked_examples::flows::*;
 
 /// A source for each text.
-fn sources_of(alloc: Global, texts: &[&[&str]]) -> Result<Vec<ScriptSource>, Fail> {
+fn sources_of(alloc: Global, texts: &[&[&[u8]]]) -> Result<Vec<ScriptSource>, Fail> {
     let mut sources = Vec::new(alloc);
     for text in texts {
         sources.push(source_of(alloc, text)?)?;
@@ -50,7 +52,7 @@ fn two_sessions_of_five(rt: HostRuntime) -> Result<(), Fail> {
 #[test]
 fn three_sessions_one_cut_short(rt: HostRuntime) -> Result<(), Fail> {
     let alloc: Global = rt.alloc();
-    let whole: &[&str] = &[ONE_FLOW, NEXT_FLOW];
+    let whole: &[&[u8]] = &[ONE_FLOW, NEXT_FLOW];
     let sources = sources_of(alloc, &[whole, &[ONE_FLOW, CUT_FLOW], whole])?;
     let run = collected(alloc, sources)??;
     assert_eq!(rt;
@@ -70,8 +72,8 @@ fn a_read_that_fails(rt: HostRuntime) -> Result<(), Fail> {
         (Some(1), 80, (1, 1, Some(15)), "0,59999,192.0.2.1,7500,5;"),
         (None, 0, (0, 0, Some(15)), "0,59999,192.0.2.1,6000,4;"),
     ] {
-        let whole: &[&str] = &[ONE_FLOW, NEXT_FLOW];
-        let text = octets_of(alloc, whole)?;
+        let whole: &[&[u8]] = &[ONE_FLOW, NEXT_FLOW];
+        let text = text_of(alloc, whole)?;
         let mut sources = Vec::new(alloc);
         sources.push(source_of(alloc, whole)?)?;
         sources.push(ScriptSource::new(text, 1, interrupt_at, Some(fail_at)))?;
@@ -86,12 +88,12 @@ fn a_read_that_fails(rt: HostRuntime) -> Result<(), Fail> {
 #[test]
 fn sum_at_the_limit(rt: HostRuntime) -> Result<(), Fail> {
     let alloc: Global = rt.alloc();
-    let together = sources_of(alloc, &[&[LARGEST], &[ONE_MORE]])?;
+    let together = sources_of(alloc, &[&[LARGEST_FLOW], &[ONE_OCTET_FLOW]])?;
     assert_eq!(rt;
         collected(alloc, together)?.err(),
         Some(CollectFault::SumTooLarge)
     );
-    let apart = sources_of(alloc, &[&[LARGEST], &[A_MINUTE_LATER]])?;
+    let apart = sources_of(alloc, &[&[LARGEST_FLOW], &[ONE_OCTET_FLOW_LATER]])?;
     let run = collected(alloc, apart)??;
     assert_eq!(rt;
         lines_of(alloc, &run.table)?.as_str(),
@@ -150,7 +152,7 @@ fn left_in(source: &mut ScriptSource) -> usize {
 #[test]
 fn sources_come_back(rt: HostRuntime) -> Result<(), Fail> {
     let alloc: Global = rt.alloc();
-    let malformed = octets_of(alloc, &[WRONG_VERSION, ONE_FLOW])?;
+    let malformed = text_of(alloc, &[VERSION_9, ONE_FLOW])?;
     let mut sources = Vec::new(alloc);
     sources.push(ScriptSource::new(malformed, 16, None, None))?;
     sources.push(source_of(alloc, &[ONE_FLOW])?)?;
@@ -166,10 +168,9 @@ fn sources_come_back(rt: HostRuntime) -> Result<(), Fail> {
 #[test]
 fn over_readers(rt: HostRuntime) -> Result<(), Fail> {
     let alloc: Global = rt.alloc();
-    let text = octets_of(alloc, &[FIVE_FLOWS])?;
     let mut sources = Vec::new(alloc);
-    sources.push(FromReader::new(text.as_slice()))?;
-    sources.push(FromReader::new(text.as_slice()))?;
+    sources.push(FromReader::new(FIVE_FLOWS))?;
+    sources.push(FromReader::new(FIVE_FLOWS))?;
     let run = collect_serial(alloc, sources, &by_source(alloc)?)?;
     assert_eq!(rt;
         lines_of(alloc, &run.table)?.as_str(),
