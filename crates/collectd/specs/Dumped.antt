@@ -17,7 +17,7 @@ pub record Dumps (before after : SourceView) (old new : Option (List ℕ)) (repo
   pub given : IsGiven READ_LIMIT READ_SIZE before after report records
   pub written : Appends old new (dump_lines records)
 
--- where a source tells its octets, the lines of all of them were written, and no fault was met
+-- if a source tells its octets, the lines of all of them were written, and no fault was met
 abbrev pub DumpsAll : Option (List ℕ) → Option (List ℕ) → Option (List ℕ) → Type 0
 DumpsAll None old new = Unit {0}
 DumpsAll (Some whole) old new = (stop_of whole ≡ Clean) × Appends old new (dump_lines (records_of whole))

@@ -1,6 +1,7 @@
+-- what public contracts cite
 pub mod DumpLines
-pub mod Faults
-pub mod ReportLines
 pub mod Dumped
-pub mod Statuses
 pub mod Runs
+pub mod ReportLines
+pub mod Statuses
+pub mod Faults

@@ -5,7 +5,7 @@ ghost use Rattle.std.specs.Io.KnownBytes.{Appends};
 ghost use Rattle.flow_table.specs.Fitting.{FitsPlan};
 ghost use Rattle.flow_collect.specs.Headline.{Headline};
 ghost use Rattle.flow_collect.specs.Texts.{HasNoFault};
-ghost use Rattle.collectd.specs.Runs.{export_text, Collects, WritesTable, WritesWholeTable};
+ghost use Rattle.collectd.specs.Runs.{export_text, WritesTable, WritesWholeTable};
 
 use crate::reports::{write_collect_fault, write_export_fault, write_reports, write_tally};
 use crate::run_fault::RunFault;

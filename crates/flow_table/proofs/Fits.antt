@@ -248,7 +248,7 @@ no_keys_fit plan k key some = absurd (no_flows plan k key some)
 
 key_fits : (plan : PlanValue) (r : DataRecord) (key q : List Cell) (reading : Reading) → ReadsAs plan r key reading → class_of plan r ≡ classes.Used → key_of plan r ≡ Some q → FitsKeys plan.keys q
 key_fits plan r key q (readings.Left class) reads used found = absurd (reads.1 (sym reads.0 ∙ used))
-key_fits plan r key q (readings.Used start end) reads used found =
+key_fits plan r key q (readings.Used span) reads used found =
     let cells = reads.0.cells in
     let same : key ≡ q = cc in
     subst (FitsKeys plan.keys) same reads.1

@@ -18,6 +18,7 @@ mod reading;
 mod row_key;
 mod rows;
 mod sharing;
+mod span;
 mod table;
 mod table_fault;
 mod taking;

@@ -8,6 +8,7 @@ ghost use Rattle.flow_table.specs.Reading.{class_of};
 ghost use Rattle.flow_table.specs.Tables.{IsTable, IsTooLarge};
 ghost use Rattle.flow_table.specs.declared.table_fault.TableFault.TheVariants.{OutOfMemory, SumTooLarge};
 
+use crate::adding::Room;
 use crate::class::Class;
 use crate::finishing::finish_table;
 use crate::merging::join;
@@ -16,7 +17,7 @@ use crate::row_key::RowKey;
 use crate::rows::Intervals;
 use crate::table::Table;
 use crate::table_fault::TableFault;
-use crate::taking::{Room, take};
+use crate::taking::take;
 use crate::tally::Tally;
 use ipfix_message::DataRecord;
 use std::alloc::Global;
@@ -28,7 +29,6 @@ use std::collections::BTreeMap;
 /// After a fault it answers this fault for ever.
 #[derive(Drop)]
 pub struct Partial {
-    alloc: Global,
     plan: Plan,
     intervals: Intervals,
     tally: Tally,
@@ -47,12 +47,12 @@ impl Partial {
         ensures err { IfErr result (λ e. e ≡ OutOfMemory) }
     {
         Ok(Partial {
-            alloc,
             plan: plan.copy(alloc)?,
             intervals: BTreeMap::new(alloc),
             tally: Tally::EMPTY,
             fault: None,
             room: Room {
+                alloc,
                 key: RowKey::new(alloc),
                 counters: Vec::new(alloc),
                 shares: Vec::new(alloc),
@@ -77,7 +77,6 @@ impl Partial {
             return Err(fault);
         }
         let result = take(
-            self.alloc,
             &self.plan,
             &mut self.intervals,
             &mut self.tally,
@@ -140,15 +139,15 @@ impl Partial {
         ensures large { (rs : List DataRecord) → StandsFor self rs → IfErr result (λ e. e ≡ SumTooLarge → IsTooLarge (plan_of self) rs) }
     {
         let Partial {
-            alloc,
             intervals,
             tally,
             fault,
+            room,
             ..
         } = self;
         match fault {
             Some(fault) => Err(fault),
-            None => finish_table(alloc, intervals, tally),
+            None => finish_table(room.alloc, intervals, tally),
         }
     }
 }

@@ -1,6 +1,6 @@
 //! Data records read under a plan (RFC 7015, section 5).
 
-ghost use Rattle.std.specs.Prelude.{◌≡◌, ◌≤◌, ◌<◌, ◌^◌, true, Some, None, IsTrue, IfOk, IfSome, All, if◌then◌else◌};
+ghost use Rattle.std.specs.Prelude.{◌≡◌, ◌<◌, true, Some, None, IsTrue, OnOk, IfOk, IfSome, All, map, if◌then◌else◌};
 ghost use Rattle.std.specs.List.{AllPass};
 ghost use Rattle.ipfix_elements.specs.Elements.{kind_of as kind_in};
 ghost use Rattle.ipfix_elements.specs.Values.{cell_in};
@@ -14,6 +14,7 @@ use crate::key::Key;
 use crate::method::Method;
 use crate::plan::Plan;
 use crate::row_key::RowKey;
+use crate::span::Span;
 use crate::times::{end_of, start_of};
 use ipfix_elements::{Cell, Kind, kind_of, mask, read_cell, read_number};
 use ipfix_message::DataRecord;
@@ -25,8 +26,8 @@ use std::alloc::AllocError;
 pub(crate) enum Reading {
     /// It is left out of the table, for this class.
     Left(Class),
-    /// It is a flow from `start` to `end`, in milliseconds since 1970-01-01 UTC.
-    Used { start: u64, end: u64 },
+    /// It is a flow of this time.
+    Used(Span),
 }
 
 /// Reads a record, and leaves the cells of a used one in `key`. Nothing is allocated unless `key` has
@@ -51,23 +52,22 @@ pub(crate) fn read(
     if !read_key(plan.keys(), plan.kinds(), data_record, key)? {
         return Ok(Reading::Left(Class::Unkeyed));
     }
-    if is_too_long(plan, start, end) {
+    let span = Span { start, end };
+    if is_too_long(plan, span) {
         return Ok(Reading::Left(Class::TooLong));
     }
-    Ok(Reading::Used { start, end })
+    Ok(Reading::Used(span))
 }
 
 /// Whether a flow would be spread over more intervals than the plan allows.
-fn is_too_long(plan: &Plan, start: u64, end: u64) -> bool
-    requires order { start ≤ end }
-    requires small { end < 2 ^ 50 }
-    ensures { result ≡ is_too_long_in plan.now start end }
+fn is_too_long(plan: &Plan, span: Span) -> bool
+    ensures { result ≡ is_too_long_in plan.now span.start span.end }
 {
     let length = u64::from(plan.length());
     match plan.method() {
         Method::Start | Method::End | Method::Mid => false,
         Method::Uniform | Method::Proportional => {
-            u64::from(plan.max_spread()) < end / length - start / length + 1
+            u64::from(plan.max_spread()) < span.end / length - span.start / length + 1
         }
     }
 }
@@ -130,11 +130,26 @@ fn project(key: Key, cell: Cell) -> Cell
 }
 
 /// The counter in the first field of an element, 0 where that is missing or no number.
-pub(crate) fn counter(data_record: &DataRecord, element: ElementId) -> u64
+fn counter(data_record: &DataRecord, element: ElementId) -> u64
     ensures { result ≡ counter_of element data_record.now }
 {
     match data_record.fields.find(element) {
         Some(octets) => read_number(kind_of(element), octets).unwrap_or(0),
         None => 0,
     }
+}
+
+/// Leaves the counters of a record in `counters`.
+pub(crate) fn read_counters(
+    elements: &[ElementId],
+    data_record: &DataRecord,
+    counters: &mut Vec<u64>,
+) -> Result<(), AllocError>
+    ensures { OnOk result (counters.new.items ≡ map (λ c. counter_of c data_record.now) elements.now) }
+{
+    counters.clear();
+    for element in elements {
+        counters.push(counter(data_record, *element))?;
+    }
+    Ok(())
 }

@@ -19,46 +19,44 @@ pub type Rows = BTreeMap<RowKey, Totals>;
 /// The rows of all intervals.
 pub type Intervals = BTreeMap<u64, Rows>;
 
-/// Adds sums and flows to the row of a key, which is made where it is missing.
+/// Adds the shares of a flow to the row of a key, which is made where it is missing.
 pub fn add_to_row(
     alloc: Global,
     rows: &mut Rows,
     key: &RowKey,
-    sums: &[u64],
-    flows: u64,
+    shares: &[u64],
 ) -> Result<(), TableFault>
-    ensures ok { OnOk result ((q : List Cell) → row_at rows.new.entries q ≡ joined (row_at rows.old.entries q) (part_at key.now (total sums.now flows) q)) }
+    ensures ok { OnOk result ((q : List Cell) → row_at rows.new.entries q ≡ joined (row_at rows.old.entries q) (part_at key.now (total shares.now 1) q)) }
     ensures fits { OnOk result (IsLargeAt (row_at rows.new.entries key.now) → ⊥) }
-    ensures large { IfErr result (λ e. e ≡ SumTooLarge → IsLargeAt (joined (row_at rows.old.entries key.now) (Some (total sums.now flows)))) }
+    ensures large { IfErr result (λ e. e ≡ SumTooLarge → IsLargeAt (joined (row_at rows.old.entries key.now) (Some (total shares.now 1)))) }
 {
     match rows.entry(key.copy(alloc)?)? {
-        Entry::Occupied(row) => row.into_mut().add(sums, flows),
+        Entry::Occupied(row) => row.into_mut().add(shares, 1),
         Entry::Vacant(place) => {
-            let sums = sums.to_vec(alloc)?;
-            place.insert(Totals { sums, flows });
+            let sums = shares.to_vec(alloc)?;
+            place.insert(Totals { sums, flows: 1 });
             Ok(())
         }
     }
 }
 
-/// Adds sums and flows to the row of an interval and a key.
+/// Adds the shares of a flow to the row of an interval and a key.
 pub fn add_to_interval(
     alloc: Global,
     intervals: &mut Intervals,
     interval: u64,
     key: &RowKey,
-    sums: &[u64],
-    flows: u64,
+    shares: &[u64],
 ) -> Result<(), TableFault>
-    ensures ok { OnOk result ((k : ℕ) (q : List Cell) → kept_at intervals.new.entries k q ≡ joined (kept_at intervals.old.entries k q) (place_part interval key.now (total sums.now flows) k q)) }
+    ensures ok { OnOk result ((k : ℕ) (q : List Cell) → kept_at intervals.new.entries k q ≡ joined (kept_at intervals.old.entries k q) (place_part interval key.now (total shares.now 1) k q)) }
     ensures fits { OnOk result (IsLargeAt (kept_at intervals.new.entries interval key.now) → ⊥) }
-    ensures large { IfErr result (λ e. e ≡ SumTooLarge → IsLargeAt (joined (kept_at intervals.old.entries interval key.now) (Some (total sums.now flows)))) }
+    ensures large { IfErr result (λ e. e ≡ SumTooLarge → IsLargeAt (joined (kept_at intervals.old.entries interval key.now) (Some (total shares.now 1)))) }
 {
     if let Some(rows) = intervals.get_mut(&interval) {
-        return add_to_row(alloc, rows, key, sums, flows);
+        return add_to_row(alloc, rows, key, shares);
     }
     let mut rows = BTreeMap::new(alloc);
-    add_to_row(alloc, &mut rows, key, sums, flows)?;
+    add_to_row(alloc, &mut rows, key, shares)?;
     intervals.insert(interval, rows)?;
     Ok(())
 }

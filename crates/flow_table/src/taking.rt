@@ -10,56 +10,35 @@ ghost use Rattle.flow_table.specs.Rows.{kept_at};
 ghost use Rattle.flow_table.specs.Totals.{IsLargeAt, joined};
 ghost use Rattle.flow_table.specs.declared.table_fault.TableFault.TheVariants.{SumTooLarge};
 
-use crate::adding::{add_flow, read_counters};
+use crate::adding::{Room, add_flow};
 use crate::class::Class;
 use crate::plan::Plan;
-use crate::reading::{Reading, read};
-use crate::row_key::RowKey;
+use crate::reading::{Reading, read, read_counters};
 use crate::rows::Intervals;
+use crate::span::Span;
 use crate::table_fault::TableFault;
 use crate::tally::{Tally, one, together};
 use ipfix_message::DataRecord;
-use std::alloc::Global;
-
-/// Room for what is read of a record, so that reading allocates nothing for each of them.
-#[derive(Drop)]
-pub struct Room {
-    pub key: RowKey,
-    pub counters: Vec<u64>,
-    pub shares: Vec<u64>,
-}
 
 /// Adds the shares of a used record, whose key was read, to the totals.
 fn take_flow(
-    alloc: Global,
     plan: &Plan,
     intervals: &mut Intervals,
     room: &mut Room,
     data_record: &DataRecord,
-    start: u64,
-    end: u64,
+    span: Span,
 ) -> Result<(), TableFault>
-    requires { IsUsed plan.now data_record.now start end room.old.key }
+    requires { IsUsed plan.now data_record.now span.start span.end room.old.key }
     ensures ok { OnOk result ((k : ℕ) (q : List Cell) → kept_at intervals.new.entries k q ≡ joined (kept_at intervals.old.entries k q) (totals_at plan.now (data_record.now ∷ []) k q)) }
     ensures fits { OnOk result ((k : ℕ) (q : List Cell) → (IsLargeAt (kept_at intervals.old.entries k q) → ⊥) → IsLargeAt (kept_at intervals.new.entries k q) → ⊥) }
     ensures large { IfErr result (λ e. e ≡ SumTooLarge → (k : ℕ) × (q : List Cell) × IsLargeAt (joined (kept_at intervals.old.entries k q) (totals_at plan.now (data_record.now ∷ []) k q))) }
 {
     read_counters(plan.counters(), data_record, &mut room.counters)?;
-    add_flow(
-        alloc,
-        plan,
-        intervals,
-        start,
-        end,
-        &room.key,
-        &room.counters,
-        &mut room.shares,
-    )
+    add_flow(plan, intervals, span, room)
 }
 
 /// Takes a record into the totals and the tally, and answers its class.
 pub fn take(
-    alloc: Global,
     plan: &Plan,
     intervals: &mut Intervals,
     tally: &mut Tally,
@@ -75,9 +54,9 @@ pub fn take(
             *tally = together(tally, &one(class))?;
             Ok(class)
         }
-        Reading::Used { start, end } => {
+        Reading::Used(span) => {
             *tally = together(tally, &one(Class::Used))?;
-            take_flow(alloc, plan, intervals, room, data_record, start, end)?;
+            take_flow(plan, intervals, room, data_record, span)?;
             Ok(Class::Used)
         }
     }

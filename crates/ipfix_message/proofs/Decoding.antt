@@ -19,9 +19,10 @@ use Rattle.ipfix_message.specs.Sets.{Set, next_set, fault_after_sets}
 use Rattle.ipfix_message.specs.Messages.{Decoding, templates_in, data_in, set_gives, sets_give, sets_from}
 use Rattle.ipfix_message.specs.Held.{Updates, Holds, Reaches}
 use Rattle.ipfix_message.proofs.MessageSets.{sets_shrink, next_set-fault, next_set-nil}
-use Rattle.ipfix_message.proofs.FieldReading.{Fails-of}
+use Rattle.ipfix_message.proofs.Reading.{Fails-of, ok_is, not_both, bind_ok, bind_err}
 use Rattle.ipfix_wire.proofs.Parts.{parts_of-next, parts_of-none}
-use Rattle.ipfix_message.proofs.Bodies.{after, different, ok_is, not_both, bind_ok, bind_err}
+use Rattle.ipfix_message.proofs.Bodies.{after}
+use Rattle.ipfix_wire.proofs.Choices.{different}
 
 -- ---- one set
 

@@ -1,38 +1,12 @@
--- Reading fields one after the other, as a loop does.
-use Rattle.std.proofs.Common.{◌≡◌, ℕ, ◌+◌, ◌<◌, ◌≤◌, List, [], ◌∷◌, ◌++◌, length, get_or, drop, Result, Ok, Err, refl, sym, ap, ◌∙◌, append_assoc}
+-- Reading the fields of a record one after the other, as a loop does.
+use Rattle.std.proofs.Common.{◌≡◌, ℕ, ◌+◌, ◌<◌, ◌≤◌, List, [], ◌∷◌, ◌++◌, length, get_or, drop, Result, Ok, Err, refl, sym, ap, ◌∙◌}
 use Rattle.std.proofs.lemmas.List.{append-nil, drop_more, drop_all}
 use Rattle.ipfix_wire.specs.declared.specifier.Spec.{Spec}
 use Rattle.ipfix_message.specs.declared.fault.MessageFault.{MessageFault}
-use Rattle.ipfix_message.specs.declared.fault.MessageFault.TheVariants.{OutOfMemory}
-use Rattle.ipfix_message.specs.declared.fault.MessageFault.TheVariants as faults
 use Rattle.ipfix_message.specs.Fields.{Field}
-use Rattle.ipfix_message.specs.Outcome.{◌>>=◌, Fails}
+use Rattle.ipfix_message.specs.Outcome.{Fails}
 use Rattle.ipfix_message.specs.DataRecords.{value_at, fields_at}
-
--- what was read before, and what is still read
-abbrev pub with_front : {X : Type 0} → List X → Result (List X × List ℕ) MessageFault → Result (List X × List ℕ) MessageFault
-with_front front read = read >>= λ x. Ok (front ++ x.0, x.1)
-
-pub with_front-next : {X : Type 0} (front : List X) (x : X) (read : Result (List X × List ℕ) MessageFault)
-    → with_front front (read >>= λ r. Ok (x ∷ r.0, r.1)) ≡ with_front (front ++ x ∷ []) read
-with_front-next front x (Ok r) = ap (λ (xs : List _). Ok (xs, r.1)) (simp append_assoc)
-with_front-next front x (Err e) = refl
-
--- a fault of the part is a fault of the whole
-pub Fails-of : {X Y : Type 0} (e : MessageFault) (part : Result X MessageFault) (whole : Result Y MessageFault) → ((f : MessageFault) → part ≡ Err f → whole ≡ Err f) → Fails e part → Fails e whole
-Fails-of OutOfMemory part whole h fails = tt
-Fails-of faults.Version part whole h fails = h _ fails
-Fails-of faults.MessageLength part whole h fails = h _ fails
-Fails-of faults.SetHeader part whole h fails = h _ fails
-Fails-of faults.SetLength part whole h fails = h _ fails
-Fails-of faults.TemplateId part whole h fails = h _ fails
-Fails-of faults.TemplateCut part whole h fails = h _ fails
-Fails-of faults.Scope part whole h fails = h _ fails
-Fails-of faults.ZeroLength part whole h fails = h _ fails
-Fails-of faults.TemplateChanged part whole h fails = h _ fails
-Fails-of faults.RecordCut part whole h fails = h _ fails
-Fails-of faults.TooManyDomains part whole h fails = h _ fails
-Fails-of faults.Spent part whole h fails = h _ fails
+use Rattle.ipfix_message.proofs.Reading.{with_front, with_front-next, Fails-of}
 
 pub goes_on : (front : List Field) (specs : List Spec) (i : ℕ) (s : Spec) (w value after : List ℕ) (total : Result (List Field × List ℕ) MessageFault)
     → i < length specs → s ≡ get_or specs i s → value_at s.width w ≡ Ok (value, after)

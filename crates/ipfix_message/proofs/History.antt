@@ -1,12 +1,11 @@
 -- What is kept for the domains of a session.
 use Rattle.std.proofs.Common.{◌≡◌, ℕ, ◌<◌, ◌≤◌, Bool, true, false, cond, ltb, eqb, List, [], ◌∷◌, ◌++◌, length, drop, Option, Some, None, Result, Ok, Err, refl, sym, ap, subst, ◌∙◌, arith, inl, inr, is_some}
 use Rattle.std.specs.Map.{lookup, keys_of, set_value}
-use Rattle.std.specs.Option.{unwrap_or, option_and_then}
+use Rattle.std.specs.Option.{unwrap_or, option_and_then, option_map}
 use Rattle.std.proofs.lemmas.Bool.Decides.{eqb_tells}
 use Rattle.std.specs.BTreeMap.{BTreeMap}
 use Rattle.std.proofs.lemmas.Map.Made.{lookup-map_values}
 use Rattle.std.proofs.lemmas.Map.Entries.{length-keys_of}
-use Rattle.std.specs.Option.{option_map}
 use Rattle.std.proofs.lemmas.Bool.{le-ltb, lt-ltb}
 use Rattle.std.proofs.lemmas.List.{map-append}
 use Rattle.ipfix_message.specs.declared.fault.MessageFault.{MessageFault}
@@ -18,8 +17,8 @@ use Rattle.ipfix_message.specs.declared.sets.Progress.{Progress}
 use Rattle.ipfix_message.specs.declared.message.Decoded.{Decoded}
 use Rattle.ipfix_message.specs.Outcome.{◌>>=◌, Fails}
 use Rattle.ipfix_message.specs.Messages.{Decoding, before, sets_from}
-use Rattle.ipfix_message.proofs.FieldReading.{Fails-of}
-use Rattle.ipfix_message.proofs.Bodies.{chosen, different, ok_is, not_both, bind_ok}
+use Rattle.ipfix_message.proofs.Reading.{Fails-of, ok_is, not_both, bind_ok}
+use Rattle.ipfix_wire.proofs.Choices.{chosen, different}
 use Rattle.ipfix_message.specs.TemplatesInForce.{in_force}
 use Rattle.ipfix_message.specs.Held.{template_in, Agrees, Holds, Reaches, Admits}
 use Rattle.ipfix_message.specs.Domains.{History, IsAdmitted, admit, with_events, message_header, message_gives, Message, StandsFor, Decodes, template_for}

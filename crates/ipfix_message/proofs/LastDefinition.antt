@@ -7,7 +7,7 @@ use Rattle.ipfix_message.specs.declared.template_record.Kind.{Kind}
 use Rattle.ipfix_message.specs.declared.template_record.Event.{Event}
 use Rattle.ipfix_message.specs.declared.template_record.Event.TheVariants.{Define, Withdraw, WithdrawAll}
 use Rattle.ipfix_message.specs.TemplatesInForce.{is_of, unless_of, in_force, Ends, Outlasts, IsInForce}
-use Rattle.ipfix_message.proofs.Bodies.{chosen, different}
+use Rattle.ipfix_wire.proofs.Choices.{chosen, different}
 
 abbrev some_template : Template → Option Template
 some_template t = Some t

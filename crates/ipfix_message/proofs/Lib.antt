@@ -1,4 +1,7 @@
+pub mod Reading
 pub mod FieldReading
+pub mod FieldValues
+pub mod RecordFields
 pub mod Bodies
 pub mod SpecReading
 pub mod Same

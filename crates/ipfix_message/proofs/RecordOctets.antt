@@ -21,7 +21,9 @@ use Rattle.ipfix_message.specs.TemplatesInForce.{in_force, template_set_gives}
 use Rattle.ipfix_message.specs.Sets.{Set, SpellsSet, sets_of, fault_after_sets}
 use Rattle.ipfix_message.specs.Messages.{Decoding, before, templates_in, data_in, set_gives, sets_give, sets_from}
 use Rattle.ipfix_message.specs.Domains.{History, Message, admit, with_events, message_header, message_gives}
-use Rattle.ipfix_message.proofs.Bodies.{chosen, ok_is, not_both, bind_ok, records_of_body-found}
+use Rattle.ipfix_wire.proofs.Choices.{chosen}
+use Rattle.ipfix_message.proofs.Reading.{ok_is, not_both, bind_ok}
+use Rattle.ipfix_message.proofs.Bodies.{records_of_body-found}
 use Rattle.ipfix_message.proofs.MessageSets.{sets_of-found}
 use Rattle.ipfix_message.proofs.History.{after_admit, after_sets}
 

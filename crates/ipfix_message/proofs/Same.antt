@@ -8,6 +8,7 @@ use Rattle.std.proofs.lemmas.Bool.Decides.{same_from_decides, eqb_tells}
 use Rattle.std.specs.Cmp.Lexicographic.{pointwise}
 use Rattle.std.proofs.lemmas.Slice.Eq.{slice_eq-Decides}
 use Rattle.ipfix_wire.specs.declared.specifier.Spec.{Spec}
+use Rattle.ipfix_wire.proofs.Choices.{both_true}
 use Rattle.ipfix_message.specs.declared.record.Template.{Template}
 use Rattle.ipfix_message.specs.declared.template_record.Kind.{Kind}
 use Rattle.ipfix_message.specs.TemplatesInForce.{same_spec, same_template, is_of, unless_of}
@@ -18,10 +19,6 @@ same_spec-Decides a b = search rules
 same_specs-Decides : (as' bs : List Spec) → Decides (pointwise same_spec as' bs) (as' ≡ bs)
 same_specs-Decides as' bs = slice_eq-Decides same_spec-Decides as' bs (pointwise same_spec as' bs) refl
 
-and_both : (a b : Bool) → (a && b) ≡ true → (a ≡ true) × (b ≡ true)
-and_both true b h = (refl, h)
-and_both false b h = absurd cc
-
 abbrev template : ℕ → ℕ → List Spec → Template
 template id scope specs = record { id = id; scope = scope; specs = specs }
 
@@ -31,8 +28,8 @@ all_same i j s r ss rr a b c = rw (a, b, c) refl
 pub same_template-Decides : (t u : Template) → Decides (same_template t u) (t ≡ u)
 same_template-Decides t u = (
   λ h.
-      let outer = and_both (eqb t.id u.id && eqb t.scope u.scope) (pointwise same_spec t.specs u.specs) h in
-      let inner = and_both (eqb t.id u.id) (eqb t.scope u.scope) outer.0 in
+      let outer = both_true (eqb t.id u.id && eqb t.scope u.scope) (pointwise same_spec t.specs u.specs) h in
+      let inner = both_true (eqb t.id u.id) (eqb t.scope u.scope) outer.0 in
       all_same t.id u.id t.scope u.scope t.specs u.specs (eqb-true t.id u.id inner.0) (eqb-true t.scope u.scope inner.1) ((same_specs-Decides t.specs u.specs).0 outer.1),
   λ e.
       let a : eqb t.id u.id ≡ true = eq-eqb t.id u.id (ap (λ (x : Template). x.id) e) in

@@ -7,7 +7,7 @@ use Rattle.ipfix_message.specs.declared.fault.MessageFault.{MessageFault}
 use Rattle.ipfix_message.specs.declared.fault.MessageFault.TheVariants.{TemplateCut}
 use Rattle.ipfix_message.specs.Outcome.{◌>>=◌}
 use Rattle.ipfix_message.specs.TemplateRecords.{one_spec, specs_at}
-use Rattle.ipfix_message.proofs.FieldReading.{with_front, with_front-next}
+use Rattle.ipfix_message.proofs.Reading.{with_front, with_front-next}
 
 pub goes_on : (front : List Spec) (count i : ℕ) (w : List ℕ) (s : Spec) (used : ℕ) (total : Result (List Spec × List ℕ) MessageFault) → i < count → spec_at w ≡ Some (s, used)
     → with_front front (specs_at (count - i) w) ≡ total → with_front (front ++ s ∷ []) (specs_at (count - (i + 1)) (drop used w)) ≡ total

@@ -1,6 +1,6 @@
 -- Template records: what is read is what is spelled, and each fault is the first that fits.
 use Rattle.std.proofs.Common.{◌≡◌, ℕ, zero, suc, ◌^◌, ◌<◌, ◌≤◌, Bool, true, false, cond, ltb, eqb, List, [], ◌∷◌, ◌++◌, length, get_or, take, drop, Option, Some, None, Result, Ok, Err, refl, sym, ap, subst, ◌∙◌, append_assoc, arith, inl, inr}
-use Rattle.std.specs.Prelude.{◌⊎◌, ◌||◌, ◌&&◌, ◌↔◌}
+use Rattle.std.specs.Prelude.{◌⊎◌, ◌||◌, ◌↔◌}
 use Rattle.std.specs.List.{list_all}
 use Rattle.std.specs.Result.{result_err}
 use Rattle.std.proofs.lemmas.Bool.{cases_Bool, ltb-true, ltb-false, le-ltb, lt-ltb, eqb-true, eqb-false, eq-eqb, cond_both}
@@ -24,25 +24,11 @@ use Rattle.ipfix_message.specs.declared.template_record.Event.TheVariants.{Defin
 use Rattle.ipfix_message.specs.Outcome.{◌>>=◌}
 use Rattle.ipfix_message.specs.DataRecords.{least}
 use Rattle.ipfix_message.specs.TemplateRecords.{set_id_of, IsScope, scope_octets, SpellsEvent, IsPadding, IsTemplateSet, FirstOf, HasWrongId, MissesScope, HasWrongScope, behind_counts, BeginsWith, MissesSpec, HasNoOctets, FaultOf, FaultAt, scope_at, one_spec, specs_at, withdrawal, definition, record_at, event_at, events_of, is_padding, fault_after_events}
-use Rattle.ipfix_message.proofs.Bodies.{chosen, different, ok_is, not_both, bind_ok}
+use Rattle.ipfix_wire.proofs.Choices.{chosen, different, or_true, or_false, or_right, both_true}
+use Rattle.ipfix_message.proofs.Reading.{ok_is, not_both, bind_ok}
 use Rattle.ipfix_message.proofs.FieldSpecifiers.{specs_at-found, specs_at-only, specs_at-fault, specs_at-begins, specs_at-misses}
 
 -- ---- padding
-
-pub or_true : (a b : Bool) → (a || b) ≡ true → (a ≡ true) ⊎ (b ≡ true)
-or_true true b h = inl refl
-or_true false b h = inr h
-
-pub or_false : (a b : Bool) → (a || b) ≡ false → (a ≡ false) × (b ≡ false)
-or_false true b h = absurd cc
-or_false false b h = (refl, h)
-
-or_right : (a b : Bool) → b ≡ true → (a || b) ≡ true
-or_right true b h = refl
-or_right false b h = h
-
-or_neither : (a b : Bool) → a ≡ false → b ≡ false → (a || b) ≡ false
-or_neither a b p q = rw (p, q) refl
 
 pub is_padding-tells : (w : List ℕ) → is_padding w ≡ true ↔ IsPadding w
 is_padding-tells w = (
@@ -55,10 +41,6 @@ is_padding-tells w = (
     | inr zeros ↦ or_right (ltb (length w) 4) (list_all (λ b. eqb b 0) w) (list_all-from_AllPass (λ b. eqb b 0) w (λ k d lt. eq-eqb (get_or w k d) 0 (zeros k d lt)))
   ],
 )
-
-both_true : (a b : Bool) → (a && b) ≡ true → (a ≡ true) × (b ≡ true)
-both_true true b h = (refl, h)
-both_true false b h = absurd cc
 
 -- ---- the first fault that fits
 

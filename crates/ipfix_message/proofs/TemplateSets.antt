@@ -11,8 +11,7 @@ use Rattle.ipfix_wire.specs.InTurn.{Parts, parts_of}
 use Rattle.ipfix_message.specs.TemplateRecords.{event_at, is_padding, fault_after_events}
 use Rattle.ipfix_message.specs.TemplatesInForce.{unless_of, is_other, in_force, event_gives, events_give, template_set_gives}
 use Rattle.ipfix_message.specs.Held.{template_in, Agrees, Updates, defining}
-use Rattle.ipfix_message.proofs.FieldReading.{Fails-of}
-use Rattle.ipfix_message.proofs.Bodies.{not_both, fault_is}
+use Rattle.ipfix_message.proofs.Reading.{Fails-of, not_both, fault_is}
 use Rattle.ipfix_wire.proofs.Parts.{parts_of-next, parts_of-none}
 use Rattle.ipfix_message.proofs.TemplateRecords.{events_shrink, padding_is_none}
 

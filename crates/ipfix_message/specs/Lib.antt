@@ -1,5 +1,6 @@
-pub mod Faults
+-- what public contracts cite
 pub mod Outcome
+pub mod Faults
 pub mod Fields
 pub mod FieldViews
 pub mod DataRecords
@@ -8,5 +9,7 @@ pub mod TemplatesInForce
 pub mod Sets
 pub mod Messages
 pub mod Domains
+
+-- what only inner functions need
 pub mod Held
 pub mod Kept

@@ -10,7 +10,7 @@ use Rattle.ipfix_wire.proofs.Parts.{Reads, Shrinks}
 use Rattle.ipfix_wire.proofs.Streams.{Stable}
 use Rattle.ipfix_message.specs.Faults.{fault_of}
 use Rattle.ipfix_message.specs.declared.fault.MessageFault.{MessageFault}
-use Rattle.ipfix_message.proofs.Bodies.{chosen}
+use Rattle.ipfix_wire.proofs.Choices.{chosen}
 use Rattle.ipfix_session.specs.declared.stop.Stop.{Stop}
 use Rattle.ipfix_session.specs.declared.stop.Stop.TheVariants.{Short, Fault}
 use Rattle.ipfix_session.specs.MessageStream.{IsMessage, SpellsMessage, header_stop, rest_stop, message_under, next_message}

@@ -9,7 +9,7 @@ use Rattle.ipfix_wire.specs.declared.fault.WireFault.{WireFault}
 use Rattle.ipfix_wire.proofs.Headers.{header_at-append, read, header_is_good}
 use Rattle.ipfix_message.specs.Faults.{fault_of}
 use Rattle.ipfix_message.specs.declared.fault.MessageFault.{MessageFault}
-use Rattle.ipfix_message.proofs.Bodies.{chosen}
+use Rattle.ipfix_wire.proofs.Choices.{chosen}
 use Rattle.ipfix_session.specs.declared.stop.Stop.{Stop}
 use Rattle.ipfix_session.specs.declared.stop.Stop.TheVariants.{Fault}
 use Rattle.ipfix_session.specs.MessageStream.{rest_stop, message_under, next_message}

@@ -23,7 +23,7 @@ use Rattle.ipfix_session.specs.declared.fault.SessionFault.TheVariants as faults
 use Rattle.ipfix_session.specs.Faults.{fault_at_end, end_of}
 use Rattle.ipfix_session.specs.Reports.{ended_by}
 use Rattle.ipfix_session.specs.MessageStream.{header_stop, rest_stop, next_message, cut}
-use Rattle.ipfix_message.proofs.Bodies.{chosen}
+use Rattle.ipfix_wire.proofs.Choices.{chosen}
 use Rattle.ipfix_wire.specs.MessageHeader.{header_at}
 use Rattle.ipfix_wire.specs.declared.header.Header.{Header}
 use Rattle.ipfix_wire.specs.declared.fault.WireFault.{WireFault}

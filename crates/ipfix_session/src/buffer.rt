@@ -4,6 +4,7 @@ ghost use Rattle.std.specs.Prelude.{◌≡◌, ◌≤◌, ◌++◌, [], ℕ, max
 ghost use Rattle.std.specs.Option.{ForSome};
 ghost use Rattle.ipfix_message.specs.Domains.{Message};
 ghost use Rattle.ipfix_session.specs.Intake.{counts_of, IsRest, IsBetween, GoesNoFurther};
+ghost use Rattle.ipfix_session.specs.declared.message_stream.TheConstants.{LONGEST_MESSAGE};
 ghost use Rattle.ipfix_session.specs.Buffers.{MovesUpTo, Fills};
 
 use crate::fault::SessionFault;
@@ -13,7 +14,7 @@ use crate::sink::Sink;
 use ipfix_wire::{HEADER_LENGTH, read_header};
 use std::alloc::{AllocError, Global};
 
-// moves octets from the front of a piece until the buffer has this size, and gives what is left
+// Moves octets from the front of a piece until the buffer has this size, and gives what is left.
 fn move_up_to<'a>(
     size: usize,
     buffer: &mut Vec<u8>,
@@ -28,11 +29,11 @@ fn move_up_to<'a>(
     Ok(left)
 }
 
-// moves octets from the front of a piece until the buffer is a whole message, or begins with a header
-// that is refused, and gives what is left
+// Moves octets from the front of a piece until the buffer is a whole message, or begins with a header
+// that is refused, and gives what is left.
 fn fill<'a>(buffer: &mut Vec<u8>, piece: &'a [u8]) -> Result<&'a [u8], AllocError>
     ensures fills { IsRest buffer.old.items → IfOk result (λ left. Fills buffer.old.items buffer.new.items piece.now left.now) }
-    ensures at_most { length buffer.new.items ≤ max 65535 (length buffer.old.items) }
+    ensures at_most { length buffer.new.items ≤ max LONGEST_MESSAGE (length buffer.old.items) }
 {
     let left = move_up_to(HEADER_LENGTH, buffer, piece)?;
     if buffer.len() < HEADER_LENGTH {
@@ -44,8 +45,8 @@ fn fill<'a>(buffer: &mut Vec<u8>, piece: &'a [u8]) -> Result<&'a [u8], AllocErro
     }
 }
 
-// takes the message that the buffer begins, where the piece ends it, and gives what follows it;
-// `None` where it doesn't, and the buffer keeps it all
+// Takes the message that the buffer begins, if the piece ends it, and gives what follows it; `None` if
+// it doesn't, and the buffer keeps it all.
 fn take_begun<'a, K: Sink>(
     alloc: Global,
     intake: &mut Intake,
@@ -61,7 +62,7 @@ fn take_begun<'a, K: Sink>(
         (λ left. IsBetween K.seen old text before sink.new (counts_of intake.new.tally) intake.new.domains left.now))
         (λ fault. GoesNoFurther K.seen fault old text before sink.new (counts_of intake.new.tally)) }
     ensures emptied { IfOk result (λ o. ForSome o (λ left. buffer.new.items ≡ [])) }
-    ensures at_most { length buffer.new.items ≤ max 65535 (length buffer.old.items) }
+    ensures at_most { length buffer.new.items ≤ max LONGEST_MESSAGE (length buffer.old.items) }
 {
     if buffer.is_empty() {
         return Ok(Some(piece));
@@ -92,7 +93,7 @@ pub fn read_on<K: Sink>(
         → MatchResult result
         (λ _. IsBetween K.seen old text before sink.new (counts_of intake.new.tally) intake.new.domains buffer.new.items × IsRest buffer.new.items)
         (λ fault. GoesNoFurther K.seen fault old text before sink.new (counts_of intake.new.tally)) }
-    ensures at_most { length buffer.new.items ≤ max 65535 (length buffer.old.items) }
+    ensures at_most { length buffer.new.items ≤ max LONGEST_MESSAGE (length buffer.old.items) }
 {
     let left = match take_begun(alloc, intake, buffer, piece, sink)? {
         Some(left) => left,

@@ -18,7 +18,7 @@ pub struct DecodedText {
     pub stop: Stop,
 }
 
-// a message's fault is where its text stops, but for want of memory, which is none of the text's
+// A message's fault is where its text stops, except `OutOfMemory`, which is none of the text's.
 fn stop_at(fault: MessageFault) -> Result<Stop, AllocError>
     ensures { IfOk result (λ stop. (stop ≡ Stop.Fault fault) × (fault ≢ MessageFault.OutOfMemory)) }
 {

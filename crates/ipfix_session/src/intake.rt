@@ -4,6 +4,7 @@ ghost use Rattle.std.specs.Prelude.{◌≡◌, ◌<◌, ◌++◌, ◌∷◌, [],
 ghost use Rattle.ipfix_message.specs.declared.record.DataRecord.{DataRecord};
 ghost use Rattle.ipfix_message.specs.Domains.{Message, StandsFor};
 ghost use Rattle.ipfix_session.specs.MessageStream;
+ghost use Rattle.ipfix_session.specs.declared.message_stream.TheConstants.{LONGEST_MESSAGE};
 ghost use Rattle.ipfix_session.specs.Ledger.{capped};
 ghost use Rattle.ipfix_session.specs.Feeding.{Tells};
 ghost use Rattle.ipfix_session.specs.Intake.{counts_of, IsRest, IsBetween, GoesNoFurther};
@@ -23,7 +24,7 @@ pub struct Intake {
     pub tally: Tally,
 }
 
-// puts records one by one, up to the first that the sink gives back
+// Puts records one by one, up to the first that the sink gives back.
 fn put_all<K: Sink>(
     records: Vec<DataRecord>,
     delivered: &mut u64,
@@ -98,7 +99,7 @@ impl Intake {
             → MatchResult result
             (λ rest. IsBetween K.seen old text_of before sink.new (counts_of self.new.tally) self.new.domains rest.now × IsRest rest.now)
             (λ fault. GoesNoFurther K.seen fault old text_of before sink.new (counts_of self.new.tally)) }
-        ensures begun { IfOk result (λ rest. length rest.now < 65535) }
+        ensures begun { IfOk result (λ rest. length rest.now < LONGEST_MESSAGE) }
     {
         let mut rest = text;
         loop {

@@ -17,7 +17,7 @@ pub struct Account {
     pub count: u64,
     pub lost: u64,
     pub backward: u64,
-    /// The sequence number that is due next, where the last message tells it.
+    /// The sequence number that is due next, if the last message tells it.
     pub due: Option<u32>,
 }
 
@@ -29,7 +29,7 @@ impl Account {
         due: None,
     };
 
-    // the account after one more message
+    // The account after one more message.
     fn after(&self, sequence: u32, count: u64, due: Option<u32>) -> Account
         ensures { result ≡ account_after self.now sequence count due }
     {
@@ -68,7 +68,7 @@ fn due_next(sequence: u32, records: u64, unknown_sets: u64) -> Option<u32>
 #[derive(Drop)]
 pub struct Ledger {
     pub accounts: IndexMap<u32, Account>,
-    // room for the reports of all domains
+    // Room for the reports of all domains.
     reports: Vec<DomainReport>,
     ghost empty: { reports.items ≡ [] },
     ghost room: { index_map_len accounts ≤ vec_capacity reports },
@@ -93,7 +93,7 @@ impl Ledger {
         self.reports.reserve(self.accounts.len() + 1)
     }
 
-    // the account of a domain, or an empty one
+    // The account of a domain, or an empty one.
     fn account(&self, domain: u32) -> Account
         ensures { result ≡ unwrap_or (get nat_eq self.now.accounts domain) (account_of []) }
     {
@@ -130,14 +130,13 @@ impl Ledger {
     }
 }
 
-// the reports of accounts, for which there is room
+// The reports of accounts, for which there is room.
 fn push_reports(accounts: &IndexMap<u32, Account>, reports: &mut Vec<DomainReport>)
     requires empty { reports.old.items ≡ [] }
     requires room { index_map_len accounts.now ≤ vec_capacity reports.old }
     ensures { reports.new.items ≡ map report_of accounts.now.entries }
 {
-    for i in 0..accounts.len() {
-        let (domain, account) = accounts.get_index(i).unwrap();
+    for (domain, account) in accounts.iter() {
         let report = DomainReport {
             domain: *domain,
             count: account.count,

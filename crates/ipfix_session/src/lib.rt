@@ -24,6 +24,7 @@ pub use driver::{READ_SIZE, drive};
 pub use fault::SessionFault;
 pub use laws::{driven_is_given, goes_on, no_fault_is_all, one_cut};
 pub use reader::FromReader;
+pub use message_stream::LONGEST_MESSAGE;
 pub use report::{DomainReport, SessionReport};
 pub use script::ScriptSource;
 pub use session::Session;

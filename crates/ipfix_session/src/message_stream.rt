@@ -3,10 +3,14 @@
 ghost use Rattle.std.specs.Prelude.{◌≡◌, ◌<◌, length, Ok, Err, IfErr, MatchResult};
 ghost use Rattle.ipfix_session.specs.MessageStream;
 ghost use Rattle.ipfix_session.specs.Given.{IsOpen};
+ghost use Rattle.ipfix_session.specs.declared.message_stream.TheConstants.{LONGEST_MESSAGE};
 
 use crate::stop::Stop;
 use ipfix_message::MessageFault;
 use ipfix_wire::{HEADER_LENGTH, read_header};
+
+/// The most octets of a message: its header gives its length in 16 bits.
+pub const LONGEST_MESSAGE: usize = 65535;
 
 /// The message that a text begins with, and what follows it; or why it stops there.
 #[tactic(auto, unfolding(crate::specs::MessageStream::next_message))]
@@ -15,7 +19,7 @@ pub fn next_message(text: &[u8]) -> Result<(&[u8], &[u8]), Stop>
         (λ x. MessageStream.next_message text.now ≡ Ok (x.0.now, x.1.now))
         (λ stop. MessageStream.next_message text.now ≡ Err stop) }
     // What may begin a message is shorter than the longest.
-    ensures begun { IfErr result (λ stop. IsOpen stop → length text.now < 65535) }
+    ensures begun { IfErr result (λ stop. IsOpen stop → length text.now < LONGEST_MESSAGE) }
 {
     if text.is_empty() {
         return Err(Stop::Clean);

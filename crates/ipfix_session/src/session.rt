@@ -3,6 +3,7 @@
 ghost use Rattle.std.specs.Prelude.{◌≡◌, ◌≤◌, ◌++◌, [], ℕ, length, List, Some, None, Err, IfErr, OnOk};
 ghost use Rattle.std.specs.List.{flat_map};
 ghost use Rattle.ipfix_message.specs.Domains.{Message};
+ghost use Rattle.ipfix_session.specs.declared.message_stream.TheConstants.{LONGEST_MESSAGE};
 ghost use Rattle.ipfix_session.specs.Feeding.{Tells, StandsForText, Feeds};
 ghost use Rattle.ipfix_session.specs.Reports.{IsReport, Reports, ended_by};
 
@@ -15,7 +16,7 @@ use std::alloc::Global;
 use std::marker::Model;
 
 /// A transport session. It holds no more of its octets than the front of one message, at most
-/// 65,535 octets.
+/// [`LONGEST_MESSAGE`](crate::LONGEST_MESSAGE) octets.
 #[derive(Drop)]
 pub struct Session {
     intake: Intake,
@@ -25,6 +26,7 @@ pub struct Session {
 
 impl Model for Session {
     ghost use Rattle.std.specs.Prelude.{◌≤◌, length};
+    ghost use Rattle.ipfix_session.specs.declared.message_stream.TheConstants.{LONGEST_MESSAGE};
     ghost use Rattle.ipfix_session.specs.Feeding.{State};
     ghost use Rattle.ipfix_session.specs.Intake.{counts_of};
 
@@ -32,7 +34,7 @@ impl Model for Session {
 
     ghost view = { λ s. record { counts = counts_of s.intake.tally; domains = s.intake.domains; buffer = s.buffer.items; fault = s.fault } };
 
-    ghost invariant = { λ s. length s.buffer.items ≤ 65535 };
+    ghost invariant = { λ s. length s.buffer.items ≤ LONGEST_MESSAGE };
 }
 
 impl Session {
@@ -50,8 +52,8 @@ impl Session {
     /// Takes the next octets: the records of each message that is whole by now go to the sink, in order.
     ///
     /// The fault is that of the first message that is refused, which gives none of its records; or
-    /// `SinkClosed` where the sink gives a record back. Want of memory may come in place of any other,
-    /// behind whole messages. After a fault each further call answers it again and puts nothing.
+    /// `SinkClosed` if the sink gives a record back. `OutOfMemory` may come in place of any other, after
+    /// whole messages. After a fault each further call answers it again and puts nothing.
     pub fn feed<K: Sink>(
         &mut self,
         alloc: Global,
@@ -61,7 +63,7 @@ impl Session {
         ensures feeds { (text : List ℕ) → StandsForText self.old text → Feeds K.seen result text piece.now sink.old sink.new self.new }
         ensures ok { OnOk result (self.new.fault ≡ None) }
         ensures err { IfErr result (λ fault. self.new.fault ≡ Some fault) }
-        ensures buffer { length self.new.buffer ≤ 65535 }
+        ensures buffer { length self.new.buffer ≤ LONGEST_MESSAGE }
         ensures again { (fault : SessionFault) → self.old.fault ≡ Some fault → (result ≡ Err fault) × (self.new ≡ self.old) × (sink.new ≡ sink.old) }
     {
         if let Some(fault) = self.fault {
@@ -84,10 +86,10 @@ impl Session {
             → Feeds K.seen result text (flat_map (λ piece. piece.now) pieces.now) sink.old sink.new self.new }
         ensures ok { OnOk result (self.new.fault ≡ None) }
         ensures err { IfErr result (λ fault. self.new.fault ≡ Some fault) }
-        ensures buffer { length self.new.buffer ≤ 65535 }
+        ensures buffer { length self.new.buffer ≤ LONGEST_MESSAGE }
         ensures again { (fault : SessionFault) → self.old.fault ≡ Some fault → (result ≡ Err fault) × (self.new ≡ self.old) × (sink.new ≡ sink.old) }
     {
-        // where there are no pieces, it answers its fault
+        // If there are no pieces, it answers its fault.
         self.feed(alloc, &[], sink)?;
         for piece in pieces {
             self.feed(alloc, piece, sink)?;
@@ -95,7 +97,7 @@ impl Session {
         Ok(())
     }
 
-    /// What the session gave, and why it ended early: its fault, or `Truncated` where its octets end
+    /// What the session gave, and why it ended early: its fault, or `Truncated` if its octets end
     /// within a message. This takes no memory.
     pub fn finish(self) -> SessionReport
         ensures text { (text : List ℕ) → StandsForText self text → IsReport result text }
@@ -110,7 +112,7 @@ impl Session {
         intake.tally.into_report(fault_at_end(fault, &buffer))
     }
 
-    // what the session gave, which this fault ended
+    // What the session gave, which this fault ended.
     pub(crate) fn finish_after(self, fault: SessionFault) -> SessionReport
         ensures so_far { (ms : List Message) (delivered : ℕ) → Tells self.counts ms delivered → Reports result ms delivered }
         ensures fault { result.fault ≡ Some fault }
@@ -124,7 +126,7 @@ impl Session {
     }
 }
 
-// the fault of a session that ends with these octets left
+// The fault of a session that ends with these octets left.
 fn fault_at_end(fault: Option<SessionFault>, rest: &[u8]) -> Option<SessionFault>
     ensures { result ≡ ended_by fault rest.now }
 {

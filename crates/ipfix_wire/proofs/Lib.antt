@@ -2,5 +2,9 @@ pub mod Octets
 pub mod Parts
 pub mod Streams
 pub mod Longest
+pub mod Choices
+pub mod FieldSpecifiers
+pub mod Lengths
+pub mod SetHeaders
 pub mod Written
 pub mod Headers

@@ -1,19 +1,20 @@
 //! Messages that are cut, and messages with a wrong length (RFC 7011, section 3).
 
-use super::examples::{ONE_FLOW, VARIABLE_LENGTHS, examples, octets_of};
+use super::examples::{examples, joined};
 use super::runs::{Run, assert_one_meaning, driven};
 use ipfix_message::{Domains, MessageFault};
 use std::alloc::Global;
 use std::process::Abort;
 use std::test::*;
+use worked_examples::faults::VERSION_9_AND_LENGTH_20;
+use worked_examples::flows::ONE_FLOW;
+use worked_examples::templates::VARIABLE_LENGTHS;
 
 /// That the front of a message is refused.
-fn assert_cut(rt: &impl Abort, alloc: Global, message: &str) -> Result<(), Fail> {
-    let octets = octets_of(alloc, &[message])?;
-    for kept in 0..octets.len() {
-        assert_front(rt, alloc, &octets[..kept]);
+fn assert_cut(rt: &impl Abort, alloc: Global, message: &[u8]) {
+    for kept in 0..message.len() {
+        assert_front(rt, alloc, &message[..kept]);
     }
-    Ok(())
 }
 
 fn assert_front(rt: &impl Abort, alloc: Global, front: &[u8]) {
@@ -27,23 +28,22 @@ fn assert_front(rt: &impl Abort, alloc: Global, front: &[u8]) {
 }
 
 /// That the fronts of these messages are refused.
-fn assert_all_cut(rt: &impl Abort, alloc: Global, messages: &[&str]) -> Result<(), Fail> {
+fn assert_all_cut(rt: &impl Abort, alloc: Global, messages: &[&[u8]]) {
     for message in messages {
-        assert_cut(rt, alloc, message)?;
+        assert_cut(rt, alloc, message);
     }
-    Ok(())
 }
 
 /// Each message cut at every octet.
 #[test]
-fn cut_messages(rt: HostRuntime) -> Result<(), Fail> {
+fn cut_messages(rt: HostRuntime) {
     for example in examples() {
-        assert_all_cut(&rt, rt.alloc(), example.messages)?;
+        assert_all_cut(&rt, rt.alloc(), example.messages);
     }
-    let long = octets_of(rt.alloc(), &["00090014 6553f100 00000000 00000001"])?;
-    let refused = Domains::new(rt.alloc()).decode(rt.alloc(), &long).err();
+    let refused = Domains::new(rt.alloc())
+        .decode(rt.alloc(), VERSION_9_AND_LENGTH_20)
+        .err();
     assert_eq!(rt; refused, Some(MessageFault::Version));
-    Ok(())
 }
 
 /// Puts a number of two octets into a text; false where it ends before.
@@ -87,11 +87,11 @@ fn wrong_lengths(rt: HostRuntime) -> Result<(), Fail> {
 fn with_number(
     rt: &impl Abort,
     alloc: Global,
-    message: &str,
+    message: &[u8],
     at: usize,
     number: u16,
 ) -> Result<Run, Fail> {
-    let mut text = octets_of(alloc, &[message])?;
+    let mut text = Vec::from_slice(alloc, message)?;
     assert!(rt; put_number(&mut text, at, number));
     let run = assert_one_meaning(rt, alloc, &text)?;
     let read = driven(alloc, &text);
@@ -114,7 +114,7 @@ fn template_set_cut_short(rt: HostRuntime) -> Result<(), Fail> {
 fn other_numbers(rt: HostRuntime) -> Result<(), Fail> {
     let alloc = rt.alloc();
     for example in examples() {
-        let whole = octets_of(alloc, example.messages)?;
+        let whole = joined(alloc, example.messages)?;
         for at in 0..whole.len().min(200) {
             for number in [0, 3, 4, 65_535] {
                 let mut text = Vec::from_slice(alloc, &whole)?;

@@ -3,66 +3,13 @@
 use ipfix_message::DataRecord;
 use std::alloc::Global;
 use std::test::*;
-
-/// A message of domain 1: template 256 and one record of it.
-pub const ONE_FLOW: &str = "000a0044 6553f100 00000000 00000001
-    00020018 01000004 00980008 00990008 00080004 00010004
-    0100001c 00000000000003e8 00000000000007d0 c0000201 000005dc";
-/// The same with three octets of set padding.
-const PADDED_FLOW: &str = "000a0047 6553f100 00000000 00000001
-    00020018 01000004 00980008 00990008 00080004 00010004
-    0100001f 00000000000003e8 00000000000007d0 c0000201 000005dc ffffff";
-/// A record of template 256 that follows that of the first message.
-pub const NEXT_FLOW: &str = "000a002c 6553f100 00000001 00000001
-    0100001c 00000000000003e8 00000000000007d0 c0000201 000005dc";
-/// The same without its last four octets.
-const CUT_FLOW: &str = "000a002c 6553f100 00000001 00000001
-    0100001c 00000000000003e8 00000000000007d0 c0000201";
-/// Template 256 alone, and a record of it in domains 1 and 2.
-const TEMPLATE: &str = "000a0028 6553f100 00000000 00000001
-    00020018 01000004 00980008 00990008 00080004 00010004";
-
-const FIRST_FLOW: &str = "000a002c 6553f100 00000000 00000001
-    0100001c 00000000000003e8 00000000000007d0 c0000201 000005dc";
-
-const FLOW_OF_DOMAIN_2: &str = "000a002c 6553f100 00000000 00000002
-    0100001c 00000000000003e8 00000000000007d0 c0000201 000005dc";
-/// Template 257 with one variable-length field, and values of 0, 254, 255 and 5 octets.
-pub const VARIABLE_LENGTHS: &str = "000a022e 6553f100 00000000 00000001
-    00020010 01010001 8001ffff 00007ed9
-    0101020e 00 fe
-    6161616161616161616161616161616161616161616161616161616161616161
-    6161616161616161616161616161616161616161616161616161616161616161
-    6161616161616161616161616161616161616161616161616161616161616161
-    6161616161616161616161616161616161616161616161616161616161616161
-    6161616161616161616161616161616161616161616161616161616161616161
-    6161616161616161616161616161616161616161616161616161616161616161
-    6161616161616161616161616161616161616161616161616161616161616161
-    616161616161616161616161616161616161616161616161616161616161
-    ff00ff
-    6262626262626262626262626262626262626262626262626262626262626262
-    6262626262626262626262626262626262626262626262626262626262626262
-    6262626262626262626262626262626262626262626262626262626262626262
-    6262626262626262626262626262626262626262626262626262626262626262
-    6262626262626262626262626262626262626262626262626262626262626262
-    6262626262626262626262626262626262626262626262626262626262626262
-    6262626262626262626262626262626262626262626262626262626262626262
-    62626262626262626262626262626262626262626262626262626262626262
-    ff0005 0102030405";
-/// An options template, a withdrawal, a data set of the template that it withdrew, and one record.
-const OPTIONS: &str = "000a004c 6553f100 00000000 00000001
-    00030014 01010002 0001 000a0004 00010004 0000
-    0002000c 01000001 00010004 00020008 00020000
-    01000008 00000001 0101000c 00000007 00000009";
-/// Template 256 with one field of 4 octets and one record, of sequence 0.
-const COUNTER: &str = "000a0024 6553f100 00000000 00000001
-    0002000c 01000001 00010004 01000008 00000007";
+use worked_examples::{faults, flows, sequences, templates, values};
 
 /// A text of messages, and what they give.
 #[derive(Clone, Copy)]
 pub struct Example {
     pub name: &'static str,
-    pub messages: &'static [&'static str],
+    pub messages: &'static [&'static [u8]],
     /// How many are whole, and their data records, skipped sets, unknown sets and ignored withdrawals.
     pub counts: [u64; 5],
     /// Each domain with its records, how many were lost, and the steps backward.
@@ -72,7 +19,7 @@ pub struct Example {
 }
 
 /// A message that is refused.
-const fn refused(name: &'static str, messages: &'static [&'static str], fault: u8) -> Example {
+const fn refused(name: &'static str, messages: &'static [&'static [u8]], fault: u8) -> Example {
     Example {
         name,
         messages,
@@ -85,7 +32,7 @@ const fn refused(name: &'static str, messages: &'static [&'static str], fault: u
 /// A text without a fault.
 const fn accepted(
     name: &'static str,
-    messages: &'static [&'static str],
+    messages: &'static [&'static [u8]],
     counts: [u64; 5],
     domains: &'static [(u32, u64, u64, u64)],
 ) -> Example {
@@ -98,81 +45,212 @@ const fn accepted(
     }
 }
 
-pub fn examples() -> [Example; 35] {
+pub fn examples() -> [Example; 45] {
     [
         accepted("empty input", &[], [0, 0, 0, 0, 0], &[]),
-        accepted("one flow", &[ONE_FLOW], [1, 1, 0, 0, 0], &[(1, 1, 0, 0)]),
+        accepted(
+            "one flow",
+            &[flows::ONE_FLOW],
+            [1, 1, 0, 0, 0],
+            &[(1, 1, 0, 0)],
+        ),
         accepted(
             "one flow with set padding",
-            &[PADDED_FLOW],
+            &[flows::ONE_FLOW_WITH_SET_PADDING],
             [1, 1, 0, 0, 0],
             &[(1, 1, 0, 0)],
         ),
         accepted(
             "variable lengths",
-            &[VARIABLE_LENGTHS],
+            &[templates::VARIABLE_LENGTHS],
             [1, 4, 0, 0, 0],
             &[(1, 4, 0, 0)],
         ),
         accepted(
             "template of one domain only",
-            &[TEMPLATE, FIRST_FLOW, FLOW_OF_DOMAIN_2],
+            &[
+                flows::TEMPLATE_256,
+                flows::FLOW_OF_DOMAIN_1,
+                flows::FLOW_OF_DOMAIN_2,
+            ],
             [3, 1, 0, 1, 0],
             &[(1, 1, 0, 0), (2, 0, 0, 0)],
         ),
         accepted(
             "empty set in force once",
-            &[
-                "000a0028 6553f100 00000000 00000001
-                00020018 0100000100010004 01000000 0100000100020004",
-            ],
+            &[templates::EMPTY_SET_IN_FORCE_ONCE],
             [1, 0, 0, 0, 0],
             &[(1, 0, 0, 0)],
         ),
-        refused(
-            "changed template",
-            &[
-                "000a0030 6553f100 00000000 00000001
-                0002000c0100000100010004 0100000800000009 0002000c0100000100020004",
-            ],
-            9,
-        ),
+        refused("changed template", &[templates::CHANGED_TEMPLATE], 9),
         accepted(
             "options template, withdrawal, unknown set",
-            &[OPTIONS],
+            &[templates::OPTIONS_TEMPLATE_WITHDRAWAL_UNKNOWN_SET],
             [1, 1, 0, 1, 0],
+            &[(1, 1, 0, 0)],
+        ),
+        accepted(
+            "options template",
+            &[templates::OPTIONS_TEMPLATE],
+            [1, 1, 0, 0, 0],
             &[(1, 1, 0, 0)],
         ),
         refused(
             "zero-length template",
-            &["000a001c 6553f100 00000000 00000001 0002000c0100000100010000"],
+            &[templates::ZERO_LENGTH_TEMPLATE],
             8,
         ),
         accepted(
             "withdrawal of nothing",
-            &["000a0018 6553f100 00000000 00000001 0002000801000000"],
+            &[templates::WITHDRAWAL_OF_NOTHING],
             [1, 0, 0, 0, 1],
             &[(1, 0, 0, 0)],
         ),
         accepted(
+            "IPv6 and MAC address",
+            &[values::IPV6_AND_MAC_ADDRESS],
+            [1, 1, 0, 0, 0],
+            &[(1, 1, 0, 0)],
+        ),
+        accepted(
+            "address in three octets",
+            &[values::ADDRESS_IN_THREE_OCTETS],
+            [1, 1, 0, 0, 0],
+            &[(1, 1, 0, 0)],
+        ),
+        accepted(
+            "address of variable length",
+            &[values::VARIABLE_LENGTH_ADDRESS],
+            [1, 3, 0, 0, 0],
+            &[(1, 3, 0, 0)],
+        ),
+        accepted(
+            "reduced-size numbers",
+            &[values::REDUCED_SIZE_NUMBERS],
+            [1, 1, 0, 0, 0],
+            &[(1, 1, 0, 0)],
+        ),
+        accepted(
+            "lengths of no value",
+            &[values::LENGTHS_OF_NO_VALUE],
+            [1, 1, 0, 0, 0],
+            &[(1, 1, 0, 0)],
+        ),
+        accepted(
+            "unknown elements",
+            &[values::UNKNOWN_ELEMENTS],
+            [1, 1, 0, 0, 0],
+            &[(1, 1, 0, 0)],
+        ),
+        accepted(
+            "original flows and padding",
+            &[values::ORIGINAL_FLOWS_AND_PADDING],
+            [1, 1, 0, 0, 0],
+            &[(1, 1, 0, 0)],
+        ),
+        accepted(
+            "each element",
+            &[values::EACH_ELEMENT],
+            [1, 1, 0, 0, 0],
+            &[(1, 1, 0, 0)],
+        ),
+        accepted(
+            "export of one flow",
+            &[values::EXPORT_TEMPLATE, values::EXPORT_ROW],
+            [2, 1, 0, 0, 0],
+            &[(0, 1, 0, 0)],
+        ),
+        refused("message length 15", &[faults::MESSAGE_LENGTH_15], 2),
+        refused("version 9", &[faults::VERSION_9], 1),
+        refused(
+            "version 9 and length 15",
+            &[faults::VERSION_9_AND_LENGTH_15],
+            1,
+        ),
+        refused(
+            "set length below its header",
+            &[faults::SET_LENGTH_BELOW_HEADER],
+            4,
+        ),
+        refused(
+            "set length past the message",
+            &[faults::SET_LENGTH_PAST_MESSAGE],
+            4,
+        ),
+        refused("cut set header", &[faults::SET_HEADER_CUT], 3),
+        accepted(
+            "message without sets",
+            &[faults::MESSAGE_WITHOUT_SETS],
+            [1, 0, 0, 0, 0],
+            &[(1, 0, 0, 0)],
+        ),
+        accepted(
+            "skipped set",
+            &[faults::SKIPPED_SET],
+            [1, 0, 1, 0, 0],
+            &[(1, 0, 0, 0)],
+        ),
+        refused("template id 255", &[faults::TEMPLATE_ID_255], 5),
+        refused(
+            "template id 255 before a set length of 3",
+            &[faults::TEMPLATE_ID_255_AND_SET_LENGTH_3],
+            5,
+        ),
+        refused("cut template", &[faults::TEMPLATE_CUT], 6),
+        refused(
+            "template cut before its scope",
+            &[faults::TEMPLATE_CUT_BEFORE_SCOPE],
+            6,
+        ),
+        refused("no scope field", &[faults::SCOPE_ZERO], 7),
+        refused(
+            "more scope fields than fields",
+            &[faults::SCOPE_ABOVE_FIELDS],
+            7,
+        ),
+        refused("record cut", &[faults::RECORD_CUT], 10),
+        refused(
+            "record cut in a length",
+            &[faults::RECORD_CUT_IN_LENGTH],
+            10,
+        ),
+        accepted(
+            "data set without records",
+            &[faults::DATA_SET_WITHOUT_RECORDS],
+            [1, 0, 0, 0, 0],
+            &[(1, 0, 0, 0)],
+        ),
+        accepted(
+            "data set shorter than a record",
+            &[faults::DATA_SET_SHORTER_THAN_A_RECORD],
+            [1, 0, 0, 0, 0],
+            &[(1, 0, 0, 0)],
+        ),
+        accepted(
             "two flows",
-            &[ONE_FLOW, NEXT_FLOW],
+            &[flows::ONE_FLOW, flows::NEXT_FLOW],
             [2, 2, 0, 0, 0],
             &[(1, 2, 0, 0)],
         ),
         Example {
-            name: "one cut short",
-            messages: &[ONE_FLOW, CUT_FLOW],
+            name: "one flow, then a cut message",
+            messages: &[flows::ONE_FLOW, flows::CUT_FLOW],
             counts: [1, 1, 0, 0, 0],
             domains: &[(1, 1, 0, 0)],
             fault: Some(14),
         },
+        Example {
+            name: "a flow before a wrong version",
+            messages: &[flows::ONE_FLOW, faults::VERSION_9, flows::NEXT_FLOW],
+            counts: [1, 1, 0, 0, 0],
+            domains: &[(1, 1, 0, 0)],
+            fault: Some(1),
+        },
         accepted(
             "sequence numbers that wrap",
             &[
-                "000a0028 6553f100 ffffffff 00000001
-                0002000c 01000001 00010004 0100000c 00000007 00000008",
-                "000a0018 6553f100 00000001 00000001 01000008 00000009",
+                sequences::TWO_BEFORE_THE_WRAP,
+                sequences::ONE_AFTER_THE_WRAP,
             ],
             [2, 3, 0, 0, 0],
             &[(1, 3, 0, 0)],
@@ -180,164 +258,35 @@ pub fn examples() -> [Example; 35] {
         accepted(
             "a gap, and a step backward",
             &[
-                "000a0028 6553f100 00000000 00000001
-                0002000c 01000001 00010004 0100000c 00000007 00000008",
-                "000a0018 6553f100 00000005 00000001 01000008 00000009",
-                "000a0018 6553f100 00000001 00000001 01000008 0000000a",
+                sequences::TWO_AT_0,
+                sequences::ONE_AT_5,
+                sequences::ONE_BACK_AT_1,
             ],
             [3, 4, 0, 0, 0],
             &[(1, 4, 3, 1)],
         ),
         accepted(
             "the greatest gap",
-            &[
-                COUNTER,
-                "000a0018 6553f100 80000000 00000001 01000008 00000009",
-            ],
+            &[sequences::ONE_AT_0, sequences::GREATEST_GAP],
             [2, 2, 0, 0, 0],
             &[(1, 2, 2147483647, 0)],
         ),
         accepted(
             "the least step backward",
-            &[
-                COUNTER,
-                "000a0018 6553f100 80000001 00000001 01000008 00000009",
-            ],
+            &[sequences::ONE_AT_0, sequences::LEAST_STEP_BACKWARD],
             [2, 2, 0, 0, 0],
             &[(1, 2, 0, 1)],
         ),
-        refused("length 15", &["000a000f 6553f100 00000000 00000001"], 2),
-        refused("version 9", &["00090010 6553f100 00000000 00000001"], 1),
-        refused(
-            "version 9 and length 15",
-            &["0009000f 6553f100 00000000 00000001"],
-            1,
-        ),
-        refused(
-            "set length 3",
-            &["000a0014 6553f100 00000000 00000001 01000003"],
-            4,
-        ),
-        refused(
-            "set length 5",
-            &["000a0014 6553f100 00000000 00000001 01000005"],
-            4,
-        ),
-        refused(
-            "cut set header",
-            &["000a0012 6553f100 00000000 00000001 0000"],
-            3,
-        ),
-        accepted(
-            "header alone",
-            &["000a0010 6553f100 00000000 00000001"],
-            [1, 0, 0, 0, 0],
-            &[(1, 0, 0, 0)],
-        ),
-        accepted(
-            "skipped set",
-            &["000a0014 6553f100 00000000 00000001 00050004"],
-            [1, 0, 1, 0, 0],
-            &[(1, 0, 0, 0)],
-        ),
-        refused(
-            "template id 255",
-            &["000a001c 6553f100 00000000 00000001 0002000c00ff000100010004"],
-            5,
-        ),
-        refused(
-            "template id 255 before a set length of 3",
-            &["000a001c 6553f100 00000000 00000001 0002000800ff0001 01000003"],
-            5,
-        ),
-        refused(
-            "cut template",
-            &["000a001c 6553f100 00000000 00000001 0002000c0100000200010004"],
-            6,
-        ),
-        refused(
-            "cut options template",
-            &["000a0018 6553f100 00000000 00000001 0003000801010001"],
-            6,
-        ),
-        refused(
-            "no scope field",
-            &["000a001e 6553f100 00000000 00000001 0003000e01010001000000010004"],
-            7,
-        ),
-        refused(
-            "more scope fields than fields",
-            &["000a001e 6553f100 00000000 00000001 0003000e01010001000200010004"],
-            7,
-        ),
-        refused(
-            "variable-length field cut in its octets",
-            &[
-                "000a0027 6553f100 00000000 00000001
-                00020010 01010001 8001ffff 00007ed9 01010007 050102",
-            ],
-            10,
-        ),
-        refused(
-            "variable-length field cut in its length",
-            &[
-                "000a0026 6553f100 00000000 00000001
-                00020010 01010001 8001ffff 00007ed9 01010006 ff00",
-            ],
-            10,
-        ),
-        accepted(
-            "data set without a record",
-            &[
-                "000a0024 6553f100 00000000 00000001
-                00020010 01010001 8001ffff 00007ed9 01010004",
-            ],
-            [1, 0, 0, 0, 0],
-            &[(1, 0, 0, 0)],
-        ),
-        accepted(
-            "data set with less than a record",
-            &[
-                "000a0043 6553f100 00000000 00000001
-                00020018 01000004 00980008 00990008 00080004 00010004
-                0100001b 0101010101010101010101010101010101010101010101",
-            ],
-            [1, 0, 0, 0, 0],
-            &[(1, 0, 0, 0)],
-        ),
-        Example {
-            name: "a flow before a wrong version",
-            messages: &[ONE_FLOW, "00090010 6553f100 00000000 00000001", NEXT_FLOW],
-            counts: [1, 1, 0, 0, 0],
-            domains: &[(1, 1, 0, 0)],
-            fault: Some(1),
-        },
     ]
 }
 
-fn digit(code: u8) -> Option<u8> {
-    match code {
-        b'0'..=b'9' => Some(code - b'0'),
-        b'a'..=b'f' => Some(code - b'a' + 10),
-        _ => None,
+/// Messages, one after the other.
+pub fn joined(alloc: Global, messages: &[&[u8]]) -> Result<Vec<u8>, Fail> {
+    let mut text = Vec::new(alloc);
+    for message in messages {
+        text.extend_from_slice(message)?;
     }
-}
-
-/// The octets of texts in hexadecimal digits.
-pub fn octets_of(alloc: Global, texts: &[&str]) -> Result<Vec<u8>, Fail> {
-    let mut octets = Vec::new(alloc);
-    let mut high = None;
-    for text in texts {
-        for code in text.as_bytes() {
-            if let Some(low) = digit(*code) {
-                match high.take() {
-                    None => high = Some(low),
-                    Some(high) => octets.push((high << 4) | low)?,
-                }
-            }
-        }
-    }
-    Ok(octets)
+    Ok(text)
 }
 
 fn is_same(left: &DataRecord, right: &DataRecord) -> bool {

@@ -1,39 +1,38 @@
-//! Limits, failing reads, sinks that take no more, and faults that stay.
+//! Limits, failing reads, and faults that stay.
 
 use super::drain;
-use super::examples::{NEXT_FLOW, ONE_FLOW, octets_of};
+use super::examples::joined;
+use super::narrow::Narrow;
 use super::runs::{Run, fed};
-use ipfix_message::{DataRecord, MessageFault};
+use ipfix_message::MessageFault;
 use ipfix_session::{
-    DomainReport, ScriptSource, Session, SessionFault, SessionReport, Sink, VecSink, drive,
+    DomainReport, ScriptSource, Session, SessionFault, SessionReport, VecSink, drive,
 };
 use std::alloc::Global;
 use std::process::Abort;
 use std::test::*;
+use worked_examples::faults::VERSION_9;
+use worked_examples::flows::{NEXT_FLOW, ONE_FLOW};
+use worked_examples::header;
+
+const NOTHING: &[u8] = &[];
 
 #[test]
 fn failing_reads(rt: HostRuntime) -> Result<(), Fail> {
     for (texts, piece, limit, fail_at, delivered, number) in [
-        ([""; 2], 1, 1, None, 0, None),
-        ([""; 2], 1, 0, None, 0, Some(17)),
-        ([ONE_FLOW, ""], 1, 3, None, 0, Some(17)),
-        ([ONE_FLOW, ""], 1, 68, None, 1, Some(17)),
-        ([ONE_FLOW, ""], 1, 69, None, 1, None),
-        ([ONE_FLOW, ""], 68, 2, None, 1, None),
-        ([ONE_FLOW, ""], 15, 100, Some(15), 0, Some(15)),
+        ([NOTHING; 2], 1, 1, None, 0, None),
+        ([NOTHING; 2], 1, 0, None, 0, Some(17)),
+        ([ONE_FLOW, NOTHING], 1, 3, None, 0, Some(17)),
+        ([ONE_FLOW, NOTHING], 1, 68, None, 1, Some(17)),
+        ([ONE_FLOW, NOTHING], 1, 69, None, 1, None),
+        ([ONE_FLOW, NOTHING], 68, 2, None, 1, None),
+        ([ONE_FLOW, NOTHING], 15, 100, Some(15), 0, Some(15)),
         ([ONE_FLOW, ONE_FLOW], 80, 100, Some(80), 1, Some(15)),
         ([ONE_FLOW, ONE_FLOW], 80, 2, Some(80), 1, Some(15)),
         ([ONE_FLOW, ONE_FLOW], 80, 1, Some(80), 1, Some(17)),
-        (
-            ["00090010 6553f100 00000000 00000001", ""],
-            16,
-            1,
-            Some(16),
-            0,
-            Some(1),
-        ),
+        ([VERSION_9, NOTHING], 16, 1, Some(16), 0, Some(1)),
     ] {
-        let text = octets_of(rt.alloc(), &texts)?;
+        let text = joined(rt.alloc(), &texts)?;
         let mut source = ScriptSource::new(text, piece, None, fail_at);
         let run = driven_from(rt.alloc(), &mut source, limit);
         assert_eq!(rt; run.report.messages, delivered);
@@ -55,63 +54,28 @@ fn driven_from(alloc: Global, source: &mut ScriptSource, limit: u64) -> Run {
 #[test]
 fn no_read_too_many(rt: HostRuntime) -> Result<(), Fail> {
     let alloc: Global = rt.alloc();
-    let text = octets_of(alloc, &["00090010 6553f100 00000000 00000001", ONE_FLOW])?;
+    let text = joined(alloc, &[VERSION_9, ONE_FLOW])?;
     let mut source = ScriptSource::new(text, 16, None, None);
     let report = drive(alloc, &mut source, &mut VecSink::new(alloc), 100);
     assert_eq!(rt; report.fault.map(|fault| fault.number()), Some(1));
     let mut left = Vec::new(alloc);
     let _ = drain(&mut source, &mut left)?;
-    assert_eq!(rt; left, octets_of(alloc, &[ONE_FLOW])?);
+    assert_eq!(rt; left.as_slice(), ONE_FLOW);
     Ok(())
-}
-
-/// A sink that takes no more than some records.
-#[derive(Drop)]
-struct Narrow {
-    room: usize,
-    records: Vec<DataRecord>,
-    refused: u64,
-}
-
-impl Sink for Narrow {
-    ghost use Rattle.std.specs.Prelude.{◌≡◌, ◌++◌, ◌∷◌, []};
-
-    ghost took = { λ before item after. after.records.items ≡ before.records.items ++ item ∷ [] };
-
-    ghost refused = { λ s. s.refused };
-
-    fn put(&mut self, item: DataRecord) -> Result<(), DataRecord> {
-        if self.records.len() >= self.room {
-            self.refused = self.refused.saturating_add(1);
-            return Err(item);
-        }
-        match self.records.push(item) {
-            Ok(()) => Ok(()),
-            Err(failed) => {
-                self.refused = self.refused.saturating_add(1);
-                Err(failed.value)
-            }
-        }
-    }
 }
 
 #[test]
 fn faults_stay(rt: HostRuntime) -> Result<(), Fail> {
     let alloc: Global = rt.alloc();
-    let more = octets_of(alloc, &[ONE_FLOW])?;
+    let more = joined(alloc, &[ONE_FLOW])?;
     let version = SessionFault::Message(MessageFault::Version);
-    let wrong = "00090010 6553f100 00000000 00000001";
     for (room, texts, fault, messages) in [
-        (9, [ONE_FLOW, wrong], version, 1),
-        (0, [ONE_FLOW, ""], SessionFault::SinkClosed, 0),
+        (9, [ONE_FLOW, VERSION_9], version, 1),
+        (0, [ONE_FLOW, NOTHING], SessionFault::SinkClosed, 0),
         (1, [ONE_FLOW, NEXT_FLOW], SessionFault::SinkClosed, 1),
     ] {
-        let text = octets_of(alloc, &texts)?;
-        let mut sink = Narrow {
-            room,
-            records: Vec::new(alloc),
-            refused: 0,
-        };
+        let text = joined(alloc, &texts)?;
+        let mut sink = Narrow::new(alloc, room);
         let report = fed_after_fault(&rt, alloc, [&text, &more], &mut sink, fault);
         assert_eq!(rt; sink.records.len() as u64, messages);
         assert_eq!(rt; (report.messages, report.delivered), (messages, messages));
@@ -136,14 +100,14 @@ fn fed_after_fault(
     session.finish()
 }
 
-/// Appends a header alone, or a header and a set whose length is wrong.
-fn push_header(text: &mut Vec<u8>, domain: u32, alone: bool) -> Result<(), Fail> {
-    text.extend_from_slice(&[0, 10, 0, if alone { 16 } else { 20 }])?;
-    text.extend_from_slice(&[0x65, 0x53, 0xf1, 0, 0, 0, 0, 0])?;
-    text.extend_from_slice(&domain.to_be_bytes())?;
-    if !alone {
-        text.extend_from_slice(&[1, 0, 0, 3])?;
+/// Appends a header alone, or a header and a set whose length is below that of its header.
+fn push_message(text: &mut Vec<u8>, domain: u32, alone: bool) -> Result<(), Fail> {
+    if alone {
+        text.extend_from_slice(&header(16, 0, domain))?;
+        return Ok(());
     }
+    text.extend_from_slice(&header(20, 0, domain))?;
+    text.extend_from_slice(&[1, 0, 0, 3])?;
     Ok(())
 }
 
@@ -169,9 +133,9 @@ fn many_domains(rt: HostRuntime) -> Result<(), Fail> {
 fn text_of_domains(alloc: Global, last: u32, alone: bool) -> Result<Vec<u8>, Fail> {
     let mut text = Vec::new(alloc);
     for domain in 0..1024 {
-        push_header(&mut text, domain, true)?;
+        push_message(&mut text, domain, true)?;
     }
-    push_header(&mut text, last, alone)?;
+    push_message(&mut text, last, alone)?;
     Ok(text)
 }
 

@@ -1,6 +1,6 @@
 //! What the worked examples give, however they are cut.
 
-use super::examples::{Example, are_same, examples, octets_of};
+use super::examples::{Example, are_same, examples, joined};
 use super::runs::{Run, assert_one_meaning, driven, fed, fed_all, trickled};
 use std::alloc::Global;
 use std::process::Abort;
@@ -30,7 +30,7 @@ fn assert_gives(rt: &impl Abort, run: &Run, example: &Example) {
 fn worked_examples(rt: HostRuntime) -> Result<(), Fail> {
     let alloc: Global = rt.alloc();
     for example in examples() {
-        let text = octets_of(alloc, example.messages)?;
+        let text = joined(alloc, example.messages)?;
         let run = assert_one_meaning(&rt, alloc, &text)?;
         assert_gives(&rt, &run, &example);
         assert_same_in_pieces(&rt, alloc, &text, &run, &example);

@@ -8,6 +8,8 @@ use Rattle.flow_table.proofs.adding.add_flow.Given as goal
 -- the flow's shares at the intervals so far
 abbrev pub invariant-loop-interval : goal.invariant-loop-interval
 invariant-loop-interval l = record {
-  totals : (k : ℕ) (q : List Cell) → kept_at l.intervals.entries k q ≡ joined (kept_at l.fn.intervals.entries k q) (run_part l.first l.interval l.key (flow_total l.plan l.start l.end l.counters) k q);
+  totals : (k : ℕ) (q : List Cell) → kept_at l.intervals.entries k q ≡ joined (kept_at l.fn.intervals.entries k q) (run_part l.first l.interval l.fn.room.key (flow_total l.plan l.span.start l.span.end l.fn.room.counters.items) k q);
   fits : (k : ℕ) (q : List Cell) → (IsLargeAt (kept_at l.fn.intervals.entries k q) → ⊥) → IsLargeAt (kept_at l.intervals.entries k q) → ⊥;
+  key : l.room.key ≡ l.fn.room.key;
+  counters : l.room.counters.items ≡ l.fn.room.counters.items;
 }

@@ -45,5 +45,5 @@ returns-in_ok-take_flow-in-Used-clause-stands c =
     let reads = subst (λ (x : Reading). ReadsAs c.args.plan.now r c.read.new.key x) c.in-Used.is c.in_ok-class.ensures in
     let own = c.in_ok-tally-in-Used.ensures.ok in
     λ rs holds. used_taken c.args.plan.now c.args.intervals.now.entries c.take_flow.new.intervals.entries c.args.tally.now c.one-in-Used.result c.in_ok-tally-in-Used.field-0 rs r
-    (read_keys_fit c.args.plan.now r c.read.new.key (readings.Used c.in-Used.start c.in-Used.end) reads) reads.0.used c.one-in-Used.ensures own.0 own.1
+    (read_keys_fit c.args.plan.now r c.read.new.key (readings.Used c.in-Used.span) reads) reads.0.used c.one-in-Used.ensures own.0 own.1
     c.in_ok-take_flow-in-Used.ensures.ok c.in_ok-take_flow-in-Used.ensures.fits holds

@@ -1,6 +1,6 @@
 use Rattle.std.proofs.Common.{◌≡◌, drop}
 use Rattle.ipfix_message.specs.DataRecords.{fields_at}
-use Rattle.ipfix_message.proofs.FieldReading.{with_front}
+use Rattle.ipfix_message.proofs.Reading.{with_front}
 use Rattle.ipfix_message.proofs.data_set.fields_of.Given as goal
 
 abbrev pub invariant-loop-spec : goal.invariant-loop-spec

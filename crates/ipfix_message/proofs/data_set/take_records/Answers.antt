@@ -1,7 +1,8 @@
 use Rattle.std.proofs.Common.{◌≡◌, ◌<◌, ◌≤◌, length, Ok, arith}
 use Rattle.std.proofs.lemmas.Result.{err_from_is_err_and}
 use Rattle.ipfix_message.specs.DataRecords.{least, fields_at, records_of_body, record_of}
-use Rattle.ipfix_message.proofs.Bodies.{after, goes_on, is_done, ends, fields_at-takes}
+use Rattle.ipfix_message.proofs.Bodies.{after, goes_on, is_done, ends}
+use Rattle.ipfix_message.proofs.RecordFields.{fields_at-takes}
 use Rattle.ipfix_message.proofs.data_set.take_records.Goals as goal
 
 pub returns-in_err-fields : goal.returns-in_err-fields

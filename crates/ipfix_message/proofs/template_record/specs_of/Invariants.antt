@@ -1,6 +1,6 @@
 use Rattle.std.proofs.Common.{◌≡◌, ◌-◌, vec_len}
 use Rattle.ipfix_message.specs.TemplateRecords.{specs_at}
-use Rattle.ipfix_message.proofs.FieldReading.{with_front}
+use Rattle.ipfix_message.proofs.Reading.{with_front}
 use Rattle.ipfix_message.proofs.template_record.specs_of.Given as goal
 
 abbrev pub invariant-loop : goal.invariant-loop

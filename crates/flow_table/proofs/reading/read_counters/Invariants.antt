@@ -1,6 +1,6 @@
 use Rattle.std.proofs.Common.{◌≡◌, map, take}
 use Rattle.flow_table.specs.Reading.{counter_of}
-use Rattle.flow_table.proofs.adding.read_counters.Given as goal
+use Rattle.flow_table.proofs.reading.read_counters.Given as goal
 
 -- the counters of the first elements
 abbrev pub invariant-loop-element : goal.invariant-loop-element

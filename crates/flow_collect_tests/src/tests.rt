@@ -1,0 +1,5 @@
+//! Worked examples, collected.
+
+mod memory;
+mod serial;
+mod texts;

@@ -1,7 +1,0 @@
-use Rattle.std.proofs.Common.{◌≡◌, take}
-use Rattle.flow_table.specs.Flows.{shares_of}
-use Rattle.flow_table.proofs.adding.read_shares.Given as goal
-
--- the shares of the first counters
-abbrev pub invariant-loop-value : goal.invariant-loop-value
-invariant-loop-value l = l.shares.items ≡ shares_of l.plan l.start l.end (take l.value-index l.counters) l.interval
