@@ -4,11 +4,11 @@ pub mod Headline
 pub mod Texts
 pub mod Refusals
 pub mod Faults
+pub mod Sends
 -- what is known inside a run
 pub mod Adds
 pub mod Serials
 pub mod Promises
-pub mod Sends
 pub mod Sessions
 pub mod Lanes
 pub mod Dealt

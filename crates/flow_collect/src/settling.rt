@@ -1,8 +1,6 @@
 //! Once all threads have been joined: the links are settled, and the tables merged.
 
-use crate::worker::Lane;
 use flow_link::Settled;
-use flow_table::Partial;
 use ipfix_session::SessionReport;
 
 mod finishing;
@@ -10,13 +8,6 @@ mod gathering;
 mod pairing;
 
 pub use finishing::finish_all;
-
-// The lanes of all workers by session, and the table of what came over them.
-#[derive(Drop)]
-struct Gathered {
-    lanes: Vec<Lane>,
-    partial: Partial,
-}
 
 // What is known of the sessions, in order.
 #[derive(Drop)]

@@ -9,7 +9,6 @@ pub mod TemplatesInForce
 pub mod Sets
 pub mod Messages
 pub mod Domains
-
 -- what only inner functions need
 pub mod Held
 pub mod Kept

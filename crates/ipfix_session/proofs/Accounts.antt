@@ -1,11 +1,9 @@
 -- The account of a domain, message by message.
-use Rattle.std.proofs.Common.{◌≡◌, ℕ, ◌+◌, ◌<◌, Bool, true, false, not, cond, eqb, Option, Some, None, List, [], ◌∷◌, ◌++◌, length, map, filter, refl, sym, ap, subst, ◌∙◌, arith, inl, inr, take}
+use Rattle.std.proofs.Common.{◌≡◌, ℕ, ◌+◌, Bool, true, false, not, cond, eqb, Option, Some, None, List, [], ◌∷◌, ◌++◌, map, filter, refl, sym, ap, subst, ◌∙◌, arith, inl, inr}
 use Rattle.std.specs.Prelude.{◌≢◌, ◌⊎◌, sum_by}
 use Rattle.std.proofs.lemmas.Bool.Decides.{eqb_tells}
 use Rattle.std.proofs.lemmas.List.Elements.{filter-append}
-use Rattle.std.proofs.lemmas.List.{append-nil, map-append, map_more}
-use Rattle.std.proofs.lemmas.Option.{get_or_from_slice_get}
-use Rattle.std.specs.List.{slice_get}
+use Rattle.std.proofs.lemmas.List.{append-nil, map-append}
 use Rattle.std.proofs.lemmas.List.Sums.{sum_by-append}
 use Rattle.std.specs.Map.{lookup}
 use Rattle.std.specs.Option.{unwrap_or}
@@ -251,9 +249,3 @@ reports_of-table ms (k ∷ ks) = ap (λ (rs : List DomainReport). domain_report 
 -- the accounts make the reports of the domains
 pub reports_of-accounts : (ms : List Message) → map report_of (accounts_of ms) ≡ map (domain_report ms) (domains_of ms)
 reports_of-accounts ms = reports_of-table ms (domains_of ms)
-
--- the reports of the first accounts, and of one more
-pub reports_more : (es : List (ℕ × Account)) (i : ℕ) (e : ℕ × Account) → i < length es → Some e ≡ slice_get es i
-    → map report_of (take (i + 1) es) ≡ map report_of (take i es) ++ report_of e ∷ []
-reports_more es i e lt found =
-    map_more report_of es i e lt ∙ ap (λ (x : ℕ × Account). map report_of (take i es) ++ report_of x ∷ []) (get_or_from_slice_get es i e e (sym found))

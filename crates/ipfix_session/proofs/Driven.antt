@@ -1,5 +1,5 @@
 -- What a driven session gave, if its sink gave no record back.
-use Rattle.std.proofs.Common.{◌≡◌, ℕ, List, [], ◌++◌, Option, None, Some, length, refl, sym, ap, subst, ◌∙◌, append-nil, arith, true}
+use Rattle.std.proofs.Common.{◌≡◌, ℕ, List, [], ◌++◌, Option, None, Some, refl, sym, ap, subst, ◌∙◌, append-nil, arith, true}
 use Rattle.std.specs.Prelude.{◌≢◌}
 use Rattle.std.specs.Option.{ForSome}
 use Rattle.std.specs.Io.KnownBytes.{Consumes}

@@ -1,7 +1,7 @@
 -- Driving a session, read by read.
 use Rattle.std.proofs.Common.{◌≡◌, ℕ, ◌+◌, ◌<◌, ◌≤◌, ltb, eqb, List, [], ◌++◌, length, Option, Some, None, Err, refl, sym, ap, subst, ◌∙◌, arith, inl, inr}
 use Rattle.std.specs.Prelude.{◌⊎◌, ◌-◌, ◌^◌, ◌||◌, ◌&&◌, ◌==◌, nat_lt, Bool, true, false, take, Ok}
-use Rattle.std.specs.Io.KnownBytes.{Consumes, Keeps}
+use Rattle.std.specs.Io.KnownBytes.{Consumes}
 use Rattle.std.proofs.KnownBytes.{Consumes-nil, Consumes-trans, Consumes-kept}
 use Rattle.std.proofs.Math.Bool.{or-false}
 use Rattle.std.proofs.lemmas.Bool.{ltb-false, ltb-true, lt-ltb, eqb-true}
@@ -21,7 +21,7 @@ use Rattle.ipfix_session.specs.Sources.{SourceView, IsRead, one_more, tells_end}
 use Rattle.ipfix_session.specs.Sinks.{SinkView, Takes}
 use Rattle.ipfix_session.specs.Feeding.{State, Tells, fault_at, StandsForText, PutsWhole, PutsAll, RunsOut, Feeds}
 use Rattle.ipfix_session.specs.Reports.{Reports, IsReport}
-use Rattle.ipfix_session.specs.Drives.{IsDue, StopsAtFault, Gave, PutsUpTo, Drives}
+use Rattle.ipfix_session.specs.Drives.{IsDue, StopsAtFault, PutsUpTo, Drives}
 use Rattle.ipfix_session.proofs.Reaching.{takes-append, takes-none, gives_first, may_go_on}
 
 -- after this many reads the session stands for what the source gave, and its records were put

@@ -1,6 +1,6 @@
 -- Putting records one by one.
 use Rattle.std.proofs.Common.{◌≡◌, ℕ, ◌+◌, List, [], ◌∷◌, ◌++◌, length, refl, sym, ap, subst, ◌∙◌, append_assoc, arith}
-use Rattle.std.proofs.lemmas.List.{append-nil, length-append}
+use Rattle.std.proofs.lemmas.List.{append-nil, length-append, nil_from_length}
 use Rattle.std.proofs.lemmas.Fn.{FoldsTo-push}
 use Rattle.ipfix_message.specs.declared.record.DataRecord.{DataRecord}
 use Rattle.ipfix_session.specs.Ledger.{capped}
@@ -34,14 +34,10 @@ put_next view records left rest old now next size less before after last item p 
       sized = omega (arith, p.sized, smaller, n);
     }
 
-none_are_left : (left : List DataRecord) → length left ≡ 0 → left ≡ []
-none_are_left [] e = refl
-none_are_left (x ∷ xs) e = absurd (omega (arith, e))
-
 pub put_done : {K : Type 0} (view : SinkView K) (records left : List DataRecord) (old now size : ℕ) (before after : K) → Putting view records old now before after left size → size ≡ 0
     → Takes view before records after × CountsOn old (length records) now
 put_done view records left old now size before after p e =
-    let all : records ≡ p.put = p.whole ∙ ap (λ (rs : List DataRecord). p.put ++ rs) (none_are_left left (omega (arith, p.sized, e))) ∙ append-nil p.put in
+    let all : records ≡ p.put = p.whole ∙ ap (λ (rs : List DataRecord). p.put ++ rs) (nil_from_length left (omega (arith, p.sized, e))) ∙ append-nil p.put in
     (subst (λ (rs : List DataRecord). Takes view before rs after) (sym all) p.takes, subst (λ (rs : List DataRecord). CountsOn old (length rs) now) (sym all) p.counted)
 
 pub put_back : {K : Type 0} (view : SinkView K) (records left rest : List DataRecord) (old now size : ℕ) (before after last : K) (item : DataRecord)

@@ -5,12 +5,13 @@ ghost use Rattle.flow_table.specs.Plans.{PlanValue};
 ghost use Rattle.flow_collect.specs.Dealt.{IsPaired};
 ghost use Rattle.flow_collect.specs.Finished.{HasTaken, ended_link, lanes_of, FinishedAs, IsOverfull};
 
+use super::Parts;
 use super::gathering::gather;
 use super::pairing::settle_all;
-use super::{Gathered, Parts};
 use crate::collected::Collected;
 use crate::run_fault::RunFault;
 use crate::threads::Joined;
+use crate::worker::Worked;
 use flow_table::TableFault;
 use std::alloc::Global;
 use std::collections::VecDeque;
@@ -26,8 +27,8 @@ pub fn finish_all<S: Drop>(
         → IfOk result (λ answer. MatchOption answer (IsOverfull plan joined.sessions.items) (λ c. FinishedAs plan joined.sessions.items c)) }
 {
     let Joined { sessions, worked } = joined;
-    let gathered = gather(worked)?;
-    let Gathered { lanes, partial } = gathered;
+    let all = gather(worked)?;
+    let Worked { lanes, partial } = all;
     let parts = settle_all(alloc, sessions, VecDeque::from_vec(lanes))?;
     let table = match partial.finish() {
         Ok(table) => table,

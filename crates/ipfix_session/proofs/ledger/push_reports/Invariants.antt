@@ -1,4 +1,4 @@
-use Rattle.std.proofs.Common.{◌≡◌, ◌≤◌, ℕ, ◌+◌, ◌++◌, length, map}
+use Rattle.std.proofs.Common.{◌≡◌, ◌≤◌, ◌+◌, ◌++◌, length, map}
 use Rattle.std.specs.Vec.{vec_capacity, vec_len}
 use Rattle.ipfix_session.specs.Ledger.{report_of}
 use Rattle.ipfix_session.proofs.ledger.push_reports.Given as goal

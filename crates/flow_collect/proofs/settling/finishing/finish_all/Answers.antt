@@ -13,13 +13,13 @@ use Rattle.flow_collect.proofs.settling.finishing.finish_all.Goals as goal
 pub settle_all-requires : goal.settle_all-requires
 settle_all-requires g c =
     let P = IsPaired (map ended_link c.args.joined.sessions.items) in
-    subst (All P) (sym c.from_vec.ensures.items) (All-permutation P _ _ c.in_ok-gathered.ensures.lanes c.requires.paired)
+    subst (All P) (sym c.from_vec.ensures.items) (All-permutation P _ _ c.in_ok-all.ensures.lanes c.requires.paired)
 
 pub returns-in-Err-SumTooLarge : goal.returns-in-Err-SumTooLarge
-returns-in-Err-SumTooLarge g c = λ plan all.
-    let ended = subst (All IsEnded) (sym c.from_vec.ensures.items) (All-permutation IsEnded _ _ c.in_ok-gathered.ensures.lanes (lanes_ended plan _ all)) in
-    let table = subst (StandsForLanes c.in_ok-gathered.gathered.partial) (sym c.from_vec.ensures.items) c.in_ok-gathered.ensures.table in
-    let is = c.in_ok-gathered.ensures.plan plan all in
+returns-in-Err-SumTooLarge g c = λ plan taken.
+    let ended = subst (All IsEnded) (sym c.from_vec.ensures.items) (All-permutation IsEnded _ _ c.in_ok-all.ensures.lanes (lanes_ended plan _ taken)) in
+    let table = subst (StandsForLanes c.in_ok-all.all.partial) (sym c.from_vec.ensures.items) c.in_ok-all.ensures.table in
+    let is = c.in_ok-all.ensures.plan plan taken in
     record {
       reports = c.in_ok-parts.parts.sessions.items;
       links = c.in_ok-parts.parts.links.items;
@@ -30,10 +30,10 @@ returns-in-Err-SumTooLarge g c = λ plan all.
     }
 
 pub returns : goal.returns
-returns g c = λ plan all.
-    let ended = subst (All IsEnded) (sym c.from_vec.ensures.items) (All-permutation IsEnded _ _ c.in_ok-gathered.ensures.lanes (lanes_ended plan _ all)) in
-    let table = subst (StandsForLanes c.in_ok-gathered.gathered.partial) (sym c.from_vec.ensures.items) c.in_ok-gathered.ensures.table in
-    let is = c.in_ok-gathered.ensures.plan plan all in
+returns g c = λ plan taken.
+    let ended = subst (All IsEnded) (sym c.from_vec.ensures.items) (All-permutation IsEnded _ _ c.in_ok-all.ensures.lanes (lanes_ended plan _ taken)) in
+    let table = subst (StandsForLanes c.in_ok-all.all.partial) (sym c.from_vec.ensures.items) c.in_ok-all.ensures.table in
+    let is = c.in_ok-all.ensures.plan plan taken in
     record {
       records = table.records;
       came = came_over _ _ _ _ _ _ c.in_ok-parts.ensures ended table;

@@ -1,4 +1,4 @@
-use Rattle.std.proofs.Common.{◌∷◌, ◌++◌, [], refl, sym, ap, ◌∙◌, subst, append-nil}
+use Rattle.std.proofs.Common.{◌≡◌, ◌∷◌, ◌++◌, [], refl, sym, ap, ◌∙◌, subst, append-nil}
 use Rattle.std.specs.Prelude.{All}
 use Rattle.std.proofs.lemmas.List.Elements.{All-tail, All-head}
 use Rattle.flow_table.specs.Partials.{plan_of}
@@ -11,33 +11,33 @@ use Rattle.flow_collect.proofs.settling.gathering.merge_all.Goals as goal
 pub loop-other-init : goal.loop-other-init
 loop-other-init c =
     let P = HasTaken c.requires.0 in
-    let all = subst (All P) c.in-Some.ensures.items c.requires.1 in
-    let first = All-head P _ _ all in (
+    let taken = subst (All P) c.in-Some.ensures.items c.requires.1 in
+    let first = All-head P _ _ taken in (
       c.in-Some.first ∷ [],
       c.in-Some.ensures.items,
       sym (append-nil c.in-Some.first.lanes.items),
-      subst (λ (plan : PlanValue). All (HasTaken plan) c.pop_front.new.self.items) (sym first.plan_is) (All-tail P _ _ all),
+      subst (λ (plan : PlanValue). All (HasTaken plan) c.pop_front.new.self.items) (sym first.plan_is) (All-tail P _ _ taken),
       refl,
       first.table,
     )
 
-pub merge-requires : goal.merge-requires
-merge-requires c =
-    let P = HasTaken (plan_of c.loop-other.partial) in
+pub merge_one-requires : goal.merge_one-requires
+merge_one-requires c =
+    let P = HasTaken (plan_of c.loop-other.all.partial) in
     let other = All-head P _ _ (subst (All P) c.in-Some-pop_front.ensures.items c.loop-other.invariant.3) in
     other.plan_is
 
 pub loop-other-preserved : goal.loop-other-preserved
 loop-other-preserved c =
     let inv = c.loop-other.invariant in
-    let P = HasTaken (plan_of c.loop-other.partial) in
-    let all = subst (All P) c.in-Some-pop_front.ensures.items inv.3 in
-    let other = All-head P _ _ all in
-    let joined = c.in_ok-append.ensures.items in (
+    let P = HasTaken (plan_of c.loop-other.all.partial) in
+    let taken = subst (All P) c.in-Some-pop_front.ensures.items inv.3 in
+    let other = All-head P _ _ taken in
+    let one = c.in_ok-merge_one.ensures in (
       inv.0 ++ c.in-Some-pop_front.other ∷ [],
       split_on _ inv.0 _ _ _ inv.1 c.in-Some-pop_front.ensures.items,
-      joined ∙ (ap (λ x. x ++ c.in-Some-pop_front.other.lanes.items) inv.2 ∙ sym (lanes_of_push inv.0 c.in-Some-pop_front.other)),
-      subst (λ (plan : PlanValue). All (HasTaken plan) c.pop_front-in-loop-other.new.self.items) (sym c.merge.ensures.plan) (All-tail P _ _ all),
-      c.merge.ensures.plan ∙ inv.4,
-      rw joined (stands_joined _ _ _ _ _ c.merge.ensures.merges inv.5 other.table),
+      one.lanes ∙ (ap (λ x. x ++ c.in-Some-pop_front.other.lanes.items) inv.2 ∙ sym (lanes_of_push inv.0 c.in-Some-pop_front.other)),
+      subst (λ (plan : PlanValue). All (HasTaken plan) c.pop_front-in-loop-other.new.self.items) (sym one.plan) (All-tail P _ _ taken),
+      one.plan ∙ inv.4,
+      rw one.lanes (stands_joined _ _ _ _ _ one.merges inv.5 other.table),
     )

@@ -11,10 +11,10 @@ abbrev pub invariant-loop-other : goal.invariant-loop-other
 invariant-loop-other l =
     (ws : List Worked)
     × (l.fn.worked.items ≡ ws ++ l.worked.items)
-    × (l.lanes.items ≡ lanes_of ws)
-    × All (HasTaken (plan_of l.partial)) l.worked.items
-    × (plan_of l.partial ≡ plan_of l.initial.partial)
-    × StandsForLanes l.partial l.lanes.items
+    × (l.all.lanes.items ≡ lanes_of ws)
+    × All (HasTaken (plan_of l.all.partial)) l.worked.items
+    × (plan_of l.all.partial ≡ plan_of l.initial.all.partial)
+    × StandsForLanes l.all.partial l.all.lanes.items
 
 abbrev pub decreases-loop-other : goal.decreases-loop-other
 decreases-loop-other l = deque_len l.worked
