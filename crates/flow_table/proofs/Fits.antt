@@ -9,6 +9,7 @@ use Rattle.std.proofs.lemmas.Nat.{mul-add-lt}
 use Rattle.std.proofs.Math.Nat.{pow-suc, pow-le-pow_right}
 use Rattle.byteorder.specs.Endian.{big_from, big_number}
 use Rattle.ipfix_wire.specs.declared.specifier.ElementId.{ElementId}
+use Rattle.ipfix_elements.proofs.Lookups.{mapped}
 use Rattle.ipfix_elements.specs.Elements.{kind_of}
 use Rattle.ipfix_elements.specs.Values.{octets_of as width_of, is_number_length, number_in, cell_in}
 use Rattle.ipfix_elements.specs.declared.cell.Cell.{Cell}
@@ -68,11 +69,7 @@ number_fits width octets n small h =
           cc
     ]
 
--- what stands behind a value that was mapped, chosen or read further
-mapped : {X Y : Type 0} (f : X → Y) (o : Option X) (y : Y) → option_map f o ≡ Some y → (x : X) × (o ≡ Some x) × (f x ≡ y)
-mapped f None y h = absurd cc
-mapped f (Some x) y h = (x, refl, cc)
-
+-- what a value was before it was chosen or read further
 chosen : {X : Type 0} (b : Bool) (x y : X) → cond b (Some x) None ≡ Some y → (b ≡ true) × (x ≡ y)
 chosen true x y h = (refl, cc)
 chosen false x y h = absurd cc
