@@ -18,13 +18,14 @@ use Rattle.ipfix_elements.specs.declared.kind.Kind.{Kind}
 use Rattle.ipfix_elements.specs.declared.kind.Kind.TheVariants.{Unsigned, Ipv4, Ipv6, Mac, Seconds, Millis, Octets}
 use Rattle.ipfix_elements.specs.declared.kind.Width.{Width}
 use Rattle.ipfix_message.specs.Fields.{Field, octets_of, same_element}
+use Rattle.ipfix_message.specs.DataRecords.{HasOctets}
 use Rattle.ipfix_message.specs.declared.record.DataRecord.{DataRecord}
 use Rattle.flow_table.specs.declared.class.Class.{Class}
 use Rattle.flow_table.specs.declared.class.Class.TheVariants as classes
 use Rattle.flow_table.specs.declared.key.Key.{Key}
 use Rattle.flow_table.specs.declared.table.Row.{Row}
 use Rattle.flow_table.specs.declared.table.Table.{Table}
-use Rattle.flow_table.specs.Fitting.{IsCellOf, FitsKeys, FitsRow, FitsPlan, KeysFit, HasOctets}
+use Rattle.flow_table.specs.Fitting.{IsCellOf, FitsKeys, FitsRow, FitsPlan, KeysFit}
 use Rattle.flow_table.specs.Intervals.{covers}
 use Rattle.flow_table.specs.Plans.{PlanValue, IsPlan, is_key_kind}
 use Rattle.flow_table.specs.Reading.{projected, cell_of, cells_of, key_of, class_of}
