@@ -1,17 +1,17 @@
 -- What the writer of `csv` writes of a table is its text.
-use Rattle.std.proofs.Common.{◌≡◌, ℕ, List, [], ◌∷◌, ◌++◌, map, Option, Result, Ok, Err, refl, sym, ap, subst, ◌∙◌}
+use Rattle.std.proofs.Common.{◌≡◌, ℕ, List, [], ◌∷◌, ◌++◌, map, Option, Result, refl, sym, ap, subst, ◌∙◌}
 use Rattle.std.specs.Prelude.{codes}
 use Rattle.std.specs.Fmt.{decimal}
 use Rattle.std.specs.List.{flat_map}
 use Rattle.std.specs.Result.{OnOk}
 use Rattle.std.specs.Io.KnownBytes.{Appends}
-use Rattle.std.proofs.KnownBytes.{Appends-trans}
 use Rattle.flow_table.specs.declared.table.Row.{Row}
 use Rattle.flow_table.specs.Plans.{PlanValue}
 use Rattle.flow_table.specs.SameTables.{RowValue, value_of}
 use Rattle.csv.specs.Writing.{default_writer, row_text}
 use Rattle.flow_export.specs.CsvText.{line, heading, first_of, last_of, row_texts, row_line, csv_text}
 use Rattle.flow_export.specs.Written.{written_heading, written_row, written_rows}
+use Rattle.flow_export.proofs.Appending.{then_rest}
 use Rattle.flow_export.proofs.Plain.{row_text-plain, heading_plain, row_plain}
 
 pub heading_written : (plan : PlanValue) → row_text default_writer (heading plan) ≡ line (heading plan)
@@ -32,7 +32,6 @@ table_written plan rows =
 -- where the rows were written behind the heading, the table was
 pub table_appended : {A E : Type 0} (r : Result A E) (plan : PlanValue) (rows : List Row) (first : List ℕ) (a b c : Option (List ℕ)) → first ≡ written_heading plan → Appends a b first
     → OnOk r (Appends b c (written_rows plan rows)) → OnOk r (Appends a c (csv_text plan (map value_of rows)))
-table_appended (Ok x) plan rows first a b c is_first heading rest =
-    subst (λ (t : List ℕ). Appends a c t) (table_written plan rows)
-    (Appends-trans a b c (written_heading plan) (written_rows plan rows) (subst (λ (t : List ℕ). Appends a b t) is_first heading) rest)
-table_appended (Err e) plan rows first a b c is_first heading rest = tt
+table_appended r plan rows first a b c is_first heading rest =
+    subst (λ (t : List ℕ). OnOk r (Appends a c t)) (table_written plan rows)
+    (then_rest r a b c (written_heading plan) (written_rows plan rows) (subst (λ (t : List ℕ). Appends a b t) is_first heading) rest)

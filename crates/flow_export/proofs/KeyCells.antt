@@ -1,7 +1,7 @@
 -- The octets of a row, part by part.
 use Rattle.std.proofs.Common.{◌≡◌, ℕ, zero, suc, ◌+◌, ◌-◌, ◌*◌, ◌<◌, ◌≤◌, List, [], ◌∷◌, ◌++◌, length, map, get_or, take, refl, sym, ap, ◌∙◌, append_assoc, add-one, arith}
 use Rattle.std.specs.List.{zip, flat_map, AllZip}
-use Rattle.std.proofs.lemmas.List.{append-nil, take_all, flat_map_more, take_more}
+use Rattle.std.proofs.lemmas.List.{append-nil, take_all}
 use Rattle.std.proofs.lemmas.Grind.{flat_map-append}
 use Rattle.ipfix_wire.specs.declared.specifier.ElementId.{ElementId}
 use Rattle.ipfix_elements.specs.Cells.{FitsWidth, cell_octets}
@@ -19,7 +19,7 @@ use Rattle.flow_table.specs.declared.table.Row.{Row}
 use Rattle.flow_export.specs.Fitting.{FitsValue}
 use Rattle.flow_export.specs.IpfixText.{width_of, key_field, number_field, number_octets, row_octets}
 use Rattle.flow_export.specs.CsvText.{first_of, last_of}
-use Rattle.flow_export.specs.RowOctets.{wide_octets, cells_octets, octets_of_row, octets_of_rows}
+use Rattle.flow_export.specs.RowOctets.{wide_octets, cells_octets, octets_of_row}
 
 -- ---- cells and their kinds
 
@@ -110,7 +110,7 @@ row_parts plan row fits =
 five_parts : (o p q r s t a b c d e : List ℕ) → p ≡ o ++ a → q ≡ p ++ b → r ≡ q ++ c → s ≡ r ++ d → t ≡ s ++ e → t ≡ o ++ (a ++ (b ++ (c ++ (d ++ e))))
 five_parts o p q r s t a b c d e is_p is_q is_r is_s is_t = rw (is_t, is_s, is_r, is_q, is_p) (simp append_assoc)
 
-fits_value : (plan : PlanValue) (row : Row) → FitsRow plan row → FitsValue plan (value_of row)
+pub fits_value : (plan : PlanValue) (row : Row) → FitsRow plan row → FitsValue plan (value_of row)
 fits_value plan row fits = record { key = fits.key; sums = fits.sums }
 
 pub row_appended : (plan : PlanValue) (row : Row) (l : ℕ) (ks : List Kind) (cs : List Cell) (vs o p q r s t : List ℕ) → FitsRow plan row
@@ -125,10 +125,3 @@ row_appended plan row l ks cs vs o p q r s t fits is_l is_ks is_cs is_vs is_p is
     five_parts o p q r s t (number_octets (first_of plan (value_of row))) (number_octets (last_of plan (value_of row))) (cells_octets (kinds_of plan.keys) row.key.items) (flat_map number_octets row.sums.items) (number_octets row.flows)
     (is_p ∙ ap (λ (x : List ℕ). o ++ x) first) (is_q ∙ ap (λ (x : List ℕ). p ++ x) last) (is_r ∙ ap (λ (x : List ℕ). q ++ x) cells) (is_s ∙ ap (λ (x : List ℕ). r ++ x) sums) is_t
     ∙ ap (λ (x : List ℕ). o ++ x) (sym (row_parts plan (value_of row) (fits_value plan row fits)))
-
--- one more row behind those that were appended
-pub rows_appended : (plan : PlanValue) (rows : List Row) (i : ℕ) (row : Row) (o p q : List ℕ) → i < length rows → row ≡ get_or rows i row
-    → p ≡ o ++ octets_of_rows plan (take i rows) → q ≡ p ++ octets_of_row plan row → q ≡ o ++ octets_of_rows plan (take (i + 1) rows)
-rows_appended plan rows i row o p q inside is_row is_p is_q =
-    let more : take (i + 1) rows ≡ take i rows ++ row ∷ [] = take_more rows i row inside ∙ ap (λ (r : Row). take i rows ++ r ∷ []) (sym is_row) in
-    is_q ∙ ap (λ (x : List ℕ). x ++ octets_of_row plan row) is_p ∙ flat_map_more (octets_of_row plan) o (take i rows) row ∙ ap (λ (rs : List Row). o ++ octets_of_rows plan rs) (sym more)

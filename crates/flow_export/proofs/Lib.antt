@@ -1,7 +1,11 @@
 pub mod InBlocks
 pub mod Plain
 pub mod AsWritten
+pub mod Appending
 pub mod Room
 pub mod RowFields
 pub mod PlanFacts
 pub mod KeyCells
+pub mod Lengths
+pub mod TemplateParts
+pub mod MessageParts

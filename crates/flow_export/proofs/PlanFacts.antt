@@ -16,8 +16,9 @@ use Rattle.ipfix_elements.specs.declared.kind.Width.TheVariants.{One, Two, Four,
 use Rattle.ipfix_elements.proofs.Lookups.{find_passes, cases_Option}
 use Rattle.ipfix_message.specs.DataRecords.{least}
 use Rattle.flow_table.specs.declared.key.Key.{Key}
-use Rattle.flow_table.specs.Plans.{PlanValue, IsPlan, is_key_kind, is_counter, prefix_element}
+use Rattle.flow_table.specs.Plans.{PlanValue, IsPlan, is_key_kind, is_counter, exported_element, prefix_element}
 use Rattle.flow_table.proofs.PlanKeys.{passed_tests}
+use Rattle.flow_export.specs.Fitting.{HasNumber}
 use Rattle.flow_export.specs.IpfixText.{iana, width_of, key_width, key_spec, number_spec}
 use Rattle.flow_export.proofs.Room.{IsSpec, HasRoom}
 
@@ -216,3 +217,23 @@ has_room plan is =
       few = omega (arith, eight, four, length-append (map key_spec plan.keys) counters, length-append (map number_spec plan.counters) (last ∷ []), keys_len, counters_len);
       short = omega (arith, eight, four, least-append (map key_spec plan.keys) counters, least-append (map number_spec plan.counters) (last ∷ []), least-keys plan.keys tests.kinds, least-counters plan.counters);
     }
+
+-- ---- numbers of elements
+
+key_numbers_of : (ks : List Key) → KeysOf ks → All (λ k. HasNumber (exported_element k)) ks
+key_numbers_of [] keys = All-nil (λ k. HasNumber (exported_element k))
+key_numbers_of (k ∷ ks) keys =
+    let both = and_parts (is_key_kind (kind_of k.element)) (list_all (λ k. is_key_kind (kind_of k.element)) ks) keys in
+    All-cons (λ k. HasNumber (exported_element k)) k ks (key_fits k both.0).number (key_numbers_of ks both.1)
+
+counter_numbers_of : (cs : List ElementId) → CountersOf cs → All HasNumber cs
+counter_numbers_of [] counters = All-nil HasNumber
+counter_numbers_of (c ∷ cs) counters =
+    let both = and_parts (is_counter c) (list_all is_counter cs) counters in
+    All-cons HasNumber c cs (counter_is_value c both.0).1.number (counter_numbers_of cs both.1)
+
+pub key_numbers : (plan : PlanValue) → IsPlan plan → All (λ k. HasNumber (exported_element k)) plan.keys
+key_numbers plan is = key_numbers_of plan.keys (passed_tests plan is).kinds
+
+pub counter_numbers : (plan : PlanValue) → IsPlan plan → All HasNumber plan.counters
+counter_numbers plan is = counter_numbers_of plan.counters (passed_tests plan is).counters

@@ -17,7 +17,7 @@ use Rattle.ipfix_elements.specs.declared.kind.Width.{Width}
 use Rattle.ipfix_elements.specs.declared.kind.Width.TheVariants.{One, Two, Four, Eight}
 use Rattle.ipfix_message.specs.Fields.{Field}
 use Rattle.ipfix_message.specs.DataRecords.{Spells, least}
-use Rattle.ipfix_message.proofs.Bodies.{different}
+use Rattle.ipfix_wire.proofs.Choices.{different}
 use Rattle.flow_table.specs.declared.key.Key.{Key}
 use Rattle.flow_table.specs.Plans.{PlanValue}
 use Rattle.flow_table.specs.Fitting.{IsCellOf, FitsKeys}

@@ -1,5 +1,6 @@
--- Rows that have the fields of a plan.
-use Rattle.std.specs.Prelude.{◌≡◌, length}
+-- Rows that have the fields of a plan, and elements that have room.
+use Rattle.std.specs.Prelude.{◌≡◌, ◌<◌, ◌^◌, length}
+use Rattle.ipfix_wire.specs.declared.specifier.ElementId.{ElementId}
 use Rattle.flow_table.specs.Fitting.{FitsKeys}
 use Rattle.flow_table.specs.Plans.{PlanValue}
 use Rattle.flow_table.specs.SameTables.{RowValue}
@@ -8,3 +9,7 @@ use Rattle.flow_table.specs.SameTables.{RowValue}
 pub record FitsValue (plan : PlanValue) (row : RowValue) : Type 0 where
   pub key : FitsKeys plan.keys row.key
   pub sums : length row.sums ≡ length plan.counters
+
+-- an element whose number has room in 15 bits (RFC 7011, section 3.2)
+abbrev pub HasNumber : ElementId → Type 0
+HasNumber element = element.number < 2 ^ 15

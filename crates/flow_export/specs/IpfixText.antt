@@ -1,5 +1,6 @@
 -- A table as messages of IPFIX (RFC 7011): a template, and then the rows as its data records.
-use Rattle.std.specs.Prelude.{ℕ, ◌+◌, ◌*◌, ◌/◌, ◌-◌, List, [], ◌∷◌, ◌++◌, length, map, take, drop, zip, flat_map}
+use Rattle.std.specs.Prelude.{ℕ, ◌+◌, ◌*◌, List, [], ◌∷◌, ◌++◌, length, map, take, drop, zip, flat_map}
+use Rattle.std.specs.Int.{div_ceil}
 use Rattle.std.specs.List.{range_with_len}
 use Rattle.byteorder.specs.Endian.{big_bytes}
 use Rattle.ipfix_wire.specs.MessageHeader.{header_octets}
@@ -111,9 +112,9 @@ data_message plan time sequence rows = message time sequence FIRST_TEMPLATE_ID (
 abbrev pub rows_of_message : List RowValue → ℕ → List RowValue
 rows_of_message rows i = take ROWS_A_MESSAGE (drop (ROWS_A_MESSAGE * i) rows)
 
--- the messages that rows fill, the last of them in part
+-- how many messages rows fill, the last of them perhaps in part
 abbrev pub message_count : List RowValue → ℕ
-message_count rows = (length rows + (ROWS_A_MESSAGE - 1)) / ROWS_A_MESSAGE
+message_count rows = div_ceil (length rows) ROWS_A_MESSAGE
 
 -- the message of rows i: its sequence number counts the rows before it
 abbrev pub message_of_rows : PlanValue → ℕ → List RowValue → ℕ → List ℕ

@@ -1,12 +1,13 @@
--- The octets of rows, and of the cells of a key.
-use Rattle.std.specs.Prelude.{ℕ, List, zip, flat_map}
+-- The octets of rows and of their messages, and of the cells of a key.
+use Rattle.std.specs.Prelude.{ℕ, List, map, zip, flat_map}
+use Rattle.std.specs.List.{range_with_len}
 use Rattle.ipfix_elements.specs.Cells.{cell_octets}
 use Rattle.ipfix_elements.specs.declared.cell.Cell.{Cell}
 use Rattle.ipfix_elements.specs.declared.kind.Kind.{Kind}
 use Rattle.flow_table.specs.declared.table.Row.{Row}
 use Rattle.flow_table.specs.Plans.{PlanValue}
 use Rattle.flow_table.specs.SameTables.{value_of}
-use Rattle.flow_export.specs.IpfixText.{row_octets, width_of}
+use Rattle.flow_export.specs.IpfixText.{message_count, message_of_rows, row_octets, width_of}
 
 -- a cell as wide as its kind says
 abbrev pub wide_octets : Kind × Cell → List ℕ
@@ -22,3 +23,7 @@ octets_of_row plan row = row_octets plan (value_of row)
 
 abbrev pub octets_of_rows : PlanValue → List Row → List ℕ
 octets_of_rows plan rows = flat_map (octets_of_row plan) rows
+
+-- the messages of rows
+abbrev pub messages_of_rows : PlanValue → ℕ → List Row → List ℕ
+messages_of_rows plan time rows = flat_map (message_of_rows plan time (map value_of rows)) (range_with_len 0 (message_count (map value_of rows)))

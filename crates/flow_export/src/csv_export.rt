@@ -66,12 +66,12 @@ fn heading_text(alloc: Global, plan: &Plan) -> Result<Vec<u8>, AllocError>
 {
     let mut line = ByteRecord::new(alloc);
     set_heading(plan, &mut Vec::new(alloc), &mut line)?;
-    let mut wtr = WriterBuilder::new().from_writer(Vec::new(alloc));
-    // A writer over a vector fails only if memory runs out, or if lines have unequal lengths.
-    if wtr.write_byte_record(&line).is_err() {
+    let mut writer = WriterBuilder::new().from_writer(Vec::new(alloc));
+    // A writer over a vector fails only if memory runs out.
+    if writer.write_byte_record(&line).is_err() {
         return Err(AllocError);
     }
-    wtr.into_inner().map_err(|_| AllocError)
+    writer.into_inner().map_err(|_| AllocError)
 }
 
 /// The lines of rows.
@@ -81,12 +81,12 @@ fn rows_text(alloc: Global, plan: &Plan, rows: &[Row]) -> Result<Vec<u8>, AllocE
 {
     let mut text = Vec::new(alloc);
     let mut line = ByteRecord::new(alloc);
-    let mut wtr = WriterBuilder::new().from_writer(Vec::new(alloc));
+    let mut lines = WriterBuilder::new().from_writer(Vec::new(alloc));
     for row in rows {
         set_row(plan, row, &mut text, &mut line)?;
-        if wtr.write_byte_record(&line).is_err() {
+        if lines.write_byte_record(&line).is_err() {
             return Err(AllocError);
         }
     }
-    wtr.into_inner().map_err(|_| AllocError)
+    lines.into_inner().map_err(|_| AllocError)
 }

@@ -16,11 +16,7 @@ use itoa::Buffer;
 use std::alloc::AllocError;
 
 /// The names of the fields. `text` is room to write in.
-pub fn set_heading(
-    plan: &Plan,
-    text: &mut Vec<u8>,
-    line: &mut ByteRecord,
-) -> Result<(), AllocError>
+pub fn set_heading(plan: &Plan, text: &mut Vec<u8>, line: &mut ByteRecord) -> Result<(), AllocError>
     ensures { OnOk result (fields_of line.new ≡ heading plan.now) }
 {
     line.clear();

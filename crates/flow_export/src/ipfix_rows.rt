@@ -1,6 +1,6 @@
 //! Rows as data records of IPFIX (RFC 7011, section 3.4.3).
 
-ghost use Rattle.std.specs.Prelude.{◌≡◌, ◌++◌, All, flat_map, OnOk};
+ghost use Rattle.std.specs.Prelude.{◌≡◌, ◌+◌, ◌*◌, ◌++◌, ◌≤◌, All, flat_map, length, OnOk};
 ghost use Rattle.std.specs.List.{AllZip};
 ghost use Rattle.flow_table.specs.Fitting.{FitsRow, IsCellOf};
 ghost use Rattle.flow_export.specs.IpfixText.{number_octets};
@@ -18,7 +18,8 @@ pub const ROWS_A_MESSAGE: usize = 100;
 /// Appends the octets of rows.
 pub fn append_rows(plan: &Plan, rows: &[Row], out: &mut Vec<u8>) -> Result<(), AllocError>
     requires { All (FitsRow plan.now) rows.now }
-    ensures { OnOk result (out.new.items ≡ out.old.items ++ octets_of_rows plan.now rows.now) }
+    ensures octets { OnOk result (out.new.items ≡ out.old.items ++ octets_of_rows plan.now rows.now) }
+    ensures short { OnOk result (length out.new.items ≤ length out.old.items + 184 * length rows.now) }
 {
     for row in rows {
         append_row(plan, row, out)?;
@@ -29,7 +30,8 @@ pub fn append_rows(plan: &Plan, rows: &[Row], out: &mut Vec<u8>) -> Result<(), A
 /// Appends the octets of a row: its interval, its key, its sums and the number of its flows.
 fn append_row(plan: &Plan, row: &Row, out: &mut Vec<u8>) -> Result<(), AllocError>
     requires { FitsRow plan.now row.now }
-    ensures { OnOk result (out.new.items ≡ out.old.items ++ octets_of_row plan.now row.now) }
+    ensures octets { OnOk result (out.new.items ≡ out.old.items ++ octets_of_row plan.now row.now) }
+    ensures short { OnOk result (length out.new.items ≤ length out.old.items + 184) }
 {
     let length = u64::from(plan.length());
     let first = row.interval * length;

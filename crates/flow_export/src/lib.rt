@@ -6,12 +6,16 @@ mod csv_line;
 mod examples;
 mod fault;
 mod format;
+mod ipfix_export;
 mod ipfix_rows;
+mod ipfix_template;
 mod laws;
+mod messages;
 mod widths;
 
 pub use csv_export::write_csv;
 pub use fault::ExportFault;
 pub use format::Format;
+pub use ipfix_export::{ipfix_bytes, write_ipfix};
 pub use ipfix_rows::ROWS_A_MESSAGE;
 pub use laws::nothing_is_quoted;

@@ -1,7 +1,7 @@
 //! The widths of fields.
 
 ghost use Rattle.std.specs.Prelude.{◌≡◌};
-ghost use Rattle.flow_export.specs.IpfixText.{width_of as width_in, number_width};
+ghost use Rattle.flow_export.specs.IpfixText.{width_of as width_in};
 
 use ipfix_elements::{Kind, Width};
 use ipfix_wire::VARIABLE_WIDTH;

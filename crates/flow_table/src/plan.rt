@@ -123,6 +123,8 @@ impl Plan {
         ensures value { result.now ≡ self.now.counters }
         ensures some { 1 ≤ length result.now }
         ensures few { length result.now ≤ MAX_COUNTERS }
+        // No fault fits a plan that was made.
+        ensures sound { IsPlan self.now }
     {
         &self.counters
     }

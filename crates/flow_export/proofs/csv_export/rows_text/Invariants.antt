@@ -5,5 +5,5 @@ use Rattle.flow_export.proofs.csv_export.rows_text.Given as goal
 
 abbrev pub invariant-loop-row : goal.invariant-loop-row
 invariant-loop-row l =
-    ((writer_under l.wtr).items ++ writer_pending l.wtr ≡ written_rows l.plan (take l.row-index l.rows)) × (writer_setup l.wtr ≡ default_writer)
-    × (fields_written l.wtr ≡ 0) × (has_written l.wtr ≡ false)
+    ((writer_under l.lines).items ++ writer_pending l.lines ≡ written_rows l.plan (take l.row-index l.rows)) × (writer_setup l.lines ≡ default_writer)
+    × (fields_written l.lines ≡ 0) × (has_written l.lines ≡ false)

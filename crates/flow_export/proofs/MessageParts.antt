@@ -1,0 +1,51 @@
+-- The messages of rows, one after another.
+use Rattle.std.proofs.Common.{◌≡◌, ℕ, zero, suc, ◌+◌, ◌-◌, ◌*◌, ◌<◌, ◌≤◌, List, [], ◌∷◌, ◌++◌, ltb, length, map, take, drop, Option, refl, sym, ap, subst, ◌∙◌, append_assoc, add-one, arith, inl, inr}
+use Rattle.std.specs.Prelude.{min}
+use Rattle.std.specs.Io.KnownBytes.{Appends}
+use Rattle.std.specs.List.{flat_map, range_with_len}
+use Rattle.std.proofs.lemmas.Bool.{cases_Bool, ltb-true, ltb-false}
+use Rattle.std.proofs.KnownBytes.{Appends-trans}
+use Rattle.std.proofs.lemmas.List.{append-nil, take_all, take-map, drop-map, length-drop}
+use Rattle.std.proofs.lemmas.List.Folds.{flat_map-map}
+use Rattle.std.proofs.lemmas.Grind.{flat_map-append}
+use Rattle.flow_table.specs.declared.table.Row.{Row}
+use Rattle.flow_table.specs.Plans.{PlanValue}
+use Rattle.flow_table.specs.SameTables.{value_of}
+use Rattle.flow_export.specs.IpfixText.{message, message_of_rows, row_octets, rows_of_message}
+use Rattle.flow_export.specs.RowOctets.{octets_of_rows}
+
+range_more : (a n : ℕ) → range_with_len a (suc n) ≡ range_with_len a n ++ (a + n) ∷ []
+range_more a zero = ap (λ (k : ℕ). k ∷ []) (omega arith)
+range_more a (suc n) = ap (λ (ks : List ℕ). a ∷ ks) (range_more (a + 1) n ∙ ap (λ (k : ℕ). range_with_len (a + 1) n ++ k ∷ []) (omega arith))
+
+-- the part of a list from `first` on, up to a hundred or its end
+part_is : {X : Type 0} (xs : List X) (n first : ℕ) → take (min (length xs) (first + n) - first) (drop first xs) ≡ take n (drop first xs)
+part_is {X} xs n first = elim (cases_Bool (ltb (length xs) (first + n))) [
+  | inl t ↦ few (omega (arith, ltb-true (length xs) (first + n) t))
+  | inr f ↦ ap (λ (k : ℕ). take k (drop first xs)) (omega (arith, ltb-false (length xs) (first + n) f))
+]
+  where
+    few : length xs ≤ first + n → take (min (length xs) (first + n) - first) (drop first xs) ≡ take n (drop first xs)
+    few all = take_all _ (drop first xs) (omega (arith, length-drop first xs, all)) ∙ sym (take_all n (drop first xs) (omega (arith, length-drop first xs, all)))
+
+-- the octets of the rows of a message
+pub part_octets : (plan : PlanValue) (rows part : List Row) (i first end : ℕ) → first ≡ 100 * i → end ≡ min (length rows) (first + 100) → part ≡ take (end - first) (drop first rows)
+    → octets_of_rows plan part ≡ flat_map (row_octets plan) (rows_of_message (map value_of rows) i)
+part_octets plan rows part i first end is_first is_end is_part =
+    let taken : part ≡ take 100 (drop (100 * i) rows) = is_part ∙ rw is_end (part_is rows 100 first) ∙ ap (λ (k : ℕ). take 100 (drop k rows)) is_first in
+    let moved : rows_of_message (map value_of rows) i ≡ map value_of (take 100 (drop (100 * i) rows)) = ap (take 100) (drop-map value_of (100 * i) rows) ∙ take-map value_of 100 (drop (100 * i) rows) in
+    ap (octets_of_rows plan) taken ∙ sym (flat_map-map (row_octets plan) value_of (take 100 (drop (100 * i) rows))) ∙ ap (flat_map (row_octets plan)) (sym moved)
+
+-- one more text behind those of the numbers below
+pub texts_more : (text : ℕ → List ℕ) (i : ℕ) (a b c : Option (List ℕ)) → Appends a b (flat_map text (range_with_len 0 i)) → Appends b c (text i) → Appends a c (flat_map text (range_with_len 0 (i + 1)))
+texts_more text i a b c before here =
+    let all : flat_map text (range_with_len 0 i) ++ text i ≡ flat_map text (range_with_len 0 (i + 1)) =
+    ap (λ (t : List ℕ). flat_map text (range_with_len 0 i) ++ t) (sym (append-nil (text i))) ∙ sym (flat_map-append text (range_with_len 0 i) (i ∷ []))
+    ∙ ap (λ (k : ℕ). flat_map text (range_with_len 0 i ++ k ∷ [])) (omega arith) ∙ ap (flat_map text) (sym (range_more 0 i)) ∙ rw (add-one i) refl in
+    subst (λ (t : List ℕ). Appends a c t) all (Appends-trans a b c (flat_map text (range_with_len 0 i)) (text i) before here)
+
+-- what was written is a message
+pub message_written : (time sequence id : ℕ) (a b : Option (List ℕ)) (out octets body text : List ℕ) → out ≡ octets → octets ≡ message time sequence id body → body ≡ text
+    → Appends a b out → Appends a b (message time sequence id text)
+message_written time sequence id a b out octets body text is_out is_octets is_body written =
+    subst (λ (t : List ℕ). Appends a b t) (is_out ∙ is_octets ∙ ap (message time sequence id) is_body) written

@@ -1,0 +1,11 @@
+pub mod Room
+pub mod OneMessage
+pub mod Bodies
+pub mod Hundreds
+pub mod NoLoss
+pub mod FieldsFound
+pub mod ValuesRead
+pub mod Counted
+pub mod RowFlows
+pub mod Tables
+pub mod ReadAll

@@ -1,0 +1,65 @@
+-- A table's export, read as the text of a session.
+use Rattle.std.specs.Prelude.{◌≡◌, ℕ, ◌^◌, ◌<◌, List, length, map, All, None}
+use Rattle.std.specs.List.Sorted.{IsStrictlySortedBy}
+use Rattle.ipfix_wire.specs.declared.set.TheConstants.{FIRST_TEMPLATE_ID}
+use Rattle.ipfix_elements.specs.declared.cell.Cell.{Cell}
+use Rattle.flow_export.specs.CsvText.{last_of}
+use Rattle.ipfix_message.specs.declared.record.DataRecord.{DataRecord}
+use Rattle.ipfix_session.specs.declared.stop.Stop.TheVariants.{Clean}
+use Rattle.ipfix_session.specs.Given.{gives, records_of, stop_of}
+use Rattle.ipfix_session.specs.Ledger.{domain_report}
+use Rattle.flow_table.specs.declared.key.Key.{Key}
+use Rattle.flow_table.specs.declared.method.Method.TheVariants.{Start}
+use Rattle.flow_table.specs.declared.table.Table.{Table}
+use Rattle.flow_table.specs.Plans.{PlanValue, IsPlan}
+use Rattle.flow_table.specs.Tables.{place_cmp, IsTable}
+use Rattle.flow_table.specs.SameTables.{RowValue, row_value, value_of}
+use Rattle.flow_export.specs.Fitting.{FitsValue}
+use Rattle.flow_export.specs.IpfixText.{row_fields, ipfix_text}
+
+-- a row as a data record
+abbrev pub row_record : PlanValue → ℕ → RowValue → DataRecord
+row_record plan time row = record { domain = 0; export_time = time; template = FIRST_TEMPLATE_ID; scope = 0; fields = row_fields plan row }
+
+-- fewer than 2^32 rows that fit a plan, and a time that has room in a header
+pub record CanBeExported (plan : PlanValue) (time : ℕ) (rows : List RowValue) : Type 0 where
+  pub is_plan : IsPlan plan
+  pub small_time : time < 2 ^ 32
+  pub few : length rows < 2 ^ 32
+  pub fit : All (FitsValue plan) rows
+
+-- no fault, the rows in order as records of the template, and no loss in any domain
+pub record IsReadBack (plan : PlanValue) (time : ℕ) (rows : List RowValue) : Type 0 where
+  pub stop : stop_of (ipfix_text plan time rows) ≡ Clean
+  pub records : records_of (ipfix_text plan time rows) ≡ map (row_record plan time) rows
+  pub lost : (domain : ℕ) → (domain_report (gives (ipfix_text plan time rows)).messages domain).lost ≡ 0
+  pub backward : (domain : ℕ) → (domain_report (gives (ipfix_text plan time rows)).messages domain).backward ≡ 0
+
+-- ---- aggregated again
+
+-- the same plan by method start
+abbrev pub by_start : PlanValue → PlanValue
+by_start plan = record plan { method = Start }
+
+abbrev pub place : RowValue → ℕ × List Cell
+place row = (row.interval, row.key)
+
+abbrev pub IsWhole : Key → Type 0
+IsWhole key = key.prefix ≡ None
+
+-- rows in order, whose intervals end in time and whose sums have places of 64 bits, under a plan without prefixes
+pub record CanBeCounted (plan : PlanValue) (rows : List RowValue) : Type 0 where
+  pub is_plan : IsPlan plan
+  pub whole : All IsWhole plan.keys
+  pub fit : All (FitsValue plan) rows
+  pub ascending : IsStrictlySortedBy place_cmp (map place rows)
+  pub in_time : All (λ row. last_of plan row < 2 ^ 50) rows
+  pub small : All (λ row. All (λ v. v < 2 ^ 64) row.sums) rows
+
+-- a row of one flow
+abbrev pub one_flow : RowValue → RowValue
+one_flow row = row_value row.interval row.key row.sums 1
+
+-- the aggregate of the records by method start has the rows, each with one flow
+abbrev pub CountsAgain : PlanValue → ℕ → List RowValue → Type 0
+CountsAgain plan time rows = (table : Table) → IsTable (by_start plan) (map (row_record plan time) rows) table → map value_of table.rows.items ≡ map one_flow rows

@@ -1,0 +1,5 @@
+mod csv_texts;
+mod failing;
+mod ipfix_texts;
+mod reading;
+mod tables;
