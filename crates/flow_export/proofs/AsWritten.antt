@@ -1,5 +1,5 @@
 -- What the writer of `csv` writes of a table is its text.
-use Rattle.std.proofs.Common.{◌≡◌, ℕ, List, [], ◌∷◌, ◌++◌, map, Option, Result, refl, sym, ap, subst, ◌∙◌}
+use Rattle.std.proofs.Common.{◌≡◌, ℕ, List, [], ◌∷◌, ◌++◌, map, Option, Result, refl, ap, subst, ◌∙◌}
 use Rattle.std.specs.Prelude.{codes}
 use Rattle.std.specs.Fmt.{decimal}
 use Rattle.std.specs.List.{flat_map}
@@ -10,7 +10,7 @@ use Rattle.flow_table.specs.Plans.{PlanValue}
 use Rattle.flow_table.specs.SameTables.{RowValue, value_of}
 use Rattle.csv.specs.Writing.{default_writer, row_text}
 use Rattle.flow_export.specs.CsvText.{line, heading, first_of, last_of, row_texts, row_line, csv_text}
-use Rattle.flow_export.specs.Written.{written_heading, written_row, written_rows}
+use Rattle.flow_export.specs.Written.{written_heading, written_rows}
 use Rattle.flow_export.proofs.Appending.{then_rest}
 use Rattle.flow_export.proofs.Plain.{row_text-plain, heading_plain, row_plain}
 

@@ -1,5 +1,5 @@
 -- What has room in messages.
-use Rattle.std.proofs.Common.{ℕ, ◌^◌, ◌<◌, ◌≤◌, List, length, All}
+use Rattle.std.proofs.Common.{◌^◌, ◌<◌, ◌≤◌, length, All}
 use Rattle.ipfix_wire.specs.declared.specifier.Spec.{Spec}
 use Rattle.ipfix_message.specs.DataRecords.{least}
 use Rattle.flow_table.specs.Plans.{PlanValue}

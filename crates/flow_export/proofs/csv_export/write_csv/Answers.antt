@@ -1,8 +1,8 @@
-use Rattle.std.proofs.Common.{◌≡◌, ◌∙◌, subst, List}
+use Rattle.std.proofs.Common.{◌∙◌, subst, List}
 use Rattle.std.specs.Io.KnownBytes.{Appends}
 use Rattle.std.specs.Result.{OnOk}
 use Rattle.flow_table.specs.declared.table.Row.{Row}
-use Rattle.flow_export.specs.Written.{written_heading, written_rows}
+use Rattle.flow_export.specs.Written.{written_rows}
 use Rattle.flow_export.proofs.AsWritten.{table_appended}
 use Rattle.flow_export.proofs.csv_export.write_csv.Goals as goal
 
