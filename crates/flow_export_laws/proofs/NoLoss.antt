@@ -4,7 +4,7 @@ use Rattle.std.specs.List.{range_with_len}
 use Rattle.std.proofs.lemmas.List.{length-map, length-take, length-drop}
 use Rattle.std.proofs.Math.Nat.{mod-eq_of_lt}
 use Rattle.ipfix_message.specs.Domains.{Message}
-use Rattle.ipfix_message.proofs.Bodies.{different}
+use Rattle.ipfix_wire.proofs.Choices.{different}
 use Rattle.ipfix_session.specs.Ledger.{count_in, due_after, gap, lost_at, backward_at, lost_between, backward_between, sum_neighbours, messages_of, domain_report}
 use Rattle.flow_table.specs.Plans.{PlanValue}
 use Rattle.flow_table.specs.SameTables.{RowValue}

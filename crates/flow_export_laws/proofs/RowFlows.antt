@@ -10,7 +10,7 @@ use Rattle.ipfix_wire.specs.declared.specifier.ElementId.{ElementId}
 use Rattle.ipfix_elements.specs.Elements.{kind_of}
 use Rattle.ipfix_elements.specs.declared.cell.Cell.{Cell}
 use Rattle.ipfix_message.specs.Fields.{Field}
-use Rattle.ipfix_message.proofs.Bodies.{different}
+use Rattle.ipfix_wire.proofs.Choices.{different}
 use Rattle.flow_table.specs.declared.key.Key.{Key}
 use Rattle.flow_table.specs.Plans.{PlanValue, IsPlan, is_key_kind, is_counter, exported_element, has_twice}
 use Rattle.flow_table.specs.Fitting.{FitsKeys}
