@@ -23,7 +23,7 @@ one_rank x y Greater Less h k = let g : y < x = h in let l : x < y = k in absurd
 one_rank x y Greater Equal h k = let g : y < x = h in let e : x ≡ y = k in absurd (omega arith)
 one_rank x y Greater Greater h k = refl
 
--- with an octet more behind each
+-- with an octet more after each
 octet_rank : (m n x y : ℕ) (r s : Ordering) → x < 256 → y < 256 → MatchOrdering r (m < n) (m ≡ n) (n < m) → MatchOrdering s (x < y) (x ≡ y) (y < x)
     → MatchOrdering (ordering_then r s) (m * 256 + x < n * 256 + y) (m * 256 + x ≡ n * 256 + y) (n * 256 + y < m * 256 + x)
 octet_rank m n x y Less s p q h k = let l : m < n = h in omega arith

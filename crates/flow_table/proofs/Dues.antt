@@ -20,7 +20,7 @@ due_grows length s e v k =
 pub nothing_before : (length s e : ℕ) → milliseconds_before length s e (interval_of length s) ≡ 0
 nothing_before length s e = omega (arith, div-mul-le_self s length)
 
--- all of it is over before the interval behind its last
+-- all of it is over before the interval after its last
 pub all_before : (length s e : ℕ) → 0 < length → s ≤ e → milliseconds_before length s e (interval_of length e + 1) ≡ e - s + 1
 all_before length s e positive order =
     let close : e < (interval_of length e + 1) * length = omega (arith, div-add-mod' e length, mod-lt e positive) in

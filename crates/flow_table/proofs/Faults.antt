@@ -13,7 +13,7 @@ any-map : {X Y : Type 0} (p : Y → Bool) (f : X → Y) (xs : List X) → list_a
 any-map p f [] = refl
 any-map p f (x ∷ xs) = ap (λ (b : Bool). p (f x) || b) (any-map p f xs)
 
--- an element is among keys and counters where it is among the keys or among the counters
+-- an element is among keys and counters if it is among the keys or among the counters
 among_parts : (element : ElementId) (side : Side) (keys : List Key) (counters : List ElementId)
     → list_any (λ other. same_element other element) (elements_in side keys counters)
     ≡ (list_any (λ k. same_element (element_in side k) element) keys || list_any (λ other. same_element other element) counters)
@@ -32,7 +32,7 @@ pub among_second : (first found : Bool) (element : ElementId) (side : Side) (key
     → found ≡ list_any (λ other. same_element other element) (elements_in side keys counters)
 among_second first found element side keys counters is_false among_keys among_counters = rw (among_parts element side keys counters, ← among_keys, is_false) among_counters
 
--- ---- arguments are never at fault for want of memory
+-- ---- arguments are never at fault for lack of memory
 
 abbrev pub IsNoWant : Option PlanFault → Type 0
 IsNoWant None = Unit {0}

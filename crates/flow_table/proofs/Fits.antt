@@ -9,6 +9,7 @@ use Rattle.std.proofs.lemmas.Nat.{mul-add-lt}
 use Rattle.std.proofs.Math.Nat.{pow-suc, pow-le-pow_right}
 use Rattle.byteorder.specs.Endian.{big_from, big_number}
 use Rattle.ipfix_wire.specs.declared.specifier.ElementId.{ElementId}
+use Rattle.ipfix_elements.proofs.Lookups.{mapped}
 use Rattle.ipfix_elements.specs.Elements.{kind_of}
 use Rattle.ipfix_elements.specs.Values.{octets_of as width_of, is_number_length, number_in, cell_in}
 use Rattle.ipfix_elements.specs.declared.cell.Cell.{Cell}
@@ -17,13 +18,14 @@ use Rattle.ipfix_elements.specs.declared.kind.Kind.{Kind}
 use Rattle.ipfix_elements.specs.declared.kind.Kind.TheVariants.{Unsigned, Ipv4, Ipv6, Mac, Seconds, Millis, Octets}
 use Rattle.ipfix_elements.specs.declared.kind.Width.{Width}
 use Rattle.ipfix_message.specs.Fields.{Field, octets_of, same_element}
+use Rattle.ipfix_message.specs.DataRecords.{HasOctets}
 use Rattle.ipfix_message.specs.declared.record.DataRecord.{DataRecord}
 use Rattle.flow_table.specs.declared.class.Class.{Class}
 use Rattle.flow_table.specs.declared.class.Class.TheVariants as classes
 use Rattle.flow_table.specs.declared.key.Key.{Key}
 use Rattle.flow_table.specs.declared.table.Row.{Row}
 use Rattle.flow_table.specs.declared.table.Table.{Table}
-use Rattle.flow_table.specs.Fitting.{IsCellOf, FitsKeys, FitsRow, FitsPlan, KeysFit, HasOctets}
+use Rattle.flow_table.specs.Fitting.{IsCellOf, FitsKeys, FitsRow, FitsPlan, KeysFit}
 use Rattle.flow_table.specs.Intervals.{covers}
 use Rattle.flow_table.specs.Plans.{PlanValue, IsPlan, is_key_kind}
 use Rattle.flow_table.specs.Reading.{projected, cell_of, cells_of, key_of, class_of}
@@ -68,11 +70,7 @@ number_fits width octets n small h =
           cc
     ]
 
--- what stands behind a value that was mapped, chosen or read further
-mapped : {X Y : Type 0} (f : X → Y) (o : Option X) (y : Y) → option_map f o ≡ Some y → (x : X) × (o ≡ Some x) × (f x ≡ y)
-mapped f None y h = absurd cc
-mapped f (Some x) y h = (x, refl, cc)
-
+-- what a value was before it was chosen or read further
 chosen : {X : Type 0} (b : Bool) (x y : X) → cond b (Some x) None ≡ Some y → (b ≡ true) × (x ≡ y)
 chosen true x y h = (refl, cc)
 chosen false x y h = absurd cc

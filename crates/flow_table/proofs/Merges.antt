@@ -115,7 +115,7 @@ intervals_apart x y less same =
 abbrev rows_at : Option (BTreeMap (List Cell) Total) → List Cell → Option Total
 rows_at o q = option_and_then (λ rows. row_at rows.entries q) o
 
--- a place in the rows of the first interval, or behind it
+-- a place in the rows of the first interval, or after it
 by_interval : (interval : ℕ) (rows : BTreeMap (List Cell) Total) (rest : IntervalEntries) (k : ℕ) (q : List Cell) → IsStrictlySortedBy nat_cmp (keys_of ((interval, rows) ∷ rest))
     → ((is_same_interval k interval ≡ true) × (k ≡ interval) × (kept_at ((interval, rows) ∷ rest) k q ≡ row_at rows.entries q) × (kept_at rest k q ≡ None))
     ⊎ ((is_same_interval k interval ≡ false) × (kept_at ((interval, rows) ∷ rest) k q ≡ kept_at rest k q))

@@ -48,7 +48,7 @@ same_first R x y xs ys order s t (inl here) h = sym here
 same_first R x y xs ys order s t (inr later) (inl here) = here
 same_first R x y xs ys order s t (inr later) (inr other) = absurd (order x y (below_all R x xs y (All-after_first R x xs s) other) (below_all R y ys x (All-after_first R y ys t) later))
 
--- what comes behind the first
+-- what comes after the first
 behind : {K : Type 0} (R : K → K → Ordering) (x : K) (xs ys : List K) → Asymmetric R → IsStrictlySortedBy R (x ∷ xs) → ((z : K) → Among (x ∷ xs) z → Among (x ∷ ys) z) → (z : K) → Among xs z → Among ys z
 behind R x xs ys order s within z h =
     elim (within z (inr h)) as (λ _. Among ys z) [
@@ -73,7 +73,7 @@ same_sorted {K} R (x ∷ xs) (y ∷ ys) order s t there back =
 
 -- ---- places
 
--- of two orders, one behind the other
+-- of two orders, one after the other
 both_below : (a b c d : Ordering) → a ≡ ordering_reverse b → c ≡ ordering_reverse d → ordering_then a c ≡ Less → ordering_then b d ≡ Less → ⊥
 both_below Less Less c d p q h k = cc
 both_below Less Equal c d p q h k = cc

@@ -37,7 +37,7 @@ differ x y greater same =
     let e : is_same_key x x ≡ false = ap is_eq h in
     cc (s, e)
 
--- what an entry leaves behind once w was written
+-- what an entry leaves once w was written
 written : (es news : RowEntries) (key : List Cell) (t w : Total) → joined (row_at es key) (Some t) ≡ Some w → news ≡ insert_entry key_cmp es key w
     → (q : List Cell) → row_at news q ≡ joined (row_at es q) (part_at key t q)
 written es news key t w at is =
@@ -82,7 +82,7 @@ fits_added (Err e) es news key v w t was is sum fits = tt
 fits_added (Ok x) es news key v w t was is sum fits =
     fits_found (row_at es key) (row_at news key) v w t was (at_key (row_at es) (row_at news) key t (added_found es news key v w t was is sum)) sum fits
 
--- the same, where the key is told by another word
+-- the same, if the key is told by another word
 pub fits_at : {E : Type 0} (r : Result (Unit {0}) E) (es news : RowEntries) (key other : List Cell) (v w t : Total) → key ≡ other → row_at es key ≡ Some v → news ≡ insert_entry key_cmp es key w
     → OnOk r (w ≡ sum_of v t) → OnOk r (IsLarge w → ⊥) → OnOk r (IsLargeAt (row_at news other) → ⊥)
 fits_at r es news key other v w t same was is sum fits =

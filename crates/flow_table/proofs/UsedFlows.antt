@@ -5,6 +5,7 @@ use Rattle.std.specs.Option.{option_or, ForSome}
 use Rattle.std.proofs.lemmas.Bool.{cases_Bool, cond-true, cond-false, ltb-true, ltb-false, eqb-true, or_cases}
 use Rattle.std.proofs.lemmas.Nat.{le-div}
 use Rattle.std.proofs.Math.Nat.{div-mul-le_self, mul-le-mul_right, mul-zero}
+use Rattle.ipfix_elements.specs.declared.iana.TheConstants.{FLOW_END_SECONDS, FLOW_END_MILLISECONDS}
 use Rattle.ipfix_elements.specs.declared.cell.Cell.{Cell}
 use Rattle.ipfix_message.specs.declared.record.DataRecord.{DataRecord}
 use Rattle.flow_table.specs.declared.class.Class.{Class}
@@ -41,7 +42,7 @@ or_small (Some t) p h k = h
 end_small : (r : DataRecord) → ForSome (end_of r) (λ u. u < 2 ^ 50)
 unfolding end_of
 end_small r =
-    or_small (time_of (registered 153) 1 r) (time_of (registered 151) 1000 r) (some_time (number_of (registered 153) r) 1) (some_time (number_of (registered 151) r) 1000)
+    or_small (time_of (registered FLOW_END_MILLISECONDS) 1 r) (time_of (registered FLOW_END_SECONDS) 1000 r) (some_time (number_of (registered FLOW_END_MILLISECONDS) r) 1) (some_time (number_of (registered FLOW_END_SECONDS) r) 1000)
 
 -- ---- a used record
 

@@ -43,7 +43,3 @@ pub record FitsPlan (plan : PlanValue) (table : Table) : Type 0 where
 -- the keys of all flows of a list fit
 abbrev pub KeysFit : PlanValue → List DataRecord → Type 0
 KeysFit plan rs = (k : ℕ) (key : List Cell) → 0 < flows_at plan rs k key → FitsKeys plan.keys key
-
--- the octets of all fields are octets
-abbrev pub HasOctets : DataRecord → Type 0
-HasOctets r = All (λ field. All (λ b. b < 256) field.octets) r.fields

@@ -1,17 +1,19 @@
-pub mod PlanFaults
+-- What the public contracts cite
 pub mod Plans
+pub mod PlanFaults
 pub mod Intervals
 pub mod Reading
-pub mod Readings
-pub mod TableFaults
 pub mod Tables
-pub mod Totals
-pub mod Rows
-pub mod RowKeys
+pub mod TableFaults
 pub mod Partials
-pub mod Flows
 pub mod Fitting
 pub mod Bags
 pub mod SamePlans
 pub mod SameTables
+-- What the inner functions cite
+pub mod Totals
+pub mod Rows
+pub mod RowKeys
+pub mod Readings
+pub mod Flows
 pub mod Finishing

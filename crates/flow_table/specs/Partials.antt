@@ -14,7 +14,7 @@ use Rattle.flow_table.specs.Rows.{IntervalEntries, kept_at}
 use Rattle.flow_table.specs.Tables.{flows_at, sum_at, tally_of, IsTooLarge}
 use Rattle.flow_table.specs.Totals.{Total, total}
 
--- the totals of the row of an interval and a key, where there is one
+-- the totals of the row of an interval and a key, if there is one
 unfoldable pub totals_at : PlanValue → List DataRecord → ℕ → List Cell → Option Total
 totals_at plan rs k key = if flows_at plan rs k key == 0 then None else Some (total (map (sum_at plan rs k key) plan.counters) (flows_at plan rs k key))
 
@@ -25,7 +25,7 @@ pub record HoldsTable (plan : PlanValue) (intervals : IntervalEntries) (tally : 
   pub small : IsTooLarge plan rs → ⊥
   pub keys_fit : KeysFit plan rs
 
--- without a fault it holds the table of the list; with SumTooLarge the list is too large; after want of memory it tells nothing of it
+-- without a fault it holds the table of the list; with SumTooLarge the list is too large; after OutOfMemory it tells nothing of it
 abbrev pub StandsBy : Option TableFault → PlanValue → IntervalEntries → Tally → List DataRecord → Type 0
 StandsBy None plan intervals tally rs = HoldsTable plan intervals tally rs
 StandsBy (Some SumTooLarge) plan intervals tally rs = IsTooLarge plan rs

@@ -3,6 +3,7 @@ use Rattle.std.specs.Prelude.{◌≡◌, ℕ, ◌≤◌, ◌==◌, ◌&&◌, ◌
 use Rattle.std.specs.List.{list_any, list_all}
 use Rattle.std.specs.Option.{ForSome}
 use Rattle.ipfix_wire.specs.declared.specifier.ElementId.{ElementId}
+use Rattle.ipfix_elements.specs.declared.iana.TheConstants.{OCTET_DELTA_COUNT, PACKET_DELTA_COUNT, DELTA_FLOW_COUNT, POST_OCTET_DELTA_COUNT, POST_PACKET_DELTA_COUNT, DROPPED_OCTET_DELTA_COUNT, DROPPED_PACKET_DELTA_COUNT, SOURCE_IPV4_ADDRESS, DESTINATION_IPV4_ADDRESS, SOURCE_IPV4_PREFIX, DESTINATION_IPV4_PREFIX}
 use Rattle.ipfix_elements.specs.Elements.{kind_of}
 use Rattle.ipfix_elements.specs.declared.kind.Kind.{Kind}
 use Rattle.ipfix_elements.specs.declared.kind.Kind.TheVariants as kinds
@@ -10,11 +11,12 @@ use Rattle.flow_table.specs.declared.method.Method.{Method}
 use Rattle.flow_table.specs.declared.key.Key.{Key}
 use Rattle.flow_table.specs.declared.key.Side.{Side}
 use Rattle.flow_table.specs.declared.key.Side.TheVariants.{Read, Exported}
+use Rattle.flow_table.specs.declared.plan.TheConstants.{MAX_KEYS, MAX_COUNTERS, MAX_SPREAD}
 use Rattle.flow_table.specs.declared.plan_fault.PlanFault.{PlanFault}
 use Rattle.flow_table.specs.declared.plan_fault.PlanFault.TheVariants.{Length, Spread, KeyCount, KeyKind, Prefix, CounterCount, CounterKind, Repeated}
 
 -- the length of an interval in milliseconds, how a flow's counters are distributed, the keys and counters of the
--- table, and the most intervals that a flow may cover where it is spread over them
+-- table, and the most intervals that a flow may cover if it is spread over them
 pub record PlanValue : Type 0 where
   pub length : ℕ
   pub method : Method
@@ -49,10 +51,10 @@ is_key_kind kinds.Seconds = false
 is_key_kind kinds.Millis = false
 is_key_kind kinds.Octets = false
 
--- sourceIPv4Address (8) and destinationIPv4Address (12) may have a prefix of up to 32 bits
+-- the IPv4 addresses of a flow's ends may have a prefix of up to 32 bits
 abbrev pub is_prefix_of : ElementId → Option ℕ → Bool
 is_prefix_of e None = true
-is_prefix_of e (Some bits) = is_of_iana (8 ∷ 12 ∷ []) e && nat_le bits 32
+is_prefix_of e (Some bits) = is_of_iana (SOURCE_IPV4_ADDRESS ∷ DESTINATION_IPV4_ADDRESS ∷ []) e && nat_le bits 32
 
 -- an IPv4 address has 32 bits
 abbrev pub HasPrefix : Key → Type 0
@@ -60,11 +62,13 @@ HasPrefix k = ForSome k.prefix (λ bits. bits ≤ 32)
 
 -- the delta counters of octets, packets and flows
 abbrev pub is_counter : ElementId → Bool
-is_counter e = is_of_iana (1 ∷ 2 ∷ 3 ∷ 23 ∷ 24 ∷ 132 ∷ 133 ∷ []) e
+is_counter e =
+    is_of_iana (OCTET_DELTA_COUNT ∷ PACKET_DELTA_COUNT ∷ DELTA_FLOW_COUNT ∷ POST_OCTET_DELTA_COUNT ∷ POST_PACKET_DELTA_COUNT
+    ∷ DROPPED_OCTET_DELTA_COUNT ∷ DROPPED_PACKET_DELTA_COUNT ∷ []) e
 
--- the element of a prefix of an address: sourceIPv4Prefix (44) of sourceIPv4Address, destinationIPv4Prefix (45) of the other
+-- the element of a prefix of an address
 abbrev pub prefix_element : ElementId → ElementId
-prefix_element e = record { pen = 0; number = if e.number == 8 then 44 else 45 }
+prefix_element e = record { pen = 0; number = if e.number == SOURCE_IPV4_ADDRESS then SOURCE_IPV4_PREFIX else DESTINATION_IPV4_PREFIX }
 
 -- the element that a key is exported as
 abbrev pub exported_element : Key → ElementId
@@ -84,12 +88,12 @@ abbrev pub has_twice : List ElementId → Bool
 has_twice [] = false
 has_twice (e ∷ es) = list_any (λ other. same_element other e) es || has_twice es
 
--- the first of two faults, where there is one
+-- the first of two faults, if there is one
 abbrev pub or_else : Option PlanFault → Option PlanFault → Option PlanFault
 or_else None second = second
 or_else (Some fault) second = Some fault
 
--- a fault that fits where a test fails
+-- a fault that fits if a test fails
 abbrev pub unless : Bool → PlanFault → Option PlanFault
 unless holds fault = if holds then None else Some fault
 
@@ -97,17 +101,17 @@ abbrev pub length_fault : ℕ → Option PlanFault
 length_fault length = unless (nat_lt 0 length) Length
 
 abbrev pub spread_fault : ℕ → Option PlanFault
-spread_fault max_spread = unless (is_between 1 4096 max_spread) Spread
+spread_fault max_spread = unless (is_between 1 MAX_SPREAD max_spread) Spread
 
 abbrev pub key_fault : List Key → Option PlanFault
 key_fault keys =
-    or_else (unless (nat_le (length keys) 8) KeyCount)
+    or_else (unless (nat_le (length keys) MAX_KEYS) KeyCount)
     (or_else (unless (list_all (λ k. is_key_kind (kind_of k.element)) keys) KeyKind)
     (unless (list_all (λ k. is_prefix_of k.element k.prefix) keys) Prefix))
 
 abbrev pub counter_fault : List ElementId → Option PlanFault
 counter_fault counters =
-    or_else (unless (is_between 1 4 (length counters)) CounterCount)
+    or_else (unless (is_between 1 MAX_COUNTERS (length counters)) CounterCount)
     (unless (list_all is_counter counters) CounterKind)
 
 -- no element may stand twice, neither in the records that are read nor in those that are exported

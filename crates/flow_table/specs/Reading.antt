@@ -4,6 +4,7 @@ use Rattle.std.specs.Option.{option_or}
 use Rattle.ipfix_wire.specs.declared.specifier.ElementId.{ElementId}
 use Rattle.ipfix_elements.specs.declared.cell.Cell.{Cell}
 use Rattle.ipfix_elements.specs.declared.cell.Cell.TheVariants.{Number, Ipv4, Ipv6, Mac}
+use Rattle.ipfix_elements.specs.declared.iana.TheConstants.{FLOW_START_SECONDS, FLOW_END_SECONDS, FLOW_START_MILLISECONDS, FLOW_END_MILLISECONDS}
 use Rattle.ipfix_elements.specs.Elements.{kind_of}
 use Rattle.ipfix_elements.specs.Prefixes.{masked}
 use Rattle.ipfix_elements.specs.Values.{number_in, cell_in}
@@ -41,17 +42,17 @@ time_in t = if nat_lt t (2 ^ 50) then Some t else None
 abbrev pub time_of : ElementId → ℕ → DataRecord → Option ℕ
 time_of element unit r = option_and_then (λ n. time_in (n * unit)) (number_of element r)
 
--- flowStartMilliseconds, or else flowStartSeconds
+-- the start: in milliseconds, or else in seconds
 unfoldable pub start_of : DataRecord → Option ℕ
-start_of r = option_or (time_of (registered 152) 1 r) (time_of (registered 150) 1000 r)
+start_of r = option_or (time_of (registered FLOW_START_MILLISECONDS) 1 r) (time_of (registered FLOW_START_SECONDS) 1000 r)
 
--- flowEndMilliseconds, or else flowEndSeconds
+-- the end: in milliseconds, or else in seconds
 unfoldable pub end_of : DataRecord → Option ℕ
-end_of r = option_or (time_of (registered 153) 1 r) (time_of (registered 151) 1000 r)
+end_of r = option_or (time_of (registered FLOW_END_MILLISECONDS) 1 r) (time_of (registered FLOW_END_SECONDS) 1000 r)
 
--- ---- keys (section 5.2)
+-- ---- keys (RFC 7015, section 5.2)
 
--- an IPv4 address projected to its prefix, where the key has one
+-- an IPv4 address projected to its prefix, if the key has one
 abbrev pub projected : Option ℕ → Cell → Cell
 projected None cell = cell
 projected (Some bits) (Number n) = Number n
@@ -63,7 +64,7 @@ projected (Some bits) (Mac address) = Mac address
 unfoldable pub cell_of : Key → DataRecord → Option Cell
 cell_of key r = option_map (projected key.prefix) (option_and_then (cell_in (kind_of key.element)) (octets_of key.element r.fields))
 
--- a cell for each of the keys, none where one is missing or absent
+-- a cell for each of the keys, none if one is missing or absent
 abbrev pub cells_of : List Key → DataRecord → Option (List Cell)
 cells_of [] r = Some []
 cells_of (key ∷ keys) r = option_and_then (λ cell. option_map (λ cells. cell ∷ cells) (cells_of keys r)) (cell_of key r)

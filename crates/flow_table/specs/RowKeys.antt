@@ -14,7 +14,7 @@ pub record Spells (address : List ℕ) (number : ℕ) : Type 0 where
   pub four : length address ≡ 4
   pub octets : (k : ℕ) → get_or address k 0 < 256
 
--- the number of the address that is the first of some cells, and none where no address is
+-- the number of the address that is the first of some cells, and none if that is no address
 abbrev pub Leads : List Cell → Option ℕ → Type 0
 Leads (Ipv4 address ∷ others) (Some number) = Spells address number
 Leads (Ipv4 address ∷ others) None = ⊥

@@ -60,7 +60,7 @@ abbrev pub is_key : List Cell → Option (List Cell) → Bool
 is_key key None = false
 is_key key (Some found) = is_eq (key_cmp key found)
 
--- a record contributes to an interval and a key where it is used, is given to the interval, and has the key
+-- a record contributes to an interval and a key if it is used, is given to the interval, and has the key
 unfoldable pub contributes : PlanValue → ℕ → List Cell → DataRecord → Bool
 contributes plan k key r = is_class Used (class_of plan r) && list_any (nat_eq k) (covers plan (begin_of r) (finish_of r)) && is_key key (key_of plan r)
 

@@ -18,7 +18,7 @@ added (x ∷ xs) (y ∷ ys) = (x + y) ∷ added xs ys
 abbrev pub sum_of : Total → Total → Total
 sum_of a b = total (added a.sums b.sums) (a.flows + b.flows)
 
--- together, where there may be none
+-- together, if there are any
 abbrev pub joined : Option Total → Option Total → Option Total
 joined a None = a
 joined None (Some b) = Some b

@@ -8,14 +8,22 @@ ghost use Rattle.flow_table.specs.Plans.{is_key_kind as is_key_kind_in, is_prefi
 use crate::key::{Key, Side};
 use crate::plan::{MAX_COUNTERS, MAX_KEYS, MAX_SPREAD};
 use crate::plan_fault::PlanFault;
-use ipfix_elements::{Kind, kind_of};
+use ipfix_elements::{Kind, iana, kind_of};
 use ipfix_wire::ElementId;
 
-/// The addresses that may have a prefix: sourceIPv4Address and destinationIPv4Address.
-const ADDRESSES: [u16; 2] = [8, 12];
+/// The addresses that may have a prefix.
+const ADDRESSES: [u16; 2] = [iana::SOURCE_IPV4_ADDRESS, iana::DESTINATION_IPV4_ADDRESS];
 
 /// The delta counters of octets, packets and flows.
-const COUNTERS: [u16; 7] = [1, 2, 3, 23, 24, 132, 133];
+const COUNTERS: [u16; 7] = [
+    iana::OCTET_DELTA_COUNT,
+    iana::PACKET_DELTA_COUNT,
+    iana::DELTA_FLOW_COUNT,
+    iana::POST_OCTET_DELTA_COUNT,
+    iana::POST_PACKET_DELTA_COUNT,
+    iana::DROPPED_OCTET_DELTA_COUNT,
+    iana::DROPPED_PACKET_DELTA_COUNT,
+];
 
 /// Whether fields of the kind may be keys.
 fn is_key_kind(kind: Kind) -> bool
@@ -44,18 +52,21 @@ fn is_counter(element: ElementId) -> bool
     element.pen == 0 && COUNTERS.contains(&element.number)
 }
 
+/// Whether fields of all keys may be keys.
 fn are_key_kinds(keys: &[Key]) -> bool
     ensures { result ≡ list_all (λ k. is_key_kind_in (kind_in k.element)) keys.now }
 {
     keys.iter().all(|key| is_key_kind(kind_of(key.element)))
 }
 
+/// Whether the elements of all keys may have their prefixes.
 fn have_prefixes(keys: &[Key]) -> bool
     ensures { result ≡ list_all (λ k. is_prefix_of_in k.element k.prefix) keys.now }
 {
     keys.iter().all(|key| is_prefix_of(key.element, key.prefix))
 }
 
+/// Whether all elements may be counters.
 fn are_counters(elements: &[ElementId]) -> bool
     ensures { result ≡ list_all is_counter_in elements.now }
 {
@@ -75,12 +86,14 @@ fn has_twice(mut elements: &[ElementId]) -> bool
     false
 }
 
+/// Whether the element is that of a key on that side.
 fn is_among_keys(element: ElementId, keys: &[Key], side: Side) -> bool
     ensures { result ≡ list_any (λ k. same_element (element_in side k) element) keys.now }
 {
     keys.iter().any(|key| key.element_in(side) == element)
 }
 
+/// Whether the element is that of a key on that side, or a counter.
 fn is_among(element: ElementId, keys: &[Key], counters: &[ElementId], side: Side) -> bool
     ensures { result ≡ list_any (λ other. same_element other element) (elements_in side keys.now counters.now) }
 {

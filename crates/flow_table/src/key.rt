@@ -3,9 +3,10 @@
 ghost use Rattle.std.specs.Prelude.{◌≡◌};
 ghost use Rattle.flow_table.specs.Plans.{element_in, exported_element};
 
+use ipfix_elements::iana;
 use ipfix_wire::ElementId;
 
-/// A flow key: an element, and how much of its value is looked at (RFC 7015, section 5.2.2).
+/// A flow key: an element, and how much of its value is looked at (RFC 7015, section 5.2).
 #[derive(Clone, Copy, Debug, PartialEq, Eq)]
 pub struct Key {
     /// The element that the key is read from.
@@ -30,13 +31,14 @@ impl Key {
     {
         match self.prefix {
             None => self.element,
-            Some(_) => ElementId {
-                pen: 0,
-                number: if self.element.number == 8 { 44 } else { 45 },
-            },
+            Some(_) if self.element.number == iana::SOURCE_IPV4_ADDRESS => {
+                ElementId::iana(iana::SOURCE_IPV4_PREFIX)
+            }
+            Some(_) => ElementId::iana(iana::DESTINATION_IPV4_PREFIX),
         }
     }
 
+    /// The element of the key on that side.
     pub(crate) fn element_in(&self, side: Side) -> ElementId
         ensures { result ≡ element_in side self.now }
     {

@@ -2,9 +2,10 @@
 //! fits its plan.
 
 ghost use Rattle.std.specs.Prelude.{◌++◌, List, All, IsPermutation};
+ghost use Rattle.ipfix_message.specs.DataRecords.{HasOctets};
 ghost use Rattle.ipfix_message.specs.declared.record.DataRecord.{DataRecord};
 ghost use Rattle.flow_table.specs.Bags.{IsSameBag, IsInterleaving};
-ghost use Rattle.flow_table.specs.Fitting.{FitsPlan, HasOctets};
+ghost use Rattle.flow_table.specs.Fitting.{FitsPlan};
 ghost use Rattle.flow_table.specs.Plans.{PlanValue, IsPlan};
 ghost use Rattle.flow_table.specs.SameTables.{IsSameTable};
 ghost use Rattle.flow_table.specs.Tables.{IsTable, IsTooLarge};

@@ -39,7 +39,7 @@ pub struct Partial {
 impl Partial {
     /// The table of no records. It keeps a copy of the plan.
     ///
-    /// The fault is `OutOfMemory`, where an allocation was refused.
+    /// The fault is `OutOfMemory`: an allocation was refused.
     pub fn new(alloc: Global, plan: &Plan) -> Result<Partial, TableFault>
         ensures plan { IfOk result (λ p. plan_of p ≡ plan.now) }
         ensures fault { IfOk result (λ p. fault_of p ≡ None) }
@@ -62,9 +62,9 @@ impl Partial {
 
     /// Adds a record, and answers its class.
     ///
-    /// The fault is `SumTooLarge` where a sum, a number of flows or a count of the tally would be 2^64
-    /// or more with the record, and `OutOfMemory` where an allocation was refused. Each later call
-    /// answers it again.
+    /// The fault is `SumTooLarge` if a sum, a number of flows or a count of the tally would be 2^64 or
+    /// more with the record, and `OutOfMemory` if an allocation was refused. Each later call answers
+    /// it again.
     pub fn add(&mut self, data_record: &DataRecord) -> Result<Class, TableFault>
         ensures plan { plan_of self.new ≡ plan_of self.old }
         ensures answer { result ≡ unless (fault_of self.new) (class_of (plan_of self.old) data_record.now) }
@@ -89,8 +89,8 @@ impl Partial {
 
     /// Adds all records of another partial table of the same plan.
     ///
-    /// The fault is this table's own earlier one, then that of the other, then `SumTooLarge` where a
-    /// sum, a number of flows or a count of the tally would be 2^64 or more, or `OutOfMemory` where an
+    /// The fault is this table's own earlier one, then that of the other, then `SumTooLarge` if a sum,
+    /// a number of flows or a count of the tally would be 2^64 or more, or `OutOfMemory` if an
     /// allocation was refused. Each later call answers it again.
     pub fn merge(&mut self, other: Partial) -> Result<(), TableFault>
         requires { plan_of other ≡ plan_of self.old }
@@ -129,7 +129,7 @@ impl Partial {
 
     /// The table of all records.
     ///
-    /// The fault is the earlier one, or `OutOfMemory` where an allocation was refused.
+    /// The fault is the earlier one, or `OutOfMemory` if an allocation was refused.
     pub fn finish(self) -> Result<Table, TableFault>
         ensures fault { IfSome (fault_of self) (λ fault. result ≡ Err fault) }
         ensures err { fault_of self ≡ None → IfErr result (λ e. e ≡ OutOfMemory) }

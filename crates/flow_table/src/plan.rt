@@ -23,7 +23,7 @@ pub const MAX_SPREAD: u32 = 4096;
 
 /// How data records are aggregated (RFC 7015, section 5): the length of an interval in milliseconds,
 /// how a flow's counters are distributed among intervals, the keys and the counters of the table,
-/// and the most intervals that a flow may cover where its counters are spread over them.
+/// and the most intervals that a flow may cover if its counters are spread over them.
 #[derive(Debug, Drop)]
 pub struct Plan {
     length: u32,
@@ -51,8 +51,8 @@ impl Plan {
     ghost use Rattle.flow_table.specs.Plans.{IsPlan, HasPrefix, is_key_kind, plan_of, kinds_of, first_fault_of};
 
     /// The plan of the arguments, or the first fault that fits them, in this order: `Length`,
-    /// `Spread`, `KeyCount`, `KeyKind`, `Prefix`, `CounterCount`, `CounterKind`, `Repeated`. Only
-    /// where none fits may memory be wanting.
+    /// `Spread`, `KeyCount`, `KeyKind`, `Prefix`, `CounterCount`, `CounterKind`, `Repeated`.
+    /// `OutOfMemory` comes only if none fits.
     pub fn new(
         alloc: Global,
         length: u32,
@@ -66,24 +66,9 @@ impl Plan {
         ensures fault { IfErr result (λ fault. fault ≢ PlanFault.OutOfMemory → first_fault_of (plan_of length method keys.now counters.now max_spread) ≡ Some fault) }
         ensures memory { IsErrOf result PlanFault.OutOfMemory → IsPlan (plan_of length method keys.now counters.now max_spread) }
     {
-        match first_fault(length, keys, counters, max_spread) {
-            Some(fault) => Err(fault),
-            None => Ok(Plan::keep(alloc, length, method, keys, counters, max_spread)?),
+        if let Some(fault) = first_fault(length, keys, counters, max_spread) {
+            return Err(fault);
         }
-    }
-
-    /// A plan with vectors of its own.
-    fn keep(
-        alloc: Global,
-        length: u32,
-        method: Method,
-        keys: &[Key],
-        counters: &[ElementId],
-        max_spread: u32,
-    ) -> Result<Plan, AllocError>
-        requires { IsPlan (plan_of length method keys.now counters.now max_spread) }
-        ensures { IfOk result (λ plan. plan ≡ plan_of length method keys.now counters.now max_spread) }
-    {
         let keys = keys.to_vec(alloc)?;
         let kinds = kinds_of(alloc, &keys)?;
         let counters = counters.to_vec(alloc)?;
@@ -142,7 +127,7 @@ impl Plan {
         &self.counters
     }
 
-    /// The most intervals that a flow may cover where its counters are spread over them, 1 to
+    /// The most intervals that a flow may cover if its counters are spread over them, 1 to
     /// [`MAX_SPREAD`].
     pub fn max_spread(&self) -> u32
         ensures value { result ≡ self.now.max_spread }
@@ -156,14 +141,14 @@ impl Plan {
     pub fn copy(&self, alloc: Global) -> Result<Plan, AllocError>
         ensures { IfOk result (λ copy. copy ≡ self.now) }
     {
-        Plan::keep(
-            alloc,
-            self.length,
-            self.method,
-            &self.keys,
-            &self.counters,
-            self.max_spread,
-        )
+        Ok(Plan {
+            length: self.length,
+            method: self.method,
+            keys: self.keys.to_vec(alloc)?,
+            kinds: self.kinds.to_vec(alloc)?,
+            counters: self.counters.to_vec(alloc)?,
+            max_spread: self.max_spread,
+        })
     }
 }
 

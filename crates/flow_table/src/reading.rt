@@ -118,7 +118,7 @@ fn read_key_cell(kind: Kind, octets: &[u8]) -> Option<Cell>
     read_cell(kind, octets)
 }
 
-/// The cell under a key: an IPv4 address with its prefix alone, where the key has one.
+/// The cell under a key: an IPv4 address with its prefix alone, if the key has one.
 fn project(key: Key, cell: Cell) -> Cell
     requires { HasPrefix key }
     ensures { result ≡ projected key.prefix cell }
@@ -129,7 +129,7 @@ fn project(key: Key, cell: Cell) -> Cell
     }
 }
 
-/// The counter in the first field of an element, 0 where that is missing or no number.
+/// The counter in the first field of an element, 0 if that is missing or no number.
 fn counter(data_record: &DataRecord, element: ElementId) -> u64
     ensures { result ≡ counter_of element data_record.now }
 {

@@ -8,7 +8,7 @@ use std::alloc::{AllocError, Global};
 use std::cmp::Ordering;
 use std::marker::Model;
 
-/// The cells of a key. Where the first is an IPv4 address, its number is kept too, beside the row:
+/// The cells of a key. If the first is an IPv4 address, its number is kept too, beside the row:
 /// it tells most keys apart.
 #[derive(Drop)]
 pub struct RowKey {

@@ -19,7 +19,7 @@ pub type Rows = BTreeMap<RowKey, Totals>;
 /// The rows of all intervals.
 pub type Intervals = BTreeMap<u64, Rows>;
 
-/// Adds the shares of a flow to the row of a key, which is made where it is missing.
+/// Adds the shares of a flow to the row of a key, which is made if it is missing.
 pub fn add_to_row(
     alloc: Global,
     rows: &mut Rows,

@@ -36,7 +36,7 @@ impl Tally {
     };
 }
 
-// the sum of two counts
+/// The sum of two counts.
 fn sum(a: u64, b: u64) -> Result<u64, TableFault>
     ensures ok { IfOk result (λ n. (n ≡ a + b) × (n < 2 ^ 64)) }
     ensures large { IfErr result (λ e. (e ≡ SumTooLarge) × (2 ^ 64 ≤ a + b)) }

@@ -4,7 +4,7 @@ ghost use Rattle.std.specs.Prelude.{◌≡◌, ◌<◌, ◌*◌, ◌^◌, IfSome
 ghost use Rattle.ipfix_elements.specs.Elements.{kind_of};
 ghost use Rattle.flow_table.specs.Reading.{registered, time_of as time_in_record, start_of as start_in, end_of as end_in};
 
-use ipfix_elements::{Kind, read_number};
+use ipfix_elements::{Kind, iana, read_number};
 use ipfix_message::DataRecord;
 use ipfix_wire::ElementId;
 
@@ -17,7 +17,7 @@ fn time_of(data_record: &DataRecord, number: u16, kind: Kind, unit: u64) -> Opti
     ensures value { result ≡ time_in_record (registered number) unit data_record.now }
     ensures small { IfSome result (λ t. t < 2 ^ 50) }
 {
-    let octets = data_record.fields.find(ElementId { pen: 0, number })?;
+    let octets = data_record.fields.find(ElementId::iana(number))?;
     let time = read_number(kind, octets)?.checked_mul(unit)?;
     if time < TIME_LIMIT { Some(time) } else { None }
 }
@@ -29,8 +29,8 @@ pub(crate) fn start_of(data_record: &DataRecord) -> Option<u64>
     ensures value { result ≡ start_in data_record.now }
     ensures small { IfSome result (λ t. t < 2 ^ 50) }
 {
-    match time_of(data_record, 152, Kind::Millis, 1) {
-        None => time_of(data_record, 150, Kind::Seconds, 1000),
+    match time_of(data_record, iana::FLOW_START_MILLISECONDS, Kind::Millis, 1) {
+        None => time_of(data_record, iana::FLOW_START_SECONDS, Kind::Seconds, 1000),
         start => start,
     }
 }
@@ -42,8 +42,8 @@ pub(crate) fn end_of(data_record: &DataRecord) -> Option<u64>
     ensures value { result ≡ end_in data_record.now }
     ensures small { IfSome result (λ t. t < 2 ^ 50) }
 {
-    match time_of(data_record, 153, Kind::Millis, 1) {
-        None => time_of(data_record, 151, Kind::Seconds, 1000),
+    match time_of(data_record, iana::FLOW_END_MILLISECONDS, Kind::Millis, 1) {
+        None => time_of(data_record, iana::FLOW_END_SECONDS, Kind::Seconds, 1000),
         end => end,
     }
 }

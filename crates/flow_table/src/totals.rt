@@ -38,7 +38,7 @@ impl Totals {
     }
 }
 
-// adds numbers place by place
+/// Adds numbers place by place.
 fn add_sums(sums: &mut [u64], shares: &[u64]) -> Result<(), TableFault>
     ensures ok { OnOk result (sums.new ≡ added sums.old shares.now) }
     ensures fits { OnOk result (HasLarge sums.new → ⊥) }

@@ -1,4 +1,6 @@
 mod plans;
 mod readings;
 mod records;
+mod rows;
+mod table_faults;
 mod tables;

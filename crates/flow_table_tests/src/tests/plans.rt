@@ -124,7 +124,7 @@ fn counter_faults(rt: HostRuntime) {
     }
 }
 
-// A prefix comes behind all kinds, and before the counters.
+// A prefix comes after all kinds, and before the counters.
 #[test]
 fn prefix_faults(rt: HostRuntime) {
     let cases: [(&[Key], Option<PlanFault>); 11] = [
