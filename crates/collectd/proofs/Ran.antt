@@ -1,5 +1,6 @@
 -- What a run wrote, from the headline and from what the export wrote.
 use Rattle.std.proofs.Common.{◌≡◌, ℕ, true, List, [], All, Option, subst}
+use Rattle.std.specs.Prelude.{◌↔◌}
 use Rattle.std.specs.Option.{ForSome}
 use Rattle.std.specs.Io.KnownBytes.{Appends}
 use Rattle.ipfix_message.specs.declared.record.DataRecord.{DataRecord}
@@ -14,14 +15,14 @@ use Rattle.collectd.specs.Runs.{export_text, WritesTable, WritesWholeTable}
 use Rattle.collectd.specs.declared.run.Output.{Output}
 
 module _ {S : Type 0} (seen : S → SourceView) where
-  pub writes_table : (sources : List S) (plan : PlanValue) (pool : Pool) (output : Output) (old new : Option (List ℕ)) (c : Collected S)
-      → Headline seen sources plan pool c → Appends old new (export_text output plan c.table) → WritesTable seen sources plan output old new
-  writes_table sources plan pool output old new c h written =
+  pub writes_table : (sources : List S) (plan : PlanValue) (pool : Pool) (output : Output) (status : ℕ) (old new : Option (List ℕ)) (c : Collected S)
+      → Headline seen sources plan pool c → ((status ≡ 0) ↔ All HasNoFault c.sessions.items) → Appends old new (export_text output plan c.table) → WritesTable seen sources plan pool output status old new
+  writes_table sources plan pool output status old new c h status_is written =
       record {
-        records = h.records;
+        collected = c;
+        headline = h;
         first = λ texts t. first_each seen sources c.sources.items c.sessions.items h.records texts h.given t;
-        table = c.table;
-        added_up = h.added_up;
+        status_is = status_is;
         written = written;
       }
 

@@ -1,8 +1,7 @@
 -- What a run of collecting wrote.
-use Rattle.std.specs.Prelude.{◌≡◌, List, map, All, Option}
+use Rattle.std.specs.Prelude.{◌≡◌, ◌↔◌, ℕ, List, map, All, Option}
 use Rattle.std.specs.List.{AllZip, flat_map}
 use Rattle.std.specs.Io.KnownBytes.{Appends}
-use Rattle.ipfix_message.specs.declared.record.DataRecord.{DataRecord}
 use Rattle.ipfix_session.specs.Given.{records_of, stop_of, IsPrefix}
 use Rattle.ipfix_session.specs.Sources.{SourceView}
 use Rattle.ipfix_session.specs.declared.stop.Stop.TheVariants.{Clean}
@@ -13,9 +12,13 @@ use Rattle.flow_export.specs.declared.format.Format.{Format}
 use Rattle.flow_export.specs.declared.format.Format.TheVariants.{Csv, Ipfix}
 use Rattle.flow_export.specs.CsvText.{csv_text}
 use Rattle.flow_export.specs.IpfixText.{ipfix_text}
-use Rattle.flow_collect.specs.Headline.{IsAddedUp, all_of}
-use Rattle.flow_collect.specs.Texts.{AreTexts}
+use Rattle.flow_collect.specs.Headline.{Headline, IsAddedUp}
+use Rattle.flow_collect.specs.Texts.{AreTexts, HasNoFault}
+use Rattle.flow_collect.specs.declared.collected.Collected.{Collected}
+use Rattle.flow_collect.specs.declared.collected.Pool.{Pool}
 use Rattle.collectd.specs.declared.run.Output.{Output}
+use Rattle.collectd.specs.declared.run_fault.RunFault.{RunFault}
+use Rattle.collectd.specs.declared.run_fault.RunFault.TheVariants.{Collect, Export}
 
 -- a table as it is written
 abbrev pub text_by : Format → ℕ → PlanValue → Table → List ℕ
@@ -26,14 +29,18 @@ abbrev pub export_text : Output → PlanValue → Table → List ℕ
 export_text output plan table = text_by output.format output.time plan table
 
 module _ {S : Type 0} (seen : S → SourceView) where
-  -- of each session there are records, the first of those that its source's whole text gives; the text of the table of all
-  -- of them was written, and nothing else
-  pub record WritesTable (sources : List S) (plan : PlanValue) (output : Output) (old new : Option (List ℕ)) : Type 0 where
-    pub records : List (List DataRecord)
-    pub first : (texts : List (List ℕ)) → AreTexts seen sources texts → AllZip (λ q t. IsPrefix q (records_of t)) records texts
-    pub table : Table
-    pub added_up : IsAddedUp plan (all_of records) table
-    pub written : Appends old new (export_text output plan table)
+  -- what was collected was written as a table, and nothing else; the status is 0 exactly if no session had a fault
+  pub record WritesTable (sources : List S) (plan : PlanValue) (pool : Pool) (output : Output) (status : ℕ) (old new : Option (List ℕ)) : Type 0 where
+    -- what the headline says
+    pub collected : Collected S
+    pub headline : Headline seen sources plan pool collected
+    -- the records of each session are the first of those that its source's whole text gives
+    pub first : (texts : List (List ℕ)) → AreTexts seen sources texts → AllZip (λ q t. IsPrefix q (records_of t)) headline.records texts
+    pub status_is : (status ≡ 0) ↔ All HasNoFault collected.sessions.items
+    pub written : Appends old new (export_text output plan collected.table)
+
+  abbrev pub WasCollected : List S → PlanValue → Pool → Type 0
+  WasCollected sources plan pool = (c : Collected S) × Headline seen sources plan pool c
 
   -- if the sources tell their texts: each text ends with a whole message, and the text of the table of all their records
   -- was written, and nothing else
@@ -45,3 +52,8 @@ module _ {S : Type 0} (seen : S → SourceView) where
 
   abbrev pub WritesWholeTable : List S → PlanValue → Output → Option (List ℕ) → Option (List ℕ) → Type 0
   WritesWholeTable sources plan output old new = (texts : List (List ℕ)) → AreTexts seen sources texts → WritesAll texts plan output old new
+
+-- a fact for a fault of collecting, and one for a fault of the export
+abbrev pub MatchRunFault : RunFault → Type 0 → Type 0 → Type 0
+MatchRunFault (Collect fault) P Q = P
+MatchRunFault (Export fault) P Q = Q

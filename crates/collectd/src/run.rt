@@ -1,11 +1,11 @@
 //! Collecting and writing the table.
 
-ghost use Rattle.std.specs.Prelude.{◌≡◌, ◌≢◌, ◌⊎◌, IfOk, OnOk, All};
+ghost use Rattle.std.specs.Prelude.{◌≡◌, ◌≢◌, ◌⊎◌, ◌↔◌, IfOk, IfErr, OnOk, All};
 ghost use Rattle.std.specs.Io.KnownBytes.{Appends};
 ghost use Rattle.flow_table.specs.Fitting.{FitsPlan};
 ghost use Rattle.flow_collect.specs.Headline.{Headline};
 ghost use Rattle.flow_collect.specs.Texts.{HasNoFault};
-ghost use Rattle.collectd.specs.Runs.{export_text, WritesTable, WritesWholeTable};
+ghost use Rattle.collectd.specs.Runs.{export_text, MatchRunFault, WasCollected, WritesTable, WritesWholeTable};
 
 use crate::reports::{write_collect_fault, write_export_fault, write_reports, write_tally};
 use crate::run_fault::RunFault;
@@ -45,10 +45,13 @@ pub fn run<S: Source + Send + Drop, W: Write, E: Write, R: Threads + Wait + Sync
     err: &mut E,
 ) -> u8
     ensures statuses { (result ≡ 0) ⊎ (result ≡ 1) ⊎ (result ≡ 3) }
-    // The table of what was received of each session was written, and nothing else.
-    ensures table { result ≢ 3 → WritesTable S.seen sources.items plan.now output (W.contents out.old) (W.contents out.new) }
+    // The table of what was received of each session was written, and nothing else; 0 exactly if no
+    // session had a fault.
+    ensures table { result ≢ 3 → WritesTable S.seen sources.items plan.now pool output result (W.contents out.old) (W.contents out.new) }
     // The table of all whole texts was written, and each of them ends with a whole message.
     ensures all { result ≡ 0 → WritesWholeTable S.seen sources.items plan.now output (W.contents out.old) (W.contents out.new) }
+    // Nothing was written unless all was collected.
+    ensures untouched { result ≡ 3 → (out.new ≡ out.old) ⊎ WasCollected S.seen sources.items plan.now pool }
 {
     match collect_and_write(rt, alloc, sources, plan, pool, output, out) {
         Ok(collected) => {
@@ -72,8 +75,9 @@ fn collect_and_write<S: Source + Send + Drop, W: Write, R: Threads + Wait + Sync
     output: Output,
     out: &mut W,
 ) -> Result<Collected<S>, RunFault>
-    ensures { IfOk result (λ c. Headline S.seen sources.items plan.now pool c
+    ensures ok { IfOk result (λ c. Headline S.seen sources.items plan.now pool c
         × Appends (W.contents out.old) (W.contents out.new) (export_text output plan.now c.table)) }
+    ensures err { IfErr result (λ fault. MatchRunFault fault (out.new ≡ out.old) (WasCollected S.seen sources.items plan.now pool)) }
 {
     let collected = match collect(rt, alloc, sources, plan, pool, &OpenGate) {
         Ok(collected) => collected,
@@ -107,7 +111,7 @@ fn export<W: Write>(
 // How sessions ended.
 fn status_of(reports: &[SessionReport]) -> Status
     ensures ends { (result ≡ Status.Well) ⊎ (result ≡ Status.SessionFault) }
-    ensures well { result ≡ Status.Well → All HasNoFault reports.now }
+    ensures well { (result ≡ Status.Well) ↔ All HasNoFault reports.now }
 {
     for report in reports {
         if report.fault.is_some() {
