@@ -8,7 +8,7 @@ use Rattle.ipfix_message.specs.declared.record.DataRecord.{DataRecord}
 use Rattle.ipfix_session.specs.declared.report.SessionReport.{SessionReport}
 use Rattle.ipfix_session.specs.Sources.{SourceView}
 use Rattle.ipfix_session.proofs.Driven.{given_all_of}
-use Rattle.collectd.specs.Dumped.{Dumps, DumpsAll, read_limit, read_size}
+use Rattle.collectd.specs.Dumped.{Dumps, DumpsAll}
 use Rattle.collectd.specs.DumpLines.{dump_line, dump_lines}
 
 module _ {K N : Type 0} (name : K → N) (contents : K → Option (List ℕ)) where
@@ -28,5 +28,5 @@ pub dumps_all : (before after : SourceView) (old new : Option (List ℕ)) (r : S
     → (held : Option (List ℕ)) → before.text ≡ held → DumpsAll held old new
 dumps_all before after old new r at_end d none None is = tt
 dumps_all before after old new r at_end d none (Some whole) is =
-    let all = given_all_of read_limit read_size before after r d.records whole at_end d.given none is in
+    let all = given_all_of _ _ before after r d.records whole at_end d.given none is in
     (all.0, subst (λ (rs : List DataRecord). Appends old new (dump_lines rs)) all.1 d.written)

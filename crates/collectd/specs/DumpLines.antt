@@ -7,11 +7,11 @@ use Rattle.ipfix_elements.specs.Texts.{value_text}
 use Rattle.ipfix_message.specs.Fields.{Field}
 use Rattle.ipfix_message.specs.declared.record.DataRecord.{DataRecord}
 
--- a field behind a space: its element's name, and its value by the element's kind
+-- a space and a field: its element's name, and its value by the element's kind
 abbrev pub field_text : Field → List ℕ
 field_text f = codes " " ++ (name_text f.element ++ (codes "=" ++ value_text (kind_of f.element) f.octets))
 
--- a number behind its label
+-- a label and a number
 abbrev pub labelled : List ℕ → ℕ → List ℕ
 labelled label n = label ++ decimal n
 

@@ -7,23 +7,17 @@ use Rattle.ipfix_session.specs.declared.stop.Stop.TheVariants.{Clean}
 use Rattle.ipfix_session.specs.Given.{records_of, stop_of}
 use Rattle.ipfix_session.specs.Sources.{SourceView}
 use Rattle.ipfix_session.specs.Drives.{IsGiven}
+use Rattle.ipfix_session.specs.declared.driver.TheConstants.{READ_SIZE}
+use Rattle.collectd.specs.declared.dumping.TheConstants.{READ_LIMIT}
 use Rattle.collectd.specs.DumpLines.{dump_lines}
-
--- the most reads of a session
-abbrev pub read_limit : ℕ
-read_limit = 2 ^ 40
-
--- the most octets of a read
-abbrev pub read_size : ℕ
-read_size = 65536
 
 -- a source gave octets that have these records, as the report tells, and their lines were written
 pub record Dumps (before after : SourceView) (old new : Option (List ℕ)) (report : SessionReport) : Type 0 where
   pub records : List DataRecord
-  pub given : IsGiven read_limit read_size before after report records
+  pub given : IsGiven READ_LIMIT READ_SIZE before after report records
   pub written : Appends old new (dump_lines records)
 
--- where a source tells its octets, the lines of all of them were written, and no fault was met
+-- if a source tells its octets, the lines of all of them were written, and no fault was met
 abbrev pub DumpsAll : Option (List ℕ) → Option (List ℕ) → Option (List ℕ) → Type 0
 DumpsAll None old new = Unit {0}
 DumpsAll (Some whole) old new = (stop_of whole ≡ Clean) × Appends old new (dump_lines (records_of whole))

@@ -1,4 +1,5 @@
+-- what public contracts cite
 pub mod DumpLines
-pub mod Faults
-pub mod ReportLines
 pub mod Dumped
+pub mod ReportLines
+pub mod Faults

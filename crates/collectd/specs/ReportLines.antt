@@ -15,7 +15,7 @@ unfoldable pub loss_line : ℕ → DomainReport → List ℕ
 loss_line session d =
     codes "collectd: session " ++ (decimal session ++ (codes ": domain " ++ (decimal d.domain ++ (codes ": lost " ++ (decimal d.lost ++ (codes " backward " ++ (decimal d.backward ++ codes "\n")))))))
 
--- a domain has a line where records of it were lost or its sequence number went backward
+-- a domain has a line if records of it were lost or its sequence number went backward
 abbrev pub domain_lines : ℕ → DomainReport → List ℕ
 domain_lines session d = if (d.lost == 0) && (d.backward == 0) then [] else loss_line session d
 

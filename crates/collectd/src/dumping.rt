@@ -10,12 +10,12 @@ use std::alloc::Global;
 use std::io::Write;
 
 /// The most reads of a session.
-const READ_LIMIT: u64 = 1 << 40;
+pub const READ_LIMIT: u64 = 1 << 40;
 
 /// Reads a source to its end and writes a line for each data record of its octets, up to the end or
 /// the first fault. The lines of a message are written as soon as it is whole.
 ///
-/// The report says what the messages gave, and the fault that ended them; want of memory for the
+/// The report says what the messages gave, and the fault that ended them; `OutOfMemory` for the
 /// input is one. An `Err` is a line that couldn't be made or written; how much was written then is
 /// open.
 pub fn dump<S: Source, W: Write>(

@@ -10,7 +10,7 @@ use ipfix_message::DataRecord;
 use ipfix_session::Sink;
 use std::io::Write;
 
-/// A sink that writes the line of each record. It gives a record back where its line could not be
+/// A sink that writes the line of each record. It gives a record back if its line could not be
 /// made or written, and keeps the fault.
 #[derive(Drop)]
 pub struct LineSink<'a, W: Write> {

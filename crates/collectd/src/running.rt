@@ -13,8 +13,8 @@ use std::alloc::Global;
 use std::io::Write;
 use std::slice;
 
-/// Dumps a source to `out`, and answers the exit status: 0 where all went well; 1 where the session
-/// ended with a fault; 3 where a line couldn't be made or written. To `err` it writes the report of
+/// Dumps a source to `out`, and answers the exit status: 0 if all went well; 1 if the session ended
+/// with a fault; 3 if a line couldn't be made or written. To `err` it writes the report of
 /// the session, or at status 3 the line of that fault alone. A fault of `err` is passed over.
 pub fn run_dump<S: Source, W: Write, E: Write>(
     alloc: Global,

@@ -19,11 +19,11 @@ pub fn append_labelled(label: &str, number: u32, out: &mut Vec<u8>) -> Result<()
     out.extend_from_slice(buffer.format(number).as_bytes())
 }
 
-/// Appends a field behind a space: its element's name and its value.
+/// Appends a space and a field: its element's name and its value.
 pub fn append_field(field: FieldRef, out: &mut Vec<u8>) -> Result<(), AllocError>
     ensures { OnOk result (out.new.items ≡ out.old.items ++ field_text (field_of field.entry)) }
 {
-    // A vector fails for want of memory alone.
+    // A vector fails only because memory ran out.
     write_field(field, out).map_err(|_| AllocError)
 }
 

@@ -3,11 +3,12 @@
 -- aggregate of RFC 7015 of all these records, taken on one thread.
 --
 -- It has three parts: what was received, what was given, and what was added up.
-use Rattle.std.specs.Prelude.{◌≡◌, ℕ, ◌^◌, List, [], ◌∷◌, ◌++◌}
+use Rattle.std.specs.Prelude.{◌≡◌, ℕ, List, [], ◌∷◌, ◌++◌}
 use Rattle.std.specs.List.{AllZip, flat_map}
 use Rattle.ipfix_message.specs.declared.record.DataRecord.{DataRecord}
 use Rattle.ipfix_session.specs.Drives.{IsGiven}
 use Rattle.ipfix_session.specs.Sources.{SourceView}
+use Rattle.ipfix_session.specs.declared.driver.TheConstants.{READ_SIZE}
 use Rattle.ipfix_session.specs.declared.report.SessionReport.{SessionReport}
 use Rattle.flow_link.specs.Parcels.{items}
 use Rattle.flow_link.specs.Settling.{settled_capacity, settled_sent, settled_received}
@@ -20,6 +21,7 @@ use Rattle.flow_collect.specs.Places.{Each4}
 use Rattle.flow_collect.specs.declared.collected.Pool.{Pool}
 use Rattle.flow_collect.specs.declared.collected.Collected.{Collected}
 use Rattle.flow_collect.specs.declared.collected.Serial.{Serial}
+use Rattle.flow_collect.specs.declared.collected.TheConstants.{READ_LIMIT}
 
 -- ---- what was received
 
@@ -36,13 +38,16 @@ pub record IsReceived (capacity : ℕ) (link : Settled) (records : List DataReco
 
 -- ---- what was given
 
--- the records are exactly those that RFC 7011 gives for the octets of the session's source up to their end or first fault,
--- in at most 2^40 reads of at most 65,536 octets each. `IsGiven` says: the source held these octets, and then what it holds
--- now; the records are all of their messages before the first malformed one, and the report tells of these; a fault stands
--- in the report only if it is due (`IsDue`). Memory that ran out in the session is the one exception: then the records, and
--- the report, are of the first of these messages. No report has SinkClosed
+-- the records are exactly those that RFC 7011 gives for the octets of the session's source up to their end or first fault.
+-- `IsGiven` says so part by part:
+--   the octets are what the source gave, in at most 2^40 reads: what it held before is these, and then what it holds after;
+--   the records are all data records of their messages before the first malformed one;
+--   the report counts these messages and records;
+--   a fault stands in the report only if it is due (`IsDue`), and nothing is read after it;
+--   memory that ran out in the session is the one exception: then records and report are of the first of these messages;
+--   no report has SinkClosed
 abbrev pub IsGivenBy : {S : Type 0} → (S → SourceView) → S → S → SessionReport → List DataRecord → Type 0
-IsGivenBy seen before after report records = IsGiven (2 ^ 40) 65536 (seen before) (seen after) report records
+IsGivenBy seen before after report records = IsGiven READ_LIMIT READ_SIZE (seen before) (seen after) report records
 
 -- ---- what was added up
 

@@ -23,7 +23,7 @@ use std::thread::Threads;
 /// Runs each source as a session in a thread of its own, and adds up their records in the threads of
 /// the workers. Session i, counted from 0, sends over a link of its own to worker `i mod workers`.
 ///
-/// It reads a source at most [`READS`](crate::READS) times. A session's own fault, want of memory
+/// It reads a source at most [`READ_LIMIT`](crate::READ_LIMIT) times. A session's own fault, want of memory
 /// included, stands in its report. Each thread has ended when it returns.
 ///
 /// The fault is the first of `Workers`, `Sessions` and `Link` that the arguments have, and then nothing

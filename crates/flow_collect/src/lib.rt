@@ -16,7 +16,7 @@ mod settling;
 mod threads;
 mod worker;
 
-pub use collected::{Collected, MAX_SESSIONS, MAX_WORKERS, Pool, READS, Serial};
+pub use collected::{Collected, MAX_SESSIONS, MAX_WORKERS, Pool, READ_LIMIT, Serial};
 pub use collecting::collect;
 pub use fault::CollectFault;
 pub use gate::{Gate, OpenGate};

@@ -3,7 +3,7 @@
 ghost use Rattle.std.specs.Prelude.{◌≡◌, []};
 ghost use Rattle.flow_collect.specs.Sessions.{SessionRan};
 
-use crate::collected::READS;
+use crate::collected::READ_LIMIT;
 use crate::gate::Gate;
 use crate::link_sink::LinkSink;
 use flow_link::Sender;
@@ -47,7 +47,7 @@ pub fn run_session<S: Source, G: Gate, R: Wait>(
     } = start;
     let mut source = source;
     let mut sink = LinkSink::new(rt, gate, session, sender);
-    let report = drive(alloc, &mut source, &mut sink, READS);
+    let report = drive(alloc, &mut source, &mut sink, READ_LIMIT);
     let took_all = sink.refused == 0;
     let sent = sink.send_last();
     let whole = sent && took_all;

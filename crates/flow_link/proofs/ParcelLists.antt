@@ -47,7 +47,7 @@ pub last_ends_empty : LastEnds []
 last_ends_empty [] after e = cc
 last_ends_empty (b ∷ before) after e = cc
 
--- where Last did not stand before the newest, it stands at the end alone
+-- if Last did not stand before the newest, it stands at the end alone
 pub last_ends_push : (ps : List Parcel) (p : Parcel) → has_last ps ≡ false → LastEnds (ps ++ p ∷ [])
 last_ends_push [] p h [] after e = cc
 last_ends_push [] p h (b ∷ []) after e = cc
@@ -60,11 +60,11 @@ last_ends_push (Last ∷ ps) p h before after e = cc
 pub last_ends_whole : (rs : List DataRecord) → LastEnds (items rs ++ Last ∷ [])
 last_ends_whole rs = last_ends_push (items rs) Last (has_last-items rs)
 
--- where Last stands the list ends, and so does the rest of the list
+-- if nothing stands after Last in a list, nothing does in its rest
 last_ends_rest : (p : Parcel) (ps : List Parcel) → LastEnds (p ∷ ps) → LastEnds ps
 last_ends_rest p ps ends before after e = let e' : p ∷ ps ≡ (p ∷ before) ++ Last ∷ after = cc in ends (p ∷ before) after e'
 
--- a list in which Last stands, and which it ends, is that of a session that was sent whole
+-- a list in which Last stands, and nothing after it, is that of a session that was sent whole
 pub whole_session : (ps : List Parcel) → LastEnds ps → has_last ps ≡ true → ps ≡ items (records_in ps) ++ Last ∷ []
 whole_session [] ends h = cc
 whole_session (Item r ∷ ps) ends h = ap (λ (qs : List Parcel). Item r ∷ qs) (whole_session ps (last_ends_rest (Item r) ps ends) h)
@@ -75,7 +75,7 @@ nothing_left : (taken left : List Parcel) → taken ++ left ≡ [] → left ≡ 
 nothing_left [] left e = e
 nothing_left (p ∷ taken) left e = cc
 
--- where what was taken of a whole list has Last, nothing is left
+-- if what was taken of a whole list has Last, nothing is left
 pub gave_all : (taken left all : List Parcel) → taken ++ left ≡ all → LastEnds all → has_last taken ≡ true → left ≡ []
 gave_all [] left all e ends h = cc
 gave_all (Last ∷ taken) left all e ends h = nothing_left taken left (ends [] (taken ++ left) (sym e))
@@ -86,6 +86,6 @@ gave_all (Item r ∷ taken) left all e ends h =
 pub taken_before : (before start newest all : List Parcel) (count : ℕ) → start ≡ before → all ≡ start ++ newest → length newest ≡ count → take (length all - count) all ≡ before
 taken_before before start newest all count s e n = grind (arith, common_steps, s, e, n)
 
--- two equal lists in the place of two
+-- the same of equal lists
 pub joined_as : (taken taken' left left' all all' : List Parcel) → taken ≡ taken' → left' ≡ left → taken ++ left ≡ all → all ≡ all' → taken' ++ left' ≡ all'
 joined_as taken taken' left left' all all' t l e a = cc

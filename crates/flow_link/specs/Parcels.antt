@@ -10,7 +10,7 @@ has_last [] = false
 has_last (Item r ∷ ps) = has_last ps
 has_last (Last ∷ ps) = true
 
--- wherever Last stands, the list ends
+-- after Last nothing stands in the list
 abbrev pub LastEnds : List Parcel → Type 0
 LastEnds ps = (before after : List Parcel) → ps ≡ before ++ Last ∷ after → after ≡ []
 

@@ -21,7 +21,7 @@ settled_sent t = t.sender.sent
 abbrev pub settled_received : Settled → List Parcel
 settled_received t = take (length t.receiver.received - t.drained) t.receiver.received
 
--- what was taken and then what was left is what was sent, and where Last was taken all was
+-- what was taken and then what was left is what was sent, and if Last was taken all was
 pub record Settles (s : SenderView) (r : ReceiverView) (t : Settled) : Type 0 where
   pub link_is : settled_link t ≡ s.link
   pub capacity_is : settled_capacity t ≡ s.capacity

@@ -9,7 +9,7 @@ IfGot (Got parcel) P = P parcel
 IfGot Empty P = Unit {0}
 IfGot Gone P = Unit {0}
 
--- a fact where no parcel was got
+-- a fact if no parcel was got
 abbrev pub UnlessGot : Taken → Type 0 → Type 0
 UnlessGot (Got parcel) P = Unit {0}
 UnlessGot Empty P = P

@@ -46,7 +46,7 @@ impl Receiver {
         Receiver { consumer }
     }
 
-    /// Takes the oldest parcel, where one is there. It waits for nobody, and takes no memory.
+    /// Takes the oldest parcel, if one is there. It waits for nobody, and takes no memory.
     pub fn try_recv(&mut self) -> Taken
         ensures link { (self.new.link ≡ self.old.link) × (self.new.capacity ≡ self.old.capacity) }
         ensures got { IfGot result (λ parcel. self.new.received ≡ self.old.received ++ parcel ∷ []) }
@@ -65,7 +65,8 @@ impl Receiver {
         }
     }
 
-    /// Takes the oldest parcel, and waits while the ring is empty. `None` where the sender is gone.
+    /// Takes the oldest parcel, and waits while the ring is empty. `None` if it is empty and the
+    /// sender is gone.
     pub fn recv(&mut self, rt: &impl Wait) -> Option<Parcel>
         ensures link { (self.new.link ≡ self.old.link) × (self.new.capacity ≡ self.old.capacity) }
         ensures some { IfSome result (λ parcel. self.new.received ≡ self.old.received ++ parcel ∷ []) }

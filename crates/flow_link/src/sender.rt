@@ -46,7 +46,7 @@ impl Sender {
         }
     }
 
-    /// Sends a parcel, or gives it back where the ring is full. It waits for nobody, and takes no
+    /// Sends a parcel, or gives it back if the ring is full. It waits for nobody, and takes no
     /// memory.
     #[tactic(auto, using(crate::proofs::ParcelLists::has_last_push, crate::proofs::ParcelLists::last_ends_push))]
     pub fn try_send(&mut self, parcel: Parcel) -> Result<(), Parcel>
@@ -65,7 +65,7 @@ impl Sender {
         }
     }
 
-    /// Sends a parcel, and waits while the ring is full. It comes back where the receiver is gone.
+    /// Sends a parcel, and waits while the ring is full. It comes back if the receiver is gone.
     pub fn send(&mut self, rt: &impl Wait, parcel: Parcel) -> Result<(), Parcel>
         requires { has_last self.old.sent ≡ false }
         ensures link { (self.new.link ≡ self.old.link) × (self.new.capacity ≡ self.old.capacity) }

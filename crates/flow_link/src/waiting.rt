@@ -17,8 +17,8 @@ const NAP: u32 = 50;
 /// The longest sleep, in microseconds.
 const LONGEST_NAP: u32 = 1000;
 
-/// Waits a little before the next try, where the `tries` before it in a row found nothing: first
-/// it spins, then it gives way to other threads, and then it sleeps, for 1 ms at most.
+/// Waits a little before the next try, after so many `tries` in a row that found nothing: first it
+/// spins, then it gives way to other threads, and then it sleeps, for 1 ms at most.
 pub fn pause(rt: &impl Wait, tries: u32) {
     if tries < SPINS {
         spin_loop();

@@ -5,8 +5,8 @@ use std::test::Fail;
 use std::thread;
 use std::thread::Threads;
 
-/// So many links are used side by side, each by two threads: by more than there are processors, so
-/// that threads are held up anywhere.
+/// So many links are used side by side, each by two threads: by more than most machines have
+/// processors, so that a thread may be held up at any step.
 const SIDE_BY_SIDE: usize = 12;
 
 /// So many links are used one after the other.

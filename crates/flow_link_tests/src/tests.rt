@@ -66,7 +66,7 @@ fn dropped_ends(rt: HostRuntime) -> Result<(), Fail> {
     Ok(())
 }
 
-/// Where memory for what is left was refused, a second call gives it.
+/// If memory for what is left was refused, a second call gives it.
 #[test]
 fn settles_what_is_left(rt: HostRuntime) -> Result<(), Fail> {
     let (mut sender, mut receiver) = link(rt.alloc(), 4)?;

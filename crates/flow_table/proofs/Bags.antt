@@ -2,6 +2,8 @@
 use Rattle.std.proofs.Common.{◌≡◌, ℕ, ◌+◌, ◌≤◌, inl, inr, Bool, true, false, cond, List, [], ◌∷◌, ◌++◌, length, length-append, map, sum_by, filter, refl, sym, ap, ◌∙◌, arith}
 use Rattle.std.proofs.lemmas.List.Sums.{sum_by-append, sum_by-cons, length-filter}
 use Rattle.std.proofs.lemmas.List.Elements.{filter-append, All-weaker}
+use Rattle.std.proofs.lemmas.List.Sorted.{sum_by-IsPermutation}
+use Rattle.std.specs.List.Sorted.{IsPermutation}
 use Rattle.ipfix_wire.specs.declared.specifier.ElementId.{ElementId}
 use Rattle.ipfix_elements.specs.declared.cell.Cell.{Cell}
 use Rattle.ipfix_message.specs.declared.record.DataRecord.{DataRecord}
@@ -9,10 +11,31 @@ use Rattle.flow_table.specs.declared.class.Class.{Class}
 use Rattle.flow_table.specs.declared.class.Class.TheVariants.{Options, Untimed, Backward, Unkeyed, TooLong, Used}
 use Rattle.flow_table.specs.declared.table.Row.{Row}
 use Rattle.flow_table.specs.declared.table.Table.{Table}
-use Rattle.flow_table.specs.Bags.{IsSameBag}
+use Rattle.flow_table.specs.Bags.{IsSameBag, IsInterleaving, neither, from_first, from_second}
 use Rattle.flow_table.specs.Plans.{PlanValue}
 use Rattle.flow_table.specs.Reading.{class_of}
 use Rattle.flow_table.specs.Tables.{is_class, count_of, tally_of, contributes, share_of, sum_at, flows_at, IsTooLarge, IsRow, IsTable}
+
+-- ---- what is the same bag
+
+pub permuted : (rs qs : List DataRecord) → IsPermutation rs qs → IsSameBag rs qs
+permuted rs qs h weight = sym (sum_by-IsPermutation weight rs qs h)
+
+weight_of-interleaving : {rs qs all : List DataRecord} → IsInterleaving rs qs all → (weight : DataRecord → ℕ) → sum_by weight all ≡ sum_by weight rs + sum_by weight qs
+weight_of-interleaving neither weight = refl
+weight_of-interleaving (from_first {r} {rs} {qs} {all} h) weight =
+    omega (arith, weight_of-interleaving h weight, sum_by-cons weight r rs, sum_by-cons weight r all)
+weight_of-interleaving (from_second {r} {rs} {qs} {all} h) weight =
+    omega (arith, weight_of-interleaving h weight, sum_by-cons weight r qs, sum_by-cons weight r all)
+
+pub interleaved : (rs qs all : List DataRecord) → IsInterleaving rs qs all → IsSameBag all (rs ++ qs)
+interleaved rs qs all h weight = weight_of-interleaving h weight ∙ sym (sum_by-append weight rs qs)
+
+pub turned : (rs qs : List DataRecord) → IsSameBag (rs ++ qs) (qs ++ rs)
+turned rs qs weight = omega (arith, sum_by-append weight rs qs, sum_by-append weight qs rs)
+
+pub bags-append : (rs qs more others : List DataRecord) → IsSameBag rs qs → IsSameBag more others → IsSameBag (rs ++ more) (qs ++ others)
+bags-append rs qs more others h k weight = omega (arith, h weight, k weight, sum_by-append weight rs more, sum_by-append weight qs others)
 
 -- ---- filters as weights
 

@@ -22,7 +22,7 @@ use Rattle.flow_table.specs.declared.table.Table.{Table}
 use Rattle.flow_table.specs.Plans.{PlanValue}
 use Rattle.flow_table.specs.Tables.{key_cmp, place_of, place_cmp, flows_at, sum_at, tally_of, IsRow, IsTable}
 use Rattle.flow_table.specs.Totals.{Total, total}
-use Rattle.flow_table.specs.Rows.{RowEntries, CellEntries, is_same_key, is_same_interval, row_at, cell_at}
+use Rattle.flow_table.specs.Rows.{RowEntries, IntervalEntries, is_same_key, is_same_interval, row_at, kept_at}
 use Rattle.flow_table.specs.Partials.{totals_at}
 use Rattle.flow_table.specs.Finishing.{Line, line_of, lines_at, lines_in, AreAscending}
 use Rattle.flow_table.proofs.Keyed.{itself}
@@ -67,17 +67,17 @@ below_rows : (l : Line) (k : ℕ) (es : RowEntries) → nat_cmp l.0.0 k ≡ Less
 below_rows l k [] h = tt
 below_rows l k (e ∷ es) h = (ap (λ (o : Ordering). ordering_then o (key_cmp l.0.1 e.0)) h, below_rows l k es h)
 
-below_later : (l : Line) (es : CellEntries) → AllByRecursion (λ k. nat_cmp l.0.0 k ≡ Less) (map (λ e. e.0) es)
+below_later : (l : Line) (es : IntervalEntries) → AllByRecursion (λ k. nat_cmp l.0.0 k ≡ Less) (map (λ e. e.0) es)
     → AllByRecursion (λ m. line_cmp l m ≡ Less) (lines_in es)
 below_later l [] h = tt
 below_later l (e ∷ es) h = below_append line_cmp l (lines_at e.0 e.1.entries) (lines_in es) (below_rows l e.0 e.1.entries h.0) (below_later l es h.1)
 
-apart_from_later : (k : ℕ) (rows : RowEntries) (es : CellEntries) → AllByRecursion (λ j. nat_cmp k j ≡ Less) (map (λ e. e.0) es)
+apart_from_later : (k : ℕ) (rows : RowEntries) (es : IntervalEntries) → AllByRecursion (λ j. nat_cmp k j ≡ Less) (map (λ e. e.0) es)
     → AllByRecursion (λ l. AllByRecursion (λ m. line_cmp l m ≡ Less) (lines_in es)) (lines_at k rows)
 apart_from_later k [] es h = tt
 apart_from_later k (e ∷ rows) es h = (below_later ((k, e.0), e.1) es h, apart_from_later k rows es h)
 
-lines_ascend : (es : CellEntries) → IsStrictlySortedBy nat_cmp (map (λ e. e.0) es) → All (λ e. IsStrictlySortedBy key_cmp (keys e.1)) es
+lines_ascend : (es : IntervalEntries) → IsStrictlySortedBy nat_cmp (map (λ e. e.0) es) → All (λ e. IsStrictlySortedBy key_cmp (keys e.1)) es
     → IsStrictlySortedBy line_cmp (lines_in es)
 unfolding IsStrictlySortedBy
 lines_ascend [] intervals ordered = tt
@@ -98,7 +98,7 @@ places_ascend (row ∷ rows) h = (below_places (place_of row) rows h.0, places_a
 
 -- ---- each row has the totals of its place
 
-outer_found : (all : CellEntries) (e : ℕ × BTreeMap (List Cell) Total) → IsStrictlySortedBy nat_cmp (map (λ e. e.0) all) → Contains all e
+outer_found : (all : IntervalEntries) (e : ℕ × BTreeMap (List Cell) Total) → IsStrictlySortedBy nat_cmp (map (λ e. e.0) all) → Contains all e
     → lookup (λ interval. is_same_interval e.0 interval) all ≡ Some e.1
 outer_found all e ascending among =
     lookup-from_Contains (eq_by_cmp_equiv nat_cmp_total) e.0 e.1 all (IsDistinct-from_sorted nat_cmp (map (λ e. e.0) all) ascending) among
@@ -134,10 +134,10 @@ inner_found [] ascending = All-nil (IsRowAt [])
 inner_found (e ∷ es) ascending =
     All-cons (IsRowAt (e ∷ es)) e es (inner_here e.0 e.0 e.1 es e.0 refl) (inner_later e es es ascending.0 (inner_found es ascending.1))
 
-abbrev IsLineOf : CellEntries → Line → Type 0
-IsLineOf all l = cell_at all l.0.0 l.0.1 ≡ Some l.1
+abbrev IsLineOf : IntervalEntries → Line → Type 0
+IsLineOf all l = kept_at all l.0.0 l.0.1 ≡ Some l.1
 
-rows_found : (all : CellEntries) (k : ℕ) (rows : BTreeMap (List Cell) Total) (es : RowEntries)
+rows_found : (all : IntervalEntries) (k : ℕ) (rows : BTreeMap (List Cell) Total) (es : RowEntries)
     → lookup (λ interval. is_same_interval k interval) all ≡ Some rows → All (IsRowAt rows.entries) es → All (IsLineOf all) (lines_at k es)
 rows_found all k rows [] there found = All-nil (IsLineOf all)
 rows_found all k rows (e ∷ es) there found =
@@ -145,7 +145,7 @@ rows_found all k rows (e ∷ es) there found =
     (ap (λ (o : Option (BTreeMap (List Cell) Total)). option_and_then (λ rows. row_at rows.entries e.0) o) there ∙ All-head (IsRowAt rows.entries) e es found)
     (rows_found all k rows es there (All-tail (IsRowAt rows.entries) e es found))
 
-lines_found : (all es : CellEntries) → IsStrictlySortedBy nat_cmp (map (λ e. e.0) all)
+lines_found : (all es : IntervalEntries) → IsStrictlySortedBy nat_cmp (map (λ e. e.0) all)
     → All (λ e. IsStrictlySortedBy key_cmp (keys e.1)) es → All (Contains all) es → All (IsLineOf all) (lines_in es)
 lines_found all [] intervals ordered among = All-nil (IsLineOf all)
 lines_found all (e ∷ es) intervals ordered among =
@@ -191,7 +191,7 @@ row_there k q t (e ∷ es) h =
           Contains-append_right ((k, e.0) ∷ []) (places (lines_at k es)) (k, q) (row_there k q t es rest)
     ]
 
-cell_there : (k : ℕ) (q : List Cell) (t : Total) (es : CellEntries) → cell_at es k q ≡ Some t → Contains (places (lines_in es)) (k, q)
+cell_there : (k : ℕ) (q : List Cell) (t : Total) (es : IntervalEntries) → kept_at es k q ≡ Some t → Contains (places (lines_in es)) (k, q)
 cell_there k q t [] h = absurd (none-some t h)
 cell_there k q t (e ∷ es) h =
     subst (λ (ps : List (ℕ × List Cell)). Contains ps (k, q)) (sym (map-append (λ l. l.0) (lines_at e.0 e.1.entries) (lines_in es)))
@@ -202,7 +202,7 @@ cell_there k q t (e ∷ es) h =
           Contains-append_left (places (lines_at e.0 e.1.entries)) (places (lines_in es)) (k, q)
           (subst (λ (j : ℕ). Contains (places (lines_at j e.1.entries)) (k, q)) same.1 (row_there k q t e.1.entries here))
       | inr other ↦
-          let rest : cell_at es k q ≡ Some t =
+          let rest : kept_at es k q ≡ Some t =
           sym (ap (λ (b : Bool). option_and_then (λ rows. row_at rows.entries q) (cond b (Some e.1) (lookup (λ interval. is_same_interval k interval) es))) other.0) ∙ h in
           Contains-append_right (places (lines_at e.0 e.1.entries)) (places (lines_in es)) (k, q) (cell_there k q t es rest)
     ])
@@ -222,17 +222,17 @@ some_totals plan rs k q some =
 
 -- ---- the table
 
--- the rows of cells with the totals of a list are the table of that list
-pub finished : (plan : PlanValue) (rs : List DataRecord) (cells : CellEntries) (table : Table)
-    → ((k : ℕ) (key : List Cell) → cell_at cells k key ≡ totals_at plan rs k key)
-    → map line_of table.rows.items ≡ lines_in cells → AreAscending cells → table.tally ≡ tally_of plan rs → IsTable plan rs table
-finished plan rs cells table cells_are lines order tally_is =
+-- the rows of intervals with the totals of a list are the table of that list
+pub finished : (plan : PlanValue) (rs : List DataRecord) (intervals : IntervalEntries) (table : Table)
+    → ((k : ℕ) (key : List Cell) → kept_at intervals k key ≡ totals_at plan rs k key)
+    → map line_of table.rows.items ≡ lines_in intervals → AreAscending intervals → table.tally ≡ tally_of plan rs → IsTable plan rs table
+finished plan rs intervals table totals_are lines order tally_is =
     record {
-      ascending = places_ascend table.rows.items (subst (IsStrictlySortedBy line_cmp) (sym lines) (lines_ascend cells order.intervals order.keys));
+      ascending = places_ascend table.rows.items (subst (IsStrictlySortedBy line_cmp) (sym lines) (lines_ascend intervals order.intervals order.keys));
       rows = rows_are plan rs table.rows.items (subst (All (λ l. totals_at plan rs l.0.0 l.0.1 ≡ Some l.1)) (sym lines)
-          (λ i d within. sym (cells_are _ _) ∙ lines_found cells cells order.intervals order.keys (All-contains_itself cells) i d within));
+          (λ i d within. sym (totals_are _ _) ∙ lines_found intervals intervals order.intervals order.keys (All-contains_itself intervals) i d within));
       complete = λ k q some.
           subst (λ (ps : List (ℕ × List Cell)). Contains ps (k, q)) (sym (places_of_lines table.rows.items ∙ ap places lines))
-          (cell_there k q _ cells (cells_are k q ∙ some_totals plan rs k q some));
+          (cell_there k q _ intervals (totals_are k q ∙ some_totals plan rs k q some));
       tally = tally_is;
     }

@@ -27,7 +27,7 @@ use Rattle.flow_table.specs.Fitting.{IsCellOf, FitsKeys, FitsRow, FitsPlan, Keys
 use Rattle.flow_table.specs.Intervals.{covers}
 use Rattle.flow_table.specs.Plans.{PlanValue, IsPlan, is_key_kind}
 use Rattle.flow_table.specs.Reading.{projected, cell_of, cells_of, key_of, class_of}
-use Rattle.flow_table.specs.Readings.{Reads}
+use Rattle.flow_table.specs.Readings.{ReadsAs}
 use Rattle.flow_table.specs.declared.reading.Reading.{Reading}
 use Rattle.flow_table.specs.declared.reading.Reading.TheVariants as readings
 use Rattle.flow_table.specs.Tables.{is_class, begin_of, finish_of, key_cmp, is_key, contributes, sum_at, flows_at, IsRow, IsTable, IsTooLarge}
@@ -246,7 +246,7 @@ no_flows plan k key some = omega arith
 pub no_keys_fit : (plan : PlanValue) → KeysFit plan []
 no_keys_fit plan k key some = absurd (no_flows plan k key some)
 
-key_fits : (plan : PlanValue) (r : DataRecord) (key q : List Cell) (reading : Reading) → Reads plan r key reading → class_of plan r ≡ classes.Used → key_of plan r ≡ Some q → FitsKeys plan.keys q
+key_fits : (plan : PlanValue) (r : DataRecord) (key q : List Cell) (reading : Reading) → ReadsAs plan r key reading → class_of plan r ≡ classes.Used → key_of plan r ≡ Some q → FitsKeys plan.keys q
 key_fits plan r key q (readings.Left class) reads used found = absurd (reads.1 (sym reads.0 ∙ used))
 key_fits plan r key q (readings.Used start end) reads used found =
     let cells = reads.0.cells in
@@ -254,7 +254,7 @@ key_fits plan r key q (readings.Used start end) reads used found =
     subst (FitsKeys plan.keys) same reads.1
 
 -- the key of a record that was read
-pub read_keys_fit : (plan : PlanValue) (r : DataRecord) (key : List Cell) (reading : Reading) → Reads plan r key reading → KeysFit plan (r ∷ [])
+pub read_keys_fit : (plan : PlanValue) (r : DataRecord) (key : List Cell) (reading : Reading) → ReadsAs plan r key reading → KeysFit plan (r ∷ [])
 read_keys_fit plan r key reading reads k q some =
     from_flow plan (λ x. r ≡ x) (FitsKeys plan.keys q) (r ∷ []) k q
     (λ x is does. let at = contributes_at plan k q r (subst (λ (y : DataRecord). contributes plan k q y ≡ true) (sym is) does) in key_fits plan r key q reading reads at.0 at.2)

@@ -2,7 +2,6 @@
 use Rattle.std.proofs.Common.{◌≡◌, ◌≢◌, ◌+◌, ◌^◌, ◌<◌, ◌≤◌, ℕ, true, false, List, [], ◌∷◌, ◌++◌, map, Option, Some, None, Result, Ok, Err, OnOk, IfOk, IfErr, refl, sym, ap, ◌∙◌, subst, inr, arith}
 use Rattle.std.specs.Result.{result_err}
 use Rattle.std.specs.Option.{IsSome, IfSome}
-use Rattle.std.proofs.lemmas.List.Sums.{sum_by-append}
 use Rattle.ipfix_elements.specs.declared.cell.Cell.{Cell}
 use Rattle.ipfix_message.specs.declared.record.DataRecord.{DataRecord}
 use Rattle.flow_table.specs.declared.class.Class.{Class}
@@ -10,18 +9,17 @@ use Rattle.flow_table.specs.declared.class.Class.TheVariants.{Options, Untimed, 
 use Rattle.flow_table.specs.declared.tally.Tally.{Tally}
 use Rattle.flow_table.specs.declared.table_fault.TableFault.{TableFault}
 use Rattle.flow_table.specs.declared.table_fault.TableFault.TheVariants.{OutOfMemory, SumTooLarge}
-use Rattle.flow_table.specs.Bags.{IsSameBag}
 use Rattle.flow_table.specs.declared.reading.Reading.TheVariants.{Left}
 use Rattle.flow_table.specs.Fitting.{KeysFit}
 use Rattle.flow_table.specs.Flows.{flow_part}
 use Rattle.flow_table.specs.Plans.{PlanValue}
 use Rattle.flow_table.specs.Reading.{class_of, counter_of, IsUsed}
-use Rattle.flow_table.specs.Rows.{CellEntries, cell_at}
-use Rattle.flow_table.specs.Partials.{totals_at, Holds, StandsBy, unless, tally_sum, one_of, count_in, tally}
+use Rattle.flow_table.specs.Rows.{IntervalEntries, kept_at}
+use Rattle.flow_table.specs.Partials.{totals_at, HoldsTable, StandsBy, unless, tally_sum, one_of, count_in, tally}
 use Rattle.flow_table.specs.Tables.{count_of, flows_at, tally_of, IsTooLarge}
 use Rattle.flow_table.specs.Totals.{Total, joined, IsLargeAt}
 use Rattle.flow_table.proofs.Fits.{no_keys_fit, read_keys_fit, both_keys_fit}
-use Rattle.flow_table.proofs.Bags.{too_large_bag, too_large_more as too_large_stay}
+use Rattle.flow_table.proofs.Bags.{turned, too_large_bag, too_large_more as too_large_stay}
 use Rattle.flow_table.proofs.Sums.{same_tally, totals_at-append, totals_at-left, totals_at-used, tally_of-append, tally_of-one, count_of-append, too_large_at, small_from}
 
 -- ---- tallies
@@ -45,34 +43,34 @@ counts_fit a b c d e f p q r s t u Used = u
 
 -- ---- more records
 
-pub holds_more : (plan : PlanValue) (old new : CellEntries) (before after : Tally) (rs qs : List DataRecord) → Holds plan old before rs → KeysFit plan qs
-    → ((k : ℕ) (q : List Cell) → cell_at new k q ≡ joined (cell_at old k q) (totals_at plan qs k q))
-    → ((k : ℕ) (q : List Cell) → (IsLargeAt (cell_at old k q) → ⊥) → IsLargeAt (cell_at new k q) → ⊥)
-    → after ≡ tally_sum before (tally_of plan qs) → ((class : Class) → count_in after class < 2 ^ 64) → Holds plan new after (rs ++ qs)
+pub holds_more : (plan : PlanValue) (old new : IntervalEntries) (before after : Tally) (rs qs : List DataRecord) → HoldsTable plan old before rs → KeysFit plan qs
+    → ((k : ℕ) (q : List Cell) → kept_at new k q ≡ joined (kept_at old k q) (totals_at plan qs k q))
+    → ((k : ℕ) (q : List Cell) → (IsLargeAt (kept_at old k q) → ⊥) → IsLargeAt (kept_at new k q) → ⊥)
+    → after ≡ tally_sum before (tally_of plan qs) → ((class : Class) → count_in after class < 2 ^ 64) → HoldsTable plan new after (rs ++ qs)
 holds_more plan old new before after rs qs holds keys step fits sum counts =
     record {
-      cells_are = cells;
+      totals_are = totals;
       tally_is = tallies;
-      small = small_from plan (rs ++ qs) (λ k q big. fits k q (λ b. holds.small (too_large_at plan rs k q (subst IsLargeAt (holds.cells_are k q) b))) (subst IsLargeAt (sym (cells k q)) big))
+      small = small_from plan (rs ++ qs) (λ k q big. fits k q (λ b. holds.small (too_large_at plan rs k q (subst IsLargeAt (holds.totals_are k q) b))) (subst IsLargeAt (sym (totals k q)) big))
           (λ class. omega (arith, counts class, ap (λ (t : Tally). count_in t class) tallies, count_in-tally plan (rs ++ qs) class));
       keys_fit = both_keys_fit plan rs qs holds.keys_fit keys;
     }
   where
-    cells : (k : ℕ) (q : List Cell) → cell_at new k q ≡ totals_at plan (rs ++ qs) k q
-    cells k q = step k q ∙ ap (λ (o : Option Total). joined o (totals_at plan qs k q)) (holds.cells_are k q) ∙ sym (totals_at-append plan rs qs k q)
+    totals : (k : ℕ) (q : List Cell) → kept_at new k q ≡ totals_at plan (rs ++ qs) k q
+    totals k q = step k q ∙ ap (λ (o : Option Total). joined o (totals_at plan qs k q)) (holds.totals_are k q) ∙ sym (totals_at-append plan rs qs k q)
 
     tallies : after ≡ tally_of plan (rs ++ qs)
     tallies = sum ∙ ap (λ (t : Tally). tally_sum t (tally_of plan qs)) holds.tally_is ∙ sym (tally_of-append plan rs qs)
 
-pub too_large_sum : (plan : PlanValue) (old : CellEntries) (before : Tally) (rs qs : List DataRecord) → Holds plan old before rs
-    → (k : ℕ) × (q : List Cell) × IsLargeAt (joined (cell_at old k q) (totals_at plan qs k q)) → IsTooLarge plan (rs ++ qs)
+pub too_large_sum : (plan : PlanValue) (old : IntervalEntries) (before : Tally) (rs qs : List DataRecord) → HoldsTable plan old before rs
+    → (k : ℕ) × (q : List Cell) × IsLargeAt (joined (kept_at old k q) (totals_at plan qs k q)) → IsTooLarge plan (rs ++ qs)
 too_large_sum plan old before rs qs holds large =
     let k = large.0 in
     let q = large.1 in
     too_large_at plan (rs ++ qs) k q
-    (subst IsLargeAt (ap (λ (o : Option Total). joined o (totals_at plan qs k q)) (holds.cells_are k q) ∙ sym (totals_at-append plan rs qs k q)) large.2)
+    (subst IsLargeAt (ap (λ (o : Option Total). joined o (totals_at plan qs k q)) (holds.totals_are k q) ∙ sym (totals_at-append plan rs qs k q)) large.2)
 
-pub count_too_large : (plan : PlanValue) (old : CellEntries) (before more : Tally) (rs qs : List DataRecord) → Holds plan old before rs → more ≡ tally_of plan qs
+pub count_too_large : (plan : PlanValue) (old : IntervalEntries) (before more : Tally) (rs qs : List DataRecord) → HoldsTable plan old before rs → more ≡ tally_of plan qs
     → (class : Class) × (2 ^ 64 ≤ count_in before class + count_in more class) → IsTooLarge plan (rs ++ qs)
 count_too_large plan old before more rs qs holds is large =
     let class = large.0 in
@@ -88,8 +86,8 @@ one_is_tally : (plan : PlanValue) (r : DataRecord) (class : Class) → class_of 
 one_is_tally plan r class is = ap one_of (sym is) ∙ sym (tally_of-one plan r)
 
 -- a record that is left out adds nothing
-left_out : (plan : PlanValue) (cells : CellEntries) (r : DataRecord) → class_of plan r ≢ Used → (k : ℕ) (q : List Cell) → cell_at cells k q ≡ joined (cell_at cells k q) (totals_at plan (r ∷ []) k q)
-left_out plan cells r other k q = ap (λ (o : Option Total). joined (cell_at cells k q) o) (sym (totals_at-left plan r k q other))
+left_out : (plan : PlanValue) (intervals : IntervalEntries) (r : DataRecord) → class_of plan r ≢ Used → (k : ℕ) (q : List Cell) → kept_at intervals k q ≡ joined (kept_at intervals k q) (totals_at plan (r ∷ []) k q)
+left_out plan intervals r other k q = ap (λ (o : Option Total). joined (kept_at intervals k q) o) (sym (totals_at-left plan r k q other))
 
 -- ---- nothing yet
 
@@ -101,10 +99,10 @@ no_count : (plan : PlanValue) (class : Class) → 0 ≡ count_of plan [] class
 unfolding count_of
 no_count plan class = refl
 
-pub holds_none : (plan : PlanValue) (cells : CellEntries) → cells ≡ [] → Holds plan cells (tally 0 0 0 0 0 0) []
-holds_none plan cells empty =
+pub holds_none : (plan : PlanValue) (intervals : IntervalEntries) → intervals ≡ [] → HoldsTable plan intervals (tally 0 0 0 0 0 0) []
+holds_none plan intervals empty =
     record {
-      cells_are = λ k q. ap (λ (es : CellEntries). cell_at es k q) empty ∙ no_totals plan k q;
+      totals_are = λ k q. ap (λ (es : IntervalEntries). kept_at es k q) empty ∙ no_totals plan k q;
       tally_is = same_tally _ _ _ _ _ _ _ _ _ _ _ _ (no_count plan Options) (no_count plan Untimed) (no_count plan Backward) (no_count plan Unkeyed) (no_count plan TooLong) (no_count plan Used);
       small = small_from plan [] (λ k q big. subst IsLargeAt (sym (no_totals plan k q)) big) (λ class. omega (arith, no_count plan class));
       keys_fit = no_keys_fit plan;
@@ -112,18 +110,18 @@ holds_none plan cells empty =
 
 -- ---- faults
 
-pub stands_fault : (plan : PlanValue) (cells : CellEntries) (t : Tally) (rs : List DataRecord) (e : TableFault) → (e ≡ SumTooLarge → IsTooLarge plan rs) → StandsBy (Some e) plan cells t rs
-stands_fault plan cells t rs OutOfMemory h = tt
-stands_fault plan cells t rs SumTooLarge h = h refl
+pub stands_fault : (plan : PlanValue) (intervals : IntervalEntries) (t : Tally) (rs : List DataRecord) (e : TableFault) → (e ≡ SumTooLarge → IsTooLarge plan rs) → StandsBy (Some e) plan intervals t rs
+stands_fault plan intervals t rs OutOfMemory h = tt
+stands_fault plan intervals t rs SumTooLarge h = h refl
 
-pub stands_err : {X : Type 0} (plan : PlanValue) (cells : CellEntries) (t : Tally) (rs : List DataRecord) (r : Result X TableFault) (e : TableFault) → r ≡ Err e → (e ≡ SumTooLarge → IsTooLarge plan rs) → StandsBy (result_err r) plan cells t rs
-stands_err {X} plan cells t rs r e is h = subst (λ (a : Result X TableFault). StandsBy (result_err a) plan cells t rs) (sym is) (stands_fault plan cells t rs e h)
+pub stands_err : {X : Type 0} (plan : PlanValue) (intervals : IntervalEntries) (t : Tally) (rs : List DataRecord) (r : Result X TableFault) (e : TableFault) → r ≡ Err e → (e ≡ SumTooLarge → IsTooLarge plan rs) → StandsBy (result_err r) plan intervals t rs
+stands_err {X} plan intervals t rs r e is h = subst (λ (a : Result X TableFault). StandsBy (result_err a) plan intervals t rs) (sym is) (stands_fault plan intervals t rs e h)
 
 -- what failed stays so with more records
-pub stands_on : (plan : PlanValue) (cells : CellEntries) (t : Tally) (rs qs : List DataRecord) (o : Option TableFault) (e : TableFault) → o ≡ Some e → StandsBy o plan cells t rs → StandsBy o plan cells t (rs ++ qs)
-stands_on plan cells t rs qs o e is stands =
-    subst (λ (p : Option TableFault). StandsBy p plan cells t (rs ++ qs)) (sym is)
-    (stands_fault plan cells t (rs ++ qs) e (λ large. too_large_stay plan rs qs (subst (λ (f : TableFault). StandsBy (Some f) plan cells t rs) large (subst (λ (p : Option TableFault). StandsBy p plan cells t rs) is stands))))
+pub stands_on : (plan : PlanValue) (intervals : IntervalEntries) (t : Tally) (rs qs : List DataRecord) (o : Option TableFault) (e : TableFault) → o ≡ Some e → StandsBy o plan intervals t rs → StandsBy o plan intervals t (rs ++ qs)
+stands_on plan intervals t rs qs o e is stands =
+    subst (λ (p : Option TableFault). StandsBy p plan intervals t (rs ++ qs)) (sym is)
+    (stands_fault plan intervals t (rs ++ qs) e (λ large. too_large_stay plan rs qs (subst (λ (f : TableFault). StandsBy (Some f) plan intervals t rs) large (subst (λ (p : Option TableFault). StandsBy p plan intervals t rs) is stands))))
 
 -- an answer, by the fault that is kept
 pub answers : {X : Type 0} (r : Result X TableFault) (o : Option TableFault) (x : X) → o ≡ result_err r → IfOk r (λ y. y ≡ x) → r ≡ unless o x
@@ -154,58 +152,55 @@ flow_large plan r s e key lent counters old (Err x) used k_is c_is large = λ sa
 
 -- ---- one record taken
 
-pub left_taken : (plan : PlanValue) (cells : CellEntries) (before one after : Tally) (rs : List DataRecord) (r : DataRecord) (class : Class) → class_of plan r ≡ class → class ≢ Used → one ≡ one_of class → after ≡ tally_sum before one
-    → ((d : Class) → count_in after d < 2 ^ 64) → Holds plan cells before rs → Holds plan cells after (rs ++ r ∷ [])
-left_taken plan cells before one after rs r class is other one_is sum counts holds =
-    holds_more plan cells cells before after rs (r ∷ []) holds (read_keys_fit plan r [] (Left class) (is, other)) (left_out plan cells r (λ u. other (sym is ∙ u))) (λ k q small. small)
+pub left_taken : (plan : PlanValue) (intervals : IntervalEntries) (before one after : Tally) (rs : List DataRecord) (r : DataRecord) (class : Class) → class_of plan r ≡ class → class ≢ Used → one ≡ one_of class → after ≡ tally_sum before one
+    → ((d : Class) → count_in after d < 2 ^ 64) → HoldsTable plan intervals before rs → HoldsTable plan intervals after (rs ++ r ∷ [])
+left_taken plan intervals before one after rs r class is other one_is sum counts holds =
+    holds_more plan intervals intervals before after rs (r ∷ []) holds (read_keys_fit plan r [] (Left class) (is, other)) (left_out plan intervals r (λ u. other (sym is ∙ u))) (λ k q small. small)
     (one_more plan r class before after is (sum ∙ ap (λ (t : Tally). tally_sum before t) one_is)) counts
 
-pub used_taken : (plan : PlanValue) (old new : CellEntries) (before one after : Tally) (rs : List DataRecord) (r : DataRecord) → KeysFit plan (r ∷ []) → class_of plan r ≡ Used → one ≡ one_of Used → after ≡ tally_sum before one
+pub used_taken : (plan : PlanValue) (old new : IntervalEntries) (before one after : Tally) (rs : List DataRecord) (r : DataRecord) → KeysFit plan (r ∷ []) → class_of plan r ≡ Used → one ≡ one_of Used → after ≡ tally_sum before one
     → ((d : Class) → count_in after d < 2 ^ 64)
-    → ((k : ℕ) (q : List Cell) → cell_at new k q ≡ joined (cell_at old k q) (totals_at plan (r ∷ []) k q))
-    → ((k : ℕ) (q : List Cell) → (IsLargeAt (cell_at old k q) → ⊥) → IsLargeAt (cell_at new k q) → ⊥)
-    → Holds plan old before rs → Holds plan new after (rs ++ r ∷ [])
+    → ((k : ℕ) (q : List Cell) → kept_at new k q ≡ joined (kept_at old k q) (totals_at plan (r ∷ []) k q))
+    → ((k : ℕ) (q : List Cell) → (IsLargeAt (kept_at old k q) → ⊥) → IsLargeAt (kept_at new k q) → ⊥)
+    → HoldsTable plan old before rs → HoldsTable plan new after (rs ++ r ∷ [])
 used_taken plan old new before one after rs r keys is one_is sum counts step fits holds =
     holds_more plan old new before after rs (r ∷ []) holds keys step fits (one_more plan r Used before after is (sum ∙ ap (λ (t : Tally). tally_sum before t) one_is)) counts
 
-pub one_too_many : (plan : PlanValue) (cells : CellEntries) (before one : Tally) (rs : List DataRecord) (r : DataRecord) (class : Class) → class_of plan r ≡ class → one ≡ one_of class → Holds plan cells before rs
+pub one_too_many : (plan : PlanValue) (intervals : IntervalEntries) (before one : Tally) (rs : List DataRecord) (r : DataRecord) (class : Class) → class_of plan r ≡ class → one ≡ one_of class → HoldsTable plan intervals before rs
     → (d : Class) × (2 ^ 64 ≤ count_in before d + count_in one d) → IsTooLarge plan (rs ++ r ∷ [])
-one_too_many plan cells before one rs r class is one_is holds large = count_too_large plan cells before one rs (r ∷ []) holds (one_is ∙ one_is_tally plan r class is) large
+one_too_many plan intervals before one rs r class is one_is holds large = count_too_large plan intervals before one rs (r ∷ []) holds (one_is ∙ one_is_tally plan r class is) large
 
 -- ---- two lists
 
-pub join_stands : (plan : PlanValue) (old new others : CellEntries) (before more after : Tally) (rs qs : List DataRecord) (r : Result (Unit {0}) TableFault) → Holds plan old before rs → Holds plan others more qs
+pub join_stands : (plan : PlanValue) (old new others : IntervalEntries) (before more after : Tally) (rs qs : List DataRecord) (r : Result (Unit {0}) TableFault) → HoldsTable plan old before rs → HoldsTable plan others more qs
     → after ≡ tally_sum before more → ((class : Class) → count_in after class < 2 ^ 64)
-    → OnOk r ((k : ℕ) (q : List Cell) → cell_at new k q ≡ joined (cell_at old k q) (cell_at others k q))
-    → OnOk r ((k : ℕ) (q : List Cell) → (IsLargeAt (cell_at old k q) → ⊥) → (IsLargeAt (cell_at others k q) → ⊥) → IsLargeAt (cell_at new k q) → ⊥)
-    → IfErr r (λ e. e ≡ SumTooLarge → (k : ℕ) × (q : List Cell) × IsLargeAt (joined (cell_at old k q) (cell_at others k q)))
+    → OnOk r ((k : ℕ) (q : List Cell) → kept_at new k q ≡ joined (kept_at old k q) (kept_at others k q))
+    → OnOk r ((k : ℕ) (q : List Cell) → (IsLargeAt (kept_at old k q) → ⊥) → (IsLargeAt (kept_at others k q) → ⊥) → IsLargeAt (kept_at new k q) → ⊥)
+    → IfErr r (λ e. e ≡ SumTooLarge → (k : ℕ) × (q : List Cell) × IsLargeAt (joined (kept_at old k q) (kept_at others k q)))
     → StandsBy (result_err r) plan new after (rs ++ qs)
 join_stands plan old new others before more after rs qs (Ok x) a b sum counts step fits large =
     holds_more plan old new before after rs qs a b.keys_fit
-    (λ k q. step k q ∙ ap (λ (o : Option Total). joined (cell_at old k q) o) (b.cells_are k q))
-    (λ k q small. fits k q small (λ big. b.small (too_large_at plan qs k q (subst IsLargeAt (b.cells_are k q) big))))
+    (λ k q. step k q ∙ ap (λ (o : Option Total). joined (kept_at old k q) o) (b.totals_are k q))
+    (λ k q small. fits k q small (λ big. b.small (too_large_at plan qs k q (subst IsLargeAt (b.totals_are k q) big))))
     (sum ∙ ap (λ (t : Tally). tally_sum before t) b.tally_is) counts
 join_stands plan old new others before more after rs qs (Err e) a b sum counts step fits large =
     stands_fault plan new after (rs ++ qs) e (λ same.
     let at = large same in
-    too_large_sum plan old before rs qs a (at.0, at.1, subst (λ (o : Option Total). IsLargeAt (joined (cell_at old at.0 at.1) o)) (b.cells_are at.0 at.1) at.2))
-
-turned : (rs qs : List DataRecord) → IsSameBag (qs ++ rs) (rs ++ qs)
-turned rs qs weight = omega (arith, sum_by-append weight rs qs, sum_by-append weight qs rs)
+    too_large_sum plan old before rs qs a (at.0, at.1, subst (λ (o : Option Total). IsLargeAt (joined (kept_at old at.0 at.1) o)) (b.totals_are at.0 at.1) at.2))
 
 -- more records before those that are too many
 too_large_behind : (plan : PlanValue) (rs qs : List DataRecord) → IsTooLarge plan qs → IsTooLarge plan (rs ++ qs)
-too_large_behind plan rs qs large = too_large_bag plan (qs ++ rs) (rs ++ qs) (turned rs qs) (too_large_stay plan qs rs large)
+too_large_behind plan rs qs large = too_large_bag plan (qs ++ rs) (rs ++ qs) (turned qs rs) (too_large_stay plan qs rs large)
 
 -- the fault of what is merged in
-pub stands_taken : (plan other : PlanValue) (cells others : CellEntries) (t u : Tally) (rs qs : List DataRecord) (o : Option TableFault) (e : TableFault) → other ≡ plan → o ≡ Some e → StandsBy o other others u qs → StandsBy (Some e) plan cells t (rs ++ qs)
-stands_taken plan other cells others t u rs qs o e same is stands =
-    stands_fault plan cells t (rs ++ qs) e (λ large. too_large_behind plan rs qs
+pub stands_taken : (plan other : PlanValue) (intervals others : IntervalEntries) (t u : Tally) (rs qs : List DataRecord) (o : Option TableFault) (e : TableFault) → other ≡ plan → o ≡ Some e → StandsBy o other others u qs → StandsBy (Some e) plan intervals t (rs ++ qs)
+stands_taken plan other intervals others t u rs qs o e same is stands =
+    stands_fault plan intervals t (rs ++ qs) e (λ large. too_large_behind plan rs qs
     (subst (λ (p : PlanValue). IsTooLarge p qs) same (subst (λ (f : TableFault). StandsBy (Some f) other others u qs) large (subst (λ (p : Option TableFault). StandsBy p other others u qs) is stands))))
 
-pub holds_of : (plan other : PlanValue) (others : CellEntries) (u : Tally) (qs : List DataRecord) (o : Option TableFault) → other ≡ plan → o ≡ None → StandsBy o other others u qs → Holds plan others u qs
+pub holds_of : (plan other : PlanValue) (others : IntervalEntries) (u : Tally) (qs : List DataRecord) (o : Option TableFault) → other ≡ plan → o ≡ None → StandsBy o other others u qs → HoldsTable plan others u qs
 holds_of plan other others u qs o same is stands =
-    subst (λ (p : PlanValue). Holds p others u qs) same (subst (λ (p : Option TableFault). StandsBy p other others u qs) is stands)
+    subst (λ (p : PlanValue). HoldsTable p others u qs) same (subst (λ (p : Option TableFault). StandsBy p other others u qs) is stands)
 
 pub no_fault : (o : Option TableFault) → o ≡ None → IsSome o → ⊥
 no_fault None is some = let h : false ≡ true = some in cc h
@@ -218,9 +213,9 @@ pub answers_unit : (r : Result (Unit {0}) TableFault) (o : Option TableFault) �
 answers_unit (Ok x) o is = rw is refl
 answers_unit (Err e) o is = rw is refl
 
-pub large_of : (plan : PlanValue) (cells : CellEntries) (t : Tally) (rs : List DataRecord) (o : Option TableFault) (e : TableFault) → o ≡ Some e → e ≡ SumTooLarge → StandsBy o plan cells t rs → IsTooLarge plan rs
-large_of plan cells t rs o e is large stands =
-    subst (λ (f : TableFault). StandsBy (Some f) plan cells t rs) large (subst (λ (p : Option TableFault). StandsBy p plan cells t rs) is stands)
+pub large_of : (plan : PlanValue) (intervals : IntervalEntries) (t : Tally) (rs : List DataRecord) (o : Option TableFault) (e : TableFault) → o ≡ Some e → e ≡ SumTooLarge → StandsBy o plan intervals t rs → IsTooLarge plan rs
+large_of plan intervals t rs o e is large stands =
+    subst (λ (f : TableFault). StandsBy (Some f) plan intervals t rs) large (subst (λ (p : Option TableFault). StandsBy p plan intervals t rs) is stands)
 
 pub if_fault : {X : Type 0} (o : Option TableFault) (e : TableFault) (r : Result X TableFault) → o ≡ Some e → r ≡ Err e → IfSome o (λ f. r ≡ Err f)
 if_fault {X} o e r is answer = subst (λ (p : Option TableFault). IfSome p (λ f. r ≡ Err f)) (sym is) answer
@@ -231,3 +226,12 @@ if_none {X} o r is = subst (λ (p : Option TableFault). IfSome p (λ f. r ≡ Er
 pub on_ok : {X A : Type 0} (r : Result X TableFault) → A → OnOk r A
 on_ok (Ok x) a = a
 on_ok (Err e) a = tt
+
+-- an answer with the fault that is kept, and the list that is then stood for
+pub small_on_ok : {X : Type 0} (r : Result X TableFault) (plan : PlanValue) (intervals : IntervalEntries) (t : Tally) (rs : List DataRecord) → StandsBy (result_err r) plan intervals t rs → OnOk r (IsTooLarge plan rs → ⊥)
+small_on_ok (Ok x) plan intervals t rs stands = stands.small
+small_on_ok (Err e) plan intervals t rs stands = tt
+
+pub large_if_err : {X : Type 0} (r : Result X TableFault) (plan : PlanValue) (intervals : IntervalEntries) (t : Tally) (rs : List DataRecord) → StandsBy (result_err r) plan intervals t rs → IfErr r (λ e. e ≡ SumTooLarge → IsTooLarge plan rs)
+large_if_err (Ok x) plan intervals t rs stands = tt
+large_if_err (Err e) plan intervals t rs stands = λ large. subst (λ (f : TableFault). StandsBy (Some f) plan intervals t rs) large stands

@@ -12,7 +12,7 @@ use Rattle.std.proofs.lemmas.Map.Keys.{sorted_head, sorted_tail}
 use Rattle.ipfix_elements.specs.declared.cell.Cell.{Cell}
 use Rattle.flow_table.specs.Tables.{key_cmp}
 use Rattle.flow_table.specs.Totals.{Total, joined, IsLarge, IsLargeAt}
-use Rattle.flow_table.specs.Rows.{RowEntries, CellEntries, is_same_key, is_same_interval, row_at, cell_at, part_at, rows_part}
+use Rattle.flow_table.specs.Rows.{RowEntries, IntervalEntries, is_same_key, is_same_interval, row_at, kept_at, part_at, rows_part}
 use Rattle.flow_table.proofs.RowMaps.{rows_of}
 use Rattle.flow_table.proofs.Keyed.{Tells, itself}
 use Rattle.flow_table.proofs.Places.{keys_tell, intervals_tell}
@@ -116,9 +116,9 @@ abbrev rows_at : Option (BTreeMap (List Cell) Total) → List Cell → Option To
 rows_at o q = option_and_then (λ rows. row_at rows.entries q) o
 
 -- a place in the rows of the first interval, or behind it
-by_interval : (interval : ℕ) (rows : BTreeMap (List Cell) Total) (rest : CellEntries) (k : ℕ) (q : List Cell) → IsStrictlySortedBy nat_cmp (keys_of ((interval, rows) ∷ rest))
-    → ((is_same_interval k interval ≡ true) × (k ≡ interval) × (cell_at ((interval, rows) ∷ rest) k q ≡ row_at rows.entries q) × (cell_at rest k q ≡ None))
-    ⊎ ((is_same_interval k interval ≡ false) × (cell_at ((interval, rows) ∷ rest) k q ≡ cell_at rest k q))
+by_interval : (interval : ℕ) (rows : BTreeMap (List Cell) Total) (rest : IntervalEntries) (k : ℕ) (q : List Cell) → IsStrictlySortedBy nat_cmp (keys_of ((interval, rows) ∷ rest))
+    → ((is_same_interval k interval ≡ true) × (k ≡ interval) × (kept_at ((interval, rows) ∷ rest) k q ≡ row_at rows.entries q) × (kept_at rest k q ≡ None))
+    ⊎ ((is_same_interval k interval ≡ false) × (kept_at ((interval, rows) ∷ rest) k q ≡ kept_at rest k q))
 by_interval interval rows rest k q sorted =
     elim (intervals_tell k interval) [
       | inl y ↦
@@ -127,52 +127,52 @@ by_interval interval rows rest k q sorted =
       | inr n ↦ inr (n.0, ap (λ (b : Bool). rows_at (cond b (Some rows) (rows_of rest k)) q) n.0)
     ]
 
-abbrev Sorted : CellEntries → Type 0
+abbrev Sorted : IntervalEntries → Type 0
 Sorted es = IsStrictlySortedBy nat_cmp (keys_of es)
 
-pub cells_step : (old new : ℕ → List Cell → Option Total) (interval : ℕ) (rows : BTreeMap (List Cell) Total) (all rest : CellEntries) (init others : ℕ → List Cell → Option Total)
+pub intervals_step : (old new : ℕ → List Cell → Option Total) (interval : ℕ) (rows : BTreeMap (List Cell) Total) (all rest : IntervalEntries) (init others : ℕ → List Cell → Option Total)
     → all ≡ (interval, rows) ∷ rest → Sorted all
     → ((k : ℕ) (q : List Cell) → new k q ≡ joined (old k q) (rows_part interval rows.entries k q))
-    → ((k : ℕ) (q : List Cell) → joined (old k q) (cell_at all k q) ≡ joined (init k q) (others k q))
-    → (k : ℕ) (q : List Cell) → joined (new k q) (cell_at rest k q) ≡ joined (init k q) (others k q)
-cells_step old new interval rows all rest init others is sorted step before k q =
-    sym (sym (before k q) ∙ ap (λ (es : CellEntries). joined (old k q) (cell_at es k q)) is
+    → ((k : ℕ) (q : List Cell) → joined (old k q) (kept_at all k q) ≡ joined (init k q) (others k q))
+    → (k : ℕ) (q : List Cell) → joined (new k q) (kept_at rest k q) ≡ joined (init k q) (others k q)
+intervals_step old new interval rows all rest init others is sorted step before k q =
+    sym (sym (before k q) ∙ ap (λ (es : IntervalEntries). joined (old k q) (kept_at es k q)) is
     ∙ elim (by_interval interval rows rest k q (subst Sorted is sorted)) [
       | inl y ↦
           let now : new k q ≡ joined (old k q) (row_at rows.entries q) = step k q ∙ ap (λ (b : Bool). joined (old k q) (cond b (row_at rows.entries q) None)) y.0 in
           ap (λ (o : Option Total). joined (old k q) o) y.2 ∙ sym now ∙ ap (λ (o : Option Total). joined (new k q) o) (sym y.3)
       | inr n ↦
           let now : new k q ≡ old k q = step k q ∙ ap (λ (b : Bool). joined (old k q) (cond b (row_at rows.entries q) None)) n.0 in
-          ap (λ (o : Option Total). joined (old k q) o) n.1 ∙ ap (λ (o : Option Total). joined o (cell_at rest k q)) (sym now)
+          ap (λ (o : Option Total). joined (old k q) o) n.1 ∙ ap (λ (o : Option Total). joined o (kept_at rest k q)) (sym now)
     ])
 
-pub cells_sorted : (all rest : CellEntries) (interval : ℕ) (rows : BTreeMap (List Cell) Total) → all ≡ (interval, rows) ∷ rest → Sorted all → Sorted rest
-cells_sorted all rest interval rows is sorted = sorted_tail nat_cmp interval (keys_of rest) (subst Sorted is sorted)
+pub intervals_sorted : (all rest : IntervalEntries) (interval : ℕ) (rows : BTreeMap (List Cell) Total) → all ≡ (interval, rows) ∷ rest → Sorted all → Sorted rest
+intervals_sorted all rest interval rows is sorted = sorted_tail nat_cmp interval (keys_of rest) (subst Sorted is sorted)
 
 -- the rows that come next
-first_rows : (all rest : CellEntries) (interval : ℕ) (rows : BTreeMap (List Cell) Total) (q : List Cell) → all ≡ (interval, rows) ∷ rest → cell_at all interval q ≡ row_at rows.entries q
+first_rows : (all rest : IntervalEntries) (interval : ℕ) (rows : BTreeMap (List Cell) Total) (q : List Cell) → all ≡ (interval, rows) ∷ rest → kept_at all interval q ≡ row_at rows.entries q
 first_rows all rest interval rows q is =
-    ap (λ (es : CellEntries). cell_at es interval q) is
+    ap (λ (es : IntervalEntries). kept_at es interval q) is
     ∙ ap (λ (b : Bool). option_and_then (λ (m : BTreeMap (List Cell) Total). row_at m.entries q) (cond b (Some rows) (rows_of rest interval))) (itself is_same_interval intervals_tell interval)
 
-pub cells_left : (all rest : CellEntries) (interval : ℕ) (rows : BTreeMap (List Cell) Total) (others : ℕ → List Cell → Option Total) → all ≡ (interval, rows) ∷ rest → Sorted all
-    → ((k : ℕ) (q : List Cell) → IsLargeAt (cell_at all k q) → IsLargeAt (others k q)) → (k : ℕ) (q : List Cell) → IsLargeAt (cell_at rest k q) → IsLargeAt (others k q)
-cells_left all rest interval rows others is sorted before k q big =
+pub intervals_left : (all rest : IntervalEntries) (interval : ℕ) (rows : BTreeMap (List Cell) Total) (others : ℕ → List Cell → Option Total) → all ≡ (interval, rows) ∷ rest → Sorted all
+    → ((k : ℕ) (q : List Cell) → IsLargeAt (kept_at all k q) → IsLargeAt (others k q)) → (k : ℕ) (q : List Cell) → IsLargeAt (kept_at rest k q) → IsLargeAt (others k q)
+intervals_left all rest interval rows others is sorted before k q big =
     elim (by_interval interval rows rest k q (subst Sorted is sorted)) [
       | inl y ↦ absurd (subst IsLargeAt y.3 big)
-      | inr n ↦ before k q (subst IsLargeAt (sym n.1 ∙ ap (λ (es : CellEntries). cell_at es k q) (sym is)) big)
+      | inr n ↦ before k q (subst IsLargeAt (sym n.1 ∙ ap (λ (es : IntervalEntries). kept_at es k q) (sym is)) big)
     ]
 
-pub cells_fit : (old new : ℕ → List Cell → Option Total) (all rest : CellEntries) (interval : ℕ) (rows : BTreeMap (List Cell) Total) (others : ℕ → List Cell → Option Total) → all ≡ (interval, rows) ∷ rest
+pub intervals_fit : (old new : ℕ → List Cell → Option Total) (all rest : IntervalEntries) (interval : ℕ) (rows : BTreeMap (List Cell) Total) (others : ℕ → List Cell → Option Total) → all ≡ (interval, rows) ∷ rest
     → ((k : ℕ) (q : List Cell) → new k q ≡ joined (old k q) (rows_part interval rows.entries k q))
     → ((q : List Cell) → (IsLargeAt (old interval q) → ⊥) → (IsLargeAt (row_at rows.entries q) → ⊥) → IsLargeAt (new interval q) → ⊥)
-    → ((k : ℕ) (q : List Cell) → IsLargeAt (cell_at all k q) → IsLargeAt (others k q))
+    → ((k : ℕ) (q : List Cell) → IsLargeAt (kept_at all k q) → IsLargeAt (others k q))
     → (k : ℕ) (q : List Cell) → (IsLargeAt (old k q) → ⊥) → (IsLargeAt (others k q) → ⊥) → IsLargeAt (new k q) → ⊥
-cells_fit old new all rest interval rows others is step here left k q before apart big =
+intervals_fit old new all rest interval rows others is step here left k q before apart big =
     elim (intervals_tell k interval) [
       | inl y ↦
           here q (λ b. before (subst (λ (j : ℕ). IsLargeAt (old j q)) (sym y.1) b))
-          (λ b. apart (left k q (subst (λ (j : ℕ). IsLargeAt (cell_at all j q)) (sym y.1) (subst IsLargeAt (sym (first_rows all rest interval rows q is)) b))))
+          (λ b. apart (left k q (subst (λ (j : ℕ). IsLargeAt (kept_at all j q)) (sym y.1) (subst IsLargeAt (sym (first_rows all rest interval rows q is)) b))))
           (subst (λ (j : ℕ). IsLargeAt (new j q)) y.1 big)
       | inr n ↦ before (subst IsLargeAt (step k q ∙ ap (λ (b : Bool). joined (old k q) (cond b (row_at rows.entries q) None)) n.0) big)
     ]

@@ -9,7 +9,7 @@ use Rattle.std.proofs.lemmas.Map.Lookups.{exact_unsigned}
 use Rattle.ipfix_elements.specs.declared.cell.Cell.{Cell}
 use Rattle.flow_table.specs.Tables.{key_cmp}
 use Rattle.flow_table.specs.Totals.{Total, total, sum_of, joined, IsLarge, IsLargeAt}
-use Rattle.flow_table.specs.Rows.{RowEntries, CellEntries, is_same_key, is_same_interval, row_at, cell_at, part_at}
+use Rattle.flow_table.specs.Rows.{RowEntries, IntervalEntries, is_same_key, is_same_interval, row_at, kept_at, part_at}
 use Rattle.flow_table.proofs.AddedSums.{none_large}
 use Rattle.flow_table.proofs.Keyed.{itself, found_set, found_insert}
 use Rattle.flow_table.proofs.Places.{key_equal, keys_tell, intervals_tell}
@@ -82,6 +82,12 @@ fits_added (Err e) es news key v w t was is sum fits = tt
 fits_added (Ok x) es news key v w t was is sum fits =
     fits_found (row_at es key) (row_at news key) v w t was (at_key (row_at es) (row_at news) key t (added_found es news key v w t was is sum)) sum fits
 
+-- the same, where the key is told by another word
+pub fits_at : {E : Type 0} (r : Result (Unit {0}) E) (es news : RowEntries) (key other : List Cell) (v w t : Total) → key ≡ other → row_at es key ≡ Some v → news ≡ insert_entry key_cmp es key w
+    → OnOk r (w ≡ sum_of v t) → OnOk r (IsLarge w → ⊥) → OnOk r (IsLargeAt (row_at news other) → ⊥)
+fits_at r es news key other v w t same was is sum fits =
+    subst (λ (k : List Cell). OnOk r (IsLargeAt (row_at news k) → ⊥)) same (fits_added r es news key v w t was is sum fits)
+
 -- ---- sums at one interval and one key
 
 greater_apart : (x y : ℕ) → nat_cmp x y ≡ Greater → x ≢ y
@@ -95,51 +101,51 @@ joined_none : (o : Option Total) → o ≡ joined None o
 joined_none None = refl
 joined_none (Some t) = refl
 
-abbrev pub rows_of : CellEntries → ℕ → Option (BTreeMap (List Cell) Total)
-rows_of cells k = lookup (λ interval. is_same_interval k interval) cells
+abbrev pub rows_of : IntervalEntries → ℕ → Option (BTreeMap (List Cell) Total)
+rows_of intervals k = lookup (λ interval. is_same_interval k interval) intervals
 
 abbrev rows_at : Option (BTreeMap (List Cell) Total) → List Cell → Option Total
 rows_at o q = option_and_then (λ rows. row_at rows.entries q) o
 
-cell_joined : (es news : CellEntries) (interval : ℕ) (rows : BTreeMap (List Cell) Total) (part : List Cell → Option Total)
+interval_joined : (es news : IntervalEntries) (interval : ℕ) (rows : BTreeMap (List Cell) Total) (part : List Cell → Option Total)
     → ((k : ℕ) → rows_of news k ≡ cond (is_same_interval k interval) (Some rows) (rows_of es k))
-    → ((q : List Cell) → row_at rows.entries q ≡ joined (cell_at es interval q) (part q))
-    → (k : ℕ) (q : List Cell) → cell_at news k q ≡ joined (cell_at es k q) (cond (is_same_interval k interval) (part q) None)
-cell_joined es news interval rows part step inner k q =
+    → ((q : List Cell) → row_at rows.entries q ≡ joined (kept_at es interval q) (part q))
+    → (k : ℕ) (q : List Cell) → kept_at news k q ≡ joined (kept_at es k q) (cond (is_same_interval k interval) (part q) None)
+interval_joined es news interval rows part step inner k q =
     ap (λ (o : Option (BTreeMap (List Cell) Total)). rows_at o q) (step k)
     ∙ elim (intervals_tell k interval) [
-      | inl y ↦ rw y.0 (inner q ∙ ap (λ (j : ℕ). joined (cell_at es j q) (part q)) (sym y.1))
+      | inl y ↦ rw y.0 (inner q ∙ ap (λ (j : ℕ). joined (kept_at es j q) (part q)) (sym y.1))
       | inr n ↦ rw n.0 refl
     ]
 
-rows_written : (es news : CellEntries) (interval : ℕ) (was rows : BTreeMap (List Cell) Total)
+rows_written : (es news : IntervalEntries) (interval : ℕ) (was rows : BTreeMap (List Cell) Total)
     → rows_of es interval ≡ Some was → news ≡ set_value (λ i. is_eq (nat_cmp interval i)) es rows
     → (k : ℕ) → rows_of news k ≡ cond (is_same_interval k interval) (Some rows) (rows_of es k)
 rows_written es news interval was rows there is k =
-    ap (λ (fs : CellEntries). rows_of fs k) is ∙ found_set is_same_interval intervals_tell (λ i. i) es interval k was rows there
+    ap (λ (fs : IntervalEntries). rows_of fs k) is ∙ found_set is_same_interval intervals_tell (λ i. i) es interval k was rows there
 
-rows_inserted : (es news : CellEntries) (interval : ℕ) (rows : BTreeMap (List Cell) Total) → news ≡ insert_entry nat_cmp es interval rows
+rows_inserted : (es news : IntervalEntries) (interval : ℕ) (rows : BTreeMap (List Cell) Total) → news ≡ insert_entry nat_cmp es interval rows
     → (k : ℕ) → rows_of news k ≡ cond (is_same_interval k interval) (Some rows) (rows_of es k)
 rows_inserted es news interval rows is k =
-    ap (λ (fs : CellEntries). rows_of fs k) is
+    ap (λ (fs : IntervalEntries). rows_of fs k) is
     ∙ found_insert is_same_interval intervals_tell (λ i. i) nat_cmp exact_unsigned greater_apart es interval rows k
 
 -- rows that were there are changed
-pub cell_found : (es news : CellEntries) (interval : ℕ) (was rows : BTreeMap (List Cell) Total) (part : List Cell → Option Total)
+pub interval_found : (es news : IntervalEntries) (interval : ℕ) (was rows : BTreeMap (List Cell) Total) (part : List Cell → Option Total)
     → rows_of es interval ≡ Some was → news ≡ set_value (λ i. is_eq (nat_cmp interval i)) es rows
     → ((q : List Cell) → row_at rows.entries q ≡ joined (row_at was.entries q) (part q))
-    → (k : ℕ) (q : List Cell) → cell_at news k q ≡ joined (cell_at es k q) (cond (is_same_interval k interval) (part q) None)
-cell_found es news interval was rows part there is inner =
-    cell_joined es news interval rows part (rows_written es news interval was rows there is)
+    → (k : ℕ) (q : List Cell) → kept_at news k q ≡ joined (kept_at es k q) (cond (is_same_interval k interval) (part q) None)
+interval_found es news interval was rows part there is inner =
+    interval_joined es news interval rows part (rows_written es news interval was rows there is)
     (λ q. inner q ∙ ap (λ (o : Option (BTreeMap (List Cell) Total)). joined (rows_at o q) (part q)) (sym there))
 
 -- rows come where there were none
-pub cell_new : (es news : CellEntries) (interval : ℕ) (rows : BTreeMap (List Cell) Total) (part : List Cell → Option Total)
+pub interval_new : (es news : IntervalEntries) (interval : ℕ) (rows : BTreeMap (List Cell) Total) (part : List Cell → Option Total)
     → rows_of es interval ≡ None → news ≡ insert_entry nat_cmp es interval rows
     → ((q : List Cell) → row_at rows.entries q ≡ joined None (part q))
-    → (k : ℕ) (q : List Cell) → cell_at news k q ≡ joined (cell_at es k q) (cond (is_same_interval k interval) (part q) None)
-cell_new es news interval rows part absent is inner =
-    cell_joined es news interval rows part (rows_inserted es news interval rows is)
+    → (k : ℕ) (q : List Cell) → kept_at news k q ≡ joined (kept_at es k q) (cond (is_same_interval k interval) (part q) None)
+interval_new es news interval rows part absent is inner =
+    interval_joined es news interval rows part (rows_inserted es news interval rows is)
     (λ q. inner q ∙ ap (λ (o : Option (BTreeMap (List Cell) Total)). joined (rows_at o q) (part q)) (sym absent))
 
 -- an interval's rows begin empty
@@ -151,17 +157,17 @@ pub as_they_are : (rows : BTreeMap (List Cell) Total) (q : List Cell) → row_at
 as_they_are rows q = joined_none (row_at rows.entries q)
 
 -- the rows of the interval itself
-pub at_found : (es : CellEntries) (interval : ℕ) (was : BTreeMap (List Cell) Total) (q : List Cell) → rows_of es interval ≡ Some was → cell_at es interval q ≡ row_at was.entries q
+pub at_found : (es : IntervalEntries) (interval : ℕ) (was : BTreeMap (List Cell) Total) (q : List Cell) → rows_of es interval ≡ Some was → kept_at es interval q ≡ row_at was.entries q
 at_found es interval was q there = ap (λ (o : Option (BTreeMap (List Cell) Total)). rows_at o q) there
 
-pub at_written : (es news : CellEntries) (interval : ℕ) (was rows : BTreeMap (List Cell) Total) (q : List Cell)
-    → rows_of es interval ≡ Some was → news ≡ set_value (λ i. is_eq (nat_cmp interval i)) es rows → cell_at news interval q ≡ row_at rows.entries q
+pub at_written : (es news : IntervalEntries) (interval : ℕ) (was rows : BTreeMap (List Cell) Total) (q : List Cell)
+    → rows_of es interval ≡ Some was → news ≡ set_value (λ i. is_eq (nat_cmp interval i)) es rows → kept_at news interval q ≡ row_at rows.entries q
 at_written es news interval was rows q there is =
     ap (λ (o : Option (BTreeMap (List Cell) Total)). rows_at o q) (rows_written es news interval was rows there is interval)
     ∙ ap (λ (b : Bool). rows_at (cond b (Some rows) (rows_of es interval)) q) (itself is_same_interval intervals_tell interval)
 
-pub at_inserted : (es news : CellEntries) (interval : ℕ) (rows : BTreeMap (List Cell) Total) (q : List Cell)
-    → news ≡ insert_entry nat_cmp es interval rows → cell_at news interval q ≡ row_at rows.entries q
+pub at_inserted : (es news : IntervalEntries) (interval : ℕ) (rows : BTreeMap (List Cell) Total) (q : List Cell)
+    → news ≡ insert_entry nat_cmp es interval rows → kept_at news interval q ≡ row_at rows.entries q
 at_inserted es news interval rows q is =
     ap (λ (o : Option (BTreeMap (List Cell) Total)). rows_at o q) (rows_inserted es news interval rows is interval)
     ∙ ap (λ (b : Bool). rows_at (cond b (Some rows) (rows_of es interval)) q) (itself is_same_interval intervals_tell interval)

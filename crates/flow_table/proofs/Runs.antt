@@ -5,7 +5,7 @@ use Rattle.std.proofs.lemmas.Bool.{cases_Bool, ltb-true, ltb-false, leb-true, le
 use Rattle.std.proofs.lemmas.Bool.Decides.{eqb_tells}
 use Rattle.ipfix_elements.specs.declared.cell.Cell.{Cell}
 use Rattle.flow_table.specs.Totals.{Total, joined, IsLargeAt}
-use Rattle.flow_table.specs.Rows.{is_same_key, part_at, cell_part}
+use Rattle.flow_table.specs.Rows.{is_same_key, part_at, place_part}
 use Rattle.flow_table.specs.Flows.{is_in_run, run_part, flow_total, flow_part}
 use Rattle.flow_table.specs.Intervals.{covers}
 use Rattle.flow_table.specs.Plans.{PlanValue}
@@ -45,7 +45,7 @@ other_run first i k ne =
 
 pub run_step : (init old new : ℕ → List Cell → Option Total) (f : ℕ → Total) (first i j : ℕ) (key : List Cell) → first ≤ i → j ≡ i + 1
     → ((k : ℕ) (q : List Cell) → old k q ≡ joined (init k q) (run_part first i key f k q))
-    → ((k : ℕ) (q : List Cell) → new k q ≡ joined (old k q) (cell_part i key (f i) k q))
+    → ((k : ℕ) (q : List Cell) → new k q ≡ joined (old k q) (place_part i key (f i) k q))
     → (k : ℕ) (q : List Cell) → new k q ≡ joined (init k q) (run_part first j key f k q)
 run_step init old new f first i j key low next before step k q =
     step k q ∙ elim (intervals_tell k i) [
@@ -66,7 +66,7 @@ run_none init f first key k q =
 
 -- what fitted before, and at the place that was added to, fits
 pub fits_step : (old new : ℕ → List Cell → Option Total) (t : Total) (i : ℕ) (key : List Cell)
-    → ((k : ℕ) (q : List Cell) → new k q ≡ joined (old k q) (cell_part i key t k q)) → (IsLargeAt (new i key) → ⊥)
+    → ((k : ℕ) (q : List Cell) → new k q ≡ joined (old k q) (place_part i key t k q)) → (IsLargeAt (new i key) → ⊥)
     → (k : ℕ) (q : List Cell) → (IsLargeAt (old k q) → ⊥) → IsLargeAt (new k q) → ⊥
 fits_step old new t i key step here k q before big =
     elim (intervals_tell k i) [

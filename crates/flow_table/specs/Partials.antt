@@ -10,7 +10,7 @@ use Rattle.flow_table.specs.declared.tally.Tally.{Tally}
 use Rattle.flow_table.specs.declared.partial.Partial.{Partial}
 use Rattle.flow_table.specs.Fitting.{KeysFit}
 use Rattle.flow_table.specs.Plans.{PlanValue}
-use Rattle.flow_table.specs.Rows.{CellEntries, cell_at}
+use Rattle.flow_table.specs.Rows.{IntervalEntries, kept_at}
 use Rattle.flow_table.specs.Tables.{flows_at, sum_at, tally_of, IsTooLarge}
 use Rattle.flow_table.specs.Totals.{Total, total}
 
@@ -19,17 +19,17 @@ unfoldable pub totals_at : PlanValue → List DataRecord → ℕ → List Cell �
 totals_at plan rs k key = if flows_at plan rs k key == 0 then None else Some (total (map (sum_at plan rs k key) plan.counters) (flows_at plan rs k key))
 
 -- the totals and the tally are those of the table of a list that isn't too large, and whose keys fit
-pub record Holds (plan : PlanValue) (cells : CellEntries) (tally : Tally) (rs : List DataRecord) : Type 0 where
-  pub cells_are : (k : ℕ) (key : List Cell) → cell_at cells k key ≡ totals_at plan rs k key
+pub record HoldsTable (plan : PlanValue) (intervals : IntervalEntries) (tally : Tally) (rs : List DataRecord) : Type 0 where
+  pub totals_are : (k : ℕ) (key : List Cell) → kept_at intervals k key ≡ totals_at plan rs k key
   pub tally_is : tally ≡ tally_of plan rs
   pub small : IsTooLarge plan rs → ⊥
   pub keys_fit : KeysFit plan rs
 
 -- without a fault it holds the table of the list; with SumTooLarge the list is too large; after want of memory it tells nothing of it
-abbrev pub StandsBy : Option TableFault → PlanValue → CellEntries → Tally → List DataRecord → Type 0
-StandsBy None plan cells tally rs = Holds plan cells tally rs
-StandsBy (Some SumTooLarge) plan cells tally rs = IsTooLarge plan rs
-StandsBy (Some OutOfMemory) plan cells tally rs = Unit {0}
+abbrev pub StandsBy : Option TableFault → PlanValue → IntervalEntries → Tally → List DataRecord → Type 0
+StandsBy None plan intervals tally rs = HoldsTable plan intervals tally rs
+StandsBy (Some SumTooLarge) plan intervals tally rs = IsTooLarge plan rs
+StandsBy (Some OutOfMemory) plan intervals tally rs = Unit {0}
 
 -- the plan of a partial table
 unfoldable pub plan_of : Partial → PlanValue
@@ -41,7 +41,7 @@ fault_of p = p.fault
 
 -- a partial table stands for a list of records
 unfoldable pub StandsFor : Partial → List DataRecord → Type 0
-StandsFor p rs = StandsBy p.fault p.plan p.cells.entries p.tally rs
+StandsFor p rs = StandsBy p.fault p.plan p.intervals.entries p.tally rs
 
 -- x, unless there is a fault
 abbrev pub unless : {X : Type 0} → Option TableFault → X → Result X TableFault

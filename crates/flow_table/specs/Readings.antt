@@ -10,6 +10,6 @@ use Rattle.flow_table.specs.Plans.{PlanValue}
 use Rattle.flow_table.specs.Reading.{class_of, IsUsed}
 
 -- the class of a record that is left out, or start, end and key of a used one, whose cells are of their keys' kinds
-abbrev pub Reads : PlanValue → DataRecord → List Cell → Reading → Type 0
-Reads plan r key (Left class) = (class_of plan r ≡ class) × (class ≢ used_class)
-Reads plan r key (Used start end) = IsUsed plan r start end key × FitsKeys plan.keys key
+abbrev pub ReadsAs : PlanValue → DataRecord → List Cell → Reading → Type 0
+ReadsAs plan r key (Left class) = (class_of plan r ≡ class) × (class ≢ used_class)
+ReadsAs plan r key (Used start end) = IsUsed plan r start end key × FitsKeys plan.keys key

@@ -12,8 +12,8 @@ abbrev pub RowEntries : Type 0
 RowEntries = List (List Cell × Total)
 
 -- totals by interval and key
-abbrev pub CellEntries : Type 0
-CellEntries = List (ℕ × BTreeMap (List Cell) Total)
+abbrev pub IntervalEntries : Type 0
+IntervalEntries = List (ℕ × BTreeMap (List Cell) Total)
 
 abbrev pub is_same_key : List Cell → List Cell → Bool
 is_same_key q key = is_eq (key_cmp q key)
@@ -26,16 +26,16 @@ abbrev pub row_at : RowEntries → List Cell → Option Total
 row_at rows q = lookup (λ key. is_same_key q key) rows
 
 -- the totals of an interval and a key
-abbrev pub cell_at : CellEntries → ℕ → List Cell → Option Total
-cell_at cells k q = option_and_then (λ rows. row_at rows.entries q) (lookup (λ interval. is_same_interval k interval) cells)
+abbrev pub kept_at : IntervalEntries → ℕ → List Cell → Option Total
+kept_at intervals k q = option_and_then (λ rows. row_at rows.entries q) (lookup (λ interval. is_same_interval k interval) intervals)
 
 -- totals at one key alone
 abbrev pub part_at : List Cell → Total → List Cell → Option Total
 part_at key t q = if is_same_key q key then Some t else None
 
 -- totals at one interval and one key alone
-abbrev pub cell_part : ℕ → List Cell → Total → ℕ → List Cell → Option Total
-cell_part interval key t k q = if is_same_interval k interval then part_at key t q else None
+abbrev pub place_part : ℕ → List Cell → Total → ℕ → List Cell → Option Total
+place_part interval key t k q = if is_same_interval k interval then part_at key t q else None
 
 -- the totals of all keys at one interval alone
 abbrev pub rows_part : ℕ → RowEntries → ℕ → List Cell → Option Total

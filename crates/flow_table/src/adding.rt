@@ -5,13 +5,13 @@ ghost use Rattle.ipfix_elements.specs.declared.cell.Cell.{Cell};
 ghost use Rattle.flow_table.specs.Reading.{counter_of};
 ghost use Rattle.flow_table.specs.Flows.{shares_of, flow_total, flow_part};
 ghost use Rattle.flow_table.specs.Totals.{IsLargeAt, joined};
-ghost use Rattle.flow_table.specs.Rows.{cell_at, cell_part};
+ghost use Rattle.flow_table.specs.Rows.{kept_at, place_part};
 ghost use Rattle.flow_table.specs.declared.table_fault.TableFault.TheVariants.{SumTooLarge};
 
 use crate::plan::Plan;
 use crate::reading::counter;
 use crate::row_key::RowKey;
-use crate::rows::{Cells, add_to_cell};
+use crate::rows::{Intervals, add_to_interval};
 use crate::sharing::{covered, share};
 use crate::table_fault::TableFault;
 use ipfix_message::DataRecord;
@@ -57,7 +57,7 @@ fn read_shares(
 fn add_at(
     alloc: Global,
     plan: &Plan,
-    cells: &mut Cells,
+    intervals: &mut Intervals,
     start: u64,
     end: u64,
     interval: u64,
@@ -67,19 +67,19 @@ fn add_at(
 ) -> Result<(), TableFault>
     requires order { start ≤ end }
     requires small { end < 2 ^ 50 }
-    ensures ok { OnOk result ((k : ℕ) (q : List Cell) → cell_at cells.new.entries k q ≡ joined (cell_at cells.old.entries k q) (cell_part interval key.now (flow_total plan.now start end counters.now interval) k q)) }
-    ensures fits { OnOk result (IsLargeAt (cell_at cells.new.entries interval key.now) → ⊥) }
-    ensures large { IfErr result (λ e. e ≡ SumTooLarge → IsLargeAt (joined (cell_at cells.old.entries interval key.now) (Some (flow_total plan.now start end counters.now interval)))) }
+    ensures ok { OnOk result ((k : ℕ) (q : List Cell) → kept_at intervals.new.entries k q ≡ joined (kept_at intervals.old.entries k q) (place_part interval key.now (flow_total plan.now start end counters.now interval) k q)) }
+    ensures fits { OnOk result (IsLargeAt (kept_at intervals.new.entries interval key.now) → ⊥) }
+    ensures large { IfErr result (λ e. e ≡ SumTooLarge → IsLargeAt (joined (kept_at intervals.old.entries interval key.now) (Some (flow_total plan.now start end counters.now interval)))) }
 {
     read_shares(plan, start, end, counters, interval, shares)?;
-    add_to_cell(alloc, cells, interval, key, shares.as_slice(), 1)
+    add_to_interval(alloc, intervals, interval, key, shares.as_slice(), 1)
 }
 
 /// Adds the shares of a flow to the totals of its key at all intervals that it contributes to.
 pub fn add_flow(
     alloc: Global,
     plan: &Plan,
-    cells: &mut Cells,
+    intervals: &mut Intervals,
     start: u64,
     end: u64,
     key: &RowKey,
@@ -88,14 +88,14 @@ pub fn add_flow(
 ) -> Result<(), TableFault>
     requires order { start ≤ end }
     requires small { end < 2 ^ 50 }
-    ensures ok { OnOk result ((k : ℕ) (q : List Cell) → cell_at cells.new.entries k q ≡ joined (cell_at cells.old.entries k q) (flow_part plan.now start end key.now counters.now k q)) }
-    ensures fits { OnOk result ((k : ℕ) (q : List Cell) → (IsLargeAt (cell_at cells.old.entries k q) → ⊥) → IsLargeAt (cell_at cells.new.entries k q) → ⊥) }
-    ensures large { IfErr result (λ e. e ≡ SumTooLarge → (k : ℕ) × (q : List Cell) × IsLargeAt (joined (cell_at cells.old.entries k q) (flow_part plan.now start end key.now counters.now k q))) }
+    ensures ok { OnOk result ((k : ℕ) (q : List Cell) → kept_at intervals.new.entries k q ≡ joined (kept_at intervals.old.entries k q) (flow_part plan.now start end key.now counters.now k q)) }
+    ensures fits { OnOk result ((k : ℕ) (q : List Cell) → (IsLargeAt (kept_at intervals.old.entries k q) → ⊥) → IsLargeAt (kept_at intervals.new.entries k q) → ⊥) }
+    ensures large { IfErr result (λ e. e ≡ SumTooLarge → (k : ℕ) × (q : List Cell) × IsLargeAt (joined (kept_at intervals.old.entries k q) (flow_part plan.now start end key.now counters.now k q))) }
 {
     let (first, count) = covered(plan, start, end);
     for interval in first..first + count {
         add_at(
-            alloc, plan, cells, start, end, interval, key, counters, shares,
+            alloc, plan, intervals, start, end, interval, key, counters, shares,
         )?;
     }
     Ok(())

@@ -7,12 +7,12 @@ ghost use Rattle.flow_table.specs.Finishing.{line_of, lines_at, lines_in, AreAsc
 ghost use Rattle.ipfix_elements.specs.declared.cell.Cell.{Cell};
 ghost use Rattle.ipfix_message.specs.declared.record.DataRecord.{DataRecord};
 ghost use Rattle.flow_table.specs.Plans.{PlanValue};
-ghost use Rattle.flow_table.specs.Rows.{cell_at};
+ghost use Rattle.flow_table.specs.Rows.{kept_at};
 ghost use Rattle.flow_table.specs.Partials.{totals_at};
 ghost use Rattle.flow_table.specs.Tables.{key_cmp, tally_of, IsTable};
 ghost use Rattle.flow_table.specs.declared.table_fault.TableFault.TheVariants.{OutOfMemory};
 
-use crate::rows::{Cells, Rows};
+use crate::rows::{Intervals, Rows};
 use crate::table::{Row, Table};
 use crate::table_fault::TableFault;
 use crate::tally::Tally;
@@ -37,23 +37,23 @@ fn push_rows(interval: u64, rows: Rows, out: &mut Vec<Row>) -> Result<(), AllocE
 }
 
 /// The rows of all intervals, in order.
-fn into_rows(alloc: Global, cells: Cells) -> Result<Vec<Row>, AllocError>
-    ensures lines { IfOk result (λ rows. map line_of rows.items ≡ lines_in cells.entries) }
-    ensures ascending { OnOk result (AreAscending cells.entries) }
+fn into_rows(alloc: Global, intervals: Intervals) -> Result<Vec<Row>, AllocError>
+    ensures lines { IfOk result (λ rows. map line_of rows.items ≡ lines_in intervals.entries) }
+    ensures ascending { OnOk result (AreAscending intervals.entries) }
 {
     let mut out = Vec::new(alloc);
-    for (interval, rows) in cells {
+    for (interval, rows) in intervals {
         push_rows(interval, rows, &mut out)?;
     }
     Ok(out)
 }
 
 /// The table of the records whose totals and tally these are.
-pub fn finish_table(alloc: Global, cells: Cells, tally: Tally) -> Result<Table, TableFault>
+pub fn finish_table(alloc: Global, intervals: Intervals, tally: Tally) -> Result<Table, TableFault>
     ensures table { IfOk result (λ table. (plan : PlanValue) (rs : List DataRecord)
-        → ((k : ℕ) (key : List Cell) → cell_at cells.entries k key ≡ totals_at plan rs k key) → tally ≡ tally_of plan rs → IsTable plan rs table) }
+        → ((k : ℕ) (key : List Cell) → kept_at intervals.entries k key ≡ totals_at plan rs k key) → tally ≡ tally_of plan rs → IsTable plan rs table) }
     ensures err { IfErr result (λ e. e ≡ OutOfMemory) }
 {
-    let rows = into_rows(alloc, cells)?;
+    let rows = into_rows(alloc, intervals)?;
     Ok(Table { rows, tally })
 }

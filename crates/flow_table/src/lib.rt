@@ -29,7 +29,10 @@ pub use class::Class;
 pub use key::Key;
 pub use laws::{plans_compare_by_value, shares_add_up};
 pub use method::Method;
-pub use order::{one_table, order_is_free, tables_fit, too_large_stays};
+pub use order::{
+    either_list_first, interleaving_is_same_bag, one_table, order_is_free, permutation_is_same_bag,
+    same_bag_laws, tables_fit, too_large_stays,
+};
 pub use partial::Partial;
 pub use plan::{MAX_COUNTERS, MAX_KEYS, MAX_SPREAD, Plan};
 pub use plan_fault::PlanFault;

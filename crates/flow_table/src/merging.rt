@@ -5,13 +5,13 @@ ghost use Rattle.std.specs.Result.{result_err};
 ghost use Rattle.ipfix_elements.specs.declared.cell.Cell.{Cell};
 ghost use Rattle.ipfix_message.specs.declared.record.DataRecord.{DataRecord};
 ghost use Rattle.flow_table.specs.Plans.{PlanValue};
-ghost use Rattle.flow_table.specs.Partials.{Holds, StandsBy};
+ghost use Rattle.flow_table.specs.Partials.{HoldsTable, StandsBy};
 ghost use Rattle.flow_table.specs.Totals.{IsLarge, IsLargeAt, joined};
-ghost use Rattle.flow_table.specs.Rows.{cell_at, part_at, row_at, rows_part};
+ghost use Rattle.flow_table.specs.Rows.{kept_at, part_at, row_at, rows_part};
 ghost use Rattle.flow_table.specs.declared.table_fault.TableFault.TheVariants.{SumTooLarge};
 
 use crate::row_key::RowKey;
-use crate::rows::{Cells, Rows};
+use crate::rows::{Intervals, Rows};
 use crate::table_fault::TableFault;
 use crate::tally::{Tally, together};
 use crate::totals::Totals;
@@ -45,40 +45,40 @@ fn merge_rows(rows: &mut Rows, others: Rows) -> Result<(), TableFault>
 }
 
 /// Adds the totals of all keys to those of an interval.
-fn merge_interval(cells: &mut Cells, interval: u64, others: Rows) -> Result<(), TableFault>
-    ensures ok { OnOk result ((k : ℕ) (q : List Cell) → cell_at cells.new.entries k q ≡ joined (cell_at cells.old.entries k q) (rows_part interval others.entries k q)) }
-    ensures fits { OnOk result ((q : List Cell) → (IsLargeAt (cell_at cells.old.entries interval q) → ⊥) → (IsLargeAt (row_at others.entries q) → ⊥) → IsLargeAt (cell_at cells.new.entries interval q) → ⊥) }
-    ensures large { IfErr result (λ e. e ≡ SumTooLarge → (q : List Cell) × IsLargeAt (joined (cell_at cells.old.entries interval q) (row_at others.entries q))) }
+fn merge_interval(intervals: &mut Intervals, interval: u64, others: Rows) -> Result<(), TableFault>
+    ensures ok { OnOk result ((k : ℕ) (q : List Cell) → kept_at intervals.new.entries k q ≡ joined (kept_at intervals.old.entries k q) (rows_part interval others.entries k q)) }
+    ensures fits { OnOk result ((q : List Cell) → (IsLargeAt (kept_at intervals.old.entries interval q) → ⊥) → (IsLargeAt (row_at others.entries q) → ⊥) → IsLargeAt (kept_at intervals.new.entries interval q) → ⊥) }
+    ensures large { IfErr result (λ e. e ≡ SumTooLarge → (q : List Cell) × IsLargeAt (joined (kept_at intervals.old.entries interval q) (row_at others.entries q))) }
 {
-    if let Some(rows) = cells.get_mut(&interval) {
+    if let Some(rows) = intervals.get_mut(&interval) {
         return merge_rows(rows, others);
     }
-    cells.insert(interval, others)?;
+    intervals.insert(interval, others)?;
     Ok(())
 }
 
 /// Adds the totals of all intervals and keys.
-fn merge_cells(cells: &mut Cells, others: Cells) -> Result<(), TableFault>
-    ensures ok { OnOk result ((k : ℕ) (q : List Cell) → cell_at cells.new.entries k q ≡ joined (cell_at cells.old.entries k q) (cell_at others.entries k q)) }
-    ensures fits { OnOk result ((k : ℕ) (q : List Cell) → (IsLargeAt (cell_at cells.old.entries k q) → ⊥) → (IsLargeAt (cell_at others.entries k q) → ⊥) → IsLargeAt (cell_at cells.new.entries k q) → ⊥) }
-    ensures large { IfErr result (λ e. e ≡ SumTooLarge → (k : ℕ) × (q : List Cell) × IsLargeAt (joined (cell_at cells.old.entries k q) (cell_at others.entries k q))) }
+fn merge_intervals(intervals: &mut Intervals, others: Intervals) -> Result<(), TableFault>
+    ensures ok { OnOk result ((k : ℕ) (q : List Cell) → kept_at intervals.new.entries k q ≡ joined (kept_at intervals.old.entries k q) (kept_at others.entries k q)) }
+    ensures fits { OnOk result ((k : ℕ) (q : List Cell) → (IsLargeAt (kept_at intervals.old.entries k q) → ⊥) → (IsLargeAt (kept_at others.entries k q) → ⊥) → IsLargeAt (kept_at intervals.new.entries k q) → ⊥) }
+    ensures large { IfErr result (λ e. e ≡ SumTooLarge → (k : ℕ) × (q : List Cell) × IsLargeAt (joined (kept_at intervals.old.entries k q) (kept_at others.entries k q))) }
 {
     for (interval, rows) in others {
-        merge_interval(cells, interval, rows)?;
+        merge_interval(intervals, interval, rows)?;
     }
     Ok(())
 }
 
 /// Adds the totals and the tally of other records.
 pub fn join(
-    cells: &mut Cells,
+    intervals: &mut Intervals,
     tally: &mut Tally,
-    others: Cells,
+    others: Intervals,
     more: &Tally,
 ) -> Result<(), TableFault>
-    ensures { (plan : PlanValue) (rs qs : List DataRecord) → Holds plan cells.old.entries tally.old rs → Holds plan others.entries more.now qs
-        → StandsBy (result_err result) plan cells.new.entries tally.new (rs ++ qs) }
+    ensures { (plan : PlanValue) (rs qs : List DataRecord) → HoldsTable plan intervals.old.entries tally.old rs → HoldsTable plan others.entries more.now qs
+        → StandsBy (result_err result) plan intervals.new.entries tally.new (rs ++ qs) }
 {
     *tally = together(tally, more)?;
-    merge_cells(cells, others)
+    merge_intervals(intervals, others)
 }

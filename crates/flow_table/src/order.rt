@@ -1,9 +1,9 @@
 //! Laws of tables: a list of records has one table, which is the same for every order of the list and
 //! fits its plan.
 
-ghost use Rattle.std.specs.Prelude.{◌≡◌, ◌↔◌, ◌++◌, List, All};
+ghost use Rattle.std.specs.Prelude.{◌++◌, List, All, IsPermutation};
 ghost use Rattle.ipfix_message.specs.declared.record.DataRecord.{DataRecord};
-ghost use Rattle.flow_table.specs.Bags.{IsSameBag};
+ghost use Rattle.flow_table.specs.Bags.{IsSameBag, IsInterleaving};
 ghost use Rattle.flow_table.specs.Fitting.{FitsPlan, HasOctets};
 ghost use Rattle.flow_table.specs.Plans.{PlanValue, IsPlan};
 ghost use Rattle.flow_table.specs.SameTables.{IsSameTable};
@@ -13,6 +13,30 @@ ghost use Rattle.flow_table.specs.declared.table.Table.{Table};
 /// A list of records has no two tables.
 pub fn one_table()
     ensures { (plan : PlanValue) (rs : List DataRecord) (t u : Table) → IsTable plan rs t → IsTable plan rs u → IsSameTable t u }
+{}
+
+/// A list of records and each permutation of it are the same bag.
+pub fn permutation_is_same_bag()
+    ensures { (rs qs : List DataRecord) → IsPermutation rs qs → IsSameBag rs qs }
+{}
+
+/// Two lists of records, taken turn by turn, are the same bag as one after the other.
+pub fn interleaving_is_same_bag()
+    ensures { (rs qs all : List DataRecord) → IsInterleaving rs qs all → IsSameBag all (rs ++ qs) }
+{}
+
+/// Which of two lists of records stands first doesn't matter.
+pub fn either_list_first()
+    ensures { (rs qs : List DataRecord) → IsSameBag (rs ++ qs) (qs ++ rs) }
+{}
+
+/// To be the same bag is an equivalence, and lists one after the other are the same bag if each of
+/// them is.
+pub fn same_bag_laws()
+    ensures reflexive { (rs : List DataRecord) → IsSameBag rs rs }
+    ensures symmetric { (rs qs : List DataRecord) → IsSameBag rs qs → IsSameBag qs rs }
+    ensures transitive { (rs qs ps : List DataRecord) → IsSameBag rs qs → IsSameBag qs ps → IsSameBag rs ps }
+    ensures one_after_the_other { (rs qs more others : List DataRecord) → IsSameBag rs qs → IsSameBag more others → IsSameBag (rs ++ more) (qs ++ others) }
 {}
 
 /// The table of a list of records, and whether it is too large, are the same for every order of the
@@ -28,6 +52,9 @@ pub fn too_large_stays()
 {}
 
 /// The table of a list of records that isn't too large fits the plan.
+///
+/// The octets of the records' fields are to be octets: `ipfix_message` owes this for the records that
+/// a message gives.
 pub fn tables_fit()
     ensures { (plan : PlanValue) (rs : List DataRecord) (table : Table) → IsPlan plan → All HasOctets rs → (IsTooLarge plan rs → ⊥) → IsTable plan rs table → FitsPlan plan table }
 {}

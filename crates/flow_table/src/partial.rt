@@ -13,7 +13,7 @@ use crate::finishing::finish_table;
 use crate::merging::join;
 use crate::plan::Plan;
 use crate::row_key::RowKey;
-use crate::rows::Cells;
+use crate::rows::Intervals;
 use crate::table::Table;
 use crate::table_fault::TableFault;
 use crate::taking::{Room, take};
@@ -30,7 +30,7 @@ use std::collections::BTreeMap;
 pub struct Partial {
     alloc: Global,
     plan: Plan,
-    cells: Cells,
+    intervals: Intervals,
     tally: Tally,
     fault: Option<TableFault>,
     room: Room,
@@ -49,7 +49,7 @@ impl Partial {
         Ok(Partial {
             alloc,
             plan: plan.copy(alloc)?,
-            cells: BTreeMap::new(alloc),
+            intervals: BTreeMap::new(alloc),
             tally: Tally::EMPTY,
             fault: None,
             room: Room {
@@ -70,6 +70,8 @@ impl Partial {
         ensures answer { result ≡ unless (fault_of self.new) (class_of (plan_of self.old) data_record.now) }
         ensures sticky { IsSome (fault_of self.old) → fault_of self.new ≡ fault_of self.old }
         ensures adds { (rs : List DataRecord) → StandsFor self.old rs → StandsFor self.new (rs ++ data_record.now ∷ []) }
+        ensures small { (rs : List DataRecord) → StandsFor self.old rs → OnOk result (IsTooLarge (plan_of self.old) (rs ++ data_record.now ∷ []) → ⊥) }
+        ensures large { (rs : List DataRecord) → StandsFor self.old rs → IfErr result (λ e. e ≡ SumTooLarge → IsTooLarge (plan_of self.old) (rs ++ data_record.now ∷ [])) }
     {
         if let Some(fault) = self.fault {
             return Err(fault);
@@ -77,7 +79,7 @@ impl Partial {
         let result = take(
             self.alloc,
             &self.plan,
-            &mut self.cells,
+            &mut self.intervals,
             &mut self.tally,
             &mut self.room,
             data_record,
@@ -98,9 +100,11 @@ impl Partial {
         ensures sticky { IsSome (fault_of self.old) → fault_of self.new ≡ fault_of self.old }
         ensures takes_over { fault_of self.old ≡ None → IsSome (fault_of other) → fault_of self.new ≡ fault_of other }
         ensures merges { (rs qs : List DataRecord) → StandsFor self.old rs → StandsFor other qs → StandsFor self.new (rs ++ qs) }
+        ensures small { (rs qs : List DataRecord) → StandsFor self.old rs → StandsFor other qs → OnOk result (IsTooLarge (plan_of self.old) (rs ++ qs) → ⊥) }
+        ensures large { (rs qs : List DataRecord) → StandsFor self.old rs → StandsFor other qs → IfErr result (λ e. e ≡ SumTooLarge → IsTooLarge (plan_of self.old) (rs ++ qs)) }
     {
         let Partial {
-            cells,
+            intervals,
             tally,
             fault,
             ..
@@ -112,7 +116,7 @@ impl Partial {
             self.fault = Some(fault);
             return Err(fault);
         }
-        let result = join(&mut self.cells, &mut self.tally, cells, &tally);
+        let result = join(&mut self.intervals, &mut self.tally, intervals, &tally);
         self.fault = result.err();
         result
     }
@@ -137,14 +141,14 @@ impl Partial {
     {
         let Partial {
             alloc,
-            cells,
+            intervals,
             tally,
             fault,
             ..
         } = self;
         match fault {
             Some(fault) => Err(fault),
-            None => finish_table(alloc, cells, tally),
+            None => finish_table(alloc, intervals, tally),
         }
     }
 }

@@ -7,7 +7,7 @@ ghost use Rattle.ipfix_elements.specs.Values.{cell_in};
 ghost use Rattle.flow_table.specs.Fitting.{FitsKeys, IsCellOf};
 ghost use Rattle.flow_table.specs.Plans.{HasPrefix, kinds_of, is_key_kind};
 ghost use Rattle.flow_table.specs.Reading.{counter_of, cell_of, cells_of, projected, is_too_long as is_too_long_in};
-ghost use Rattle.flow_table.specs.Readings.{Reads};
+ghost use Rattle.flow_table.specs.Readings.{ReadsAs};
 
 use crate::class::Class;
 use crate::key::Key;
@@ -37,7 +37,7 @@ pub(crate) fn read(
     data_record: &DataRecord,
     key: &mut RowKey,
 ) -> Result<Reading, AllocError>
-    ensures { IfOk result (Reads plan.now data_record.now key.new) }
+    ensures { IfOk result (ReadsAs plan.now data_record.now key.new) }
 {
     if data_record.scope > 0 {
         return Ok(Reading::Left(Class::Options));

@@ -3,7 +3,7 @@
 ghost use Rattle.std.specs.Prelude.{◌≡◌, ℕ, List, Some, OnOk, IfErr};
 ghost use Rattle.ipfix_elements.specs.declared.cell.Cell.{Cell};
 ghost use Rattle.flow_table.specs.Totals.{IsLarge, IsLargeAt, joined, total};
-ghost use Rattle.flow_table.specs.Rows.{row_at, cell_at, part_at, cell_part};
+ghost use Rattle.flow_table.specs.Rows.{row_at, kept_at, part_at, place_part};
 ghost use Rattle.flow_table.specs.declared.table_fault.TableFault.TheVariants.{SumTooLarge};
 
 use crate::row_key::RowKey;
@@ -17,7 +17,7 @@ use std::collections::btree_map::Entry;
 pub type Rows = BTreeMap<RowKey, Totals>;
 
 /// The rows of all intervals.
-pub type Cells = BTreeMap<u64, Rows>;
+pub type Intervals = BTreeMap<u64, Rows>;
 
 /// Adds sums and flows to the row of a key, which is made where it is missing.
 pub fn add_to_row(
@@ -42,23 +42,23 @@ pub fn add_to_row(
 }
 
 /// Adds sums and flows to the row of an interval and a key.
-pub fn add_to_cell(
+pub fn add_to_interval(
     alloc: Global,
-    cells: &mut Cells,
+    intervals: &mut Intervals,
     interval: u64,
     key: &RowKey,
     sums: &[u64],
     flows: u64,
 ) -> Result<(), TableFault>
-    ensures ok { OnOk result ((k : ℕ) (q : List Cell) → cell_at cells.new.entries k q ≡ joined (cell_at cells.old.entries k q) (cell_part interval key.now (total sums.now flows) k q)) }
-    ensures fits { OnOk result (IsLargeAt (cell_at cells.new.entries interval key.now) → ⊥) }
-    ensures large { IfErr result (λ e. e ≡ SumTooLarge → IsLargeAt (joined (cell_at cells.old.entries interval key.now) (Some (total sums.now flows)))) }
+    ensures ok { OnOk result ((k : ℕ) (q : List Cell) → kept_at intervals.new.entries k q ≡ joined (kept_at intervals.old.entries k q) (place_part interval key.now (total sums.now flows) k q)) }
+    ensures fits { OnOk result (IsLargeAt (kept_at intervals.new.entries interval key.now) → ⊥) }
+    ensures large { IfErr result (λ e. e ≡ SumTooLarge → IsLargeAt (joined (kept_at intervals.old.entries interval key.now) (Some (total sums.now flows)))) }
 {
-    if let Some(rows) = cells.get_mut(&interval) {
+    if let Some(rows) = intervals.get_mut(&interval) {
         return add_to_row(alloc, rows, key, sums, flows);
     }
     let mut rows = BTreeMap::new(alloc);
     add_to_row(alloc, &mut rows, key, sums, flows)?;
-    cells.insert(interval, rows)?;
+    intervals.insert(interval, rows)?;
     Ok(())
 }

@@ -4,9 +4,9 @@ ghost use Rattle.std.specs.Prelude.{◌≡◌, ◌++◌, ◌∷◌, [], ℕ, Lis
 ghost use Rattle.std.specs.Result.{result_err};
 ghost use Rattle.ipfix_elements.specs.declared.cell.Cell.{Cell};
 ghost use Rattle.ipfix_message.specs.declared.record.DataRecord.{DataRecord};
-ghost use Rattle.flow_table.specs.Partials.{Holds, StandsBy, totals_at};
+ghost use Rattle.flow_table.specs.Partials.{HoldsTable, StandsBy, totals_at};
 ghost use Rattle.flow_table.specs.Reading.{class_of, IsUsed};
-ghost use Rattle.flow_table.specs.Rows.{cell_at};
+ghost use Rattle.flow_table.specs.Rows.{kept_at};
 ghost use Rattle.flow_table.specs.Totals.{IsLargeAt, joined};
 ghost use Rattle.flow_table.specs.declared.table_fault.TableFault.TheVariants.{SumTooLarge};
 
@@ -15,7 +15,7 @@ use crate::class::Class;
 use crate::plan::Plan;
 use crate::reading::{Reading, read};
 use crate::row_key::RowKey;
-use crate::rows::Cells;
+use crate::rows::Intervals;
 use crate::table_fault::TableFault;
 use crate::tally::{Tally, one, together};
 use ipfix_message::DataRecord;
@@ -33,22 +33,22 @@ pub struct Room {
 fn take_flow(
     alloc: Global,
     plan: &Plan,
-    cells: &mut Cells,
+    intervals: &mut Intervals,
     room: &mut Room,
     data_record: &DataRecord,
     start: u64,
     end: u64,
 ) -> Result<(), TableFault>
     requires { IsUsed plan.now data_record.now start end room.old.key }
-    ensures ok { OnOk result ((k : ℕ) (q : List Cell) → cell_at cells.new.entries k q ≡ joined (cell_at cells.old.entries k q) (totals_at plan.now (data_record.now ∷ []) k q)) }
-    ensures fits { OnOk result ((k : ℕ) (q : List Cell) → (IsLargeAt (cell_at cells.old.entries k q) → ⊥) → IsLargeAt (cell_at cells.new.entries k q) → ⊥) }
-    ensures large { IfErr result (λ e. e ≡ SumTooLarge → (k : ℕ) × (q : List Cell) × IsLargeAt (joined (cell_at cells.old.entries k q) (totals_at plan.now (data_record.now ∷ []) k q))) }
+    ensures ok { OnOk result ((k : ℕ) (q : List Cell) → kept_at intervals.new.entries k q ≡ joined (kept_at intervals.old.entries k q) (totals_at plan.now (data_record.now ∷ []) k q)) }
+    ensures fits { OnOk result ((k : ℕ) (q : List Cell) → (IsLargeAt (kept_at intervals.old.entries k q) → ⊥) → IsLargeAt (kept_at intervals.new.entries k q) → ⊥) }
+    ensures large { IfErr result (λ e. e ≡ SumTooLarge → (k : ℕ) × (q : List Cell) × IsLargeAt (joined (kept_at intervals.old.entries k q) (totals_at plan.now (data_record.now ∷ []) k q))) }
 {
     read_counters(plan.counters(), data_record, &mut room.counters)?;
     add_flow(
         alloc,
         plan,
-        cells,
+        intervals,
         start,
         end,
         &room.key,
@@ -61,14 +61,14 @@ fn take_flow(
 pub fn take(
     alloc: Global,
     plan: &Plan,
-    cells: &mut Cells,
+    intervals: &mut Intervals,
     tally: &mut Tally,
     room: &mut Room,
     data_record: &DataRecord,
 ) -> Result<Class, TableFault>
     ensures class { IfOk result (λ class. class ≡ class_of plan.now data_record.now) }
-    ensures stands { (rs : List DataRecord) → Holds plan.now cells.old.entries tally.old rs
-        → StandsBy (result_err result) plan.now cells.new.entries tally.new (rs ++ data_record.now ∷ []) }
+    ensures stands { (rs : List DataRecord) → HoldsTable plan.now intervals.old.entries tally.old rs
+        → StandsBy (result_err result) plan.now intervals.new.entries tally.new (rs ++ data_record.now ∷ []) }
 {
     match read(plan, data_record, &mut room.key)? {
         Reading::Left(class) => {
@@ -77,7 +77,7 @@ pub fn take(
         }
         Reading::Used { start, end } => {
             *tally = together(tally, &one(Class::Used))?;
-            take_flow(alloc, plan, cells, room, data_record, start, end)?;
+            take_flow(alloc, plan, intervals, room, data_record, start, end)?;
             Ok(Class::Used)
         }
     }

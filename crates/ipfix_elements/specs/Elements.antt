@@ -1,11 +1,14 @@
 -- The information elements that are known by name (IANA, "IPFIX Information Elements"; RFC 7012, section 5).
-use Rattle.std.specs.Prelude.{ℕ, Bool, true, nat_lt, ◌&&◌, ◌==◌, List, [], ◌∷◌, find, codes, Option, None, option_map, if◌then◌else◌}
+use Rattle.std.specs.Prelude.{ℕ, ◌==◌, List, [], ◌∷◌, find, codes, Option, None, option_map, if◌then◌else◌}
 use Rattle.std.specs.Option.{option_map_or}
-use denote.Bor.{Bor}
 use Rattle.ipfix_wire.specs.declared.specifier.ElementId.{ElementId}
 use Rattle.ipfix_elements.specs.declared.kind.Width.TheVariants.{One, Two, Four, Eight}
 use Rattle.ipfix_elements.specs.declared.kind.Kind.{Kind}
 use Rattle.ipfix_elements.specs.declared.kind.Kind.TheVariants.{Unsigned, Ipv4, Ipv6, Mac, Seconds, Millis, Octets}
+
+-- an element of IANA's registry
+abbrev pub iana : ℕ → ElementId
+iana number = record { pen = 0; number = number }
 
 -- an element's number and name in IANA's registry, and the kind that its fields are read by
 pub record Row : Type 0 where
@@ -15,10 +18,6 @@ pub record Row : Type 0 where
 
 abbrev pub element : ℕ → List ℕ → Kind → Row
 element number name kind = record { number = number; name = name; kind = kind }
-
--- a row as the code keeps it
-abbrev pub shown : ℕ × Bor (List ℕ) × Kind → Row
-shown r = element r.0 r.1.now r.2
 
 abbrev pub u8 : Kind
 u8 = Unsigned One
@@ -84,10 +83,4 @@ kind_of e = option_map_or (λ r. r.kind) (row_of e) Octets
 
 -- the element of a row
 abbrev pub listed : Row → ElementId
-listed r = record { pen = 0; number = r.number }
-
--- numbers that ascend
-abbrev pub rise : List ℕ → Bool
-rise [] = true
-rise (n ∷ []) = true
-rise (m ∷ n ∷ ns) = nat_lt m n && rise (n ∷ ns)
+listed r = iana r.number

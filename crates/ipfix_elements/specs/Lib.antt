@@ -1,7 +1,10 @@
-pub mod Ascii
+-- what public contracts cite
 pub mod Elements
 pub mod Values
+pub mod Cells
 pub mod Names
 pub mod Texts
-pub mod Cells
 pub mod Prefixes
+pub mod Ascii
+-- what only inner functions need
+pub mod Rows

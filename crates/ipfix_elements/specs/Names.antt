@@ -17,7 +17,7 @@ pub record IsElement (e : ElementId) : Type 0 where
 abbrev pub numbered_text : ElementId → List ℕ
 numbered_text e = codes "e" ++ decimal e.pen ++ codes "." ++ decimal e.number
 
--- what is written for an element: its name, or its numbers where it has none
+-- what is written for an element: its name, or its numbers if it has none
 abbrev pub name_text : ElementId → List ℕ
 name_text e = unwrap_or (name_of e) (numbered_text e)
 

@@ -39,7 +39,7 @@ cell_text (Ipv4 address) = ipv4_text address
 cell_text (Ipv6 address) = ipv6_text address
 cell_text (Mac address) = mac_text address
 
--- what stands before octets in hexadecimal: a question mark too where they are not of their kind
+-- what stands before octets in hexadecimal: a question mark too if they are not of their kind
 abbrev pub hex_mark : Kind → List ℕ
 hex_mark kinds.Octets = codes "0x"
 hex_mark (kinds.Unsigned width) = codes "?0x"

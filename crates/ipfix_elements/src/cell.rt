@@ -33,8 +33,8 @@ pub fn cell_order()
     ensures equal { (a b : Cell) → cell_cmp a b ≡ Equal → a ≡ b }
 {}
 
-/// The value that the octets of a field are. `None` where `read_number` gives none, for an address
-/// of another length than its kind has, and for `Octets`.
+/// The value that the octets of a field are. `None` if `read_number` gives none, for an address of
+/// another length than its kind has, and for `Octets`.
 pub fn read_cell(kind: Kind, octets: &[u8]) -> Option<Cell>
     ensures { result ≡ cell_in kind octets.now }
 {
@@ -64,7 +64,7 @@ pub fn write_cell_octets(cell: &Cell, width: u16, out: &mut Vec<u8>) -> Result<(
     }
 }
 
-/// Appends the number in so many octets, with zeros in front of its 8 where more are asked for.
+/// Appends the number in so many octets, with zeros before its 8 if it is to have more.
 fn write_number(number: u64, width: u16, out: &mut Vec<u8>) -> Result<(), AllocError>
     requires { number < 256 ^ width }
     ensures ok { OnOk result (out.new.items ≡ out.old.items ++ big_bytes width number) }

@@ -3,13 +3,25 @@
 ghost use Rattle.std.specs.Prelude.{◌≡◌, ◌==◌, true, find, map};
 ghost use Rattle.std.specs.Option.{option_copied, option_map};
 ghost use Rattle.std.specs.Str.{bytes_eq};
-ghost use Rattle.ipfix_elements.specs.Elements.{elements, listed, rise, shown, row_of as row_in, kind_of as kind_in, name_of as name_in};
+ghost use Rattle.ipfix_elements.specs.Elements.{elements, listed, row_of as row_in, kind_of as kind_in, name_of as name_in};
+ghost use Rattle.ipfix_elements.specs.Rows.{rise, shown};
 
 use crate::kind::{Kind, Width};
 use ipfix_wire::ElementId;
 
 /// An element's number and name in IANA's registry, and the kind that its fields are read by.
-type Row = (u16, &'static str, Kind);
+#[derive(Clone, Copy)]
+struct Row {
+    number: u16,
+    name: &'static str,
+    kind: Kind,
+}
+
+macro_rules! rows {
+    ($(($number:literal, $name:literal, $kind:expr),)*) => {
+        [$(Row { number: $number, name: $name, kind: $kind }),*]
+    };
+}
 
 const U8: Kind = Kind::Unsigned(Width::One);
 
@@ -19,7 +31,7 @@ const U32: Kind = Kind::Unsigned(Width::Four);
 
 const U64: Kind = Kind::Unsigned(Width::Eight);
 
-static ELEMENTS: [Row; 35] = [
+static ELEMENTS: [Row; 35] = rows![
     (1, "octetDeltaCount", U64),
     (2, "packetDeltaCount", U64),
     (3, "deltaFlowCount", U64),
@@ -58,10 +70,10 @@ static ELEMENTS: [Row; 35] = [
 ];
 
 fn find_by_number(table: &'static [Row], number: u16) -> Option<Row>
-    requires { rise (map (λ r. r.0) table.now) ≡ true }
+    requires { rise (map (λ r. r.number) table.now) ≡ true }
     ensures { option_map shown result ≡ find (λ r. r.number == number) (map shown table.now) }
 {
-    let place = table.binary_search_by_key(&number, |row| row.0).ok()?;
+    let place = table.binary_search_by_key(&number, |row| row.number).ok()?;
     Some(table[place])
 }
 
@@ -79,7 +91,7 @@ fn find_by_name(mut table: &'static [Row], name: &str) -> Option<Row>
     ensures { option_map shown result ≡ find (λ r. bytes_eq r.name name.now) (map shown table.entry.now) }
 {
     while let [row, rest @ ..] = table {
-        if row.1 == name {
+        if row.name == name {
             return Some(*row);
         }
         table = rest;
@@ -93,7 +105,7 @@ pub(crate) fn listed_element(name: &str) -> Option<ElementId>
     ensures { result ≡ option_map listed (find (λ r. bytes_eq r.name name.now) elements) }
 {
     match find_by_name(&ELEMENTS, name) {
-        Some((number, _, _)) => Some(ElementId { pen: 0, number }),
+        Some(row) => Some(ElementId::iana(row.number)),
         None => None,
     }
 }
@@ -103,7 +115,7 @@ pub fn kind_of(element: ElementId) -> Kind
     ensures { result ≡ kind_in element }
 {
     match row_of(element) {
-        Some((_, _, kind)) => kind,
+        Some(row) => row.kind,
         None => Kind::Octets,
     }
 }
@@ -112,6 +124,5 @@ pub fn kind_of(element: ElementId) -> Kind
 pub fn name_of(element: ElementId) -> Option<&'static str>
     ensures { option_copied result ≡ name_in element }
 {
-    let (_, name, _) = row_of(element)?;
-    Some(name)
+    Some(row_of(element)?.name)
 }

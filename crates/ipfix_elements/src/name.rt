@@ -17,7 +17,7 @@ use std::io::Write;
 /// The numbers of elements are below this (RFC 7011, section 3.2).
 const NUMBER_LIMIT: u16 = 0x8000;
 
-/// Writes an element's name, or `e<pen>.<number>` where it has none. An `Err` is the writer's.
+/// Writes an element's name, or `e<pen>.<number>` if it has none. An `Err` is the writer's.
 pub fn write_name<W: Write>(element: ElementId, out: &mut W) -> io::Result<()>
     ensures { OnOk result (Appends (W.contents out.old) (W.contents out.new) (name_text element)) }
 {
@@ -85,7 +85,7 @@ fn numbers_of(name: &str) -> Option<ElementId>
     })
 }
 
-/// What stands between the `e` and the first dot, and what stands behind that.
+/// What stands between the `e` and the first dot, and what stands after that.
 fn parts_of(name: &str) -> Option<(&str, &str)>
     ensures { (pen number : List ℕ) → ((i : ℕ) → i < length pen → get_or pen i 0 ≢ dot) → name.now ≡ letter_e ∷ (pen ++ dot ∷ number)
         → IsSomeAnd result (λ r. (r.0.now ≡ pen) × (r.1.now ≡ number)) }

@@ -47,10 +47,6 @@ const TABLE: [(u16, &str, Kind); 35] = [
     (375, "originalFlowsPresent", Kind::Unsigned(Width::Eight)),
 ];
 
-fn iana(number: u16) -> ElementId {
-    ElementId { pen: 0, number }
-}
-
 fn name_text(alloc: Global, element: ElementId) -> Result<Vec<u8>, Fail> {
     let mut out = Vec::new(alloc);
     write_name(element, &mut out)?;
@@ -66,7 +62,7 @@ fn value_text(alloc: Global, kind: Kind, octets: &[u8]) -> Result<Vec<u8>, Fail>
 #[test]
 fn table(rt: HostRuntime) -> Result<(), Fail> {
     for (number, name, kind) in TABLE {
-        let element = iana(number);
+        let element = ElementId::iana(number);
         assert_eq!(rt; kind_of(element), kind, "kind of {name}");
         assert_eq!(rt; name_of(element), Some(name), "name of {number}");
         assert_eq!(rt; by_name(name), Some(element), "element {name}");
@@ -77,6 +73,26 @@ fn table(rt: HostRuntime) -> Result<(), Fail> {
         );
     }
     Ok(())
+}
+
+/// The numbers that have a name of their own are those of the elements with these names.
+#[test]
+fn named_numbers(rt: HostRuntime) {
+    let numbers = [
+        (iana::OCTET_DELTA_COUNT, "octetDeltaCount"),
+        (iana::SOURCE_IPV4_ADDRESS, "sourceIPv4Address"),
+        (iana::DESTINATION_IPV4_ADDRESS, "destinationIPv4Address"),
+        (iana::SOURCE_IPV4_PREFIX, "sourceIPv4Prefix"),
+        (iana::DESTINATION_IPV4_PREFIX, "destinationIPv4Prefix"),
+        (iana::FLOW_START_SECONDS, "flowStartSeconds"),
+        (iana::FLOW_END_SECONDS, "flowEndSeconds"),
+        (iana::FLOW_START_MILLISECONDS, "flowStartMilliseconds"),
+        (iana::FLOW_END_MILLISECONDS, "flowEndMilliseconds"),
+        (iana::ORIGINAL_FLOWS_PRESENT, "originalFlowsPresent"),
+    ];
+    for (number, name) in numbers {
+        assert_eq!(rt; name_of(ElementId::iana(number)), Some(name));
+    }
 }
 
 #[test]
@@ -99,11 +115,11 @@ fn names(rt: HostRuntime) -> Result<(), Fail> {
         b"e32473.1".as_slice()
     );
     assert_eq!(rt;
-        name_text(rt.alloc(), iana(999))?.as_slice(),
+        name_text(rt.alloc(), ElementId::iana(999))?.as_slice(),
         b"e0.999".as_slice()
     );
     assert_eq!(rt; by_name("e32473.1"), Some(private));
-    assert_eq!(rt; by_name("e0.8"), Some(iana(8)));
+    assert_eq!(rt; by_name("e0.8"), Some(ElementId::iana(8)));
     assert_eq!(rt;
         by_name("e4294967295.32767"),
         Some(ElementId {
@@ -274,8 +290,8 @@ impl Write for Broken {
 
 #[test]
 fn failing_writers(rt: HostRuntime) {
-    assert!(rt; write_name(iana(8), &mut Broken { left: 16 }).is_err());
-    assert!(rt; write_name(iana(999), &mut Broken { left: 5 }).is_err());
+    assert!(rt; write_name(ElementId::iana(8), &mut Broken { left: 16 }).is_err());
+    assert!(rt; write_name(ElementId::iana(999), &mut Broken { left: 5 }).is_err());
     for left in [0, 2, 100] {
         assert!(rt;
             write_value(Kind::Octets, &[1; 100], &mut Broken { left }).is_err(),

@@ -6,7 +6,7 @@ use Rattle.std.proofs.lemmas.Bool.Decides.{eqb_tells}
 use Rattle.std.proofs.lemmas.List.{append-nil, length-append, length-take, length-drop, take_at, drop_at, take-append-drop}
 use Rattle.ipfix_wire.specs.VariableLength.{SpellsLength, length_at}
 use Rattle.ipfix_wire.specs.Numbers.{IsOctets}
-use Rattle.ipfix_wire.proofs.Octets.{octets_2}
+use Rattle.ipfix_wire.proofs.Octets.{octets_2, IsOctets-rest}
 use Rattle.byteorder.specs.Endian.{big_bytes, big_number}
 use Rattle.ipfix_wire.specs.declared.specifier.Spec.{Spec}
 use Rattle.ipfix_wire.specs.declared.specifier.ElementId.{ElementId}
@@ -18,7 +18,7 @@ use Rattle.ipfix_wire.specs.InTurn.{Parts, parts_of}
 use Rattle.ipfix_message.specs.DataRecords.{SpellsOctets, Spells, least, IsBody, octets_at, variable_at, value_at, fields_at, finished, records_of_body}
 use Rattle.ipfix_message.specs.declared.record.DataRecord.{DataRecord}
 use Rattle.ipfix_message.proofs.FieldReading.{Fails-of}
-use Rattle.ipfix_wire.proofs.Parts.{cons, IsOctets-rest, cases_read, Shrinks, Reads, Spelled, parts_of-next, parts_of-none, parts_of-found, parts_of-only}
+use Rattle.ipfix_wire.proofs.Parts.{cons, cases_read, Shrinks, Reads, Spelled, parts_of-next, parts_of-none, parts_of-found, parts_of-only}
 
 -- ---- how much a record takes, and its one fault
 

@@ -7,8 +7,8 @@ use Rattle.ipfix_wire.specs.Numbers.{number_at, IsOctets}
 use Rattle.ipfix_wire.specs.FieldSpecifier.{SpellsSpec, spec_at}
 use Rattle.ipfix_wire.specs.declared.specifier.Spec.{Spec}
 use Rattle.ipfix_wire.specs.InTurn.{InTurn}
-use Rattle.ipfix_wire.proofs.Octets.{IsOctets-drop, short_spec_spelled, long_spec_spelled}
-use Rattle.ipfix_wire.proofs.Parts.{IsOctets-rest, Spelled}
+use Rattle.ipfix_wire.proofs.Octets.{IsOctets-drop, short_spec_spelled, long_spec_spelled, IsOctets-rest}
+use Rattle.ipfix_wire.proofs.Parts.{Spelled}
 use Rattle.ipfix_message.specs.declared.fault.MessageFault.{MessageFault}
 use Rattle.ipfix_message.specs.declared.fault.MessageFault.TheVariants.{TemplateCut}
 use Rattle.ipfix_message.specs.Outcome.{◌>>=◌}

@@ -22,7 +22,7 @@ use Rattle.ipfix_message.proofs.FieldReading.{Fails-of}
 use Rattle.ipfix_message.proofs.Bodies.{chosen, different, ok_is, not_both, bind_ok}
 use Rattle.ipfix_message.specs.TemplatesInForce.{in_force}
 use Rattle.ipfix_message.specs.Held.{template_in, Agrees, Holds, Reaches, Admits}
-use Rattle.ipfix_message.specs.Domains.{History, admit, with_events, message_header, message_gives, Message, StandsFor, Decodes, template_for}
+use Rattle.ipfix_message.specs.Domains.{History, IsAdmitted, admit, with_events, message_header, message_gives, Message, StandsFor, Decodes, template_for}
 use Rattle.ipfix_message.specs.Kept.{kept}
 
 -- ---- what is kept at each domain
@@ -156,14 +156,20 @@ stands-more xs ds domain stands =
     (keys_of-append xs ((domain, []) ∷ []) ∙ ap (λ (ks : List ℕ). ks ++ domain ∷ []) stands.domains ∙ sym (keys_of-append ds ((domain, []) ∷ [])))
     (λ q. joins (lookup (eqb q) xs) (lookup (eqb q) ds) q domain xs ds refl refl (stands-at xs ds stands q))
 
+-- a new domain finds room
+pub admit-room : (es : List (ℕ × BTreeMap ℕ Template)) (ds : History) (domain : ℕ) → StandsFor (kept es) ds → is_some (lookup (eqb domain) es) ≡ false → length es < 1024
+    → admit ds domain ≡ Ok (ds ++ (domain, []) ∷ [])
+unfolding admit
+admit-room es ds domain stands new room =
+    let short : ltb (length ds) 1024 ≡ true = lt-ltb (length ds) 1024 (omega (arith, length-history es ds stands, room)) in
+    rw (is_some-history es ds domain stands ∙ new, short) refl
+
 pub admit-new : (es news : List (ℕ × BTreeMap ℕ Template)) (ds : History) (domain : ℕ) (m : BTreeMap ℕ Template) → StandsFor (kept es) ds → is_some (lookup (eqb domain) es) ≡ false → length es < 1024
     → news ≡ es ++ (domain, m) ∷ [] → m.entries ≡ [] → Admits (Ok tt) (kept news) (admit ds domain)
-unfolding admit
 admit-new es news ds domain m stands new room is empty =
-    let short : ltb (length ds) 1024 ≡ true = lt-ltb (length ds) 1024 (omega (arith, length-history es ds stands, room)) in
     let keeps : kept news ≡ kept es ++ (domain, []) ∷ [] = ap kept is ∙ map-append (λ (e : ℕ × BTreeMap ℕ Template). (e.0, e.1.entries)) es ((domain, m) ∷ []) ∙ ap (λ (x : List (ℕ × Template)). kept es ++ (domain, x) ∷ []) empty in (
       ds ++ (domain, []) ∷ [],
-      rw (is_some-history es ds domain stands ∙ new, short) refl,
+      admit-room es ds domain stands new room,
       subst (λ (k : List (ℕ × List (ℕ × Template))). StandsFor k (ds ++ (domain, []) ∷ [])) (sym keeps) (stands-more (kept es) ds domain stands),
     )
 
@@ -243,10 +249,11 @@ pub events_of : (xs : List (ℕ × BTreeMap ℕ Template)) (ds : History) (domai
 events_of xs ds domain m stands here =
     events_at (lookup (eqb domain) (kept xs)) ds domain (lookup (eqb domain) ds) m.entries (lookup-kept domain xs ∙ ap (option_map (λ (x : BTreeMap ℕ Template). x.entries)) here) refl (stands-at (kept xs) ds stands domain)
 
-abbrev after_admit : Header → List ℕ → History → Result Message MessageFault
+-- what follows in a message once its domain is admitted, and once its sets are read
+abbrev pub after_admit : Header → List ℕ → History → Result Message MessageFault
 after_admit h m known = sets_from h (before (unwrap_or (lookup (eqb h.domain) known) [])) (drop 16 m) >>= λ d. Ok (record { header = h; decoding = d; domains = with_events known h.domain d.events })
 
-abbrev after_sets : Header → History → Decoding → Result Message MessageFault
+abbrev pub after_sets : Header → History → Decoding → Result Message MessageFault
 after_sets h known d = Ok (record { header = h; decoding = d; domains = with_events known h.domain d.events })
 
 gives_header : (ds : History) (m : List ℕ) (read : Result Header MessageFault) → message_header m ≡ read → message_gives ds m ≡ (read >>= λ h. admit ds h.domain >>= λ known. after_admit h m known)
@@ -262,6 +269,10 @@ gives_sets ds m h known es read is admitted are sets =
     gives_admit ds m h (Ok known) is admitted
     ∙ ap (λ (x : List Event). sets_from h (before x) (drop 16 m) >>= λ d. after_sets h known d) are
     ∙ ap (λ (r : Result Decoding MessageFault). r >>= λ d. after_sets h known d) sets
+
+-- a domain that was admitted
+pub was_admitted : (ds : History) (m : List ℕ) (h : Header) (es : List (ℕ × List (ℕ × Template))) → message_header m ≡ Ok h → Admits (Ok tt) es (admit ds h.domain) → IsAdmitted ds m
+was_admitted ds m h es is admitted = record { header = h; good = is; domain = rw admitted.1 refl }
 
 pub bad_header : (e : MessageFault) (ds : History) (m : List ℕ) → Fails e (message_header m) → Fails e (message_gives ds m)
 bad_header e ds m fails = Fails-of e (message_header m) (message_gives ds m) (λ f is. gives_header ds m (Err f) is) fails

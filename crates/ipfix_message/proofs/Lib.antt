@@ -9,4 +9,5 @@ pub mod TemplateSets
 pub mod LastDefinition
 pub mod Decoding
 pub mod History
+pub mod RecordOctets
 pub mod Blocks

@@ -11,8 +11,8 @@ use Rattle.ipfix_wire.specs.Numbers.{number_at, IsOctets}
 use Rattle.ipfix_wire.specs.FieldSpecifier.{spec_at}
 use Rattle.ipfix_wire.specs.declared.specifier.Spec.{Spec}
 use Rattle.ipfix_wire.specs.InTurn.{IsLongest, Parts, InTurn}
-use Rattle.ipfix_wire.proofs.Octets.{IsOctets-drop, octets_2, short_spec_spelled}
-use Rattle.ipfix_wire.proofs.Parts.{Shrinks, Reads, Spelled, IsOctets-rest, cases_read, parts_of-only}
+use Rattle.ipfix_wire.proofs.Octets.{IsOctets-drop, octets_2, short_spec_spelled, IsOctets-rest}
+use Rattle.ipfix_wire.proofs.Parts.{Shrinks, Reads, Spelled, cases_read, parts_of-only}
 use Rattle.ipfix_wire.proofs.Longest.{longest_from, longest_only}
 use Rattle.ipfix_message.specs.declared.fault.MessageFault.{MessageFault}
 use Rattle.ipfix_message.specs.declared.fault.MessageFault.TheVariants.{TemplateId, TemplateCut, Scope, ZeroLength}

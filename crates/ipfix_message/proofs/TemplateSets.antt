@@ -1,6 +1,7 @@
 -- Template sets, record by record.
 use Rattle.std.proofs.Common.{◌≡◌, ℕ, ◌+◌, Bool, true, false, cond, eqb, List, ◌∷◌, Option, Some, None, Result, Ok, Err, refl, sym, ap, ◌∙◌, arith}
 use Rattle.ipfix_message.specs.declared.fault.MessageFault.{MessageFault}
+use Rattle.ipfix_message.specs.declared.fault.MessageFault.TheVariants.{TemplateChanged}
 use Rattle.ipfix_message.specs.declared.template_record.Kind.{Kind}
 use Rattle.ipfix_message.specs.declared.template_record.Event.{Event}
 use Rattle.ipfix_message.specs.declared.template_record.Event.TheVariants.{Define, Withdraw, WithdrawAll}
@@ -8,9 +9,10 @@ use Rattle.ipfix_message.specs.declared.record.Template.{Template}
 use Rattle.ipfix_message.specs.Outcome.{◌>>=◌, map_read, unless, Fails}
 use Rattle.ipfix_wire.specs.InTurn.{Parts, parts_of}
 use Rattle.ipfix_message.specs.TemplateRecords.{event_at, is_padding, fault_after_events}
-use Rattle.ipfix_message.specs.TemplatesInForce.{unless_of, in_force, event_gives, events_give, template_set_gives}
-use Rattle.ipfix_message.specs.Held.{template_in, Agrees, Updates}
+use Rattle.ipfix_message.specs.TemplatesInForce.{unless_of, is_other, in_force, event_gives, events_give, template_set_gives}
+use Rattle.ipfix_message.specs.Held.{template_in, Agrees, Updates, defining}
 use Rattle.ipfix_message.proofs.FieldReading.{Fails-of}
+use Rattle.ipfix_message.proofs.Bodies.{not_both, fault_is}
 use Rattle.ipfix_wire.proofs.Parts.{parts_of-next, parts_of-none}
 use Rattle.ipfix_message.proofs.TemplateRecords.{events_shrink, padding_is_none}
 
@@ -68,6 +70,27 @@ template_set_gives-done kind es w h =
     template_set_gives-is kind es w
     ∙ ap (λ (p : Parts Event). events_give p.items es >>= λ x. unless (fault_after_events kind p.rest) x) (parts_of-none (event_at kind) w none.0 none.1)
     ∙ rw h refl
+
+-- ---- what a definition gives
+
+abbrev changed_or : {A : Type 0} → Bool → A → Result A MessageFault
+changed_or b x = cond b (Err TemplateChanged) (Ok x)
+
+pub defined : (es : List Event) (t : Template) → defining t (in_force es t.id) ≡ Ok tt → event_gives es (Define t) ≡ Ok false
+unfolding event_gives
+defined es t h = by_test (is_other t (in_force es t.id)) h
+  where
+    by_test : (b : Bool) → changed_or {A = Unit {0}} b tt ≡ Ok tt → changed_or b false ≡ Ok false
+    by_test true e = absurd (not_both tt TemplateChanged (sym e))
+    by_test false e = refl
+
+pub not_defined : (x : MessageFault) (es : List Event) (t : Template) → Fails x (defining t (in_force es t.id)) → Fails x (event_gives es (Define t))
+unfolding event_gives
+not_defined x es t fails = Fails-of x (defining t (in_force es t.id)) (changed_or (is_other t (in_force es t.id)) false) (λ f h. by_test (is_other t (in_force es t.id)) f h) fails
+  where
+    by_test : (b : Bool) (f : MessageFault) → changed_or {A = Unit {0}} b tt ≡ Err f → changed_or b false ≡ Err f
+    by_test true f e = ap (λ (x : MessageFault). Err x) (fault_is TemplateChanged f e)
+    by_test false f e = absurd (not_both tt f e)
 
 -- ---- entries that stand for events still do after one more
 

@@ -1,15 +1,17 @@
 -- The domains of a session with their events, and what a message gives after them (RFC 7011, sections 3.1 and 8).
-use Rattle.std.specs.Prelude.{◌≡◌, ℕ, Bool, nat_lt, ◌==◌, nat_eq, is_some, if◌then◌else◌, List, [], ◌∷◌, ◌++◌, length, drop, Option, Result, Ok, Err}
+use Rattle.std.specs.Prelude.{◌≡◌, ℕ, Bool, nat_lt, ◌==◌, nat_eq, is_some, if◌then◌else◌, List, [], ◌∷◌, ◌++◌, length, drop, Option, Result, Ok, Err, IsOk}
 use Rattle.std.specs.Map.{lookup, keys_of, set_value}
 use Rattle.std.specs.Option.{unwrap_or, option_and_then}
 use Rattle.std.specs.Ordering.{nat_cmp, eq_by_cmp}
 use Rattle.ipfix_wire.specs.MessageHeader.{header_at}
+use Rattle.ipfix_wire.specs.declared.header.TheConstants.{HEADER_LENGTH}
 use Rattle.ipfix_wire.specs.declared.header.Header.{Header}
 use Rattle.ipfix_wire.specs.declared.fault.WireFault.{WireFault}
 use Rattle.ipfix_message.specs.declared.fault.MessageFault.{MessageFault}
 use Rattle.ipfix_message.specs.declared.fault.MessageFault.TheVariants.{MessageLength, TooManyDomains}
 use Rattle.ipfix_message.specs.declared.record.Template.{Template}
 use Rattle.ipfix_message.specs.declared.template_record.Event.{Event}
+use Rattle.ipfix_message.specs.declared.message.TheConstants.{MAX_DOMAINS}
 use Rattle.ipfix_message.specs.declared.message.Decoded.{Decoded}
 use Rattle.ipfix_message.specs.Faults.{fault_of}
 use Rattle.ipfix_message.specs.Outcome.{Read, ◌>>=◌, Fails}
@@ -20,7 +22,7 @@ use Rattle.ipfix_message.specs.Messages.{Decoding, before, sets_from}
 abbrev pub History : Type 0
 History = List (ℕ × List Event)
 
--- the events of a domain, none where it has not appeared
+-- the events of a domain, none if it has not appeared
 abbrev pub events_in : History → ℕ → List Event
 events_in ds domain = unwrap_or (lookup (nat_eq domain) ds) []
 
@@ -37,15 +39,21 @@ of_wire (Err e) = Err (fault_of e)
 -- a message's header, whose length is that of the message
 unfoldable pub message_header : List ℕ → Read Header
 message_header m =
-    if nat_lt (length m) 16 then Err MessageLength
+    if nat_lt (length m) HEADER_LENGTH then Err MessageLength
     else (of_wire (header_at m) >>= λ h. if h.length == length m then Ok h else Err MessageLength)
 
--- with a domain among them; a session has at most 1,024
+-- with a domain among them, unless there are as many as a session may have
 unfoldable pub admit : History → ℕ → Read History
 admit ds domain =
     if is_some (lookup (nat_eq domain) ds) then Ok ds
-    else if nat_lt (length ds) 1024 then Ok (ds ++ (domain, []) ∷ [])
+    else if nat_lt (length ds) MAX_DOMAINS then Ok (ds ++ (domain, []) ∷ [])
     else Err TooManyDomains
+
+-- the header of a message is good, and its domain is one of those before it or finds room among them
+pub record IsAdmitted (ds : History) (m : List ℕ) : Type 0 where
+  pub header : Header
+  pub good : message_header m ≡ Ok header
+  pub domain : IsOk (admit ds header.domain)
 
 -- with other events at a domain
 abbrev pub with_events : History → ℕ → List Event → History
@@ -62,7 +70,7 @@ unfoldable pub message_gives : History → List ℕ → Read Message
 message_gives ds m = do
   h ← message_header m
   known ← admit ds h.domain
-  d ← sets_from h (before (events_in known h.domain)) (drop 16 m)
+  d ← sets_from h (before (events_in known h.domain)) (drop HEADER_LENGTH m)
   Ok (record { header = h; decoding = d; domains = with_events known h.domain d.events })
 
 -- ---- what is kept of the domains

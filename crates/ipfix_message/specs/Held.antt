@@ -1,5 +1,5 @@
 -- What the maps and counters of the code stand for while a message is read.
-use Rattle.std.specs.Prelude.{◌≡◌, ℕ, ◌+◌, Bool, false, if◌then◌else◌, List, Option, Result, Ok, Err}
+use Rattle.std.specs.Prelude.{◌≡◌, ℕ, ◌+◌, if◌then◌else◌, List, Option, Result, Ok, Err}
 use Rattle.std.specs.Map.{lookup}
 use Rattle.std.specs.Ordering.{nat_cmp, eq_by_cmp}
 use Rattle.ipfix_message.specs.declared.fault.MessageFault.{MessageFault}
@@ -21,8 +21,8 @@ pub record Agrees (entries : List (ℕ × Template)) (es : List Event) : Type 0 
   pub at : (id : ℕ) → template_in entries id ≡ in_force es id
 
 -- defining t where a template is in force, or none
-abbrev pub defining : Template → Option Template → Read Bool
-defining t o = if is_other t o then Err TemplateChanged else Ok false
+abbrev pub defining : Template → Option Template → Read (Unit {0})
+defining t o = if is_other t o then Err TemplateChanged else Ok tt
 
 -- a template set that was taken: the count of ignored withdrawals, and entries that stand for the events after it
 abbrev pub Updates : Result ℕ MessageFault → List (ℕ × Template) → Read (List Event × ℕ) → Type 0

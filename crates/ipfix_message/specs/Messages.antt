@@ -1,6 +1,7 @@
 -- What the sets of a message give (RFC 7011, sections 3.1 to 3.4 and 8).
 use Rattle.std.specs.Prelude.{ℕ, ◌+◌, nat_lt, ◌==◌, if◌then◌else◌, List, [], ◌∷◌, ◌++◌, map, Option, Some, None, Ok}
 use Rattle.ipfix_wire.specs.declared.header.Header.{Header}
+use Rattle.ipfix_wire.specs.declared.set.TheConstants.{TEMPLATE_SET_ID, OPTIONS_TEMPLATE_SET_ID, FIRST_TEMPLATE_ID}
 use Rattle.ipfix_message.specs.declared.record.Template.{Template}
 use Rattle.ipfix_message.specs.declared.record.DataRecord.{DataRecord}
 use Rattle.ipfix_message.specs.declared.template_record.Kind.{Kind}
@@ -28,18 +29,18 @@ before es = record { events = es; records = []; skipped = 0; unknown = 0; ignore
 unfoldable pub templates_in : Kind → Decoding → List ℕ → Read Decoding
 templates_in kind d body = template_set_gives kind d.events body >>= λ r. Ok (record d { events = r.0; ignored = d.ignored + r.1 })
 
--- a data set gives the records of its body, where its template is in force, and is unknown otherwise
+-- a data set gives the records of its body, if its template is in force, and is unknown otherwise
 unfoldable pub data_in : Header → Decoding → List ℕ → Option Template → Read Decoding
 data_in h d body None = Ok (record d { unknown = d.unknown + 1 })
 data_in h d body (Some t) = records_of_body t.specs body >>= λ rs. Ok (record d { records = d.records ++ map (record_of h t) rs })
 
--- one set, after the events before it: 2 is a template set, 3 an options template set, 256 and above a data set, and
--- any other is skipped (section 3.3.2)
+-- one set, after the events before it: by its id a template set, an options template set, from the first template id
+-- on a data set, and any other is skipped (section 3.3.2)
 unfoldable pub set_gives : Header → Decoding → Set → Read Decoding
 set_gives h d s =
-    if s.id == 2 then templates_in Plain d s.body
-    else if s.id == 3 then templates_in Options d s.body
-    else if nat_lt s.id 256 then Ok (record d { skipped = d.skipped + 1 })
+    if s.id == TEMPLATE_SET_ID then templates_in Plain d s.body
+    else if s.id == OPTIONS_TEMPLATE_SET_ID then templates_in Options d s.body
+    else if nat_lt s.id FIRST_TEMPLATE_ID then Ok (record d { skipped = d.skipped + 1 })
     else data_in h d s.body (in_force d.events s.id)
 
 -- sets in turn, up to the first fault
@@ -47,6 +48,6 @@ unfoldable pub sets_give : Header → Decoding → List Set → Read Decoding
 sets_give h d [] = Ok d
 sets_give h d (s ∷ ss) = set_gives h d s >>= λ e. sets_give h e ss
 
--- the octets behind a message's header: what its sets give, and then the fault of what is left of them
+-- the octets after a message's header: what its sets give, and then the fault of what is left of them
 unfoldable pub sets_from : Header → Decoding → List ℕ → Read Decoding
 sets_from h d w = sets_give h d (sets_of w).items >>= λ e. unless (fault_after_sets (sets_of w).rest) e

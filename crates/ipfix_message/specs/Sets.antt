@@ -2,6 +2,7 @@
 use Rattle.std.specs.Prelude.{◌≡◌, ℕ, ◌+◌, ◌^◌, ◌<◌, nat_lt, ◌==◌, if◌then◌else◌, List, ◌++◌, length, take, drop, Option, Some, None, Result, Ok, Err}
 use Rattle.ipfix_wire.specs.InTurn.{Parts, parts_of}
 use Rattle.ipfix_wire.specs.SetHeader.{set_octets, set_at}
+use Rattle.ipfix_wire.specs.declared.set.TheConstants.{SET_HEADER_LENGTH}
 use Rattle.ipfix_wire.specs.declared.set.SetSpan.{SetSpan}
 use Rattle.ipfix_wire.specs.declared.fault.WireFault.{WireFault}
 use Rattle.ipfix_message.specs.declared.fault.MessageFault.{MessageFault}
@@ -17,26 +18,26 @@ pub record Set : Type 0 where
 -- w spells a set: a header, whose length counts the header too, and the body (section 3.3.2)
 pub record SpellsSet (s : Set) (w : List ℕ) : Type 0 where
   pub id : s.id < 2 ^ 16
-  pub size : 4 + length s.body < 2 ^ 16
+  pub size : SET_HEADER_LENGTH + length s.body < 2 ^ 16
   pub octets : w ≡ set_octets s.id (length s.body) ++ s.body
 
 -- ---- reading them
 
 abbrev pub cut_set : List ℕ → Result SetSpan WireFault → Read (Set × List ℕ)
 cut_set w (Err e) = Err (fault_of e)
-cut_set w (Ok s) = Ok (record { id = s.id; body = take s.body (drop 4 w) }, drop s.body (drop 4 w))
+cut_set w (Ok s) = Ok (record { id = s.id; body = take s.body (drop SET_HEADER_LENGTH w) }, drop s.body (drop SET_HEADER_LENGTH w))
 
 -- the set that a text begins with, and what follows it
 unfoldable pub next_set : List ℕ → Read (Set × List ℕ)
 next_set w = cut_set w (set_at w)
 
--- the sets in what follows a message's header, and what is left behind the last one
+-- the sets in what follows a message's header, and what follows the last one
 abbrev pub sets_of : List ℕ → Parts Set
 sets_of w = parts_of next_set w
 
--- the fault of what is left: none where nothing is, a set header that is cut where it has one to three octets, else a wrong set length
+-- the fault of what is left: none if nothing is, a cut set header if it is shorter than that, else a wrong set length
 abbrev pub fault_after_sets : List ℕ → Option MessageFault
 fault_after_sets rest =
     if length rest == 0 then None
-    else if nat_lt (length rest) 4 then Some SetHeader
+    else if nat_lt (length rest) SET_HEADER_LENGTH then Some SetHeader
     else Some SetLength

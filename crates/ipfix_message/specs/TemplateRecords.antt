@@ -6,10 +6,12 @@ use Rattle.byteorder.specs.Endian.{big_bytes, big_number}
 use Rattle.ipfix_wire.specs.Numbers.{number_at}
 use Rattle.ipfix_wire.specs.FieldSpecifier.{SpellsSpec, spec_at}
 use Rattle.ipfix_wire.specs.InTurn.{InTurn, Parts, parts_of}
+use Rattle.ipfix_wire.specs.declared.set.TheConstants.{TEMPLATE_SET_ID, OPTIONS_TEMPLATE_SET_ID, FIRST_TEMPLATE_ID}
 use Rattle.ipfix_wire.specs.declared.specifier.Spec.{Spec}
 use Rattle.ipfix_message.specs.declared.fault.MessageFault.{MessageFault}
 use Rattle.ipfix_message.specs.declared.fault.MessageFault.TheVariants.{TemplateId, TemplateCut, Scope, ZeroLength}
 use Rattle.ipfix_message.specs.declared.record.Template.{Template}
+use Rattle.ipfix_message.specs.declared.template_record.TheConstants.{TEMPLATE_HEADER_LENGTH}
 use Rattle.ipfix_message.specs.declared.template_record.Kind.{Kind}
 use Rattle.ipfix_message.specs.declared.template_record.Kind.TheVariants.{Plain, Options}
 use Rattle.ipfix_message.specs.declared.template_record.Event.{Event}
@@ -19,8 +21,8 @@ use Rattle.ipfix_message.specs.DataRecords.{least}
 
 -- the id of the sets that bring templates of a kind
 abbrev pub set_id_of : Kind → ℕ
-set_id_of Plain = 2
-set_id_of Options = 3
+set_id_of Plain = TEMPLATE_SET_ID
+set_id_of Options = OPTIONS_TEMPLATE_SET_ID
 
 -- ---- what spells a template record
 
@@ -40,7 +42,7 @@ pub record SpellsTemplate (kind : Kind) (t : Template) (w : List ℕ) : Type 0 w
   pub fields : List ℕ
   pub octets : w ≡ big_bytes 2 t.id ++ (big_bytes 2 (length t.specs) ++ (scope_octets kind t.scope ++ fields))
   pub in_turn : InTurn SpellsSpec t.specs fields
-  pub lowest : 256 ≤ t.id
+  pub lowest : FIRST_TEMPLATE_ID ≤ t.id
   pub highest : t.id < 2 ^ 16
   pub some : 1 ≤ length t.specs
   pub many : length t.specs < 2 ^ 16
@@ -51,12 +53,12 @@ pub record SpellsTemplate (kind : Kind) (t : Template) (w : List ℕ) : Type 0 w
 -- with the set's own id, of all templates of the kind
 abbrev pub SpellsEvent : Kind → Event → List ℕ → Type 0
 SpellsEvent kind (Define t) w = SpellsTemplate kind t w
-SpellsEvent kind (Withdraw k id) w = (k ≡ kind) × (256 ≤ id) × (id < 2 ^ 16) × (w ≡ big_bytes 2 id ++ big_bytes 2 0)
+SpellsEvent kind (Withdraw k id) w = (k ≡ kind) × (FIRST_TEMPLATE_ID ≤ id) × (id < 2 ^ 16) × (w ≡ big_bytes 2 id ++ big_bytes 2 0)
 SpellsEvent kind (WithdrawAll k) w = (k ≡ kind) × (w ≡ big_bytes 2 (set_id_of kind) ++ big_bytes 2 0)
 
--- padding: fewer octets than a template record has, or zeros
+-- padding: fewer octets than the header of a template record has, or zeros
 abbrev pub IsPadding : List ℕ → Type 0
-IsPadding w = (length w < 4) ⊎ All (λ b. b ≡ 0) w
+IsPadding w = (length w < TEMPLATE_HEADER_LENGTH) ⊎ All (λ b. b ≡ 0) w
 
 -- the body of a template set: template records in turn, and padding
 pub record IsTemplateSet (kind : Kind) (events : List Event) (w : List ℕ) : Type 0 where
@@ -74,7 +76,7 @@ FirstOf P e More f = (P × (f ≡ e)) ⊎ ((¬ P) × More)
 
 -- an id that is no template's, but the one of all templates in a withdrawal
 abbrev pub HasWrongId : Kind → ℕ → ℕ → Type 0
-HasWrongId kind id count = (id < 256) × ((0 < count) ⊎ ¬ (id ≡ set_id_of kind))
+HasWrongId kind id count = (id < FIRST_TEMPLATE_ID) × ((0 < count) ⊎ ¬ (id ≡ set_id_of kind))
 
 -- in a record with fields, no scope field count
 abbrev pub MissesScope : Kind → ℕ → List ℕ → Type 0
@@ -86,7 +88,7 @@ abbrev pub HasWrongScope : Kind → ℕ → List ℕ → Type 0
 HasWrongScope Plain count w = ⊥
 HasWrongScope Options count w = (0 < count) × ((big_number 2 w ≡ 0) ⊎ (count < big_number 2 w))
 
--- what stands behind the counts
+-- what follows the counts
 abbrev pub behind_counts : Kind → List ℕ → List ℕ
 behind_counts Plain w = w
 behind_counts Options w = drop 2 w
@@ -115,9 +117,9 @@ FaultOf kind id count w f =
     (FirstOf (MissesSpec count (behind_counts kind w)) TemplateCut
     (FirstOf (HasNoOctets count (behind_counts kind w)) ZeroLength ⊥ f) f) f) f) f
 
--- why a text of at least 4 octets begins with no template record
+-- why a text that has the header of a template record begins with no template record
 abbrev pub FaultAt : Kind → List ℕ → MessageFault → Type 0
-FaultAt kind w f = FaultOf kind (big_number 2 w) (number_at 2 2 w) (drop 4 w) f
+FaultAt kind w f = FaultOf kind (big_number 2 w) (number_at 2 2 w) (drop TEMPLATE_HEADER_LENGTH w) f
 
 -- ---- reading them
 
@@ -146,7 +148,7 @@ specs_at (suc n) w = do
 abbrev pub withdrawal : Kind → ℕ → List ℕ → Read (Event × List ℕ)
 withdrawal kind id w =
     if id == set_id_of kind then Ok (WithdrawAll kind, w)
-    else if nat_lt id 256 then Err TemplateId
+    else if nat_lt id FIRST_TEMPLATE_ID then Err TemplateId
     else Ok (Withdraw kind id, w)
 
 abbrev pub definition : ℕ → ℕ → List Spec × List ℕ → Read (Event × List ℕ)
@@ -156,22 +158,22 @@ definition id scope specs = if least specs.0 == 0 then Err ZeroLength else Ok (D
 abbrev pub record_at : Kind → ℕ → ℕ → List ℕ → Read (Event × List ℕ)
 record_at kind id count w =
     if count == 0 then withdrawal kind id w
-    else if nat_lt id 256 then Err TemplateId
+    else if nat_lt id FIRST_TEMPLATE_ID then Err TemplateId
     else (scope_at kind count w >>= λ scope. specs_at count scope.1 >>= λ specs. definition id scope.0 specs)
 
 -- the template record that a text begins with, or its first fault
 unfoldable pub event_at : Kind → List ℕ → Read (Event × List ℕ)
 event_at kind w =
-    if nat_lt (length w) 4 then Err TemplateCut
-    else record_at kind (big_number 2 w) (number_at 2 2 w) (drop 4 w)
+    if nat_lt (length w) TEMPLATE_HEADER_LENGTH then Err TemplateCut
+    else record_at kind (big_number 2 w) (number_at 2 2 w) (drop TEMPLATE_HEADER_LENGTH w)
 
--- the template records in the body of a template set, and what is left behind the last one
+-- the template records in the body of a template set, and what follows the last one
 abbrev pub events_of : Kind → List ℕ → Parts Event
 events_of kind w = parts_of (event_at kind) w
 
 abbrev pub is_padding : List ℕ → Bool
-is_padding w = nat_lt (length w) 4 || list_all (λ b. b == 0) w
+is_padding w = nat_lt (length w) TEMPLATE_HEADER_LENGTH || list_all (λ b. b == 0) w
 
--- the fault of what is left: none where it is padding, else why no template record stands there
+-- the fault of what is left: none if it is padding, else why no template record stands there
 abbrev pub fault_after_events : Kind → List ℕ → Option MessageFault
 fault_after_events kind rest = if is_padding rest then None else result_err (event_at kind rest)

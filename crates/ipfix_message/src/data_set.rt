@@ -8,16 +8,16 @@ ghost use Rattle.ipfix_message.specs.DataRecords.{value_at, fields_at, records_o
 use crate::fault::MessageFault;
 use crate::field_block::Fields;
 use crate::record::{DataRecord, Template};
-use ipfix_wire::{Header, Spec, read_length};
+use ipfix_wire::{Header, Spec, VARIABLE_WIDTH, read_length};
 use std::alloc::Global;
 
-/// The octets of a field of this width, and what follows them.
+// the octets of a field of this width, and what follows them
 #[tactic(auto, unfolding(crate::specs::DataRecords::value_at))]
 fn value_of(width: u16, rest: &[u8]) -> Result<(&[u8], &[u8]), MessageFault>
     ensures gives { Gives (λ x. (x.0.now, x.1.now)) result (value_at width rest.now) }
     ensures short { IfOk result (λ x. length x.0.now < 2 ^ 16) }
 {
-    let (len, rest) = if width == u16::MAX {
+    let (len, rest) = if width == VARIABLE_WIDTH {
         let Some((len, used)) = read_length(rest) else {
             return Err(MessageFault::RecordCut);
         };
@@ -31,7 +31,7 @@ fn value_of(width: u16, rest: &[u8]) -> Result<(&[u8], &[u8]), MessageFault>
     Ok(rest.split_at(len))
 }
 
-/// The fields of one record, and what follows it.
+// the fields of one record, and what follows it
 fn fields_of<'a>(
     alloc: Global,
     specs: &[Spec],

@@ -1,11 +1,12 @@
 //! The domains of a transport session, which decode its messages (RFC 7011, sections 3.1 and 8).
 
-ghost use Rattle.std.specs.Prelude.{[], ◌≡◌, false, true, IsTrue, OnOk, OnErr, Err, None, option_copied};
-ghost use Rattle.ipfix_message.specs.Domains.{History, StandsFor, Decodes, message_gives, template_for};
-ghost use Rattle.ipfix_message.specs.declared.fault.MessageFault.TheVariants.{Spent};
+ghost use Rattle.std.specs.Prelude.{[], ◌≡◌, false, true, IsTrue, IsErrOf, OnOk, OnErr, Err, None, option_copied};
+ghost use Rattle.ipfix_message.specs.Domains.{History, StandsFor, Decodes, IsAdmitted, message_gives, template_for};
+ghost use Rattle.ipfix_message.specs.declared.fault.MessageFault.TheVariants.{OutOfMemory, Spent};
 
 use crate::fault::MessageFault;
-use crate::message::{Decoded, Templates, read_message};
+use crate::in_force::Templates;
+use crate::message::{Decoded, read_message};
 use crate::record::Template;
 use indexmap::IndexMap;
 use std::alloc::Global;
@@ -46,12 +47,15 @@ impl Domains {
     ///
     /// The fault is the first of these: `Spent`; `MessageLength` for fewer than 16 octets; `Version`;
     /// `MessageLength` for another length than that of the slice; `TooManyDomains`; then set by set
-    /// `SetHeader`, `SetLength` and the faults inside the set in the order of its octets. Want of
-    /// memory may come in place of any other. After a fault each further call answers `Spent`.
+    /// `SetHeader`, `SetLength` and the faults inside the set in the order of its octets. From the
+    /// first set on, `OutOfMemory` may come in place of any other answer, and before that only if
+    /// the new domain itself finds no memory. After a fault each further call answers `Spent`.
     pub fn decode(&mut self, alloc: Global, message: &[u8]) -> Result<Decoded, MessageFault>
         ensures spent { IsTrue self.old.spent → result ≡ Err Spent }
         ensures gives { self.old.spent ≡ false → (ds : History) → StandsFor self.old.domains ds
             → Decodes result self.new.domains (message_gives ds message.now) }
+        ensures memory { IsErrOf result OutOfMemory → (ds : History) → StandsFor self.old.domains ds
+            → IsAdmitted ds message.now }
         ensures ok { OnOk result (self.new.spent ≡ false) }
         ensures err { OnErr result (self.new.spent ≡ true) }
     {

@@ -9,30 +9,32 @@ ghost use Rattle.ipfix_message.specs.Held.{Agrees, defining, Updates};
 ghost use Rattle.ipfix_message.specs.declared.template_record.Event.{Event};
 
 use crate::fault::MessageFault;
-use crate::known::Known;
+use crate::template_in_force::TemplateInForce;
 use crate::template_record::{Event, Kind, event_of, is_padding};
 use std::alloc::Global;
 use std::collections::BTreeMap;
 
-fn define(templates: &mut BTreeMap<u16, Known>, new: Known) -> Result<bool, MessageFault>
-    ensures gives { Gives (λ b. b) result (defining new (get nat_cmp templates.old new.id)) }
+/// The templates of a domain that are in force, by id.
+pub type Templates = BTreeMap<u16, TemplateInForce>;
+
+// defines a template
+fn define(templates: &mut Templates, new: TemplateInForce) -> Result<(), MessageFault>
+    ensures gives { Gives (λ x. x) result (defining new (get nat_cmp templates.old new.id)) }
     ensures ok { OnOk result ((id : ℕ) → get nat_cmp templates.new id ≡ (if id == new.id then Some new else get nat_cmp templates.old id)) }
 {
     let id = new.id();
-    match templates.get(&id) {
-        Some(known) => {
-            if new.is_same(known) {
-                return Ok(false);
-            }
-            return Err(MessageFault::TemplateChanged);
+    if let Some(known) = templates.get(&id) {
+        if new.is_same(known) {
+            return Ok(());
         }
-        None => {}
+        return Err(MessageFault::TemplateChanged);
     }
     templates.insert(id, new)?;
-    Ok(false)
+    Ok(())
 }
 
-fn withdraw(templates: &mut BTreeMap<u16, Known>, kind: Kind, id: u16) -> bool
+// withdraws a template of a kind, and answers whether there was none
+fn withdraw(templates: &mut Templates, kind: Kind, id: u16) -> bool
     ensures ignored { result ≡ is_none_of kind (get nat_cmp templates.old id) }
     ensures left { (q : ℕ) → get nat_cmp templates.new q ≡ (if q == id then unless_of kind (get nat_cmp templates.old q) else get nat_cmp templates.old q) }
 {
@@ -46,19 +48,23 @@ fn withdraw(templates: &mut BTreeMap<u16, Known>, kind: Kind, id: u16) -> bool
     !is_known
 }
 
-fn withdraw_all(templates: &mut BTreeMap<u16, Known>, kind: Kind)
+// withdraws all templates of a kind
+fn withdraw_all(templates: &mut Templates, kind: Kind)
     ensures { (q : ℕ) → get nat_cmp templates.new q ≡ unless_of kind (get nat_cmp templates.old q) }
 {
     templates.retain(|_, known| !known.is_of(kind));
 }
 
-/// Takes an event, and answers whether it is a withdrawal that was ignored.
-fn take_event(templates: &mut BTreeMap<u16, Known>, event: Event) -> Result<bool, MessageFault>
+// takes an event, and answers whether it is a withdrawal that was ignored
+fn take_event(templates: &mut Templates, event: Event) -> Result<bool, MessageFault>
     ensures gives { (es : List Event) → Agrees templates.old.entries es → Gives (λ b. b) result (event_gives es event) }
     ensures ok { (es : List Event) → Agrees templates.old.entries es → OnOk result (Agrees templates.new.entries (event ∷ es)) }
 {
     match event {
-        Event::Define(known) => define(templates, known),
+        Event::Define(new) => {
+            define(templates, new)?;
+            Ok(false)
+        }
         Event::Withdraw(kind, id) => Ok(withdraw(templates, kind, id)),
         Event::WithdrawAll(kind) => {
             withdraw_all(templates, kind);
@@ -72,7 +78,7 @@ pub fn take_templates(
     alloc: Global,
     kind: Kind,
     body: &[u8],
-    templates: &mut BTreeMap<u16, Known>,
+    templates: &mut Templates,
 ) -> Result<u64, MessageFault>
     ensures few { IfOk result (λ n. n ≤ length body.now) }
     ensures gives { (es : List Event) → Agrees templates.old.entries es → Updates result templates.new.entries (template_set_gives kind es body.now) }

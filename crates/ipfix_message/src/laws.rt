@@ -1,11 +1,12 @@
 //! Laws of the definitions.
 
-ghost use Rattle.std.specs.Prelude.{◌≡◌, ◌<◌, ◌↔◌, ℕ, List, Some, None, Ok, Err, length};
+ghost use Rattle.std.specs.Prelude.{◌≡◌, ◌<◌, ◌↔◌, ℕ, List, Some, None, Ok, Err, All, length};
 ghost use Rattle.ipfix_wire.specs.Numbers.{IsOctets};
 ghost use Rattle.ipfix_wire.specs.declared.specifier.Spec.{Spec};
 ghost use Rattle.ipfix_message.specs.Fields.{Field};
-ghost use Rattle.ipfix_message.specs.DataRecords.{IsBody, records_of_body};
 ghost use Rattle.ipfix_message.specs.DataRecords;
+ghost use Rattle.ipfix_message.specs.DataRecords.{IsBody, HasOctets, records_of_body};
+ghost use Rattle.ipfix_message.specs.Domains.{History, Message, message_gives};
 ghost use Rattle.ipfix_wire.specs.InTurn.{IsLongest};
 ghost use Rattle.ipfix_message.specs.TemplateRecords.{SpellsEvent, IsTemplateSet, IsPadding, FaultAt, events_of, fault_after_events};
 ghost use Rattle.ipfix_message.specs.declared.template_record.Kind.{Kind};
@@ -45,4 +46,10 @@ pub fn longest_events()
 /// withdrawal of that id or of all templates ended it (RFC 7011, section 8.1).
 pub fn last_definition()
     ensures { (es : List Event) (id : ℕ) (t : Template) → (in_force es id ≡ Some t) ↔ ((t.id ≡ id) × IsInForce t es) }
+{}
+
+/// The fields of a message's records have octets, if the message has: each number of theirs is below
+/// 256 if each of the message's is.
+pub fn records_of_octets()
+    ensures { (ds : History) (m : List ℕ) (x : Message) → IsOctets m → message_gives ds m ≡ Ok x → All HasOctets x.decoding.records }
 {}

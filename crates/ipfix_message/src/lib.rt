@@ -7,16 +7,16 @@ mod domains;
 mod fault;
 mod field_block;
 mod in_force;
-mod known;
 mod laws;
 mod message;
 mod record;
 mod sets;
+mod template_in_force;
 mod template_record;
 
 pub use domains::Domains;
 pub use fault::MessageFault;
 pub use field_block::{FieldIter, FieldRef, Fields};
-pub use laws::{last_definition, longest_events, longest_sets, one_body};
+pub use laws::{last_definition, longest_events, longest_sets, one_body, records_of_octets};
 pub use message::Decoded;
 pub use record::{DataRecord, Specs, Template};

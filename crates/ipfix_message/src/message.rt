@@ -1,32 +1,34 @@
 //! A message: its header, its domain and its sets (RFC 7011, section 3.1).
 
-ghost use Rattle.std.specs.Prelude.{◌≡◌, ◌≤◌, length};
-ghost use Rattle.ipfix_message.specs.Outcome.{Gives};
-ghost use Rattle.std.specs.Prelude.{nat_eq, List, OnOk, IsSome};
+ghost use Rattle.std.specs.Prelude.{◌≡◌, ◌≤◌, nat_eq, List, length, IsOk, IsErrOf, OnOk, IsSome};
 ghost use Rattle.indexmap.specs.IndexMap.{get};
 ghost use Rattle.ipfix_message.specs.Domains;
-ghost use Rattle.ipfix_message.specs.Domains.{History, StandsFor, Decodes, message_gives};
+ghost use Rattle.ipfix_message.specs.Domains.{History, StandsFor, Decodes, IsAdmitted, message_gives};
 ghost use Rattle.ipfix_message.specs.Held.{Admits};
+ghost use Rattle.ipfix_message.specs.Outcome.{Gives};
+ghost use Rattle.ipfix_message.specs.declared.fault.MessageFault.TheVariants.{OutOfMemory};
 ghost use Rattle.ipfix_message.specs.Kept.{kept};
 
 use crate::fault::MessageFault;
-use crate::known::Known;
+use crate::in_force::Templates;
 use crate::record::DataRecord;
 use crate::sets::{Progress, take_sets};
 use indexmap::IndexMap;
-use ipfix_wire::{Header, read_header};
+use ipfix_wire::{HEADER_LENGTH, Header, read_header};
 use std::alloc::Global;
 use std::collections::BTreeMap;
 
-/// How many domains a session may have.
-pub const DOMAINS: usize = 1024;
+// how many domains a session may have
+const MAX_DOMAINS: usize = 1024;
 
+// the header, whose length is that of the message
 #[tactic(auto, unfolding(crate::specs::Domains::message_header))]
 fn header_of(message: &[u8]) -> Result<Header, MessageFault>
     ensures gives { Gives (λ h. h) result (Domains.message_header message.now) }
-    ensures long { OnOk result (16 ≤ length message.now) }
+    ensures memory { ¬ IsErrOf result OutOfMemory }
+    ensures long { OnOk result (HEADER_LENGTH ≤ length message.now) }
 {
-    if message.len() < 16 {
+    if message.len() < HEADER_LENGTH {
         return Err(MessageFault::MessageLength);
     }
     let header = read_header(message)?;
@@ -36,9 +38,6 @@ fn header_of(message: &[u8]) -> Result<Header, MessageFault>
     Ok(header)
 }
 
-/// The templates of a domain that are in force, by id.
-pub type Templates = BTreeMap<u16, Known>;
-
 // makes sure that a domain is known
 fn admit(
     alloc: Global,
@@ -46,12 +45,13 @@ fn admit(
     domain: u32,
 ) -> Result<(), MessageFault>
     ensures gives { (ds : History) → StandsFor (kept known.old.entries) ds → Admits result (kept known.new.entries) (Domains.admit ds domain) }
+    ensures memory { IsErrOf result OutOfMemory → (ds : History) → StandsFor (kept known.old.entries) ds → IsOk (Domains.admit ds domain) }
     ensures present { OnOk result (IsSome (get nat_eq known.new domain)) }
 {
     if known.contains_key(&domain) {
         return Ok(());
     }
-    if known.len() >= DOMAINS {
+    if known.len() >= MAX_DOMAINS {
         return Err(MessageFault::TooManyDomains);
     }
     let _ = known.insert(domain, BTreeMap::new(alloc))?;
@@ -79,7 +79,8 @@ pub fn read_message(
     known: &mut IndexMap<u32, Templates>,
     message: &[u8],
 ) -> Result<Decoded, MessageFault>
-    ensures { (ds : History) → StandsFor (kept known.old.entries) ds → Decodes result (kept known.new.entries) (message_gives ds message.now) }
+    ensures gives { (ds : History) → StandsFor (kept known.old.entries) ds → Decodes result (kept known.new.entries) (message_gives ds message.now) }
+    ensures memory { IsErrOf result OutOfMemory → (ds : History) → StandsFor (kept known.old.entries) ds → IsAdmitted ds message.now }
 {
     let header = header_of(message)?;
     admit(alloc, known, header.domain)?;
@@ -90,7 +91,13 @@ pub fn read_message(
         ignored: 0,
     };
     let templates = known.get_mut(&header.domain).unwrap();
-    take_sets(alloc, &header, &message[16..], templates, &mut progress)?;
+    take_sets(
+        alloc,
+        &header,
+        &message[HEADER_LENGTH..],
+        templates,
+        &mut progress,
+    )?;
     let Progress {
         records,
         skipped,

@@ -10,13 +10,14 @@ ghost use Rattle.ipfix_message.specs.TemplatesInForce.{in_force};
 
 use crate::data_set::take_records;
 use crate::fault::MessageFault;
-use crate::in_force::take_templates;
-use crate::known::Known;
+use crate::in_force::{Templates, take_templates};
 use crate::record::DataRecord;
 use crate::template_record::Kind;
-use ipfix_wire::{Header, read_set};
+use ipfix_wire::{
+    FIRST_TEMPLATE_ID, Header, OPTIONS_TEMPLATE_SET_ID, SET_HEADER_LENGTH, TEMPLATE_SET_ID,
+    read_set,
+};
 use std::alloc::Global;
-use std::collections::BTreeMap;
 
 /// What was read of a message so far.
 #[derive(Drop)]
@@ -34,7 +35,7 @@ fn next_set(rest: &[u8]) -> Result<((u16, &[u8]), &[u8]), MessageFault>
     ensures { Gives (λ x. (record { id = x.0.0; body = x.0.1.now }, x.1.now)) result (Sets.next_set rest.now) }
 {
     let span = read_set(rest)?;
-    let (_, rest) = rest.split_at(4);
+    let (_, rest) = rest.split_at(SET_HEADER_LENGTH);
     let (body, rest) = rest.split_at(span.body);
     Ok(((span.id, body), rest))
 }
@@ -44,7 +45,7 @@ fn take_template_set(
     alloc: Global,
     kind: Kind,
     body: &[u8],
-    templates: &mut BTreeMap<u16, Known>,
+    templates: &mut Templates,
     progress: &mut Progress,
 ) -> Result<(), MessageFault>
     requires { counted progress.old + length body.now < 2 ^ 64 }
@@ -62,7 +63,7 @@ fn take_data_set(
     header: &Header,
     id: u16,
     body: &[u8],
-    templates: &BTreeMap<u16, Known>,
+    templates: &Templates,
     progress: &mut Progress,
 ) -> Result<(), MessageFault>
     requires { counted progress.old + 1 < 2 ^ 64 }
@@ -92,18 +93,18 @@ fn take_set(
     header: &Header,
     id: u16,
     body: &[u8],
-    templates: &mut BTreeMap<u16, Known>,
+    templates: &mut Templates,
     progress: &mut Progress,
 ) -> Result<(), MessageFault>
     requires { counted progress.old + length body.now + 1 < 2 ^ 64 }
     ensures few { OnOk result (counted progress.new ≤ counted progress.old + length body.now + 1) }
     ensures gives { (d : Decoding) → Holds templates.old.entries progress.old d → Reaches result templates.new.entries progress.new (set_gives header.now d (record { id = id; body = body.now })) }
 {
-    if id == 2 {
+    if id == TEMPLATE_SET_ID {
         take_template_set(alloc, Kind::Plain, body, templates, progress)
-    } else if id == 3 {
+    } else if id == OPTIONS_TEMPLATE_SET_ID {
         take_template_set(alloc, Kind::Options, body, templates, progress)
-    } else if id < 256 {
+    } else if id < FIRST_TEMPLATE_ID {
         progress.skipped += 1;
         Ok(())
     } else {
@@ -116,7 +117,7 @@ pub fn take_sets(
     alloc: Global,
     header: &Header,
     octets: &[u8],
-    templates: &mut BTreeMap<u16, Known>,
+    templates: &mut Templates,
     progress: &mut Progress,
 ) -> Result<(), MessageFault>
     requires { counted progress.old + length octets.now < 2 ^ 64 }

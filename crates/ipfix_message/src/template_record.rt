@@ -8,11 +8,17 @@ ghost use Rattle.ipfix_message.specs.TemplateRecords;
 ghost use Rattle.ipfix_message.specs.TemplateRecords.{set_id_of, scope_at, specs_at, event_at};
 
 use crate::fault::MessageFault;
-use crate::known::Known;
 use crate::record::{Specs, Template};
+use crate::template_in_force::TemplateInForce;
 use byteorder::{BigEndian, ByteOrder};
-use ipfix_wire::{Spec, read_spec};
+use ipfix_wire::{
+    FIRST_TEMPLATE_ID, OPTIONS_TEMPLATE_SET_ID, Spec, TEMPLATE_SET_ID, VARIABLE_WIDTH, read_spec,
+};
 use std::alloc::Global;
+
+// octets of the id and the field count, with which each template record begins (RFC 7011, section
+// 3.4.1)
+const TEMPLATE_HEADER_LENGTH: usize = 4;
 
 /// The two kinds of template.
 #[derive(Clone, Copy, Debug, PartialEq, Eq)]
@@ -24,7 +30,7 @@ pub enum Kind {
 /// What a template record does.
 #[derive(Drop)]
 pub enum Event {
-    Define(Known),
+    Define(TemplateInForce),
     Withdraw(Kind, u16),
     WithdrawAll(Kind),
 }
@@ -35,20 +41,21 @@ impl Kind {
         ensures { result ≡ set_id_of self }
     {
         match self {
-            Kind::Plain => 2,
-            Kind::Options => 3,
+            Kind::Plain => TEMPLATE_SET_ID,
+            Kind::Options => OPTIONS_TEMPLATE_SET_ID,
         }
     }
 }
 
-// the least length of a record
+/// The least length of a record: the sum of the widths of its fields, where a field of variable
+/// length counts 1.
 pub fn least_of(specs: &[Spec]) -> usize
     requires { length specs.now < 2 ^ 16 }
     ensures { result ≡ DataRecords.least specs.now }
 {
     let mut sum = 0;
     for spec in specs {
-        sum += if spec.width == u16::MAX {
+        sum += if spec.width == VARIABLE_WIDTH {
             1
         } else {
             usize::from(spec.width)
@@ -57,19 +64,22 @@ pub fn least_of(specs: &[Spec]) -> usize
     sum
 }
 
+// whether all octets are 0
 fn is_zero(octets: &[u8]) -> bool
     ensures { result ≡ list_all (λ b. b == 0) octets.now }
 {
     octets.iter().all(|octet| *octet == 0)
 }
 
-// what is left of a template set when it holds no more records
+/// Whether what is left of a template set is its padding: fewer octets than a template record has,
+/// or zeros.
 pub fn is_padding(rest: &[u8]) -> bool
     ensures { result ≡ TemplateRecords.is_padding rest.now }
 {
-    rest.len() < 4 || is_zero(rest)
+    rest.len() < TEMPLATE_HEADER_LENGTH || is_zero(rest)
 }
 
+// the scope field count, which only an options template record has, and what follows it
 fn scope_of(kind: Kind, count: u16, rest: &[u8]) -> Result<(u16, &[u8]), MessageFault>
     ensures { Gives (λ x. (x.0, x.1.now)) result (scope_at kind count rest.now) }
 {
@@ -89,6 +99,7 @@ fn scope_of(kind: Kind, count: u16, rest: &[u8]) -> Result<(u16, &[u8]), Message
     }
 }
 
+// that many field specifiers, and what follows them
 fn specs_of(alloc: Global, count: u16, octets: &[u8]) -> Result<(Vec<Spec>, &[u8]), MessageFault>
     ensures exact { Gives (λ x. (x.0.items, x.1.now)) result (specs_at count octets.now) }
     ensures count { IfOk result (λ x. vec_len x.0 ≡ count) }
@@ -109,22 +120,22 @@ fn specs_of(alloc: Global, count: u16, octets: &[u8]) -> Result<(Vec<Spec>, &[u8
 /// The template record that `octets` begins with, and what follows it.
 #[tactic(auto, unfolding(crate::specs::TemplateRecords::event_at), using(std::proofs::lemmas::List::take_rest))]
 pub fn event_of(alloc: Global, kind: Kind, octets: &[u8]) -> Result<(Event, &[u8]), MessageFault>
-    requires { 4 ≤ length octets.now }
+    requires { TEMPLATE_HEADER_LENGTH ≤ length octets.now }
     ensures { Gives (λ x. (x.0, x.1.now)) result (event_at kind octets.now) }
 {
     let id = BigEndian::read_u16(octets);
     let count = BigEndian::read_u16(&octets[2..]);
-    let (_, rest) = octets.split_at(4);
+    let (_, rest) = octets.split_at(TEMPLATE_HEADER_LENGTH);
     if count == 0 {
         if id == kind.set_id() {
             return Ok((Event::WithdrawAll(kind), rest));
         }
-        if id < 256 {
+        if id < FIRST_TEMPLATE_ID {
             return Err(MessageFault::TemplateId);
         }
         return Ok((Event::Withdraw(kind, id), rest));
     }
-    if id < 256 {
+    if id < FIRST_TEMPLATE_ID {
         return Err(MessageFault::TemplateId);
     }
     let (scope, rest) = scope_of(kind, count, rest)?;
@@ -138,5 +149,5 @@ pub fn event_of(alloc: Global, kind: Kind, octets: &[u8]) -> Result<(Event, &[u8
         scope,
         specs: Specs::from_vec(specs),
     };
-    Ok((Event::Define(Known::new(template, least)), rest))
+    Ok((Event::Define(TemplateInForce::new(template, least)), rest))
 }

@@ -30,7 +30,7 @@ use Rattle.ipfix_wire.specs.declared.fault.WireFault.{WireFault}
 use Rattle.ipfix_session.specs.Given.{Given, gives, gives_after, behind, known_after, records_in, records_of, stop_of, IsOpen, IsPrefix}
 use Rattle.ipfix_session.specs.Sinks.{SinkView, Takes}
 use Rattle.ipfix_session.specs.Feeding.{Counts, State, Tells, fault_at, StandsForText, PutsWhole, PutsAll, RunsOut, IsRefused, Feeds}
-use Rattle.ipfix_session.specs.Intake.{IsRest, Reaches, Ends}
+use Rattle.ipfix_session.specs.Intake.{IsRest, IsBetween, GoesNoFurther}
 use Rattle.ipfix_session.specs.Puts.{CountsOn, GivesBack, Puts}
 use Rattle.ipfix_session.proofs.Cut.{found, none_at, next_stop, messages_shrink, messages_stable}
 use Rattle.ipfix_session.proofs.Giving.{stops, gives_after-stop, gives_after-next, gives_after-fault, behind-behind, records_in-append, gives_after-open, gives_after-fault_stays, stop_is_rest}
@@ -78,9 +78,9 @@ pub put_more : (has old put more : List DataRecord) → has ≡ old ++ put → h
 put_more has old put more e = ap (λ (rs : List DataRecord). rs ++ more) e ∙ append_assoc old put more
 
 pub reaches_on : {K : Type 0} (view : SinkView K) (old : List Message) (text left m rest : List ℕ) (before now after : K) (c news : Counts) (domains later : Session)
-    (r : Reaches view old text before now c domains left) → next_message left ≡ found m rest → (x : Message) → message_gives (known_after [] r.whole) m ≡ Ok x
+    (r : IsBetween view old text before now c domains left) → next_message left ≡ found m rest → (x : Message) → message_gives (known_after [] r.whole) m ≡ Ok x
     → Takes view now x.decoding.records after → Tells news (r.whole ++ x ∷ []) (length (records_in r.whole) + length x.decoding.records) → later.spent ≡ false → StandsFor later.domains x.domains
-    → Reaches view old text before after news later rest
+    → IsBetween view old text before after news later rest
 reaches_on view old text left m rest before now after c news domains later r begins x reads takes tells fresh stands =
     let known = known_after [] r.whole in
     let now_known : known_after [] (r.whole ++ x ∷ []) ≡ x.domains = known_after-push [] r.whole x in
@@ -103,7 +103,7 @@ reaches_on view old text left m rest before now after c news domains later r beg
 -- ---- why it goes no further
 
 pub ends_out : {K : Type 0} (view : SinkView K) (old : List Message) (text left : List ℕ) (before now : K) (c news : Counts) (domains : Session)
-    (r : Reaches view old text before now c domains left) → Tells news r.whole (length (records_in r.whole)) → RunsOut view old (gives text).messages before now (Tells news)
+    (r : IsBetween view old text before now c domains left) → Tells news r.whole (length (records_in r.whole)) → RunsOut view old (gives text).messages before now (Tells news)
 ends_out view old text left before now c news domains r tells =
     record {
       whole = r.whole;
@@ -123,20 +123,20 @@ puts_all view old text before now c whole s all puts =
     subst (λ (ms : List Message). PutsWhole view old ms before now (Tells c)) (sym (ap (λ (g : Given). g.messages) all)) puts
 
 pub ends_at : {K : Type 0} (view : SinkView K) (old : List Message) (text left : List ℕ) (before now : K) (c : Counts) (domains : Session) (e : MessageFault)
-    (r : Reaches view old text before now c domains left) → gives_after (known_after [] r.whole) left ≡ stops (Fault e) → Ends view (faults.Message e) old text before now c
+    (r : IsBetween view old text before now c domains left) → gives_after (known_after [] r.whole) left ≡ stops (Fault e) → GoesNoFurther view (faults.Message e) old text before now c
 ends_at view old text left before now c domains OutOfMemory r stop = ends_out view old text left before now c c domains r r.puts.tells
 ends_at view old text left before now c domains e r stop =
     let all = stops_there text left r.whole (Fault e) r.is stop in
     (ap (λ (g : Given). g.stop) all, puts_all view old text before now c r.whole (Fault e) all r.puts)
 
 pub ends_decoding : {K : Type 0} (view : SinkView K) (old : List Message) (text left m rest : List ℕ) (before now : K) (c : Counts) (domains : Session) (e : MessageFault)
-    (r : Reaches view old text before now c domains left) → next_message left ≡ found m rest → Fails e (message_gives (known_after [] r.whole) m) → Ends view (faults.Message e) old text before now c
+    (r : IsBetween view old text before now c domains left) → next_message left ≡ found m rest → Fails e (message_gives (known_after [] r.whole) m) → GoesNoFurther view (faults.Message e) old text before now c
 ends_decoding view old text left m rest before now c domains OutOfMemory r begins fails = ends_out view old text left before now c c domains r r.puts.tells
 ends_decoding view old text left m rest before now c domains e r begins fails =
     ends_at view old text left before now c domains e r (gives_after-fault (known_after [] r.whole) left m rest e begins fails)
 
 pub ends_refused : {K : Type 0} (view : SinkView K) (old : List Message) (text left m rest : List ℕ) (before now after : K) (c news : Counts) (domains : Session) (was is : ℕ)
-    (r : Reaches view old text before now c domains left) → next_message left ≡ found m rest → (x : Message) → message_gives (known_after [] r.whole) m ≡ Ok x
+    (r : IsBetween view old text before now c domains left) → next_message left ≡ found m rest → (x : Message) → message_gives (known_after [] r.whole) m ≡ Ok x
     → (b : GivesBack view x.decoding.records was is now after) → Tells news r.whole (length (records_in r.whole) + length b.first)
     → IsRefused view old (gives text).messages before after (Tells news)
 ends_refused view old text left m rest before now after c news domains was is r begins x reads b tells =
@@ -162,7 +162,7 @@ ends_refused view old text left m rest before now after c news domains was is r 
 
 -- before the piece
 pub reaches_first : {K : Type 0} (view : SinkView K) (s : State) (text piece : List ℕ) (k : K) → StandsForText s text → IsOpen (stop_of text)
-    → Reaches view (gives text).messages (text ++ piece) k k s.counts s.domains (s.buffer ++ piece)
+    → IsBetween view (gives text).messages (text ++ piece) k k s.counts s.domains (s.buffer ++ piece)
 reaches_first view s text piece k stands is_open =
     let on = stands.goes_on is_open in
     let again = ap (λ (w : List ℕ). w ++ piece) (sym on.rest) in
@@ -183,7 +183,7 @@ no_fault (Fault e) o = absurd o
 
 -- behind the piece, where it may go on
 pub fed : {K : Type 0} (view : SinkView K) (s : State) (text piece : List ℕ) (before after : K)
-    → Reaches view (gives text).messages (text ++ piece) before after s.counts s.domains s.buffer → IsRest s.buffer → s.fault ≡ None
+    → IsBetween view (gives text).messages (text ++ piece) before after s.counts s.domains s.buffer → IsRest s.buffer → s.fault ≡ None
     → IsOpen (stop_of (text ++ piece)) × PutsAll view text piece before after s
 fed view s text piece before after r rest none =
     let all = stops_there (text ++ piece) s.buffer r.whole rest.stop r.is (gives_after-stop (known_after [] r.whole) s.buffer rest.stop rest.none) in
@@ -209,7 +209,7 @@ fed view s text piece before after r rest none =
 
 -- behind the piece, where it goes no further
 pub fed_fault : {K : Type 0} (view : SinkView K) (s : State) (text piece : List ℕ) (before after : K) (f : SessionFault)
-    → Ends view f (gives text).messages (text ++ piece) before after s.counts → s.fault ≡ Some f
+    → GoesNoFurther view f (gives text).messages (text ++ piece) before after s.counts → s.fault ≡ Some f
     → Feeds view (Err f) text piece before after s
 fed_fault view s text piece before after (faults.Message OutOfMemory) ends fault = ends
 fed_fault view s text piece before after (faults.Message e) ends fault = (
@@ -249,7 +249,7 @@ pub may_go_on : (s : State) (text : List ℕ) → StandsForText s text → s.fau
 may_go_on s text stands none = no_fault_is (stop_of text) (sym none ∙ stands.fault)
 
 stays : {K : Type 0} (view : SinkView K) (s : State) (text longer : List ℕ) (k : K) (e : MessageFault) → StandsForText s text → gives longer ≡ gives text → stop_of text ≡ Fault e
-    → Ends view (faults.Message e) (gives text).messages longer k k s.counts
+    → GoesNoFurther view (faults.Message e) (gives text).messages longer k k s.counts
 stays view s text longer k OutOfMemory stands same stop =
     record {
       whole = (gives text).messages;
@@ -268,7 +268,7 @@ pub fed_again : {K : Type 0} (view : SinkView K) (s : State) (text piece : List 
 fed_again view s text piece k f stands fault =
     let is = fault_is (stop_of text) f (sym fault ∙ stands.fault) in
     let ends = stays view s text (text ++ piece) k is.0 stands (gives_after-fault_stays [] text piece is.0 is.1) is.1 in
-    fed_fault view s text piece k k f (subst (λ (g : SessionFault). Ends view g (gives text).messages (text ++ piece) k k s.counts) (sym is.2) ends) fault
+    fed_fault view s text piece k k f (subst (λ (g : SessionFault). GoesNoFurther view g (gives text).messages (text ++ piece) k k s.counts) (sym is.2) ends) fault
 
 -- ---- the rest of a text
 
@@ -288,23 +288,23 @@ buffer_is_rest s text stands none =
 -- from one place in a text to a later one
 abbrev pub GoesOver : {K : Type 0} (view : SinkView K) (was now : K) (c news : Counts) (domains later : Session) (left rest : List ℕ) → Type 0
 GoesOver {K} view was now c news domains later left rest =
-    (old : List Message) (text : List ℕ) (before : K) → Reaches view old text before was c domains left → Reaches view old text before now news later rest
+    (old : List Message) (text : List ℕ) (before : K) → IsBetween view old text before was c domains left → IsBetween view old text before now news later rest
 
 pub reaches_from : {K : Type 0} (view : SinkView K) (old : List Message) (text : List ℕ) (before now : K) (c : Counts) (domains : Session) (left same : List ℕ) → left ≡ same
-    → Reaches view old text before now c domains left → Reaches view old text before now c domains same
-reaches_from view old text before now c domains left same e r = subst (λ (w : List ℕ). Reaches view old text before now c domains w) e r
+    → IsBetween view old text before now c domains left → IsBetween view old text before now c domains same
+reaches_from view old text before now c domains left same e r = subst (λ (w : List ℕ). IsBetween view old text before now c domains w) e r
 
 pub reaches_kept : {K : Type 0} (view : SinkView K) (old : List Message) (text : List ℕ) (before now : K) (c : Counts) (domains : Session) (left same : List ℕ) → left ≡ same
-    → Reaches view old text before now c domains left × IsRest left → Reaches view old text before now c domains same × IsRest same
+    → IsBetween view old text before now c domains left × IsRest left → IsBetween view old text before now c domains same × IsRest same
 reaches_kept view old text before now c domains left same e both =
-    (subst (λ (w : List ℕ). Reaches view old text before now c domains w) e both.0, subst IsRest e both.1)
+    (subst (λ (w : List ℕ). IsBetween view old text before now c domains w) e both.0, subst IsRest e both.1)
 
 -- ---- a message whose records are put
 
 pub ends_put : {K : Type 0} (view : SinkView K) (old : List Message) (text left m rest : List ℕ) (before now after : K) (c : Counts) (domains : Session) (accounts : List (ℕ × Account)) (delivered : ℕ)
-    (f : SessionFault) (records : List DataRecord) (r : Reaches view old text before now c domains left) → next_message left ≡ found m rest → (x : Message) → message_gives (known_after [] r.whole) m ≡ Ok x → records ≡ x.decoding.records
+    (f : SessionFault) (records : List DataRecord) (r : IsBetween view old text before now c domains left) → next_message left ≡ found m rest → (x : Message) → message_gives (known_after [] r.whole) m ≡ Ok x → records ≡ x.decoding.records
     → accounts ≡ c.accounts → Puts view (Err f) records c.delivered delivered now after
-    → Ends view f old text before after (record c { accounts = accounts; delivered = delivered })
+    → GoesNoFurther view f old text before after (record c { accounts = accounts; delivered = delivered })
 ends_put view old text left m rest before now after c domains accounts delivered faults.SinkClosed records r begins x reads are same puts =
     let gives_back = subst (λ (rs : List DataRecord). GivesBack view rs c.delivered delivered now after) are puts in
     ends_refused view old text left m rest before now after c (record c { accounts = accounts; delivered = delivered }) domains c.delivered delivered r begins x reads gives_back
@@ -354,7 +354,7 @@ stands_first s tells fresh none buffer fault =
 -- ---- by the answer
 
 pub fed_by : {K : Type 0} (view : SinkView K) (s : State) (text piece : List ℕ) (before after : K) (r : Result (Unit {0}) SessionFault)
-    → MatchResult r (λ x. Reaches view (gives text).messages (text ++ piece) before after s.counts s.domains s.buffer × IsRest s.buffer) (λ f. Ends view f (gives text).messages (text ++ piece) before after s.counts)
+    → MatchResult r (λ x. IsBetween view (gives text).messages (text ++ piece) before after s.counts s.domains s.buffer × IsRest s.buffer) (λ f. GoesNoFurther view f (gives text).messages (text ++ piece) before after s.counts)
     → s.fault ≡ result_err r → Feeds view r text piece before after s
 fed_by view s text piece before after (Ok x) done fault = fed view s text piece before after done.0 done.1 fault
 fed_by view s text piece before after (Err f) done fault = fed_fault view s text piece before after f done fault

@@ -16,7 +16,7 @@ pub record MovesUpTo (size : ℕ) (old new piece left : List ℕ) : Type 0 where
   pub enough : 0 < length left → size ≤ length new
   pub at_most : length new ≤ max size (length old)
 
--- a buffer is one message; or it begins with none, and where it may go on no octet is left
+-- a buffer is one message; or it begins with none, and if it may go on no octet is left
 abbrev pub IsFilled : Result (List ℕ × List ℕ) Stop → List ℕ → Type 0
 IsFilled (Ok found) left = found.1 ≡ []
 IsFilled (Err stop) left = IsOpen stop → left ≡ []

@@ -72,14 +72,14 @@ module _ {K : Type 0} (view : SinkView K) where
     pub records : records_of (text ++ piece) ≡ records_of text ++ put
     pub stands : StandsForText s (text ++ piece)
 
-  -- memory ran out behind some messages, the old ones among them
+  -- memory ran out after some messages, the old ones among them
   pub record RunsOut (old all : List Message) (before after : K) (told : List Message → ℕ → Type 0) : Type 0 where
     pub whole : List Message
     pub from : IsPrefix old whole
     pub up_to : IsPrefix whole all
     pub puts : PutsWhole old whole before after told
 
-  -- the sink gave a record of a message back, behind messages that were put whole and the first records of its own
+  -- the sink gave a record of a message back, after messages that were put whole and the first records of its own
   pub record IsRefused (old all : List Message) (before after : K) (told : List Message → ℕ → Type 0) : Type 0 where
     pub whole : List Message
     pub next : Message

@@ -39,7 +39,7 @@ gives text = gives_after [] text
 
 -- ---- a session that goes on
 
--- what messages and the text behind them give
+-- what messages and the text after them give
 abbrev pub behind : List Message → Given → Given
 behind ms g = record { messages = ms ++ g.messages; stop = g.stop }
 

@@ -25,7 +25,7 @@ pub record IsRest (w : List ℕ) : Type 0 where
 
 module _ {K : Type 0} (view : SinkView K) where
   -- whole messages of a text were put, the old ones before, and left is what follows them
-  pub record Reaches (old : List Message) (text : List ℕ) (before after : K) (c : Counts) (domains : Session) (left : List ℕ) : Type 0 where
+  pub record IsBetween (old : List Message) (text : List ℕ) (before after : K) (c : Counts) (domains : Session) (left : List ℕ) : Type 0 where
     pub whole : List Message
     pub from : IsPrefix old whole
     pub is : gives text ≡ behind whole (gives_after (known_after [] whole) left)
@@ -35,10 +35,10 @@ module _ {K : Type 0} (view : SinkView K) where
     pub stands : StandsFor domains.domains (known_after [] whole)
 
   -- why it went no further
-  abbrev pub Ends : SessionFault → List Message → List ℕ → K → K → Counts → Type 0
-  Ends (faults.Message OutOfMemory) old text before after c = RunsOut view old (gives text).messages before after (Tells c)
-  Ends (faults.Message e) old text before after c = (stop_of text ≡ Fault e) × PutsWhole view old (gives text).messages before after (Tells c)
-  Ends faults.SinkClosed old text before after c = IsRefused view old (gives text).messages before after (Tells c)
-  Ends faults.Truncated old text before after c = ⊥
-  Ends faults.ReadFailed old text before after c = ⊥
-  Ends faults.TooManyReads old text before after c = ⊥
+  abbrev pub GoesNoFurther : SessionFault → List Message → List ℕ → K → K → Counts → Type 0
+  GoesNoFurther (faults.Message OutOfMemory) old text before after c = RunsOut view old (gives text).messages before after (Tells c)
+  GoesNoFurther (faults.Message e) old text before after c = (stop_of text ≡ Fault e) × PutsWhole view old (gives text).messages before after (Tells c)
+  GoesNoFurther faults.SinkClosed old text before after c = IsRefused view old (gives text).messages before after (Tells c)
+  GoesNoFurther faults.Truncated old text before after c = ⊥
+  GoesNoFurther faults.ReadFailed old text before after c = ⊥
+  GoesNoFurther faults.TooManyReads old text before after c = ⊥

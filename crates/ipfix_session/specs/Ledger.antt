@@ -12,7 +12,7 @@ capped n = min n (2 ^ 64 - 1)
 abbrev pub count_in : Message → ℕ
 count_in m = length m.decoding.records
 
--- the sequence number that is due in the domain after a message; unknown, where a data set's records
+-- the sequence number that is due in the domain after a message; unknown, if a data set's records
 -- couldn't be counted
 abbrev pub due_after : Message → Option ℕ
 due_after m = if m.decoding.unknown == 0 then Some ((m.header.sequence + count_in m) % 2 ^ 32) else None

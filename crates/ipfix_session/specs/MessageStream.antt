@@ -4,6 +4,7 @@ use Rattle.ipfix_wire.specs.Numbers.{number_at}
 use Rattle.ipfix_wire.specs.InTurn.{Reader, Parts, parts_of}
 use Rattle.ipfix_wire.specs.MessageHeader.{header_at}
 use Rattle.ipfix_wire.specs.declared.header.Header.{Header}
+use Rattle.ipfix_wire.specs.declared.header.TheConstants.{HEADER_LENGTH}
 use Rattle.ipfix_wire.specs.declared.fault.WireFault.{WireFault}
 use Rattle.ipfix_message.specs.Faults.{fault_of}
 use Rattle.ipfix_session.specs.declared.stop.Stop.{Stop}
@@ -11,7 +12,7 @@ use Rattle.ipfix_session.specs.declared.stop.Stop.TheVariants.{Clean, Short, Fau
 
 -- a message: a whole header, of version 10, whose length is that of the message
 pub record IsMessage (m : List ℕ) : Type 0 where
-  pub header : 16 ≤ length m
+  pub header : HEADER_LENGTH ≤ length m
   pub version : number_at 0 2 m ≡ 10
   pub own_length : number_at 2 2 m ≡ length m
 
@@ -28,7 +29,7 @@ header_stop (Ok h) = Short
 -- header's version or length is wrong; or the text ends before its message does
 abbrev pub rest_stop : List ℕ → Stop
 rest_stop [] = Clean
-rest_stop (b ∷ w) = if nat_lt (length (b ∷ w)) 16 then Short else header_stop (header_at (b ∷ w))
+rest_stop (b ∷ w) = if nat_lt (length (b ∷ w)) HEADER_LENGTH then Short else header_stop (header_at (b ∷ w))
 
 abbrev pub message_under : List ℕ → Result Header WireFault → Result (List ℕ × List ℕ) Stop
 message_under w (Err e) = Err (rest_stop w)
@@ -36,7 +37,7 @@ message_under w (Ok h) = if nat_lt (length w) h.length then Err (rest_stop w) el
 
 -- the message that a text begins with, and what follows it; or why it stops there
 unfoldable pub next_message : Reader Stop (List ℕ)
-next_message w = if nat_lt (length w) 16 then Err (rest_stop w) else message_under w (header_at w)
+next_message w = if nat_lt (length w) HEADER_LENGTH then Err (rest_stop w) else message_under w (header_at w)
 
 -- the messages of a text in turn, and the rest, which begins with none
 abbrev pub cut : List ℕ → Parts (List ℕ)

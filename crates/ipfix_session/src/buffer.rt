@@ -3,17 +3,17 @@
 ghost use Rattle.std.specs.Prelude.{◌≡◌, ◌≤◌, ◌++◌, [], ℕ, max, length, List, OnOk, IfOk, MatchOption, MatchResult};
 ghost use Rattle.std.specs.Option.{ForSome};
 ghost use Rattle.ipfix_message.specs.Domains.{Message};
-ghost use Rattle.ipfix_session.specs.Intake.{counts_of, IsRest, Reaches, Ends};
+ghost use Rattle.ipfix_session.specs.Intake.{counts_of, IsRest, IsBetween, GoesNoFurther};
 ghost use Rattle.ipfix_session.specs.Buffers.{MovesUpTo, Fills};
 
-use crate::decoding::next_message;
 use crate::fault::SessionFault;
-use crate::intake::{Intake, check_open};
+use crate::intake::Intake;
+use crate::message_stream::next_message;
 use crate::sink::Sink;
-use ipfix_wire::read_header;
+use ipfix_wire::{HEADER_LENGTH, read_header};
 use std::alloc::{AllocError, Global};
 
-// moves octets from the front of a piece until the buffer has this size, and gives what is left
+// Moves octets from the front of a piece until the buffer has this size, and gives what is left.
 fn move_up_to<'a>(
     size: usize,
     buffer: &mut Vec<u8>,
@@ -28,14 +28,14 @@ fn move_up_to<'a>(
     Ok(left)
 }
 
-// moves octets from the front of a piece until the buffer is a whole message, or begins with a header
-// that is refused, and gives what is left
+// Moves octets from the front of a piece until the buffer is a whole message, or begins with a header
+// that is refused, and gives what is left.
 fn fill<'a>(buffer: &mut Vec<u8>, piece: &'a [u8]) -> Result<&'a [u8], AllocError>
     ensures fills { IsRest buffer.old.items → IfOk result (λ left. Fills buffer.old.items buffer.new.items piece.now left.now) }
     ensures at_most { length buffer.new.items ≤ max 65535 (length buffer.old.items) }
 {
-    let left = move_up_to(16, buffer, piece)?;
-    if buffer.len() < 16 {
+    let left = move_up_to(HEADER_LENGTH, buffer, piece)?;
+    if buffer.len() < HEADER_LENGTH {
         return Ok(left);
     }
     match read_header(buffer) {
@@ -44,8 +44,8 @@ fn fill<'a>(buffer: &mut Vec<u8>, piece: &'a [u8]) -> Result<&'a [u8], AllocErro
     }
 }
 
-// takes the message that the buffer begins, where the piece ends it, and gives what follows it;
-// `None` where it doesn't, and the buffer keeps it all
+// Takes the message that the buffer begins, if the piece ends it, and gives what follows it; `None` if
+// it doesn't, and the buffer keeps it all.
 fn take_begun<'a, K: Sink>(
     alloc: Global,
     intake: &mut Intake,
@@ -54,12 +54,12 @@ fn take_begun<'a, K: Sink>(
     sink: &mut K,
 ) -> Result<Option<&'a [u8]>, SessionFault>
     ensures takes { (old : List Message) (text : List ℕ) (before : K) → IsRest buffer.old.items
-        → Reaches K.seen old text before sink.old (counts_of intake.old.tally) intake.old.domains (buffer.old.items ++ piece.now)
+        → IsBetween K.seen old text before sink.old (counts_of intake.old.tally) intake.old.domains (buffer.old.items ++ piece.now)
         → MatchResult result
         (λ o. MatchOption o
-        (Reaches K.seen old text before sink.new (counts_of intake.new.tally) intake.new.domains buffer.new.items × IsRest buffer.new.items)
-        (λ left. Reaches K.seen old text before sink.new (counts_of intake.new.tally) intake.new.domains left.now))
-        (λ fault. Ends K.seen fault old text before sink.new (counts_of intake.new.tally)) }
+        (IsBetween K.seen old text before sink.new (counts_of intake.new.tally) intake.new.domains buffer.new.items × IsRest buffer.new.items)
+        (λ left. IsBetween K.seen old text before sink.new (counts_of intake.new.tally) intake.new.domains left.now))
+        (λ fault. GoesNoFurther K.seen fault old text before sink.new (counts_of intake.new.tally)) }
     ensures emptied { IfOk result (λ o. ForSome o (λ left. buffer.new.items ≡ [])) }
     ensures at_most { length buffer.new.items ≤ max 65535 (length buffer.old.items) }
 {
@@ -70,7 +70,7 @@ fn take_begun<'a, K: Sink>(
     match next_message(buffer) {
         Ok((message, _)) => intake.take_message(alloc, message, sink)?,
         Err(stop) => {
-            check_open(stop)?;
+            stop.check_open()?;
             return Ok(None);
         }
     }
@@ -88,10 +88,10 @@ pub fn read_on<K: Sink>(
     sink: &mut K,
 ) -> Result<(), SessionFault>
     ensures reads { (old : List Message) (text : List ℕ) (before : K) → IsRest buffer.old.items
-        → Reaches K.seen old text before sink.old (counts_of intake.old.tally) intake.old.domains (buffer.old.items ++ piece.now)
+        → IsBetween K.seen old text before sink.old (counts_of intake.old.tally) intake.old.domains (buffer.old.items ++ piece.now)
         → MatchResult result
-        (λ _. Reaches K.seen old text before sink.new (counts_of intake.new.tally) intake.new.domains buffer.new.items × IsRest buffer.new.items)
-        (λ fault. Ends K.seen fault old text before sink.new (counts_of intake.new.tally)) }
+        (λ _. IsBetween K.seen old text before sink.new (counts_of intake.new.tally) intake.new.domains buffer.new.items × IsRest buffer.new.items)
+        (λ fault. GoesNoFurther K.seen fault old text before sink.new (counts_of intake.new.tally)) }
     ensures at_most { length buffer.new.items ≤ max 65535 (length buffer.old.items) }
 {
     let left = match take_begun(alloc, intake, buffer, piece, sink)? {

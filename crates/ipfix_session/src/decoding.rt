@@ -1,12 +1,11 @@
 //! A whole text decoded.
 
-ghost use Rattle.std.specs.Prelude.{◌≡◌, ◌≢◌, ◌<◌, length, Ok, Err, IfOk, IfErr, MatchResult};
-ghost use Rattle.ipfix_session.specs.MessageStream;
-ghost use Rattle.ipfix_session.specs.Given.{records_of, count_of, stop_of, IsOpen};
+ghost use Rattle.std.specs.Prelude.{◌≡◌, ◌≢◌, IfOk};
+ghost use Rattle.ipfix_session.specs.Given.{records_of, count_of, stop_of};
 
+use crate::message_stream::next_message;
 use crate::stop::Stop;
 use ipfix_message::{DataRecord, Domains, MessageFault};
-use ipfix_wire::read_header;
 use std::alloc::{AllocError, Global};
 
 /// What the messages of a text gave.
@@ -19,33 +18,7 @@ pub struct DecodedText {
     pub stop: Stop,
 }
 
-// the message that a text begins with, and what follows it; or why it stops there
-#[tactic(auto, unfolding(crate::specs::MessageStream::next_message))]
-pub fn next_message(text: &[u8]) -> Result<(&[u8], &[u8]), Stop>
-    ensures found { MatchResult result
-        (λ x. MessageStream.next_message text.now ≡ Ok (x.0.now, x.1.now))
-        (λ stop. MessageStream.next_message text.now ≡ Err stop) }
-    // what may begin a message is shorter than the longest
-    ensures begun { IfErr result (λ stop. IsOpen stop → length text.now < 65535) }
-{
-    if text.is_empty() {
-        return Err(Stop::Clean);
-    }
-    if text.len() < 16 {
-        return Err(Stop::Short);
-    }
-    let header = match read_header(text) {
-        Ok(header) => header,
-        Err(fault) => return Err(Stop::Fault(MessageFault::from(fault))),
-    };
-    let length = usize::from(header.length);
-    if text.len() < length {
-        return Err(Stop::Short);
-    }
-    Ok(text.split_at(length))
-}
-
-// a message's fault is where its text stops, but for want of memory, which is none of the text's
+// A message's fault is where its text stops, except `OutOfMemory`, which is none of the text's.
 fn stop_at(fault: MessageFault) -> Result<Stop, AllocError>
     ensures { IfOk result (λ stop. (stop ≡ Stop.Fault fault) × (fault ≢ MessageFault.OutOfMemory)) }
 {

@@ -2,6 +2,7 @@
 
 ghost use Rattle.std.specs.Prelude.{ℕ, ◌<◌, ◌≤◌, length};
 ghost use Rattle.ipfix_session.specs.Drives.{Drives};
+ghost use Rattle.ipfix_session.specs.declared.driver.TheConstants.{READ_SIZE};
 
 use crate::fault::SessionFault;
 use crate::report::SessionReport;
@@ -11,27 +12,26 @@ use crate::source::{ReadError, Source};
 use ipfix_message::MessageFault;
 use std::alloc::Global;
 
-/// How many octets a read may give.
-const PIECE: usize = 65536;
+/// The most octets of a read.
+pub const READ_SIZE: usize = 65536;
 
 /// Reads a source to its end and puts the records of its octets, in at most `limit` reads. The report
 /// says what its messages gave, and the fault that ended them.
 ///
-/// It stops reading at the first fault of a message that is whole, or of a header that is whole, so that
-/// less than a read of 65,536 octets is taken behind it. Else
-/// `ReadFailed` is a read that failed, also the last that was allowed; `TooManyReads` where `limit`
-/// reads haven't shown the end; `Truncated` where the octets end within a message. An interrupted
-/// read is tried again, and counts. `SinkClosed` is a record that the sink gave back. Want of memory
-/// may come in place of any other.
+/// It stops reading at the first fault of a message that is whole, or of a header that is whole. At
+/// most 65,535 octets after the fault are read. Else `ReadFailed` is a read that failed, also the last
+/// that was allowed; `TooManyReads` if `limit` reads haven't shown the end; `Truncated` if the octets
+/// end within a message. An interrupted read is tried again, and counts. `SinkClosed` is a record that
+/// the sink gave back. `OutOfMemory` may come in place of any other.
 pub fn drive<S: Source, K: Sink>(
     alloc: Global,
     source: &mut S,
     sink: &mut K,
     limit: u64,
 ) -> SessionReport
-    ensures { Drives K.seen limit 65536 (S.seen source.old) (S.seen source.new) sink.old sink.new result }
+    ensures { Drives K.seen limit READ_SIZE (S.seen source.old) (S.seen source.new) sink.old sink.new result }
 {
-    match vec![in alloc; 0; PIECE] {
+    match vec![in alloc; 0; READ_SIZE] {
         Ok(mut buffer) => drive_through(alloc, source, sink, limit, &mut buffer),
         Err(_) => {
             Session::new(alloc).finish_after(SessionFault::Message(MessageFault::OutOfMemory))
@@ -39,7 +39,7 @@ pub fn drive<S: Source, K: Sink>(
     }
 }
 
-// the same through this buffer
+// The same through this buffer.
 fn drive_through<S: Source, K: Sink>(
     alloc: Global,
     source: &mut S,

@@ -4,18 +4,16 @@ ghost use Rattle.std.specs.Prelude.{◌≡◌, ◌<◌, ◌++◌, ◌∷◌, [],
 ghost use Rattle.ipfix_message.specs.declared.record.DataRecord.{DataRecord};
 ghost use Rattle.ipfix_message.specs.Domains.{Message, StandsFor};
 ghost use Rattle.ipfix_session.specs.MessageStream;
-ghost use Rattle.ipfix_session.specs.Given.{IsOpen};
 ghost use Rattle.ipfix_session.specs.Ledger.{capped};
 ghost use Rattle.ipfix_session.specs.Feeding.{Tells};
-ghost use Rattle.ipfix_session.specs.Intake.{counts_of, IsRest, Reaches, Ends};
+ghost use Rattle.ipfix_session.specs.Intake.{counts_of, IsRest, IsBetween, GoesNoFurther};
 ghost use Rattle.ipfix_session.specs.Puts.{Puts};
 
-use crate::decoding::next_message;
 use crate::fault::SessionFault;
+use crate::message_stream::next_message;
 use crate::sink::Sink;
-use crate::stop::Stop;
 use crate::tally::{Counted, Tally};
-use ipfix_message::{DataRecord, Decoded, Domains, MessageFault};
+use ipfix_message::{DataRecord, Decoded, Domains};
 use std::alloc::Global;
 
 /// What whole messages of a session left: its domains, and its counts.
@@ -25,7 +23,7 @@ pub struct Intake {
     pub tally: Tally,
 }
 
-// puts records one by one, up to the first that the sink gives back
+// Puts records one by one, up to the first that the sink gives back.
 fn put_all<K: Sink>(
     records: Vec<DataRecord>,
     delivered: &mut u64,
@@ -40,16 +38,6 @@ fn put_all<K: Sink>(
         *delivered = delivered.saturating_add(1);
     }
     Ok(())
-}
-
-// a text that stops for a fault goes no further
-pub fn check_open(stop: Stop) -> Result<(), MessageFault>
-    ensures { MatchResult result (λ _. IsOpen stop) (λ fault. stop ≡ Stop.Fault fault) }
-{
-    match stop {
-        Stop::Clean | Stop::Short => Ok(()),
-        Stop::Fault(fault) => Err(fault),
-    }
 }
 
 impl Intake {
@@ -72,11 +60,11 @@ impl Intake {
         sink: &mut K,
     ) -> Result<(), SessionFault>
         ensures { (old : List Message) (text left rest : List ℕ) (before : K)
-            → Reaches K.seen old text before sink.old (counts_of self.old.tally) self.old.domains left
+            → IsBetween K.seen old text before sink.old (counts_of self.old.tally) self.old.domains left
             → MessageStream.next_message left ≡ Ok (message.now, rest)
             → MatchResult result
-            (λ _. Reaches K.seen old text before sink.new (counts_of self.new.tally) self.new.domains rest)
-            (λ fault. Ends K.seen fault old text before sink.new (counts_of self.new.tally)) }
+            (λ _. IsBetween K.seen old text before sink.new (counts_of self.new.tally) self.new.domains rest)
+            (λ fault. GoesNoFurther K.seen fault old text before sink.new (counts_of self.new.tally)) }
     {
         let Decoded {
             header,
@@ -106,10 +94,10 @@ impl Intake {
         sink: &mut K,
     ) -> Result<&'a [u8], SessionFault>
         ensures takes { (old : List Message) (text_of : List ℕ) (before : K)
-            → Reaches K.seen old text_of before sink.old (counts_of self.old.tally) self.old.domains text.now
+            → IsBetween K.seen old text_of before sink.old (counts_of self.old.tally) self.old.domains text.now
             → MatchResult result
-            (λ rest. Reaches K.seen old text_of before sink.new (counts_of self.new.tally) self.new.domains rest.now × IsRest rest.now)
-            (λ fault. Ends K.seen fault old text_of before sink.new (counts_of self.new.tally)) }
+            (λ rest. IsBetween K.seen old text_of before sink.new (counts_of self.new.tally) self.new.domains rest.now × IsRest rest.now)
+            (λ fault. GoesNoFurther K.seen fault old text_of before sink.new (counts_of self.new.tally)) }
         ensures begun { IfOk result (λ rest. length rest.now < 65535) }
     {
         let mut rest = text;
@@ -117,7 +105,7 @@ impl Intake {
             let (message, after) = match next_message(rest) {
                 Ok(found) => found,
                 Err(stop) => {
-                    check_open(stop)?;
+                    stop.check_open()?;
                     return Ok(rest);
                 }
             };

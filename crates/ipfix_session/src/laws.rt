@@ -28,7 +28,7 @@ pub fn one_cut()
 pub fn goes_on()
     // The records of a text are the first of the longer text's.
     ensures records { (text more : List ℕ) → IsPrefix (records_of text) (records_of (text ++ more)) }
-    // Behind a fault nothing changes.
+    // After a fault nothing changes.
     ensures fault { (text more : List ℕ) (e : MessageFault) → stop_of text ≡ Fault e → gives (text ++ more) ≡ gives text }
     // Without a fault the longer text is read on from the rest of the shorter, with the domains and
     // events of its messages. So it doesn't matter how a text is cut into pieces.

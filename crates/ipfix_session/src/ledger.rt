@@ -17,7 +17,7 @@ pub struct Account {
     pub count: u64,
     pub lost: u64,
     pub backward: u64,
-    /// The sequence number that is due next, where the last message tells it.
+    /// The sequence number that is due next, if the last message tells it.
     pub due: Option<u32>,
 }
 
@@ -29,7 +29,7 @@ impl Account {
         due: None,
     };
 
-    // the account after one more message
+    // The account after one more message.
     fn after(&self, sequence: u32, count: u64, due: Option<u32>) -> Account
         ensures { result ≡ account_after self.now sequence count due }
     {
@@ -53,11 +53,22 @@ impl Account {
     }
 }
 
+// The sequence number that is due after a message, unless records of it couldn't be counted.
+fn due_next(sequence: u32, records: u64, unknown_sets: u64) -> Option<u32>
+    ensures { (m : Message) → m.header.sequence ≡ sequence → count_in m ≡ records → m.decoding.unknown ≡ unknown_sets → result ≡ due_after m }
+{
+    if unknown_sets == 0 {
+        Some(sequence.wrapping_add((records % (1 << 32)) as u32))
+    } else {
+        None
+    }
+}
+
 /// The accounts of a session's domains, in order of first appearance.
 #[derive(Drop)]
 pub struct Ledger {
     pub accounts: IndexMap<u32, Account>,
-    // room for the reports of all domains
+    // Room for the reports of all domains.
     reports: Vec<DomainReport>,
     ghost empty: { reports.items ≡ [] },
     ghost room: { index_map_len accounts ≤ vec_capacity reports },
@@ -82,7 +93,7 @@ impl Ledger {
         self.reports.reserve(self.accounts.len() + 1)
     }
 
-    // the account of a domain, or an empty one
+    // The account of a domain, or an empty one.
     fn account(&self, domain: u32) -> Account
         ensures { result ≡ unwrap_or (get nat_eq self.now.accounts domain) (account_of []) }
     {
@@ -92,15 +103,17 @@ impl Ledger {
             .unwrap_or(Account::EMPTY)
     }
 
-    /// Takes a message into account.
-    pub fn take(&mut self, header: &Header, count: u64, due: Option<u32>)
+    /// Takes a message into account: so many records, and so many data sets whose records couldn't be
+    /// counted.
+    pub fn take(&mut self, header: &Header, records: u64, unknown_sets: u64)
         requires account { 0 < spare self.old.accounts }
         requires report { index_map_len self.old.accounts < vec_capacity self.old.reports }
-        ensures { (ms : List Message) (m : Message) → self.old.accounts.entries ≡ accounts_of ms → m.header ≡ header.now → count_in m ≡ count → due_after m ≡ due
+        ensures { (ms : List Message) (m : Message) → self.old.accounts.entries ≡ accounts_of ms → m.header ≡ header.now → count_in m ≡ records → m.decoding.unknown ≡ unknown_sets
             → self.new.accounts.entries ≡ accounts_of (ms ++ m ∷ []) }
     {
         let before = self.account(header.domain);
-        let after = before.after(header.sequence, count, due);
+        let due = due_next(header.sequence, records, unknown_sets);
+        let after = before.after(header.sequence, records, due);
         let _ = self.accounts.insert(header.domain, after).unwrap();
     }
 
@@ -117,7 +130,7 @@ impl Ledger {
     }
 }
 
-// the reports of accounts, for which there is room
+// The reports of accounts, for which there is room.
 fn push_reports(accounts: &IndexMap<u32, Account>, reports: &mut Vec<DomainReport>)
     requires empty { reports.old.items ≡ [] }
     requires room { index_map_len accounts.now ≤ vec_capacity reports.old }

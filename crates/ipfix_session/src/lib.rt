@@ -9,6 +9,7 @@ mod fault;
 mod intake;
 mod laws;
 mod ledger;
+mod message_stream;
 mod reader;
 mod report;
 mod script;
@@ -19,7 +20,7 @@ mod stop;
 mod tally;
 
 pub use decoding::{DecodedText, decode_text};
-pub use driver::drive;
+pub use driver::{READ_SIZE, drive};
 pub use fault::SessionFault;
 pub use laws::{driven_is_given, goes_on, no_fault_is_all, one_cut};
 pub use reader::FromReader;

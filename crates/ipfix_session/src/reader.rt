@@ -30,7 +30,7 @@ impl<R: Read> FromReader<R> {
     }
 }
 
-// an interruption may be tried again, and any other error is a failure
+// An interruption may be tried again, and any other error is a failure.
 fn read_error(error: &io::Error) -> ReadError
     ensures { (result ≡ ReadError.Interrupted) ↔ (error_kind error.now ≡ ErrorKind.Interrupted) }
 {

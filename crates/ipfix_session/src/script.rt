@@ -9,7 +9,7 @@ use crate::source::{ReadError, Source};
 pub struct ScriptSource {
     text: Vec<u8>,
     given: usize,
-    // what may be given in all, and whether a read behind that fails
+    // What may be given in all, and whether a read after that fails.
     limit: usize,
     fails: bool,
     piece: usize,
@@ -55,7 +55,7 @@ impl ScriptSource {
     }
 }
 
-// the first octets of a text into the front of a buffer
+// Copies the first octets of a text to the front of a buffer.
 fn copy_front(text: &[u8], count: usize, buffer: &mut [u8])
     requires there { count ≤ length text.now }
     requires room { count ≤ length buffer.old }

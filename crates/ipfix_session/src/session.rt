@@ -50,8 +50,8 @@ impl Session {
     /// Takes the next octets: the records of each message that is whole by now go to the sink, in order.
     ///
     /// The fault is that of the first message that is refused, which gives none of its records; or
-    /// `SinkClosed` where the sink gives a record back. Want of memory may come in place of any other,
-    /// behind whole messages. After a fault each further call answers it again and puts nothing.
+    /// `SinkClosed` if the sink gives a record back. `OutOfMemory` may come in place of any other, after
+    /// whole messages. After a fault each further call answers it again and puts nothing.
     pub fn feed<K: Sink>(
         &mut self,
         alloc: Global,
@@ -87,7 +87,7 @@ impl Session {
         ensures buffer { length self.new.buffer ≤ 65535 }
         ensures again { (fault : SessionFault) → self.old.fault ≡ Some fault → (result ≡ Err fault) × (self.new ≡ self.old) × (sink.new ≡ sink.old) }
     {
-        // where there are no pieces, it answers its fault
+        // If there are no pieces, it answers its fault.
         self.feed(alloc, &[], sink)?;
         for piece in pieces {
             self.feed(alloc, piece, sink)?;
@@ -95,7 +95,7 @@ impl Session {
         Ok(())
     }
 
-    /// What the session gave, and why it ended early: its fault, or `Truncated` where its octets end
+    /// What the session gave, and why it ended early: its fault, or `Truncated` if its octets end
     /// within a message. This takes no memory.
     pub fn finish(self) -> SessionReport
         ensures text { (text : List ℕ) → StandsForText self text → IsReport result text }
@@ -110,7 +110,7 @@ impl Session {
         intake.tally.into_report(fault_at_end(fault, &buffer))
     }
 
-    // what the session gave, which this fault ended
+    // What the session gave, which this fault ended.
     pub(crate) fn finish_after(self, fault: SessionFault) -> SessionReport
         ensures so_far { (ms : List Message) (delivered : ℕ) → Tells self.counts ms delivered → Reports result ms delivered }
         ensures fault { result.fault ≡ Some fault }
@@ -124,7 +124,7 @@ impl Session {
     }
 }
 
-// the fault of a session that ends with these octets left
+// The fault of a session that ends with these octets left.
 fn fault_at_end(fault: Option<SessionFault>, rest: &[u8]) -> Option<SessionFault>
     ensures { result ≡ ended_by fault rest.now }
 {

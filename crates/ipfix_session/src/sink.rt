@@ -26,7 +26,7 @@ pub trait Sink {
 pub struct VecSink {
     /// The records that it took, in order.
     pub records: Vec<DataRecord>,
-    /// How many it gave back, for want of memory.
+    /// How many it gave back, because memory ran out.
     pub refused: u64,
 }
 

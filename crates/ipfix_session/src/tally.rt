@@ -4,7 +4,6 @@ ghost use Rattle.std.specs.Prelude.{◌≡◌, ◌<◌, ◌++◌, ◌∷◌, [],
 ghost use Rattle.std.specs.Vec.{vec_capacity};
 ghost use Rattle.indexmap.specs.IndexMap.{spare, index_map_len};
 ghost use Rattle.ipfix_message.specs.Domains.{Message};
-ghost use Rattle.ipfix_session.specs.Ledger.{due_after};
 ghost use Rattle.ipfix_session.specs.Feeding.{Tells};
 ghost use Rattle.ipfix_session.specs.Intake.{counts_of};
 ghost use Rattle.ipfix_session.specs.Tallies.{IsCounted};
@@ -24,20 +23,6 @@ pub struct Counted {
     pub skipped_sets: u64,
     pub unknown_sets: u64,
     pub ignored_withdrawals: u64,
-}
-
-impl Counted {
-    // the sequence number that is due next in the domain
-    fn due(&self) -> Option<u32>
-        ensures { (m : Message) → IsCounted self.now m → result ≡ due_after m }
-    {
-        if self.unknown_sets == 0 {
-            let records = (self.records % (1 << 32)) as u32;
-            Some(self.header.sequence.wrapping_add(records))
-        } else {
-            None
-        }
-    }
 }
 
 /// The counts of a session. They stop at `u64::MAX`.
@@ -73,7 +58,7 @@ impl Tally {
             → Tells (counts_of self.new) (ms ++ m ∷ []) delivered }
     {
         self.ledger
-            .take(&message.header, message.records, message.due());
+            .take(&message.header, message.records, message.unknown_sets);
         self.messages = self.messages.saturating_add(1);
         self.skipped_sets = self.skipped_sets.saturating_add(message.skipped_sets);
         self.unknown_sets = self.unknown_sets.saturating_add(message.unknown_sets);

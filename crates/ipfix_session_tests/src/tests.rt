@@ -1,9 +1,11 @@
 //! Worked examples of the profile, read, fed and driven.
 
 mod damage;
+mod driving;
 mod examples;
 mod limits;
 mod memory;
+mod narrow;
 mod runs;
 mod texts;
 

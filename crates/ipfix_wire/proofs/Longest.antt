@@ -2,7 +2,8 @@
 use Rattle.std.proofs.Common.{◌≡◌, ℕ, zero, suc, ◌≤◌, List, ◌++◌, length, Result, Ok, Err, sym, ap, subst, ◌∙◌, arith, inl, inr}
 use Rattle.ipfix_wire.specs.Numbers.{IsOctets}
 use Rattle.ipfix_wire.specs.InTurn.{IsLongest, Reader, Parts, parts_of}
-use Rattle.ipfix_wire.proofs.Parts.{IsOctets-rest, Shrinks, Reads, cases_read, parts_of-next, parts_of-none, parts_of-found, parts_of-only}
+use Rattle.ipfix_wire.proofs.Octets.{IsOctets-rest}
+use Rattle.ipfix_wire.proofs.Parts.{Shrinks, Reads, cases_read, parts_of-next, parts_of-none, parts_of-found, parts_of-only}
 
 abbrev pub FaultAt : {F X : Type 0} → Reader F X → List ℕ → Type 0
 FaultAt {F} step w = (e : F) × (step w ≡ Err e)

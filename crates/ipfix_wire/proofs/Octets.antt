@@ -1,7 +1,7 @@
 -- Octets that were read as numbers are the octets of those numbers.
-use Rattle.std.proofs.Common.{◌≡◌, ℕ, ◌+◌, ◌-◌, ◌≤◌, List, ◌++◌, length, take, drop, replicate, refl, sym, ap, ◌∙◌, arith, inl, inr}
+use Rattle.std.proofs.Common.{◌≡◌, ℕ, ◌+◌, ◌-◌, ◌≤◌, List, ◌++◌, length, take, drop, replicate, refl, sym, ap, subst, ◌∙◌, arith, inl, inr}
 use Rattle.std.proofs.Math.Seq.{take-add}
-use Rattle.std.proofs.lemmas.List.{length-take, length-drop, get_or-take, get_or-drop, get_or_past, drop-drop}
+use Rattle.std.proofs.lemmas.List.{length-take, length-drop, get_or-take, get_or-drop, get_or_past, drop-drop, take_at, drop_at}
 use Rattle.std.proofs.lemmas.Bool.{cases_lt}
 use Rattle.std.proofs.lemmas.Nat.{be_bytes_2, be_bytes_4}
 use Rattle.byteorder.specs.Endian.{big_bytes, big_number}
@@ -20,6 +20,13 @@ IsOctets-take n bytes h i =
       | inl lt ↦ rw (get_or-take n bytes i 0 lt) (h i)
       | inr le ↦ rw (get_or_past (take n bytes) i 0 (omega (arith, length-take n bytes))) (omega arith)
     ]
+
+-- of octets in two parts each part is octets
+pub IsOctets-front : (u v : List ℕ) → IsOctets (u ++ v) → IsOctets u
+IsOctets-front u v h = subst IsOctets (take_at u v (length u) refl) (IsOctets-take (length u) (u ++ v) h)
+
+pub IsOctets-rest : (u v : List ℕ) → IsOctets (u ++ v) → IsOctets v
+IsOctets-rest u v h = subst IsOctets (drop_at u v (length u) refl) (IsOctets-drop (length u) (u ++ v) h)
 
 -- two octets that read as n are the octets of n
 pub octets_2 : (xs : List ℕ) (n : ℕ) → IsOctets xs → 2 ≤ length xs → n ≡ big_number 2 xs → take 2 xs ≡ big_bytes 2 n

@@ -1,13 +1,10 @@
 -- Reading one spelling after another gives the one list that is spelled.
-use Rattle.std.proofs.Common.{◌≡◌, ℕ, zero, suc, ◌+◌, ◌<◌, ◌≤◌, List, [], ◌∷◌, ◌++◌, length, Result, Ok, Err, refl, sym, ap, subst, ◌∙◌, append_assoc, arith, inl, inr}
-use Rattle.std.specs.Prelude.{◌⊎◌}
-use Rattle.std.proofs.lemmas.List.{get_or-append-add}
+use Rattle.std.proofs.Common.{◌≡◌, ℕ, zero, suc, ◌<◌, ◌≤◌, List, [], ◌∷◌, ◌++◌, length, Result, Ok, Err, refl, sym, ap, subst, ◌∙◌, append_assoc, arith, inl, inr}
+use Rattle.std.specs.Prelude.{◌⊎◌, All}
+use Rattle.std.proofs.lemmas.List.Elements.{All-nil, All-cons}
 use Rattle.ipfix_wire.specs.Numbers.{IsOctets}
 use Rattle.ipfix_wire.specs.InTurn.{InTurn, Reader, Parts, parts_with, parts_of}
-
--- what follows bytes is bytes
-pub IsOctets-rest : (u v : List ℕ) → IsOctets (u ++ v) → IsOctets v
-IsOctets-rest u v h i = subst (λ (n : ℕ). n < 256) (get_or-append-add u v i 0) (h (length u + i))
+use Rattle.ipfix_wire.proofs.Octets.{IsOctets-front, IsOctets-rest}
 
 -- either of the two, with the equation
 pub cases_read : {F A : Type 0} (r : Result A F) → ((x : A) × (r ≡ Ok x)) ⊎ ((e : F) × (r ≡ Err e))
@@ -82,6 +79,15 @@ pub record Spelled {X : Type 0} (P : X → List ℕ → Type 0) (w : List ℕ) (
   pub text : List ℕ
   pub whole : w ≡ text ++ r
   pub is : P x text
+
+-- what holds of each that octets spell holds of all that they spell in turn
+pub InTurn-all : {X : Type 0} (P : X → List ℕ → Type 0) (Q : X → Type 0) → ((x : X) (u : List ℕ) → IsOctets u → P x u → Q x) → (xs : List X) (w : List ℕ) → IsOctets w → InTurn P xs w → All Q xs
+InTurn-all P Q each [] w fits spelled = All-nil Q
+InTurn-all P Q each (x ∷ xs) w fits spelled =
+    let u = spelled.0 in
+    let v = spelled.1 in
+    let both = subst IsOctets spelled.2 fits in
+    All-cons Q x xs (each x u (IsOctets-front u v both) spelled.3) (InTurn-all P Q each xs v (IsOctets-rest u v both) spelled.4)
 
 pub record Reads {F X : Type 0} (P : X → List ℕ → Type 0) (step : Reader F X) : Type 0 where
   pub found : (w : List ℕ) (x : X) (r : List ℕ) → IsOctets w → step w ≡ Ok (x, r) → Spelled P w x r

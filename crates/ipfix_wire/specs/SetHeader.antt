@@ -2,19 +2,20 @@
 use Rattle.std.specs.Prelude.{ℕ, ◌+◌, ◌-◌, Result, Ok, Err, nat_lt, if◌then◌else◌, List, ◌++◌, length}
 use Rattle.byteorder.specs.Endian.{big_bytes, big_number}
 use Rattle.ipfix_wire.specs.Numbers.{number_at}
+use Rattle.ipfix_wire.specs.declared.set.TheConstants.{SET_HEADER_LENGTH}
 use Rattle.ipfix_wire.specs.declared.set.SetSpan.{SetSpan}
 use Rattle.ipfix_wire.specs.declared.fault.WireFault.{WireFault}
 use Rattle.ipfix_wire.specs.declared.fault.WireFault.TheVariants as faults
 
--- a set header: the id, and the length of the set, which counts these 4 octets too
+-- a set header: the id, and the length of the set, which counts the header too
 abbrev pub set_octets : ℕ → ℕ → List ℕ
-set_octets id body = big_bytes 2 id ++ big_bytes 2 (4 + body)
+set_octets id body = big_bytes 2 id ++ big_bytes 2 (SET_HEADER_LENGTH + body)
 
 -- the set that the octets begin with, or its fault
 abbrev pub set_at : List ℕ → Result SetSpan WireFault
 set_at w =
     let size = number_at 2 2 w in
-    if nat_lt (length w) 4 then Err faults.SetHeader
-    else if nat_lt size 4 then Err faults.SetLength
+    if nat_lt (length w) SET_HEADER_LENGTH then Err faults.SetHeader
+    else if nat_lt size SET_HEADER_LENGTH then Err faults.SetLength
     else if nat_lt (length w) size then Err faults.SetLength
-    else Ok (record { id = big_number 2 w; body = size - 4 })
+    else Ok (record { id = big_number 2 w; body = size - SET_HEADER_LENGTH })

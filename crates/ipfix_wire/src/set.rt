@@ -24,9 +24,10 @@ pub const FIRST_TEMPLATE_ID: u16 = 256;
 /// A set: its id, and how many octets its body has.
 #[derive(Clone, Copy, Debug, PartialEq, Eq)]
 pub struct SetSpan {
-    /// 2 for a template set, 3 for an options template set, from 256 on a template's id.
+    /// [`TEMPLATE_SET_ID`], [`OPTIONS_TEMPLATE_SET_ID`], or from [`FIRST_TEMPLATE_ID`] on the id of
+    /// the template of a data set; any other is skipped.
     pub id: u16,
-    /// Octets behind the header, padding included.
+    /// Octets after the header, padding included.
     pub body: usize,
 }
 
@@ -35,36 +36,36 @@ pub struct SetSpan {
 pub fn read_set(rest: &[u8]) -> Result<SetSpan, WireFault>
     requires { 0 < length rest.now }
     // What is read is spelled so, and its body stands there.
-    ensures found { IfOk result (λ s. (s.id < 2 ^ 16) × (4 + s.body < 2 ^ 16) × (4 + s.body ≤ length rest.now) × (take 4 rest.now ≡ set_octets s.id s.body)) }
+    ensures found { IfOk result (λ s. (s.id < 2 ^ 16) × (SET_HEADER_LENGTH + s.body < 2 ^ 16) × (SET_HEADER_LENGTH + s.body ≤ length rest.now) × (take SET_HEADER_LENGTH rest.now ≡ set_octets s.id s.body)) }
     // What is spelled so, with its body, is read, whatever follows.
-    ensures only { (id body : ℕ) (more : List ℕ) → id < 2 ^ 16 → 4 + body < 2 ^ 16 → body ≤ length more → rest.now ≡ set_octets id body ++ more → result ≡ Ok (record { id = id; body = body }) }
+    ensures only { (id body : ℕ) (more : List ℕ) → id < 2 ^ 16 → SET_HEADER_LENGTH + body < 2 ^ 16 → body ≤ length more → rest.now ≡ set_octets id body ++ more → result ≡ Ok (record { id = id; body = body }) }
     ensures exact { result ≡ set_at rest.now }
-    ensures set_header { IsErrOf result WireFault.SetHeader ↔ (length rest.now < 4) }
-    ensures set_length { IsErrOf result WireFault.SetLength ↔ ((4 ≤ length rest.now) × ((number_at 2 2 rest.now < 4) ⊎ (length rest.now < number_at 2 2 rest.now))) }
+    ensures set_header { IsErrOf result WireFault.SetHeader ↔ (length rest.now < SET_HEADER_LENGTH) }
+    ensures set_length { IsErrOf result WireFault.SetLength ↔ ((SET_HEADER_LENGTH ≤ length rest.now) × ((number_at 2 2 rest.now < SET_HEADER_LENGTH) ⊎ (length rest.now < number_at 2 2 rest.now))) }
 {
-    if rest.len() < 4 {
+    if rest.len() < SET_HEADER_LENGTH {
         return Err(WireFault::SetHeader);
     }
     let length = usize::from(u16_at(rest, 2));
-    if length < 4 || rest.len() < length {
+    if length < SET_HEADER_LENGTH || rest.len() < length {
         return Err(WireFault::SetLength);
     }
     Ok(SetSpan {
         id: u16_at(rest, 0),
-        body: length - 4,
+        body: length - SET_HEADER_LENGTH,
     })
 }
 
 /// Appends the header of a set whose body has that many octets. An `Err` changes nothing.
 pub fn write_set(id: u16, body: u16, out: &mut Vec<u8>) -> Result<(), AllocError>
-    requires { body ≤ 65531 }
+    requires { SET_HEADER_LENGTH + body < 2 ^ 16 }
     ensures ok { OnOk result (out.new.items ≡ out.old.items ++ set_octets id body) }
     // It is read again where its body follows.
     ensures again { (more : List ℕ) → body ≤ length more → set_at (set_octets id body ++ more) ≡ Ok (record { id = id; body = body }) }
     ensures err { OnErr result (out.new.items ≡ out.old.items) }
 {
-    let mut octets = [0; 4];
+    let mut octets = [0; SET_HEADER_LENGTH];
     BigEndian::write_u16(&mut octets, id);
-    BigEndian::write_u16(&mut octets[2..], 4 + body);
+    BigEndian::write_u16(&mut octets[2..], SET_HEADER_LENGTH as u16 + body);
     out.extend_from_slice(&octets)
 }

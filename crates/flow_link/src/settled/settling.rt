@@ -10,8 +10,8 @@ use crate::sender::Sender;
 use rtrb::Consumer;
 use std::alloc::Global;
 
-/// Takes out what is left in the ring, once both ends are in one thread again. Where memory runs
-/// out nothing was taken out.
+/// Takes out what is left in the ring, once both ends are in one thread again. If it runs out of
+/// memory, nothing was taken out.
 pub fn settle(alloc: Global, sender: Sender, receiver: Receiver) -> Result<Settled, SettleFault>
     requires { IsPair sender receiver }
     ensures ok { IfOk result (λ settled. Settles sender receiver settled) }

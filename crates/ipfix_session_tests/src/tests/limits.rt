@@ -1,11 +1,12 @@
-//! Limits, failing reads, sinks that take no more, and faults that stay.
+//! Limits, failing reads, and faults that stay.
 
 use super::drain;
 use super::examples::{NEXT_FLOW, ONE_FLOW, octets_of};
+use super::narrow::Narrow;
 use super::runs::{Run, fed};
-use ipfix_message::{DataRecord, MessageFault};
+use ipfix_message::MessageFault;
 use ipfix_session::{
-    DomainReport, ScriptSource, Session, SessionFault, SessionReport, Sink, VecSink, drive,
+    DomainReport, ScriptSource, Session, SessionFault, SessionReport, VecSink, drive,
 };
 use std::alloc::Global;
 use std::process::Abort;
@@ -65,36 +66,6 @@ fn no_read_too_many(rt: HostRuntime) -> Result<(), Fail> {
     Ok(())
 }
 
-/// A sink that takes no more than some records.
-#[derive(Drop)]
-struct Narrow {
-    room: usize,
-    records: Vec<DataRecord>,
-    refused: u64,
-}
-
-impl Sink for Narrow {
-    ghost use Rattle.std.specs.Prelude.{◌≡◌, ◌++◌, ◌∷◌, []};
-
-    ghost took = { λ before item after. after.records.items ≡ before.records.items ++ item ∷ [] };
-
-    ghost refused = { λ s. s.refused };
-
-    fn put(&mut self, item: DataRecord) -> Result<(), DataRecord> {
-        if self.records.len() >= self.room {
-            self.refused = self.refused.saturating_add(1);
-            return Err(item);
-        }
-        match self.records.push(item) {
-            Ok(()) => Ok(()),
-            Err(failed) => {
-                self.refused = self.refused.saturating_add(1);
-                Err(failed.value)
-            }
-        }
-    }
-}
-
 #[test]
 fn faults_stay(rt: HostRuntime) -> Result<(), Fail> {
     let alloc: Global = rt.alloc();
@@ -107,11 +78,7 @@ fn faults_stay(rt: HostRuntime) -> Result<(), Fail> {
         (1, [ONE_FLOW, NEXT_FLOW], SessionFault::SinkClosed, 1),
     ] {
         let text = octets_of(alloc, &texts)?;
-        let mut sink = Narrow {
-            room,
-            records: Vec::new(alloc),
-            refused: 0,
-        };
+        let mut sink = Narrow::new(alloc, room);
         let report = fed_after_fault(&rt, alloc, [&text, &more], &mut sink, fault);
         assert_eq!(rt; sink.records.len() as u64, messages);
         assert_eq!(rt; (report.messages, report.delivered), (messages, messages));

@@ -1,12 +1,12 @@
-use Rattle.std.proofs.Common.{◌≡◌, ℕ, List, Some, None, OnOk, sym, ap, ◌∙◌, subst, arith}
-use Rattle.std.specs.BTreeMap.{BTreeMap, ContainsKey, get, get_key, insert_entry}
+use Rattle.std.proofs.Common.{◌≡◌, ℕ, List, Some, None, sym, ap, ◌∙◌, subst, arith}
+use Rattle.std.specs.BTreeMap.{ContainsKey, get, get_key}
 use Rattle.std.specs.BTreeMap.Entry.{entry_key, entry_map_ref, entry_value, IsEntryFor, MatchEntry}
 use Rattle.std.proofs.lemmas.Result.{on_ok_weaker, IfErr-weaker}
 use Rattle.ipfix_elements.specs.declared.cell.Cell.{Cell}
 use Rattle.flow_table.specs.Tables.{key_cmp}
-use Rattle.flow_table.specs.Totals.{Total, total, joined, IsLargeAt}
+use Rattle.flow_table.specs.Totals.{total, joined, IsLargeAt}
 use Rattle.flow_table.specs.Rows.{row_at, part_at}
-use Rattle.flow_table.proofs.RowMaps.{added_found, added_new, at_key, fits_added, fits_new, large_found}
+use Rattle.flow_table.proofs.RowMaps.{added_found, added_new, at_key, fits_at, fits_new, large_found}
 use Rattle.flow_table.proofs.rows.add_to_row.Goals as goal
 
 pub returns-in-Occupied-clause-ok : goal.returns-in-Occupied-clause-ok
@@ -17,8 +17,7 @@ returns-in-Occupied-clause-ok c =
     let update = subst (λ e. IsEntryFor key_cmp c.args.rows.now key e) c.in-Occupied.is c.in_ok-row.ensures.update in
     let found = sym c.in_ok-row.ensures.value ∙ ap (λ e. entry_value e) c.in-Occupied.is ∙ c.into_mut.ensures.value in
     let here = sym c.in_ok-row.ensures.same_map ∙ ap (λ e. (entry_map_ref e).ghost_name) c.in-Occupied.is in
-    let is = ap (λ (m : BTreeMap (List Cell) Total). m.entries) (c.rows-in-Occupied-2-1.given.1 here) ∙ update.1 c.add.new.self in
-    on_ok_weaker c.add.result (λ sum q. added_found es _ key c.into_mut.result.now c.add.new.self t found is sum q
+    on_ok_weaker c.add.result (λ sum q. added_found es _ key c.into_mut.result.now c.add.new.self t found (grind (arith, here, update.1 c.add.new.self)) sum q
     ∙ ap (λ (k : List Cell). joined (row_at es q) (part_at k t q)) c.in_ok-copy.ensures) c.add.ensures.ok
 
 pub returns-in-Occupied-clause-fits : goal.returns-in-Occupied-clause-fits
@@ -27,9 +26,8 @@ returns-in-Occupied-clause-fits c =
     let update = subst (λ e. IsEntryFor key_cmp c.args.rows.now key e) c.in-Occupied.is c.in_ok-row.ensures.update in
     let found = sym c.in_ok-row.ensures.value ∙ ap (λ e. entry_value e) c.in-Occupied.is ∙ c.into_mut.ensures.value in
     let here = sym c.in_ok-row.ensures.same_map ∙ ap (λ e. (entry_map_ref e).ghost_name) c.in-Occupied.is in
-    let is = ap (λ (m : BTreeMap (List Cell) Total). m.entries) (c.rows-in-Occupied-2-1.given.1 here) ∙ update.1 c.add.new.self in
-    subst (λ (k : List Cell). OnOk c.add.result (IsLargeAt (row_at c.rows-in-Occupied-2-1.given.0.entries k) → ⊥)) c.in_ok-copy.ensures
-    (fits_added c.add.result c.args.rows.now.entries _ key c.into_mut.result.now c.add.new.self (total c.args.sums.now c.args.flows) found is c.add.ensures.ok c.add.ensures.fits)
+    fits_at c.add.result c.args.rows.now.entries _ key c.args.key.now c.into_mut.result.now c.add.new.self (total c.args.sums.now c.args.flows) c.in_ok-copy.ensures found
+    (grind (arith, here, update.1 c.add.new.self)) c.add.ensures.ok c.add.ensures.fits
 
 pub returns-in-Occupied-clause-large : goal.returns-in-Occupied-clause-large
 returns-in-Occupied-clause-large c =
@@ -48,8 +46,7 @@ returns-in_ok-sums-in-Vacant-clause-ok c =
     let absent = subst (λ e. MatchEntry e (ContainsKey key_cmp m key × (get_key key_cmp m key ≡ Some (entry_key e))) (get key_cmp m key ≡ None)) c.in-Vacant.is c.in_ok-row.ensures.found in
     let here = sym c.in_ok-row.ensures.same_map ∙ ap (λ e. (entry_map_ref e).ghost_name) c.in-Vacant.is in
     let same = c.insert.ensures.value ∙ ap (λ (xs : List ℕ). total xs c.args.flows) (c.in_ok-sums-in-Vacant.ensures.items_if_clones_equal (λ x y h. h)) in
-    let is = ap (λ (m : BTreeMap (List Cell) Total). m.entries) (c.rows-in-Vacant-2-1.given.1 here) ∙ update.1 c.insert.result.now in
-    λ q. added_new m.entries _ key t absent (is ∙ ap (λ (w : Total). insert_entry key_cmp m.entries key w) same) q ∙ ap (λ (k : List Cell). joined (row_at m.entries q) (part_at k t q)) c.in_ok-copy.ensures
+    λ q. added_new m.entries _ key t absent (grind (arith, here, update.1 c.insert.result.now, same)) q ∙ ap (λ (k : List Cell). joined (row_at m.entries q) (part_at k t q)) c.in_ok-copy.ensures
 
 pub returns-in_ok-sums-in-Vacant-clause-fits : goal.returns-in_ok-sums-in-Vacant-clause-fits
 returns-in_ok-sums-in-Vacant-clause-fits c =

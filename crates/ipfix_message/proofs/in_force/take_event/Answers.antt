@@ -1,20 +1,24 @@
-use Rattle.std.proofs.Common.{Option, Ok, ap, sym, subst, refl}
-use Rattle.std.proofs.lemmas.Result.{on_ok_weaker}
+use Rattle.std.proofs.Common.{Option, Ok, ap, sym, subst, refl, ◌∙◌}
+use Rattle.std.proofs.lemmas.Result.{err_from_is_err_and}
 use Rattle.ipfix_message.specs.declared.record.Template.{Template}
-use Rattle.ipfix_message.specs.Outcome.{Gives}
+use Rattle.ipfix_message.specs.Outcome.{Fails}
 use Rattle.ipfix_message.specs.TemplatesInForce.{is_none_of, event_gives}
 use Rattle.ipfix_message.specs.Held.{defining}
-use Rattle.ipfix_message.proofs.TemplateSets.{agrees_define, agrees_withdraw, agrees_withdraw_all}
+use Rattle.ipfix_message.proofs.TemplateSets.{defined, not_defined, agrees_define, agrees_withdraw, agrees_withdraw_all}
 use Rattle.ipfix_message.proofs.in_force.take_event.Goals as goal
 
-pub returns-in-Define-clause-gives : goal.returns-in-Define-clause-gives
-unfolding event_gives
-returns-in-Define-clause-gives c = λ es agrees.
-    rw c.in-Define.is (subst (λ (o : Option Template). Gives (λ b. b) c.define.result (defining c.in-Define.known o)) (agrees.at c.in-Define.known.id) c.define.ensures.gives)
+pub returns-in_err-define-in-Define-clause-gives : goal.returns-in_err-define-in-Define-clause-gives
+returns-in_err-define-in-Define-clause-gives c = λ es agrees.
+    let p = err_from_is_err_and c.from_residual.result c.from_residual.ensures.1 in
+    rw (c.in-Define.is, p.1, p.2) (not_defined c.in_err-define-in-Define.field-0.0 es c.in-Define.new (subst (λ (o : Option Template). Fails c.in_err-define-in-Define.field-0.0 (defining c.in-Define.new o)) (agrees.at c.in-Define.new.id) c.in_err-define-in-Define.ensures.gives))
 
-pub returns-in-Define-clause-ok : goal.returns-in-Define-clause-ok
-returns-in-Define-clause-ok c = λ es agrees.
-    rw c.in-Define.is (on_ok_weaker c.define.result (agrees_define c.args.templates.now.entries c.define.new.templates.entries es c.in-Define.known agrees) c.define.ensures.ok)
+pub returns-in_ok-define-in-Define-clause-gives : goal.returns-in_ok-define-in-Define-clause-gives
+returns-in_ok-define-in-Define-clause-gives c = λ es agrees.
+    rw c.in-Define.is (defined es c.in-Define.new (ap (defining c.in-Define.new) (sym (agrees.at c.in-Define.new.id)) ∙ c.in_ok-define-in-Define.ensures.gives))
+
+pub returns-in_ok-define-in-Define-clause-ok : goal.returns-in_ok-define-in-Define-clause-ok
+returns-in_ok-define-in-Define-clause-ok c = λ es agrees.
+    rw c.in-Define.is (agrees_define c.args.templates.now.entries c.define.new.templates.entries es c.in-Define.new agrees c.in_ok-define-in-Define.ensures.ok)
 
 pub returns-in-Withdraw-clause-gives : goal.returns-in-Withdraw-clause-gives
 unfolding event_gives

@@ -4,8 +4,8 @@ use Rattle.ipfix_wire.specs.MessageHeader.{header_at}
 use Rattle.ipfix_session.proofs.Filling.{fills_few, fills_bad, fills_result}
 use Rattle.ipfix_session.proofs.buffer.fill.Goals as goal
 
-pub returns-then-len-lt16-clause-fills : goal.returns-then-len-lt16-clause-fills
-returns-then-len-lt16-clause-fills c = λ rest.
+pub returns-then-len-lt-HEADER_LENGTH-clause-fills : goal.returns-then-len-lt-HEADER_LENGTH-clause-fills
+returns-then-len-lt-HEADER_LENGTH-clause-fills c = λ rest.
     let few : length c.move_up_to.new.buffer.items < 16 = omega arith in
     fills_few _ _ _ _ c.in_ok-left.ensures.moves few
 

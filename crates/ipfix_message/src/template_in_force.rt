@@ -11,12 +11,12 @@ use std::marker::Model;
 
 /// A template in force, with the least length of its records at hand. Contracts see the template.
 #[derive(Drop)]
-pub struct Known {
+pub struct TemplateInForce {
     template: Template,
     least: usize,
 }
 
-impl Model for Known {
+impl Model for TemplateInForce {
     ghost use Rattle.std.specs.Prelude.{◌≡◌, ◌<◌};
     ghost use Rattle.ipfix_message.specs.declared.record.Template.{Template};
     ghost use Rattle.ipfix_message.specs.DataRecords;
@@ -28,13 +28,13 @@ impl Model for Known {
     ghost invariant = { λ k. (k.least ≡ DataRecords.least k.template.specs) × (0 < k.least) };
 }
 
-impl Known {
+impl TemplateInForce {
     pub fn new(template: Template, least: usize) -> Self
         requires sum { least ≡ DataRecords.least template.specs }
         requires positive { 0 < least }
         ensures { result ≡ template }
     {
-        Known { template, least }
+        TemplateInForce { template, least }
     }
 
     pub fn id(&self) -> u16
@@ -66,7 +66,7 @@ impl Known {
         }
     }
 
-    pub fn is_same(&self, other: &Known) -> bool
+    pub fn is_same(&self, other: &TemplateInForce) -> bool
         ensures { result ≡ TemplatesInForce.same_template self.now other.now }
     {
         is_same_template(&self.template, &other.template)

@@ -6,13 +6,13 @@ use Rattle.std.specs.Option.{option_copied_mut}
 use Rattle.std.proofs.lemmas.Result.{on_ok_weaker}
 use Rattle.flow_table.specs.Totals.{Total, total}
 use Rattle.flow_table.specs.Rows.{part_at}
-use Rattle.flow_table.proofs.RowMaps.{cell_found, cell_new, from_empty}
-use Rattle.flow_table.proofs.rows.add_to_cell.Goals as goal
+use Rattle.flow_table.proofs.RowMaps.{interval_found, interval_new, from_empty}
+use Rattle.flow_table.proofs.rows.add_to_interval.Goals as goal
 
 pub returns-in-Some-clause-ok : goal.returns-in-Some-clause-ok
 returns-in-Some-clause-ok c =
     let t = total c.args.sums.now c.args.flows in
-    on_ok_weaker c.add_to_row.result (cell_found c.args.cells.now.entries (c.get_mut.follows.lender c.add_to_row.new.rows).entries c.args.interval c.in-Some.rows.now c.add_to_row.new.rows (part_at c.args.key.now t)
+    on_ok_weaker c.add_to_row.result (interval_found c.args.intervals.now.entries (c.get_mut.follows.lender c.add_to_row.new.rows).entries c.args.interval c.in-Some.rows.now c.add_to_row.new.rows (part_at c.args.key.now t)
     (sym c.get_mut.ensures.value ∙ ap option_copied_mut c.in-Some.is) (c.get_mut.follows.holds c.add_to_row.new.rows).0) c.add_to_row.ensures.ok
 
 pub returns-clause-ok : goal.returns-clause-ok
@@ -21,4 +21,4 @@ returns-clause-ok c =
     let absent = sym c.get_mut.ensures.value ∙ ap option_copied_mut c.in_default.is in
     let is = c.in_ok-insert.ensures.entries ∙ ap (λ (m : BTreeMap ℕ (BTreeMap (List Cell) Total)). insert_entry nat_cmp m.entries c.args.interval c.add_to_row-2.new.rows) c.get_mut.follows.holds-at-none in
     let inner = from_empty c.new-rows.result c.add_to_row-2.new.rows (part_at c.args.key.now t) c.new-rows.ensures.empty c.in_ok-add_to_row.ensures.ok in
-    cell_new c.args.cells.now.entries c.insert.new.self.entries c.args.interval c.add_to_row-2.new.rows (part_at c.args.key.now t) absent is inner
+    interval_new c.args.intervals.now.entries c.insert.new.self.entries c.args.interval c.add_to_row-2.new.rows (part_at c.args.key.now t) absent is inner
