@@ -1,5 +1,8 @@
 //! Worked examples, collected.
 
+mod gates;
 mod memory;
 mod serial;
 mod texts;
+mod threaded;
+mod threaded_memory;
