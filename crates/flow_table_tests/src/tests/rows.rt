@@ -40,7 +40,10 @@ fn times_in_seconds(rt: HostRuntime) -> Result<(), Fail> {
         ],
     )?;
     let table = table_of_one(rt.alloc(), &plan, &data_record)?;
-    assert_eq!(rt; rows_of(rt.alloc(), &table)?.as_str(), "0:192.0.2.1=1500,1;");
+    assert_eq!(rt;
+        rows_of(rt.alloc(), &table)?.as_str(),
+        "0:192.0.2.1=1500,1;"
+    );
     Ok(())
 }
 
