@@ -1,18 +1,24 @@
 -- What a run wrote, from the headline and from what the export wrote.
-use Rattle.std.proofs.Common.{◌≡◌, ℕ, true, List, [], All, Option, subst}
-use Rattle.std.specs.Prelude.{◌↔◌}
+use Rattle.std.proofs.Common.{◌≡◌, ℕ, ◌+◌, ◌<◌, ◌≤◌, true, false, List, [], ◌∷◌, length, take, get_or, All, Option, Some, None, refl, sym, subst, inl, inr, arith}
+use Rattle.std.proofs.lemmas.List.{take_more, take_all}
+use Rattle.std.proofs.lemmas.List.Elements.{All-nil, All-cons, All-append}
+use Rattle.std.specs.Prelude.{◌↔◌, ◌⊎◌, is_some}
 use Rattle.std.specs.Option.{ForSome}
 use Rattle.std.specs.Io.KnownBytes.{Appends}
 use Rattle.ipfix_message.specs.declared.record.DataRecord.{DataRecord}
 use Rattle.ipfix_session.specs.Sources.{SourceView}
 use Rattle.flow_table.specs.Plans.{PlanValue}
+use Rattle.ipfix_session.specs.declared.report.SessionReport.{SessionReport}
 use Rattle.flow_collect.specs.Headline.{Headline, IsAddedUp}
 use Rattle.flow_collect.specs.Texts.{HasNoFault}
 use Rattle.flow_collect.specs.declared.collected.Collected.{Collected}
 use Rattle.flow_collect.specs.declared.collected.Pool.{Pool}
 use Rattle.flow_collect.proofs.GivenLists.{first_each, all_whole, whole_records, whole_clean}
-use Rattle.collectd.specs.Runs.{export_text, WritesTable, WritesWholeTable}
-use Rattle.collectd.specs.declared.run.Output.{Output}
+use Rattle.collectd.specs.Runs.{export_text, AddsUpWhole, WritesTable}
+use Rattle.collectd.specs.Statuses.{number_of}
+use Rattle.collectd.specs.declared.status.Status.{Status}
+use Rattle.collectd.specs.declared.status.Status.TheVariants.{Well, SessionFault, NotOpened, Failed}
+use Rattle.collectd.specs.declared.table_run.Output.{Output}
 
 module _ {S : Type 0} (seen : S → SourceView) where
   pub writes_table : (sources : List S) (plan : PlanValue) (pool : Pool) (output : Output) (status : ℕ) (old new : Option (List ℕ)) (c : Collected S)
@@ -26,13 +32,37 @@ module _ {S : Type 0} (seen : S → SourceView) where
         written = written;
       }
 
-  pub writes_whole : ((s : S) → (seen s).ended ≡ true → ForSome (seen s).text (λ xs. xs ≡ [])) → (sources : List S) (plan : PlanValue) (pool : Pool) (output : Output) (old new : Option (List ℕ)) (c : Collected S)
-      → Headline seen sources plan pool c → All HasNoFault c.sessions.items → Appends old new (export_text output plan c.table) → WritesWholeTable seen sources plan output old new
-  writes_whole at_end sources plan pool output old new c h none written = λ texts t.
+  pub adds_up_whole : ((s : S) → (seen s).ended ≡ true → ForSome (seen s).text (λ xs. xs ≡ [])) → (c : Collected S) (sources : List S) (plan : PlanValue) (pool : Pool)
+      → Headline seen sources plan pool c → All HasNoFault c.sessions.items → AddsUpWhole seen sources plan c.table
+  adds_up_whole at_end c sources plan pool h none = λ texts t.
       let whole = all_whole seen at_end sources c.sources.items c.sessions.items h.records texts h.given t none in
       record {
         whole = whole_clean h.records texts whole;
-        table = c.table;
         added_up = subst (λ (rs : List DataRecord). IsAddedUp plan rs c.table) (whole_records h.records texts whole) h.added_up;
-        written = written;
       }
+
+-- the status is 0 exactly if all was well
+pub zero_if_well : (s : Status) (n : ℕ) (P : Type 0) → n ≡ number_of s → (s ≡ Well) ⊎ (s ≡ SessionFault) → ((s ≡ Well) ↔ P) → ((n ≡ 0) ↔ P)
+zero_if_well Well n P is ends well = (λ e. well.0 refl, λ p. is)
+zero_if_well SessionFault n P is ends well = (λ e. absurd (omega arith), λ p. absurd (cc (well.1 p)))
+zero_if_well NotOpened n P is (inl e) well = absurd cc
+zero_if_well NotOpened n P is (inr e) well = absurd cc
+zero_if_well Failed n P is (inl e) well = absurd cc
+zero_if_well Failed n P is (inr e) well = absurd cc
+
+-- ---- sessions without a fault
+
+not_some : {X : Type 0} (o : Option X) → false ≡ is_some o → o ≡ None
+not_some None h = refl
+not_some (Some x) h = absurd cc
+
+-- the first ones, and one more
+pub none_more : (rs : List SessionReport) (i : ℕ) (r : SessionReport) → i < length rs → All HasNoFault (take i rs) → r ≡ get_or rs i r → false ≡ is_some r.fault → All HasNoFault (take (i + 1) rs)
+none_more rs i r less before is none =
+    let here : HasNoFault (get_or rs i r) = subst HasNoFault is (not_some r.fault none) in
+    subst (λ (xs : List SessionReport). All HasNoFault xs) (sym (take_more rs i r less))
+    (All-append HasNoFault (take i rs) (get_or rs i r ∷ []) before (All-cons HasNoFault (get_or rs i r) [] here (All-nil HasNoFault)))
+
+-- all of them
+pub none_of_all : (rs : List SessionReport) (i : ℕ) → length rs ≤ i → All HasNoFault (take i rs) → All HasNoFault rs
+none_of_all rs i all none = subst (λ (xs : List SessionReport). All HasNoFault xs) (take_all i rs all) none

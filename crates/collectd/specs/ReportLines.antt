@@ -37,10 +37,14 @@ abbrev pub report_lines : List SessionReport → List ℕ
 report_lines reports = flat_map (λ x. session_lines x.0 x.1) (enumerate_from 1 reports)
 
 -- how many records of each class there were
-unfoldable pub tally_line : Tally → List ℕ
-tally_line t =
-    codes "collectd: records: used " ++ (decimal t.used ++ (codes " options " ++ (decimal t.options ++ (codes " untimed " ++ (decimal t.untimed ++ (codes " backward " ++ (decimal t.backward ++
-    (codes " unkeyed " ++ (decimal t.unkeyed ++ (codes " too_long " ++ (decimal t.too_long ++ codes "\n")))))))))))
+unfoldable pub first_counts : Tally → List ℕ
+first_counts t = codes "collectd: records: used " ++ (decimal t.used ++ (codes " options " ++ (decimal t.options ++ (codes " untimed " ++ decimal t.untimed))))
+
+unfoldable pub last_counts : Tally → List ℕ
+last_counts t = codes " backward " ++ (decimal t.backward ++ (codes " unkeyed " ++ (decimal t.unkeyed ++ (codes " too_long " ++ (decimal t.too_long ++ codes "\n")))))
+
+abbrev pub tally_line : Tally → List ℕ
+tally_line t = first_counts t ++ last_counts t
 
 -- the fault of a plan's text, and the plan's own after it
 abbrev pub plan_fault_text : PlanTextFault → List ℕ

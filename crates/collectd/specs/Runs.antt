@@ -16,7 +16,7 @@ use Rattle.flow_collect.specs.Headline.{Headline, IsAddedUp}
 use Rattle.flow_collect.specs.Texts.{AreTexts, HasNoFault}
 use Rattle.flow_collect.specs.declared.collected.Collected.{Collected}
 use Rattle.flow_collect.specs.declared.collected.Pool.{Pool}
-use Rattle.collectd.specs.declared.run.Output.{Output}
+use Rattle.collectd.specs.declared.table_run.Output.{Output}
 use Rattle.collectd.specs.declared.run_fault.RunFault.{RunFault}
 use Rattle.collectd.specs.declared.run_fault.RunFault.TheVariants.{Collect, Export}
 
@@ -42,16 +42,20 @@ module _ {S : Type 0} (seen : S → SourceView) where
   abbrev pub WasCollected : List S → PlanValue → Pool → Type 0
   WasCollected sources plan pool = (c : Collected S) × Headline seen sources plan pool c
 
-  -- if the sources tell their texts: each text ends with a whole message, and the text of the table of all their records
-  -- was written, and nothing else
-  pub record WritesAll (texts : List (List ℕ)) (plan : PlanValue) (output : Output) (old new : Option (List ℕ)) : Type 0 where
+  -- each of these texts ends with a whole message, and the table is that of all their records
+  pub record IsOfWhole (plan : PlanValue) (table : Table) (texts : List (List ℕ)) : Type 0 where
     pub whole : All (λ t. stop_of t ≡ Clean) texts
-    pub table : Table
     pub added_up : IsAddedUp plan (flat_map records_of texts) table
-    pub written : Appends old new (export_text output plan table)
 
-  abbrev pub WritesWholeTable : List S → PlanValue → Output → Option (List ℕ) → Option (List ℕ) → Type 0
-  WritesWholeTable sources plan output old new = (texts : List (List ℕ)) → AreTexts seen sources texts → WritesAll texts plan output old new
+  -- the table is that of the sources' whole texts, if they tell them
+  abbrev pub AddsUpWhole : List S → PlanValue → Table → Type 0
+  AddsUpWhole sources plan table = (texts : List (List ℕ)) → AreTexts seen sources texts → IsOfWhole plan table texts
+
+  -- that table was written, and nothing else
+  pub record WritesWholeTable (sources : List S) (plan : PlanValue) (output : Output) (old new : Option (List ℕ)) : Type 0 where
+    pub table : Table
+    pub adds_up : AddsUpWhole sources plan table
+    pub written : Appends old new (export_text output plan table)
 
 -- a fact for a fault of collecting, and one for a fault of the export
 abbrev pub MatchRunFault : RunFault → Type 0 → Type 0 → Type 0

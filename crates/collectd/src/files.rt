@@ -2,8 +2,8 @@
 
 ghost use Rattle.std.specs.Prelude.{◌≡◌, ◌⊎◌};
 
-use crate::run::{Output, run};
 use crate::status::Status;
+use crate::table_run::{Output, run};
 use flow_collect::Pool;
 use flow_table::Plan;
 use ipfix_session::FromReader;
@@ -49,7 +49,11 @@ fn open_all<'a, R: Files<File = File>>(
 ) -> Result<Vec<FromReader<File>>, &'a str> {
     let mut sources = Vec::new(alloc);
     for path in paths {
-        let name = if *path == STANDARD_INPUT.0 { STANDARD_INPUT.1 } else { *path };
+        let name = if *path == STANDARD_INPUT.0 {
+            STANDARD_INPUT.1
+        } else {
+            *path
+        };
         let Ok(file) = fs::open(rt, name) else {
             return Err(*path);
         };

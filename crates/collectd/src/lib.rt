@@ -9,10 +9,10 @@ mod line_sink;
 mod network;
 mod plans;
 mod reports;
-mod run;
 mod run_fault;
 mod running;
 mod status;
+mod table_run;
 mod text;
 
 pub use dumping::dump;
@@ -24,6 +24,6 @@ pub use reports::{
     write_collect_fault, write_dump_fault, write_export_fault, write_plan_fault, write_reports,
     write_tally,
 };
-pub use run::{Output, run};
 pub use running::run_dump;
 pub use status::Status;
+pub use table_run::{Output, run};

@@ -2,8 +2,8 @@
 
 ghost use Rattle.std.specs.Prelude.{◌≡◌, ◌⊎◌};
 
-use crate::run::{Output, run};
 use crate::status::Status;
+use crate::table_run::{Output, run};
 use flow_collect::Pool;
 use flow_table::Plan;
 use ipfix_session::FromReader;

@@ -4,10 +4,9 @@ use crate::reports::write_plan_fault;
 use flow_table::Plan;
 use plan_file::{PlanTextFault, read_plan};
 use std::alloc::Global;
-use std::fs;
 use std::io::{Read, Write};
 use std::rt::Files;
-use std::str;
+use std::{fs, str};
 
 /// Reads the plan in a file. If the file can't be read, or its text is no plan, the answer is `None`
 /// and a line that says why is written to `err`.

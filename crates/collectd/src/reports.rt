@@ -8,14 +8,14 @@ ghost use Rattle.flow_collect.specs.Faults as collect;
 ghost use Rattle.flow_export.specs.Faults as export;
 ghost use Rattle.flow_table.specs.PlanFaults as plan;
 ghost use Rattle.plan_file.specs.Faults as text;
-ghost use Rattle.collectd.specs.ReportLines.{domain_lines, fault_text, loss_line, plan_fault_text, report_lines, session_lines, tally_line};
+ghost use Rattle.collectd.specs.ReportLines.{domain_lines, fault_text, first_counts, last_counts, loss_line, plan_fault_text, report_lines, session_lines, tally_line};
 
 use crate::fault::DumpFault;
 use flow_collect::CollectFault;
 use flow_export::ExportFault;
 use flow_table::{PlanFault, Tally};
-use plan_file::PlanTextFault;
 use ipfix_session::{DomainReport, SessionReport};
+use plan_file::PlanTextFault;
 use std::io::{self, Write};
 
 /// Writes what there is to tell of sessions, counted from 1: a line for each domain whose sequence
@@ -78,53 +78,67 @@ fn write_session_fault<W: Write>(
     writeln!(out, "collectd: session {session}: fault {number} {name}")
 }
 
-/// Writes the line of a fault of the dump.
-#[tactic(auto, unfolding(crate::specs::ReportLines::fault_text))]
-pub fn write_dump_fault<W: Write>(fault: DumpFault, out: &mut W) -> io::Result<()>
-    ensures { OnOk result (Appends (W.contents out.old) (W.contents out.new) (codes "collectd: dump" ++ fault_text (number_of fault) (name_of fault))) }
-{
-    let number = fault.number();
-    let name = fault.name();
-    writeln!(out, "collectd: dump: fault {number} {name}")
-}
-
 /// Writes the line that counts the records of each class.
-#[tactic(auto, unfolding(crate::specs::ReportLines::tally_line))]
 pub fn write_tally<W: Write>(tally: &Tally, out: &mut W) -> io::Result<()>
     ensures { OnOk result (Appends (W.contents out.old) (W.contents out.new) (tally_line tally.now)) }
 {
-    let Tally {
-        options,
-        untimed,
-        backward,
-        unkeyed,
-        too_long,
-        used,
-    } = *tally;
-    writeln!(
+    write_first_counts(tally, out)?;
+    write_last_counts(tally, out)
+}
+
+#[tactic(auto, unfolding(crate::specs::ReportLines::first_counts))]
+fn write_first_counts<W: Write>(tally: &Tally, out: &mut W) -> io::Result<()>
+    ensures { OnOk result (Appends (W.contents out.old) (W.contents out.new) (first_counts tally.now)) }
+{
+    let used = tally.used;
+    let options = tally.options;
+    let untimed = tally.untimed;
+    write!(
         out,
-        "collectd: records: used {used} options {options} untimed {untimed} backward {backward} unkeyed {unkeyed} too_long {too_long}"
+        "collectd: records: used {used} options {options} untimed {untimed}"
     )
 }
 
-/// Writes the line of a fault of collecting.
+#[tactic(auto, unfolding(crate::specs::ReportLines::last_counts))]
+fn write_last_counts<W: Write>(tally: &Tally, out: &mut W) -> io::Result<()>
+    ensures { OnOk result (Appends (W.contents out.old) (W.contents out.new) (last_counts tally.now)) }
+{
+    let backward = tally.backward;
+    let unkeyed = tally.unkeyed;
+    let too_long = tally.too_long;
+    writeln!(
+        out,
+        " backward {backward} unkeyed {unkeyed} too_long {too_long}"
+    )
+}
+
+// The line of a fault, of whatever it is.
 #[tactic(auto, unfolding(crate::specs::ReportLines::fault_text))]
+fn write_fault<W: Write>(what: &str, number: u8, name: &str, out: &mut W) -> io::Result<()>
+    ensures { OnOk result (Appends (W.contents out.old) (W.contents out.new) (codes "collectd: " ++ (what.now ++ fault_text number name.now))) }
+{
+    writeln!(out, "collectd: {what}: fault {number} {name}")
+}
+
+/// Writes the line of a fault of the dump.
+pub fn write_dump_fault<W: Write>(fault: DumpFault, out: &mut W) -> io::Result<()>
+    ensures { OnOk result (Appends (W.contents out.old) (W.contents out.new) (codes "collectd: dump" ++ fault_text (number_of fault) (name_of fault))) }
+{
+    write_fault("dump", fault.number(), fault.name(), out)
+}
+
+/// Writes the line of a fault of collecting.
 pub fn write_collect_fault<W: Write>(fault: CollectFault, out: &mut W) -> io::Result<()>
     ensures { OnOk result (Appends (W.contents out.old) (W.contents out.new) (codes "collectd: collect" ++ fault_text (collect.number_of fault) (collect.name_of fault))) }
 {
-    let number = fault.number();
-    let name = fault.name();
-    writeln!(out, "collectd: collect: fault {number} {name}")
+    write_fault("collect", fault.number(), fault.name(), out)
 }
 
 /// Writes the line of a fault of the export.
-#[tactic(auto, unfolding(crate::specs::ReportLines::fault_text))]
 pub fn write_export_fault<W: Write>(fault: ExportFault, out: &mut W) -> io::Result<()>
     ensures { OnOk result (Appends (W.contents out.old) (W.contents out.new) (codes "collectd: export" ++ fault_text (export.number_of fault) (export.name_of fault))) }
 {
-    let number = fault.number();
-    let name = fault.name();
-    writeln!(out, "collectd: export: fault {number} {name}")
+    write_fault("export", fault.number(), fault.name(), out)
 }
 
 /// Writes the line of a fault of a plan's text, with the plan's own fault if it has one.
@@ -137,20 +151,14 @@ pub fn write_plan_fault<W: Write>(fault: PlanTextFault, out: &mut W) -> io::Resu
     }
 }
 
-#[tactic(auto, unfolding(crate::specs::ReportLines::fault_text))]
 fn write_text_fault<W: Write>(fault: PlanTextFault, out: &mut W) -> io::Result<()>
     ensures { OnOk result (Appends (W.contents out.old) (W.contents out.new) (codes "collectd: plan" ++ fault_text (text.number_of fault) (text.name_of fault))) }
 {
-    let number = fault.number();
-    let name = fault.name();
-    writeln!(out, "collectd: plan: fault {number} {name}")
+    write_fault("plan", fault.number(), fault.name(), out)
 }
 
-#[tactic(auto, unfolding(crate::specs::ReportLines::fault_text))]
 fn write_inner_fault<W: Write>(fault: PlanFault, out: &mut W) -> io::Result<()>
     ensures { OnOk result (Appends (W.contents out.old) (W.contents out.new) (codes "collectd: plan: fault 6 Plan" ++ fault_text (plan.number_of fault) (plan.name_of fault))) }
 {
-    let number = fault.number();
-    let name = fault.name();
-    writeln!(out, "collectd: plan: fault 6 Plan: fault {number} {name}")
+    write_fault("plan: fault 6 Plan", fault.number(), fault.name(), out)
 }

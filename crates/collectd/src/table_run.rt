@@ -1,11 +1,12 @@
 //! Collecting and writing the table.
 
-ghost use Rattle.std.specs.Prelude.{◌≡◌, ◌≢◌, ◌⊎◌, ◌↔◌, IfOk, IfErr, OnOk, All};
+ghost use Rattle.std.specs.Prelude.{◌≡◌, ◌≢◌, ◌⊎◌, ◌↔◌, List, IfOk, IfErr, OnOk, All};
 ghost use Rattle.std.specs.Io.KnownBytes.{Appends};
 ghost use Rattle.flow_table.specs.Fitting.{FitsPlan};
+ghost use Rattle.flow_table.specs.Plans.{PlanValue};
 ghost use Rattle.flow_collect.specs.Headline.{Headline};
 ghost use Rattle.flow_collect.specs.Texts.{HasNoFault};
-ghost use Rattle.collectd.specs.Runs.{export_text, MatchRunFault, WasCollected, WritesTable, WritesWholeTable};
+ghost use Rattle.collectd.specs.Runs.{export_text, AddsUpWhole, MatchRunFault, WasCollected, WritesTable, WritesWholeTable};
 
 use crate::reports::{write_collect_fault, write_export_fault, write_reports, write_tally};
 use crate::run_fault::RunFault;
@@ -56,7 +57,7 @@ pub fn run<S: Source + Send + Drop, W: Write, E: Write, R: Threads + Wait + Sync
     match collect_and_write(rt, alloc, sources, plan, pool, output, out) {
         Ok(collected) => {
             let _ = tell(&collected, err);
-            status_of(&collected.sessions).number()
+            status_of(&collected).number()
         }
         Err(fault) => {
             let _ = tell_fault(fault, err);
@@ -108,8 +109,18 @@ fn export<W: Write>(
     Ok(())
 }
 
+// How a run ended whose table is written.
+fn status_of<S: Source>(collected: &Collected<S>) -> Status
+    ensures ends { (result ≡ Status.Well) ⊎ (result ≡ Status.SessionFault) }
+    ensures well { (result ≡ Status.Well) ↔ All HasNoFault collected.now.sessions.items }
+    ensures whole { (sources : List S) (plan : PlanValue) (pool : Pool) → Headline S.seen sources plan pool collected.now
+        → All HasNoFault collected.now.sessions.items → AddsUpWhole S.seen sources plan collected.now.table }
+{
+    ends_of(&collected.sessions)
+}
+
 // How sessions ended.
-fn status_of(reports: &[SessionReport]) -> Status
+fn ends_of(reports: &[SessionReport]) -> Status
     ensures ends { (result ≡ Status.Well) ⊎ (result ≡ Status.SessionFault) }
     ensures well { (result ≡ Status.Well) ↔ All HasNoFault reports.now }
 {
