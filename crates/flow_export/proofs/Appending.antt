@@ -6,7 +6,7 @@ use Rattle.std.proofs.KnownBytes.{Appends-trans}
 use Rattle.std.specs.List.{flat_map}
 use Rattle.std.proofs.lemmas.List.{flat_map_more, take_more}
 
--- one more, behind those that were appended
+-- one more, after those that were appended
 pub one_more : {X : Type 0} (text : X → List ℕ) (xs : List X) (i : ℕ) (x : X) (o p q : List ℕ) → i < length xs → x ≡ get_or xs i x
     → p ≡ o ++ flat_map text (take i xs) → q ≡ p ++ text x → q ≡ o ++ flat_map text (take (i + 1) xs)
 one_more {X} text xs i x o p q inside is_x is_p is_q =

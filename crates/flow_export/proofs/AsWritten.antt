@@ -29,7 +29,7 @@ table_written : (plan : PlanValue) (rows : List Row) → written_heading plan ++
 table_written plan rows =
     ap (λ (t : List ℕ). t ++ written_rows plan rows) (heading_written plan) ∙ ap (λ (t : List ℕ). line (heading plan) ++ t) (rows_written plan rows)
 
--- where the rows were written behind the heading, the table was
+-- if the rows were written after the heading, the table was
 pub table_appended : {A E : Type 0} (r : Result A E) (plan : PlanValue) (rows : List Row) (first : List ℕ) (a b c : Option (List ℕ)) → first ≡ written_heading plan → Appends a b first
     → OnOk r (Appends b c (written_rows plan rows)) → OnOk r (Appends a c (csv_text plan (map value_of rows)))
 table_appended r plan rows first a b c is_first heading rest =

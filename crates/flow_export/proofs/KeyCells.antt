@@ -64,7 +64,7 @@ cells_more (j ∷ ks) (d ∷ cs) (suc i) k c fits inside =
     ap (λ (t : List ℕ). wide_octets (j, d) ++ t) (cells_more ks cs i k c fits.1 (omega (arith, inside)))
     ∙ sym (append_assoc (wide_octets (j, d)) (cells_octets (take i ks) (take i cs)) (wide_octets (get_or ks i k, get_or cs i c)))
 
--- one more cell behind those that were appended
+-- one more cell, after those that were appended
 pub cell_appended : (ks : List Kind) (cs : List Cell) (i : ℕ) (k : Kind) (c : Cell) (width : ℕ) (o p q : List ℕ) → AllZip IsCellOf ks cs → i < length cs → width ≡ width_of (get_or ks i k)
     → p ≡ o ++ cells_octets (take i ks) (take i cs) → q ≡ p ++ cell_octets (get_or cs i c) width → q ≡ o ++ cells_octets (take (i + 1) ks) (take (i + 1) cs)
 cell_appended ks cs i k c width o p q fits inside is_width is_p is_q =
@@ -106,7 +106,7 @@ row_parts plan row fits =
     ∙ ap (λ (t : List ℕ). flat_map number_octets row.sums ++ t) (append-nil (number_octets row.flows))) in
     ap (λ (t : List ℕ). number_octets (first_of plan row) ++ (number_octets (last_of plan row) ++ t)) split
 
--- five parts, one behind another
+-- five parts, one after another
 five_parts : (o p q r s t a b c d e : List ℕ) → p ≡ o ++ a → q ≡ p ++ b → r ≡ q ++ c → s ≡ r ++ d → t ≡ s ++ e → t ≡ o ++ (a ++ (b ++ (c ++ (d ++ e))))
 five_parts o p q r s t a b c d e is_p is_q is_r is_s is_t = rw (is_t, is_s, is_r, is_q, is_p) (simp append_assoc)
 

@@ -1,4 +1,5 @@
 pub mod InBlocks
+pub mod Finding
 pub mod Plain
 pub mod AsWritten
 pub mod Appending

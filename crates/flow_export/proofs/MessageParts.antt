@@ -36,7 +36,7 @@ part_octets plan rows part i first end is_first is_end is_part =
     let moved : rows_of_message (map value_of rows) i ≡ map value_of (take 100 (drop (100 * i) rows)) = ap (take 100) (drop-map value_of (100 * i) rows) ∙ take-map value_of 100 (drop (100 * i) rows) in
     ap (octets_of_rows plan) taken ∙ sym (flat_map-map (row_octets plan) value_of (take 100 (drop (100 * i) rows))) ∙ ap (flat_map (row_octets plan)) (sym moved)
 
--- one more text behind those of the numbers below
+-- one more text, after those of the numbers below
 pub texts_more : (text : ℕ → List ℕ) (i : ℕ) (a b c : Option (List ℕ)) → Appends a b (flat_map text (range_with_len 0 i)) → Appends b c (text i) → Appends a c (flat_map text (range_with_len 0 (i + 1)))
 texts_more text i a b c before here =
     let all : flat_map text (range_with_len 0 i) ++ text i ≡ flat_map text (range_with_len 0 (i + 1)) =

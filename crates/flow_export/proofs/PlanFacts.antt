@@ -8,11 +8,9 @@ use Rattle.std.proofs.lemmas.List.Elements.{All-nil, All-cons, All-append}
 use Rattle.ipfix_wire.specs.declared.specifier.ElementId.{ElementId}
 use Rattle.ipfix_wire.specs.declared.specifier.Spec.{Spec}
 use Rattle.ipfix_elements.specs.Elements.{Row, kind_of, elements}
-use Rattle.ipfix_elements.specs.Values.{octets_of}
 use Rattle.ipfix_elements.specs.declared.kind.Kind.{Kind}
 use Rattle.ipfix_elements.specs.declared.kind.Kind.TheVariants.{Unsigned, Ipv4, Ipv6, Mac, Seconds, Millis, Octets}
-use Rattle.ipfix_elements.specs.declared.kind.Width.{Width}
-use Rattle.ipfix_elements.specs.declared.kind.Width.TheVariants.{One, Two, Four, Eight}
+use Rattle.ipfix_elements.specs.declared.kind.Width.TheVariants.{Eight}
 use Rattle.ipfix_elements.proofs.Lookups.{find_passes, cases_Option}
 use Rattle.ipfix_message.specs.DataRecords.{least}
 use Rattle.flow_table.specs.declared.key.Key.{Key}
@@ -20,6 +18,8 @@ use Rattle.flow_table.specs.Plans.{PlanValue, IsPlan, is_key_kind, is_counter, e
 use Rattle.flow_table.proofs.PlanKeys.{passed_tests}
 use Rattle.flow_export.specs.Fitting.{HasNumber}
 use Rattle.flow_export.specs.IpfixText.{iana, width_of, key_width, key_spec, number_spec}
+use Rattle.flow_export.proofs.Finding.{find_all}
+use Rattle.flow_export.proofs.RowFields.{narrow_number}
 use Rattle.flow_export.proofs.Room.{IsSpec, HasRoom}
 
 -- ---- elements of keys
@@ -37,16 +37,6 @@ small_row r = ltb r.number (2 ^ 15)
 all_small : list_all small_row elements ≡ true
 unfolding elements small_row
 all_small = refl
-
-find_all : (q f : Row → Bool) (xs : List Row) (y : Row) → list_all q xs ≡ true → find f xs ≡ Some y → q y ≡ true
-find_all q f [] y all found = absurd cc
-find_all q f (x ∷ xs) y all found =
-    let both = and_parts (q x) (list_all q xs) all in
-    by (f x) found both.0 (find_all q f xs y both.1)
-  where
-    by : (b : Bool) → cond b (Some x) (find f xs) ≡ Some y → q x ≡ true → (find f xs ≡ Some y → q y ≡ true) → q y ≡ true
-    by true e a later = let same : x ≡ y = cc in subst (λ (r : Row). q r ≡ true) same a
-    by false e a later = later e
 
 -- what has the kind of a key is in the table
 in_table : (e : ElementId) → is_key_kind (kind_of e) ≡ true → (e.pen ≡ 0) × ((r : Row) × (find (λ x. eqb x.number e.number) elements ≡ Some r))
@@ -84,12 +74,6 @@ key_is_value e key =
       no_start = no 152 start_kind;
       no_end = no 153 end_kind;
     }
-
-narrow_number : (width : Width) → octets_of width ≤ 16
-narrow_number One = omega arith
-narrow_number Two = omega arith
-narrow_number Four = omega arith
-narrow_number Eight = omega arith
 
 pub key_narrow : (kind : Kind) → is_key_kind kind ≡ true → width_of kind ≤ 16
 key_narrow (Unsigned width) key = narrow_number width

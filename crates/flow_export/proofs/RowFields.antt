@@ -80,7 +80,7 @@ cell_width Seconds cell fits = absurd fits
 cell_width Millis cell fits = absurd fits
 cell_width Octets cell fits = absurd fits
 
-narrow_number : (width : Width) → octets_of width ≤ 16
+pub narrow_number : (width : Width) → octets_of width ≤ 16
 narrow_number One = omega arith
 narrow_number Two = omega arith
 narrow_number Four = omega arith

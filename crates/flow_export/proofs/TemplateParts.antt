@@ -32,7 +32,7 @@ field_count plan =
     let counters_length : length counters ≡ length plan.counters = length-map _ _ in
     omega (arith, length-append (map key_spec plan.keys) (counters ++ last), length-append counters last, keys_length, counters_length)
 
--- six parts, one behind another, the first of two
+-- six parts, one after another, the first of two
 six_parts : (o p q r s t u a a' b c d e f : List ℕ) → p ≡ o ++ (a ++ a') → q ≡ p ++ b → r ≡ q ++ c → s ≡ r ++ d → t ≡ s ++ e → u ≡ t ++ f → u ≡ o ++ (a ++ (a' ++ (b ++ (c ++ (d ++ (e ++ f))))))
 six_parts o p q r s t u a a' b c d e f is_p is_q is_r is_s is_t is_u = rw (is_u, is_t, is_s, is_r, is_q, is_p) (simp append_assoc)
 
