@@ -14,9 +14,13 @@ use flow_export::{ExportFault, Format};
 use flow_table::Plan;
 use ipfix_session::FromReader;
 use std::env;
+use std::fs::File;
 use std::io::{self, BufWriter, Stdout, Write};
 use std::net::TcpListener;
 use std::process::ExitCode;
+use std::rt::Files;
+use std::sync::Wait;
+use std::thread::Threads;
 
 /// The exit status if the words of the command line can't be served.
 const COMMAND_LINE: u8 = 2;
@@ -25,7 +29,7 @@ const COMMAND_LINE: u8 = 2;
 const OUTPUT_BUFFER: usize = 1 << 16;
 
 fn main(rt: HostRuntime) -> ExitCode {
-    match run(&rt) {
+    match run(&rt, &rt) {
         Ok(status) => ExitCode::from(status),
         Err(error) => {
             let _ = eprintln!(rt; "error: {error}");
@@ -34,8 +38,11 @@ fn main(rt: HostRuntime) -> ExitCode {
     }
 }
 
-// Reads the words and runs the command that they name.
-fn run(rt: &HostRuntime) -> io::Result<u8> {
+// Reads the words and runs the command that they name. The first handle may start threads.
+fn run<R: Files<File = File> + Threads + Wait + Sync>(
+    threads: &R,
+    rt: &HostRuntime,
+) -> io::Result<u8> {
     let mut words = Vec::new(rt.alloc());
     for word in env::args(rt)? {
         words.push(word)?;
@@ -43,8 +50,8 @@ fn run(rt: &HostRuntime) -> io::Result<u8> {
     match words::matches_of(rt.alloc(), words.as_slice()) {
         Ok(matches) => Ok(match matches.subcommand() {
             Some(("dump", _)) => dump(rt),
-            Some(("files", chosen)) => files(rt, chosen),
-            Some(("tcp", chosen)) => tcp(rt, chosen),
+            Some(("files", chosen)) => files(threads, rt, chosen),
+            Some(("tcp", chosen)) => tcp(threads, rt, chosen),
             _ => COMMAND_LINE,
         }),
         Err(error) => Ok(show(rt, &error)),
@@ -79,6 +86,7 @@ fn dump(rt: &HostRuntime) -> u8 {
 }
 
 // What `files` and `tcp` are told alike.
+#[derive(Drop)]
 struct Job {
     plan: Plan,
     pool: Pool,
@@ -86,11 +94,11 @@ struct Job {
 }
 
 // The plan, which is read here, and the options. `None` if there is no plan, and that was told.
-fn job(rt: &HostRuntime, chosen: &ArgMatches) -> Option<Job> {
+fn read_job(rt: &HostRuntime, chosen: &ArgMatches) -> Option<Job> {
     let plan = load_plan(rt, rt.alloc(), chosen.get_str("plan")?, &mut rt.stderr())?;
-    let workers = *chosen.get_one::<u32>("workers")?;
-    let capacity = *chosen.get_one::<u32>("ring")?;
-    let time = *chosen.get_one::<u32>("time")?;
+    let workers = chosen.get_one::<u32>("workers")?;
+    let capacity = chosen.get_one::<u32>("ring")?;
+    let time = chosen.get_one::<u32>("time")?;
     let format = match chosen.get_str("format")? {
         "ipfix" => Format::Ipfix,
         _ => Format::Csv,
@@ -106,27 +114,23 @@ fn job(rt: &HostRuntime, chosen: &ArgMatches) -> Option<Job> {
 }
 
 // `collectd files`: the table of the sessions in files to standard output.
-fn files(rt: &HostRuntime, chosen: &ArgMatches) -> u8 {
+fn files<R: Files<File = File> + Threads + Wait + Sync>(
+    threads: &R,
+    rt: &HostRuntime,
+    chosen: &ArgMatches,
+) -> u8 {
     let mut err = rt.stderr();
-    let mut paths = Vec::new(rt.alloc());
-    let mut inputs = 0u32;
-    for path in chosen.get_strs("file").into_iter().flatten() {
-        if path == "-" {
-            inputs = inputs.saturating_add(1);
-        }
-        if paths.push(path).is_err() {
-            let _ = writeln!(err, "collectd: open: {path}");
-            return Status::NotOpened.number();
-        }
-    }
-    if inputs > 1 {
+    let Some(paths) = chosen.get_strs("file") else {
+        return COMMAND_LINE;
+    };
+    if stands_twice(paths, "-") {
         let _ = writeln!(
             err,
             "error: standard input ('-') can be one of the files only once"
         );
         return COMMAND_LINE;
     }
-    let Some(job) = job(rt, chosen) else {
+    let Some(job) = read_job(rt, chosen) else {
         return Status::NotOpened.number();
     };
     let Some(mut out) = buffered_output(rt) else {
@@ -134,9 +138,9 @@ fn files(rt: &HostRuntime, chosen: &ArgMatches) -> u8 {
         return Status::Failed.number();
     };
     run_files(
-        rt,
+        threads,
         rt.alloc(),
-        &paths,
+        paths,
         &job.plan,
         job.pool,
         job.output,
@@ -145,14 +149,27 @@ fn files(rt: &HostRuntime, chosen: &ArgMatches) -> u8 {
     )
 }
 
+fn stands_twice(words: &[&str], word: &str) -> bool {
+    let mut found = false;
+    for other in words {
+        if *other == word {
+            if found {
+                return true;
+            }
+            found = true;
+        }
+    }
+    false
+}
+
 // `collectd tcp`: the table of the sessions that come over connections to standard output.
-fn tcp(rt: &HostRuntime, chosen: &ArgMatches) -> u8 {
+fn tcp<R: Threads + Wait + Sync>(threads: &R, rt: &HostRuntime, chosen: &ArgMatches) -> u8 {
     let mut err = rt.stderr();
     let (Some(addr), Some(sessions)) = (chosen.get_str("listen"), chosen.get_one::<u32>("sessions"))
     else {
         return COMMAND_LINE;
     };
-    let Some(job) = job(rt, chosen) else {
+    let Some(job) = read_job(rt, chosen) else {
         return Status::NotOpened.number();
     };
     let Ok(listener) = TcpListener::bind(rt, addr) else {
@@ -164,11 +181,11 @@ fn tcp(rt: &HostRuntime, chosen: &ArgMatches) -> u8 {
         return Status::Failed.number();
     };
     run_tcp(
-        rt,
+        threads,
         rt.alloc(),
         &listener,
         addr,
-        *sessions as usize,
+        sessions as usize,
         &job.plan,
         job.pool,
         job.output,

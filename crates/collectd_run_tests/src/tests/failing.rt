@@ -4,8 +4,11 @@ use super::sessions::{BY_SOURCE, CSV, two_flows};
 use collectd::run;
 use flow_collect::Pool;
 use plan_file::read_plan;
+use std::alloc::Global;
 use std::io::{self, ErrorKind, Write};
+use std::sync::Wait;
 use std::test::Fail;
+use std::thread::Threads;
 
 // Takes a number of octets, and then fails, or fails when it is flushed.
 #[derive(Drop)]
@@ -29,26 +32,33 @@ impl Write for FullDisk {
 }
 
 // The status and the texts of a run whose writer has room for so many octets.
-fn with_room(rt: &HostRuntime, room: usize) -> Result<(u8, Vec<u8>), Fail> {
-    let mut sources = Vec::new(rt.alloc());
-    sources.push(two_flows(rt.alloc(), 64, None, None)?)?;
-    let plan = read_plan(rt.alloc(), BY_SOURCE)?;
+fn with_room<R: Threads + Wait + Sync>(
+    rt: &R,
+    alloc: Global,
+    room: usize,
+) -> Result<(u8, Vec<u8>), Fail> {
+    let mut sources = Vec::new(alloc);
+    sources.push(two_flows(alloc, 64, None, None)?)?;
+    let plan = read_plan(alloc, BY_SOURCE)?;
     let pool = Pool {
         workers: 1,
         capacity: 1,
     };
     let mut out = FullDisk { room };
-    let mut err = Vec::new(rt.alloc());
-    let status = run(rt, rt.alloc(), sources, &plan, pool, CSV, &mut out, &mut err);
+    let mut err = Vec::new(alloc);
+    let status = run(rt, alloc, sources, &plan, pool, CSV, &mut out, &mut err);
     Ok((status, err))
 }
 
 #[test]
 fn a_writer_that_fails(rt: HostRuntime) -> Result<(), Fail> {
     for room in [0, 10, 55, 1000] {
-        let (status, err) = with_room(&rt, room)?;
+        let (status, err) = with_room(&rt, rt.alloc(), room)?;
         assert_eq!(rt; status, 3);
-        assert_eq!(rt; err.as_slice(), b"collectd: export: fault 2 WriteFailed\n".as_slice());
+        assert_eq!(rt;
+            err.as_slice(),
+            b"collectd: export: fault 2 WriteFailed\n".as_slice()
+        );
     }
     Ok(())
 }

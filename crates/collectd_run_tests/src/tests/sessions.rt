@@ -56,7 +56,16 @@ fn one_session_that_fails(rt: HostRuntime) -> Result<(), Fail> {
         };
         let mut out = Vec::new(rt.alloc());
         let mut err = Vec::new(rt.alloc());
-        let status = run(&rt, rt.alloc(), sources, &plan, pool, CSV, &mut out, &mut err);
+        let status = run(
+            &rt,
+            rt.alloc(),
+            sources,
+            &plan,
+            pool,
+            CSV,
+            &mut out,
+            &mut err,
+        );
         assert_eq!(rt; status, 1);
         assert_eq!(rt;
             out.as_slice(),
@@ -80,9 +89,21 @@ fn no_sources(rt: HostRuntime) -> Result<(), Fail> {
     };
     let mut out = Vec::from_slice(rt.alloc(), b"before")?;
     let mut err = Vec::new(rt.alloc());
-    let status = run(&rt, rt.alloc(), sources, &plan, pool, CSV, &mut out, &mut err);
+    let status = run(
+        &rt,
+        rt.alloc(),
+        sources,
+        &plan,
+        pool,
+        CSV,
+        &mut out,
+        &mut err,
+    );
     assert_eq!(rt; status, 3);
     assert_eq!(rt; out.as_slice(), b"before".as_slice());
-    assert_eq!(rt; err.as_slice(), b"collectd: collect: fault 2 Sessions\n".as_slice());
+    assert_eq!(rt;
+        err.as_slice(),
+        b"collectd: collect: fault 2 Sessions\n".as_slice()
+    );
     Ok(())
 }

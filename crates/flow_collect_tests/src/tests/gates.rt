@@ -177,6 +177,13 @@ fn new_noting() -> Noting {
     }
 }
 
+impl Noting {
+    /// Waits until both workers took a parcel. False if they didn't.
+    fn both_took(&self) -> bool {
+        wait_for(&self.taken[0], 1) && wait_for(&self.taken[1], 1)
+    }
+}
+
 impl Gate for Noting {
     fn before_take(&self, worker: usize, taken: u64) {
         if worker < 2 {
@@ -203,7 +210,7 @@ impl<'a> Read for WaitingReader<'a> {
         let mut most = rest.len();
         if self.at == 0 {
             most = most.min(self.first);
-        } else if !(wait_for(&self.gate.taken[0], 1) && wait_for(&self.gate.taken[1], 1)) {
+        } else if !self.gate.both_took() {
             return Err(io::Error::from(ErrorKind::TimedOut));
         }
         let count = most.min(buffer.len());

@@ -10,8 +10,8 @@ use std::sync::Wait;
 use std::sync::atomic::{AtomicU64, Ordering};
 use std::test::*;
 use std::thread::Threads;
-use worked_examples::building::header;
 use worked_examples::flows::*;
+use worked_examples::header;
 
 /// A flow of 1 octet, as a record of the template of [`LARGEST_FLOW`].
 const FLOW_OF_ONE: [u8; 28] = [
