@@ -10,6 +10,6 @@ module _ {S : Type 0} (seen : S → SourceView) where
   abbrev pub WholeSession : Start S → EndedSession S → Type 0
   WholeSession start over = SessionSent seen start.source start.sender over.source over.sender over.report
 
-  -- where it says that it is whole, it is
+  -- if it says that it is whole, it is
   abbrev pub SessionRan : Start S → EndedSession S → Type 0
   SessionRan start over = over.whole ≡ true → WholeSession start over

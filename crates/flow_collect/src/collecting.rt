@@ -23,12 +23,12 @@ use std::thread::Threads;
 /// Runs each source as a session in a thread of its own, and adds up their records in the threads of
 /// the workers. Session i, counted from 0, sends over a link of its own to worker `i mod workers`.
 ///
-/// It reads a source at most [`READ_LIMIT`](crate::READ_LIMIT) times. A session's own fault, want of memory
-/// included, stands in its report. Each thread has ended when it returns.
+/// It reads a source at most [`READ_LIMIT`](crate::READ_LIMIT) times. A session's own fault stands in its
+/// report, also if memory ran out in the session. Each thread has ended when it returns.
 ///
 /// The fault is the first of `Workers`, `Sessions` and `Link` that the arguments have, and then nothing
-/// was read; else the first of `NoThread`, `OutOfMemory` and `SumTooLarge` that came up. A fault drops
-/// the sources.
+/// was read; else `NoThread` before `OutOfMemory`, and this before `SumTooLarge`. A fault drops the
+/// sources.
 pub fn collect<S: Source + Send + Drop, G: Gate + Sync, R: Threads + Wait + Sync>(
     rt: &R,
     alloc: Global,

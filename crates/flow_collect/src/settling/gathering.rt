@@ -14,7 +14,8 @@ use std::alloc::AllocError;
 use std::collections::VecDeque;
 
 /// Merges the workers' tables, and puts their lanes in the order of the sessions, as if one worker
-/// had taken all. A worker's want of memory comes before any sum that is too large.
+/// had taken all. If a worker ran out of memory, that is answered before any sum that is too
+/// large.
 pub fn gather(worked: VecDeque<Worked>) -> Result<Worked, RunFault>
     requires { (plan : PlanValue) × All (HasTaken plan) worked.items }
     ensures lanes { IfOk result (λ all. IsPermutation (lanes_of worked.items) all.lanes.items) }

@@ -11,7 +11,7 @@ use flow_link::{Parcel, Taken, pause};
 use flow_table::Partial;
 use std::sync::Wait;
 
-/// Takes by turns until each link gave Last. `None` where a sender was gone before that.
+/// Takes by turns until each link gave Last. `None` if a sender was gone before that.
 pub fn run_worker<G: Gate, R: Wait>(rt: &R, gate: &G, lot: Lot) -> Option<Worked>
     requires { IsUnused lot }
     ensures { IfSome result (λ worked. WorkerRan lot worked) }
