@@ -8,7 +8,6 @@ pub mod Sources
 pub mod Sinks
 pub mod Feeding
 pub mod Drives
-
 -- what inner functions need
 pub mod Intake
 pub mod Tallies
