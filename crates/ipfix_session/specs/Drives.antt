@@ -50,7 +50,7 @@ pub record StopsAtFault (most : ℕ) (before : SourceView) (gave : List ℕ) (af
   pub is : gave ≡ earlier ++ last
   pub size : length last ≤ most
 
--- a source gave these octets, in at most that many reads of at most so many octets each, until this fault, which is due
+-- a source gave these octets, in at most that many reads, until this fault, which is due
 pub record Gave (limit most : ℕ) (before : SourceView) (gave : List ℕ) (after : SourceView) (fault : Option SessionFault) : Type 0 where
   -- what the source held before is these, and then what it holds after
   pub octets : Consumes before.text after.text gave
@@ -85,7 +85,7 @@ module _ {K : Type 0} (view : SinkView K) where
   PutsUpTo (Some faults.SinkClosed) old all before after told = IsRefused view old all before after told
   PutsUpTo fault old all before after told = PutsWhole view old all before after told
 
-  -- a source gave octets, and a sink took their records, by reads of at most that many octets
+  -- a source gave octets, and a sink took their records
   pub record Drives (limit most : ℕ) (before after : SourceView) (first last : K) (report : SessionReport) : Type 0 where
     pub gave : List ℕ
     pub given : Gave limit most before gave after report.fault
