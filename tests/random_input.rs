@@ -5,6 +5,9 @@
 //! count that reads by their element's kind. Every third input is damaged somewhere. The same words give the
 //! same files.
 
+mod numbers;
+
+use numbers::Numbers;
 use std::io;
 use std::{env, fs};
 
@@ -25,30 +28,6 @@ const ELEMENTS: &[(u16, u16)] = &[
     (375, 8),
     (999, 2),
 ];
-
-/// Pseudorandom numbers (xorshift64*).
-struct Numbers(u64);
-
-impl Numbers {
-    fn next(&mut self) -> u64 {
-        self.0 ^= self.0 >> 12;
-        self.0 ^= self.0 << 25;
-        self.0 ^= self.0 >> 27;
-        self.0.wrapping_mul(0x2545_f491_4f6c_dd1d) >> 32
-    }
-
-    fn below(&mut self, limit: usize) -> usize {
-        self.next() as usize % limit
-    }
-
-    fn one_in(&mut self, count: usize) -> bool {
-        self.below(count) == 0
-    }
-
-    fn of<T: Copy>(&mut self, all: &[T]) -> T {
-        all[self.below(all.len())]
-    }
-}
 
 fn put(number: u16, out: &mut Vec<u8>) {
     out.extend(number.to_be_bytes());
@@ -145,7 +124,7 @@ fn main() -> io::Result<()> {
     let (Some(folder), Some(count), Some(seed)) = (words.first(), number(1), number(2)) else {
         return Err(io::Error::other("usage: random_input FOLDER COUNT SEED"));
     };
-    let mut numbers = Numbers(seed.wrapping_mul(0x9e37_79b9_7f4a_7c15) | 1);
+    let mut numbers = Numbers::of_seed(seed);
     for file in 0..count {
         let mut octets = Vec::new();
         let shape = numbers.next();
