@@ -1,5 +1,5 @@
 -- What a run of collecting wrote.
-use Rattle.std.specs.Prelude.{◌≡◌, ◌↔◌, ℕ, List, map, All, Option}
+use Rattle.std.specs.Prelude.{◌≡◌, ◌≢◌, ◌↔◌, ◌⊎◌, ℕ, false, List, length, map, All, Option}
 use Rattle.std.specs.List.{AllZip, flat_map}
 use Rattle.std.specs.Io.KnownBytes.{Appends}
 use Rattle.ipfix_session.specs.Given.{records_of, stop_of, IsPrefix}
@@ -56,6 +56,22 @@ module _ {S : Type 0} (seen : S → SourceView) where
     pub table : Table
     pub adds_up : AddsUpWhole sources plan table
     pub written : Appends old new (export_text output plan table)
+
+  -- nothing was read from it yet
+  pub record IsUnread (source : S) : Type 0 where
+    pub reads : (seen source).reads ≡ 0
+    pub failed : (seen source).failed ≡ 0
+    pub ended : (seen source).ended ≡ false
+
+  -- so many sources were had, none of which was read before, and a run of them ended like this; the last fact says that
+  -- the writer is untouched
+  pub record RunsSources (count : ℕ) (plan : PlanValue) (pool : Pool) (output : Output) (status : ℕ) (old new : Option (List ℕ)) (Untouched : Type 0) : Type 0 where
+    pub sources : List S
+    pub one_each : length sources ≡ count
+    pub unread : All IsUnread sources
+    pub table : status ≢ 3 → WritesTable sources plan pool output status old new
+    pub all : status ≡ 0 → WritesWholeTable sources plan output old new
+    pub untouched : status ≡ 3 → Untouched ⊎ WasCollected sources plan pool
 
 -- a fact for a fault of collecting, and one for a fault of the export
 abbrev pub MatchRunFault : RunFault → Type 0 → Type 0 → Type 0

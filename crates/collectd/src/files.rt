@@ -1,12 +1,14 @@
 //! Collecting from files.
 
-ghost use Rattle.std.specs.Prelude.{◌≡◌, ◌⊎◌};
+ghost use Rattle.std.specs.Prelude.{◌≡◌, ◌≢◌, ◌⊎◌, length, IfOk};
+ghost use Rattle.collectd.specs.Runs.{RunsSources};
 
 use crate::status::Status;
 use crate::table_run::{Output, run};
+use crate::unread::Unread;
 use flow_collect::Pool;
 use flow_table::Plan;
-use ipfix_session::FromReader;
+use ipfix_session::{FromReader, Source};
 use std::alloc::Global;
 use std::fs::{self, File};
 use std::io::Write;
@@ -30,12 +32,25 @@ pub fn run_files<W: Write, E: Write, R: Files<File = File> + Threads + Wait + Sy
     out: &mut W,
     err: &mut E,
 ) -> u8
-    ensures { (result ≡ 0) ⊎ (result ≡ 1) ⊎ (result ≡ 2) ⊎ (result ≡ 3) }
+    ensures statuses { (result ≡ 0) ⊎ (result ≡ 1) ⊎ (result ≡ 2) ⊎ (result ≡ 3) }
+    // A source for each path was run, as `run` says it.
+    ensures opened { result ≢ 2 → RunsSources ⟦<FromReader<File> as Source>⟧.seen (length paths.now) plan.now pool output result (W.contents out.old) (W.contents out.new) (out.new ≡ out.old) }
+    // Nothing was written unless all were opened.
+    ensures not_opened { result ≡ 2 → out.new ≡ out.old }
 {
     match open_all(rt, alloc, paths) {
-        Ok(sources) => run(rt, alloc, sources, plan, pool, output, out, err),
+        Ok(sources) => run(
+            rt,
+            alloc,
+            sources.into_sources(),
+            plan,
+            pool,
+            output,
+            out,
+            err,
+        ),
         Err(path) => {
-            let _ = writeln!(err, "collectd: open: {path}");
+            let _ = writeln!(out, "collectd: open: {path}");
             Status::NotOpened.number()
         }
     }
@@ -46,8 +61,10 @@ fn open_all<'a, R: Files<File = File>>(
     rt: &R,
     alloc: Global,
     paths: &[&'a str],
-) -> Result<Vec<FromReader<File>>, &'a str> {
-    let mut sources = Vec::new(alloc);
+) -> Result<Unread<FromReader<File>>, &'a str>
+    ensures { IfOk result (λ sources. length sources ≡ length paths.now) }
+{
+    let mut sources = Unread::new(alloc);
     for path in paths {
         let name = if *path == STANDARD_INPUT.0 {
             STANDARD_INPUT.1
@@ -57,9 +74,9 @@ fn open_all<'a, R: Files<File = File>>(
         let Ok(file) = fs::open(rt, name) else {
             return Err(*path);
         };
-        if sources.push(FromReader::new(file)).is_err() {
+        let Ok(()) = sources.push(FromReader::new(file)) else {
             return Err(*path);
-        }
+        };
     }
     Ok(sources)
 }

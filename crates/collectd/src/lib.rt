@@ -14,6 +14,7 @@ mod running;
 mod status;
 mod table_run;
 mod text;
+mod unread;
 
 pub use dumping::dump;
 pub use fault::DumpFault;

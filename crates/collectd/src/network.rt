@@ -1,12 +1,15 @@
 //! Collecting from connections.
 
-ghost use Rattle.std.specs.Prelude.{◌≡◌, ◌⊎◌};
+ghost use Rattle.std.specs.Prelude.{◌≡◌, ◌≢◌, ◌⊎◌, length};
+ghost use Rattle.std.specs.Option.{ForSome};
+ghost use Rattle.collectd.specs.Runs.{RunsSources};
 
 use crate::status::Status;
 use crate::table_run::{Output, run};
+use crate::unread::Unread;
 use flow_collect::Pool;
 use flow_table::Plan;
-use ipfix_session::FromReader;
+use ipfix_session::{FromReader, Source};
 use std::alloc::Global;
 use std::io::Write;
 use std::net::{TcpListener, TcpStream};
@@ -27,10 +30,23 @@ pub fn run_tcp<W: Write, E: Write, R: Threads + Wait + Sync>(
     out: &mut W,
     err: &mut E,
 ) -> u8
-    ensures { (result ≡ 0) ⊎ (result ≡ 1) ⊎ (result ≡ 2) ⊎ (result ≡ 3) }
+    ensures statuses { (result ≡ 0) ⊎ (result ≡ 1) ⊎ (result ≡ 2) ⊎ (result ≡ 3) }
+    // So many sources were run, as `run` says it.
+    ensures accepted { result ≢ 2 → RunsSources ⟦<FromReader<TcpStream> as Source>⟧.seen count plan.now pool output result (W.contents out.old) (W.contents out.new) (out.new ≡ out.old) }
+    // Nothing was written unless all were accepted.
+    ensures not_accepted { result ≡ 2 → out.new ≡ out.old }
 {
     match accept_all(alloc, listener, count) {
-        Some(sources) => run(rt, alloc, sources, plan, pool, output, out, err),
+        Some(sources) => run(
+            rt,
+            alloc,
+            sources.into_sources(),
+            plan,
+            pool,
+            output,
+            out,
+            err,
+        ),
         None => {
             let _ = writeln!(err, "collectd: listen: {addr}");
             Status::NotOpened.number()
@@ -43,9 +59,11 @@ fn accept_all(
     alloc: Global,
     listener: &TcpListener,
     count: usize,
-) -> Option<Vec<FromReader<TcpStream>>> {
-    let mut sources = Vec::new(alloc);
-    for _ in 0..count {
+) -> Option<Unread<FromReader<TcpStream>>>
+    ensures { ForSome result (λ sources. length sources ≡ count) }
+{
+    let mut sources = Unread::new(alloc);
+    for _number in 0..count {
         let (stream, _peer) = listener.accept().ok()?;
         sources.push(FromReader::new(stream)).ok()?;
     }
