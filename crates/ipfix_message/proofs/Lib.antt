@@ -13,4 +13,4 @@ pub mod LastDefinition
 pub mod Decoding
 pub mod History
 pub mod RecordOctets
-pub mod Blocks
+pub mod SpelledFields

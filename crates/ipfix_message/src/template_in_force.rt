@@ -1,40 +1,46 @@
 //! Templates in force (RFC 7011, section 8).
 
-ghost use Rattle.std.specs.Prelude.{◌≡◌, ◌<◌, ◌↔◌, IsTrue};
+ghost use Rattle.std.specs.Prelude.{◌≡◌, ◌<◌, ◌↔◌, IsTrue, IfOk};
+ghost use Rattle.std.specs.Arc.{arc_value};
 ghost use Rattle.ipfix_message.specs.DataRecords;
 ghost use Rattle.ipfix_message.specs.TemplatesInForce;
 
 use crate::record::Template;
 use crate::template_record::Kind;
 use ipfix_wire::Spec;
+use std::alloc::{AllocError, Global};
 use std::marker::Model;
+use std::sync::Arc;
 
-/// A template in force, with the least length of its records at hand. Contracts see the template.
+/// A template in force, with the least length of its records at hand. The records of its data sets
+/// share it. Contracts see the template.
 #[derive(Drop)]
 pub struct TemplateInForce {
-    template: Template,
+    template: Arc<Template, Global>,
     least: usize,
 }
 
 impl Model for TemplateInForce {
     ghost use Rattle.std.specs.Prelude.{◌≡◌, ◌<◌};
+    ghost use Rattle.std.specs.Arc.{arc_value};
     ghost use Rattle.ipfix_message.specs.declared.record.Template.{Template};
     ghost use Rattle.ipfix_message.specs.DataRecords;
 
     ghost Value = { Template };
 
-    ghost view = { λ k. k.template };
+    ghost view = { λ k. arc_value k.template };
 
-    ghost invariant = { λ k. (k.least ≡ DataRecords.least k.template.specs) × (0 < k.least) };
+    ghost invariant = { λ k. (k.least ≡ DataRecords.least (arc_value k.template).specs) × (0 < k.least) };
 }
 
 impl TemplateInForce {
-    pub fn new(template: Template, least: usize) -> Self
+    pub fn new(alloc: Global, template: Template, least: usize) -> Result<Self, AllocError>
         requires sum { least ≡ DataRecords.least template.specs }
         requires positive { 0 < least }
-        ensures { result ≡ template }
+        ensures { IfOk result (λ k. k ≡ template) }
     {
-        TemplateInForce { template, least }
+        let template = Arc::new(alloc, template)?;
+        Ok(TemplateInForce { template, least })
     }
 
     pub fn id(&self) -> u16
@@ -47,6 +53,13 @@ impl TemplateInForce {
         ensures { result.now ≡ self.now }
     {
         &self.template
+    }
+
+    /// The template, shared.
+    pub fn share(&self) -> Result<Arc<Template, Global>, AllocError>
+        ensures { IfOk result (λ template. arc_value template ≡ self.now) }
+    {
+        Arc::try_clone(&self.template)
     }
 
     /// The least length of a record.
