@@ -68,6 +68,7 @@ impl SetRecord {
     pub fn to_own(&self, alloc: Global) -> Result<OwnFields, AllocError>
         ensures { IfOk result (λ own. own ≡ self.now) }
     {
+        // (with a field in use, a proof knows that the fields are short)
         let _start = &self.start;
         OwnFields::copy(alloc, self.iter())
     }
