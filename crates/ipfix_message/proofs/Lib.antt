@@ -14,3 +14,4 @@ pub mod Decoding
 pub mod History
 pub mod RecordOctets
 pub mod SpelledFields
+pub mod FixedWidths

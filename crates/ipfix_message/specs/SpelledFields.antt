@@ -1,5 +1,6 @@
 -- The octets that spell the fields of a data record (RFC 7011, sections 3.4.3 and 7).
-use Rattle.std.specs.Prelude.{◌≡◌, ◌≢◌, ℕ, ◌+◌, ◌^◌, ◌<◌, ◌⊎◌, nat_lt, ◌==◌, if◌then◌else◌, List, [], ◌∷◌, ◌++◌, length, take, drop, Option, Some, None, Result, Ok, Err, IsOk}
+use Rattle.std.specs.Prelude.{◌≡◌, ◌≢◌, ℕ, Bool, ◌+◌, ◌^◌, ◌<◌, ◌⊎◌, nat_lt, ◌==◌, if◌then◌else◌, List, [], ◌∷◌, ◌++◌, length, take, drop, Option, Some, None, Result, Ok, Err, IsOk}
+use Rattle.std.specs.List.{list_all}
 use Rattle.std.specs.Result.{result_unwrap_or}
 use Rattle.ipfix_wire.specs.VariableLength.{SpellsLength, length_at}
 use Rattle.ipfix_wire.specs.declared.specifier.TheConstants.{VARIABLE_WIDTH}
@@ -30,6 +31,10 @@ Spells (s ∷ ss) (f ∷ fs) w =
 abbrev pub least : List Spec → ℕ
 least [] = 0
 least (s ∷ ss) = (if s.width == VARIABLE_WIDTH then 1 else s.width) + least ss
+
+-- no field has a variable length, so all records have the same
+abbrev pub has_fixed_widths : List Spec → Bool
+has_fixed_widths specs = list_all (λ s. nat_lt s.width VARIABLE_WIDTH) specs
 
 -- ---- reading them
 

@@ -1,8 +1,8 @@
 //! The records of a data set (RFC 7011, sections 3.4.3 and 7).
 
-ghost use Rattle.std.specs.Prelude.{◌≡◌, ◌++◌, map, All, OnOk};
+ghost use Rattle.std.specs.Prelude.{◌≡◌, ◌≤◌, ◌++◌, length, map, All, OnOk};
 ghost use Rattle.ipfix_message.specs.Outcome.{Gives, map_read};
-ghost use Rattle.ipfix_message.specs.SpelledFields.{IsShort, fields_at, fields_in};
+ghost use Rattle.ipfix_message.specs.SpelledFields.{IsShort, fields_at, fields_in, least};
 ghost use Rattle.ipfix_message.specs.DataRecords.{records_of_body, record_of};
 
 use crate::fault::MessageFault;
@@ -14,8 +14,8 @@ use crate::template_in_force::TemplateInForce;
 use ipfix_wire::{Header, Spec};
 use std::alloc::Global;
 
-// what follows the record with which these octets begin
-fn after_record<'a>(specs: &[Spec], octets: &'a [u8]) -> Result<&'a [u8], MessageFault>
+// what follows the fields of these specifiers with which the octets begin
+fn after_fields<'a>(specs: &[Spec], octets: &'a [u8]) -> Result<&'a [u8], MessageFault>
     ensures gives { Gives (λ after. (fields_in specs.now octets.now, after.now)) result (fields_at specs.now octets.now) }
     ensures short { OnOk result (All IsShort (fields_in specs.now octets.now)) }
 {
@@ -27,6 +27,19 @@ fn after_record<'a>(specs: &[Spec], octets: &'a [u8]) -> Result<&'a [u8], Messag
         rest = after;
     }
     Ok(rest)
+}
+
+// what follows the record with which these octets begin, of which there are enough for the least one
+fn after_record<'a>(known: &TemplateInForce, octets: &'a [u8]) -> Result<&'a [u8], MessageFault>
+    requires { least known.now.specs ≤ length octets.now }
+    ensures gives { Gives (λ after. (fields_in known.now.specs octets.now, after.now)) result (fields_at known.now.specs octets.now) }
+    ensures short { OnOk result (All IsShort (fields_in known.now.specs octets.now)) }
+{
+    if known.is_fixed() {
+        let (_, after) = octets.split_at(known.least());
+        return Ok(after);
+    }
+    after_fields(known.template().specs.as_slice(), octets)
 }
 
 /// Appends the records of a data set's body, which share one copy of it. After an `Err` what was
@@ -48,7 +61,7 @@ pub fn take_records(
     out.reserve(body.len() / least)?;
     let mut rest = body;
     while rest.len() >= least {
-        let after = after_record(template.specs.as_slice(), rest)?;
+        let after = after_record(known, rest)?;
         let set_record = SetRecord::new(&set, body.len() - rest.len())?;
         out.push(DataRecord {
             domain: header.domain,
