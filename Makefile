@@ -11,6 +11,8 @@ bench: bin/collectd ; @for run in bench/*/run; do $$run || exit 1; done
 
 compare: bin/collectd ; @tests/compare && tests/stress
 
-install: bin/collectd ; install -D bin/collectd $(DESTDIR)$(PREFIX)/bin/collectd
+install: bin/collectd
+	install -D bin/collectd $(DESTDIR)$(PREFIX)/bin/collectd
+	cd share && find . -type f -exec install -D -m 644 {} $(abspath $(DESTDIR)$(PREFIX))/share/{} ';'
 
 clean: ; rm -rf bin tests/out crates/*/out

@@ -67,10 +67,8 @@ unsafe impl Sync for Ring {}
 fn pause(tries: u32) {
     if tries < 64 {
         hint::spin_loop();
-    } else if tries < 128 {
-        thread::yield_now();
     } else {
-        let nap = (tries - 128).saturating_mul(50).min(1000);
+        let nap = (tries - 63).saturating_mul(10).min(1000);
         thread::sleep(Duration::from_micros(nap as u64));
     }
 }

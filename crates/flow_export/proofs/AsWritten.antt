@@ -23,7 +23,7 @@ row_written plan row = row_text-plain (decimal (first_of plan row)) (decimal (la
 rows_written : (plan : PlanValue) (rows : List Row) → written_rows plan rows ≡ flat_map (row_line plan) (map value_of rows)
 rows_written plan [] = refl
 rows_written plan (row ∷ rows) =
-    ap (λ (t : List ℕ). t ++ written_rows plan rows) (row_written plan (value_of row)) ∙ ap (λ (t : List ℕ). row_line plan (value_of row) ++ t) (rows_written plan rows)
+    ap (λ (t : List ℕ). row_line plan (value_of row) ++ t) (rows_written plan rows)
 
 table_written : (plan : PlanValue) (rows : List Row) → written_heading plan ++ written_rows plan rows ≡ csv_text plan (map value_of rows)
 table_written plan rows =

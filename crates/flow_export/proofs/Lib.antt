@@ -10,3 +10,4 @@ pub mod KeyCells
 pub mod Lengths
 pub mod TemplateParts
 pub mod MessageParts
+pub mod Lines

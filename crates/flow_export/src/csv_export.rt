@@ -1,4 +1,4 @@
-//! Tables as CSV: each line is a record of `csv`, and some hundred lines are written at once.
+//! Tables as CSV: the heading is a record of `csv`, and some hundred lines of rows are written at once.
 
 ghost use Rattle.std.specs.Prelude.{◌≡◌, ◌≢◌, All, map, IfOk, IfErr, OnOk};
 ghost use Rattle.std.specs.Io.KnownBytes.{Appends};
@@ -7,7 +7,8 @@ ghost use Rattle.flow_table.specs.SameTables.{value_of};
 ghost use Rattle.flow_export.specs.CsvText.{csv_text};
 ghost use Rattle.flow_export.specs.Written.{written_heading, written_rows};
 
-use crate::csv_line::{set_heading, set_row};
+use crate::csv_heading::set_heading;
+use crate::csv_rows::append_lines;
 use crate::fault::ExportFault;
 use csv::{ByteRecord, WriterBuilder};
 use flow_table::{Plan, Row, Table};
@@ -50,10 +51,12 @@ fn write_rows<W: Write>(
     ensures ok { OnOk result (Appends (W.contents out.old) (W.contents out.new) (written_rows plan.now rows.now)) }
     ensures fault { IfErr result (λ fault. fault ≢ ExportFault.TooManyRows) }
 {
+    let mut lines = Vec::new(alloc);
     let mut rest = rows;
     while !rest.is_empty() {
         let (block, later) = rest.split_at(rest.len().min(LINES_A_BLOCK));
-        let lines = rows_text(alloc, plan, block)?;
+        lines.clear();
+        append_lines(plan, block, &mut lines)?;
         out.write_all(lines.as_slice())?;
         rest = later;
     }
@@ -72,21 +75,4 @@ fn heading_text(alloc: Global, plan: &Plan) -> Result<Vec<u8>, AllocError>
         return Err(AllocError);
     }
     writer.into_inner().map_err(|_| AllocError)
-}
-
-/// The lines of rows.
-fn rows_text(alloc: Global, plan: &Plan, rows: &[Row]) -> Result<Vec<u8>, AllocError>
-    requires { All (FitsRow plan.now) rows.now }
-    ensures { IfOk result (λ lines. lines.items ≡ written_rows plan.now rows.now) }
-{
-    let mut text = Vec::new(alloc);
-    let mut line = ByteRecord::new(alloc);
-    let mut lines = WriterBuilder::new().from_writer(Vec::new(alloc));
-    for row in rows {
-        set_row(plan, row, &mut text, &mut line)?;
-        if lines.write_byte_record(&line).is_err() {
-            return Err(AllocError);
-        }
-    }
-    lines.into_inner().map_err(|_| AllocError)
 }

@@ -2,7 +2,8 @@
 #![tactic(auto)]
 
 mod csv_export;
-mod csv_line;
+mod csv_heading;
+mod csv_rows;
 mod examples;
 mod fault;
 mod format;

@@ -152,23 +152,32 @@ flow_large plan r s e key lent counters old (Err x) used k_is c_is large = λ sa
 
 -- ---- one record taken
 
-pub left_taken : (plan : PlanValue) (intervals : IntervalEntries) (before one after : Tally) (rs : List DataRecord) (r : DataRecord) (class : Class) → class_of plan r ≡ class → class ≢ Used → one ≡ one_of class → after ≡ tally_sum before one
+pub left_taken : (plan : PlanValue) (intervals : IntervalEntries) (before after : Tally) (rs : List DataRecord) (r : DataRecord) (class : Class) → class_of plan r ≡ class → class ≢ Used → after ≡ tally_sum before (one_of class)
     → ((d : Class) → count_in after d < 2 ^ 64) → HoldsTable plan intervals before rs → HoldsTable plan intervals after (rs ++ r ∷ [])
-left_taken plan intervals before one after rs r class is other one_is sum counts holds =
+left_taken plan intervals before after rs r class is other sum counts holds =
     holds_more plan intervals intervals before after rs (r ∷ []) holds (read_keys_fit plan r [] (Left class) (is, other)) (left_out plan intervals r (λ u. other (sym is ∙ u))) (λ k q small. small)
-    (one_more plan r class before after is (sum ∙ ap (λ (t : Tally). tally_sum before t) one_is)) counts
+    (one_more plan r class before after is sum) counts
 
-pub used_taken : (plan : PlanValue) (old new : IntervalEntries) (before one after : Tally) (rs : List DataRecord) (r : DataRecord) → KeysFit plan (r ∷ []) → class_of plan r ≡ Used → one ≡ one_of Used → after ≡ tally_sum before one
+pub used_taken : (plan : PlanValue) (old new : IntervalEntries) (before after : Tally) (rs : List DataRecord) (r : DataRecord) → KeysFit plan (r ∷ []) → class_of plan r ≡ Used → after ≡ tally_sum before (one_of Used)
     → ((d : Class) → count_in after d < 2 ^ 64)
     → ((k : ℕ) (q : List Cell) → kept_at new k q ≡ joined (kept_at old k q) (totals_at plan (r ∷ []) k q))
     → ((k : ℕ) (q : List Cell) → (IsLargeAt (kept_at old k q) → ⊥) → IsLargeAt (kept_at new k q) → ⊥)
     → HoldsTable plan old before rs → HoldsTable plan new after (rs ++ r ∷ [])
-used_taken plan old new before one after rs r keys is one_is sum counts step fits holds =
-    holds_more plan old new before after rs (r ∷ []) holds keys step fits (one_more plan r Used before after is (sum ∙ ap (λ (t : Tally). tally_sum before t) one_is)) counts
+used_taken plan old new before after rs r keys is sum counts step fits holds =
+    holds_more plan old new before after rs (r ∷ []) holds keys step fits (one_more plan r Used before after is sum) counts
 
-pub one_too_many : (plan : PlanValue) (intervals : IntervalEntries) (before one : Tally) (rs : List DataRecord) (r : DataRecord) (class : Class) → class_of plan r ≡ class → one ≡ one_of class → HoldsTable plan intervals before rs
-    → (d : Class) × (2 ^ 64 ≤ count_in before d + count_in one d) → IsTooLarge plan (rs ++ r ∷ [])
-one_too_many plan intervals before one rs r class is one_is holds large = count_too_large plan intervals before one rs (r ∷ []) holds (one_is ∙ one_is_tally plan r class is) large
+counts_itself : (class : Class) → 1 ≡ count_in (one_of class) class
+counts_itself Options = refl
+counts_itself Untimed = refl
+counts_itself Backward = refl
+counts_itself Unkeyed = refl
+counts_itself TooLong = refl
+counts_itself Used = refl
+
+pub one_too_many : (plan : PlanValue) (intervals : IntervalEntries) (before : Tally) (rs : List DataRecord) (r : DataRecord) (class : Class) → class_of plan r ≡ class → HoldsTable plan intervals before rs
+    → 2 ^ 64 ≤ count_in before class + 1 → IsTooLarge plan (rs ++ r ∷ [])
+one_too_many plan intervals before rs r class is holds big =
+    count_too_large plan intervals before (one_of class) rs (r ∷ []) holds (one_is_tally plan r class is) (class, subst (λ n. 2 ^ 64 ≤ count_in before class + n) (counts_itself class) big)
 
 -- ---- two lists
 

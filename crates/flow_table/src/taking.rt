@@ -17,7 +17,7 @@ use crate::reading::{Reading, read, read_counters};
 use crate::rows::Intervals;
 use crate::span::Span;
 use crate::table_fault::TableFault;
-use crate::tally::{Tally, one, together};
+use crate::tally::Tally;
 use ipfix_message::DataRecord;
 
 /// Adds the shares of a used record, whose key was read, to the totals.
@@ -51,11 +51,11 @@ pub fn take(
 {
     match read(plan, data_record, &mut room.key)? {
         Reading::Left(class) => {
-            *tally = together(tally, &one(class))?;
+            tally.count(class)?;
             Ok(class)
         }
         Reading::Used(span) => {
-            *tally = together(tally, &one(Class::Used))?;
+            tally.count(Class::Used)?;
             take_flow(plan, intervals, room, data_record, span)?;
             Ok(Class::Used)
         }

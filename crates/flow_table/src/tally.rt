@@ -1,6 +1,6 @@
 //! How many data records are of each class.
 
-ghost use Rattle.std.specs.Prelude.{◌≡◌, ◌+◌, ◌<◌, ◌≤◌, ◌^◌, IfOk, IfErr};
+ghost use Rattle.std.specs.Prelude.{◌≡◌, ◌+◌, ◌<◌, ◌≤◌, ◌^◌, OnOk, IfOk, IfErr};
 ghost use Rattle.flow_table.specs.declared.class.Class.{Class as ClassValue};
 ghost use Rattle.flow_table.specs.Partials.{count_in, one_of, tally_sum};
 ghost use Rattle.flow_table.specs.declared.table_fault.TableFault.TheVariants.{SumTooLarge};
@@ -34,6 +34,31 @@ impl Tally {
         too_long: 0,
         used: 0,
     };
+
+    /// Counts a record of a class.
+    #[tactic(auto, using(crate::proofs::Sums::same_tally, crate::proofs::Holding::counts_fit))]
+    pub(crate) fn count(&mut self, class: Class) -> Result<(), TableFault>
+        ensures ok { OnOk result ((self.new ≡ tally_sum self.old (one_of class)) × ((other : ClassValue) → count_in self.new other < 2 ^ 64)) }
+        ensures large { IfErr result (λ e. (e ≡ SumTooLarge) × (2 ^ 64 ≤ count_in self.old class + 1)) }
+    {
+        let Tally {
+            options,
+            untimed,
+            backward,
+            unkeyed,
+            too_long,
+            used,
+        } = *self;
+        match class {
+            Class::Options => self.options = sum(options, 1)?,
+            Class::Untimed => self.untimed = sum(untimed, 1)?,
+            Class::Backward => self.backward = sum(backward, 1)?,
+            Class::Unkeyed => self.unkeyed = sum(unkeyed, 1)?,
+            Class::TooLong => self.too_long = sum(too_long, 1)?,
+            Class::Used => self.used = sum(used, 1)?,
+        }
+        Ok(())
+    }
 }
 
 /// The sum of two counts.
@@ -60,20 +85,4 @@ pub fn together(a: &Tally, b: &Tally) -> Result<Tally, TableFault>
         too_long: sum(a.too_long, b.too_long)?,
         used: sum(a.used, b.used)?,
     })
-}
-
-/// The tally of one record.
-pub fn one(class: Class) -> Tally
-    ensures { result ≡ one_of class }
-{
-    let mut tally = Tally::EMPTY;
-    match class {
-        Class::Options => tally.options = 1,
-        Class::Untimed => tally.untimed = 1,
-        Class::Backward => tally.backward = 1,
-        Class::Unkeyed => tally.unkeyed = 1,
-        Class::TooLong => tally.too_long = 1,
-        Class::Used => tally.used = 1,
-    }
-    tally
 }

@@ -9,7 +9,8 @@ use Rattle.ipfix_message.specs.declared.fault.MessageFault.TheVariants.{RecordCu
 use Rattle.ipfix_message.specs.Fields.{Field}
 use Rattle.ipfix_message.specs.Outcome.{map_read, Fails}
 use Rattle.ipfix_wire.specs.InTurn.{Parts, parts_of}
-use Rattle.ipfix_message.specs.DataRecords.{Spells, least, IsBody, fields_at, finished, records_of_body}
+use Rattle.ipfix_message.specs.SpelledFields.{Spells, least, fields_at}
+use Rattle.ipfix_message.specs.DataRecords.{IsBody, finished, records_of_body}
 use Rattle.ipfix_message.specs.declared.record.DataRecord.{DataRecord}
 use Rattle.ipfix_wire.proofs.Parts.{cons, parts_of-next, parts_of-none, parts_of-found, parts_of-only}
 use Rattle.ipfix_wire.proofs.Choices.{chosen}

@@ -7,11 +7,15 @@ use Rattle.ipfix_wire.specs.VariableLength.{SpellsLength, length_at}
 use Rattle.ipfix_wire.specs.Numbers.{IsOctets}
 use Rattle.ipfix_message.specs.declared.fault.MessageFault.{MessageFault}
 use Rattle.ipfix_message.specs.declared.fault.MessageFault.TheVariants.{RecordCut}
-use Rattle.ipfix_message.specs.DataRecords.{SpellsOctets, octets_at, variable_at, value_at}
+use Rattle.ipfix_message.specs.SpelledFields.{SpellsOctets, octets_at, variable_at, value_at}
 use Rattle.ipfix_wire.proofs.Parts.{Spelled}
 use Rattle.ipfix_wire.proofs.Choices.{different, chosen, cases_option}
 use Rattle.ipfix_wire.proofs.Lengths.{length_at-used, length_at-found, length_at-only}
 use Rattle.ipfix_message.proofs.Reading.{ok_is, not_both, fault_is}
+
+-- r is the end of w
+abbrev pub EndsWith : List ℕ → List ℕ → Type 0
+EndsWith w r = (front : List ℕ) × (w ≡ front ++ r)
 
 -- what a width counts at least
 abbrev pub least_of : ℕ → ℕ
@@ -61,6 +65,18 @@ value_at-cases width w v r h =
         | inr some ↦ inl (eqb-true width 65535 t.0, (some.0.0, some.0.1, some.1, octets_at-ok some.0.0 (drop some.0.1 w) v r (sym (ap (λ (o : Option (ℕ × ℕ)). variable_at o w) some.1) ∙ t.1)))
       ]
       | inr f ↦ inr (eqb-false width 65535 f.0, octets_at-ok width w v r f.1)
+    ]
+
+-- what follows a field is the end of the text
+pub value_at-end : (width : ℕ) (w v r : List ℕ) → value_at width w ≡ Ok (v, r) → EndsWith w r
+value_at-end width w v r h =
+    elim (value_at-cases width w v r h) [
+      | inl long ↦
+          let n = long.1.0 in
+          let used = long.1.1 in
+          let rest : drop used w ≡ take n (drop used w) ++ r = sym (take-append-drop n (drop used w)) ∙ ap (λ (t : List ℕ). take n (drop used w) ++ t) (sym long.1.3.back) in
+          (take used w ++ take n (drop used w), sym (take-append-drop used w) ∙ ap (λ (t : List ℕ). take used w ++ t) rest ∙ sym (append_assoc (take used w) (take n (drop used w)) r))
+      | inr short ↦ (take width w, sym (take-append-drop width w) ∙ ap (λ (t : List ℕ). take width w ++ t) (sym short.1.back))
     ]
 
 pub value_at-takes : (width : ℕ) (w v r : List ℕ) → value_at width w ≡ Ok (v, r) → length r + least_of width ≤ length w

@@ -13,4 +13,5 @@ pub mod LastDefinition
 pub mod Decoding
 pub mod History
 pub mod RecordOctets
-pub mod Blocks
+pub mod SpelledFields
+pub mod FixedWidths

@@ -8,7 +8,7 @@ use Rattle.ipfix_message.specs.declared.fault.MessageFault.{MessageFault}
 use Rattle.ipfix_message.specs.declared.fault.MessageFault.TheVariants.{RecordCut}
 use Rattle.ipfix_message.specs.Fields.{Field}
 use Rattle.ipfix_message.specs.Outcome.{◌>>=◌}
-use Rattle.ipfix_message.specs.DataRecords.{Spells, least, value_at, fields_at}
+use Rattle.ipfix_message.specs.SpelledFields.{Spells, least, value_at, fields_at}
 use Rattle.ipfix_wire.proofs.Parts.{cases_read, Shrinks, Reads, Spelled}
 use Rattle.ipfix_message.proofs.Reading.{ok_is, not_both, bind_ok, bind_err}
 use Rattle.ipfix_message.proofs.FieldValues.{value_at-takes, value_at-fault, value_at-found, value_at-only}
@@ -51,7 +51,7 @@ fields_at-found (s ∷ ss) w fs r fits h =
     (ok_is (record { element = s.element; octets = a.0.0 } ∷ b.0.0, b.0.1) (fs, r) b.2)
     (record { text = first.text ++ more.text; whole = whole; is = (first.text, more.text, refl, refl, first.is, more.is) })
 
-fields_at-only : (specs : List Spec) (fs : List Field) (u r : List ℕ) → Spells specs fs u → fields_at specs (u ++ r) ≡ Ok (fs, r)
+pub fields_at-only : (specs : List Spec) (fs : List Field) (u r : List ℕ) → Spells specs fs u → fields_at specs (u ++ r) ≡ Ok (fs, r)
 unfolding fields_at
 fields_at-only [] [] u r spelled = rw spelled refl
 fields_at-only [] (f ∷ fs) u r spelled = absurd spelled

@@ -16,7 +16,8 @@ use Rattle.ipfix_message.specs.declared.template_record.Kind.{Kind}
 use Rattle.ipfix_message.specs.declared.template_record.Kind.TheVariants.{Plain, Options}
 use Rattle.ipfix_message.specs.Outcome.{◌>>=◌, unless}
 use Rattle.ipfix_message.specs.Fields.{Field}
-use Rattle.ipfix_message.specs.DataRecords.{SpellsOctets, Spells, HasOctets, records_of_body, record_of}
+use Rattle.ipfix_message.specs.SpelledFields.{SpellsOctets, Spells}
+use Rattle.ipfix_message.specs.DataRecords.{HasOctets, records_of_body, record_of}
 use Rattle.ipfix_message.specs.TemplatesInForce.{in_force, template_set_gives}
 use Rattle.ipfix_message.specs.Sets.{Set, SpellsSet, sets_of, fault_after_sets}
 use Rattle.ipfix_message.specs.Messages.{Decoding, before, templates_in, data_in, set_gives, sets_give, sets_from}

@@ -22,7 +22,7 @@ use Rattle.ipfix_message.specs.declared.template_record.Kind.TheVariants.{Plain,
 use Rattle.ipfix_message.specs.declared.template_record.Event.{Event}
 use Rattle.ipfix_message.specs.declared.template_record.Event.TheVariants.{Define, Withdraw, WithdrawAll}
 use Rattle.ipfix_message.specs.Outcome.{◌>>=◌}
-use Rattle.ipfix_message.specs.DataRecords.{least}
+use Rattle.ipfix_message.specs.SpelledFields.{least}
 use Rattle.ipfix_message.specs.TemplateRecords.{set_id_of, IsScope, scope_octets, SpellsEvent, IsPadding, IsTemplateSet, FirstOf, HasWrongId, MissesScope, HasWrongScope, behind_counts, BeginsWith, MissesSpec, HasNoOctets, FaultOf, FaultAt, scope_at, one_spec, specs_at, withdrawal, definition, record_at, event_at, events_of, is_padding, fault_after_events}
 use Rattle.ipfix_wire.proofs.Choices.{chosen, different, or_true, or_false, or_right, both_true}
 use Rattle.ipfix_message.proofs.Reading.{ok_is, not_both, bind_ok}

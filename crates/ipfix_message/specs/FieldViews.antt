@@ -1,5 +1,5 @@
 -- What contracts see of a field that is lent.
-use Rattle.ipfix_message.specs.declared.field_block.FieldRef.{FieldRef}
+use Rattle.ipfix_message.specs.declared.field_iter.FieldRef.{FieldRef}
 use Rattle.ipfix_message.specs.Fields.{Field}
 
 abbrev pub field_of : FieldRef → Field

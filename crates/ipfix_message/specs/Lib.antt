@@ -2,6 +2,7 @@
 pub mod Outcome
 pub mod Faults
 pub mod Fields
+pub mod SpelledFields
 pub mod FieldViews
 pub mod DataRecords
 pub mod TemplateRecords
@@ -10,5 +11,7 @@ pub mod Sets
 pub mod Messages
 pub mod Domains
 -- what only inner functions need
+pub mod SetRecords
+pub mod KeptFields
 pub mod Held
 pub mod Kept

@@ -1,78 +1,74 @@
 //! The records of a data set (RFC 7011, sections 3.4.3 and 7).
 
-ghost use Rattle.std.specs.Prelude.{◌≡◌, ◌<◌, ◌^◌, ◌++◌, length, map, IfOk};
+ghost use Rattle.std.specs.Prelude.{◌≡◌, ◌≤◌, ◌++◌, length, map, All, OnOk};
 ghost use Rattle.ipfix_message.specs.Outcome.{Gives, map_read};
-ghost use Rattle.ipfix_message.specs.DataRecords;
-ghost use Rattle.ipfix_message.specs.DataRecords.{value_at, fields_at, records_of_body, record_of};
+ghost use Rattle.ipfix_message.specs.SpelledFields.{IsShort, fields_at, fields_in, least};
+ghost use Rattle.ipfix_message.specs.DataRecords.{records_of_body, record_of};
 
 use crate::fault::MessageFault;
 use crate::field_block::Fields;
-use crate::record::{DataRecord, Template};
-use ipfix_wire::{Header, Spec, VARIABLE_WIDTH, read_length};
+use crate::field_value::value_of;
+use crate::record::DataRecord;
+use crate::set_body::{SetBody, SetRecord};
+use crate::template_in_force::TemplateInForce;
+use ipfix_wire::{Header, Spec};
 use std::alloc::Global;
 
-// the octets of a field of this width, and what follows them
-#[tactic(auto, unfolding(crate::specs::DataRecords::value_at))]
-fn value_of(width: u16, rest: &[u8]) -> Result<(&[u8], &[u8]), MessageFault>
-    ensures gives { Gives (λ x. (x.0.now, x.1.now)) result (value_at width rest.now) }
-    ensures short { IfOk result (λ x. length x.0.now < 2 ^ 16) }
+// what follows the fields of these specifiers with which the octets begin
+fn after_fields<'a>(specs: &[Spec], octets: &'a [u8]) -> Result<&'a [u8], MessageFault>
+    ensures gives { Gives (λ after. (fields_in specs.now octets.now, after.now)) result (fields_at specs.now octets.now) }
+    ensures short { OnOk result (All IsShort (fields_in specs.now octets.now)) }
 {
-    let (len, rest) = if width == VARIABLE_WIDTH {
-        let Some((len, used)) = read_length(rest) else {
-            return Err(MessageFault::RecordCut);
-        };
-        (len, &rest[used..])
-    } else {
-        (usize::from(width), rest)
-    };
-    if rest.len() < len {
-        return Err(MessageFault::RecordCut);
-    }
-    Ok(rest.split_at(len))
-}
-
-// the fields of one record, and what follows it
-fn fields_of<'a>(
-    alloc: Global,
-    specs: &[Spec],
-    least: usize,
-    octets: &'a [u8],
-) -> Result<(Fields, &'a [u8]), MessageFault>
-    ensures { Gives (λ x. (x.0, x.1.now)) result (fields_at specs.now octets.now) }
-{
-    let mut fields = Fields::with_capacity(alloc, specs.len(), least)?;
     let mut rest = octets;
     for spec in specs {
-        let (value, after) = value_of(spec.width, rest)?;
-        fields.push(spec.element, value)?;
+        let Some((_, after)) = value_of(spec.width, rest) else {
+            return Err(MessageFault::RecordCut);
+        };
         rest = after;
     }
-    Ok((fields, rest))
+    Ok(rest)
 }
 
-/// Appends the records of a data set's body. After an `Err` what was appended is of no use.
+// what follows the record with which these octets begin, of which there are enough for the least one
+fn after_record<'a>(known: &TemplateInForce, octets: &'a [u8]) -> Result<&'a [u8], MessageFault>
+    requires { least known.now.specs ≤ length octets.now }
+    ensures gives { Gives (λ after. (fields_in known.now.specs octets.now, after.now)) result (fields_at known.now.specs octets.now) }
+    ensures short { OnOk result (All IsShort (fields_in known.now.specs octets.now)) }
+{
+    if known.is_fixed() {
+        let (_, after) = octets.split_at(known.least());
+        return Ok(after);
+    }
+    after_fields(known.template().specs.as_slice(), octets)
+}
+
+/// Appends the records of a data set's body, which share one copy of it. After an `Err` what was
+/// appended is of no use.
 pub fn take_records(
     alloc: Global,
     header: &Header,
-    template: &Template,
-    least: usize,
+    known: &TemplateInForce,
     body: &[u8],
     out: &mut Vec<DataRecord>,
 ) -> Result<(), MessageFault>
-    requires sum { least ≡ DataRecords.least template.now.specs }
-    requires positive { 0 < least }
     ensures { Gives (λ _. out.new.items) result
-        (map_read (λ rs. out.old.items ++ map (record_of header.now template.now) rs) (records_of_body template.now.specs body.now)) }
+        (map_read (λ rs. out.old.items ++ map (record_of header.now known.now) rs) (records_of_body known.now.specs body.now)) }
 {
+    let template = known.template();
+    let least = known.least();
+    let shared = known.share()?;
+    let set = SetBody::copy(alloc, shared, body)?;
+    out.reserve(body.len() / least)?;
     let mut rest = body;
     while rest.len() >= least {
-        let (fields, after) = fields_of(alloc, template.specs.as_slice(), least, rest)?;
+        let after = after_record(known, rest)?;
+        let set_record = SetRecord::new(&set, body.len() - rest.len())?;
         out.push(DataRecord {
             domain: header.domain,
             export_time: header.export_time,
             template: template.id,
             scope: template.scope,
-            fields,
+            fields: Fields::in_set(alloc, set_record),
         })?;
         rest = after;
     }

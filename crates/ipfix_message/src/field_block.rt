@@ -1,50 +1,48 @@
-//! The fields of a data record (RFC 7011, section 3.4.3), kept in one block.
+//! The fields of a data record (RFC 7011, section 3.4.3).
 
 ghost use Rattle.std.specs.Prelude.{◌≡◌, ◌==◌, ◌<◌, ◌^◌, [], ◌∷◌, ◌++◌, length, IfOk, OnOk, OnErr, option_copied, slice_get};
 ghost use Rattle.std.specs.Option.{option_map};
-ghost use Rattle.std.specs.Iterator.{YieldsFirstBy, item_count};
 ghost use Rattle.ipfix_message.specs.Fields.{octets_of};
 ghost use Rattle.ipfix_message.specs.FieldViews.{field_of};
 
+use crate::field_iter::{FieldIter, FieldRef};
+use crate::own_fields::OwnFields;
+use crate::set_body::SetRecord;
 use ipfix_wire::ElementId;
 use std::alloc::{AllocError, Global};
 use std::marker::Model;
 
-/// Which element a field has, and how many octets of the block are its own. They follow those of
-/// the field before.
-#[derive(Clone, Copy, Debug)]
-struct Place {
-    element: ElementId,
-    length: u16,
+/// How fields are kept.
+#[derive(Debug, Drop)]
+enum Kept {
+    /// There are none.
+    Nothing,
+    /// They are a record of a data set.
+    InSet(SetRecord),
+    /// They were pushed.
+    Own(Box<OwnFields>),
 }
 
 /// The fields of a data record, in the order of its template (RFC 7011, section 3.4.3). Contracts
 /// see the list of the fields.
+///
+/// The records of a data set share the octets of its body and its template: as long as one of them
+/// lives, both do.
 #[derive(Debug, Drop)]
 pub struct Fields {
-    places: Vec<Place>,
-    block: Vec<u8>,
+    alloc: Global,
+    kept: Kept,
 }
 
 impl Model for Fields {
     ghost use Rattle.std.specs.Prelude.{List};
-    ghost use Rattle.ipfix_message.specs.Fields.{Field, fields_in, Fills};
+    ghost use Rattle.ipfix_message.specs.Fields.{Field};
 
     ghost Value = { List Field };
 
-    ghost view = { λ f. fields_in f.places.items f.block.items };
+    ghost use Rattle.ipfix_message.specs.KeptFields.{kept_fields};
 
-    ghost invariant = { λ f. Fills f.places.items f.block.items };
-}
-
-/// A field of a data record.
-#[derive(Clone, Copy, Debug)]
-pub struct FieldRef<'a> {
-    /// The information element.
-    pub element: ElementId,
-    /// The octets of the value, at most 65,535. The length that a variable-length field begins with
-    /// (RFC 7011, section 7) is not among them.
-    pub octets: &'a [u8],
+    ghost view = { λ f. kept_fields f.kept };
 }
 
 impl Fields {
@@ -53,8 +51,8 @@ impl Fields {
         ensures { result ≡ [] }
     {
         Fields {
-            places: Vec::new(alloc),
-            block: Vec::new(alloc),
+            alloc,
+            kept: Kept::Nothing,
         }
     }
 
@@ -62,22 +60,35 @@ impl Fields {
     pub fn with_capacity(alloc: Global, fields: usize, octets: usize) -> Result<Self, AllocError>
         ensures { IfOk result (λ f. f ≡ []) }
     {
-        Ok(Fields {
-            places: Vec::with_capacity(alloc, fields)?,
-            block: Vec::with_capacity(alloc, octets)?,
-        })
+        let own = OwnFields::with_capacity(alloc, fields, octets)?;
+        let kept = Kept::Own(Box::new(alloc, own)?);
+        Ok(Fields { alloc, kept })
     }
 
-    /// Appends a field of at most 65,535 octets.
+    /// The fields of a record of a data set.
+    pub(crate) fn in_set(alloc: Global, set_record: SetRecord) -> Self
+        ensures { result ≡ set_record }
+    {
+        Fields {
+            alloc,
+            kept: Kept::InSet(set_record),
+        }
+    }
+
+    /// Appends a field of at most 65,535 octets. A record of a data set gets octets of its own by it.
     pub fn push(&mut self, element: ElementId, octets: &[u8]) -> Result<(), AllocError>
         requires { length octets.now < 2 ^ 16 }
         ensures ok { OnOk result (self.new ≡ self.old ++ record { element = element; octets = octets.now } ∷ []) }
         ensures err { OnErr result (self.new ≡ self.old) }
     {
-        let length = octets.len() as u16;
-        self.places.reserve(1)?;
-        self.block.extend_from_slice(octets)?;
-        self.places.push_reserved(Place { element, length });
+        let alloc = self.alloc;
+        let mut own = match &mut self.kept {
+            Kept::Nothing => OwnFields::with_capacity(alloc, 1, octets.len())?,
+            Kept::InSet(set_record) => set_record.to_own(alloc)?,
+            Kept::Own(own) => return own.push(element, octets),
+        };
+        own.push(element, octets)?;
+        self.kept = Kept::Own(Box::new(alloc, own)?);
         Ok(())
     }
 
@@ -85,23 +96,24 @@ impl Fields {
     pub fn len(&self) -> usize
         ensures { result ≡ length self.now }
     {
-        self.places.len()
+        self.iter().left()
     }
 
     /// Whether there are no fields.
     pub fn is_empty(&self) -> bool
         ensures { result ≡ (length self.now == 0) }
     {
-        self.places.is_empty()
+        self.len() == 0
     }
 
     /// The fields in order.
     pub fn iter(&self) -> FieldIter<'_>
         ensures { result ≡ self.now }
     {
-        FieldIter {
-            places: self.places.as_slice(),
-            block: self.block.as_slice(),
+        match &self.kept {
+            Kept::Nothing => FieldIter::new(&[], &[]),
+            Kept::InSet(set_record) => set_record.iter(),
+            Kept::Own(own) => own.iter(),
         }
     }
 
@@ -122,42 +134,5 @@ impl Fields {
             }
         }
         None
-    }
-}
-
-/// The fields of a data record that are left, in order.
-#[derive(Debug, Drop)]
-pub struct FieldIter<'a> {
-    places: &'a [Place],
-    block: &'a [u8],
-}
-
-impl<'a> Model for FieldIter<'a> {
-    ghost use Rattle.std.specs.Prelude.{List};
-    ghost use Rattle.ipfix_message.specs.Fields.{Field, fields_in, Fills};
-
-    ghost Value = { List Field };
-
-    ghost view = { λ it. fields_in it.places.now it.block.now };
-
-    ghost invariant = { λ it. Fills it.places.now it.block.now };
-}
-
-impl<'a> Iterator for FieldIter<'a> {
-    type Item = FieldRef<'a>;
-
-    ghost next_gives = { YieldsFirstBy field_of (λ rest. rest) };
-
-    ghost remaining = { item_count (λ rest. rest) };
-
-    fn next(&mut self) -> Option<FieldRef<'a>> {
-        let (place, places) = self.places.split_first()?;
-        let (octets, block) = self.block.split_at(usize::from(place.length));
-        self.places = places;
-        self.block = block;
-        Some(FieldRef {
-            element: place.element,
-            octets,
-        })
     }
 }

@@ -63,7 +63,8 @@ fn admit(
 pub struct Decoded {
     /// Its header (RFC 7011, section 3.1).
     pub header: Header,
-    /// The records of its data sets, in order (RFC 7011, section 3.4.3).
+    /// The records of its data sets, in order (RFC 7011, section 3.4.3). They may outlive the message
+    /// and the session: each keeps the body of its set and its template.
     pub records: Vec<DataRecord>,
     /// How many sets had an id of 0, 1 or 4 to 255 (RFC 7011, section 3.3.2).
     pub skipped_sets: u64,

@@ -75,14 +75,7 @@ fn take_data_set(
             progress.unknown += 1;
             Ok(())
         }
-        Some(known) => take_records(
-            alloc,
-            header,
-            known.template(),
-            known.least(),
-            body,
-            &mut progress.records,
-        ),
+        Some(known) => take_records(alloc, header, known, body, &mut progress.records),
     }
 }
 

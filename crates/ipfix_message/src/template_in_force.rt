@@ -1,40 +1,54 @@
 //! Templates in force (RFC 7011, section 8).
 
-ghost use Rattle.std.specs.Prelude.{◌≡◌, ◌<◌, ◌↔◌, IsTrue};
+ghost use Rattle.std.specs.Prelude.{◌≡◌, ◌<◌, ◌↔◌, IsTrue, IfOk};
+ghost use Rattle.std.specs.Arc.{arc_value};
 ghost use Rattle.ipfix_message.specs.DataRecords;
+ghost use Rattle.ipfix_message.specs.SpelledFields.{has_fixed_widths};
 ghost use Rattle.ipfix_message.specs.TemplatesInForce;
 
 use crate::record::Template;
 use crate::template_record::Kind;
-use ipfix_wire::Spec;
+use ipfix_wire::{Spec, VARIABLE_WIDTH};
+use std::alloc::{AllocError, Global};
 use std::marker::Model;
+use std::sync::Arc;
 
-/// A template in force, with the least length of its records at hand. Contracts see the template.
+/// A template in force, with the least length of its records at hand, and whether that is the length
+/// of each. The records of its data sets share it. Contracts see the template.
 #[derive(Drop)]
 pub struct TemplateInForce {
-    template: Template,
+    template: Arc<Template, Global>,
     least: usize,
+    fixed: bool,
 }
 
 impl Model for TemplateInForce {
     ghost use Rattle.std.specs.Prelude.{◌≡◌, ◌<◌};
+    ghost use Rattle.std.specs.Arc.{arc_value};
     ghost use Rattle.ipfix_message.specs.declared.record.Template.{Template};
     ghost use Rattle.ipfix_message.specs.DataRecords;
+    ghost use Rattle.ipfix_message.specs.SpelledFields.{has_fixed_widths};
 
     ghost Value = { Template };
 
-    ghost view = { λ k. k.template };
+    ghost view = { λ k. arc_value k.template };
 
-    ghost invariant = { λ k. (k.least ≡ DataRecords.least k.template.specs) × (0 < k.least) };
+    ghost invariant = { λ k. (k.least ≡ DataRecords.least (arc_value k.template).specs) × (0 < k.least) × (k.fixed ≡ has_fixed_widths (arc_value k.template).specs) };
 }
 
 impl TemplateInForce {
-    pub fn new(template: Template, least: usize) -> Self
+    pub fn new(alloc: Global, template: Template, least: usize) -> Result<Self, AllocError>
         requires sum { least ≡ DataRecords.least template.specs }
         requires positive { 0 < least }
-        ensures { result ≡ template }
+        ensures { IfOk result (λ k. k ≡ template) }
     {
-        TemplateInForce { template, least }
+        let fixed = are_fixed(template.specs.as_slice());
+        let template = Arc::new(alloc, template)?;
+        Ok(TemplateInForce {
+            template,
+            least,
+            fixed,
+        })
     }
 
     pub fn id(&self) -> u16
@@ -49,12 +63,26 @@ impl TemplateInForce {
         &self.template
     }
 
+    /// The template, shared.
+    pub fn share(&self) -> Result<Arc<Template, Global>, AllocError>
+        ensures { IfOk result (λ template. arc_value template ≡ self.now) }
+    {
+        Arc::try_clone(&self.template)
+    }
+
     /// The least length of a record.
     pub fn least(&self) -> usize
         ensures sum { result ≡ DataRecords.least self.now.specs }
         ensures positive { 0 < result }
     {
         self.least
+    }
+
+    /// Whether each record has the least length, since no field has a variable one.
+    pub fn is_fixed(&self) -> bool
+        ensures { result ≡ has_fixed_widths self.now.specs }
+    {
+        self.fixed
     }
 
     pub fn is_of(&self, kind: Kind) -> bool
@@ -71,6 +99,12 @@ impl TemplateInForce {
     {
         is_same_template(&self.template, &other.template)
     }
+}
+
+fn are_fixed(specs: &[Spec]) -> bool
+    ensures { result ≡ has_fixed_widths specs.now }
+{
+    specs.iter().all(|spec| spec.width < VARIABLE_WIDTH)
 }
 
 fn is_same_list(specs: &[Spec], others: &[Spec]) -> bool

@@ -149,5 +149,6 @@ pub fn event_of(alloc: Global, kind: Kind, octets: &[u8]) -> Result<(Event, &[u8
         scope,
         specs: Specs::from_vec(specs),
     };
-    Ok((Event::Define(TemplateInForce::new(template, least)), rest))
+    let defined = TemplateInForce::new(alloc, template, least)?;
+    Ok((Event::Define(defined), rest))
 }

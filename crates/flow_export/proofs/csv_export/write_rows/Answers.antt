@@ -1,4 +1,4 @@
-use Rattle.std.proofs.Common.{◌≡◌, ◌∙◌, sym, subst, All, List}
+use Rattle.std.proofs.Common.{◌≡◌, ◌∙◌, ℕ, ◌++◌, ap, sym, subst, All, List}
 use Rattle.std.proofs.lemmas.List.Elements.{All-drop}
 use Rattle.flow_table.specs.Fitting.{FitsRow}
 use Rattle.flow_table.specs.declared.table.Row.{Row}
@@ -12,7 +12,7 @@ loop-rest-preserved g c =
     let plan = c.args.plan.now in
     let rest = c.loop-rest.rest.now in
     let block = c.split_at.result.0.now in
-    let text : c.as_slice.result.now ≡ written_rows plan block = c.as_slice.ensures.value ∙ c.in_ok-lines.ensures in (
+    let text : c.as_slice.result.now ≡ written_rows plan block = c.as_slice.ensures.value ∙ c.in_ok-append_lines.ensures ∙ ap (λ (t : List ℕ). t ++ written_rows plan block) c.clear.ensures.items in (
       subst (λ (rows : List Row). All (FitsRow plan) rows) (sym at.back) (All-drop (FitsRow plan) _ rest c.loop-rest.invariant.0),
       block_more plan c.args.rows.now rest block c.split_at.result.1.now _ _ _ _ _ at.front at.back text c.in_ok-write_all.ensures.bytes c.loop-rest.invariant.1,
     )

@@ -14,4 +14,4 @@ pub returns-in-Some-clause-gives : goal.returns-in-Some-clause-gives
 returns-in-Some-clause-gives c = λ d holds.
     let found : get nat_cmp c.args.templates.now c.args.id ≡ Some c.in-Some.known.now = search rules in
     data_set c.args.header.now d c.args.body.now c.args.templates.now.entries c.args.progress.now (in_force d.events c.args.id) c.in-Some.known.now c.take_records.result c.take_records.new.out holds (sym (holds.templates.at c.args.id) ∙ found)
-    (rw c.template.ensures at c.take_records.ensures)
+    c.take_records.ensures

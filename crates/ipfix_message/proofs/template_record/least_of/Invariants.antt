@@ -1,5 +1,5 @@
 use Rattle.std.proofs.Common.{◌≡◌, ◌+◌, ◌*◌, ◌≤◌, drop}
-use Rattle.ipfix_message.specs.DataRecords.{least}
+use Rattle.ipfix_message.specs.SpelledFields.{least}
 use Rattle.ipfix_message.proofs.template_record.least_of.Given as goal
 
 abbrev pub invariant-loop-spec : goal.invariant-loop-spec

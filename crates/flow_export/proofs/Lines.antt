@@ -1,0 +1,64 @@
+-- A line of a row, field by field.
+use Rattle.std.proofs.Common.{◌≡◌, ℕ, ◌+◌, ◌-◌, ◌*◌, List, [], ◌∷◌, ◌++◌, map, refl, sym, ap, ◌∙◌, append_assoc}
+use Rattle.std.specs.Fmt.{decimal}
+use Rattle.std.specs.List.{flat_map, join_with_byte}
+use Rattle.std.proofs.lemmas.List.{append-nil}
+use Rattle.std.proofs.lemmas.Grind.{flat_map-append}
+use Rattle.ipfix_elements.specs.Texts.{cell_text}
+use Rattle.flow_table.specs.Plans.{PlanValue}
+use Rattle.flow_table.specs.SameTables.{RowValue, value_of}
+use Rattle.flow_table.specs.declared.table.Row.{Row}
+use Rattle.ipfix_elements.specs.declared.cell.Cell.{Cell}
+use Rattle.flow_export.specs.CsvText.{first_of, last_of, row_line}
+use Rattle.flow_export.specs.Written.{next_cell, next_number}
+
+abbrev next : List ℕ → List ℕ
+next t = 44 ∷ t
+
+-- the first field, and then each behind a comma
+behind_commas : (f : List ℕ) (fs : List (List ℕ)) → join_with_byte 44 (f ∷ fs) ≡ f ++ flat_map next fs
+behind_commas f [] = sym (append-nil f)
+behind_commas f (g ∷ gs) = ap (λ (t : List ℕ). f ++ (44 ∷ t)) (behind_commas g gs)
+
+each : {X : Type 0} (text : X → List ℕ) (xs : List X) → flat_map next (map text xs) ≡ flat_map (λ x. 44 ∷ text x) xs
+each text [] = refl
+each text (x ∷ xs) = ap (λ (t : List ℕ). (44 ∷ text x) ++ t) (each text xs)
+
+-- the fields behind the first two
+tail_parts : (row : RowValue) → flat_map next (map cell_text row.key ++ (map decimal row.sums ++ decimal row.flows ∷ []))
+    ≡ flat_map next_cell row.key ++ (flat_map next_number row.sums ++ next_number row.flows)
+tail_parts row =
+    flat_map-append next (map cell_text row.key) (map decimal row.sums ++ decimal row.flows ∷ [])
+    ∙ rw (each cell_text row.key, flat_map-append next (map decimal row.sums) (decimal row.flows ∷ []), each decimal row.sums, append-nil (next_number row.flows)) refl
+
+row_parts : (plan : PlanValue) (row : RowValue) → row_line plan row
+    ≡ decimal (first_of plan row) ++ (next_number (last_of plan row) ++ (flat_map next_cell row.key ++ (flat_map next_number row.sums ++ (next_number row.flows ++ 10 ∷ []))))
+row_parts plan row =
+    let first = decimal (first_of plan row) in
+    let second = next_number (last_of plan row) in
+    let cells = flat_map next_cell row.key in
+    let sums = flat_map next_number row.sums in
+    let rest = map cell_text row.key ++ (map decimal row.sums ++ decimal row.flows ∷ []) in
+    ap (λ (t : List ℕ). t ++ 10 ∷ []) (behind_commas first (decimal (last_of plan row) ∷ rest))
+    ∙ append_assoc first (second ++ flat_map next rest) (10 ∷ [])
+    ∙ ap (λ (t : List ℕ). first ++ t) (append_assoc second (flat_map next rest) (10 ∷ []))
+    ∙ ap (λ (t : List ℕ). first ++ (second ++ (t ++ 10 ∷ []))) (tail_parts row)
+    ∙ ap (λ (t : List ℕ). first ++ (second ++ t)) (append_assoc cells (sums ++ next_number row.flows) (10 ∷ []))
+    ∙ ap (λ (t : List ℕ). first ++ (second ++ (cells ++ t))) (append_assoc sums (next_number row.flows) (10 ∷ []))
+
+six_parts : (o p q r s t u a b c d e f : List ℕ) → p ≡ o ++ a → q ≡ p ++ b → r ≡ q ++ c → s ≡ r ++ d → t ≡ s ++ e → u ≡ t ++ f → u ≡ o ++ (a ++ (b ++ (c ++ (d ++ (e ++ f)))))
+six_parts o p q r s t u a b c d e f is_p is_q is_r is_s is_t is_u = rw (is_u, is_t, is_s, is_r, is_q, is_p) (simp append_assoc)
+
+-- a line whose fields were appended one after another
+pub line_appended : (plan : PlanValue) (row : Row) (l : ℕ) (cs : List Cell) (vs o p q r s t u : List ℕ) → l ≡ plan.length → cs ≡ row.key.items → vs ≡ row.sums.items
+    → p ≡ o ++ decimal (row.interval * l) → q ≡ p ++ next_number (row.interval * l + l - 1) → r ≡ q ++ flat_map next_cell cs → s ≡ r ++ flat_map next_number vs → t ≡ s ++ next_number row.flows
+    → u ≡ t ++ 10 ∷ [] → u ≡ o ++ row_line plan (value_of row)
+line_appended plan row l cs vs o p q r s t u is_l is_cs is_vs is_p is_q is_r is_s is_t is_u =
+    let first : decimal (row.interval * l) ≡ decimal (first_of plan (value_of row)) = ap (λ (n : ℕ). decimal (row.interval * n)) is_l in
+    let last : next_number (row.interval * l + l - 1) ≡ next_number (last_of plan (value_of row)) = ap (λ (n : ℕ). next_number (row.interval * n + n - 1)) is_l in
+    let cells : flat_map next_cell cs ≡ flat_map next_cell row.key.items = ap (flat_map next_cell) is_cs in
+    let sums : flat_map next_number vs ≡ flat_map next_number row.sums.items = ap (flat_map next_number) is_vs in
+    six_parts o p q r s t u (decimal (first_of plan (value_of row))) (next_number (last_of plan (value_of row))) (flat_map next_cell row.key.items) (flat_map next_number row.sums.items)
+    (next_number row.flows) (10 ∷ []) (is_p ∙ ap (λ (x : List ℕ). o ++ x) first) (is_q ∙ ap (λ (x : List ℕ). p ++ x) last) (is_r ∙ ap (λ (x : List ℕ). q ++ x) cells)
+    (is_s ∙ ap (λ (x : List ℕ). r ++ x) sums) is_t is_u
+    ∙ ap (λ (x : List ℕ). o ++ x) (sym (row_parts plan (value_of row)))

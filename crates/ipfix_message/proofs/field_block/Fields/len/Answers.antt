@@ -1,9 +1,0 @@
-use Rattle.std.proofs.Common.{◌≡◌, length, vec_len, sym, ◌∙◌, rules}
-use Rattle.ipfix_message.proofs.Blocks.{length-fields_in}
-use Rattle.ipfix_message.proofs.field_block.Fields.len.Goals as goal
-
-pub returns : goal.returns
-returns c =
-    let places = c.self.inside.places in
-    let whole : vec_len places ≡ length places.items = search rules in
-    rw (← c.self.view_is) (c.len.ensures ∙ whole ∙ sym (length-fields_in places.items c.self.inside.block.items))

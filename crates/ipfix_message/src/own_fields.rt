@@ -1,0 +1,91 @@
+//! Fields that are pushed one by one (RFC 7011, section 3.4.3).
+
+ghost use Rattle.std.specs.Prelude.{◌≡◌, ◌<◌, ◌^◌, [], ◌∷◌, ◌++◌, ℕ, List, length, All, IfOk, OnOk, OnErr};
+ghost use Rattle.ipfix_message.specs.SpelledFields.{SpellsOctets, IsShort};
+
+use crate::field_iter::FieldIter;
+use ipfix_wire::{ElementId, Spec, VARIABLE_WIDTH};
+use std::alloc::{AllocError, Global};
+use std::marker::Model;
+
+// the length of a field of 65,535 octets, as such a field begins with it (RFC 7011, section 7)
+const GREATEST_LENGTH: [u8; 3] = [255; 3];
+
+/// Fields with specifiers and octets of their own, spelled as in a data set. Contracts see the list
+/// of the fields.
+#[derive(Debug, Drop)]
+pub struct OwnFields {
+    specs: Vec<Spec>,
+    octets: Vec<u8>,
+}
+
+impl Model for OwnFields {
+    ghost use Rattle.std.specs.Prelude.{List};
+    ghost use Rattle.ipfix_message.specs.Fields.{Field};
+    ghost use Rattle.ipfix_message.specs.SpelledFields.{Spells, fields_in};
+
+    ghost Value = { List Field };
+
+    ghost view = { λ f. fields_in f.specs.items f.octets.items };
+
+    ghost invariant = { λ f. Spells f.specs.items (fields_in f.specs.items f.octets.items) f.octets.items };
+}
+
+// appends what spells the octets of a field whose width is their number: the octets themselves, or
+// where that number stands for variable length, it and then the octets
+fn append_spelled(octets: &[u8], out: &mut Vec<u8>) -> Result<(), AllocError>
+    requires { length octets.now < 2 ^ 16 }
+    ensures ok { OnOk result ((w : List ℕ) × SpellsOctets (length octets.now) octets.now w × (out.new.items ≡ out.old.items ++ w)) }
+    ensures err { OnErr result (out.new.items ≡ out.old.items) }
+{
+    if octets.len() < usize::from(VARIABLE_WIDTH) {
+        return out.extend_from_slice(octets);
+    }
+    out.reserve(GREATEST_LENGTH.len() + octets.len())?;
+    out.extend_from_slice(&GREATEST_LENGTH)?;
+    out.extend_from_slice(octets)
+}
+
+impl OwnFields {
+    /// No fields, with room for as many as `fields` of `octets` octets together.
+    pub fn with_capacity(alloc: Global, fields: usize, octets: usize) -> Result<Self, AllocError>
+        ensures { IfOk result (λ f. f ≡ []) }
+    {
+        Ok(OwnFields {
+            specs: Vec::with_capacity(alloc, fields)?,
+            octets: Vec::with_capacity(alloc, octets)?,
+        })
+    }
+
+    /// A copy of these fields.
+    pub fn copy(alloc: Global, fields: FieldIter) -> Result<Self, AllocError>
+        requires { All IsShort fields }
+        ensures { IfOk result (λ f. f ≡ fields.entry) }
+    {
+        let mut own = OwnFields::with_capacity(alloc, fields.left(), 0)?;
+        for field in fields {
+            own.push(field.element, field.octets)?;
+        }
+        Ok(own)
+    }
+
+    /// Appends a field of at most 65,535 octets.
+    pub fn push(&mut self, element: ElementId, octets: &[u8]) -> Result<(), AllocError>
+        requires { length octets.now < 2 ^ 16 }
+        ensures ok { OnOk result (self.new ≡ self.old ++ record { element = element; octets = octets.now } ∷ []) }
+        ensures err { OnErr result (self.new ≡ self.old) }
+    {
+        let width = octets.len() as u16;
+        self.specs.reserve(1)?;
+        append_spelled(octets, &mut self.octets)?;
+        self.specs.push_reserved(Spec { element, width });
+        Ok(())
+    }
+
+    /// The fields in order.
+    pub fn iter(&self) -> FieldIter<'_>
+        ensures { result ≡ self.now }
+    {
+        FieldIter::new(self.specs.as_slice(), self.octets.as_slice())
+    }
+}

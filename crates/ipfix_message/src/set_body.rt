@@ -1,0 +1,84 @@
+//! The body of a data set, which its records share (RFC 7011, section 3.4.3).
+
+ghost use Rattle.std.specs.Prelude.{◌≡◌, IfOk};
+ghost use Rattle.std.specs.Arc.{arc_value};
+ghost use Rattle.ipfix_message.specs.SetRecords.{specs_of, fields_from, HasRecordAt};
+
+use crate::field_iter::FieldIter;
+use crate::own_fields::OwnFields;
+use crate::record::Template;
+use std::alloc::{AllocError, Global};
+use std::marker::Model;
+use std::sync::Arc;
+
+/// The octets of the body of a data set, and the template of its records.
+#[derive(Debug, Drop)]
+pub struct SetBody {
+    template: Arc<Template, Global>,
+    octets: Vec<u8>,
+}
+
+impl SetBody {
+    /// A copy of a body, to be shared by its records.
+    pub fn copy(
+        alloc: Global,
+        template: Arc<Template, Global>,
+        body: &[u8],
+    ) -> Result<Arc<SetBody, Global>, AllocError>
+        ensures specs { IfOk result (λ set. specs_of (arc_value set) ≡ (arc_value template).specs) }
+        ensures octets { IfOk result (λ set. (arc_value set).octets.items ≡ body.now) }
+    {
+        let octets = Vec::from_slice(alloc, body)?;
+        Ok(Arc::new(alloc, SetBody { template, octets })?)
+    }
+}
+
+/// A record of a data set: the octet of the body at which it begins. It keeps the body and the
+/// template for as long as it lives. Contracts see the list of its fields.
+#[derive(Debug, Drop)]
+pub struct SetRecord {
+    set: Arc<SetBody, Global>,
+    start: usize,
+}
+
+impl Model for SetRecord {
+    ghost use Rattle.std.specs.Prelude.{List};
+    ghost use Rattle.std.specs.Arc.{arc_value};
+    ghost use Rattle.ipfix_message.specs.Fields.{Field};
+    ghost use Rattle.ipfix_message.specs.SetRecords.{fields_from, HasRecordAt};
+
+    ghost Value = { List Field };
+
+    ghost view = { λ r. fields_from (arc_value r.set) r.start };
+
+    ghost invariant = { λ r. HasRecordAt (arc_value r.set) r.start };
+}
+
+impl SetRecord {
+    /// The record that begins at an octet of a body.
+    pub fn new(set: &Arc<SetBody, Global>, start: usize) -> Result<Self, AllocError>
+        requires { HasRecordAt (arc_value set.now) start }
+        ensures { IfOk result (λ r. r ≡ fields_from (arc_value set.now) start) }
+    {
+        let set = Arc::try_clone(set)?;
+        Ok(SetRecord { set, start })
+    }
+
+    /// A copy of the fields, with octets of their own.
+    pub fn to_own(&self, alloc: Global) -> Result<OwnFields, AllocError>
+        ensures { IfOk result (λ own. own ≡ self.now) }
+    {
+        // (with a field in use, a proof knows that the fields are short)
+        let _start = &self.start;
+        OwnFields::copy(alloc, self.iter())
+    }
+
+    /// The fields in order.
+    pub fn iter(&self) -> FieldIter<'_>
+        ensures { result ≡ self.now }
+    {
+        let set: &SetBody = &self.set;
+        let template: &Template = &set.template;
+        FieldIter::new(template.specs.as_slice(), &set.octets[self.start..])
+    }
+}
