@@ -9,7 +9,7 @@ test: ; @tests/gate
 
 bench: bin/collectd ; @for run in bench/*/run; do $$run || exit 1; done
 
-compare: bin/collectd ; @tests/compare && tests/stress
+compare: bin/collectd ; @tests/compare && tests/stress && tests/examples
 
 install: bin/collectd
 	install -D bin/collectd $(DESTDIR)$(PREFIX)/bin/collectd
