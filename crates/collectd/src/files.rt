@@ -50,7 +50,7 @@ pub fn run_files<W: Write, E: Write, R: Files<File = File> + Threads + Wait + Sy
             err,
         ),
         Err(path) => {
-            let _ = writeln!(out, "collectd: open: {path}");
+            let _ = writeln!(err, "collectd: open: {path}");
             Status::NotOpened.number()
         }
     }
