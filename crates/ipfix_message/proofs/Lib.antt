@@ -1,5 +1,4 @@
 pub mod Reading
-pub mod FieldReading
 pub mod FieldValues
 pub mod RecordFields
 pub mod Bodies
@@ -14,4 +13,5 @@ pub mod Decoding
 pub mod History
 pub mod RecordOctets
 pub mod SpelledFields
-pub mod FixedWidths
+pub mod LayingOut
+pub mod Layouts

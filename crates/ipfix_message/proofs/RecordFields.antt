@@ -37,7 +37,7 @@ fields_at-fault (s ∷ ss) w e h =
       ]
     ]
 
-fields_at-found : (specs : List Spec) (w : List ℕ) (fs : List Field) (r : List ℕ) → IsOctets w → fields_at specs w ≡ Ok (fs, r) → Spelled (Spells specs) w fs r
+pub fields_at-found : (specs : List Spec) (w : List ℕ) (fs : List Field) (r : List ℕ) → IsOctets w → fields_at specs w ≡ Ok (fs, r) → Spelled (Spells specs) w fs r
 unfolding fields_at
 fields_at-found [] w fs r fits h =
     subst (λ (p : List Field × List ℕ). Spelled (Spells []) w p.0 p.1) (ok_is ([], w) (fs, r) h) (record { text = []; whole = refl; is = refl })

@@ -24,7 +24,7 @@ begins-read specs w fs r h = rw h refl
 not_begins : (specs : List Spec) (w : List ℕ) (e : MessageFault) → fields_at specs w ≡ Err e → BeginsWithFields specs w → ⊥
 not_begins specs w e h begins = let bad : is_ok (failed {A = List Field × List ℕ} e) ≡ true = rw h at begins in cc
 
-begins-found : (specs : List Spec) (w : List ℕ) → BeginsWithFields specs w → (x : List Field × List ℕ) × (fields_at specs w ≡ Ok x)
+pub begins-found : (specs : List Spec) (w : List ℕ) → BeginsWithFields specs w → (x : List Field × List ℕ) × (fields_at specs w ≡ Ok x)
 begins-found specs w begins = elim (cases_read (fields_at specs w)) [
   | inl found ↦ found
   | inr none ↦ absurd (not_begins specs w none.0 none.1 begins)

@@ -11,6 +11,7 @@ pub mod Sets
 pub mod Messages
 pub mod Domains
 -- what only inner functions need
+pub mod Layouts
 pub mod SetRecords
 pub mod KeptFields
 pub mod Held

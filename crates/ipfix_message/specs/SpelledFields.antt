@@ -1,6 +1,5 @@
 -- The octets that spell the fields of a data record (RFC 7011, sections 3.4.3 and 7).
-use Rattle.std.specs.Prelude.{◌≡◌, ◌≢◌, ℕ, Bool, ◌+◌, ◌^◌, ◌<◌, ◌⊎◌, nat_lt, ◌==◌, if◌then◌else◌, List, [], ◌∷◌, ◌++◌, length, take, drop, Option, Some, None, Result, Ok, Err, IsOk}
-use Rattle.std.specs.List.{list_all}
+use Rattle.std.specs.Prelude.{◌≡◌, ◌≢◌, ℕ, ◌+◌, ◌^◌, ◌<◌, ◌⊎◌, nat_lt, ◌==◌, if◌then◌else◌, List, [], ◌∷◌, ◌++◌, length, take, drop, Option, Some, None, Result, Ok, Err, IsOk}
 use Rattle.std.specs.Result.{result_unwrap_or}
 use Rattle.ipfix_wire.specs.VariableLength.{SpellsLength, length_at}
 use Rattle.ipfix_wire.specs.declared.specifier.TheConstants.{VARIABLE_WIDTH}
@@ -32,10 +31,6 @@ abbrev pub least : List Spec → ℕ
 least [] = 0
 least (s ∷ ss) = (if s.width == VARIABLE_WIDTH then 1 else s.width) + least ss
 
--- no field has a variable length, so all records have the same
-abbrev pub has_fixed_widths : List Spec → Bool
-has_fixed_widths specs = list_all (λ s. nat_lt s.width VARIABLE_WIDTH) specs
-
 -- ---- reading them
 
 abbrev pub octets_at : ℕ → List ℕ → Result (List ℕ × List ℕ) MessageFault
@@ -50,8 +45,8 @@ variable_at (Some r) w = octets_at r.0 (drop r.1 w)
 unfoldable pub value_at : ℕ → List ℕ → Result (List ℕ × List ℕ) MessageFault
 value_at width w = if width == VARIABLE_WIDTH then variable_at (length_at w) w else octets_at width w
 
--- what was read of a field; none is a field that is cut
-abbrev pub unless_cut : Option (List ℕ × List ℕ) → Result (List ℕ × List ℕ) MessageFault
+-- what was read; none is a record that is cut
+abbrev pub unless_cut : {X : Type 0} → Option X → Result X MessageFault
 unless_cut None = Err RecordCut
 unless_cut (Some x) = Ok x
 

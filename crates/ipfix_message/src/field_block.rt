@@ -128,11 +128,10 @@ impl Fields {
     pub fn find(&self, element: ElementId) -> Option<&[u8]>
         ensures { option_copied result ≡ octets_of element self.now }
     {
-        for field in self.iter() {
-            if field.element == element {
-                return Some(field.octets);
-            }
+        match &self.kept {
+            Kept::Nothing => None,
+            Kept::InSet(set_record) => set_record.find(element),
+            Kept::Own(own) => own.find(element),
         }
-        None
     }
 }

@@ -1,6 +1,7 @@
 //! Fields that are pushed one by one (RFC 7011, section 3.4.3).
 
-ghost use Rattle.std.specs.Prelude.{◌≡◌, ◌<◌, ◌^◌, [], ◌∷◌, ◌++◌, ℕ, List, length, All, IfOk, OnOk, OnErr};
+ghost use Rattle.std.specs.Prelude.{◌≡◌, ◌<◌, ◌^◌, [], ◌∷◌, ◌++◌, ℕ, List, length, All, IfOk, OnOk, OnErr, option_copied};
+ghost use Rattle.ipfix_message.specs.Fields.{octets_of};
 ghost use Rattle.ipfix_message.specs.SpelledFields.{SpellsOctets, IsShort};
 
 use crate::field_iter::FieldIter;
@@ -87,5 +88,17 @@ impl OwnFields {
         ensures { result ≡ self.now }
     {
         FieldIter::new(self.specs.as_slice(), self.octets.as_slice())
+    }
+
+    /// The octets of the first field of an element. It is found by going over the fields before it.
+    pub fn find(&self, element: ElementId) -> Option<&[u8]>
+        ensures { option_copied result ≡ octets_of element self.now }
+    {
+        for field in self.iter() {
+            if field.element == element {
+                return Some(field.octets);
+            }
+        }
+        None
     }
 }

@@ -1,12 +1,14 @@
 //! The body of a data set, which its records share (RFC 7011, section 3.4.3).
 
-ghost use Rattle.std.specs.Prelude.{◌≡◌, IfOk};
+ghost use Rattle.std.specs.Prelude.{◌≡◌, IfOk, option_copied};
 ghost use Rattle.std.specs.Arc.{arc_value};
+ghost use Rattle.ipfix_message.specs.Fields.{octets_of};
 ghost use Rattle.ipfix_message.specs.SetRecords.{specs_of, fields_from, HasRecordAt};
 
 use crate::field_iter::FieldIter;
+use crate::laid_out::LaidOut;
 use crate::own_fields::OwnFields;
-use crate::record::Template;
+use ipfix_wire::ElementId;
 use std::alloc::{AllocError, Global};
 use std::marker::Model;
 use std::sync::Arc;
@@ -14,7 +16,7 @@ use std::sync::Arc;
 /// The octets of the body of a data set, and the template of its records.
 #[derive(Debug, Drop)]
 pub struct SetBody {
-    template: Arc<Template, Global>,
+    template: Arc<LaidOut, Global>,
     octets: Vec<u8>,
 }
 
@@ -22,7 +24,7 @@ impl SetBody {
     /// A copy of a body, to be shared by its records.
     pub fn copy(
         alloc: Global,
-        template: Arc<Template, Global>,
+        template: Arc<LaidOut, Global>,
         body: &[u8],
     ) -> Result<Arc<SetBody, Global>, AllocError>
         ensures specs { IfOk result (λ set. specs_of (arc_value set) ≡ (arc_value template).specs) }
@@ -78,7 +80,15 @@ impl SetRecord {
         ensures { result ≡ self.now }
     {
         let set: &SetBody = &self.set;
-        let template: &Template = &set.template;
+        let template = set.template.template();
         FieldIter::new(template.specs.as_slice(), &set.octets[self.start..])
+    }
+
+    /// The octets of the first field of an element.
+    pub fn find(&self, element: ElementId) -> Option<&[u8]>
+        ensures { option_copied result ≡ octets_of element self.now }
+    {
+        let set: &SetBody = &self.set;
+        set.template.find(element, &set.octets[self.start..])
     }
 }

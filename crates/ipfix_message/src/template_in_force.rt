@@ -1,25 +1,23 @@
 //! Templates in force (RFC 7011, section 8).
 
-ghost use Rattle.std.specs.Prelude.{◌≡◌, ◌<◌, ◌↔◌, IsTrue, IfOk};
+ghost use Rattle.std.specs.Prelude.{◌≡◌, ◌<◌, ◌^◌, ◌↔◌, length, IsTrue, IfOk};
 ghost use Rattle.std.specs.Arc.{arc_value};
 ghost use Rattle.ipfix_message.specs.DataRecords;
-ghost use Rattle.ipfix_message.specs.SpelledFields.{has_fixed_widths};
 ghost use Rattle.ipfix_message.specs.TemplatesInForce;
 
+use crate::laid_out::LaidOut;
 use crate::record::Template;
 use crate::template_record::Kind;
-use ipfix_wire::{Spec, VARIABLE_WIDTH};
+use ipfix_wire::Spec;
 use std::alloc::{AllocError, Global};
 use std::marker::Model;
 use std::sync::Arc;
 
-/// A template in force, with the least length of its records at hand, and whether that is the length
-/// of each. The records of its data sets share it. Contracts see the template.
+/// A template in force, with the least length of its records at hand. Contracts see the template.
 #[derive(Drop)]
 pub struct TemplateInForce {
-    template: Arc<Template, Global>,
+    template: Arc<LaidOut, Global>,
     least: usize,
-    fixed: bool,
 }
 
 impl Model for TemplateInForce {
@@ -27,44 +25,46 @@ impl Model for TemplateInForce {
     ghost use Rattle.std.specs.Arc.{arc_value};
     ghost use Rattle.ipfix_message.specs.declared.record.Template.{Template};
     ghost use Rattle.ipfix_message.specs.DataRecords;
-    ghost use Rattle.ipfix_message.specs.SpelledFields.{has_fixed_widths};
 
     ghost Value = { Template };
 
     ghost view = { λ k. arc_value k.template };
 
-    ghost invariant = { λ k. (k.least ≡ DataRecords.least (arc_value k.template).specs) × (0 < k.least) × (k.fixed ≡ has_fixed_widths (arc_value k.template).specs) };
+    ghost invariant = { λ k. (k.least ≡ DataRecords.least (arc_value k.template).specs) × (0 < k.least) };
 }
 
 impl TemplateInForce {
     pub fn new(alloc: Global, template: Template, least: usize) -> Result<Self, AllocError>
         requires sum { least ≡ DataRecords.least template.specs }
         requires positive { 0 < least }
+        requires few { length template.specs < 2 ^ 16 }
         ensures { IfOk result (λ k. k ≡ template) }
     {
-        let fixed = are_fixed(template.specs.as_slice());
-        let template = Arc::new(alloc, template)?;
-        Ok(TemplateInForce {
-            template,
-            least,
-            fixed,
-        })
+        let template = Arc::new(alloc, LaidOut::new(alloc, template)?)?;
+        Ok(TemplateInForce { template, least })
     }
 
     pub fn id(&self) -> u16
         ensures { result ≡ self.now.id }
     {
-        self.template.id
+        self.template().id
     }
 
     pub fn template(&self) -> &Template
         ensures { result.now ≡ self.now }
     {
+        self.laid_out().template()
+    }
+
+    /// The template with its layout.
+    pub fn laid_out(&self) -> &LaidOut
+        ensures { result.now ≡ self.now }
+    {
         &self.template
     }
 
-    /// The template, shared.
-    pub fn share(&self) -> Result<Arc<Template, Global>, AllocError>
+    /// The template with its layout, shared.
+    pub fn share(&self) -> Result<Arc<LaidOut, Global>, AllocError>
         ensures { IfOk result (λ template. arc_value template ≡ self.now) }
     {
         Arc::try_clone(&self.template)
@@ -78,33 +78,20 @@ impl TemplateInForce {
         self.least
     }
 
-    /// Whether each record has the least length, since no field has a variable one.
-    pub fn is_fixed(&self) -> bool
-        ensures { result ≡ has_fixed_widths self.now.specs }
-    {
-        self.fixed
-    }
-
     pub fn is_of(&self, kind: Kind) -> bool
         ensures { result ≡ TemplatesInForce.is_of kind self.now }
     {
         match kind {
-            Kind::Plain => self.template.scope == 0,
-            Kind::Options => self.template.scope != 0,
+            Kind::Plain => self.template().scope == 0,
+            Kind::Options => self.template().scope != 0,
         }
     }
 
     pub fn is_same(&self, other: &TemplateInForce) -> bool
         ensures { result ≡ TemplatesInForce.same_template self.now other.now }
     {
-        is_same_template(&self.template, &other.template)
+        is_same_template(self.template(), other.template())
     }
-}
-
-fn are_fixed(specs: &[Spec]) -> bool
-    ensures { result ≡ has_fixed_widths specs.now }
-{
-    specs.iter().all(|spec| spec.width < VARIABLE_WIDTH)
 }
 
 fn is_same_list(specs: &[Spec], others: &[Spec]) -> bool

@@ -13,12 +13,12 @@ returns-in_err-after c =
     let long : least c.args.known.now.specs ≤ length c.loop-rest.rest.now = omega (arith, c.least-least.ensures.sum, c.loop-rest-test.true) in
     rw (p.1, p.2) (ends c.in_err-after.field-0.0 c.args.known.now.specs (record_of c.args.header.now c.args.known.now) c.loop-rest.out.items c.loop-rest.rest.now
     (after c.args.out.now.items (record_of c.args.header.now c.args.known.now) (records_of_body c.args.known.now.specs c.args.body.now)) long
-    c.in_err-after.ensures.gives c.loop-rest.invariant.so_far)
+    (rw c.laid_out-laid_out.ensures at c.in_err-after.ensures.gives) c.loop-rest.invariant.so_far)
 
 pub loop-rest-smaller : goal.loop-rest-smaller
 loop-rest-smaller c =
     let specs = c.args.known.now.specs in
-    let read : fields_at specs c.loop-rest.rest.now ≡ Ok (fields_in specs c.loop-rest.rest.now, c.in_ok-after.after.now) = c.in_ok-after.ensures.gives in
+    let read : fields_at specs c.loop-rest.rest.now ≡ Ok (fields_in specs c.loop-rest.rest.now, c.in_ok-after.after.now) = rw c.laid_out-laid_out.ensures at c.in_ok-after.ensures.gives in
     let taken = fields_at-takes specs c.loop-rest.rest.now (fields_in specs c.loop-rest.rest.now) c.in_ok-after.after.now read in
     omega (arith, taken, c.least-least.ensures.sum, c.least-least.ensures.positive)
 
@@ -27,7 +27,7 @@ loop-rest-preserved c =
     let specs = c.args.known.now.specs in
     let rest = c.loop-rest.rest.now in
     let positive : 0 < least specs = omega (arith, c.least-least.ensures.sum, c.least-least.ensures.positive) in
-    let read : fields_at specs rest ≡ Ok (fields_in specs rest, c.in_ok-after.after.now) = c.in_ok-after.ensures.gives in
+    let read : fields_at specs rest ≡ Ok (fields_in specs rest, c.in_ok-after.after.now) = rw c.laid_out-laid_out.ensures at c.in_ok-after.ensures.gives in
     let at = end_at c.args.body.now rest c.loop-rest.invariant.end in
     let same : c.in_set.result ≡ fields_in specs rest = c.in_set.ensures ∙ c.in_ok-set_record.ensures ∙ rw (c.in_ok-set.ensures.specs, c.in_ok-set.ensures.octets, c.in_ok-shared.ensures, at.1) refl in
     record {

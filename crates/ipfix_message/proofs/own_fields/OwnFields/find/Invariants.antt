@@ -1,6 +1,6 @@
 use Rattle.std.proofs.Common.{◌≡◌}
 use Rattle.ipfix_message.specs.Fields.{octets_of}
-use Rattle.ipfix_message.proofs.field_block.Fields.find.Given as goal
+use Rattle.ipfix_message.proofs.own_fields.OwnFields.find.Given as goal
 
 abbrev pub invariant-loop-field : goal.invariant-loop-field
 invariant-loop-field l =
