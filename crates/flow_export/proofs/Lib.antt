@@ -11,3 +11,4 @@ pub mod Lengths
 pub mod TemplateParts
 pub mod MessageParts
 pub mod Lines
+pub mod Places

@@ -1,5 +1,5 @@
 -- The messages of rows, one after another.
-use Rattle.std.proofs.Common.{◌≡◌, ℕ, zero, suc, ◌+◌, ◌-◌, ◌*◌, ◌≤◌, List, [], ◌∷◌, ◌++◌, ltb, length, map, take, drop, Option, refl, sym, ap, subst, ◌∙◌, add-one, arith, inl, inr}
+use Rattle.std.proofs.Common.{◌≡◌, ℕ, zero, suc, ◌+◌, ◌-◌, ◌*◌, ◌≤◌, List, [], ◌∷◌, ◌++◌, ltb, length, map, take, drop, Option, refl, sym, ap, ap₂, subst, ◌∙◌, add-one, length-take-le, take-add, drop_at, arith, inl, inr}
 use Rattle.std.specs.Prelude.{min}
 use Rattle.std.specs.Io.KnownBytes.{Appends}
 use Rattle.std.specs.List.{flat_map, range_with_len}
@@ -12,7 +12,8 @@ use Rattle.flow_table.specs.declared.table.Row.{Row}
 use Rattle.flow_table.specs.Plans.{PlanValue}
 use Rattle.flow_table.specs.SameTables.{value_of}
 use Rattle.flow_export.specs.IpfixText.{message, row_octets, rows_of_message}
-use Rattle.flow_export.specs.RowOctets.{octets_of_rows}
+use Rattle.flow_export.specs.Placed.{Placed}
+use Rattle.flow_export.specs.RowOctets.{headers_octets, octets_of_rows}
 
 range_more : (a n : ℕ) → range_with_len a (suc n) ≡ range_with_len a n ++ (a + n) ∷ []
 range_more a zero = ap (λ (k : ℕ). k ∷ []) (omega arith)
@@ -49,3 +50,27 @@ pub message_written : (time sequence id : ℕ) (a b : Option (List ℕ)) (out oc
     → Appends a b out → Appends a b (message time sequence id text)
 message_written time sequence id a b out octets body text is_out is_octets is_body written =
     subst (λ (t : List ℕ). Appends a b t) (is_out ∙ is_octets ∙ ap (message time sequence id) is_body) written
+
+-- the headers and the body of a message, one after the other
+pub headers_and_body : (time sequence id n : ℕ) (headers octets body : List ℕ) → n ≡ length body → headers ≡ headers_octets time sequence id n → octets ≡ headers ++ body → octets ≡ message time sequence id body
+headers_and_body time sequence id n headers octets body is_n is_headers is_octets =
+    let named : headers ≡ headers_octets time sequence id (length body) = is_headers ∙ ap (headers_octets time sequence id) is_n in
+    is_octets ∙ ap (λ (t : List ℕ). t ++ body) named
+
+-- headers that are written before a body that stands in its place
+pub message_placed : {a b c text headers : List ℕ} {end k : ℕ} (time sequence id : ℕ) → 20 ≤ length a → Placed a b 20 text end → headers ≡ headers_octets time sequence id (end - 20)
+    → Placed b c 0 headers k → drop k c ≡ drop k b → take end c ≡ message time sequence id text
+message_placed {a} {b} {c} {text} {headers} {end} {k} time sequence id room rows is_headers front behind =
+    let n = length text in
+    let at_end : end ≡ 20 + n = rows.moved in
+    let size : end - 20 ≡ n = omega (arith, at_end) in
+    let twenty : length headers ≡ 20 = ap length is_headers in
+    let is_k : k ≡ 20 = omega (arith, front.moved, twenty) in
+    let before : take 20 c ≡ headers = ap (λ (m : ℕ). take m c) (sym is_k) ∙ front.written in
+    let after : drop 20 c ≡ drop 20 b = ap (λ (m : ℕ). drop m c) (sym is_k) ∙ behind ∙ ap (λ (m : ℕ). drop m b) is_k in
+    let long_a : length (take 20 a) ≡ 20 = length-take-le 20 a room in
+    let long_b : length (take 20 b) ≡ 20 = length-take-le 20 b (omega (arith, room, rows.room)) in
+    let parts : take 20 a ++ text ≡ take 20 b ++ take n (drop 20 b) = sym rows.written ∙ ap (λ (m : ℕ). take m b) at_end ∙ take-add 20 n b in
+    let is_text : text ≡ take n (drop 20 b) = sym (drop_at (take 20 a) text 20 long_a) ∙ ap (drop 20) parts ∙ drop_at (take 20 b) (take n (drop 20 b)) 20 long_b in
+    let whole : take end c ≡ headers ++ text = ap (λ (m : ℕ). take m c) at_end ∙ take-add 20 n c ∙ ap₂ (λ (x y : List ℕ). x ++ y) before (ap (take n) after ∙ sym is_text) in
+    headers_and_body time sequence id (end - 20) headers (take end c) text size is_headers whole

@@ -181,11 +181,16 @@ least-counters : (cs : List ElementId) → least (map number_spec cs) ≡ 8 * le
 least-counters [] = refl
 least-counters (c ∷ cs) = omega (arith, least-counters cs)
 
+pub few_keys : (plan : PlanValue) → IsPlan plan → (length plan.keys ≤ 8) × (length plan.counters ≤ 4)
+few_keys plan is =
+    let tests = passed_tests plan is in
+    (leb-true (length plan.keys) 8 tests.few, leb-true (length plan.counters) 4 (and_parts (nat_le 1 (length plan.counters)) (nat_le (length plan.counters) 4) tests.some).1)
+
 pub has_room : (plan : PlanValue) → IsPlan plan → HasRoom plan
 has_room plan is =
     let tests = passed_tests plan is in
-    let eight = leb-true (length plan.keys) 8 tests.few in
-    let four = leb-true (length plan.counters) 4 (and_parts (nat_le 1 (length plan.counters)) (nat_le (length plan.counters) 4) tests.some).1 in
+    let eight = (few_keys plan is).0 in
+    let four = (few_keys plan is).1 in
     let keys_len : length (map key_spec plan.keys) ≡ length plan.keys = length-map _ _ in
     let counters_len : length (map number_spec plan.counters) ≡ length plan.counters = length-map _ _ in
     let start : Spec = record { element = iana 152; width = 8 } in

@@ -7,4 +7,5 @@ pub mod Fitting
 pub mod Written
 pub mod SpecOctets
 pub mod RowOctets
+pub mod Placed
 pub mod Examples

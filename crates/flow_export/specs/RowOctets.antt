@@ -1,6 +1,10 @@
 -- The octets of rows and of their messages, and of the cells of a key.
-use Rattle.std.specs.Prelude.{ℕ, List, map, zip, flat_map}
+use Rattle.std.specs.Prelude.{ℕ, ◌+◌, List, ◌++◌, map, zip, flat_map}
 use Rattle.std.specs.List.{range_with_len}
+use Rattle.ipfix_wire.specs.MessageHeader.{header_octets}
+use Rattle.ipfix_wire.specs.SetHeader.{set_octets}
+use Rattle.ipfix_wire.specs.declared.header.TheConstants.{HEADER_LENGTH}
+use Rattle.ipfix_wire.specs.declared.set.TheConstants.{SET_HEADER_LENGTH}
 use Rattle.ipfix_elements.specs.Cells.{cell_octets}
 use Rattle.ipfix_elements.specs.declared.cell.Cell.{Cell}
 use Rattle.ipfix_elements.specs.declared.kind.Kind.{Kind}
@@ -27,3 +31,8 @@ octets_of_rows plan rows = flat_map (octets_of_row plan) rows
 -- the messages of rows
 abbrev pub messages_of_rows : PlanValue → ℕ → List Row → List ℕ
 messages_of_rows plan time rows = flat_map (message_of_rows plan time (map value_of rows)) (range_with_len 0 (message_count (map value_of rows)))
+
+-- the headers of a message of one set, whose body has so many octets
+abbrev pub headers_octets : ℕ → ℕ → ℕ → ℕ → List ℕ
+headers_octets time sequence id body =
+    header_octets (record { length = HEADER_LENGTH + SET_HEADER_LENGTH + body; export_time = time; sequence = sequence; domain = 0 }) ++ set_octets id body

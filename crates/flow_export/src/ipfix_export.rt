@@ -8,11 +8,11 @@ ghost use Rattle.flow_export.specs.IpfixText.{ipfix_text, template_message};
 ghost use Rattle.flow_export.specs.RowOctets.{messages_of_rows};
 
 use crate::fault::ExportFault;
-use crate::ipfix_rows::{ROWS_A_MESSAGE, append_rows};
+use crate::ipfix_rows::ROWS_A_MESSAGE;
 use crate::ipfix_template::append_template;
-use crate::messages::set_message;
+use crate::messages::{MOST_OCTETS, place_message, set_message};
 use flow_table::{Plan, Row, Table};
-use ipfix_wire::{FIRST_TEMPLATE_ID, TEMPLATE_SET_ID};
+use ipfix_wire::TEMPLATE_SET_ID;
 use std::alloc::Global;
 use std::io::Write;
 
@@ -107,22 +107,22 @@ fn write_rows<W: Write>(
     ensures ok { OnOk result (Appends (W.contents out.old) (W.contents out.new) (messages_of_rows plan.now export_time rows.now)) }
     ensures fault { IfErr result (λ fault. fault ≢ ExportFault.TooManyRows) }
 {
-    let mut body = Vec::new(alloc);
-    let mut message = Vec::new(alloc);
+    let mut headers = Vec::new(alloc);
+    let mut room = Vec::new(alloc);
+    room.resize(MOST_OCTETS, 0)?;
+    let message = room.as_mut_slice();
     for index in 0..rows.len().div_ceil(ROWS_A_MESSAGE) {
         let first = ROWS_A_MESSAGE * index;
-        let end = rows.len().min(first + ROWS_A_MESSAGE);
-        let part = &rows[first..end];
-        body.clear();
-        append_rows(plan, part, &mut body)?;
-        set_message(
-            FIRST_TEMPLATE_ID,
-            body.as_slice(),
+        let last = rows.len().min(first + ROWS_A_MESSAGE);
+        let end = place_message(
+            plan,
+            &rows[first..last],
             first as u32,
             export_time,
-            &mut message,
+            &mut headers,
+            message,
         )?;
-        out.write_all(message.as_slice())?;
+        out.write_all(&message[..end])?;
     }
     Ok(())
 }

@@ -12,6 +12,7 @@ mod ipfix_rows;
 mod ipfix_template;
 mod laws;
 mod messages;
+mod placing;
 mod widths;
 
 pub use csv_export::write_csv;

@@ -1,4 +1,4 @@
-use Rattle.std.proofs.Common.{map}
+use Rattle.std.proofs.Common.{◌≡◌, length, map}
 use Rattle.std.specs.Io.KnownBytes.{Appends}
 use Rattle.std.specs.List.{flat_map, range_with_len}
 use Rattle.flow_table.specs.SameTables.{value_of}
@@ -6,4 +6,7 @@ use Rattle.flow_export.specs.IpfixText.{message_of_rows}
 use Rattle.flow_export.proofs.ipfix_export.write_rows.Given as goal
 
 abbrev pub invariant-loop-index : goal.invariant-loop-index
-invariant-loop-index g l = Appends (g.W.Write.contents l.fn.out) (g.W.Write.contents l.out) (flat_map (message_of_rows l.plan l.export_time (map value_of l.rows)) (range_with_len 0 l.index))
+invariant-loop-index g l = record {
+  written : Appends (g.W.Write.contents l.fn.out) (g.W.Write.contents l.out) (flat_map (message_of_rows l.plan l.export_time (map value_of l.rows)) (range_with_len 0 l.index));
+  room : length l.message ≡ 18420;
+}

@@ -1,0 +1,31 @@
+-- Pieces that are written at places, one after another.
+use Rattle.std.proofs.Common.{◌≡◌, ℕ, ◌+◌, ◌<◌, ◌≤◌, List, [], ◌∷◌, ◌++◌, length, get_or, take, drop, refl, sym, ap, ◌∙◌, append_assoc, length-append, length-take-le, length-drop, take_at, take_all, arith}
+use Rattle.std.specs.List.{flat_map}
+use Rattle.std.proofs.lemmas.List.{append-nil, take_more}
+use Rattle.std.proofs.lemmas.Grind.{flat_map-append}
+use Rattle.flow_export.specs.Placed.{Placed}
+
+-- nothing is written yet
+pub none_placed : (a : List ℕ) (at : ℕ) → Placed a a at [] at
+none_placed a at = record { written = sym (append-nil (take at a)); moved = omega arith; room = refl }
+
+-- the next piece begins where the one before it ended
+pub then_placed : {a b c xs ys : List ℕ} {i j k : ℕ} → Placed a b i xs j → Placed b c j ys k → Placed a c i (xs ++ ys) k
+then_placed {a} {b} {c} {xs} {ys} {i} p q = record {
+  written = q.written ∙ ap (λ (t : List ℕ). t ++ ys) p.written ∙ append_assoc (take i a) xs ys;
+  moved = omega (arith, p.moved, q.moved, length-append xs ys);
+  room = q.room ∙ p.room;
+}
+
+-- the piece by another name
+pub placed_as : {a b xs ys : List ℕ} {i j : ℕ} → xs ≡ ys → Placed a b i xs j → Placed a b i ys j
+placed_as {a} {b} {xs} {ys} {i} {j} same p = rw same at p
+
+-- one more, after those that were written
+pub one_more_placed : {X : Type 0} {a b c : List ℕ} {i j k : ℕ} (text : X → List ℕ) (xs : List X) (n : ℕ) (d x : X) → n < length xs → x ≡ get_or xs n d
+    → Placed a b i (flat_map text (take n xs)) j → Placed b c j (text x) k → Placed a c i (flat_map text (take (n + 1) xs)) k
+one_more_placed {X} text xs n d x inside is_x p q =
+    let more : take (n + 1) xs ≡ take n xs ++ x ∷ [] = take_more xs n d inside ∙ ap (λ (y : X). take n xs ++ y ∷ []) (sym is_x) in
+    let text_more : flat_map text (take n xs) ++ text x ≡ flat_map text (take (n + 1) xs) =
+    ap (λ (t : List ℕ). flat_map text (take n xs) ++ t) (sym (append-nil (text x))) ∙ sym (flat_map-append text (take n xs) (x ∷ [])) ∙ ap (flat_map text) (sym more) in
+    placed_as text_more (then_placed p q)
