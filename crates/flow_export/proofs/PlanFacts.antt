@@ -15,6 +15,7 @@ use Rattle.ipfix_elements.proofs.Lookups.{find_passes, cases_Option}
 use Rattle.ipfix_message.specs.DataRecords.{least}
 use Rattle.flow_table.specs.declared.key.Key.{Key}
 use Rattle.flow_table.specs.Plans.{PlanValue, IsPlan, is_key_kind, is_counter, exported_element, prefix_element}
+use Rattle.flow_table.proofs.CounterKinds.{Each, any_of, counter_kind}
 use Rattle.flow_table.proofs.PlanKeys.{passed_tests}
 use Rattle.flow_export.specs.Fitting.{HasNumber}
 use Rattle.flow_export.specs.IpfixText.{iana, width_of, key_width, key_spec, number_spec}
@@ -86,35 +87,23 @@ key_narrow Octets key = absurd cc
 
 -- ---- counters
 
-abbrev Each : (ℕ → Type 0) → List ℕ → Type 0
-Each P [] = Unit {0}
-Each P (n ∷ ns) = P n × Each P ns
-
-any_of : (P : ℕ → Type 0) (ns : List ℕ) (x : ℕ) → Each P ns → list_any (λ n. eqb n x) ns ≡ true → P x
-any_of P [] x each any = absurd cc
-any_of P (n ∷ ns) x each any = elim (cases_Bool (eqb n x)) [
-  | inl t ↦ subst P (eqb-true n x t) each.0
-  | inr f ↦ any_of P ns x each.1 (rw f at any)
-]
-
 abbrev Counts : ℕ → Type 0
-Counts n = (kind_of (iana n) ≡ Unsigned Eight) × (n < 2 ^ 15) × (n ≢ 152) × (n ≢ 153)
+Counts n = (n < 2 ^ 15) × (n ≢ 152) × (n ≢ 153)
 
 each_counts : Each Counts (1 ∷ 2 ∷ 3 ∷ 23 ∷ 24 ∷ 132 ∷ 133 ∷ [])
-unfolding elements
 each_counts = (
-  (refl, omega arith, λ e. omega (arith, e), λ e. omega (arith, e)),
+  (omega arith, λ e. omega (arith, e), λ e. omega (arith, e)),
   (
-    (refl, omega arith, λ e. omega (arith, e), λ e. omega (arith, e)),
+    (omega arith, λ e. omega (arith, e), λ e. omega (arith, e)),
     (
-      (refl, omega arith, λ e. omega (arith, e), λ e. omega (arith, e)),
+      (omega arith, λ e. omega (arith, e), λ e. omega (arith, e)),
       (
-        (refl, omega arith, λ e. omega (arith, e), λ e. omega (arith, e)),
+        (omega arith, λ e. omega (arith, e), λ e. omega (arith, e)),
         (
-          (refl, omega arith, λ e. omega (arith, e), λ e. omega (arith, e)),
+          (omega arith, λ e. omega (arith, e), λ e. omega (arith, e)),
           (
-            (refl, omega arith, λ e. omega (arith, e), λ e. omega (arith, e)),
-            ((refl, omega arith, λ e. omega (arith, e), λ e. omega (arith, e)), tt),
+            (omega arith, λ e. omega (arith, e), λ e. omega (arith, e)),
+            ((omega arith, λ e. omega (arith, e), λ e. omega (arith, e)), tt),
           ),
         ),
       ),
@@ -127,7 +116,7 @@ counter_is_value e counter =
     let both = and_parts (eqb e.pen 0) (list_any (λ n. eqb n e.number) (1 ∷ 2 ∷ 3 ∷ 23 ∷ 24 ∷ 132 ∷ 133 ∷ [])) counter in
     let iana = eqb-true e.pen 0 both.0 in
     let counts = any_of Counts (1 ∷ 2 ∷ 3 ∷ 23 ∷ 24 ∷ 132 ∷ 133 ∷ []) e.number each_counts both.1 in
-    (kind_by_number e e.number iana refl ∙ counts.0, record { iana = iana; number = counts.1; no_start = counts.2; no_end = counts.3 })
+    (counter_kind e counter, record { iana = iana; number = counts.0; no_start = counts.1; no_end = counts.2 })
 
 -- ---- room
 

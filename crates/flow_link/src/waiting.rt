@@ -5,8 +5,9 @@ use std::sync::Wait;
 use std::thread::Parker;
 use std::time::Duration;
 
-/// Before this many tries in a row a wait only spins.
-const SPINS: u32 = 64;
+/// Before this many tries in a row a wait only spins. (More of them gain no time, and cost a session's
+/// processor while its worker serves others.)
+const SPINS: u32 = 8;
 
 /// From then on it sleeps, each time longer than before by so many microseconds.
 const NAP: u32 = 10;

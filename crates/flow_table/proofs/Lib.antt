@@ -5,6 +5,7 @@ pub mod Places
 pub mod RowMaps
 pub mod UsedRecords
 pub mod PlanKeys
+pub mod CounterKinds
 pub mod Bags
 pub mod Dues
 pub mod Faults

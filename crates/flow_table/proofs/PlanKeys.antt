@@ -73,6 +73,9 @@ pub kinds_of_plan : (p : PlanValue) → IsPlan p → AllPass is_key_kind (kinds_
 kinds_of_plan p h =
     AllPass-from_list_all is_key_kind (kinds_of p.keys) (list_all-map is_key_kind (λ (k : Key). kind_of k.element) p.keys ∙ (passed_tests p h).kinds)
 
+pub counters_of_plan : (p : PlanValue) → IsPlan p → AllPass is_counter p.counters
+counters_of_plan p h = AllPass-from_list_all is_counter p.counters (passed_tests p h).counters
+
 -- no element stands twice among those that are exported
 pub exported_apart : (p : PlanValue) → IsPlan p → has_twice (map exported_element p.keys ++ p.counters) ≡ false
 exported_apart p h = (or_both (has_twice (elements_in Read p.keys p.counters)) (has_twice (elements_in Exported p.keys p.counters)) (passed_tests p h).apart).1

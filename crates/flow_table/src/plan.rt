@@ -48,7 +48,7 @@ impl Model for Plan {
 impl Plan {
     ghost use Rattle.std.specs.Prelude.{◌≡◌, ◌≢◌, ◌≤◌, ◌<◌, Some, length, All, IfOk, IfErr, OnOk, IsErrOf};
     ghost use Rattle.std.specs.List.{AllPass};
-    ghost use Rattle.flow_table.specs.Plans.{IsPlan, HasPrefix, is_key_kind, plan_of, kinds_of, first_fault_of};
+    ghost use Rattle.flow_table.specs.Plans.{IsPlan, HasPrefix, is_counter, is_key_kind, plan_of, kinds_of, first_fault_of};
 
     /// The plan of the arguments, or the first fault that fits them, in this order: `Length`,
     /// `Spread`, `KeyCount`, `KeyKind`, `Prefix`, `CounterCount`, `CounterKind`, `Repeated`.
@@ -118,11 +118,13 @@ impl Plan {
         &self.kinds
     }
 
-    /// The counters of the table, 1 to [`MAX_COUNTERS`].
+    /// The counters of the table, 1 to [`MAX_COUNTERS`]: delta counters of octets, packets and flows.
+    #[tactic(auto, using(crate::proofs::PlanKeys::counters_of_plan))]
     pub fn counters(&self) -> &[ElementId]
         ensures value { result.now ≡ self.now.counters }
         ensures some { 1 ≤ length result.now }
         ensures few { length result.now ≤ MAX_COUNTERS }
+        ensures countable { AllPass is_counter result.now }
         // No fault fits a plan that was made.
         ensures sound { IsPlan self.now }
     {

@@ -5,7 +5,7 @@ ghost use Rattle.std.specs.List.{AllPass};
 ghost use Rattle.ipfix_elements.specs.Elements.{kind_of as kind_in};
 ghost use Rattle.ipfix_elements.specs.Values.{cell_in};
 ghost use Rattle.flow_table.specs.Fitting.{FitsKeys, IsCellOf};
-ghost use Rattle.flow_table.specs.Plans.{HasPrefix, kinds_of, is_key_kind};
+ghost use Rattle.flow_table.specs.Plans.{HasPrefix, kinds_of, is_counter, is_key_kind};
 ghost use Rattle.flow_table.specs.Reading.{counter_of, cell_of, cells_of, projected, is_too_long as is_too_long_in};
 ghost use Rattle.flow_table.specs.Readings.{ReadsAs};
 
@@ -16,10 +16,13 @@ use crate::plan::Plan;
 use crate::row_key::RowKey;
 use crate::span::Span;
 use crate::times::{end_of, start_of};
-use ipfix_elements::{Cell, Kind, kind_of, mask, read_cell, read_number};
+use ipfix_elements::{Cell, Kind, Width, mask, read_cell, read_number};
 use ipfix_message::DataRecord;
 use ipfix_wire::ElementId;
 use std::alloc::AllocError;
+
+/// The kind of all elements that may be counters (IANA, "IPFIX Information Elements").
+const COUNTER_KIND: Kind = Kind::Unsigned(Width::Eight);
 
 /// A data record as a plan sees it.
 #[derive(Clone, Copy, Debug)]
@@ -86,8 +89,8 @@ fn read_key(
     ensures fits { IfOk result (λ whole. IsTrue whole → FitsKeys keys.now cells.new) }
 {
     cells.clear();
-    for i in 0..keys.len() {
-        let Some(cell) = read_cell_of(keys[i], kinds[i], data_record) else {
+    for (key, kind) in keys.iter().zip(kinds) {
+        let Some(cell) = read_cell_of(*key, *kind, data_record) else {
             return Ok(false);
         };
         cells.push(cell)?;
@@ -131,10 +134,11 @@ fn project(key: Key, cell: Cell) -> Cell
 
 /// The counter in the first field of an element, 0 if that is missing or no number.
 fn counter(data_record: &DataRecord, element: ElementId) -> u64
+    requires { is_counter element ≡ true }
     ensures { result ≡ counter_of element data_record.now }
 {
     match data_record.fields.find(element) {
-        Some(octets) => read_number(kind_of(element), octets).unwrap_or(0),
+        Some(octets) => read_number(COUNTER_KIND, octets).unwrap_or(0),
         None => 0,
     }
 }
@@ -145,6 +149,7 @@ pub(crate) fn read_counters(
     data_record: &DataRecord,
     counters: &mut Vec<u64>,
 ) -> Result<(), AllocError>
+    requires { AllPass is_counter elements.now }
     ensures { OnOk result (counters.new.items ≡ map (λ c. counter_of c data_record.now) elements.now) }
 {
     counters.clear();

@@ -1,7 +1,14 @@
-use Rattle.std.proofs.Common.{None, arith}
+use Rattle.std.proofs.Common.{◌≡◌, ◌+◌, List, [], ◌∷◌, ◌++◌, get_or, take, drop, length, length-append, Some, None, option_map, sym, ap, subst, ◌∙◌, arith}
+use Rattle.std.proofs.lemmas.Slice.Zip.{zip_turn}
+use Rattle.std.specs.Slice.Iter.{iter_rest}
+use Rattle.std.specs.Iterator.Adapters.{zip_first, zip_second}
+use Rattle.ipfix_elements.specs.declared.cell.Cell.{Cell}
+use Rattle.ipfix_elements.specs.declared.kind.Kind.{Kind}
 use Rattle.ipfix_elements.specs.declared.kind.Kind.TheVariants.{Unsigned}
 use Rattle.ipfix_elements.specs.declared.kind.Width.TheVariants.{One}
 use Rattle.flow_table.specs.declared.key.Key.{Key}
+use Rattle.flow_table.specs.Fitting.{FitsKeys, IsCellOf}
+use Rattle.flow_table.specs.Reading.{cell_of, cells_of}
 use Rattle.flow_table.proofs.KeyCells.{more_fit, cells_more}
 use Rattle.flow_table.proofs.reading.read_key.Goals as goal
 
@@ -9,13 +16,22 @@ use Rattle.flow_table.proofs.reading.read_key.Goals as goal
 abbrev no_key : Key
 no_key = record { element = record { pen = 0; number = 0 }; prefix = None }
 
-pub loop-i-preserved : goal.loop-i-preserved
-loop-i-preserved c =
+pub loop-key-preserved : goal.loop-key-preserved
+loop-key-preserved c =
     let keys = c.args.keys.now in
-    let found = c.loop-i.cells in
+    let kinds = c.args.kinds.now in
+    let r = c.args.data_record.now in
+    let found = c.loop-key.cells in
     let news = c.push.new.self in
-    let cell = c.in-Some.cell in
+    let cell = c.in-Some-read_cell_of.cell in
+    let i = length c.loop-key.yielded in
+    let first : iter_rest (zip_first c.into_iter-key-iterator.result) ≡ keys = search in
+    let second : iter_rest (zip_second c.into_iter-key-iterator.result) ≡ kinds = search in
+    let turn = zip_turn keys kinds c.loop-key.yielded _ _ c.next.new.self _ first second c.loop-key.yielded_by (c.in-Some.key, c.in-Some.kind) c.in-Some.is c.next.ensures.steps in
+    let here : Some cell ≡ cell_of (get_or keys i no_key) r = subst (λ (k : Key). Some cell ≡ cell_of k r) (turn.2 no_key) c.in-Some-read_cell_of.ensures.value in
+    let fits : IsCellOf (get_or kinds i (Unsigned One)) cell = subst (λ (k : Kind). IsCellOf k cell) (turn.3 (Unsigned One)) c.in-Some-read_cell_of.ensures.fits in
+    let next : length (c.loop-key.yielded ++ (c.in-Some.key, c.in-Some.kind) ∷ []) ≡ i + 1 = length-append c.loop-key.yielded ((c.in-Some.key, c.in-Some.kind) ∷ []) in
     record {
-      cells = cells_more keys c.args.data_record.now found news c.loop-i.i no_key cell (omega arith) c.in-Some.ensures.value c.in_ok-push.ensures c.loop-i.invariant.cells;
-      fits = more_fit keys c.args.kinds.now found news c.loop-i.i no_key (Unsigned One) cell (omega arith) c.requires.kinds c.loop-i.invariant.fits c.in-Some.ensures.fits c.in_ok-push.ensures;
+      cells = rw next (cells_more keys r found news i no_key cell turn.0 here c.in_ok-push.ensures c.loop-key.invariant.cells);
+      fits = rw next (more_fit keys kinds found news i no_key (Unsigned One) cell turn.0 c.requires.kinds c.loop-key.invariant.fits fits c.in_ok-push.ensures);
     }
