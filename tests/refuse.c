@@ -1,8 +1,8 @@
 // A library to preload: it refuses calls of the program that it is loaded into.
 //
 // REFUSE=5 refuses the fifth call that asks for memory, REFUSE=5.. that one and all after it, whatever thread makes it;
-// what the system's libraries ask for counts, too. With REFUSE_WHAT=reads or REFUSE_WHAT=writes calls that read or
-// write fail in place of those. With REFUSE_WHAT=octets nothing is refused, and each read and write moves one octet.
+// what the system's libraries ask for counts, too. With REFUSE_WHAT=reads, writes or threads calls that read, write or
+// start a thread fail in place of those. With REFUSE_WHAT=octets nothing fails, and each read and write moves one octet.
 // Each refusal writes a letter to descriptor 9, if that is open. A program that still runs after twenty seconds gets
 // SIGALRM.
 //
@@ -17,10 +17,11 @@ extern char *getenv(const char *);
 extern long strtol(const char *, char **, int);
 extern unsigned alarm(unsigned);
 extern long syscall(long, ...);
+extern void *dlsym(void *, const char *);
 extern int *__errno_location(void);
 
 enum { READ = 0, WRITE = 1, RECEIVE = 45 };
-enum { DEVICE = 5, NO_MEMORY = 12, SECONDS = 20 };
+enum { DEVICE = 5, AGAIN = 11, NO_MEMORY = 12, SECONDS = 20 };
 
 // The first letter of what is refused; the first such call, 0 for none, and whether those after it are refused, too.
 static char what = 'm';
@@ -84,3 +85,8 @@ long write(int to, const void *from, size_t size) {
 }
 
 long __write(int to, const void *from, size_t size) { return write(to, from, size); }
+
+int pthread_create(void *thread, const void *how, void *(*run)(void *), void *with) {
+  int (*create)(void *, const void *, void *(*)(void *), void *) = dlsym((void *)-1, "pthread_create");
+  return is_refused('t', AGAIN) ? AGAIN : create(thread, how, run, with);
+}
