@@ -3,5 +3,6 @@ pub mod DumpLines
 pub mod Dumped
 pub mod Runs
 pub mod ReportLines
+pub mod PlaceLines
 pub mod Statuses
 pub mod Faults

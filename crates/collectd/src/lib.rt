@@ -7,6 +7,7 @@ mod files;
 mod line;
 mod line_sink;
 mod network;
+mod places;
 mod plans;
 mod reports;
 mod run_fault;

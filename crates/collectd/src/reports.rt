@@ -8,14 +8,16 @@ ghost use Rattle.flow_collect.specs.Faults as collect;
 ghost use Rattle.flow_export.specs.Faults as export;
 ghost use Rattle.flow_table.specs.PlanFaults as plan;
 ghost use Rattle.plan_file.specs.Faults as text;
+ghost use Rattle.collectd.specs.PlaceLines.{plan_lines};
 ghost use Rattle.collectd.specs.ReportLines.{domain_lines, fault_text, first_counts, last_counts, loss_line, plan_fault_text, report_lines, session_lines, tally_line};
 
 use crate::fault::DumpFault;
+use crate::places::write_place;
 use flow_collect::CollectFault;
 use flow_export::ExportFault;
 use flow_table::{PlanFault, Tally};
 use ipfix_session::{DomainReport, SessionReport};
-use plan_file::PlanTextFault;
+use plan_file::{PlanTextError, PlanTextFault};
 use std::io::{self, Write};
 
 /// Writes what there is to tell of sessions, counted from 1: a line for each domain whose sequence
@@ -141,8 +143,16 @@ pub fn write_export_fault<W: Write>(fault: ExportFault, out: &mut W) -> io::Resu
     write_fault("export", fault.number(), fault.name(), out)
 }
 
-/// Writes the line of a fault of a plan's text, with the plan's own fault if it has one.
-pub fn write_plan_fault<W: Write>(fault: PlanTextFault, out: &mut W) -> io::Result<()>
+/// Writes the line of a fault of a plan's text, with the plan's own fault if it has one, and then the
+/// line that tells where it is. For want of memory there is no such line.
+pub fn write_plan_fault<W: Write>(error: &PlanTextError, out: &mut W) -> io::Result<()>
+    ensures { OnOk result (Appends (W.contents out.old) (W.contents out.new) (plan_lines error.now)) }
+{
+    write_plan_fault_line(error.fault(), out)?;
+    write_place(error, out)
+}
+
+fn write_plan_fault_line<W: Write>(fault: PlanTextFault, out: &mut W) -> io::Result<()>
     ensures { OnOk result (Appends (W.contents out.old) (W.contents out.new) (codes "collectd: plan" ++ plan_fault_text fault)) }
 {
     match fault {

@@ -1,2 +1,3 @@
 mod failing;
+mod plans;
 mod sessions;

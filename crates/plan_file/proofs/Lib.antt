@@ -1,4 +1,5 @@
 mod Bits
 mod Listed
 mod Slashes
+mod Told
 mod Values

@@ -1,6 +1,7 @@
 -- Lists of which each item has something, gone through one after another.
-use Rattle.std.proofs.Common.{◌≡◌, ℕ, ◌+◌, ◌<◌, length, List, [], ◌∷◌, ◌++◌, map, take, drop, get_or, Option, Some, None, option_map, option_and_then, refl, sym, ap, ◌∙◌, add-one}
+use Rattle.std.proofs.Common.{◌≡◌, ℕ, ◌+◌, ◌<◌, length, List, [], ◌∷◌, ◌++◌, map, take, drop, get_or, cond, Option, Some, None, option_map, option_and_then, refl, sym, ap, ◌∙◌, add-one}
 use denote.Bor.{Bor}
+use Rattle.std.specs.Prelude.{find, is_none}
 use Rattle.std.proofs.lemmas.List.{map-append, take-append-drop}
 use Rattle.std.proofs.lemmas.Option.{none-some, same_Some}
 use Rattle.std.proofs.Math.Seq.{take-suc, drop-cons}
@@ -59,6 +60,29 @@ all_of-more f texts i d xs x inside h e =
 pub all_of-none : {X : Type 0} (f : List ℕ → Option X) (texts : List (Bor (List ℕ))) (i : ℕ) (d : Bor (List ℕ)) → i < length texts
     → None ≡ f (get_or texts i d).now → all_of f (map (λ t. t.now) texts) ≡ None
 all_of-none f texts i d inside e = all_of-now f texts ∙ all_of-stop (λ (t : Bor (List ℕ)). f t.now) texts i d inside e
+
+-- the first that has nothing, past those that have something
+past : {A X : Type 0} (first : Option X) (rest : Option (List X)) (xs : List X) (y : A) (o r : Option A) → option_and_then (λ x. option_map (λ ys. x ∷ ys) rest) first ≡ Some xs
+    → ((ys : List X) → rest ≡ Some ys → o ≡ r) → cond (is_none first) (Some y) o ≡ r
+past None rest xs y o r h next = absurd (none-some xs h)
+past (Some x) None xs y o r h next = absurd (none-some xs h)
+past (Some x) (Some ys) xs y o r h next = next ys refl
+
+first_without : {A X : Type 0} (f : A → Option X) (ys : List A) (y : A) (more : List A) (xs : List X) → all_of f ys ≡ Some xs → f y ≡ None → find (λ z. is_none (f z)) (ys ++ y ∷ more) ≡ Some y
+first_without f [] y more xs h e = rw e refl
+first_without f (z ∷ ys) y more xs h e = past (f z) (all_of f ys) xs z _ (Some y) h (λ zs k. first_without f ys y more zs k e)
+
+pub none_without : {A X : Type 0} (f : A → Option X) (ys : List A) (xs : List X) → all_of f ys ≡ Some xs → find (λ z. is_none (f z)) ys ≡ None
+none_without f [] xs h = refl
+none_without f (z ∷ ys) xs h = past (f z) (all_of f ys) xs z _ None h (λ zs k. none_without f ys zs k)
+
+pub all_of-first : {X : Type 0} (f : List ℕ → Option X) (texts : List (Bor (List ℕ))) (i : ℕ) (d : Bor (List ℕ)) (xs : List X) (text : List ℕ) → i < length texts
+    → all_of f (map (λ t. t.now) (take i texts)) ≡ Some xs → None ≡ f (get_or texts i d).now → text ≡ (get_or texts i d).now → find (λ t. is_none (f t)) (map (λ t. t.now) texts) ≡ Some text
+all_of-first f texts i d xs text inside h e same =
+    let now : Bor (List ℕ) → List ℕ = λ t. t.now in
+    ap (λ (ts : List (List ℕ)). find (λ t. is_none (f t)) ts) (ap (map now) (around texts i d inside) ∙ map-append now (take i texts) (get_or texts i d ∷ drop (i + 1) texts))
+    ∙ first_without f (map now (take i texts)) (get_or texts i d).now (map now (drop (i + 1) texts)) xs h (sym e)
+    ∙ ap (λ (t : List ℕ). Some t) (sym same)
 
 -- ---- values that are texts
 

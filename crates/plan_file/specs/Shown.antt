@@ -1,8 +1,13 @@
--- The values of a document's keys as the code keeps them.
-use Rattle.std.specs.Prelude.{ℕ, List, map, Vec}
+-- The values of a document's keys as the code keeps them, and what a part of reading says of an error.
+use Rattle.std.specs.Prelude.{◌≡◌, ℕ, List, map, Vec, Option, Some, Result, Ok, Err, string_bytes}
 use denote.Bor.{Bor}
 use Rattle.std.specs.declared.alloc.Global.{Global}
+use Rattle.plan_file.specs.declared.error.PlanKey.{PlanKey}
+use Rattle.plan_file.specs.declared.error.PlanTextError.{PlanTextError}
+use Rattle.plan_file.specs.declared.error.PlanTextError.TheVariants.{Missing, WrongKind, UnknownElement, Plan, OutOfMemory}
 use Rattle.plan_file.specs.declared.fields.Fields.{Fields}
+use Rattle.plan_file.specs.Faults.{Read, Fails}
+use Rattle.plan_file.specs.Places.{fault_of, IsUnknown}
 use Rattle.plan_file.specs.PlanTexts as plan
 
 abbrev pub texts_of : Vec (Bor (List ℕ)) Global → List (List ℕ)
@@ -10,3 +15,28 @@ texts_of texts = map (λ t. t.now) texts.items
 
 abbrev pub shown : Fields → plan.Fields
 shown f = plan.fields f.length f.method f.max_spread (texts_of f.keys) (texts_of f.counters)
+
+-- what a function answered, seen by view, is what reading gives, and this is told of an error
+abbrev pub GivesOr : {X Y : Type 0} → (X → Y) → (PlanTextError → Type 0) → Result X PlanTextError → Read Y → Type 0
+GivesOr view Told (Ok x) read = read ≡ Ok (view x)
+GivesOr view Told (Err e) read = Fails (fault_of e) read × Told e
+
+-- the value of this key is refused
+abbrev pub IsOfKey : PlanKey → PlanTextError → Type 0
+IsOfKey k (Missing key) = k ≡ key
+IsOfKey k (WrongKind key) = k ≡ key
+IsOfKey k OutOfMemory = Unit {0}
+IsOfKey k _ = ⊥
+
+-- a text of this key names no element
+abbrev pub IsOfText : PlanKey → Option (List ℕ) → PlanTextError → Type 0
+IsOfText k unknown (UnknownElement key text) = (k ≡ key) × (unknown ≡ Some (string_bytes text))
+IsOfText k unknown OutOfMemory = Unit {0}
+IsOfText k unknown _ = ⊥
+
+-- the values of a document make no plan
+abbrev pub IsOfValues : plan.Fields → PlanTextError → Type 0
+IsOfValues f (UnknownElement key text) = IsUnknown f key (string_bytes text)
+IsOfValues f (Plan fault) = Unit {0}
+IsOfValues f OutOfMemory = Unit {0}
+IsOfValues f _ = ⊥

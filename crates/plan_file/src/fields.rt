@@ -1,16 +1,16 @@
 //! The values of a document's keys.
 
-ghost use Rattle.std.specs.Prelude.{◌≡◌, codes, map};
-ghost use Rattle.std.specs.Option.{ok_or};
+ghost use Rattle.std.specs.Prelude.{◌≡◌, string_bytes, IfOk};
+ghost use Rattle.std.specs.Option.{option_map};
 ghost use Rattle.toml.specs.Data.{get_member};
 ghost use Rattle.toml.specs.View.{table_view, view};
-ghost use Rattle.plan_file.specs.Faults.{Gives};
-ghost use Rattle.plan_file.specs.PlanTexts.{is_field as is_field_name, has_known_fields as knows_all, fields_of, optional, small_number as small_number_in, method as method_in, texts as texts_in};
-ghost use Rattle.plan_file.specs.Shown.{shown, texts_of};
+ghost use Rattle.plan_file.specs.PlanTexts.{is_field as is_field_name, fields_of, required, optional, small_number, method, texts};
+ghost use Rattle.plan_file.specs.Places.{key_name, refused_key, unknown_field as unknown_field_of};
+ghost use Rattle.plan_file.specs.Shown.{shown, texts_of, GivesOr, IsOfKey};
 
-use crate::fault::PlanTextFault;
+use crate::error::{PlanKey, PlanTextError};
 use flow_table::{MAX_SPREAD, Method};
-use std::alloc::Global;
+use std::alloc::{AllocError, Global};
 use toml::{Table, Value};
 
 /// What a document says of a plan.
@@ -23,11 +23,11 @@ pub struct Fields<'a> {
     pub counters: Vec<&'a str>,
 }
 
-/// Whether a document has the keys of a plan alone.
-pub fn has_known_fields(table: &Table) -> bool
-    ensures { result ≡ knows_all (table_view table.now) }
+/// The first key of a document that plans don't have.
+pub fn unknown_field(table: &Table) -> Option<&String>
+    ensures { option_map (λ name. string_bytes name.now) result ≡ unknown_field_of (table_view table.now) }
 {
-    table.keys().all(|name| is_field(name.as_str()))
+    table.keys().find(|name| !is_field(name.as_str()))
 }
 
 fn is_field(name: &str) -> bool
@@ -41,14 +41,14 @@ fn is_field(name: &str) -> bool
 
 /// The values of a document's keys, or the first fault: for each key, in their order, `Missing` and
 /// `WrongKind`.
-pub fn read_fields(alloc: Global, table: &Table) -> Result<Fields<'_>, PlanTextFault>
-    ensures { Gives shown result (fields_of (table_view table.now)) }
+pub fn read_fields(alloc: Global, table: &Table) -> Result<Fields<'_>, PlanTextError>
+    ensures { GivesOr shown (IsOfKey (refused_key (table_view table.now))) result (fields_of (table_view table.now)) }
 {
-    let length = small_number(value_at(table, "interval_ms")?)?;
-    let method = method(value_at(table, "method")?)?;
+    let length = number_at(table, PlanKey::IntervalMs)?;
+    let method = method_at(table)?;
     let max_spread = max_spread(table)?;
-    let keys = texts(alloc, value_at(table, "keys")?)?;
-    let counters = texts(alloc, value_at(table, "counters")?)?;
+    let keys = texts_at(alloc, table, PlanKey::Keys)?;
+    let counters = texts_at(alloc, table, PlanKey::Counters)?;
     Ok(Fields {
         length,
         method,
@@ -58,62 +58,86 @@ pub fn read_fields(alloc: Global, table: &Table) -> Result<Fields<'_>, PlanTextF
     })
 }
 
-// the value at a key that has to be there
-fn value_at<'a>(table: &'a Table, name: &str) -> Result<&'a Value, PlanTextFault>
-    ensures { Gives (λ value. view value.now) result (ok_or (get_member name.now (table_view table.now)) PlanTextFault.Missing) }
+// the value at a key
+fn value_at(table: &Table, key: PlanKey) -> Option<&Value>
+    ensures { option_map (λ value. view value.now) result ≡ get_member (key_name key) (table_view table.now) }
 {
-    match table.get(name) {
-        Some(value) => Ok(value),
-        None => Err(PlanTextFault::Missing),
+    table.get(key.name())
+}
+
+// the number at a key that has to be there
+fn number_at(table: &Table, key: PlanKey) -> Result<u32, PlanTextError>
+    ensures { GivesOr (λ number. number) (IsOfKey key) result (required small_number (get_member (key_name key) (table_view table.now))) }
+{
+    match value_at(table, key) {
+        Some(value) => small_number_in(value).ok_or(PlanTextError::WrongKind { key }),
+        None => Err(PlanTextError::Missing { key }),
     }
 }
 
 // the most intervals that a flow may cover: a value that may be missing
-fn max_spread(table: &Table) -> Result<u32, PlanTextFault>
-    ensures { result ≡ optional 4096 small_number_in (get_member (codes "max_spread") (table_view table.now)) }
+fn max_spread(table: &Table) -> Result<u32, PlanTextError>
+    ensures { GivesOr (λ number. number) (IsOfKey PlanKey.MaxSpread) result (optional 4096 small_number (get_member (key_name PlanKey.MaxSpread) (table_view table.now))) }
 {
-    match table.get("max_spread") {
-        Some(value) => small_number(value),
+    let key = PlanKey::MaxSpread;
+    match value_at(table, key) {
+        Some(value) => small_number_in(value).ok_or(PlanTextError::WrongKind { key }),
         None => Ok(MAX_SPREAD),
     }
 }
 
-// an integer from 0 to 2^32 - 1
-fn small_number(value: &Value) -> Result<u32, PlanTextFault>
-    ensures { result ≡ ok_or (small_number_in (view value.now)) PlanTextFault.WrongKind }
+fn method_at(table: &Table) -> Result<Method, PlanTextError>
+    ensures { GivesOr (λ method. method) (IsOfKey PlanKey.Method) result (required method (get_member (key_name PlanKey.Method) (table_view table.now))) }
 {
-    match value.as_integer() {
-        Some(number) => u32::try_from(number).map_err(|_| PlanTextFault::WrongKind),
-        None => Err(PlanTextFault::WrongKind),
+    let key = PlanKey::Method;
+    match value_at(table, key) {
+        Some(value) => method_in(value).ok_or(PlanTextError::WrongKind { key }),
+        None => Err(PlanTextError::Missing { key }),
     }
 }
 
-fn method(value: &Value) -> Result<Method, PlanTextFault>
-    ensures { result ≡ ok_or (method_in (view value.now)) PlanTextFault.WrongKind }
+fn texts_at(alloc: Global, table: &Table, key: PlanKey) -> Result<Vec<&str>, PlanTextError>
+    ensures { GivesOr texts_of (IsOfKey key) result (required texts (get_member (key_name key) (table_view table.now))) }
+{
+    match value_at(table, key) {
+        Some(value) => texts_in(alloc, value)?.ok_or(PlanTextError::WrongKind { key }),
+        None => Err(PlanTextError::Missing { key }),
+    }
+}
+
+// an integer from 0 to 2^32 - 1
+fn small_number_in(value: &Value) -> Option<u32>
+    ensures { result ≡ small_number (view value.now) }
+{
+    u32::try_from(value.as_integer()?).ok()
+}
+
+fn method_in(value: &Value) -> Option<Method>
+    ensures { result ≡ method (view value.now) }
 {
     match value.as_str() {
-        Some("start") => Ok(Method::Start),
-        Some("end") => Ok(Method::End),
-        Some("mid") => Ok(Method::Mid),
-        Some("uniform") => Ok(Method::Uniform),
-        Some("proportional") => Ok(Method::Proportional),
-        _ => Err(PlanTextFault::WrongKind),
+        Some("start") => Some(Method::Start),
+        Some("end") => Some(Method::End),
+        Some("mid") => Some(Method::Mid),
+        Some("uniform") => Some(Method::Uniform),
+        Some("proportional") => Some(Method::Proportional),
+        _ => None,
     }
 }
 
 // an array of texts alone
-fn texts(alloc: Global, value: &Value) -> Result<Vec<&str>, PlanTextFault>
-    ensures { Gives texts_of result (ok_or (texts_in (view value.now)) PlanTextFault.WrongKind) }
+fn texts_in(alloc: Global, value: &Value) -> Result<Option<Vec<&str>>, AllocError>
+    ensures { IfOk result (λ found. option_map texts_of found ≡ texts (view value.now)) }
 {
     let Some(values) = value.as_array() else {
-        return Err(PlanTextFault::WrongKind);
+        return Ok(None);
     };
     let mut texts = Vec::new(alloc);
     for value in values.as_slice() {
         match value.as_str() {
             Some(text) => texts.push(text)?,
-            None => return Err(PlanTextFault::WrongKind),
+            None => return Ok(None),
         }
     }
-    Ok(texts)
+    Ok(Some(texts))
 }

@@ -1,10 +1,13 @@
 //! The plan of an aggregation (RFC 7015, section 5) as a text that people write: a TOML document.
 #![tactic(auto)]
 
+mod error;
 mod fault;
 mod fields;
+mod lines;
 mod named;
 mod reading;
 
+pub use error::{PlanKey, PlanTextError};
 pub use fault::PlanTextFault;
-pub use reading::read_plan;
+pub use reading::{read_plan, read_plan_octets};

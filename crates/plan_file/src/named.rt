@@ -1,12 +1,13 @@
 //! The elements that texts name.
 
-ghost use Rattle.std.specs.Prelude.{◌≡◌, map};
+ghost use Rattle.std.specs.Prelude.{◌≡◌, map, find, is_none};
 ghost use Rattle.std.specs.Option.{ok_or};
 ghost use Rattle.ipfix_elements.specs.Names.{element_named};
-ghost use Rattle.plan_file.specs.Faults.{Gives};
+ghost use Rattle.plan_file.specs.declared.fault.PlanTextFault.TheVariants.{UnknownElement};
 ghost use Rattle.plan_file.specs.PlanTexts.{all_of, bits_in, key_named as key_named_by};
+ghost use Rattle.plan_file.specs.Shown.{GivesOr, IsOfText};
 
-use crate::fault::PlanTextFault;
+use crate::error::{PlanKey, PlanTextError};
 use flow_table::Key;
 use ipfix_elements::by_name;
 use ipfix_wire::ElementId;
@@ -14,28 +15,38 @@ use itoa::Buffer;
 use std::alloc::Global;
 
 /// The keys that texts name.
-pub fn keys_named(alloc: Global, texts: &[&str]) -> Result<Vec<Key>, PlanTextFault>
-    ensures { Gives (λ keys. keys.items) result (ok_or (all_of key_named_by (map (λ t. t.now) texts.now)) PlanTextFault.UnknownElement) }
+pub fn keys_named(alloc: Global, texts: &[&str]) -> Result<Vec<Key>, PlanTextError>
+    ensures { GivesOr (λ keys. keys.items) (IsOfText PlanKey.Keys (find (λ t. is_none (key_named_by t)) (map (λ t. t.now) texts.now))) result (ok_or (all_of key_named_by (map (λ t. t.now) texts.now)) UnknownElement) }
 {
     let mut keys = Vec::new(alloc);
     for text in texts {
         match key_named(text) {
             Some(key) => keys.push(key)?,
-            None => return Err(PlanTextFault::UnknownElement),
+            None => {
+                return Err(PlanTextError::UnknownElement {
+                    key: PlanKey::Keys,
+                    text: String::from_str(alloc, text)?,
+                });
+            }
         }
     }
     Ok(keys)
 }
 
 /// The counters that texts name.
-pub fn counters_named(alloc: Global, texts: &[&str]) -> Result<Vec<ElementId>, PlanTextFault>
-    ensures { Gives (λ counters. counters.items) result (ok_or (all_of element_named (map (λ t. t.now) texts.now)) PlanTextFault.UnknownElement) }
+pub fn counters_named(alloc: Global, texts: &[&str]) -> Result<Vec<ElementId>, PlanTextError>
+    ensures { GivesOr (λ counters. counters.items) (IsOfText PlanKey.Counters (find (λ t. is_none (element_named t)) (map (λ t. t.now) texts.now))) result (ok_or (all_of element_named (map (λ t. t.now) texts.now)) UnknownElement) }
 {
     let mut counters = Vec::new(alloc);
     for text in texts {
         match by_name(text) {
             Some(element) => counters.push(element)?,
-            None => return Err(PlanTextFault::UnknownElement),
+            None => {
+                return Err(PlanTextError::UnknownElement {
+                    key: PlanKey::Counters,
+                    text: String::from_str(alloc, text)?,
+                });
+            }
         }
     }
     Ok(counters)

@@ -2,16 +2,20 @@
 
 ghost use Rattle.std.specs.Prelude.{◌≡◌, ◌≢◌, Ok, Err, IfOk, IfErr};
 ghost use Rattle.flow_table.specs.Plans.{IsPlan};
+ghost use Rattle.std.specs.Str.{IsUtf8};
 ghost use Rattle.toml.specs.View.{table_view};
-ghost use Rattle.plan_file.specs.Faults.{Gives};
 ghost use Rattle.plan_file.specs.PlanTexts.{plan_of_text, plan_of_document, plan_of_fields};
-ghost use Rattle.plan_file.specs.Shown.{shown};
+ghost use Rattle.plan_file.specs.Places.{Tells, TellsKey, fault_of};
+ghost use Rattle.plan_file.specs.Shown.{shown, GivesOr, IsOfValues};
 
+use crate::error::PlanTextError;
 use crate::fault::PlanTextFault;
-use crate::fields::{Fields, has_known_fields, read_fields};
+use crate::fields::{Fields, read_fields, unknown_field};
+use crate::lines::line_at;
 use crate::named::{counters_named, keys_named};
 use flow_table::{Plan, PlanFault};
 use std::alloc::Global;
+use std::str;
 use toml::Table;
 
 /// The plan of a TOML document, or the first fault that fits it, in this order: `NotToml`;
@@ -32,34 +36,62 @@ pub fn read_plan(alloc: Global, text: &str) -> Result<Plan, PlanTextFault>
     // No fault fits a plan that was read.
     ensures sound { IfOk result IsPlan }
 {
-    read_text(alloc, text)
+    match read_text(alloc, text) {
+        Ok(plan) => Ok(plan),
+        Err(error) => Err(error.fault()),
+    }
+}
+
+/// As [`read_plan`], of octets that are to be UTF-8, and with the place of the fault: the line at
+/// which they are no UTF-8 or no TOML; or the key, and for `UnknownElement` the text. Of several keys
+/// that plans don't have it is the one that comes first in the order of octets.
+pub fn read_plan_octets(alloc: Global, octets: &[u8]) -> Result<Plan, PlanTextError>
+    ensures ok { IfOk result (λ plan. IsUtf8 octets.now × (plan_of_text octets.now ≡ Ok plan)) }
+    ensures fault { IfErr result (λ error. fault_of error ≢ PlanTextFault.OutOfMemory → IsUtf8 octets.now → plan_of_text octets.now ≡ Err (fault_of error)) }
+    ensures not_utf8 { IfErr result (λ error. ¬ (IsUtf8 octets.now) → fault_of error ≡ PlanTextFault.NotToml) }
+    ensures place { IfErr result (Tells octets.now) }
+    // No fault fits a plan that was read.
+    ensures sound { IfOk result IsPlan }
+{
+    match str::from_utf8(octets) {
+        Ok(text) => read_text(alloc, text),
+        Err(error) => Err(PlanTextError::NotUtf8 {
+            line: line_at(octets, error.valid_up_to()),
+        }),
+    }
 }
 
 // the plan of a text
-fn read_text(alloc: Global, text: &str) -> Result<Plan, PlanTextFault>
-    ensures { Gives (λ plan. plan) result (plan_of_text text.now) }
+fn read_text(alloc: Global, text: &str) -> Result<Plan, PlanTextError>
+    ensures { GivesOr (λ plan. plan) (Tells text.now) result (plan_of_text text.now) }
 {
-    match toml::table_from_str(alloc, text) {
-        Ok(table) => read_document(alloc, &table),
-        Err(error) if error.is_memory() => Err(PlanTextFault::OutOfMemory),
-        Err(_) => Err(PlanTextFault::NotToml),
+    let error = match toml::table_from_str(alloc, text) {
+        Ok(table) => return read_document(alloc, &table),
+        Err(error) => error,
+    };
+    match error.span() {
+        Some(span) => Err(PlanTextError::NotToml {
+            error,
+            line: line_at(text.as_bytes(), span.start),
+        }),
+        None => Err(PlanTextError::OutOfMemory),
     }
 }
 
 // the plan of a document
-fn read_document(alloc: Global, table: &Table) -> Result<Plan, PlanTextFault>
-    ensures { Gives (λ plan. plan) result (plan_of_document (table_view table.now)) }
+fn read_document(alloc: Global, table: &Table) -> Result<Plan, PlanTextError>
+    ensures { GivesOr (λ plan. plan) (TellsKey (table_view table.now)) result (plan_of_document (table_view table.now)) }
 {
-    if !has_known_fields(table) {
-        return Err(PlanTextFault::UnknownField);
+    if let Some(key) = unknown_field(table) {
+        return Err(PlanTextError::UnknownField { key: key.clone()? });
     }
     let fields = read_fields(alloc, table)?;
     make_plan(alloc, &fields)
 }
 
 // the plan that the values of a document make
-fn make_plan(alloc: Global, fields: &Fields) -> Result<Plan, PlanTextFault>
-    ensures { Gives (λ plan. plan) result (plan_of_fields (shown fields.now)) }
+fn make_plan(alloc: Global, fields: &Fields) -> Result<Plan, PlanTextError>
+    ensures { GivesOr (λ plan. plan) (IsOfValues (shown fields.now)) result (plan_of_fields (shown fields.now)) }
 {
     let keys = keys_named(alloc, &fields.keys)?;
     let counters = counters_named(alloc, &fields.counters)?;
@@ -72,7 +104,7 @@ fn make_plan(alloc: Global, fields: &Fields) -> Result<Plan, PlanTextFault>
         fields.max_spread,
     ) {
         Ok(plan) => Ok(plan),
-        Err(PlanFault::OutOfMemory) => Err(PlanTextFault::OutOfMemory),
-        Err(fault) => Err(PlanTextFault::Plan(fault)),
+        Err(PlanFault::OutOfMemory) => Err(PlanTextError::OutOfMemory),
+        Err(fault) => Err(PlanTextError::Plan { fault }),
     }
 }

@@ -1,6 +1,6 @@
 use flow_table::{Key, Method, PlanFault};
 use ipfix_wire::ElementId;
-use plan_file::{PlanTextFault, read_plan};
+use plan_file::{PlanTextError, PlanTextFault, read_plan, read_plan_octets};
 use std::alloc::Global;
 use std::test::Fail;
 
@@ -168,6 +168,76 @@ fn faults_have_numbers_and_names(rt: HostRuntime) -> Result<(), Fail> {
     ] {
         assert_eq!(rt; fault.number(), number);
         assert_eq!(rt; fault.name(), name);
+    }
+    Ok(())
+}
+
+// The place of the fault of octets, in words.
+fn place(alloc: Global, octets: &[u8]) -> Result<String, Fail> {
+    let Err(error) = read_plan_octets(alloc, octets) else {
+        return Ok(String::from_str(alloc, "a plan")?);
+    };
+    Ok(match &error {
+        PlanTextError::NotUtf8 { line } => format!(in alloc; "not UTF-8 {line}")?,
+        PlanTextError::NotToml { line, .. } => format!(in alloc; "not TOML {line}")?,
+        PlanTextError::UnknownField { key } => format!(in alloc; "unknown {key}")?,
+        PlanTextError::Missing { key } => {
+            let name = key.name();
+            format!(in alloc; "missing {name}")?
+        }
+        PlanTextError::WrongKind { key } => {
+            let name = key.name();
+            format!(in alloc; "wrong {name}")?
+        }
+        PlanTextError::UnknownElement { key, text } => {
+            let name = key.name();
+            format!(in alloc; "unnamed {name} {text}")?
+        }
+        PlanTextError::Plan { fault } => {
+            let name = fault.name();
+            format!(in alloc; "no plan {name}")?
+        }
+        PlanTextError::OutOfMemory => String::from_str(alloc, "out of memory")?,
+    })
+}
+
+#[test]
+fn tells_the_place_of_a_fault(rt: HostRuntime) -> Result<(), Fail> {
+    for (octets, want) in [
+        (BY_SOURCE.as_bytes(), "a plan"),
+        (b"method = \"\xff\"".as_slice(), "not UTF-8 1"),
+        (b"method = 1\n\n# \xc3\x28".as_slice(), "not UTF-8 3"),
+        (b"interval_ms =".as_slice(), "not TOML 1"),
+        (b"method = 1\r\nkeys = 2 3\r\n".as_slice(), "not TOML 2"),
+        (b"method = 1\n\nmethod = 1\n".as_slice(), "not TOML 3"),
+        (b"colour = 1\nbreadth = 2\n".as_slice(), "unknown breadth"),
+        (b"".as_slice(), "missing interval_ms"),
+        (b"interval_ms = 1".as_slice(), "missing method"),
+        (b"interval_ms = -1".as_slice(), "wrong interval_ms"),
+        (b"interval_ms = 1\nmethod = 1".as_slice(), "wrong method"),
+    ] {
+        assert_eq!(rt; place(rt.alloc(), octets)?.as_str(), want);
+    }
+    Ok(())
+}
+
+#[test]
+fn tells_the_key_of_a_fault(rt: HostRuntime) -> Result<(), Fail> {
+    for (more, keys, counters, want) in [
+        ("max_spread = -1", "1", "1", "wrong max_spread"),
+        ("", "[1]", "1", "wrong keys"),
+        ("", "[\"nobody\"]", "[1]", "wrong counters"),
+        (
+            "",
+            "[\"vlanId\", \"x/1\", \"y\"]",
+            "[\"z\"]",
+            "unnamed keys x/1",
+        ),
+        ("", "[\"vlanId\"]", "[\"z\", \"y\"]", "unnamed counters z"),
+        ("max_spread = 0", "[]", "[]", "no plan Spread"),
+    ] {
+        let text = with(rt.alloc(), more, keys, counters)?;
+        assert_eq!(rt; place(rt.alloc(), text.as_bytes())?.as_str(), want);
     }
     Ok(())
 }

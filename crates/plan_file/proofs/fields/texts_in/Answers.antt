@@ -1,20 +1,17 @@
-use Rattle.std.proofs.Common.{◌≡◌, List, Some, None, map, take, ap, ◌∙◌, sym, subst, option_and_then}
-use Rattle.std.specs.Option.{ok_or}
+use Rattle.std.proofs.Common.{List, Some, map, ap, ◌∙◌, sym, option_and_then}
 use Rattle.std.proofs.lemmas.List.{map-append}
 use denote.Bor.{Bor}
-use Rattle.toml.specs.Data.{as_str, as_array}
+use Rattle.toml.specs.Data.{as_str}
 use Rattle.toml.specs.View.{items_view, view}
 use Rattle.toml.specs.declared.value.Value.{Value}
-use Rattle.plan_file.specs.declared.fault.PlanTextFault.TheVariants.{WrongKind}
 use Rattle.plan_file.specs.PlanTexts.{texts_in}
 use Rattle.plan_file.proofs.Listed.{texts_in-more, texts_in-none}
-use Rattle.plan_file.proofs.fields.texts.Goals as goal
+use Rattle.plan_file.proofs.fields.texts_in.Goals as goal
 
 pub returns-in-None : goal.returns-in-None
 returns-in-None c =
     let none = texts_in-none c.as_slice-value-items.result.now c.loop-value.value-index c.value-item.result c.loop-value-test.true (c.in-None.ensures ∙ ap (λ v. as_str (view v)) c.value-item.is) in
-    ap (λ o. ok_or (option_and_then texts_in o) WrongKind) (sym c.in-Some.ensures)
-    ∙ ap (λ o. ok_or o WrongKind) (ap (λ (vs : List Value). texts_in (items_view vs)) (sym c.as_slice-value-items.ensures.value) ∙ none)
+    sym (ap (option_and_then texts_in) (sym c.in-Some.ensures) ∙ ap (λ (vs : List Value). texts_in (items_view vs)) (sym c.as_slice-value-items.ensures.value) ∙ none)
 
 pub loop-value-preserved : goal.loop-value-preserved
 loop-value-preserved c =

@@ -2,7 +2,7 @@ use Rattle.std.proofs.Common.{◌≡◌, map, take, Some}
 use Rattle.toml.specs.View.{items_view}
 use Rattle.plan_file.specs.PlanTexts.{texts_in}
 use Rattle.plan_file.specs.Shown.{texts_of}
-use Rattle.plan_file.proofs.fields.texts.Given as goal
+use Rattle.plan_file.proofs.fields.texts_in.Given as goal
 
 -- the first values are texts
 abbrev pub invariant-loop-value : goal.invariant-loop-value
