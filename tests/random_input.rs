@@ -5,8 +5,10 @@
 //! count that reads by their element's kind. Every third input is damaged somewhere. The same words give the
 //! same files.
 
+mod damage;
 mod numbers;
 
+use damage::damage;
 use numbers::Numbers;
 use std::io;
 use std::{env, fs};
@@ -98,24 +100,6 @@ fn put_message(numbers: &mut Numbers, shape: u64, out: &mut Vec<u8>) {
         out.extend(number.to_be_bytes());
     }
     out.extend(sets);
-}
-
-/// Changes one number of 2 octets, or cuts, drops or doubles a part.
-fn damage(numbers: &mut Numbers, octets: &mut Vec<u8>) {
-    if octets.len() < 2 {
-        return;
-    }
-    let at = numbers.below(octets.len() - 1);
-    let end = octets.len().min(at + 1 + numbers.below(20));
-    match numbers.below(6) {
-        0 => octets.truncate(at),
-        1 => drop(octets.drain(at..end)),
-        2 => octets.extend_from_within(at..end),
-        _ => {
-            let number = numbers.of(&[0u16, 1, 2, 3, 4, 5, 9, 10, 15, 16, 255, 256, 257, 65535]);
-            octets[at..at + 2].copy_from_slice(&number.to_be_bytes());
-        }
-    }
 }
 
 fn main() -> io::Result<()> {

@@ -1,0 +1,325 @@
+//! What `collectd files` does, as a plain program that proves nothing: `plain_files PLAN FILE..` writes the table of the
+//! sessions in files as CSV, the texts of their reports to standard error, and ends with the same status.
+//!
+//! The octets are read by the plain program of bench/dump, and the records are added up from its lines, by the rules of
+//! docs/PROFILE.md. Of a plan it knows the form that tests/random_plans.rs writes, and which values make none.
+
+#[path = "../bench/dump/plain/element.rs"]
+mod element;
+#[path = "../bench/dump/plain/session.rs"]
+mod session;
+#[path = "../bench/dump/plain/template.rs"]
+mod template;
+#[path = "../bench/dump/plain/text.rs"]
+mod text;
+
+use element::{Element, Kind};
+use session::{Fault, Session};
+use std::collections::BTreeMap;
+use std::fs;
+use std::process::ExitCode;
+
+const HEADER: usize = 16;
+const LATEST: u64 = 1 << 50;
+
+struct Key {
+    element: Element,
+    prefix: Option<u32>,
+}
+
+struct Plan {
+    length: u64,
+    method: String,
+    max_spread: u64,
+    keys: Vec<Key>,
+    counters: Vec<Element>,
+}
+
+/// The element that a name stands for.
+fn element_of(name: &str) -> Option<Element> {
+    if let Some((pen, number)) = name.strip_prefix('e').and_then(|rest| rest.split_once('.')) {
+        return Some(Element { pen: pen.parse().ok()?, number: number.parse().ok()? });
+    }
+    (0..32768).map(|number| Element { pen: 0, number }).find(|element| element.name() == Some(name))
+}
+
+fn name_of(element: Element) -> String {
+    text::label_of(element).trim_matches([' ', '=']).to_string()
+}
+
+/// The value of a key of the plan's text.
+fn value_of<'a>(plan: &'a str, key: &str) -> &'a str {
+    let line = plan.lines().find_map(|line| line.strip_prefix(key)?.strip_prefix(" = "));
+    line.expect("the plan has each key")
+}
+
+fn names_of(array: &str) -> Vec<&str> {
+    array.split('"').skip(1).step_by(2).collect()
+}
+
+/// The number and the name of the fault of a plan, as the program tells it.
+type PlanFault = &'static str;
+
+fn read_plan(text: &str) -> Result<Plan, PlanFault> {
+    let mut keys = Vec::new();
+    for name in names_of(value_of(text, "keys")) {
+        let (name, prefix) = match name.split_once('/') {
+            Some((name, bits)) => (name, Some(bits.parse().expect("bits are a number"))),
+            None => (name, None),
+        };
+        keys.push(Key { element: element_of(name).ok_or("5 UnknownElement")?, prefix });
+    }
+    let counters = names_of(value_of(text, "counters")).into_iter().map(|name| element_of(name).ok_or("5 UnknownElement"));
+    let plan = Plan {
+        length: value_of(text, "interval_ms").parse().expect("a number"),
+        method: value_of(text, "method").trim_matches('"').to_string(),
+        max_spread: value_of(text, "max_spread").parse().expect("a number"),
+        keys,
+        counters: counters.collect::<Result<_, _>>()?,
+    };
+    match fault_of(&plan) {
+        Some(fault) => Err(fault),
+        None => Ok(plan),
+    }
+}
+
+/// The element that stands for a key in an export.
+fn exported(key: &Key) -> Element {
+    let number = match (key.prefix, key.element.number) {
+        (Some(_), 8) => 44,
+        (Some(_), 12) => 45,
+        (_, number) => number,
+    };
+    Element { pen: key.element.pen, number }
+}
+
+fn stand_twice(elements: &[Element]) -> bool {
+    (1..elements.len()).any(|at| elements[..at].contains(&elements[at]))
+}
+
+fn fault_of(plan: &Plan) -> Option<PlanFault> {
+    let is_key = |key: &Key| matches!(key.element.kind(), Kind::Unsigned(_) | Kind::Ipv4 | Kind::Ipv6 | Kind::Mac);
+    let has_prefix = |key: &Key| key.element.pen == 0 && matches!(key.element.number, 8 | 12);
+    let is_counter = |element: &Element| element.pen == 0 && [1, 2, 3, 23, 24, 132, 133].contains(&element.number);
+    let read: Vec<Element> = plan.keys.iter().map(|key| key.element).chain(plan.counters.iter().copied()).collect();
+    let written: Vec<Element> = plan.keys.iter().map(exported).chain(plan.counters.iter().copied()).collect();
+    if plan.length == 0 {
+        Some("6 Plan: fault 1 Length")
+    } else if !(1..=4096).contains(&plan.max_spread) {
+        Some("6 Plan: fault 2 Spread")
+    } else if plan.keys.len() > 8 {
+        Some("6 Plan: fault 3 KeyCount")
+    } else if !plan.keys.iter().all(is_key) {
+        Some("6 Plan: fault 4 KeyKind")
+    } else if plan.keys.iter().any(|key| key.prefix.is_some_and(|bits| bits > 32 || !has_prefix(key))) {
+        Some("6 Plan: fault 9 Prefix")
+    } else if !(1..=4).contains(&plan.counters.len()) {
+        Some("6 Plan: fault 5 CounterCount")
+    } else if !plan.counters.iter().all(is_counter) {
+        Some("6 Plan: fault 6 CounterKind")
+    } else if stand_twice(&read) || stand_twice(&written) {
+        Some("6 Plan: fault 7 Repeated")
+    } else {
+        None
+    }
+}
+
+/// A record: whether it has scope fields, and its fields as their names and texts.
+struct Record<'a> {
+    is_options: bool,
+    fields: Vec<(&'a str, &'a str)>,
+}
+
+impl Record<'_> {
+    fn of_line(line: &str) -> Record<'_> {
+        let mut words = line.split(' ').map(|word| word.split_once('=').expect("a word has a value"));
+        let is_options = words.nth(3).is_some_and(|(_, scope)| scope != "0");
+        Record { is_options, fields: words.collect() }
+    }
+
+    /// The text of the first field of an element, if it has a value.
+    fn text(&self, element: Element) -> Option<&str> {
+        let name = name_of(element);
+        let (_, text) = self.fields.iter().find(|(of, _)| *of == name)?;
+        (!text.starts_with('?')).then_some(*text)
+    }
+
+    fn number(&self, number: u16) -> Option<u64> {
+        self.text(Element { pen: 0, number })?.parse().ok()
+    }
+
+    fn time(&self, millis: u16, seconds: u16) -> Option<u64> {
+        let fits = |time: &u64| *time < LATEST;
+        self.number(millis).filter(fits).or_else(|| self.number(seconds).map(|time| time * 1000).filter(fits))
+    }
+}
+
+/// A cell of a key: its number, by which cells are ordered, and its text.
+type Cell = (u128, String);
+
+/// The number that the digits of a text between its separators are.
+fn joined(text: &str, separator: char, radix: u32, bits: u32) -> u128 {
+    let groups = text.split(separator).map(|group| u128::from_str_radix(group, radix).expect("a number"));
+    groups.fold(0, |number, group| number << bits | group)
+}
+
+fn cell_of(key: &Key, text: &str) -> Cell {
+    let number = match key.element.kind() {
+        Kind::Ipv4 => joined(text, '.', 10, 8),
+        Kind::Ipv6 => joined(text, ':', 16, 16),
+        Kind::Mac => joined(text, ':', 16, 8),
+        _ => text.parse().expect("a number"),
+    };
+    match key.prefix {
+        Some(bits) => {
+            let network = (u64::from(number as u32) >> (32 - bits) << (32 - bits)) as u32;
+            let [a, b, c, d] = network.to_be_bytes();
+            (u128::from(network), format!("{a}.{b}.{c}.{d}"))
+        }
+        None => (number, text.to_string()),
+    }
+}
+
+/// What each interval gets of a counter, from the first interval on.
+fn shares(plan: &Plan, start: u64, end: u64, value: u64) -> Vec<u128> {
+    let (first, count) = covered(plan, start, end);
+    let (value, lasts) = (u128::from(value), u128::from(end - start + 1));
+    let due = |interval: u64| {
+        let over = (interval * plan.length).saturating_sub(start).min(end - start + 1);
+        value * u128::from(over) / lasts
+    };
+    let share = |at: u64| match plan.method.as_str() {
+        "uniform" => value / u128::from(count) + u128::from(u128::from(at) < value % u128::from(count)),
+        "proportional" => due(first + at + 1) - due(first + at),
+        _ => value,
+    };
+    (0..count).map(share).collect()
+}
+
+/// The first interval that a flow contributes to, and their number.
+fn covered(plan: &Plan, start: u64, end: u64) -> (u64, u64) {
+    let (first, last) = (start / plan.length, end / plan.length);
+    match plan.method.as_str() {
+        "start" => (first, 1),
+        "end" => (last, 1),
+        "mid" => ((start + end) / 2 / plan.length, 1),
+        _ => (first, last - first + 1),
+    }
+}
+
+/// How many records there are of each class: used, options, untimed, backward, unkeyed, too long.
+type Tally = [u64; 6];
+
+#[derive(Default)]
+struct Table {
+    rows: BTreeMap<(u64, Vec<Cell>), (Vec<u128>, u128)>,
+    tally: Tally,
+}
+
+impl Table {
+    fn add(&mut self, plan: &Plan, record: &Record) {
+        self.tally[self.class(plan, record)] += 1;
+    }
+
+    /// Adds a record if it is used, and gives its class.
+    fn class(&mut self, plan: &Plan, record: &Record) -> usize {
+        if record.is_options {
+            return 1;
+        }
+        let (Some(start), Some(end)) = (record.time(152, 150), record.time(153, 151)) else { return 2 };
+        if end < start {
+            return 3;
+        }
+        let cells = plan.keys.iter().map(|key| Some(cell_of(key, record.text(key.element)?)));
+        let Some(cells) = cells.collect::<Option<Vec<Cell>>>() else { return 4 };
+        let (first, count) = covered(plan, start, end);
+        if count > plan.max_spread && ["uniform", "proportional"].contains(&plan.method.as_str()) {
+            return 5;
+        }
+        let values = plan.counters.iter().map(|counter| record.number(counter.number).unwrap_or(0));
+        let shares: Vec<Vec<u128>> = values.map(|value| shares(plan, start, end, value)).collect();
+        for at in 0..count {
+            let empty = || (vec![0; plan.counters.len()], 0);
+            let row = self.rows.entry((first + at, cells.clone())).or_insert_with(empty);
+            for (sum, share) in row.0.iter_mut().zip(&shares) {
+                *sum += share[at as usize];
+            }
+            row.1 += 1;
+        }
+        0
+    }
+
+    fn is_too_large(&self) -> bool {
+        let limit = u128::from(u64::MAX);
+        self.rows.values().any(|(sums, flows)| *flows > limit || sums.iter().any(|sum| *sum > limit))
+    }
+
+    fn write(&self, plan: &Plan) {
+        let mut names = vec!["start".to_string(), "end".to_string()];
+        let prefix = |key: &Key| key.prefix.map_or(String::new(), |bits| format!("/{bits}"));
+        names.extend(plan.keys.iter().map(|key| name_of(key.element) + &prefix(key)));
+        names.extend(plan.counters.iter().map(|counter| name_of(*counter)));
+        println!("{},flows", names.join(","));
+        for ((interval, cells), (sums, flows)) in &self.rows {
+            let start = interval * plan.length;
+            let mut fields = vec![start.to_string(), (start + plan.length - 1).to_string()];
+            fields.extend(cells.iter().map(|cell| cell.1.clone()));
+            fields.extend(sums.iter().map(|sum| sum.to_string()));
+            println!("{},{flows}", fields.join(","));
+        }
+    }
+}
+
+/// Gives the records of a session's messages up to the first fault, each message's once it is known to be good.
+fn read_session(mut rest: &[u8], session: &mut Session, mut take: impl FnMut(&Record)) -> Result<(), Fault> {
+    let mut lines = Vec::new();
+    while !rest.is_empty() {
+        if rest.len() < HEADER {
+            return Err(Fault::Truncated);
+        }
+        let length = session::length_of(rest)?;
+        let message = rest.get(..length).ok_or(Fault::Truncated)?;
+        lines.clear();
+        session.decode(message, &mut lines)?;
+        let lines = std::str::from_utf8(&lines).expect("lines are text");
+        lines.lines().for_each(|line| take(&Record::of_line(line)));
+        rest = &rest[length..];
+    }
+    Ok(())
+}
+
+fn main() -> ExitCode {
+    let words: Vec<String> = std::env::args().skip(1).collect();
+    let plan = match read_plan(&fs::read_to_string(&words[0]).expect("the plan is there")) {
+        Ok(plan) => plan,
+        Err(fault) => {
+            eprintln!("collectd: plan: fault {fault}");
+            return ExitCode::from(2);
+        }
+    };
+    let (mut table, mut texts, mut status) = (Table::default(), String::new(), 0);
+    for (file, number) in words[1..].iter().zip(1..) {
+        let mut session = Session::default();
+        let octets = fs::read(file).map_err(|_| Fault::ReadFailed);
+        let ended = octets.and_then(|octets| read_session(&octets, &mut session, |record| table.add(&plan, record)));
+        for domain in session.domains.iter().filter(|domain| domain.lost > 0 || domain.backward > 0) {
+            let (lost, backward) = (domain.lost, domain.backward);
+            texts += &format!("collectd: session {number}: domain {}: lost {lost} backward {backward}\n", domain.number);
+        }
+        if let Err(fault) = ended {
+            texts += &format!("collectd: session {number}: fault {} {fault:?}\n", fault as u8);
+            status = 1;
+        }
+    }
+    if table.is_too_large() {
+        eprintln!("collectd: collect: fault 6 SumTooLarge");
+        return ExitCode::from(3);
+    }
+    table.write(&plan);
+    let [used, options, untimed, backward, unkeyed, too_long] = table.tally;
+    eprint!("{texts}");
+    eprintln!(
+        "collectd: records: used {used} options {options} untimed {untimed} backward {backward} unkeyed {unkeyed} too_long {too_long}"
+    );
+    ExitCode::from(status)
+}

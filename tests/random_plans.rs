@@ -1,0 +1,239 @@
+//! Writes random plans, and sessions of flows for them: `random_plans FOLDER COUNT SEED` makes the folders FOLDER/0 to
+//! FOLDER/COUNT-1, each with plan.toml and one to three files session-1 and on.
+//!
+//! A plan has up to three keys and four counters, any method, and an interval from 1 ms to an hour; every twentieth
+//! has something that makes it no plan. A session's template has most of what the plan reads, in any order, some of it
+//! with a reduced, a wrong or a variable width; its flows lie close together, so that many share a row, and some are
+//! backward, long, or too late to have a time. Every fourth session is damaged somewhere. The same words give the same
+//! files.
+
+mod damage;
+mod numbers;
+
+use damage::damage;
+use numbers::Numbers;
+use std::io;
+use std::{env, fs};
+
+/// An element that a plan may name: its number, its name, and the width that its kind has.
+type Element = (u16, &'static str, u16);
+
+const KEYS: &[Element] = &[
+    (8, "sourceIPv4Address", 4),
+    (12, "destinationIPv4Address", 4),
+    (4, "protocolIdentifier", 1),
+    (7, "sourceTransportPort", 2),
+    (10, "ingressInterface", 4),
+    (27, "sourceIPv6Address", 16),
+    (56, "sourceMacAddress", 6),
+    (58, "e0.58", 2),
+    (375, "originalFlowsPresent", 8),
+];
+
+const COUNTERS: &[Element] = &[
+    (1, "octetDeltaCount", 8),
+    (2, "packetDeltaCount", 8),
+    (3, "deltaFlowCount", 8),
+    (24, "e0.24", 8),
+    (132, "droppedOctetDeltaCount", 8),
+];
+
+const VARIABLE: u16 = 65535;
+
+/// A field of a template: its element, the width of its kind, and the width that it has here.
+#[derive(Clone, Copy)]
+struct Field {
+    element: u16,
+    full: u16,
+    width: u16,
+}
+
+struct Template {
+    id: u16,
+    scope: u16,
+    fields: Vec<Field>,
+}
+
+/// Some of these elements, none of them twice, but for a few plans.
+fn some_of(numbers: &mut Numbers, all: &[Element], count: usize) -> Vec<Element> {
+    let mut some: Vec<Element> = Vec::new();
+    while some.len() < count {
+        let element = numbers.of(all);
+        if numbers.one_in(200) || !some.contains(&element) {
+            some.push(element);
+        }
+    }
+    some
+}
+
+fn quoted(names: &[String]) -> String {
+    let names: Vec<String> = names.iter().map(|name| format!("\"{name}\"")).collect();
+    names.join(", ")
+}
+
+/// The text of a plan.
+fn plan(numbers: &mut Numbers, keys: &[Element], counters: &[Element]) -> String {
+    let bad = if numbers.one_in(20) { numbers.below(7) } else { 7 };
+    let mut names: Vec<String> = keys.iter().map(|key| key.1.to_string()).collect();
+    for (name, key) in names.iter_mut().zip(keys) {
+        if matches!(key.0, 8 | 12) && numbers.one_in(2) {
+            *name += &format!("/{}", numbers.of(&[0, 8, 20, 24, 31, 32]));
+        }
+    }
+    let mut counted: Vec<String> = counters.iter().map(|counter| counter.1.to_string()).collect();
+    match bad {
+        0 => names.push("sourceIPv4Address/33".into()),
+        1 => names.push(numbers.of(&["flowStartSeconds", "paddingOctets", "e9.8", "protocolIdentifier/1"]).into()),
+        2 => counted.push(numbers.of(&["vlanId", "e32473.1"]).into()),
+        3 => names.push("octetTotalCount".into()),
+        4 => counted.clear(),
+        _ => {}
+    }
+    let length = if bad == 5 { 0 } else { numbers.of(&[1, 7, 1000, 60_000, 60_000, 3_600_000]) };
+    let spread = if bad == 6 { numbers.of(&[0, 4097]) } else { numbers.of(&[1, 2, 10, 4096, 4096]) };
+    let method = numbers.of(&["start", "end", "mid", "uniform", "proportional"]);
+    format!(
+        "interval_ms = {length}\nmethod = \"{method}\"\nmax_spread = {spread}\nkeys = [{}]\ncounters = [{}]\n",
+        quoted(&names),
+        quoted(&counted)
+    )
+}
+
+/// The width of a field: mostly that of its kind.
+fn field(numbers: &mut Numbers, (element, _, full): Element) -> Field {
+    let width = match numbers.below(12) {
+        0 => VARIABLE,
+        1 => 1 + numbers.below(usize::from(full) + 1) as u16,
+        _ => full,
+    };
+    Field { element, full, width }
+}
+
+fn template(numbers: &mut Numbers, keys: &[Element], counters: &[Element]) -> Template {
+    let (start, end) = if numbers.one_in(3) { ((150, "", 4), (151, "", 4)) } else { ((152, "", 8), (153, "", 8)) };
+    let mut elements = vec![start, end];
+    elements.extend(keys.iter().chain(counters));
+    elements.retain(|_| !numbers.one_in(25));
+    for _ in 0..numbers.below(3) {
+        elements.push(numbers.of(&[(150, "", 4), (153, "", 8), (8, "", 4), (1, "", 8), (210, "", 3)]));
+    }
+    for at in 1..elements.len() {
+        elements.swap(at, numbers.below(at + 1));
+    }
+    if elements.is_empty() {
+        elements.push(start);
+    }
+    let fields = elements.into_iter().map(|element| field(numbers, element)).collect();
+    Template { id: 256 + numbers.below(3) as u16, scope: u16::from(numbers.one_in(15)), fields }
+}
+
+/// The values of a flow by element. Those of repeated elements are the same.
+fn value(numbers: &mut Numbers, start: u64, end: u64, field: Field) -> u128 {
+    match field.element {
+        150 => u128::from(start / 1000),
+        151 => u128::from(end / 1000),
+        152 => u128::from(start),
+        153 => u128::from(end),
+        8 | 12 => 0xc000_0200 + numbers.of(&[0, 1, 2, 128, 200, 0x100]),
+        1 | 2 | 3 | 24 | 132 if numbers.one_in(400) => u128::from(u64::MAX - numbers.next() % 3),
+        1 | 2 | 3 | 24 | 132 => numbers.of(&[0, 1, 7, 40, 1500, 70_000]),
+        _ => numbers.of(&[0, 1, 2, 250]),
+    }
+}
+
+fn put_record(numbers: &mut Numbers, template: &Template, out: &mut Vec<u8>) {
+    let start = match numbers.below(60) {
+        0 => (1 << 50) - 1 + numbers.next() % 2,
+        1 => u64::MAX - 9,
+        _ => numbers.next() % 300_000,
+    };
+    let end = match numbers.below(20) {
+        0 => start.saturating_sub(numbers.next() % 1000),
+        1 => start.saturating_add(numbers.next() % 10_000_000),
+        2 => start,
+        _ => start.saturating_add(numbers.next() % 100_000),
+    };
+    for field in &template.fields {
+        let value = value(numbers, start, end, *field).to_be_bytes();
+        let mut width = field.width;
+        if width == VARIABLE {
+            width = if numbers.one_in(8) { numbers.below(17) as u16 } else { field.full };
+            match numbers.one_in(4) {
+                true => out.extend([255, 0, width as u8]),
+                false => out.push(width as u8),
+            }
+        }
+        // (17 octets, of an address and one more, begin with a 0)
+        out.resize(out.len() + usize::from(width).saturating_sub(16), 0);
+        out.extend(&value[16 - usize::from(width.min(16))..]);
+    }
+}
+
+fn put_set(id: u16, body: &[u8], out: &mut Vec<u8>) {
+    out.extend(id.to_be_bytes());
+    out.extend((4 + body.len() as u16).to_be_bytes());
+    out.extend(body);
+}
+
+fn put_template(template: &Template, out: &mut Vec<u8>) {
+    let mut body = Vec::new();
+    body.extend(template.id.to_be_bytes());
+    body.extend((template.fields.len() as u16).to_be_bytes());
+    if template.scope > 0 {
+        body.extend(template.scope.to_be_bytes());
+    }
+    for field in &template.fields {
+        body.extend(field.element.to_be_bytes());
+        body.extend(field.width.to_be_bytes());
+    }
+    put_set(if template.scope > 0 { 3 } else { 2 }, &body, out);
+}
+
+/// A session of up to eight messages of one template.
+fn session(numbers: &mut Numbers, keys: &[Element], counters: &[Element]) -> Vec<u8> {
+    let template = template(numbers, keys, counters);
+    let (mut octets, mut sequence) = (Vec::new(), 0u32);
+    for message in 0..1 + numbers.below(8) {
+        let mut sets = Vec::new();
+        if message == 0 || numbers.one_in(3) {
+            put_template(&template, &mut sets);
+        }
+        let (mut body, count) = (Vec::new(), numbers.below(30));
+        for _ in 0..count {
+            put_record(numbers, &template, &mut body);
+        }
+        put_set(template.id, &body, &mut sets);
+        octets.extend(10u16.to_be_bytes());
+        octets.extend((16 + sets.len() as u16).to_be_bytes());
+        let told = if numbers.one_in(10) { sequence.wrapping_add(numbers.below(9) as u32).wrapping_sub(4) } else { sequence };
+        for number in [1_700_000_000, told, 1] {
+            octets.extend(number.to_be_bytes());
+        }
+        octets.extend(sets);
+        sequence = sequence.wrapping_add(count as u32);
+    }
+    if numbers.one_in(4) {
+        damage(numbers, &mut octets);
+    }
+    octets
+}
+
+fn main() -> io::Result<()> {
+    let words: Vec<String> = env::args().skip(1).collect();
+    let number = |at: usize| words.get(at).and_then(|word| word.parse::<u64>().ok());
+    let (Some(folder), Some(count), Some(seed)) = (words.first(), number(1), number(2)) else {
+        return Err(io::Error::other("usage: random_plans FOLDER COUNT SEED"));
+    };
+    let mut numbers = Numbers::of_seed(seed);
+    for case in 0..count {
+        let (many_keys, many_counters) = (numbers.below(4), 1 + numbers.below(4));
+        let keys = some_of(&mut numbers, KEYS, many_keys);
+        let counters = some_of(&mut numbers, COUNTERS, many_counters);
+        fs::create_dir(format!("{folder}/{case}"))?;
+        fs::write(format!("{folder}/{case}/plan.toml"), plan(&mut numbers, &keys, &counters))?;
+        for file in 1..=1 + numbers.below(3) {
+            fs::write(format!("{folder}/{case}/session-{file}"), session(&mut numbers, &keys, &counters))?;
+        }
+    }
+    Ok(())
+}

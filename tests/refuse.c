@@ -1,0 +1,92 @@
+// A library to preload: it refuses calls of the program that it is loaded into.
+//
+// REFUSE=5 refuses the fifth call that asks for memory, REFUSE=5.. that one and all after it, whatever thread makes it;
+// what the system's libraries ask for counts, too. With REFUSE_WHAT=reads, writes or threads calls that read, write or
+// start a thread fail in place of those. With REFUSE_WHAT=octets nothing fails, and each read and write moves one octet.
+// Each refusal writes a letter to descriptor 9, if that is open. A program that still runs after twenty seconds gets
+// SIGALRM.
+//
+// The toolchain's clang builds it, and has no headers, so that all that is called is declared here.
+
+typedef unsigned long size_t;
+extern void *__libc_malloc(size_t);
+extern void *__libc_calloc(size_t, size_t);
+extern void *__libc_realloc(void *, size_t);
+extern void *__libc_memalign(size_t, size_t);
+extern char *getenv(const char *);
+extern long strtol(const char *, char **, int);
+extern unsigned alarm(unsigned);
+extern long syscall(long, ...);
+extern void *dlsym(void *, const char *);
+extern int *__errno_location(void);
+
+enum { READ = 0, WRITE = 1, RECEIVE = 45 };
+enum { DEVICE = 5, AGAIN = 11, NO_MEMORY = 12, SECONDS = 20 };
+
+// The first letter of what is refused; the first such call, 0 for none, and whether those after it are refused, too.
+static char what = 'm';
+static long first;
+static int goes_on;
+static long calls;
+
+__attribute__((constructor)) static void start(void) {
+  const char *word = getenv("REFUSE");
+  char *rest;
+  if (!word) return;
+  alarm(SECONDS);
+  first = strtol(word, &rest, 10);
+  goes_on = *rest == '.';
+  word = getenv("REFUSE_WHAT");
+  if (word) what = *word;
+}
+
+static int is_refused(char kind, int error) {
+  if (!first || kind != what) return 0;
+  long call = __atomic_add_fetch(&calls, 1, __ATOMIC_SEQ_CST);
+  if (call < first || (call > first && !goes_on)) return 0;
+  syscall(WRITE, 9, "r", 1);
+  *__errno_location() = error;
+  return 1;
+}
+
+static int has_none(void) { return is_refused('m', NO_MEMORY); }
+
+void *malloc(size_t size) { return has_none() ? 0 : __libc_malloc(size); }
+
+void *calloc(size_t count, size_t size) { return has_none() ? 0 : __libc_calloc(count, size); }
+
+// (with size 0 it frees)
+void *realloc(void *old, size_t size) { return size && has_none() ? 0 : __libc_realloc(old, size); }
+
+void *memalign(size_t to, size_t size) { return has_none() ? 0 : __libc_memalign(to, size); }
+
+void *aligned_alloc(size_t to, size_t size) { return memalign(to, size); }
+
+int posix_memalign(void **at, size_t to, size_t size) {
+  void *found = memalign(to, size);
+  if (!found) return NO_MEMORY;
+  *at = found;
+  return 0;
+}
+
+// How much of so much is moved at once.
+static size_t moved(size_t size) { return first && what == 'o' && size > 1 ? 1 : size; }
+
+long read(int from, void *to, size_t size) {
+  return is_refused('r', DEVICE) ? -1 : syscall(READ, from, to, moved(size));
+}
+
+long recv(int from, void *to, size_t size, int flags) {
+  return is_refused('r', DEVICE) ? -1 : syscall(RECEIVE, from, to, moved(size), flags, 0, 0);
+}
+
+long write(int to, const void *from, size_t size) {
+  return is_refused('w', DEVICE) ? -1 : syscall(WRITE, to, from, moved(size));
+}
+
+long __write(int to, const void *from, size_t size) { return write(to, from, size); }
+
+int pthread_create(void *thread, const void *how, void *(*run)(void *), void *with) {
+  int (*create)(void *, const void *, void *(*)(void *), void *) = dlsym((void *)-1, "pthread_create");
+  return is_refused('t', AGAIN) ? AGAIN : create(thread, how, run, with);
+}
