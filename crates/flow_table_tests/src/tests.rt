@@ -1,3 +1,4 @@
+mod memory;
 mod plans;
 mod readings;
 mod records;
