@@ -3,6 +3,4 @@
 #![tactic(auto)]
 
 #[cfg(test)]
-mod flushing;
-#[cfg(test)]
 mod tests;

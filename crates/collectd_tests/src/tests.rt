@@ -5,12 +5,13 @@ ghost use Rattle.std.specs.Prelude.{◌<◌};
 use collectd::*;
 use ipfix_session::{DomainReport, FromReader, ScriptSource, SessionFault, SessionReport};
 use std::alloc::Global;
-use std::io::{self, ErrorKind, Write};
+use std::io::{self, Write};
 use std::net::{TcpListener, TcpStream};
 use std::sync::Arc;
 use std::sync::atomic::{AtomicBool, Ordering};
 use std::test::Fail;
 use std::thread;
+use worked_examples::FailingWriter;
 
 // A message of domain 1: template 256, and one record of it.
 const ONE_FLOW: [u8; 68] = [
@@ -102,38 +103,31 @@ fn a_failing_read(rt: HostRuntime) -> Result<(), Fail> {
     Ok(())
 }
 
-// Takes a number of octets, and then fails.
-#[derive(Drop)]
-struct FullDisk {
-    room: usize,
-}
-
-impl Write for FullDisk {
-    fn write(&mut self, octets: &[u8]) -> io::Result<usize> {
-        if self.room == 0 {
-            return Err(io::Error::from(ErrorKind::StorageFull));
-        }
-        let count = octets.len().min(self.room);
-        self.room -= count;
-        Ok(count)
-    }
-
-    fn flush(&mut self) -> io::Result<()> {
-        Ok(())
-    }
-}
-
+/// Pieces of lines, and then the flush.
 #[test]
-fn a_failing_write(rt: HostRuntime) -> Result<(), Fail> {
-    for room in [0, 50, 200] {
-        let mut source = twice(rt.alloc(), 64, None, None)?;
-        let mut out = FullDisk { room };
-        let mut err = Vec::new(rt.alloc());
-        assert_eq!(rt; run_dump(rt.alloc(), &mut source, &mut out, &mut err), 3);
-        assert_eq!(rt;
-            err.as_slice(),
-            b"collectd: dump: fault 2 WriteFailed\n".as_slice()
-        );
+fn each_write_fails(rt: HostRuntime) -> Result<(), Fail> {
+    let cases: [(&[u8], &str); 2] = [(&[], ""), (&GAP, GAP_LINES)];
+    for (input, lines) in cases {
+        let mut flush_fails = false;
+        for calls in 0..100 {
+            let mut source = FromReader::new(input);
+            let mut out = FailingWriter::new(rt.alloc(), 30, calls);
+            let mut err = Vec::new(rt.alloc());
+            let status = run_dump(rt.alloc(), &mut source, &mut out, &mut err);
+            assert!(rt; lines.as_bytes().starts_with(out.taken.as_slice()));
+            let is_whole = out.taken.len() == lines.len();
+            if status == 0 {
+                assert!(rt; is_whole && flush_fails);
+                break;
+            }
+            assert_eq!(rt; status, 3);
+            assert_eq!(rt;
+                err.as_slice(),
+                b"collectd: dump: fault 2 WriteFailed\n".as_slice()
+            );
+            flush_fails = is_whole;
+        }
+        assert!(rt; flush_fails);
     }
     Ok(())
 }

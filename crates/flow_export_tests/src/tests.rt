@@ -1,5 +1,6 @@
 mod csv_texts;
 mod failing;
 mod ipfix_texts;
+mod memory;
 mod reading;
 mod tables;

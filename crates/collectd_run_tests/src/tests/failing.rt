@@ -1,41 +1,24 @@
-//! Writers that fail.
+//! Writers that fail, at each of their calls in turn.
 
 use super::sessions::{BY_SOURCE, CSV, two_flows};
 use collectd::run;
 use flow_collect::Pool;
 use plan_file::read_plan;
 use std::alloc::Global;
-use std::io::{self, ErrorKind, Write};
 use std::sync::Wait;
 use std::test::Fail;
 use std::thread::Threads;
+use worked_examples::FailingWriter;
 
-// Takes a number of octets, and then fails, or fails when it is flushed.
-#[derive(Drop)]
-struct FullDisk {
-    room: usize,
-}
+const TABLE: &[u8] = b"start,end,sourceIPv4Address,octetDeltaCount,flows
+0,59999,192.0.2.1,3000,2
+";
 
-impl Write for FullDisk {
-    fn write(&mut self, octets: &[u8]) -> io::Result<usize> {
-        if self.room == 0 {
-            return Err(io::Error::from(ErrorKind::StorageFull));
-        }
-        let count = octets.len().min(self.room);
-        self.room -= count;
-        Ok(count)
-    }
-
-    fn flush(&mut self) -> io::Result<()> {
-        Err(io::Error::from(ErrorKind::StorageFull))
-    }
-}
-
-// The status and the texts of a run whose writer has room for so many octets.
-fn with_room<R: Threads + Wait + Sync>(
+// The status and the texts of a run to a writer.
+fn run_to<R: Threads + Wait + Sync>(
     rt: &R,
     alloc: Global,
-    room: usize,
+    out: &mut FailingWriter,
 ) -> Result<(u8, Vec<u8>), Fail> {
     let mut sources = Vec::new(alloc);
     sources.push(two_flows(alloc, 64, None, None)?)?;
@@ -44,21 +27,26 @@ fn with_room<R: Threads + Wait + Sync>(
         workers: 1,
         capacity: 1,
     };
-    let mut out = FullDisk { room };
     let mut err = Vec::new(alloc);
-    let status = run(rt, alloc, sources, &plan, pool, CSV, &mut out, &mut err);
+    let status = run(rt, alloc, sources, &plan, pool, CSV, out, &mut err);
     Ok((status, err))
 }
 
+/// Eight writes for the heading and four for the row, of at most seven octets each, and a flush.
 #[test]
-fn a_writer_that_fails(rt: HostRuntime) -> Result<(), Fail> {
-    for room in [0, 10, 55, 1000] {
-        let (status, err) = with_room(&rt, rt.alloc(), room)?;
-        assert_eq!(rt; status, 3);
+fn each_write_fails(rt: HostRuntime) -> Result<(), Fail> {
+    for calls in 0..13 {
+        let mut out = FailingWriter::new(rt.alloc(), 7, calls);
+        let (status, err) = run_to(&rt, rt.alloc(), &mut out)?;
+        assert_eq!(rt; status, 3, "{calls}");
+        assert!(rt; TABLE.starts_with(out.taken.as_slice()));
         assert_eq!(rt;
             err.as_slice(),
             b"collectd: export: fault 2 WriteFailed\n".as_slice()
         );
     }
+    let mut out = FailingWriter::new(rt.alloc(), 7, 13);
+    assert_eq!(rt; run_to(&rt, rt.alloc(), &mut out)?.0, 0);
+    assert_eq!(rt; out.taken.as_slice(), TABLE);
     Ok(())
 }

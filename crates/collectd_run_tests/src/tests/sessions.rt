@@ -36,19 +36,43 @@ pub fn two_flows(
     Ok(ScriptSource::new(text, piece, interrupt_at, fail_at))
 }
 
-// Three sources, of which the second fails after 80 octets.
-fn three_sources(alloc: Global, interrupt_at: Option<u64>) -> Result<Vec<ScriptSource>, Fail> {
+// Three sources, of which the second fails after so many octets.
+fn three_sources(
+    alloc: Global,
+    interrupt_at: Option<u64>,
+    fail_at: usize,
+) -> Result<Vec<ScriptSource>, Fail> {
     let mut sources = Vec::new(alloc);
     sources.push(two_flows(alloc, 7, None, None)?)?;
-    sources.push(two_flows(alloc, 16, interrupt_at, Some(80))?)?;
+    sources.push(two_flows(alloc, 16, interrupt_at, Some(fail_at))?)?;
     sources.push(two_flows(alloc, 1000, None, None)?)?;
     Ok(sources)
 }
 
+// What is told of a session that fails, and of so many records.
+fn texts_of(alloc: Global, used: u64) -> Result<String, Fail> {
+    Ok(format!(in alloc;
+        "collectd: session 2: fault 15 ReadFailed
+collectd: records: used {used} options 0 untimed 0 backward 0 unkeyed 0 too_long 0
+"
+    )?)
+}
+
+fn table_of(alloc: Global, used: u64) -> Result<String, Fail> {
+    let sum = used.saturating_mul(1500);
+    Ok(format!(in alloc;
+        "start,end,sourceIPv4Address,octetDeltaCount,flows
+0,59999,192.0.2.1,{sum},{used}
+"
+    )?)
+}
+
+/// The messages of the session that fails end at 68 and at 112 octets.
 #[test]
-fn one_session_that_fails(rt: HostRuntime) -> Result<(), Fail> {
-    for interrupt_at in [None, Some(2)] {
-        let sources = three_sources(rt.alloc(), interrupt_at)?;
+fn each_read_fails(rt: HostRuntime) -> Result<(), Fail> {
+    for fail_at in 0..113 {
+        let interrupt_at = Some(1 + fail_at as u64 / 16);
+        let sources = three_sources(rt.alloc(), interrupt_at, fail_at)?;
         let plan = read_plan(rt.alloc(), BY_SOURCE)?;
         let pool = Pool {
             workers: 2,
@@ -66,15 +90,14 @@ fn one_session_that_fails(rt: HostRuntime) -> Result<(), Fail> {
             &mut out,
             &mut err,
         );
-        assert_eq!(rt; status, 1);
-        assert_eq!(rt;
-            out.as_slice(),
-            b"start,end,sourceIPv4Address,octetDeltaCount,flows\n0,59999,192.0.2.1,7500,5\n".as_slice()
-        );
-        assert_eq!(rt;
-            err.as_slice(),
-            b"collectd: session 2: fault 15 ReadFailed\ncollectd: records: used 5 options 0 untimed 0 backward 0 unkeyed 0 too_long 0\n".as_slice()
-        );
+        let used = match fail_at {
+            0..68 => 4,
+            68..112 => 5,
+            _ => 6,
+        };
+        assert_eq!(rt; status, 1, "{fail_at}");
+        assert_eq!(rt; out.as_slice(), table_of(rt.alloc(), used)?.as_bytes());
+        assert_eq!(rt; err.as_slice(), texts_of(rt.alloc(), used)?.as_bytes());
     }
     Ok(())
 }

@@ -1,4 +1,5 @@
-//! What is answered where memory runs out: each allocation of these calls can be refused in turn.
+//! What is answered where memory runs out: `tests/refusals` refuses each allocation of this call in
+//! turn.
 
 use super::texts::{by_source, told};
 use flow_collect::{CollectFault, Serial, collect_serial};
@@ -12,8 +13,8 @@ use worked_examples::flows::FIVE_FLOWS;
 const OUT_OF_MEMORY: u8 = 12;
 
 /// That the reports are whole, or that memory ran out in a session and nothing of its message came,
-/// and that the table has what was received: three octets a record on the average.
-fn assert_holds<S>(rt: &impl Abort, run: &Serial<S>) {
+/// and that the table has what was received: three octets a record on the average. Whether all came.
+fn assert_holds<S>(rt: &impl Abort, run: &Serial<S>) -> bool {
     let mut delivered = 0u64;
     for report in &run.sessions {
         let told = told(report);
@@ -29,10 +30,11 @@ fn assert_holds<S>(rt: &impl Abort, run: &Serial<S>) {
         );
         assert_eq!(rt; row.flows, delivered);
     }
+    delivered == 10
 }
 
 #[test]
-fn refused_memory(rt: HostRuntime) {
+fn collect_serial_with_refused_memory(rt: HostRuntime) {
     let alloc: Global = rt.alloc();
     let Ok(plan) = by_source(alloc) else {
         return;
@@ -43,8 +45,18 @@ fn refused_memory(rt: HostRuntime) {
             return;
         }
     }
-    match collect_serial(alloc, sources, &plan) {
-        Ok(run) => assert_holds(&rt, &run),
-        Err(fault) => assert_eq!(rt; fault, CollectFault::OutOfMemory),
-    }
+    let word = match collect_serial(alloc, sources, &plan) {
+        Ok(run) => {
+            if assert_holds(&rt, &run) {
+                "right"
+            } else {
+                "less"
+            }
+        }
+        Err(fault) => {
+            assert_eq!(rt; fault, CollectFault::OutOfMemory);
+            "OutOfMemory"
+        }
+    };
+    let _ = eprintln!(rt; "collect_serial: {word}");
 }

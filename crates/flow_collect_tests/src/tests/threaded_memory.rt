@@ -1,5 +1,5 @@
-//! What is answered in threads where memory runs out: each allocation of this call can be refused in
-//! turn.
+//! What is answered in threads where memory runs out: `tests/refusals` refuses each allocation of this
+//! call in turn.
 
 use super::texts::{by_source, told};
 use flow_collect::{CollectFault, Collected, OpenGate, Pool, collect};
@@ -13,8 +13,8 @@ use worked_examples::flows::FIVE_FLOWS;
 const OUT_OF_MEMORY: u8 = 12;
 
 /// That the reports are whole, or that memory ran out in a session, and that the table has what was
-/// received.
-fn assert_holds<S>(rt: &impl Abort, run: &Collected<S>) {
+/// received. Whether all came.
+fn assert_holds<S>(rt: &impl Abort, run: &Collected<S>) -> bool {
     let mut records = 0u64;
     for report in &run.sessions {
         let told = told(report);
@@ -26,10 +26,11 @@ fn assert_holds<S>(rt: &impl Abort, run: &Collected<S>) {
     for link in &run.links {
         assert_eq!(rt; link.left.len(), 0);
     }
+    records == 10
 }
 
 #[test]
-fn refused_memory(rt: HostRuntime) {
+fn collect_with_refused_memory(rt: HostRuntime) {
     let alloc: Global = rt.alloc();
     let Ok(plan) = by_source(alloc) else {
         return;
@@ -44,10 +45,18 @@ fn refused_memory(rt: HostRuntime) {
         workers: 2,
         capacity: 1,
     };
-    match collect(&rt, alloc, sources, &plan, pool, &OpenGate) {
-        Ok(run) => assert_holds(&rt, &run),
-        Err(fault) => {
-            assert!(rt; matches!(fault, CollectFault::OutOfMemory | CollectFault::NoThread))
+    let word = match collect(&rt, alloc, sources, &plan, pool, &OpenGate) {
+        Ok(run) => {
+            if assert_holds(&rt, &run) {
+                "right"
+            } else {
+                "less"
+            }
         }
-    }
+        Err(fault) => {
+            assert!(rt; matches!(fault, CollectFault::OutOfMemory | CollectFault::NoThread));
+            fault.name()
+        }
+    };
+    let _ = eprintln!(rt; "collect: {word}");
 }

@@ -1,52 +1,47 @@
-//! Exports to writers that fail, and the texts of faults.
+//! Exports to a writer that fails at each of its calls in turn, and the texts of faults.
 
 use super::tables::{TIME, by_source, table_of_minutes};
 use flow_export::{ExportFault, write_csv, write_ipfix};
 use flow_table::Method;
-use std::io::{self, ErrorKind, Write};
 use std::test::Fail;
+use worked_examples::FailingWriter;
 
-// Takes a number of pieces, and then fails.
-#[derive(Drop)]
-struct FullDisk {
-    pieces: usize,
-}
-
-impl Write for FullDisk {
-    fn write(&mut self, octets: &[u8]) -> io::Result<usize> {
-        if self.pieces == 0 {
-            return Err(io::Error::from(ErrorKind::StorageFull));
+#[test]
+fn each_write_of_csv_fails(rt: HostRuntime) -> Result<(), Fail> {
+    let plan = by_source(rt.alloc(), Method::Start, None)?;
+    let table = table_of_minutes(rt.alloc(), &plan, 600)?;
+    let mut text = Vec::new(rt.alloc());
+    write_csv(rt.alloc(), &plan, &table, &mut text)?;
+    for calls in 0..100 {
+        let mut out = FailingWriter::new(rt.alloc(), 1000, calls);
+        let result = write_csv(rt.alloc(), &plan, &table, &mut out);
+        assert!(rt; text.starts_with(out.taken.as_slice()));
+        if out.taken.len() == text.len() {
+            assert!(rt; result.is_ok());
+            return Ok(());
         }
-        self.pieces -= 1;
-        Ok(octets.len())
+        assert_eq!(rt; result.err(), Some(ExportFault::WriteFailed));
     }
-
-    fn flush(&mut self) -> io::Result<()> {
-        Ok(())
-    }
+    panic!(rt; "it doesn't end");
 }
 
 #[test]
-fn failing_writes(rt: HostRuntime) -> Result<(), Fail> {
+fn each_write_of_ipfix_fails(rt: HostRuntime) -> Result<(), Fail> {
     let plan = by_source(rt.alloc(), Method::Start, None)?;
     let table = table_of_minutes(rt.alloc(), &plan, 600)?;
-    // The heading and three blocks of lines.
-    for pieces in 0..4 {
-        let mut out = FullDisk { pieces };
-        let result = write_csv(rt.alloc(), &plan, &table, &mut out);
-        assert_eq!(rt; result.err(), Some(ExportFault::WriteFailed));
-    }
-    let mut out = FullDisk { pieces: 4 };
-    write_csv(rt.alloc(), &plan, &table, &mut out)?;
-    // The template and six messages of rows.
-    for pieces in 0..7 {
-        let mut out = FullDisk { pieces };
+    let mut octets = Vec::new(rt.alloc());
+    write_ipfix(rt.alloc(), &plan, &table, TIME, &mut octets)?;
+    for calls in 0..100 {
+        let mut out = FailingWriter::new(rt.alloc(), 1000, calls);
         let result = write_ipfix(rt.alloc(), &plan, &table, TIME, &mut out);
+        assert!(rt; octets.starts_with(out.taken.as_slice()));
+        if out.taken.len() == octets.len() {
+            assert!(rt; result.is_ok());
+            return Ok(());
+        }
         assert_eq!(rt; result.err(), Some(ExportFault::WriteFailed));
     }
-    let mut out = FullDisk { pieces: 7 };
-    write_ipfix(rt.alloc(), &plan, &table, TIME, &mut out)?;
-    Ok(())
+    panic!(rt; "it doesn't end");
 }
 
 #[test]

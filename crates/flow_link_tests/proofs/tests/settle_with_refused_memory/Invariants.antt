@@ -1,5 +1,5 @@
 use Rattle.std.proofs.Common.{◌≡◌}
-use Rattle.flow_link_tests.proofs.tests.settles_what_is_left.Given as goal
+use Rattle.flow_link_tests.proofs.tests.settle_with_refused_memory.Given as goal
 
 abbrev pub invariant-loop-number : goal.invariant-loop-number
 invariant-loop-number g l = l.sender.link ≡ l.initial.sender.link
