@@ -5,3 +5,5 @@ pub mod Runs
 pub mod ReportLines
 pub mod Statuses
 pub mod Faults
+-- what only inner functions need
+pub mod LineParts
