@@ -7,6 +7,9 @@ use crate::text::append_labelled;
 use ipfix_message::DataRecord;
 use std::alloc::{AllocError, Global};
 
+/// Room for the longest front.
+const TEXT_ROOM: usize = 48;
+
 /// The front of a line, kept for the records that follow.
 #[derive(Drop)]
 pub struct Front {
@@ -23,7 +26,7 @@ impl Front {
     pub fn of(alloc: Global, data_record: &DataRecord) -> Result<Self, AllocError>
         ensures { IfOk result (λ f. f.text.items ≡ front_text data_record.now.domain data_record.now.template data_record.now.export_time data_record.now.scope) }
     {
-        let mut text = Vec::new(alloc);
+        let mut text = Vec::with_capacity(alloc, TEXT_ROOM)?;
         append_front(data_record, &mut text)?;
         Ok(Front {
             domain: data_record.domain,

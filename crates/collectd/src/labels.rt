@@ -17,6 +17,9 @@ use std::alloc::{AllocError, Global};
 /// kept doesn't grow with a template.
 const PLACES: usize = 256;
 
+/// Room for each name that an element has, with what stands around it.
+const TEXT_ROOM: usize = 32;
+
 /// What stands before the values of an element, and their kind.
 #[derive(Drop)]
 struct Label {
@@ -29,7 +32,7 @@ struct Label {
 
 impl Label {
     fn of(alloc: Global, element: ElementId) -> Result<Self, AllocError> {
-        let mut text = Vec::new(alloc);
+        let mut text = Vec::with_capacity(alloc, TEXT_ROOM)?;
         append_label(element, &mut text)?;
         Ok(Label {
             element,
