@@ -6,3 +6,5 @@ pub mod ReportLines
 pub mod PlaceLines
 pub mod Statuses
 pub mod Faults
+-- what only inner functions need
+pub mod LineParts

@@ -4,6 +4,7 @@ ghost use Rattle.std.specs.Prelude.{IfOk};
 ghost use Rattle.collectd.specs.Dumped.{Dumps};
 
 use crate::fault::DumpFault;
+use crate::line::Line;
 use crate::line_sink::LineSink;
 use ipfix_session::{SessionReport, Source, drive};
 use std::alloc::Global;
@@ -25,7 +26,7 @@ pub fn dump<S: Source, W: Write>(
 ) -> Result<SessionReport, DumpFault>
     ensures { IfOk result (λ report. Dumps (S.seen source.old) (S.seen source.new) (W.contents out.old) (W.contents out.new) report) }
 {
-    let mut line = Vec::new(alloc);
+    let mut line = Line::new(alloc);
     let mut sink = LineSink::new(&mut line, out);
     let report = drive(alloc, source, &mut sink, READ_LIMIT);
     match sink.fault {

@@ -4,7 +4,10 @@
 mod dumping;
 mod fault;
 mod files;
+mod front;
+mod labels;
 mod line;
+mod line_octets;
 mod line_sink;
 mod network;
 mod places;

@@ -1,31 +1,74 @@
 //! The line of a data record.
 
-ghost use Rattle.std.specs.Prelude.{◌≡◌, ◌++◌, OnOk};
+ghost use Rattle.std.specs.Prelude.{◌≡◌, ◌++◌, IfOk, OnOk};
 ghost use Rattle.std.specs.List.{flat_map};
 ghost use Rattle.collectd.specs.DumpLines.{dump_line, field_text};
+ghost use Rattle.collectd.specs.LineParts.{front_text};
 
-use crate::text::{append_field, append_labelled};
+use crate::front::Front;
+use crate::labels::Labels;
+use crate::line_octets::LineOctets;
 use ipfix_message::{DataRecord, Fields};
-use std::alloc::AllocError;
+use std::alloc::{AllocError, Global};
 
-/// Appends the dump line of a record.
-#[tactic(auto, unfolding(crate::specs::DumpLines::dump_line))]
-pub fn append_line(data_record: &DataRecord, out: &mut Vec<u8>) -> Result<(), AllocError>
-    ensures { OnOk result (out.new.items ≡ out.old.items ++ dump_line data_record.now) }
-{
-    append_labelled("d=", data_record.domain, out)?;
-    append_labelled(" t=", u32::from(data_record.template), out)?;
-    append_labelled(" x=", data_record.export_time, out)?;
-    append_labelled(" s=", u32::from(data_record.scope), out)?;
-    append_fields(&data_record.fields, out)?;
-    out.extend_from_slice(b"\n")
+/// Makes the lines of records, one after another. What a record's line has in common with that of
+/// the record before it is not made anew.
+#[derive(Drop)]
+pub struct Line {
+    alloc: Global,
+    front: Option<Front>,
+    labels: Labels,
+    line: LineOctets,
 }
 
-fn append_fields(fields: &Fields, out: &mut Vec<u8>) -> Result<(), AllocError>
-    ensures { OnOk result (out.new.items ≡ out.old.items ++ flat_map field_text fields.now) }
-{
-    for field in fields.iter() {
-        append_field(field, out)?;
+impl Line {
+    /// No line yet.
+    pub fn new(alloc: Global) -> Self {
+        Line {
+            alloc,
+            front: None,
+            labels: Labels::new(alloc),
+            line: LineOctets::new(alloc),
+        }
     }
-    Ok(())
+
+    /// The dump line of a record.
+    #[tactic(auto, unfolding(crate::specs::DumpLines::dump_line))]
+    pub fn make(&mut self, data_record: &DataRecord) -> Result<&[u8], AllocError>
+        ensures { IfOk result (λ line. line.now ≡ dump_line data_record.now) }
+    {
+        self.line.octets.clear();
+        self.append_front(data_record)?;
+        self.append_fields(&data_record.fields)?;
+        self.line.octets.extend_from_slice(b"\n")?;
+        Ok(self.line.octets.as_slice())
+    }
+
+    fn append_front(&mut self, data_record: &DataRecord) -> Result<(), AllocError>
+        ensures { OnOk result (self.new.line.octets.items ≡ self.old.line.octets.items ++ front_text data_record.now.domain data_record.now.template data_record.now.export_time data_record.now.scope) }
+    {
+        match &self.front {
+            Some(front) if front.is_of(data_record) => self
+                .line
+                .octets
+                .extend_from_slice(front.text()),
+            _ => {
+                let front = Front::of(self.alloc, data_record)?;
+                self.line.octets.extend_from_slice(front.text())?;
+                self.front = Some(front);
+                Ok(())
+            }
+        }
+    }
+
+    fn append_fields(&mut self, fields: &Fields) -> Result<(), AllocError>
+        ensures { OnOk result (self.new.line.octets.items ≡ self.old.line.octets.items ++ flat_map field_text fields.now) }
+    {
+        let mut place: usize = 0;
+        for field in fields.iter() {
+            self.labels.append_field(place, field, &mut self.line)?;
+            place = place.saturating_add(1);
+        }
+        Ok(())
+    }
 }

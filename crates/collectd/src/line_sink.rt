@@ -5,7 +5,7 @@ ghost use Rattle.std.specs.Io.KnownBytes.{Appends};
 ghost use Rattle.collectd.specs.DumpLines.{dump_line};
 
 use crate::fault::DumpFault;
-use crate::line::append_line;
+use crate::line::Line;
 use ipfix_message::DataRecord;
 use ipfix_session::Sink;
 use std::io::Write;
@@ -14,7 +14,7 @@ use std::io::Write;
 /// made or written, and keeps the fault.
 #[derive(Drop)]
 pub struct LineSink<'a, W: Write> {
-    line: &'a mut Vec<u8>,
+    line: &'a mut Line,
     out: &'a mut W,
     refused: u64,
     pub fault: Option<DumpFault>,
@@ -22,8 +22,8 @@ pub struct LineSink<'a, W: Write> {
 }
 
 impl<'a, W: Write> LineSink<'a, W> {
-    /// A sink that makes its lines in `line`.
-    pub fn new(line: &'a mut Vec<u8>, out: &'a mut W) -> Self
+    /// A sink that makes its lines by `line`.
+    pub fn new(line: &'a mut Line, out: &'a mut W) -> Self
         ensures same_writer { result.out.ghost_name ≡ out.entry.ghost_name }
         ensures nothing_written { result.out.now ≡ out.old }
     {
@@ -42,9 +42,8 @@ impl<'a, W: Write> LineSink<'a, W> {
         ensures no_fault { self.new.fault ≡ self.old.fault }
         ensures ok { OnOk result (Appends (W.contents self.old.out.now) (W.contents self.new.out.now) (dump_line data_record.now)) }
     {
-        self.line.clear();
-        append_line(data_record, self.line)?;
-        self.out.write_all(self.line)?;
+        let line = self.line.make(data_record)?;
+        self.out.write_all(line)?;
         Ok(())
     }
 }

@@ -1,14 +1,15 @@
-//! Numbers and fields as text, appended to a line.
+//! Numbers, names and values as text, appended to a line.
 
 ghost use Rattle.std.specs.Prelude.{◌≡◌, ◌++◌, OnOk};
-ghost use Rattle.ipfix_message.specs.FieldViews.{field_of};
-ghost use Rattle.collectd.specs.DumpLines.{field_text, labelled};
+ghost use Rattle.ipfix_elements.specs.Texts.{value_text};
+ghost use Rattle.collectd.specs.DumpLines.{labelled};
+ghost use Rattle.collectd.specs.LineParts.{label_text};
 
-use ipfix_elements::{kind_of, write_name, write_value};
-use ipfix_message::FieldRef;
+use crate::line_octets::LineOctets;
+use ipfix_elements::{Kind, write_name, write_value};
+use ipfix_wire::ElementId;
 use itoa::Buffer;
 use std::alloc::AllocError;
-use std::io;
 
 /// Appends a label and a number in decimal.
 pub fn append_labelled(label: &str, number: u32, out: &mut Vec<u8>) -> Result<(), AllocError>
@@ -19,19 +20,20 @@ pub fn append_labelled(label: &str, number: u32, out: &mut Vec<u8>) -> Result<()
     out.extend_from_slice(buffer.format(number).as_bytes())
 }
 
-/// Appends a space and a field: its element's name and its value.
-pub fn append_field(field: FieldRef, out: &mut Vec<u8>) -> Result<(), AllocError>
-    ensures { OnOk result (out.new.items ≡ out.old.items ++ field_text (field_of field.entry)) }
-{
-    // A vector fails only because memory ran out.
-    write_field(field, out).map_err(|_| AllocError)
-}
-
-fn write_field(field: FieldRef, out: &mut Vec<u8>) -> io::Result<()>
-    ensures { OnOk result (out.new.items ≡ out.old.items ++ field_text (field_of field.entry)) }
+/// Appends what stands before the value of a field: a space, its element's name and an equals sign.
+pub fn append_label(element: ElementId, out: &mut Vec<u8>) -> Result<(), AllocError>
+    ensures { OnOk result (out.new.items ≡ out.old.items ++ label_text element) }
 {
     out.extend_from_slice(b" ")?;
-    write_name(field.element, out)?;
-    out.extend_from_slice(b"=")?;
-    write_value(kind_of(field.element), field.octets, out)
+    // A vector fails only because memory ran out.
+    write_name(element, out).map_err(|_| AllocError)?;
+    out.extend_from_slice(b"=")
+}
+
+/// Appends the value of a field.
+pub fn append_value(kind: Kind, octets: &[u8], out: &mut LineOctets) -> Result<(), AllocError>
+    ensures { OnOk result (out.new.octets.items ≡ out.old.octets.items ++ value_text kind octets.now) }
+{
+    // A line's octets fail only because memory ran out.
+    write_value(kind, octets, out).map_err(|_| AllocError)
 }
