@@ -31,7 +31,10 @@ large (x ∷ xs) (y ∷ ys) (suc i) d e lt mt big = inr (large xs ys i d e (omeg
 pub added_large : (olds xs ys : List ℕ) (i d e : ℕ) → i < length xs → i < length ys → 2 ^ 64 ≤ get_or xs i d + get_or ys i e → added olds ys ≡ take i xs ++ added (drop i xs) (drop i ys) → HasLarge (added olds ys)
 added_large olds xs ys i d e lt mt big done = subst HasLarge (sym done) (large xs ys i d e lt mt big)
 
+pub none_large_within : (xs : List ℕ) → ((k : ℕ) → k < length xs → get_or xs k 0 < 2 ^ 64) → HasLarge xs → ⊥
+none_large_within [] small l = l
+none_large_within (x ∷ xs) small (inl l) = let s : x < 2 ^ 64 = small 0 (omega arith) in omega arith
+none_large_within (x ∷ xs) small (inr l) = none_large_within xs (λ k h. small (suc k) (omega arith)) l
+
 pub none_large : (xs : List ℕ) → ((k : ℕ) → get_or xs k 0 < 2 ^ 64) → HasLarge xs → ⊥
-none_large [] small l = l
-none_large (x ∷ xs) small (inl l) = let s : x < 2 ^ 64 = small 0 in omega arith
-none_large (x ∷ xs) small (inr l) = none_large xs (λ k. small (suc k)) l
+none_large xs small = none_large_within xs (λ k h. small k)

@@ -30,7 +30,7 @@ use Rattle.flow_table.proofs.Places.{keys_tell, intervals_tell}
 
 -- ---- the rows ascend
 
-abbrev line_cmp : Line → Line → Ordering
+abbrev pub line_cmp : Line → Line → Ordering
 line_cmp a b = place_cmp a.0 b.0
 
 interval_itself : (k : ℕ) → nat_cmp k k ≡ Equal
@@ -77,7 +77,7 @@ apart_from_later : (k : ℕ) (rows : RowEntries) (es : IntervalEntries) → AllB
 apart_from_later k [] es h = tt
 apart_from_later k (e ∷ rows) es h = (below_later ((k, e.0), e.1) es h, apart_from_later k rows es h)
 
-lines_ascend : (es : IntervalEntries) → IsStrictlySortedBy nat_cmp (map (λ e. e.0) es) → All (λ e. IsStrictlySortedBy key_cmp (keys e.1)) es
+pub lines_ascend : (es : IntervalEntries) → IsStrictlySortedBy nat_cmp (map (λ e. e.0) es) → All (λ e. IsStrictlySortedBy key_cmp (keys e.1)) es
     → IsStrictlySortedBy line_cmp (lines_in es)
 unfolding IsStrictlySortedBy
 lines_ascend [] intervals ordered = tt
@@ -91,7 +91,7 @@ below_places : (p : ℕ × List Cell) (rows : List Row) → AllByRecursion (λ l
 below_places p [] h = tt
 below_places p (row ∷ rows) h = (h.0, below_places p rows h.1)
 
-places_ascend : (rows : List Row) → IsStrictlySortedBy line_cmp (map line_of rows) → IsStrictlySortedBy place_cmp (map place_of rows)
+pub places_ascend : (rows : List Row) → IsStrictlySortedBy line_cmp (map line_of rows) → IsStrictlySortedBy place_cmp (map place_of rows)
 unfolding IsStrictlySortedBy
 places_ascend [] h = tt
 places_ascend (row ∷ rows) h = (below_places (place_of row) rows h.0, places_ascend rows h.1)
@@ -145,7 +145,7 @@ rows_found all k rows (e ∷ es) there found =
     (ap (λ (o : Option (BTreeMap (List Cell) Total)). option_and_then (λ rows. row_at rows.entries e.0) o) there ∙ All-head (IsRowAt rows.entries) e es found)
     (rows_found all k rows es there (All-tail (IsRowAt rows.entries) e es found))
 
-lines_found : (all es : IntervalEntries) → IsStrictlySortedBy nat_cmp (map (λ e. e.0) all)
+pub lines_found : (all es : IntervalEntries) → IsStrictlySortedBy nat_cmp (map (λ e. e.0) all)
     → All (λ e. IsStrictlySortedBy key_cmp (keys e.1)) es → All (Contains all) es → All (IsLineOf all) (lines_in es)
 lines_found all [] intervals ordered among = All-nil (IsLineOf all)
 lines_found all (e ∷ es) intervals ordered among =
@@ -170,7 +170,7 @@ row_is plan rs row h =
     let p = parts (flows_at plan rs row.interval row.key.items) (map (sum_at plan rs row.interval row.key.items) plan.counters) row.sums.items row.flows h in
     record { some = p.0; sums = p.1; flows = p.2 }
 
-rows_are : (plan : PlanValue) (rs : List DataRecord) (rows : List Row) → All (λ l. totals_at plan rs l.0.0 l.0.1 ≡ Some l.1) (map line_of rows) → All (IsRow plan rs) rows
+pub rows_are : (plan : PlanValue) (rs : List DataRecord) (rows : List Row) → All (λ l. totals_at plan rs l.0.0 l.0.1 ≡ Some l.1) (map line_of rows) → All (IsRow plan rs) rows
 rows_are plan rs [] h = All-nil (IsRow plan rs)
 rows_are plan rs (row ∷ rows) h =
     All-cons (IsRow plan rs) row rows (row_is plan rs row (All-head (λ l. totals_at plan rs l.0.0 l.0.1 ≡ Some l.1) (line_of row) (map line_of rows) h))
@@ -191,7 +191,7 @@ row_there k q t (e ∷ es) h =
           Contains-append_right ((k, e.0) ∷ []) (places (lines_at k es)) (k, q) (row_there k q t es rest)
     ]
 
-cell_there : (k : ℕ) (q : List Cell) (t : Total) (es : IntervalEntries) → kept_at es k q ≡ Some t → Contains (places (lines_in es)) (k, q)
+pub cell_there : (k : ℕ) (q : List Cell) (t : Total) (es : IntervalEntries) → kept_at es k q ≡ Some t → Contains (places (lines_in es)) (k, q)
 cell_there k q t [] h = absurd (none-some t h)
 cell_there k q t (e ∷ es) h =
     subst (λ (ps : List (ℕ × List Cell)). Contains ps (k, q)) (sym (map-append (λ l. l.0) (lines_at e.0 e.1.entries) (lines_in es)))
@@ -207,11 +207,11 @@ cell_there k q t (e ∷ es) h =
           Contains-append_right (places (lines_at e.0 e.1.entries)) (places (lines_in es)) (k, q) (cell_there k q t es rest)
     ])
 
-places_of_lines : (rows : List Row) → map place_of rows ≡ places (map line_of rows)
+pub places_of_lines : (rows : List Row) → map place_of rows ≡ places (map line_of rows)
 places_of_lines [] = refl
 places_of_lines (row ∷ rows) = ap (λ (ps : List (ℕ × List Cell)). place_of row ∷ ps) (places_of_lines rows)
 
-some_totals : (plan : PlanValue) (rs : List DataRecord) (k : ℕ) (q : List Cell) → 0 < flows_at plan rs k q
+pub some_totals : (plan : PlanValue) (rs : List DataRecord) (k : ℕ) (q : List Cell) → 0 < flows_at plan rs k q
     → totals_at plan rs k q ≡ Some (total (map (sum_at plan rs k q) plan.counters) (flows_at plan rs k q))
 unfolding totals_at
 some_totals plan rs k q some =

@@ -91,7 +91,7 @@ left_out plan intervals r other k q = ap (λ (o : Option Total). joined (kept_at
 
 -- ---- nothing yet
 
-no_totals : (plan : PlanValue) (k : ℕ) (q : List Cell) → None ≡ totals_at plan [] k q
+pub no_totals : (plan : PlanValue) (k : ℕ) (q : List Cell) → None ≡ totals_at plan [] k q
 unfolding totals_at flows_at
 no_totals plan k q = refl
 

@@ -18,4 +18,7 @@ pub mod Finished
 pub mod Merges
 pub mod Sums
 pub mod OneTable
+pub mod AddedUp
+pub mod RowsHeld
 pub mod Holding
+pub mod TablesAdded

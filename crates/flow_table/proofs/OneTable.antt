@@ -37,7 +37,7 @@ among xs z h = at_place xs h.0 z h.1 h.2
 abbrev pub Asymmetric : {K : Type 0} → (K → K → Ordering) → Type 0
 Asymmetric {K} R = (x y : K) → R x y ≡ Less → R y x ≡ Less → ⊥
 
-below_all : {K : Type 0} (R : K → K → Ordering) (x : K) (xs : List K) (z : K) → All (λ y. R x y ≡ Less) xs → Among xs z → R x z ≡ Less
+pub below_all : {K : Type 0} (R : K → K → Ordering) (x : K) (xs : List K) (z : K) → All (λ y. R x y ≡ Less) xs → Among xs z → R x z ≡ Less
 below_all R x [] z below h = absurd h
 below_all R x (y ∷ ys) z below (inl here) = subst (λ w. R x w ≡ Less) here (All-head (λ w. R x w ≡ Less) y ys below)
 below_all R x (y ∷ ys) z below (inr later) = below_all R x ys z (All-tail (λ w. R x w ≡ Less) y ys below) later

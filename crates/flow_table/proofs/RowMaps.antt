@@ -1,5 +1,5 @@
 -- What adding to a row leaves in the maps of a partial table.
-use Rattle.std.proofs.Common.{◌≡◌, ◌≢◌, ◌^◌, ◌<◌, ℕ, Bool, true, false, cond, List, [], get_or, Option, Some, None, Result, Ok, Err, OnOk, refl, sym, ap, ◌∙◌, subst, inl, inr, arith}
+use Rattle.std.proofs.Common.{◌≡◌, ◌≢◌, ◌^◌, ◌<◌, ℕ, Bool, true, false, cond, List, [], length, get_or, Option, Some, None, Result, Ok, Err, OnOk, refl, sym, ap, ◌∙◌, subst, inl, inr, arith}
 use Rattle.std.specs.Map.{lookup, set_value}
 use Rattle.std.specs.BTreeMap.{BTreeMap, insert_entry}
 use Rattle.std.specs.Option.{option_and_then}
@@ -10,7 +10,7 @@ use Rattle.ipfix_elements.specs.declared.cell.Cell.{Cell}
 use Rattle.flow_table.specs.Tables.{key_cmp}
 use Rattle.flow_table.specs.Totals.{Total, total, sum_of, joined, IsLarge, IsLargeAt}
 use Rattle.flow_table.specs.Rows.{RowEntries, IntervalEntries, is_same_key, is_same_interval, row_at, kept_at, part_at}
-use Rattle.flow_table.proofs.AddedSums.{none_large}
+use Rattle.flow_table.proofs.AddedSums.{none_large_within}
 use Rattle.flow_table.proofs.Keyed.{itself, found_set, found_insert}
 use Rattle.flow_table.proofs.Places.{key_equal, keys_tell, intervals_tell}
 
@@ -68,12 +68,12 @@ large_found old v t was big = subst IsLargeAt (sym (joined_at old v t was)) big
 pub fits_whole : (old new : Option Total) (t : Total) → old ≡ None → new ≡ joined old (Some t) → (IsLarge t → ⊥) → IsLargeAt new → ⊥
 fits_whole old new t was is small big = small (subst IsLargeAt (is ∙ joined_new old t was) big)
 
-small_total : (sums : List ℕ) (flows : ℕ) → ((k : ℕ) → get_or sums k 0 < 2 ^ 64) → flows < 2 ^ 64 → IsLarge (total sums flows) → ⊥
-small_total sums flows small room (inl l) = none_large sums small l
+pub small_total : (sums : List ℕ) (flows : ℕ) → ((k : ℕ) → k < length sums → get_or sums k 0 < 2 ^ 64) → flows < 2 ^ 64 → IsLarge (total sums flows) → ⊥
+small_total sums flows small room (inl l) = none_large_within sums small l
 small_total sums flows small room (inr l) = omega arith
 
 pub fits_new : (old new : Option Total) (sums : List ℕ) (flows : ℕ) → old ≡ None → new ≡ joined old (Some (total sums flows)) → ((k : ℕ) → get_or sums k 0 < 2 ^ 64) → flows < 2 ^ 64 → IsLargeAt new → ⊥
-fits_new old new sums flows was is small room = fits_whole old new (total sums flows) was is (small_total sums flows small room)
+fits_new old new sums flows was is small room = fits_whole old new (total sums flows) was is (small_total sums flows (λ k h. small k) room)
 
 -- in the words of the code
 pub fits_added : {E : Type 0} (r : Result (Unit {0}) E) (es news : RowEntries) (key : List Cell) (v w t : Total) → row_at es key ≡ Some v → news ≡ insert_entry key_cmp es key w

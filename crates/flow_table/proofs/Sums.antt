@@ -9,6 +9,7 @@ use Rattle.ipfix_elements.specs.declared.cell.Cell.{Cell}
 use Rattle.ipfix_message.specs.declared.record.DataRecord.{DataRecord}
 use Rattle.flow_table.specs.declared.class.Class.{Class}
 use Rattle.flow_table.specs.declared.class.Class.TheVariants.{Options, Untimed, Backward, Unkeyed, TooLong, Used}
+use Rattle.flow_table.specs.AddedUp.{HasTooLargeRow}
 use Rattle.flow_table.specs.Intervals.{covers, share}
 use Rattle.flow_table.specs.Plans.{PlanValue}
 use Rattle.flow_table.specs.Reading.{class_of, counter_of, IsUsed}
@@ -119,34 +120,46 @@ large_at f (d ∷ cs) c (suc i) lt is big = inr (large_at f cs c i (omega arith)
 abbrev WithTotals : PlanValue → List DataRecord → ℕ → List Cell → Bool → Type 0
 WithTotals plan rs k key b = IsLargeAt (cond b None (Some (total (map (sum_at plan rs k key) plan.counters) (flows_at plan rs k key))))
 
-from_large : (plan : PlanValue) (rs : List DataRecord) (k : ℕ) (key : List Cell) → IsLarge (total (map (sum_at plan rs k key) plan.counters) (flows_at plan rs k key)) → IsTooLarge plan rs
+from_large : (plan : PlanValue) (rs : List DataRecord) (k : ℕ) (key : List Cell) → IsLarge (total (map (sum_at plan rs k key) plan.counters) (flows_at plan rs k key)) → HasTooLargeRow plan rs
 from_large plan rs k key (inl l) = let at = large_in (sum_at plan rs k key) plan.counters l in inl (k, key, at.0, at.1, at.2)
-from_large plan rs k key (inr l) = inr (inl (k, key, l))
+from_large plan rs k key (inr l) = inr (k, key, l)
 
-pub too_large_at : (plan : PlanValue) (rs : List DataRecord) (k : ℕ) (key : List Cell) → IsLargeAt (totals_at plan rs k key) → IsTooLarge plan rs
+pub too_large_row_at : (plan : PlanValue) (rs : List DataRecord) (k : ℕ) (key : List Cell) → IsLargeAt (totals_at plan rs k key) → HasTooLargeRow plan rs
 unfolding totals_at
-too_large_at plan rs k key big =
+too_large_row_at plan rs k key big =
     elim (eqb_tells (flows_at plan rs k key) 0) [
       | inl y ↦ absurd (subst (WithTotals plan rs k key) y.0 big)
       | inr n ↦ from_large plan rs k key (subst (WithTotals plan rs k key) n.0 big)
     ]
 
+pub too_large_of_row : (plan : PlanValue) (rs : List DataRecord) → HasTooLargeRow plan rs → IsTooLarge plan rs
+too_large_of_row plan rs (inl large) = inl large
+too_large_of_row plan rs (inr large) = inr (inl large)
+
+pub too_large_at : (plan : PlanValue) (rs : List DataRecord) (k : ℕ) (key : List Cell) → IsLargeAt (totals_at plan rs k key) → IsTooLarge plan rs
+too_large_at plan rs k key big = too_large_of_row plan rs (too_large_row_at plan rs k key big)
+
 large_total : (plan : PlanValue) (rs : List DataRecord) (k : ℕ) (key : List Cell) → flows_at plan rs k key ≢ 0 → IsLarge (total (map (sum_at plan rs k key) plan.counters) (flows_at plan rs k key)) → IsLargeAt (totals_at plan rs k key)
 unfolding totals_at
 large_total plan rs k key some big = subst (WithTotals plan rs k key) (sym (itself_not (flows_at plan rs k key) some)) big
 
--- a list is small where the totals of all rows and the tally are
-pub small_from : (plan : PlanValue) (rs : List DataRecord) → ((k : ℕ) (key : List Cell) → IsLargeAt (totals_at plan rs k key) → ⊥) → ((class : Class) → count_of plan rs class < 2 ^ 64) → IsTooLarge plan rs → ⊥
-small_from plan rs rows counts (inl large) =
+-- a row that is too large has such totals
+pub large_row : (plan : PlanValue) (rs : List DataRecord) → HasTooLargeRow plan rs → (k : ℕ) × (key : List Cell) × IsLargeAt (totals_at plan rs k key)
+large_row plan rs (inl large) =
     let k = large.0 in
     let key = large.1 in
     let c = large.2 in
     let big : 2 ^ 64 ≤ sum_at plan rs k key c = large.4 in
     let some : flows_at plan rs k key ≢ 0 = λ e. let none = sum_at-none plan rs k key c e in omega arith in
-    rows k key (large_total plan rs k key some (inl (large_at (sum_at plan rs k key) plan.counters c large.3.0 large.3.1 large.3.2 big)))
-small_from plan rs rows counts (inr (inl large)) =
+    (k, key, large_total plan rs k key some (inl (large_at (sum_at plan rs k key) plan.counters c large.3.0 large.3.1 large.3.2 big)))
+large_row plan rs (inr large) =
     let big : 2 ^ 64 ≤ flows_at plan rs large.0 large.1 = large.2 in
-    rows large.0 large.1 (large_total plan rs large.0 large.1 (λ e. omega arith) (inr big))
+    (large.0, large.1, large_total plan rs large.0 large.1 (λ e. omega arith) (inr big))
+
+-- a list is small where the totals of all rows and the tally are
+pub small_from : (plan : PlanValue) (rs : List DataRecord) → ((k : ℕ) (key : List Cell) → IsLargeAt (totals_at plan rs k key) → ⊥) → ((class : Class) → count_of plan rs class < 2 ^ 64) → IsTooLarge plan rs → ⊥
+small_from plan rs rows counts (inl large) = let at = large_row plan rs (inl large) in rows at.0 at.1 at.2
+small_from plan rs rows counts (inr (inl large)) = let at = large_row plan rs (inr large) in rows at.0 at.1 at.2
 small_from plan rs rows counts (inr (inr large)) =
     let big : 2 ^ 64 ≤ count_of plan rs large.0 = large.1 in
     let small = counts large.0 in

@@ -10,6 +10,8 @@ pub mod Fitting
 pub mod Bags
 pub mod SamePlans
 pub mod SameTables
+pub mod AddedUp
+pub mod RowTotals
 -- What the inner functions cite
 pub mod Totals
 pub mod Rows

@@ -37,7 +37,7 @@ fn push_rows(interval: u64, rows: Rows, out: &mut Vec<Row>) -> Result<(), AllocE
 }
 
 /// The rows of all intervals, in order.
-fn into_rows(alloc: Global, intervals: Intervals) -> Result<Vec<Row>, AllocError>
+pub fn into_rows(alloc: Global, intervals: Intervals) -> Result<Vec<Row>, AllocError>
     ensures lines { IfOk result (λ rows. map line_of rows.items ≡ lines_in intervals.entries) }
     ensures ascending { OnOk result (AreAscending intervals.entries) }
 {

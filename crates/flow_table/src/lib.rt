@@ -16,6 +16,7 @@ mod plan;
 mod plan_fault;
 mod reading;
 mod row_key;
+mod row_totals;
 mod rows;
 mod sharing;
 mod span;
@@ -31,12 +32,13 @@ pub use key::Key;
 pub use laws::{plans_compare_by_value, shares_add_up};
 pub use method::Method;
 pub use order::{
-    either_list_first, interleaving_is_same_bag, one_table, order_is_free, permutation_is_same_bag,
-    same_bag_laws, tables_fit, too_large_stays,
+    any_split_adds_up, either_list_first, interleaving_is_same_bag, one_table, order_is_free,
+    permutation_is_same_bag, same_bag_laws, tables_add_up, tables_fit, too_large_stays,
 };
 pub use partial::Partial;
 pub use plan::{MAX_COUNTERS, MAX_KEYS, MAX_SPREAD, Plan};
 pub use plan_fault::PlanFault;
+pub use row_totals::RowTotals;
 pub use sharing::share;
 pub use table::{Row, Table};
 pub use table_fault::TableFault;

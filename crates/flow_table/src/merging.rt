@@ -7,7 +7,7 @@ ghost use Rattle.ipfix_message.specs.declared.record.DataRecord.{DataRecord};
 ghost use Rattle.flow_table.specs.Plans.{PlanValue};
 ghost use Rattle.flow_table.specs.Partials.{HoldsTable, StandsBy};
 ghost use Rattle.flow_table.specs.Totals.{IsLarge, IsLargeAt, joined};
-ghost use Rattle.flow_table.specs.Rows.{kept_at, part_at, row_at, rows_part};
+ghost use Rattle.flow_table.specs.Rows.{kept_at, part_at, place_part, row_at, rows_part};
 ghost use Rattle.flow_table.specs.declared.table_fault.TableFault.TheVariants.{SumTooLarge};
 
 use crate::row_key::RowKey;
@@ -15,6 +15,8 @@ use crate::rows::{Intervals, Rows};
 use crate::table_fault::TableFault;
 use crate::tally::{Tally, together};
 use crate::totals::Totals;
+use std::alloc::Global;
+use std::collections::BTreeMap;
 use std::collections::btree_map::Entry;
 
 /// Adds totals to those of a key, or makes a row of them.
@@ -30,6 +32,27 @@ fn merge_row(rows: &mut Rows, key: RowKey, totals: Totals) -> Result<(), TableFa
             Ok(())
         }
     }
+}
+
+/// Adds totals to those of an interval and a key, or makes a row of them.
+pub fn add_totals(
+    alloc: Global,
+    intervals: &mut Intervals,
+    interval: u64,
+    key: RowKey,
+    totals: Totals,
+) -> Result<(), TableFault>
+    ensures ok { OnOk result ((k : ℕ) (q : List Cell) → kept_at intervals.new.entries k q ≡ joined (kept_at intervals.old.entries k q) (place_part interval key totals k q)) }
+    ensures fits { OnOk result ((IsLarge totals → ⊥) → IsLargeAt (kept_at intervals.new.entries interval key) → ⊥) }
+    ensures large { IfErr result (λ e. e ≡ SumTooLarge → IsLargeAt (joined (kept_at intervals.old.entries interval key) (Some totals))) }
+{
+    if let Some(rows) = intervals.get_mut(&interval) {
+        return merge_row(rows, key, totals);
+    }
+    let mut rows = BTreeMap::new(alloc);
+    merge_row(&mut rows, key, totals)?;
+    intervals.insert(interval, rows)?;
+    Ok(())
 }
 
 /// Adds the totals of all keys of an interval.

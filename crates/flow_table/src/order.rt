@@ -1,14 +1,16 @@
 //! Laws of tables: a list of records has one table, which is the same for every order of the list and
 //! fits its plan.
 
-ghost use Rattle.std.specs.Prelude.{◌++◌, List, All, IsPermutation};
+ghost use Rattle.std.specs.Prelude.{◌≡◌, ◌++◌, ◌↔◌, List, All, IsPermutation, flat_map};
+ghost use Rattle.std.specs.List.{AllZip};
 ghost use Rattle.ipfix_message.specs.DataRecords.{HasOctets};
 ghost use Rattle.ipfix_message.specs.declared.record.DataRecord.{DataRecord};
+ghost use Rattle.flow_table.specs.AddedUp.{AddUpTooLarge, AreAddedUp, HasTooLargeRow, rows_in};
 ghost use Rattle.flow_table.specs.Bags.{IsSameBag, IsInterleaving};
 ghost use Rattle.flow_table.specs.Fitting.{FitsPlan};
 ghost use Rattle.flow_table.specs.Plans.{PlanValue, IsPlan};
 ghost use Rattle.flow_table.specs.SameTables.{IsSameTable};
-ghost use Rattle.flow_table.specs.Tables.{IsTable, IsTooLarge};
+ghost use Rattle.flow_table.specs.Tables.{IsTable, IsTooLarge, tally_of};
 ghost use Rattle.flow_table.specs.declared.table.Table.{Table};
 
 /// A list of records has no two tables.
@@ -58,4 +60,21 @@ pub fn too_large_stays()
 /// a message gives.
 pub fn tables_fit()
     ensures { (plan : PlanValue) (rs : List DataRecord) (table : Table) → IsPlan plan → All HasOctets rs → (IsTooLarge plan rs → ⊥) → IsTable plan rs table → FitsPlan plan table }
+{}
+
+/// The rows of the tables of some lists of records, added up, are those of the table of all these
+/// records. They are too large if and only if a sum or a number of flows in that table is.
+pub fn tables_add_up()
+    ensures table { (plan : PlanValue) (lists : List (List DataRecord)) (tables : List Table) (all : Table) → AllZip (IsTable plan) lists tables
+        → AreAddedUp (flat_map rows_in tables) (rows_in all) → all.tally ≡ tally_of plan (flat_map (λ rs. rs) lists) → IsTable plan (flat_map (λ rs. rs) lists) all }
+    ensures too_large { (plan : PlanValue) (lists : List (List DataRecord)) (tables : List Table) → AllZip (IsTable plan) lists tables
+        → AddUpTooLarge (flat_map rows_in tables) ↔ HasTooLargeRow plan (flat_map (λ rs. rs) lists) }
+{}
+
+/// However some records are split into lists, and in whatever order, the rows of the lists' tables add
+/// up to the same rows.
+pub fn any_split_adds_up()
+    ensures { (plan : PlanValue) (lists others : List (List DataRecord)) (tables more : List Table) (a b : Table)
+        → AllZip (IsTable plan) lists tables → AllZip (IsTable plan) others more → IsSameBag (flat_map (λ rs. rs) lists) (flat_map (λ rs. rs) others)
+        → AreAddedUp (flat_map rows_in tables) (rows_in a) → AreAddedUp (flat_map rows_in more) (rows_in b) → rows_in a ≡ rows_in b }
 {}

@@ -56,6 +56,16 @@ impl RowKey {
         }
     }
 
+    /// These cells.
+    pub fn of_cells(cells: Vec<Cell>) -> RowKey
+        ensures { result ≡ cells.items }
+    {
+        RowKey {
+            address: address_of(&cells),
+            cells,
+        }
+    }
+
     /// Leaves no cells, and their room.
     pub fn clear(&mut self)
         ensures { self.new ≡ [] }

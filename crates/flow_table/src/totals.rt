@@ -23,6 +23,14 @@ impl Model for Totals {
 }
 
 impl Totals {
+    /// These sums and flows.
+    pub fn new(sums: Vec<u64>, flows: u64) -> Totals
+        ensures value { result ≡ total sums.items flows }
+        ensures small { IsLarge result → ⊥ }
+    {
+        Totals { sums, flows }
+    }
+
     /// Adds sums and flows.
     pub fn add(&mut self, sums: &[u64], flows: u64) -> Result<(), TableFault>
         ensures ok { OnOk result (self.new ≡ sum_of self.old (total sums.now flows)) }

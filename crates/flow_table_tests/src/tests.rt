@@ -1,3 +1,4 @@
+mod added_rows;
 mod plans;
 mod readings;
 mod records;

@@ -3,7 +3,7 @@
 ghost use Rattle.std.specs.Prelude.{◌≡◌, IfOk};
 ghost use Rattle.flow_table.specs.Partials.{plan_of};
 
-use flow_table::{Class, Key, Method, Partial, Plan, Table};
+use flow_table::{Class, Key, Method, Partial, Plan, Row, Table};
 use ipfix_elements::Cell;
 use ipfix_message::{DataRecord, Fields};
 use ipfix_wire::ElementId;
@@ -92,8 +92,13 @@ pub fn partial_of(
 
 /// The rows of a table as text: interval, address, sum and flows.
 pub fn rows_of(alloc: Global, table: &Table) -> Result<String, Fail> {
+    text_of(alloc, &table.rows)
+}
+
+/// The same of rows.
+pub fn text_of(alloc: Global, rows: &[Row]) -> Result<String, Fail> {
     let mut text = String::new(alloc);
-    for row in &table.rows {
+    for row in rows {
         let Some(Cell::Ipv4(address)) = row.key.first().copied() else {
             continue;
         };

@@ -1,0 +1,15 @@
+use Rattle.flow_table.specs.RowTotals.{AreOf}
+use Rattle.flow_table.proofs.RowsHeld.{finished_rows}
+use Rattle.flow_table.proofs.row_totals.RowTotals.finish.Goals as goal
+
+pub returns-clause-sums : goal.returns-clause-sums
+unfolding AreOf
+returns-clause-sums c = λ rows held. finished_rows c.args.self.intervals.entries rows c.in_ok-into_rows.field-0.items held c.in_ok-into_rows.ensures.lines c.in_ok-into_rows.ensures.ascending
+
+pub returns-clause-small : goal.returns-clause-small
+unfolding AreOf
+returns-clause-small c = λ rows held. held.small
+
+pub returns-in_err-into_rows-clause-small : goal.returns-in_err-into_rows-clause-small
+unfolding AreOf
+returns-in_err-into_rows-clause-small c = λ rows held. held.small
