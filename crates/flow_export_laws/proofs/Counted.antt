@@ -2,16 +2,15 @@
 use Rattle.std.proofs.Common.{◌≡◌, ℕ, ◌*◌, ◌/◌, ◌<◌, Bool, true, false, cond, eqb, nat_eq, List, [], ◌∷◌, map, All, Option, Some, None, refl, sym, ap, subst, ◌∙◌, arith, inl, inr}
 use Rattle.std.specs.Prelude.{◌≢◌, ◌⊎◌, ◌||◌}
 use Rattle.std.specs.List.Sorted.{IsStrictlySortedBy}
-use Rattle.std.specs.declared.cmp.Ordering.TheVariants.{Less}
 use Rattle.std.proofs.Math.Nat.{mul-div_cancel}
 use Rattle.std.proofs.lemmas.Bool.{cases_Bool, eq-eqb}
 use Rattle.std.proofs.lemmas.Bool.Decides.{eqb_tells}
 use Rattle.std.proofs.lemmas.Map.Keys.{sorted_tail}
-use Rattle.std.proofs.lemmas.Map.Views.{All-after_first}
 use Rattle.std.proofs.lemmas.List.Elements.{All-head, All-tail}
 use Rattle.ipfix_elements.specs.declared.cell.Cell.{Cell}
 use Rattle.ipfix_message.specs.declared.record.DataRecord.{DataRecord}
 use Rattle.flow_table.specs.declared.table.Table.{Table}
+use Rattle.flow_table.specs.AddedUp.{place}
 use Rattle.flow_table.specs.Plans.{PlanValue}
 use Rattle.flow_table.specs.Reading.{counter_of, IsUsed}
 use Rattle.flow_table.specs.Rows.{is_same_key}
@@ -23,8 +22,9 @@ use Rattle.flow_table.specs.Flows.{flow_part, flow_total}
 use Rattle.flow_table.proofs.Keyed.{itself}
 use Rattle.flow_table.proofs.Places.{keys_tell}
 use Rattle.flow_table.proofs.Sums.{totals_at-append, totals_at-used, flows_at-append}
+use Rattle.flow_table.proofs.AddedUp.{among_map, not_later}
 use Rattle.flow_table.proofs.OneTable.{Among, among, same_sorted, places_asymmetric, some_flow, row_at, rows_by_place}
-use Rattle.flow_export_laws.specs.ReadBack.{by_start, place, one_flow}
+use Rattle.flow_export_laws.specs.ReadBack.{by_start, one_flow}
 
 -- a record that is used as this row's one flow
 pub record IsFlowOf (plan : PlanValue) (row : RowValue) (r : DataRecord) : Type 0 where
@@ -90,16 +90,8 @@ module _ (plan : PlanValue) (positive : 0 < plan.length) (rec : RowValue → Dat
       ∙ join_none _ _ (one_none row k q (All-head (λ r. IsFlowOf plan r (rec r)) row rows flows) (other row (inl refl)))
       (none_at rows k q (All-tail (λ r. IsFlowOf plan r (rec r)) row rows flows) (λ r h. other r (inr h)))
 
-  below : (z : ℕ × List Cell) (rows : List RowValue) (row : RowValue) → All (λ y. place_cmp z y ≡ Less) (map place rows) → Among rows row → place_cmp z (place row) ≡ Less
-  below z [] row all h = absurd h
-  below z (x ∷ xs) row all (inl here) = subst (λ (w : RowValue). place_cmp z (place w) ≡ Less) here (All-head (λ y. place_cmp z y ≡ Less) (place x) (map place xs) all)
-  below z (x ∷ xs) row all (inr later) = below z xs row (All-tail (λ y. place_cmp z y ≡ Less) (place x) (map place xs) all) later
-
   apart : (row : RowValue) (rows : List RowValue) (other : RowValue) → IsStrictlySortedBy place_cmp (place row ∷ map place rows) → Among rows other → place row ≢ place other
-  apart row rows other sorted h e =
-      let less = below (place row) rows other (All-after_first place_cmp (place row) (map place rows) sorted) h in
-      let self : place_cmp (place row) (place row) ≡ Less = subst (λ (w : ℕ × List Cell). place_cmp (place row) w ≡ Less) (sym e) less in
-      places_asymmetric (place row) (place row) self self
+  apart row rows other sorted h e = not_later row rows sorted (subst (λ (z : ℕ × List Cell). Among (map place rows) z) (sym e) (among_map place rows other h))
 
   -- each row's totals are its own
   some_at : (rows : List RowValue) (row : RowValue) → Flows rows → IsStrictlySortedBy place_cmp (map place rows) → Among rows row → totals_at p (map rec rows) row.interval row.key ≡ Some (total row.sums 1)

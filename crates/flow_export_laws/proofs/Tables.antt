@@ -1,18 +1,18 @@
 -- Rows that fit a plan, as values.
-use Rattle.std.proofs.Common.{◌≡◌, ℕ, ◌^◌, ◌<◌, List, [], ◌∷◌, length, map, All, refl, sym, ap, subst}
+use Rattle.std.proofs.Common.{◌≡◌, ℕ, ◌^◌, ◌<◌, List, [], ◌∷◌, length, map, All, sym, subst}
 use Rattle.std.specs.List.Sorted.{IsStrictlySortedBy}
 use Rattle.std.proofs.lemmas.List.{length-map}
 use Rattle.std.proofs.lemmas.List.Elements.{All-nil, All-cons, All-head, All-tail, All-weaker}
-use Rattle.ipfix_elements.specs.declared.cell.Cell.{Cell}
 use Rattle.flow_table.specs.declared.table.Row.{Row}
 use Rattle.flow_table.specs.declared.table.Table.{Table}
 use Rattle.flow_table.specs.Fitting.{FitsRow, FitsPlan}
 use Rattle.flow_table.specs.Plans.{PlanValue, IsPlan}
 use Rattle.flow_table.specs.SameTables.{RowValue, value_of}
-use Rattle.flow_table.specs.Tables.{place_of, place_cmp}
+use Rattle.flow_table.specs.Tables.{place_cmp}
+use Rattle.flow_table.proofs.RowsHeld.{places_of_values}
 use Rattle.flow_export.specs.CsvText.{last_of}
 use Rattle.flow_export.specs.Fitting.{FitsValue}
-use Rattle.flow_export_laws.specs.ReadBack.{CanBeExported, CanBeCounted, IsWhole, place}
+use Rattle.flow_export_laws.specs.ReadBack.{CanBeExported, CanBeCounted, IsWhole}
 
 All-values : (P : RowValue → Type 0) (rows : List Row) → All (λ row. P (value_of row)) rows → All P (map value_of rows)
 All-values P [] all = All-nil P
@@ -23,10 +23,6 @@ values_fit plan [] all = All-nil (FitsValue plan)
 values_fit plan (row ∷ rows) all =
     let one = All-head (FitsRow plan) row rows all in
     All-cons (FitsValue plan) (value_of row) (map value_of rows) (record { key = one.key; sums = one.sums }) (values_fit plan rows (All-tail (FitsRow plan) row rows all))
-
-places : (rows : List Row) → map place (map value_of rows) ≡ map place_of rows
-places [] = refl
-places (row ∷ rows) = ap (λ (ps : List (ℕ × List Cell)). place_of row ∷ ps) (places rows)
 
 small_sums : (plan : PlanValue) (rows : List Row) → All (FitsRow plan) rows → All (λ row. All (λ v. v < 2 ^ 64) row.sums.items) rows
 small_sums plan rows all = All-weaker (FitsRow plan) (λ row. All (λ v. v < 2 ^ 64) row.sums.items) (λ row fits. fits.small) rows all
@@ -43,7 +39,7 @@ can_be_counted plan table is fits whole in_time =
       is_plan = is;
       whole = whole;
       fit = values_fit plan table.rows.items fits.rows;
-      ascending = subst (IsStrictlySortedBy place_cmp) (sym (places table.rows.items)) fits.ascending;
+      ascending = subst (IsStrictlySortedBy place_cmp) (sym (places_of_values table.rows.items)) fits.ascending;
       in_time = All-values (λ row. last_of plan row < 2 ^ 50) table.rows.items in_time;
       small = All-values (λ row. All (λ v. v < 2 ^ 64) row.sums) table.rows.items (small_sums plan table.rows.items fits.rows);
     }

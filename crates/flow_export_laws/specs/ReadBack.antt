@@ -2,7 +2,6 @@
 use Rattle.std.specs.Prelude.{◌≡◌, ℕ, ◌^◌, ◌<◌, List, length, map, All, None}
 use Rattle.std.specs.List.Sorted.{IsStrictlySortedBy}
 use Rattle.ipfix_wire.specs.declared.set.TheConstants.{FIRST_TEMPLATE_ID}
-use Rattle.ipfix_elements.specs.declared.cell.Cell.{Cell}
 use Rattle.flow_export.specs.CsvText.{last_of}
 use Rattle.ipfix_message.specs.declared.record.DataRecord.{DataRecord}
 use Rattle.ipfix_session.specs.declared.stop.Stop.TheVariants.{Clean}
@@ -11,6 +10,7 @@ use Rattle.ipfix_session.specs.Ledger.{domain_report}
 use Rattle.flow_table.specs.declared.key.Key.{Key}
 use Rattle.flow_table.specs.declared.method.Method.TheVariants.{Start}
 use Rattle.flow_table.specs.declared.table.Table.{Table}
+use Rattle.flow_table.specs.AddedUp.{place}
 use Rattle.flow_table.specs.Plans.{PlanValue, IsPlan}
 use Rattle.flow_table.specs.Tables.{place_cmp, IsTable}
 use Rattle.flow_table.specs.SameTables.{RowValue, row_value, value_of}
@@ -40,9 +40,6 @@ pub record IsReadBack (plan : PlanValue) (time : ℕ) (rows : List RowValue) : T
 -- the same plan by method start
 abbrev pub by_start : PlanValue → PlanValue
 by_start plan = record plan { method = Start }
-
-abbrev pub place : RowValue → ℕ × List Cell
-place row = (row.interval, row.key)
 
 abbrev pub IsWhole : Key → Type 0
 IsWhole key = key.prefix ≡ None

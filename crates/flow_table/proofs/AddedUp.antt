@@ -63,7 +63,7 @@ among_map f (y ∷ ys) x (inl here) = inl (ap f here)
 among_map f (y ∷ ys) x (inr later) = inr (among_map f ys x later)
 
 -- the first of rows in order stands at a place of its own
-not_later : (row : RowValue) (rows : List RowValue) → IsStrictlySortedBy place_cmp (place row ∷ map place rows) → Among (map place rows) (place row) → ⊥
+pub not_later : (row : RowValue) (rows : List RowValue) → IsStrictlySortedBy place_cmp (place row ∷ map place rows) → Among (map place rows) (place row) → ⊥
 not_later row rows sorted h =
     let less = below_all place_cmp (place row) (map place rows) (place row) (All-after_first place_cmp (place row) (map place rows) sorted) h in
     places_asymmetric (place row) (place row) less less

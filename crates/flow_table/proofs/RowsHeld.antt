@@ -52,12 +52,15 @@ held_ok (Err e) old new rows row key t key_is t_is held small step fits = tt
 pub held_large : (r : Result (Unit {0}) TableFault) (old : IntervalEntries) (rows : List RowValue) (row : RowValue) (key : List Cell) (t : Total) → key ≡ row.key → t ≡ total_of row → HoldsRows old rows
     → IfErr r (λ e. e ≡ SumTooLarge → IsLargeAt (joined (kept_at old row.interval key) (Some t))) → IfErr r (λ e. e ≡ SumTooLarge → AddUpTooLarge (rows ++ row ∷ []))
 held_large (Ok x) old rows row key t key_is t_is held large = tt
-held_large (Err e) old rows row key t key_is t_is held large = λ same.
-    (row.interval, row.key, subst IsLargeAt
-    (ap (λ (p : List Cell). joined (kept_at old row.interval p) (Some t)) key_is
-    ∙ ap (λ (u : Total). joined (kept_at old row.interval row.key) (Some u)) t_is
-    ∙ ap (λ (o : Option Total). joined o (Some (total_of row))) (held.totals_are row.interval row.key)
-    ∙ sym (added_up-push rows row row.interval row.key ∙ ap (λ (o : Option Total). joined (added_up rows row.interval row.key) o) (own_part row))) (large same))
+held_large (Err e) old rows row key t key_is t_is held large = λ same. (
+  row.interval,
+  row.key,
+  subst IsLargeAt
+      (ap (λ (p : List Cell). joined (kept_at old row.interval p) (Some t)) key_is
+      ∙ ap (λ (u : Total). joined (kept_at old row.interval row.key) (Some u)) t_is
+      ∙ ap (λ (o : Option Total). joined o (Some (total_of row))) (held.totals_are row.interval row.key)
+      ∙ sym (added_up-push rows row row.interval row.key ∙ ap (λ (o : Option Total). joined (added_up rows row.interval row.key) o) (own_part row))) (large same),
+)
 
 -- ---- finished
 

@@ -32,9 +32,8 @@ pub use key::Key;
 pub use laws::{plans_compare_by_value, shares_add_up};
 pub use method::Method;
 pub use order::{
-    any_split_adds_up, either_list_first, interleaving_is_same_bag, one_table, order_is_free, permutation_is_same_bag,
-    same_bag_laws, tables_add_up,
-    tables_fit, too_large_stays,
+    any_split_adds_up, either_list_first, interleaving_is_same_bag, one_table, order_is_free,
+    permutation_is_same_bag, same_bag_laws, tables_add_up, tables_fit, too_large_stays,
 };
 pub use partial::Partial;
 pub use plan::{MAX_COUNTERS, MAX_KEYS, MAX_SPREAD, Plan};
