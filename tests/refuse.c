@@ -1,10 +1,11 @@
 // A library to preload: it refuses calls of the program that it is loaded into.
 //
 // REFUSE=5 refuses the fifth call that asks for memory, REFUSE=5.. that one and all after it, whatever thread makes it;
-// what the system's libraries ask for counts, too. With REFUSE_WHAT=reads, writes or threads calls that read, write or
-// start a thread fail in place of those. With REFUSE_WHAT=octets nothing fails, and each read and write moves one octet.
-// With REFUSE_WHAT=interruptions every other call that reads, writes or accepts a connection is interrupted. Each time a
-// letter is written to descriptor 9, if that is open. A program that still runs after twenty seconds gets SIGALRM.
+// what the system's libraries ask for counts, too. With REFUSE_WHAT=reads, writes, threads or limits calls that read,
+// write, start a thread or set an option of a socket, as its limits are, fail in place of those. With REFUSE_WHAT=octets
+// nothing fails, and each read and write moves one octet. With REFUSE_WHAT=interruptions every other call that reads,
+// writes or accepts a connection is interrupted. Each time a letter is written to descriptor 9, if that is open. A program
+// that still runs after twenty seconds gets SIGALRM.
 //
 // The toolchain's clang builds it, and has no headers, so that all that is called is declared here.
 
@@ -20,7 +21,7 @@ extern long syscall(long, ...);
 extern void *dlsym(void *, const char *);
 extern int *__errno_location(void);
 
-enum { READ = 0, WRITE = 1, RECEIVE = 45, ACCEPT = 288 };
+enum { READ = 0, WRITE = 1, RECEIVE = 45, SET_OPTION = 54, ACCEPT = 288 };
 enum { INTERRUPTED = 4, DEVICE = 5, AGAIN = 11, NO_MEMORY = 12, SECONDS = 20 };
 
 // The first letter of what is refused; the first such call, 0 for none, and whether those after it are refused, too.
@@ -101,6 +102,10 @@ long __write(int to, const void *from, size_t size) { return write(to, from, siz
 
 int accept4(int listener, void *peer, void *size, int flags) {
   return is_interrupted() ? -1 : (int)syscall(ACCEPT, listener, peer, size, flags);
+}
+
+int setsockopt(int of, int level, int option, const void *value, unsigned size) {
+  return is_refused('l', DEVICE) ? -1 : (int)syscall(SET_OPTION, of, level, option, value, size);
 }
 
 int pthread_create(void *thread, const void *how, void *(*run)(void *), void *with) {
