@@ -9,6 +9,7 @@ use collectd::{
     DumpFault, Output, Status, load_plan, run_dump, run_files, run_tcp, write_dump_fault,
     write_export_fault,
 };
+use fault_guide::run_explain;
 use flow_collect::Pool;
 use flow_export::{ExportFault, Format};
 use flow_table::Plan;
@@ -53,6 +54,7 @@ fn run<R: Files<File = File> + Threads + Wait + Sync>(
             Some(("dump", _)) => dump(rt),
             Some(("files", chosen)) => files(threads, rt, chosen),
             Some(("tcp", chosen)) => tcp(threads, rt, chosen),
+            Some(("explain", chosen)) => explain(rt, chosen),
             _ => COMMAND_LINE,
         }),
         Err(error) => Ok(show(rt, &error)),
@@ -196,5 +198,14 @@ fn tcp<R: Threads + Wait + Sync>(threads: &R, rt: &HostRuntime, chosen: &ArgMatc
         job.output,
         &mut out,
         &mut err,
+    )
+}
+
+// `collectd explain`: what is told of a fault, or the list of all, to standard output.
+fn explain(rt: &HostRuntime, chosen: &ArgMatches) -> u8 {
+    run_explain(
+        chosen.get_str("fault"),
+        &mut rt.stdout(),
+        &mut rt.stderr(),
     )
 }
