@@ -1,3 +1,4 @@
 pub mod Writing
 pub mod Numbering
+mod Joined
 mod Ran

@@ -20,7 +20,3 @@ unfoldable pub dump_line : DataRecord → List ℕ
 dump_line r =
     labelled (codes "d=") r.domain ++ (labelled (codes " t=") r.template ++ (labelled (codes " x=") r.export_time ++ (labelled (codes " s=") r.scope
     ++ (flat_map field_text r.fields ++ codes "\n"))))
-
--- the records in order
-abbrev pub dump_lines : List DataRecord → List ℕ
-dump_lines rs = flat_map dump_line rs

@@ -1,5 +1,6 @@
 -- What a dump of a source wrote, and what its report says.
 use Rattle.std.specs.Prelude.{◌≡◌, ℕ, List, Option, Some, None}
+use Rattle.std.specs.List.{flat_map}
 use Rattle.std.specs.Io.KnownBytes.{Appends}
 use Rattle.ipfix_message.specs.declared.record.DataRecord.{DataRecord}
 use Rattle.ipfix_session.specs.declared.report.SessionReport.{SessionReport}
@@ -9,15 +10,32 @@ use Rattle.ipfix_session.specs.Sources.{SourceView}
 use Rattle.ipfix_session.specs.Drives.{IsGiven}
 use Rattle.ipfix_session.specs.declared.driver.TheConstants.{READ_SIZE}
 use Rattle.collectd.specs.declared.dumping.TheConstants.{READ_LIMIT}
-use Rattle.collectd.specs.DumpLines.{dump_lines}
+use Rattle.collectd.specs.DumpLines.{dump_line}
+use Rattle.collectd.specs.JsonLines.{json_line}
 
--- a source gave octets that have these records, as the report tells, and their lines were written
-pub record Dumps (before after : SourceView) (old new : Option (List ℕ)) (report : SessionReport) : Type 0 where
-  pub records : List DataRecord
-  pub given : IsGiven READ_LIMIT READ_SIZE before after report records
-  pub written : Appends old new (dump_lines records)
+-- with the line of a record
+module _ (line_of : DataRecord → List ℕ) where
+  -- a source gave octets that have these records, as the report tells, and their lines were written
+  pub record DumpsBy (before after : SourceView) (old new : Option (List ℕ)) (report : SessionReport) : Type 0 where
+    pub records : List DataRecord
+    pub given : IsGiven READ_LIMIT READ_SIZE before after report records
+    pub written : Appends old new (flat_map line_of records)
 
--- if a source tells its octets, the lines of all of them were written, and no fault was met
+  -- if a source tells its octets, the lines of all of them were written, and no fault was met
+  abbrev pub DumpsAllBy : Option (List ℕ) → Option (List ℕ) → Option (List ℕ) → Type 0
+  DumpsAllBy None old new = Unit {0}
+  DumpsAllBy (Some whole) old new = (stop_of whole ≡ Clean) × Appends old new (flat_map line_of (records_of whole))
+
+-- by lines of text
+abbrev pub Dumps : SourceView → SourceView → Option (List ℕ) → Option (List ℕ) → SessionReport → Type 0
+Dumps = DumpsBy dump_line
+
 abbrev pub DumpsAll : Option (List ℕ) → Option (List ℕ) → Option (List ℕ) → Type 0
-DumpsAll None old new = Unit {0}
-DumpsAll (Some whole) old new = (stop_of whole ≡ Clean) × Appends old new (dump_lines (records_of whole))
+DumpsAll = DumpsAllBy dump_line
+
+-- by lines of JSON
+abbrev pub DumpsJson : SourceView → SourceView → Option (List ℕ) → Option (List ℕ) → SessionReport → Type 0
+DumpsJson = DumpsBy json_line
+
+abbrev pub DumpsAllJson : Option (List ℕ) → Option (List ℕ) → Option (List ℕ) → Type 0
+DumpsAllJson = DumpsAllBy json_line

@@ -1,5 +1,6 @@
 -- what public contracts cite
 pub mod DumpLines
+pub mod JsonLines
 pub mod Dumped
 pub mod Runs
 pub mod ReportLines

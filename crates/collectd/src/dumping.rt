@@ -1,11 +1,13 @@
 //! Dumping a source: a line for each data record.
 
 ghost use Rattle.std.specs.Prelude.{IfOk};
-ghost use Rattle.collectd.specs.Dumped.{Dumps};
+ghost use Rattle.collectd.specs.Dumped.{Dumps, DumpsBy, DumpsJson};
 
 use crate::fault::DumpFault;
+use crate::json_line::JsonLine;
 use crate::line::Line;
 use crate::line_sink::LineSink;
+use crate::record_line::RecordLine;
 use ipfix_session::{SessionReport, Source, drive};
 use std::alloc::Global;
 use std::io::Write;
@@ -26,8 +28,30 @@ pub fn dump<S: Source, W: Write>(
 ) -> Result<SessionReport, DumpFault>
     ensures { IfOk result (λ report. Dumps (S.seen source.old) (S.seen source.new) (W.contents out.old) (W.contents out.new) report) }
 {
-    let mut line = Line::new(alloc);
-    let mut sink = LineSink::new(&mut line, out);
+    dump_by(alloc, &mut Line::new(alloc), source, out)
+}
+
+/// Does the same with an object of JSON (RFC 8259) for each data record, on a line of its own.
+pub fn dump_json<S: Source, W: Write>(
+    alloc: Global,
+    source: &mut S,
+    out: &mut W,
+) -> Result<SessionReport, DumpFault>
+    ensures { IfOk result (λ report. DumpsJson (S.seen source.old) (S.seen source.new) (W.contents out.old) (W.contents out.new) report) }
+{
+    dump_by(alloc, &mut JsonLine::new(alloc), source, out)
+}
+
+/// Does the same with lines that `line` makes.
+pub fn dump_by<L: RecordLine, S: Source, W: Write>(
+    alloc: Global,
+    line: &mut L,
+    source: &mut S,
+    out: &mut W,
+) -> Result<SessionReport, DumpFault>
+    ensures { IfOk result (λ report. DumpsBy L.line_of (S.seen source.old) (S.seen source.new) (W.contents out.old) (W.contents out.new) report) }
+{
+    let mut sink = LineSink::new(line, out);
     let report = drive(alloc, source, &mut sink, READ_LIMIT);
     match sink.fault {
         None => Ok(report),

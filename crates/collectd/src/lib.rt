@@ -5,6 +5,7 @@ mod dumping;
 mod fault;
 mod files;
 mod front;
+mod json_line;
 mod labels;
 mod line;
 mod line_octets;
@@ -12,6 +13,7 @@ mod line_sink;
 mod network;
 mod places;
 mod plans;
+mod record_line;
 mod reports;
 mod run_fault;
 mod running;
@@ -20,7 +22,7 @@ mod table_run;
 mod text;
 mod unread;
 
-pub use dumping::dump;
+pub use dumping::{dump, dump_json};
 pub use fault::DumpFault;
 pub use files::run_files;
 pub use network::run_tcp;
@@ -29,6 +31,6 @@ pub use reports::{
     write_collect_fault, write_dump_fault, write_export_fault, write_plan_fault, write_reports,
     write_tally,
 };
-pub use running::run_dump;
+pub use running::{run_dump, run_dump_json};
 pub use status::Status;
 pub use table_run::{Output, run};

@@ -1,6 +1,6 @@
 //! The line of a data record.
 
-ghost use Rattle.std.specs.Prelude.{◌≡◌, ◌++◌, IfOk, OnOk};
+ghost use Rattle.std.specs.Prelude.{◌≡◌, ◌++◌, OnOk};
 ghost use Rattle.std.specs.List.{flat_map};
 ghost use Rattle.collectd.specs.DumpLines.{dump_line, field_text};
 ghost use Rattle.collectd.specs.LineParts.{front_text};
@@ -8,6 +8,7 @@ ghost use Rattle.collectd.specs.LineParts.{front_text};
 use crate::front::Front;
 use crate::labels::Labels;
 use crate::line_octets::LineOctets;
+use crate::record_line::RecordLine;
 use ipfix_message::{DataRecord, Fields};
 use std::alloc::{AllocError, Global};
 
@@ -30,18 +31,6 @@ impl Line {
             labels: Labels::new(alloc),
             line: LineOctets::new(alloc),
         }
-    }
-
-    /// The dump line of a record.
-    #[tactic(auto, unfolding(crate::specs::DumpLines::dump_line))]
-    pub fn make(&mut self, data_record: &DataRecord) -> Result<&[u8], AllocError>
-        ensures { IfOk result (λ line. line.now ≡ dump_line data_record.now) }
-    {
-        self.line.octets.clear();
-        self.append_front(data_record)?;
-        self.append_fields(&data_record.fields)?;
-        self.line.octets.extend_from_slice(b"\n")?;
-        Ok(self.line.octets.as_slice())
     }
 
     fn append_front(&mut self, data_record: &DataRecord) -> Result<(), AllocError>
@@ -70,5 +59,18 @@ impl Line {
             place = place.saturating_add(1);
         }
         Ok(())
+    }
+}
+
+impl RecordLine for Line {
+    ghost line_of = { dump_line };
+
+    #[tactic(auto, unfolding(crate::specs::DumpLines::dump_line))]
+    fn make(&mut self, data_record: &DataRecord) -> Result<&[u8], AllocError> {
+        self.line.octets.clear();
+        self.append_front(data_record)?;
+        self.append_fields(&data_record.fields)?;
+        self.line.octets.extend_from_slice(b"\n")?;
+        Ok(self.line.octets.as_slice())
     }
 }

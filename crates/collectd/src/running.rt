@@ -3,10 +3,13 @@
 ghost use Rattle.std.specs.Prelude.{◌≡◌, ◌⊎◌, None, Some, IfOk};
 ghost use Rattle.ipfix_session.specs.declared.fault.SessionFault.{SessionFault};
 ghost use Rattle.ipfix_session.specs.declared.report.SessionReport.{SessionReport};
-ghost use Rattle.collectd.specs.Dumped.{Dumps, DumpsAll};
+ghost use Rattle.collectd.specs.Dumped.{Dumps, DumpsAll, DumpsAllBy, DumpsAllJson, DumpsBy, DumpsJson};
 
-use crate::dumping::dump;
+use crate::dumping::dump_by;
 use crate::fault::DumpFault;
+use crate::json_line::JsonLine;
+use crate::line::Line;
+use crate::record_line::RecordLine;
 use crate::reports::{write_dump_fault, write_reports};
 use ipfix_session::{SessionReport, Source};
 use std::alloc::Global;
@@ -27,7 +30,38 @@ pub fn run_dump<S: Source, W: Write, E: Write>(
     ensures fault { result ≡ 1 → (report : SessionReport) × (fault : SessionFault) × (report.fault ≡ Some fault)
         × Dumps (S.seen source.old) (S.seen source.new) (W.contents out.old) (W.contents out.new) report }
 {
-    match dump_whole(alloc, source, out) {
+    run_dump_by(alloc, &mut Line::new(alloc), source, out, err)
+}
+
+/// Does the same with an object of JSON (RFC 8259) for each data record, on a line of its own.
+pub fn run_dump_json<S: Source, W: Write, E: Write>(
+    alloc: Global,
+    source: &mut S,
+    out: &mut W,
+    err: &mut E,
+) -> u8
+    ensures statuses { (result ≡ 0) ⊎ (result ≡ 1) ⊎ (result ≡ 3) }
+    ensures all { result ≡ 0 → DumpsAllJson (S.seen source.old).text (W.contents out.old) (W.contents out.new) }
+    ensures fault { result ≡ 1 → (report : SessionReport) × (fault : SessionFault) × (report.fault ≡ Some fault)
+        × DumpsJson (S.seen source.old) (S.seen source.new) (W.contents out.old) (W.contents out.new) report }
+{
+    run_dump_by(alloc, &mut JsonLine::new(alloc), source, out, err)
+}
+
+// The same with lines that `line` makes.
+fn run_dump_by<L: RecordLine, S: Source, W: Write, E: Write>(
+    alloc: Global,
+    line: &mut L,
+    source: &mut S,
+    out: &mut W,
+    err: &mut E,
+) -> u8
+    ensures statuses { (result ≡ 0) ⊎ (result ≡ 1) ⊎ (result ≡ 3) }
+    ensures all { result ≡ 0 → DumpsAllBy L.line_of (S.seen source.old).text (W.contents out.old) (W.contents out.new) }
+    ensures fault { result ≡ 1 → (report : SessionReport) × (fault : SessionFault) × (report.fault ≡ Some fault)
+        × DumpsBy L.line_of (S.seen source.old) (S.seen source.new) (W.contents out.old) (W.contents out.new) report }
+{
+    match dump_whole(alloc, line, source, out) {
         Ok(report) => {
             let _ = write_reports(slice::from_ref(&report), err);
             match report.fault {
@@ -43,14 +77,15 @@ pub fn run_dump<S: Source, W: Write, E: Write>(
 }
 
 // Dumps a source, and sees to it that nothing is left in the writer's buffer.
-fn dump_whole<S: Source, W: Write>(
+fn dump_whole<L: RecordLine, S: Source, W: Write>(
     alloc: Global,
+    line: &mut L,
     source: &mut S,
     out: &mut W,
 ) -> Result<SessionReport, DumpFault>
-    ensures { IfOk result (λ report. Dumps (S.seen source.old) (S.seen source.new) (W.contents out.old) (W.contents out.new) report) }
+    ensures { IfOk result (λ report. DumpsBy L.line_of (S.seen source.old) (S.seen source.new) (W.contents out.old) (W.contents out.new) report) }
 {
-    let report = dump(alloc, source, out)?;
+    let report = dump_by(alloc, line, source, out)?;
     out.flush()?;
     Ok(report)
 }

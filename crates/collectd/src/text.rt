@@ -1,6 +1,7 @@
 //! Numbers, names and values as text, appended to a line.
 
 ghost use Rattle.std.specs.Prelude.{◌≡◌, ◌++◌, OnOk};
+ghost use Rattle.ipfix_elements.specs.Names.{name_text};
 ghost use Rattle.ipfix_elements.specs.Texts.{value_text};
 ghost use Rattle.collectd.specs.DumpLines.{labelled};
 ghost use Rattle.collectd.specs.LineParts.{label_text};
@@ -25,9 +26,16 @@ pub fn append_label(element: ElementId, out: &mut Vec<u8>) -> Result<(), AllocEr
     ensures { OnOk result (out.new.items ≡ out.old.items ++ label_text element) }
 {
     out.extend_from_slice(b" ")?;
-    // A vector fails only because memory ran out.
-    write_name(element, out).map_err(|_| AllocError)?;
+    append_name(element, out)?;
     out.extend_from_slice(b"=")
+}
+
+/// Appends the name of an element.
+pub fn append_name(element: ElementId, out: &mut Vec<u8>) -> Result<(), AllocError>
+    ensures { OnOk result (out.new.items ≡ out.old.items ++ name_text element) }
+{
+    // A vector fails only because memory ran out.
+    write_name(element, out).map_err(|_| AllocError)
 }
 
 /// Appends the value of a field.

@@ -6,7 +6,7 @@ mod words;
 use clap::error::ErrorKind;
 use clap::{ArgMatches, Error};
 use collectd::{
-    DumpFault, Output, Status, load_plan, run_dump, run_files, run_tcp, write_dump_fault,
+    DumpFault, Output, Status, load_plan, run_dump, run_dump_json, run_files, run_tcp, write_dump_fault,
     write_export_fault,
 };
 use fault_guide::run_explain;
@@ -51,7 +51,7 @@ fn run<R: Files<File = File> + Threads + Wait + Sync>(
     }
     match words::matches_of(rt.alloc(), words.as_slice()) {
         Ok(matches) => Ok(match matches.subcommand() {
-            Some(("dump", _)) => dump(rt),
+            Some(("dump", chosen)) => dump(rt, chosen),
             Some(("files", chosen)) => files(threads, rt, chosen),
             Some(("tcp", chosen)) => tcp(threads, rt, chosen),
             Some(("explain", chosen)) => explain(rt, chosen),
@@ -78,14 +78,17 @@ fn buffered_output(rt: &HostRuntime) -> Option<BufWriter<Stdout>> {
 }
 
 // `collectd dump`: standard input to standard output.
-fn dump(rt: &HostRuntime) -> u8 {
+fn dump(rt: &HostRuntime, chosen: &ArgMatches) -> u8 {
     let mut err = rt.stderr();
     let Some(mut out) = buffered_output(rt) else {
         let _ = write_dump_fault(DumpFault::OutOfMemory, &mut err);
         return Status::Failed.number();
     };
     let mut source = FromReader::new(rt.stdin());
-    run_dump(rt.alloc(), &mut source, &mut out, &mut err)
+    match chosen.get_str("format") {
+        Some("json") => run_dump_json(rt.alloc(), &mut source, &mut out, &mut err),
+        _ => run_dump(rt.alloc(), &mut source, &mut out, &mut err),
+    }
 }
 
 // What `files` and `tcp` are told alike.

@@ -6,6 +6,8 @@ use std::alloc::{AllocError, Global};
 /// The version, which `--version` prints and `CHANGELOG.md` describes.
 const VERSION: &str = "0.1.0";
 
+static DUMP_FORMATS: [&str; 2] = ["text", "json"];
+
 static FORMATS: [&str; 2] = ["csv", "ipfix"];
 
 /// What the words of a command line say, or the text that the parser has for them.
@@ -19,16 +21,23 @@ fn command<'a>(alloc: Global) -> Result<Command<'a>, AllocError> {
         .about("An IPFIX collecting process")
         .subcommand_required(true)
         .arg_required_else_help(true)
-        .subcommand(dump_command(alloc))?
+        .subcommand(dump_command(alloc)?)?
         .subcommand(files_command(alloc)?)?
         .subcommand(tcp_command(alloc)?)?
         .subcommand(explain_command(alloc)?)
 }
 
-fn dump_command<'a>(alloc: Global) -> Command<'a> {
+fn dump_command<'a>(alloc: Global) -> Result<Command<'a>, AllocError> {
+    let format = Arg::new(alloc, "format")
+        .long("format")
+        .value_name("FORMAT")
+        .default_value("text")
+        .value_parser(DUMP_FORMATS.as_slice())
+        .help("How a data record is written");
     Command::new(alloc, "dump")
         .about("Reads IPFIX messages from standard input and writes a line for each data record")
         .after_help("Example:\n  collectd dump < flows.ipfix")
+        .arg(format)
 }
 
 fn files_command<'a>(alloc: Global) -> Result<Command<'a>, AllocError> {

@@ -107,13 +107,13 @@ fn explanation_of_message(fault: MessageFault) -> Explanation
             found: "another template is in force under that id",
             rule: "RFC 7011, section 8.1",
             advice: "The exporter gave an id to another template without a withdrawal. Give each\n\
-                exporter, and each start of one, a session of its own. If it has one, tell its maker.",
+                exporter, and each start of one, a session of its own. If each has one, tell its maker.",
         },
         MessageFault::RecordCut => Explanation {
             found: "a data record goes past its set",
             rule: "RFC 7011, section 3.4.3",
             advice: "The records don't fit their template. Give each exporter, and each start of one, a\n\
-                session of its own. If it has one, tell its maker.",
+                session of its own. If each has one, tell its maker.",
         },
         MessageFault::TooManyDomains => Explanation {
             found: "one domain more than 1,024",

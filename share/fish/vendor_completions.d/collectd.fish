@@ -11,6 +11,7 @@ complete -c collectd -l help -d 'Print help'
 complete -c collectd -n '__fish_seen_subcommand_from help' -a 'dump files tcp explain'
 # (the names of the faults, as the program lists them)
 complete -c collectd -n '__fish_seen_subcommand_from explain' -a "(command -q collectd; and collectd explain 2> /dev/null | string replace -r '^\d+ (\w+): ' '\$1\t')"
+complete -c collectd -n '__fish_seen_subcommand_from dump' -l format -x -a 'text json' -d 'How a data record is written'
 complete -c collectd -n '__fish_seen_subcommand_from files' -F
 complete -c collectd -n '__fish_seen_subcommand_from files tcp' -l plan -r -F -d 'The plan of the aggregation'
 complete -c collectd -n '__fish_seen_subcommand_from files tcp' -l workers -x -d 'Threads that aggregate, 1 to 16'
