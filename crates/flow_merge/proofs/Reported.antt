@@ -1,0 +1,127 @@
+-- What a report that tells nothing bad says of the octets that its session was given.
+use Rattle.std.proofs.Common.{◌≡◌, ℕ, ◌+◌, ◌^◌, ◌<◌, ◌≤◌, List, [], ◌∷◌, length, map, All, Option, Some, None, refl, sym, ap, ◌∙◌, subst, arith}
+use Rattle.std.specs.Prelude.{◌≢◌, sum_by}
+use Rattle.std.proofs.lemmas.List.Elements.{All-nil, All-cons, All-head, All-tail, All-map}
+use Rattle.ipfix_message.specs.Domains.{Message}
+use Rattle.ipfix_message.specs.declared.fault.MessageFault.TheVariants as messages
+use Rattle.ipfix_message.specs.declared.record.DataRecord.{DataRecord}
+use Rattle.ipfix_session.specs.Drives.{Gave, IsDue, IsGiven}
+use Rattle.ipfix_session.specs.Given.{gives, records_in, records_of, stop_of}
+use Rattle.ipfix_session.specs.Ledger.{capped, domain_report, domains_of}
+use Rattle.ipfix_session.specs.Reports.{Reports}
+use Rattle.ipfix_session.specs.Sources.{SourceView}
+use Rattle.ipfix_session.specs.declared.driver.TheConstants.{READ_SIZE}
+use Rattle.ipfix_session.specs.declared.fault.SessionFault.{SessionFault}
+use Rattle.ipfix_session.specs.declared.fault.SessionFault.TheVariants as sessions
+use Rattle.ipfix_session.specs.declared.report.DomainReport.{DomainReport}
+use Rattle.ipfix_session.specs.declared.report.SessionReport.{SessionReport}
+use Rattle.ipfix_session.specs.declared.stop.Stop.TheVariants.{Clean}
+use Rattle.flow_table.specs.Plans.{PlanValue}
+use Rattle.flow_table.specs.SameTables.{RowValue}
+use Rattle.flow_merge.specs.Judged.{ReportsExport, ReportsNoLoss, IsWell, IsBadBy}
+use Rattle.flow_merge.specs.Merging.{AreOfExport, AreRowRecords, FirstOther, FirstTooLarge, GivesExport, LosesNone, NoneLost, plan_of}
+use Rattle.flow_merge.specs.Merging.{IsDue as IsMergeDue}
+use Rattle.flow_merge.specs.RowSink.{HoldsAfter}
+use Rattle.flow_merge.specs.declared.merge_fault.MergeFault.{MergeFault}
+use Rattle.flow_merge.specs.declared.merge_fault.MergeFault.TheVariants.{OutOfMemory, SumTooLarge, Session, NotAnExport, Lost, Row}
+use Rattle.flow_merge.specs.declared.merging.Merging.{Merging}
+
+-- ---- counts that stop at the greatest number
+
+none_counted : (n m : ℕ) → n ≡ capped m → n ≡ 0 → m ≡ 0
+none_counted n m is none = omega (arith, is, none)
+
+none_told : (n m : ℕ) → n ≡ capped m → m ≡ 0 → n ≡ 0
+none_told n m is none = omega (arith, is, none)
+
+some_counted : (n m : ℕ) → n ≡ capped m → 0 < n → 0 < m
+some_counted n m is some = omega (arith, is, some)
+
+some_told : (n m : ℕ) → n ≡ capped m → 0 < m → 0 < n
+some_told n m is some = omega (arith, is, some)
+
+all_from_map : {X Y : Type 0} (P : Y → Type 0) (f : X → Y) (xs : List X) → All P (map f xs) → All (λ x. P (f x)) xs
+all_from_map P f [] all = All-nil (λ x. P (f x))
+all_from_map P f (x ∷ xs) all = All-cons (λ y. P (f y)) x xs (All-head P (f x) (map f xs) all) (all_from_map P f xs (All-tail P (f x) (map f xs) all))
+
+module _ (r : SessionReport) (ms : List Message) (n : ℕ) (reports : Reports r ms n) where
+  pub are_of_export : ReportsExport r → AreOfExport ms
+  are_of_export is =
+      record {
+        some = some_counted r.messages (length ms) reports.messages is.0;
+        skipped = none_counted r.skipped_sets (sum_by (λ m. m.decoding.skipped) ms) reports.skipped_sets is.1;
+        unknown = none_counted r.unknown_sets (sum_by (λ m. m.decoding.unknown) ms) reports.unknown_sets is.2;
+        ignored = none_counted r.ignored_withdrawals (sum_by (λ m. m.decoding.ignored) ms) reports.ignored_withdrawals is.3;
+      }
+
+  pub reports_export : AreOfExport ms → ReportsExport r
+  reports_export are = (
+    some_told r.messages (length ms) reports.messages are.some,
+    none_told r.skipped_sets (sum_by (λ m. m.decoding.skipped) ms) reports.skipped_sets are.skipped,
+    none_told r.unknown_sets (sum_by (λ m. m.decoding.unknown) ms) reports.unknown_sets are.unknown,
+    none_told r.ignored_withdrawals (sum_by (λ m. m.decoding.ignored) ms) reports.ignored_withdrawals are.ignored,
+  )
+
+  pub none_lost : ReportsNoLoss r → NoneLost ms
+  none_lost is = all_from_map LosesNone (domain_report ms) (domains_of ms) (subst (All LosesNone) reports.domains is)
+
+  pub reports_no_loss : NoneLost ms → ReportsNoLoss r
+  reports_no_loss none = subst (All LosesNone) (sym reports.domains) (All-map LosesNone (domain_report ms) (domains_of ms) none)
+
+-- ---- a session that its source's octets were given to
+
+module _ (limit : ℕ) (before after : SourceView) (r : SessionReport) (rs : List DataRecord) (given : IsGiven limit READ_SIZE before after r rs) where
+  -- without a fault all messages count
+  counted_all : r.fault ≡ None → given.counted ≡ (gives given.gave).messages
+  counted_all none = given.all (λ memory. let no : None ≡ Some (sessions.Message messages.OutOfMemory) = sym none ∙ memory in cc)
+
+  gave_none : r.fault ≡ None → Gave limit READ_SIZE before given.gave after None
+  gave_none none = subst (λ (fault : Option SessionFault). Gave limit READ_SIZE before given.gave after fault) none given.given
+
+  reports_all : r.fault ≡ None → Reports r (gives given.gave).messages (length rs)
+  reports_all none = subst (λ (ms : List Message). Reports r ms (length rs)) (counted_all none) given.report_is
+
+  records_all : r.fault ≡ None → rs ≡ records_of given.gave
+  records_all none = given.records_are ∙ ap records_in (counted_all none)
+
+  -- an export
+  pub gives_export : (plan : PlanValue) (rows : List RowValue) → IsWell r → AreRowRecords plan rs rows → GivesExport limit plan before after rows
+  gives_export plan rows well are =
+      record {
+        gave = given.gave;
+        given = gave_none well.no_fault;
+        export = record {
+          clean = (gave_none well.no_fault).fault_is_due.0;
+          messages = are_of_export r _ _ (reports_all well.no_fault) well.export;
+          none_lost = none_lost r _ _ (reports_all well.no_fault) well.no_loss;
+          records = subst (λ (l : List DataRecord). AreRowRecords plan l rows) (records_all well.no_fault) are;
+        };
+      }
+
+  -- the session's own fault
+  ended_early : (plan : PlanValue) (rows : List RowValue) (fault : SessionFault) → r.fault ≡ Some fault → IsMergeDue limit plan rows before after (Session fault)
+  ended_early plan rows sessions.SinkClosed is = absurd (given.not_closed is)
+  ended_early plan rows (sessions.Message e) is = (given.gave, subst (λ (o : Option SessionFault). Gave limit READ_SIZE before given.gave after o) is given.given)
+  ended_early plan rows sessions.Truncated is = (given.gave, subst (λ (o : Option SessionFault). Gave limit READ_SIZE before given.gave after o) is given.given)
+  ended_early plan rows sessions.ReadFailed is = (given.gave, subst (λ (o : Option SessionFault). Gave limit READ_SIZE before given.gave after o) is given.given)
+  ended_early plan rows sessions.TooManyReads is = (given.gave, subst (λ (o : Option SessionFault). Gave limit READ_SIZE before given.gave after o) is given.given)
+
+  -- what the report has against them
+  pub due_by_report : (plan : PlanValue) (rows : List RowValue) (fault : MergeFault) → IsBadBy r fault → IsMergeDue limit plan rows before after fault
+  due_by_report plan rows (Session fault) bad = ended_early plan rows fault bad
+  due_by_report plan rows NotAnExport bad = (given.gave, gave_none bad.0, λ are. bad.1 (reports_export r _ _ (reports_all bad.0) are))
+  due_by_report plan rows Lost bad = (given.gave, gave_none bad.0, λ none. bad.1 (reports_no_loss r _ _ (reports_all bad.0) none))
+  due_by_report plan rows OutOfMemory bad = absurd bad
+  due_by_report plan rows SumTooLarge bad = absurd bad
+  due_by_report plan rows (Row fault) bad = absurd bad
+
+  -- what its sink has against them
+  pub due_by_sink : (m : Merging) (plan : PlanValue) (rows : List RowValue) (fault : MergeFault) → r.fault ≡ None → HoldsAfter (Some fault) m rows rs → plan_of m ≡ plan → IsMergeDue limit plan rows before after fault
+  due_by_sink m plan rows OutOfMemory none h same = tt
+  due_by_sink m plan rows SumTooLarge none h same =
+      (given.gave, gave_none none, subst (λ (l : List DataRecord). FirstTooLarge plan rows l) (records_all none) (subst (λ (p : PlanValue). FirstTooLarge p rows rs) same h))
+  due_by_sink m plan rows (Row fault) none h same =
+      (given.gave, gave_none none, subst (λ (l : List DataRecord). FirstOther plan l fault) (records_all none) (subst (λ (p : PlanValue). FirstOther p rs fault) same h))
+  due_by_sink m plan rows (Session fault) none h same = absurd h
+  due_by_sink m plan rows NotAnExport none h same = absurd h
+  due_by_sink m plan rows Lost none h same = absurd h

@@ -1,0 +1,21 @@
+use Rattle.flow_merge.proofs.ExportsRead.{adds_export, due_report, due_row, same_plan}
+use Rattle.flow_merge.proofs.merging.Merging.read.Goals as goal
+
+pub returns-in_err-judge-clause-fault : goal.returns-in_err-judge-clause-fault
+returns-in_err-judge-clause-fault g c = λ rows stands.
+    due_report c.args.limit (g.S.Source.seen c.args.source.now) (g.S.Source.seen c.drive-report.new.source) c.drive-report.result c.args.self c.drive-report.new.sink c.drive-report.ensures
+    rows stands c.from_residual.result c.in_err-judge.field-0.0 c.in_err-judge.ensures.fault c.from_residual.ensures.1
+
+pub returns-in-Some-clause-fault : goal.returns-in-Some-clause-fault
+returns-in-Some-clause-fault g c = λ rows stands.
+    due_row c.args.limit (g.S.Source.seen c.args.source.now) (g.S.Source.seen c.drive-report.new.source) c.drive-report.result c.args.self c.drive-report.new.sink c.drive-report.ensures
+    rows stands c.in-Some.fault c.in_ok-judge.ensures.ok c.in-Some.is
+
+pub returns-in-None-clause-plan : goal.returns-in-None-clause-plan
+returns-in-None-clause-plan g c =
+    same_plan c.args.limit (g.S.Source.seen c.args.source.now) (g.S.Source.seen c.drive-report.new.source) c.drive-report.result c.args.self c.drive-report.new.sink c.drive-report.ensures
+
+pub returns-in-None-clause-ok : goal.returns-in-None-clause-ok
+returns-in-None-clause-ok g c = λ rows stands.
+    adds_export c.args.limit (g.S.Source.seen c.args.source.now) (g.S.Source.seen c.drive-report.new.source) c.drive-report.result c.args.self c.drive-report.new.sink c.drive-report.ensures
+    rows stands c.in_ok-judge.ensures.ok c.in-None.is
