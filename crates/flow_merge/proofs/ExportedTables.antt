@@ -3,11 +3,13 @@ use Rattle.std.proofs.Common.{◌≡◌, ℕ, ◌+◌, ◌*◌, ◌^◌, ◌<◌
 use Rattle.std.specs.Prelude.{sum_by}
 use Rattle.std.specs.List.{AllZip, range_with_len}
 use Rattle.std.proofs.lemmas.Bool.{cases_Bool, cond-false}
+use Rattle.std.proofs.lemmas.List.Sums.{sum_by-cons}
 use Rattle.std.proofs.lemmas.List.Elements.{All-nil, All-cons, All-head, All-tail}
 use Rattle.ipfix_elements.specs.declared.cell.Cell.{Cell}
 use Rattle.ipfix_message.specs.Domains.{Message}
 use Rattle.ipfix_message.specs.declared.record.DataRecord.{DataRecord}
-use Rattle.ipfix_session.specs.Given.{Given}
+use Rattle.ipfix_session.specs.Given.{Given, gives}
+use Rattle.ipfix_session.specs.Ledger.{capped, domain_report}
 use Rattle.flow_table.specs.AddedUp.{rows_in}
 use Rattle.flow_table.specs.Fitting.{FitsPlan, FitsRow}
 use Rattle.flow_table.specs.Plans.{PlanValue}
@@ -23,9 +25,10 @@ use Rattle.flow_export_laws.proofs.Hundreds.{read_hundred, read_all, text_gives}
 use Rattle.flow_export_laws.proofs.ReadAll.{read_all_back}
 use Rattle.flow_export_laws.proofs.Room.{CanBeWritten}
 use Rattle.flow_export_laws.proofs.Tables.{can_be_exported}
-use Rattle.flow_merge.specs.Merging.{AreOfExport, AreRowRecords, IsExport, IsExportOf}
+use Rattle.flow_merge.specs.Merging.{AreOfExport, AreRowRecords, IsExport, IsExportOf, LosesNone}
 use Rattle.flow_merge.specs.RowRecords.{AreProjected, IsRowOf, IsRowRecord}
 use Rattle.flow_merge.proofs.PrefixBits.{cells_projected}
+use Rattle.flow_merge.proofs.Reported.{nothing_is}
 
 -- ---- the rows
 
@@ -79,26 +82,30 @@ own_records plan time (row ∷ rows) are = (own_record plan time row (All-head (
 
 none_over : {X : Type 0} (f : Message → ℕ) (g : X → Message) (xs : List X) → ((x : X) → f (g x) ≡ 0) → sum_by f (map g xs) ≡ 0
 none_over f g [] none = refl
-none_over f g (x ∷ xs) none = omega (arith, none x, none_over f g xs none)
+none_over f g (x ∷ xs) none =
+    omega (arith, sum_by-cons f (g x) (map g xs), none x, none_over f g xs none)
 
 all_of_export : (plan : PlanValue) (time : ℕ) (rows : List RowValue) → AreOfExport (read_all plan time rows)
 all_of_export plan time rows =
-    let places = range_with_len 0 (message_count rows) in
+    let none = λ (f : Message → ℕ) (each : (i : ℕ) → f (read_hundred plan time rows i) ≡ 0). ap capped (none_over f (read_hundred plan time rows) (range_with_len 0 (message_count rows)) each) in
     record {
       some = omega arith;
-      skipped = none_over (λ m. m.decoding.skipped) (read_hundred plan time rows) places (λ i. refl);
-      unknown = none_over (λ m. m.decoding.unknown) (read_hundred plan time rows) places (λ i. refl);
-      ignored = none_over (λ m. m.decoding.ignored) (read_hundred plan time rows) places (λ i. refl);
+      whole = nothing_is _ _ _ (none (λ m. m.decoding.passed_over.skipped_sets) (λ i. refl)) (none (λ m. m.decoding.passed_over.unknown_sets) (λ i. refl)) (none (λ m. m.decoding.passed_over.ignored_withdrawals) (λ i. refl));
     }
+
+each_one : {X : Type 0} {P : X → Type 0} → ((x : X) → P x) → (xs : List X) → All P xs
+each_one {P} each [] = All-nil P
+each_one {P} each (x ∷ xs) = All-cons P x xs (each x) (each_one each xs)
 
 text_is_export : (plan : PlanValue) (time : ℕ) (rows : List RowValue) → CanBeExported plan time rows → All (IsRowOf plan) rows → IsExport plan (ipfix_text plan time rows) rows
 text_is_export plan time rows export are =
     let can : CanBeWritten plan time rows = record { room = has_room plan export.is_plan; small_time = export.small_time; few = export.few; fit = export.fit } in
     let back = read_all_back plan time rows export in
+    let each : (domain : ℕ) → LosesNone (domain_report (gives (ipfix_text plan time rows)).messages domain) = λ domain. (back.lost domain, back.backward domain) in
     record {
       clean = back.stop;
       messages = subst AreOfExport (sym (ap (λ (g : Given). g.messages) (text_gives plan time rows can))) (all_of_export plan time rows);
-      none_lost = λ i domain inside. (back.lost domain, back.backward domain);
+      none_lost = each_one each _;
       records = subst (λ (l : List DataRecord). AreRowRecords plan l rows) (sym back.records) (own_records plan time rows are);
     }
 

@@ -124,7 +124,7 @@ module _ (limit : ℕ) (before after : SourceView) (at_end : after.ended ≡ tru
   own_fault rows OutOfMemory due = tt
   own_fault rows (Session fault) due = session_fault rows fault due
   own_fault rows NotAnExport due = absurd (due.2 (subst (λ (w : List ℕ). AreOfExport (gives w).messages) (sym (whole due.0 due.1)) is_export.messages))
-  own_fault rows Lost due = absurd (due.2 (subst (λ (w : List ℕ). NoneLost (gives w).messages) (sym (whole due.0 due.1)) is_export.none_lost))
-  own_fault rows (Row fault) due = absurd (no_other plan (records_of holds.text) own fault is_export.records (subst (λ (w : List ℕ). FirstOther plan (records_of w) fault) (whole due.0 due.1) due.2))
+  own_fault rows Lost due = absurd (due.2.1 (subst (λ (w : List ℕ). NoneLost (gives w).messages) (sym (whole due.0 due.1)) is_export.none_lost))
+  own_fault rows (Row fault) due = absurd (no_other plan (records_of holds.text) own fault is_export.records (subst (λ (w : List ℕ). FirstOther plan (records_of w) fault) (whole due.0 due.1) due.2.2))
   own_fault rows SumTooLarge due =
-      all_too_large plan rows own (records_of holds.text) holds.export.is_plan is_export.records (subst (λ (w : List ℕ). FirstTooLarge plan rows (records_of w)) (whole due.0 due.1) due.2)
+      all_too_large plan rows own (records_of holds.text) holds.export.is_plan is_export.records (subst (λ (w : List ℕ). FirstTooLarge plan rows (records_of w)) (whole due.0 due.1) due.2.2)

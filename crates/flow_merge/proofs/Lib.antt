@@ -4,3 +4,6 @@ pub mod ExportsRead
 pub mod PrefixBits
 pub mod ExportedTables
 pub mod MergedRows
+pub mod RowLaws
+pub mod HeldExports
+pub mod MergesOn

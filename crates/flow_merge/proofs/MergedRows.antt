@@ -1,5 +1,5 @@
 -- Rows of a plan, added up, fit the plan.
-use Rattle.std.proofs.Common.{◌≡◌, ℕ, ◌*◌, ◌^◌, ◌<◌, ◌≤◌, List, [], ◌∷◌, length, map, All, Option, Some, None, refl, sym, ap, ◌∙◌, subst, inl, inr}
+use Rattle.std.proofs.Common.{◌≡◌, ℕ, suc, ◌*◌, ◌^◌, ◌<◌, ◌≤◌, List, [], ◌∷◌, length, map, All, Option, Some, None, refl, sym, ap, ◌∙◌, subst, inl, inr}
 use Rattle.std.specs.List.Sorted.{IsStrictlySortedBy}
 use Rattle.std.proofs.lemmas.Bool.{cases_lt}
 use Rattle.std.proofs.lemmas.List.Elements.{All-nil, All-cons, All-head, All-tail}
@@ -20,7 +20,7 @@ use Rattle.flow_merge.specs.RowRecords.{IsRowOf}
 length-added : (xs ys : List ℕ) → length (added xs ys) ≡ length xs
 length-added [] ys = refl
 length-added (x ∷ xs) [] = refl
-length-added (x ∷ xs) (y ∷ ys) = ap (λ (n : ℕ). n + 1) (length-added xs ys)
+length-added (x ∷ xs) (y ∷ ys) = ap suc (length-added xs ys)
 
 none_large : (sums : List ℕ) → (HasLarge sums → ⊥) → All (λ sum. sum < 2 ^ 64) sums
 none_large [] small = All-nil (λ sum. sum < 2 ^ 64)

@@ -1,9 +1,10 @@
 -- What a report that tells nothing bad says of the octets that its session was given.
 use Rattle.std.proofs.Common.{◌≡◌, ℕ, ◌+◌, ◌^◌, ◌<◌, ◌≤◌, List, [], ◌∷◌, length, map, All, Option, Some, None, refl, sym, ap, ◌∙◌, subst, arith}
-use Rattle.std.specs.Prelude.{◌≢◌, sum_by}
+use Rattle.std.specs.Prelude.{◌≢◌}
 use Rattle.std.proofs.lemmas.List.Elements.{All-nil, All-cons, All-head, All-tail, All-map}
 use Rattle.ipfix_message.specs.Domains.{Message}
 use Rattle.ipfix_message.specs.declared.fault.MessageFault.TheVariants as messages
+use Rattle.ipfix_message.specs.declared.passed_over.PassedOver.{PassedOver}
 use Rattle.ipfix_message.specs.declared.record.DataRecord.{DataRecord}
 use Rattle.ipfix_session.specs.Drives.{Gave, IsDue, IsGiven}
 use Rattle.ipfix_session.specs.Given.{gives, records_in, records_of, stop_of}
@@ -19,7 +20,7 @@ use Rattle.ipfix_session.specs.declared.stop.Stop.TheVariants.{Clean}
 use Rattle.flow_table.specs.Plans.{PlanValue}
 use Rattle.flow_table.specs.SameTables.{RowValue}
 use Rattle.flow_merge.specs.Judged.{ReportsExport, ReportsNoLoss, IsWell, IsBadBy}
-use Rattle.flow_merge.specs.Merging.{AreOfExport, AreRowRecords, FirstOther, FirstTooLarge, GivesExport, LosesNone, NoneLost, plan_of}
+use Rattle.flow_merge.specs.Merging.{AreOfExport, AreRowRecords, FirstOther, FirstTooLarge, GivesExport, LosesNone, NoneLost, nothing, plan_of}
 use Rattle.flow_merge.specs.Merging.{IsDue as IsMergeDue}
 use Rattle.flow_merge.specs.RowSink.{HoldsAfter}
 use Rattle.flow_merge.specs.declared.merge_fault.MergeFault.{MergeFault}
@@ -28,17 +29,14 @@ use Rattle.flow_merge.specs.declared.merging.Merging.{Merging}
 
 -- ---- counts that stop at the greatest number
 
-none_counted : (n m : ℕ) → n ≡ capped m → n ≡ 0 → m ≡ 0
-none_counted n m is none = omega (arith, is, none)
-
-none_told : (n m : ℕ) → n ≡ capped m → m ≡ 0 → n ≡ 0
-none_told n m is none = omega (arith, is, none)
-
 some_counted : (n m : ℕ) → n ≡ capped m → 0 < n → 0 < m
 some_counted n m is some = omega (arith, is, some)
 
 some_told : (n m : ℕ) → n ≡ capped m → 0 < m → 0 < n
 some_told n m is some = omega (arith, is, some)
+
+pub nothing_is : (skipped unknown ignored : ℕ) → skipped ≡ 0 → unknown ≡ 0 → ignored ≡ 0 → record { skipped_sets = skipped; unknown_sets = unknown; ignored_withdrawals = ignored } ≡ nothing
+nothing_is skipped unknown ignored h i j = rw (h, i, j) refl
 
 all_from_map : {X Y : Type 0} (P : Y → Type 0) (f : X → Y) (xs : List X) → All P (map f xs) → All (λ x. P (f x)) xs
 all_from_map P f [] all = All-nil (λ x. P (f x))
@@ -49,18 +47,17 @@ module _ (r : SessionReport) (ms : List Message) (n : ℕ) (reports : Reports r 
   are_of_export is =
       record {
         some = some_counted r.messages (length ms) reports.messages is.0;
-        skipped = none_counted r.skipped_sets (sum_by (λ m. m.decoding.skipped) ms) reports.skipped_sets is.1;
-        unknown = none_counted r.unknown_sets (sum_by (λ m. m.decoding.unknown) ms) reports.unknown_sets is.2;
-        ignored = none_counted r.ignored_withdrawals (sum_by (λ m. m.decoding.ignored) ms) reports.ignored_withdrawals is.3;
+        whole = sym reports.passed_over ∙ nothing_is r.skipped_sets r.unknown_sets r.ignored_withdrawals is.1 is.2 is.3;
       }
 
   pub reports_export : AreOfExport ms → ReportsExport r
-  reports_export are = (
-    some_told r.messages (length ms) reports.messages are.some,
-    none_told r.skipped_sets (sum_by (λ m. m.decoding.skipped) ms) reports.skipped_sets are.skipped,
-    none_told r.unknown_sets (sum_by (λ m. m.decoding.unknown) ms) reports.unknown_sets are.unknown,
-    none_told r.ignored_withdrawals (sum_by (λ m. m.decoding.ignored) ms) reports.ignored_withdrawals are.ignored,
-  )
+  reports_export are =
+      let is = reports.passed_over ∙ are.whole in (
+        some_told r.messages (length ms) reports.messages are.some,
+        ap (λ (p : PassedOver). p.skipped_sets) is,
+        ap (λ (p : PassedOver). p.unknown_sets) is,
+        ap (λ (p : PassedOver). p.ignored_withdrawals) is,
+      )
 
   pub none_lost : ReportsNoLoss r → NoneLost ms
   none_lost is = all_from_map LosesNone (domain_report ms) (domains_of ms) (subst (All LosesNone) reports.domains is)
@@ -110,18 +107,25 @@ module _ (limit : ℕ) (before after : SourceView) (r : SessionReport) (rs : Lis
   pub due_by_report : (plan : PlanValue) (rows : List RowValue) (fault : MergeFault) → IsBadBy r fault → IsMergeDue limit plan rows before after fault
   due_by_report plan rows (Session fault) bad = ended_early plan rows fault bad
   due_by_report plan rows NotAnExport bad = (given.gave, gave_none bad.0, λ are. bad.1 (reports_export r _ _ (reports_all bad.0) are))
-  due_by_report plan rows Lost bad = (given.gave, gave_none bad.0, λ none. bad.1 (reports_no_loss r _ _ (reports_all bad.0) none))
+  due_by_report plan rows Lost bad = (given.gave, gave_none bad.0, (are_of_export r _ _ (reports_all bad.0) bad.1, λ none. bad.2 (reports_no_loss r _ _ (reports_all bad.0) none)))
   due_by_report plan rows OutOfMemory bad = absurd bad
   due_by_report plan rows SumTooLarge bad = absurd bad
   due_by_report plan rows (Row fault) bad = absurd bad
 
   -- what its sink has against them
-  pub due_by_sink : (m : Merging) (plan : PlanValue) (rows : List RowValue) (fault : MergeFault) → r.fault ≡ None → HoldsAfter (Some fault) m rows rs → plan_of m ≡ plan → IsMergeDue limit plan rows before after fault
-  due_by_sink m plan rows OutOfMemory none h same = tt
-  due_by_sink m plan rows SumTooLarge none h same =
-      (given.gave, gave_none none, subst (λ (l : List DataRecord). FirstTooLarge plan rows l) (records_all none) (subst (λ (p : PlanValue). FirstTooLarge p rows rs) same h))
-  due_by_sink m plan rows (Row fault) none h same =
-      (given.gave, gave_none none, subst (λ (l : List DataRecord). FirstOther plan l fault) (records_all none) (subst (λ (p : PlanValue). FirstOther p rs fault) same h))
-  due_by_sink m plan rows (Session fault) none h same = absurd h
-  due_by_sink m plan rows NotAnExport none h same = absurd h
-  due_by_sink m plan rows Lost none h same = absurd h
+  module _ (m : Merging) (plan : PlanValue) (rows : List RowValue) (well : IsWell r) (same : plan_of m ≡ plan) where
+    whole : AreOfExport (gives given.gave).messages
+    whole = are_of_export r _ _ (reports_all well.no_fault) well.export
+
+    lossless : NoneLost (gives given.gave).messages
+    lossless = none_lost r _ _ (reports_all well.no_fault) well.no_loss
+
+    pub due_by_sink : (fault : MergeFault) → HoldsAfter (Some fault) m rows rs → IsMergeDue limit plan rows before after fault
+    due_by_sink OutOfMemory h = tt
+    due_by_sink SumTooLarge h =
+        (given.gave, gave_none well.no_fault, (whole, lossless, subst (λ (l : List DataRecord). FirstTooLarge plan rows l) (records_all well.no_fault) (subst (λ (p : PlanValue). FirstTooLarge p rows rs) same h)))
+    due_by_sink (Row fault) h =
+        (given.gave, gave_none well.no_fault, (whole, lossless, subst (λ (l : List DataRecord). FirstOther plan l fault) (records_all well.no_fault) (subst (λ (p : PlanValue). FirstOther p rs fault) same h)))
+    due_by_sink (Session fault) h = absurd h
+    due_by_sink NotAnExport h = absurd h
+    due_by_sink Lost h = absurd h

@@ -20,7 +20,8 @@ use Rattle.flow_merge.specs.declared.merge_fault.MergeFault.{MergeFault}
 use Rattle.flow_merge.specs.declared.merge_fault.MergeFault.TheVariants.{OutOfMemory, SumTooLarge, Session, NotAnExport, Lost, Row}
 use Rattle.flow_merge.specs.declared.merging.Merging.{Merging}
 use Rattle.flow_merge.specs.declared.row_sink.RowSink.{RowSink}
-use Rattle.flow_merge.specs.Merging.{AreRowRecords, FirstOther, FirstTooLarge, StandsFor, plan_of, fault_of_row, fault_of_table}
+use Rattle.flow_merge.specs.Merging.{AreRowRecords, FirstOther, FirstTooLarge, StandsFor, plan_of}
+use Rattle.flow_merge.specs.MergeFaults.{fault_of_row, fault_of_table}
 use Rattle.flow_merge.specs.RowSink.{HoldsAfter, TakesRecord}
 
 -- one place more

@@ -5,7 +5,7 @@ use Rattle.flow_merge.specs.declared.merge_fault.MergeFault.{MergeFault}
 use Rattle.flow_merge.specs.declared.merge_fault.MergeFault.TheVariants.{OutOfMemory, SumTooLarge, Session, NotAnExport, Lost, Row}
 use Rattle.flow_merge.specs.Merging.{LosesNone}
 
--- there were messages, and nothing was read over
+-- there were messages, and nothing was passed over
 abbrev pub ReportsExport : SessionReport → Type 0
 ReportsExport r = (0 < r.messages) × (r.skipped_sets ≡ 0) × (r.unknown_sets ≡ 0) × (r.ignored_withdrawals ≡ 0)
 
@@ -22,7 +22,7 @@ pub record IsWell (r : SessionReport) : Type 0 where
 abbrev pub IsBadBy : SessionReport → MergeFault → Type 0
 IsBadBy r (Session fault) = r.fault ≡ Some fault
 IsBadBy r NotAnExport = (r.fault ≡ None) × (ReportsExport r → ⊥)
-IsBadBy r Lost = (r.fault ≡ None) × (ReportsNoLoss r → ⊥)
+IsBadBy r Lost = (r.fault ≡ None) × ReportsExport r × (ReportsNoLoss r → ⊥)
 IsBadBy r OutOfMemory = ⊥
 IsBadBy r SumTooLarge = ⊥
 IsBadBy r (Row fault) = ⊥

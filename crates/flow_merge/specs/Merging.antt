@@ -1,9 +1,10 @@
 -- Exports of tables, as they are read, and their rows added up.
-use Rattle.std.specs.Prelude.{◌≡◌, ◌≢◌, ℕ, ◌^◌, ◌<◌, List, ◌∷◌, ◌++◌, length, sum_by, flat_map, All, None, Some}
+use Rattle.std.specs.Prelude.{◌≡◌, ◌≢◌, ℕ, ◌^◌, ◌<◌, List, ◌∷◌, ◌++◌, length, flat_map, All, None, Some}
 use Rattle.std.specs.List.{AllZip}
 use Rattle.ipfix_message.specs.Domains.{Message}
 use Rattle.ipfix_message.specs.declared.record.DataRecord.{DataRecord}
 use Rattle.ipfix_message.specs.declared.fault.MessageFault.TheVariants as messages
+use Rattle.ipfix_message.specs.declared.passed_over.PassedOver.{PassedOver}
 use Rattle.ipfix_session.specs.declared.driver.TheConstants.{READ_SIZE}
 use Rattle.ipfix_session.specs.declared.fault.SessionFault.TheVariants as sessions
 use Rattle.ipfix_session.specs.declared.stop.Stop.TheVariants.{Clean}
@@ -11,6 +12,7 @@ use Rattle.ipfix_session.specs.declared.report.DomainReport.{DomainReport}
 use Rattle.ipfix_session.specs.Drives.{Gave}
 use Rattle.ipfix_session.specs.Given.{gives, records_of, stop_of}
 use Rattle.ipfix_session.specs.Ledger.{domain_report, domains_of}
+use Rattle.ipfix_session.specs.Reports.{passed_over_in}
 use Rattle.ipfix_session.specs.Sources.{SourceView}
 use Rattle.flow_table.specs.AddedUp.{rows_in, AddUpTooLarge}
 use Rattle.flow_table.specs.Fitting.{FitsPlan}
@@ -19,8 +21,6 @@ use Rattle.flow_table.specs.RowTotals.{AreOf}
 use Rattle.flow_table.specs.SameTables.{RowValue}
 use Rattle.flow_table.specs.Tables.{tally_of, IsTable}
 use Rattle.flow_table.specs.declared.table.Table.{Table}
-use Rattle.flow_table.specs.declared.table_fault.TableFault.{TableFault}
-use Rattle.flow_table.specs.declared.table_fault.TableFault.TheVariants as tables
 use Rattle.flow_export.specs.IpfixText.{ipfix_text}
 use Rattle.flow_merge.specs.RowRecords.{IsRowOf, IsRowRecord}
 use Rattle.flow_merge.specs.RowFaults.{IsRowFault}
@@ -32,13 +32,14 @@ use Rattle.flow_merge.specs.declared.merging.Merging.{Merging}
 
 -- ---- an export
 
--- there are messages, and nothing of them is read over: no set whose id has no meaning, no data set without a template in
--- force, and no withdrawal of a template that isn't
+-- nothing is passed over
+abbrev pub nothing : PassedOver
+nothing = record { skipped_sets = 0; unknown_sets = 0; ignored_withdrawals = 0 }
+
+-- there are messages, of which nothing is passed over: no set, and no withdrawal
 pub record AreOfExport (ms : List Message) : Type 0 where
   pub some : 0 < length ms
-  pub skipped : sum_by (λ m. m.decoding.skipped) ms ≡ 0
-  pub unknown : sum_by (λ m. m.decoding.unknown) ms ≡ 0
-  pub ignored : sum_by (λ m. m.decoding.ignored) ms ≡ 0
+  pub whole : passed_over_in ms ≡ nothing
 
 -- the sequence numbers count on (RFC 7011, section 3.1): no data record is missing, and none comes twice
 abbrev pub LosesNone : DomainReport → Type 0
@@ -51,7 +52,7 @@ NoneLost ms = All (λ domain. LosesNone (domain_report ms domain)) (domains_of m
 abbrev pub AreRowRecords : PlanValue → List DataRecord → List RowValue → Type 0
 AreRowRecords plan rs rows = AllZip (IsRowRecord plan) rs rows
 
--- octets that are an export of these rows: whole messages without a fault, of which nothing is read over and nothing is
+-- octets that are an export of these rows: whole messages without a fault, of which nothing is passed over and nothing is
 -- lost, and all of whose records are the rows
 pub record IsExport (plan : PlanValue) (text : List ℕ) (rows : List RowValue) : Type 0 where
   pub clean : stop_of text ≡ Clean
@@ -87,12 +88,12 @@ pub record FirstOther (plan : PlanValue) (rs : List DataRecord) (fault : RowFaul
   pub other : IsRowFault plan next fault
   pub not_memory : fault ≢ faults.OutOfMemory
 
--- what whole messages say against their being added to rows
+-- the first thing that whole messages say against their being added to rows
 abbrev pub IsAgainst : PlanValue → List RowValue → List ℕ → MergeFault → Type 0
 IsAgainst plan before gave NotAnExport = AreOfExport (gives gave).messages → ⊥
-IsAgainst plan before gave Lost = NoneLost (gives gave).messages → ⊥
-IsAgainst plan before gave (Row fault) = FirstOther plan (records_of gave) fault
-IsAgainst plan before gave SumTooLarge = FirstTooLarge plan before (records_of gave)
+IsAgainst plan before gave Lost = AreOfExport (gives gave).messages × (NoneLost (gives gave).messages → ⊥)
+IsAgainst plan before gave (Row fault) = AreOfExport (gives gave).messages × NoneLost (gives gave).messages × FirstOther plan (records_of gave) fault
+IsAgainst plan before gave SumTooLarge = AreOfExport (gives gave).messages × NoneLost (gives gave).messages × FirstTooLarge plan before (records_of gave)
 IsAgainst plan before gave (Session fault) = ⊥
 IsAgainst plan before gave OutOfMemory = ⊥
 
@@ -140,6 +141,10 @@ pub record HoldsExport (plan : PlanValue) (source : SourceView) (rs : List DataR
   pub table : Table
   pub export : IsExportOf plan rs table text
 
+-- each source holds the export of the table of one of the lists, in their order
+abbrev pub AreExportsOf : {S : Type 0} → (S → SourceView) → PlanValue → List S → List (List DataRecord) → Type 0
+AreExportsOf seen plan sources lists = AllZip (λ source rs. HoldsExport plan (seen source) rs) sources lists
+
 -- the faults of an export: memory ran out, a read failed, more reads would have been needed, or sums are too large
 abbrev pub IsExportFault : Type 0 → MergeFault → Type 0
 IsExportFault large OutOfMemory = Unit {0}
@@ -156,13 +161,3 @@ HasRowsOf plan rs table = IsTable plan rs (record table { tally = tally_of plan 
 -- all records of some lists
 abbrev pub all_of : List (List DataRecord) → List DataRecord
 all_of lists = flat_map (λ rs. rs) lists
-
--- ---- other faults
-
-abbrev pub fault_of_row : RowFault → MergeFault
-fault_of_row faults.OutOfMemory = OutOfMemory
-fault_of_row fault = Row fault
-
-abbrev pub fault_of_table : TableFault → MergeFault
-fault_of_table tables.OutOfMemory = OutOfMemory
-fault_of_table tables.SumTooLarge = SumTooLarge

@@ -8,7 +8,7 @@ use crate::merge_fault::MergeFault;
 use ipfix_session::{DomainReport, SessionReport};
 
 /// Answers whether a session's octets can be a whole export: it has no fault, it had messages, of which
-/// nothing was read over, and in none of its domains a record is missing. The fault is the first that
+/// nothing was passed over, and in none of its domains a record is missing. The fault is the first that
 /// fits, in this order.
 pub fn judge(report: &SessionReport) -> Result<(), MergeFault>
     ensures ok { OnOk result (IsWell report.now) }
@@ -26,7 +26,7 @@ pub fn judge(report: &SessionReport) -> Result<(), MergeFault>
     Ok(())
 }
 
-// Whether there were messages, and nothing of them was read over.
+// Whether there were messages, and nothing of them was passed over.
 fn is_of_export(report: &SessionReport) -> bool
     ensures { IsTrue result ↔ ReportsExport report.now }
 {

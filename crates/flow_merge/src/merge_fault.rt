@@ -1,7 +1,8 @@
 //! Why exports were not merged.
 
-ghost use Rattle.flow_merge.specs.declared.merge_fault.MergeFault.TheVariants.{OutOfMemory};
 ghost use Rattle.std.specs.Prelude.{◌≡◌};
+ghost use Rattle.flow_merge.specs.MergeFaults.{number_of, name_of};
+ghost use Rattle.flow_merge.specs.declared.merge_fault.MergeFault.TheVariants.{OutOfMemory};
 
 use crate::row_fault::RowFault;
 use flow_table::TableFault;
@@ -32,6 +33,36 @@ pub enum MergeFault {
     Row(RowFault),
 }
 
+impl MergeFault {
+    /// The number that reports give for the fault.
+    pub fn number(&self) -> u8
+        ensures { result ≡ number_of self.now }
+    {
+        match self {
+            MergeFault::OutOfMemory => 1,
+            MergeFault::SumTooLarge => 2,
+            MergeFault::Session(_) => 3,
+            MergeFault::NotAnExport => 4,
+            MergeFault::Lost => 5,
+            MergeFault::Row(_) => 6,
+        }
+    }
+
+    /// The name that reports give for the fault.
+    pub fn name(&self) -> &'static str
+        ensures { result.now ≡ name_of self.now }
+    {
+        match self {
+            MergeFault::OutOfMemory => "OutOfMemory",
+            MergeFault::SumTooLarge => "SumTooLarge",
+            MergeFault::Session(_) => "Session",
+            MergeFault::NotAnExport => "NotAnExport",
+            MergeFault::Lost => "Lost",
+            MergeFault::Row(_) => "Row",
+        }
+    }
+}
+
 impl From<AllocError> for MergeFault {
     ghost from_gives = { λ _ e. e ≡ OutOfMemory };
 
@@ -41,7 +72,7 @@ impl From<AllocError> for MergeFault {
 }
 
 impl From<RowFault> for MergeFault {
-    ghost use Rattle.flow_merge.specs.Merging.{fault_of_row};
+    ghost use Rattle.flow_merge.specs.MergeFaults.{fault_of_row};
 
     ghost from_gives = { λ fault e. e ≡ fault_of_row fault };
 
@@ -54,7 +85,7 @@ impl From<RowFault> for MergeFault {
 }
 
 impl From<TableFault> for MergeFault {
-    ghost use Rattle.flow_merge.specs.Merging.{fault_of_table};
+    ghost use Rattle.flow_merge.specs.MergeFaults.{fault_of_table};
 
     ghost from_gives = { λ fault e. e ≡ fault_of_table fault };
 

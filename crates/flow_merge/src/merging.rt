@@ -1,6 +1,6 @@
 //! Exports of tables, read one after another, and their rows added up.
 
-ghost use Rattle.std.specs.Prelude.{◌≡◌, ◌++◌, ◌∷◌, [], flat_map, None, List, IfOk, IfErr};
+ghost use Rattle.std.specs.Prelude.{◌≡◌, ◌++◌, ◌∷◌, [], flat_map, None, List, IfOk, IfErr, MatchResult};
 ghost use Rattle.std.specs.List.{AllZip};
 ghost use Rattle.std.specs.Result.{result_err};
 ghost use Rattle.ipfix_message.specs.declared.record.DataRecord.{DataRecord};
@@ -9,7 +9,7 @@ ghost use Rattle.flow_table.specs.Fitting.{FitsPlan};
 ghost use Rattle.flow_table.specs.SameTables.{RowValue};
 ghost use Rattle.flow_table.specs.Tables.{IsTable};
 ghost use Rattle.flow_table.specs.declared.table.Table.{Table as TableValue};
-ghost use Rattle.flow_merge.specs.Merging.{all_of, plan_of, AddsExport, HasRowsOf, IsDue, StandsFor};
+ghost use Rattle.flow_merge.specs.Merging.{all_of, plan_of, AddsExport, HasRowsOf, HoldsExport, IsDue, IsExportFault, StandsFor};
 ghost use Rattle.flow_merge.specs.RowSink.{HoldsAfter};
 ghost use Rattle.flow_merge.specs.declared.merge_fault.MergeFault.TheVariants.{OutOfMemory};
 
@@ -57,11 +57,20 @@ impl Merging {
         Ok(())
     }
 
-    /// Reads an export to its end, in at most `limit` reads, and adds its rows.
+    /// Reads an export of a table under the plan to its end, in at most `limit` reads, and adds its rows.
+    ///
+    /// The fault is the first of these that fits. `Session`: the session of the octets ended early. Then
+    /// `NotAnExport`: they have no message, or a set or a withdrawal of theirs was passed over. Then
+    /// `Lost`: their sequence numbers don't count on (RFC 7011, section 3.1). Then, for the first record
+    /// that can't be added, `Row` with what is wrong with it, or `SumTooLarge` if a sum or a number of
+    /// flows would be 2^64 or more with its row. `OutOfMemory` may come in place of the last two.
     pub fn read<S: Source>(self, source: &mut S, limit: u64) -> Result<Merging, MergeFault>
         ensures plan { IfOk result (λ m. plan_of m ≡ plan_of self) }
         ensures ok { (rows : List RowValue) → StandsFor self rows → IfOk result (AddsExport limit self (S.seen source.old) (S.seen source.new) rows) }
         ensures fault { (rows : List RowValue) → StandsFor self rows → IfErr result (IsDue limit (plan_of self) rows (S.seen source.old) (S.seen source.new)) }
+        // The export of a table is added whole. It has none of these faults, but that sums are too large.
+        ensures export { (rows : List RowValue) (rs : List DataRecord) (holds : HoldsExport (plan_of self) (S.seen source.old) rs) → StandsFor self rows
+            → MatchResult result (λ m. StandsFor m (rows ++ rows_in holds.table)) (IsExportFault (AddUpTooLarge (rows ++ rows_in holds.table))) }
     {
         let alloc = self.alloc;
         let mut sink = RowSink {

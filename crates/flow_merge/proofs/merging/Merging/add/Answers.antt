@@ -1,6 +1,7 @@
 use Rattle.std.proofs.Common.{◌++◌, ◌∷◌, [], refl}
 use Rattle.flow_table.specs.SameTables.{value_of}
-use Rattle.flow_merge.specs.Merging.{StandsFor, fault_of_row, fault_of_table, plan_of}
+use Rattle.flow_merge.specs.Merging.{StandsFor, plan_of}
+use Rattle.flow_merge.specs.MergeFaults.{fault_of_row, fault_of_table}
 use Rattle.flow_merge.specs.RowSink.{HoldsAfter}
 use Rattle.flow_merge.proofs.RowsRead.{behind_more, other_holds, large_holds, err_is}
 use Rattle.flow_merge.proofs.merging.Merging.add.Goals as goal
