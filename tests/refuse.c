@@ -1,11 +1,11 @@
 // A library to preload: it refuses calls of the program that it is loaded into.
 //
 // REFUSE=5 refuses the fifth call that asks for memory, REFUSE=5.. that one and all after it, whatever thread makes it;
-// what the system's libraries ask for counts, too. With REFUSE_WHAT=reads, writes, threads or limits calls that read,
-// write, start a thread or set an option of a socket, as its limits are, fail in place of those. With REFUSE_WHAT=octets
-// nothing fails, and each read and write moves one octet. With REFUSE_WHAT=interruptions every other call that reads,
-// writes or accepts a connection is interrupted. Each time a letter is written to descriptor 9, if that is open. A program
-// that still runs after twenty seconds gets SIGALRM.
+// what the system's libraries ask for counts, too. With REFUSE_WHAT=reads, writes, threads, accepts or limits calls
+// that read, write, start a thread, accept a connection or set an option of a socket, as its limits are, fail in place of
+// those. With REFUSE_WHAT=octets nothing fails, and each read and write moves one octet. With REFUSE_WHAT=interruptions
+// every other call that reads, writes or accepts a connection is interrupted. Each time a letter is written to descriptor
+// 9, if that is open. A program that still runs after twenty seconds gets SIGALRM.
 //
 // The toolchain's clang builds it, and has no headers, so that all that is called is declared here.
 
@@ -101,7 +101,7 @@ long write(int to, const void *from, size_t size) {
 long __write(int to, const void *from, size_t size) { return write(to, from, size); }
 
 int accept4(int listener, void *peer, void *size, int flags) {
-  return is_interrupted() ? -1 : (int)syscall(ACCEPT, listener, peer, size, flags);
+  return is_refused('a', DEVICE) || is_interrupted() ? -1 : (int)syscall(ACCEPT, listener, peer, size, flags);
 }
 
 int setsockopt(int of, int level, int option, const void *value, unsigned size) {

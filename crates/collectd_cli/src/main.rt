@@ -9,6 +9,7 @@ use collectd::{
     DumpFault, Output, Status, load_plan, run_dump, run_files, run_merge, run_tcp,
     write_dump_fault, write_export_fault,
 };
+use fault_guide::run_explain;
 use flow_collect::Pool;
 use flow_export::{ExportFault, Format};
 use flow_table::Plan;
@@ -54,6 +55,7 @@ fn run<R: Files<File = File> + Threads + Wait + Sync>(
             Some(("files", chosen)) => files(threads, rt, chosen),
             Some(("tcp", chosen)) => tcp(threads, rt, chosen),
             Some(("merge", chosen)) => merge(rt, chosen),
+            Some(("explain", chosen)) => explain(rt, chosen),
             _ => COMMAND_LINE,
         }),
         Err(error) => Ok(show(rt, &error)),
@@ -234,5 +236,14 @@ fn tcp<R: Threads + Wait + Sync>(threads: &R, rt: &HostRuntime, chosen: &ArgMatc
         job.output,
         &mut out,
         &mut err,
+    )
+}
+
+// `collectd explain`: what is told of a fault, or the list of all, to standard output.
+fn explain(rt: &HostRuntime, chosen: &ArgMatches) -> u8 {
+    run_explain(
+        chosen.get_str("fault"),
+        &mut rt.stdout(),
+        &mut rt.stderr(),
     )
 }

@@ -22,7 +22,8 @@ fn command<'a>(alloc: Global) -> Result<Command<'a>, AllocError> {
         .subcommand(dump_command(alloc))?
         .subcommand(files_command(alloc)?)?
         .subcommand(tcp_command(alloc)?)?
-        .subcommand(merge_command(alloc)?)
+        .subcommand(merge_command(alloc)?)?
+        .subcommand(explain_command(alloc)?)
 }
 
 fn dump_command<'a>(alloc: Global) -> Command<'a> {
@@ -87,6 +88,16 @@ fn merge_command<'a>(alloc: Global) -> Result<Command<'a>, AllocError> {
             "Example:\n  collectd merge --plan plan.toml one.ipfix two.ipfix > table.csv",
         );
     with_output(alloc, with_plan(alloc, merge)?)?.arg(file)
+}
+
+fn explain_command<'a>(alloc: Global) -> Result<Command<'a>, AllocError> {
+    let fault = Arg::new(alloc, "fault")
+        .value_name("FAULT")
+        .help("The number or the name of a session's fault");
+    Command::new(alloc, "explain")
+        .about("Tells what a session's fault is and what to do about it, or lists all of them")
+        .after_help("Example:\n  collectd explain TemplateChanged")
+        .arg(fault)
 }
 
 // The options that `files` and `tcp` share.
