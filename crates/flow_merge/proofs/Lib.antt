@@ -1,0 +1,4 @@
+pub mod Beginnings
+pub mod Pairs
+pub mod Telling
+pub mod OneRow
