@@ -28,7 +28,7 @@ use Rattle.flow_merge.specs.declared.merge_fault.MergeFault.TheVariants.{OutOfMe
 use Rattle.flow_merge.specs.declared.merging.Merging.{Merging}
 use Rattle.flow_merge.specs.declared.row_fault.RowFault.{RowFault}
 use Rattle.flow_merge.proofs.ExportedTables.{export_is_export}
-use Rattle.flow_merge.proofs.RowLaws.{one_row, no_row}
+use Rattle.flow_merge.proofs.OneRow.{no_row, one_row}
 
 -- ---- records have the rows of one list
 

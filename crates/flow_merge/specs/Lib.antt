@@ -3,6 +3,7 @@ pub mod RowRecords
 pub mod RowFaults
 pub mod MergeFaults
 pub mod Merging
--- parts of them
+-- what the inner functions cite
+pub mod InnerReading
 pub mod Judged
 pub mod RowSink

@@ -1,6 +1,7 @@
-//! Tables that were exported as IPFIX, read back into their rows.
+//! Tables that were exported as IPFIX, read back into their rows and added up.
 #![tactic(auto)]
 
+mod field_reading;
 mod judging;
 mod laws;
 mod merge_fault;
@@ -10,6 +11,7 @@ mod merging;
 mod row_fault;
 mod row_reading;
 mod row_sink;
+mod told_values;
 
 pub use laws::{exports_have_row_records, faults_are_no_rows, one_row};
 pub use merge_fault::MergeFault;
