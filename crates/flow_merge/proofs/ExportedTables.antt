@@ -1,7 +1,7 @@
 -- What is exported of a table is an export of its rows.
-use Rattle.std.proofs.Common.{◌≡◌, ℕ, ◌+◌, ◌*◌, ◌^◌, ◌<◌, Bool, true, false, List, [], ◌∷◌, length, map, filter, All, refl, sym, ap, ◌∙◌, subst, inl, inr, arith}
+use Rattle.std.proofs.Common.{◌≡◌, ℕ, ◌^◌, ◌<◌, Bool, true, List, [], ◌∷◌, length, map, filter, All, refl, sym, ap, subst, inl, inr, arith}
 use Rattle.std.specs.Prelude.{sum_by}
-use Rattle.std.specs.List.{AllZip, range_with_len}
+use Rattle.std.specs.List.{range_with_len}
 use Rattle.std.proofs.lemmas.Bool.{cases_Bool, cond-false}
 use Rattle.std.proofs.lemmas.List.Sums.{sum_by-cons}
 use Rattle.std.proofs.lemmas.List.Elements.{All-nil, All-cons, All-head, All-tail}
@@ -20,7 +20,7 @@ use Rattle.flow_table.specs.declared.table.Table.{Table}
 use Rattle.flow_table.proofs.Fits.{contributes_at}
 use Rattle.flow_export.specs.IpfixText.{ipfix_text, message_count}
 use Rattle.flow_export.proofs.PlanFacts.{has_room}
-use Rattle.flow_export_laws.specs.ReadBack.{row_record, CanBeExported, IsReadBack}
+use Rattle.flow_export_laws.specs.ReadBack.{row_record, CanBeExported}
 use Rattle.flow_export_laws.proofs.Hundreds.{read_hundred, read_all, text_gives}
 use Rattle.flow_export_laws.proofs.ReadAll.{read_all_back}
 use Rattle.flow_export_laws.proofs.Room.{CanBeWritten}

@@ -1,5 +1,5 @@
 -- What a merging stands for after an export was read, or why it wasn't added.
-use Rattle.std.proofs.Common.{◌≡◌, ℕ, List, [], ◌++◌, Option, Some, None, Result, Ok, Err, refl, sym, subst, append-nil}
+use Rattle.std.proofs.Common.{◌≡◌, ℕ, List, [], Option, Some, None, Result, Ok, Err, refl, sym, subst, append-nil}
 use Rattle.std.specs.Prelude.{IfErr, IsErrAnd, MatchResult}
 use Rattle.ipfix_session.specs.Drives.{TakesGiven, Drives}
 use Rattle.ipfix_session.specs.Sinks.{SinkView}

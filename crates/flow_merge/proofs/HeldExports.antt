@@ -1,27 +1,24 @@
 -- Reading a source that holds the export of a table.
 use Rattle.std.proofs.Common.{◌≡◌, ℕ, true, List, [], ◌∷◌, ◌++◌, Option, Some, None, refl, sym, ap, ◌∙◌, subst, append-nil, append_assoc}
 use Rattle.std.specs.Io.KnownBytes.{Consumes}
-use Rattle.std.specs.List.{AllZip}
 use Rattle.std.specs.Option.{ForSome}
 use Rattle.ipfix_message.specs.declared.fault.MessageFault.{MessageFault}
 use Rattle.ipfix_message.specs.declared.fault.MessageFault.TheVariants as messages
 use Rattle.ipfix_message.specs.declared.record.DataRecord.{DataRecord}
-use Rattle.ipfix_session.specs.Drives.{Gave, IsDue}
+use Rattle.ipfix_session.specs.Drives.{Gave}
 use Rattle.ipfix_session.specs.Given.{Given, gives, records_of, stop_of}
 use Rattle.ipfix_session.specs.Sources.{SourceView}
 use Rattle.ipfix_session.specs.declared.driver.TheConstants.{READ_SIZE}
 use Rattle.ipfix_session.specs.declared.fault.SessionFault.{SessionFault}
 use Rattle.ipfix_session.specs.declared.fault.SessionFault.TheVariants as sessions
-use Rattle.ipfix_session.specs.declared.stop.Stop.{Stop}
 use Rattle.ipfix_session.specs.declared.stop.Stop.TheVariants.{Clean, Short, Fault}
 use Rattle.ipfix_session.proofs.Giving.{gives_after-fault_stays}
 use Rattle.flow_table.specs.AddedUp.{rows_in, AddUpTooLarge}
 use Rattle.flow_table.specs.Plans.{PlanValue, IsPlan}
 use Rattle.flow_table.specs.SameTables.{RowValue}
 use Rattle.flow_table.proofs.AddedUp.{too_large_more}
-use Rattle.flow_merge.specs.Merging.{AddsExport, AreOfExport, AreRowRecords, FirstOther, FirstTooLarge, GivesExport, HoldsExport, IsExport, IsExportFault, NoneLost, StandsFor, plan_of}
+use Rattle.flow_merge.specs.Merging.{AddsExport, AreOfExport, AreRowRecords, FirstOther, FirstTooLarge, HoldsExport, IsExport, IsExportFault, NoneLost, StandsFor, plan_of}
 use Rattle.flow_merge.specs.Merging.{IsDue as IsMergeDue}
-use Rattle.flow_merge.specs.RowFaults.{IsRowFault}
 use Rattle.flow_merge.specs.RowRecords.{IsRowRecord}
 use Rattle.flow_merge.specs.declared.merge_fault.MergeFault.{MergeFault}
 use Rattle.flow_merge.specs.declared.merge_fault.MergeFault.TheVariants.{OutOfMemory, SumTooLarge, Session, NotAnExport, Lost, Row}

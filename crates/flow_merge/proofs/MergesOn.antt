@@ -1,12 +1,10 @@
 -- Exports of tables that are merged one after another.
 use Rattle.std.proofs.Common.{◌≡◌, List, [], ◌∷◌, ◌++◌, refl, sym, ap, ◌∙◌, subst, append-nil, append_assoc}
-use Rattle.std.specs.Prelude.{flat_map, ◌↔◌}
+use Rattle.std.specs.Prelude.{flat_map}
 use Rattle.std.specs.List.{AllZip}
-use Rattle.ipfix_message.specs.declared.fault.MessageFault.{MessageFault}
 use Rattle.ipfix_message.specs.declared.fault.MessageFault.TheVariants as messages
 use Rattle.ipfix_message.specs.declared.record.DataRecord.{DataRecord}
 use Rattle.ipfix_session.specs.Sources.{SourceView}
-use Rattle.ipfix_session.specs.declared.fault.SessionFault.{SessionFault}
 use Rattle.ipfix_session.specs.declared.fault.SessionFault.TheVariants as sessions
 use Rattle.flow_table.specs.AddedUp.{rows_in, AddUpTooLarge, HasTooLargeRow}
 use Rattle.flow_table.specs.Plans.{PlanValue}
@@ -143,8 +141,8 @@ module _ {S : Type 0} (seen : S → SourceView) (plan : PlanValue) where
         merged = λ lists h.
             let now = subst (λ (l : List S). Merged lists l old) is (on.merged lists h) in
             one_merged lists s waiting old new now (λ rs.
-                subst (λ (p : PlanValue). (holds : HoldsExport p (seen s) rs) → StandsFor new (flat_map rows_in now.tables ++ rows_in holds.table)) on.same_plan
-                (λ holds. exports (flat_map rows_in now.tables) rs holds now.stands));
+            subst (λ (p : PlanValue). (holds : HoldsExport p (seen s) rs) → StandsFor new (flat_map rows_in now.tables ++ rows_in holds.table)) on.same_plan
+            (λ holds. exports (flat_map rows_in now.tables) rs holds now.stands));
       }
 
   -- a source was refused

@@ -1,5 +1,5 @@
 -- A key that was projected to its prefixes is the same when it is projected again.
-use Rattle.std.proofs.Common.{◌≡◌, ℕ, zero, suc, ◌+◌, ◌-◌, ◌*◌, ◌/◌, ◌%◌, ◌^◌, ◌<◌, ◌≤◌, List, [], ◌∷◌, Option, Some, None, refl, sym, ap, subst, ◌∙◌, option_map, option_and_then, add-zero, arith}
+use Rattle.std.proofs.Common.{◌≡◌, ℕ, zero, suc, ◌+◌, ◌-◌, ◌*◌, ◌/◌, ◌%◌, ◌^◌, ◌<◌, List, [], ◌∷◌, Option, Some, None, refl, sym, ap, subst, ◌∙◌, option_map, option_and_then, add-zero, arith}
 use Rattle.std.specs.Int.{byte_at, bytes_high_first}
 use Rattle.std.proofs.Math.Nat.{div-add-mod', div-one, mul-add-div_right, mul-add-mod_self_right, mul-div_cancel, mul-mod_left, mul_assoc, one-le-pow, pow-succ'}
 use Rattle.std.proofs.lemmas.Nat.{mod-pow-add}
@@ -76,5 +76,5 @@ pub cells_projected : (keys : List Key) (r : DataRecord) (cells : List Cell) →
 cells_projected [] r cells is = let none : [] ≡ cells = cc in subst (AreProjected []) none tt
 cells_projected (key ∷ keys) r cells is =
     option_and_then_some (λ cell. option_map (λ others. cell ∷ others) (cells_of keys r)) (cell_of key r) cells is (λ cell first rest.
-        let others = mapped (λ (cs : List Cell). cell ∷ cs) (cells_of keys r) cells rest in
-        subst (AreProjected (key ∷ keys)) others.2 (cell_projected key r cell first, cells_projected keys r others.0 others.1))
+    let others = mapped (λ (cs : List Cell). cell ∷ cs) (cells_of keys r) cells rest in
+    subst (AreProjected (key ∷ keys)) others.2 (cell_projected key r cell first, cells_projected keys r others.0 others.1))

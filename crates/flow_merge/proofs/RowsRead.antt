@@ -1,5 +1,5 @@
 -- What a merging stands for after one record more, and after all that a sink took.
-use Rattle.std.proofs.Common.{◌≡◌, List, [], ◌∷◌, ◌++◌, All, Bool, true, false, is_some, Option, Some, None, Result, Ok, Err, refl, sym, ap, ◌∙◌, subst, append-nil, append_assoc}
+use Rattle.std.proofs.Common.{◌≡◌, List, [], ◌∷◌, ◌++◌, All, true, false, is_some, Option, Some, None, Result, Ok, Err, refl, sym, ap, ◌∙◌, subst, append-nil, append_assoc}
 use Rattle.std.specs.Prelude.{◌≢◌, IsErrAnd}
 use Rattle.std.specs.Result.{result_err}
 use Rattle.std.specs.List.{AllZip, FoldsTo}
@@ -20,7 +20,7 @@ use Rattle.flow_merge.specs.declared.merge_fault.MergeFault.{MergeFault}
 use Rattle.flow_merge.specs.declared.merge_fault.MergeFault.TheVariants.{OutOfMemory, SumTooLarge, Session, NotAnExport, Lost, Row}
 use Rattle.flow_merge.specs.declared.merging.Merging.{Merging}
 use Rattle.flow_merge.specs.declared.row_sink.RowSink.{RowSink}
-use Rattle.flow_merge.specs.Merging.{AreRowRecords, FirstOther, FirstTooLarge, StandsFor, plan_of}
+use Rattle.flow_merge.specs.Merging.{AreRowRecords, FirstOther, FirstTooLarge, plan_of}
 use Rattle.flow_merge.specs.MergeFaults.{fault_of_row, fault_of_table}
 use Rattle.flow_merge.specs.RowSink.{HoldsAfter, TakesRecord}
 
@@ -42,8 +42,10 @@ module _ (plan : PlanValue) (rows : List RowValue) (rs : List DataRecord) (r : D
       let same = append_assoc rows h.0 (row ∷ []) in (
         h.0 ++ row ∷ [],
         zip_more (IsRowRecord plan) rs h.0 r row h.1 is,
-        (subst (AreOf new) same (adds (rows ++ h.0) h.2.0),
-        subst (All (IsRowOf plan)) same (All-append (IsRowOf plan) (rows ++ h.0) (row ∷ []) h.2.1 (All-cons (IsRowOf plan) row [] is.of_plan (All-nil (IsRowOf plan))))),
+        (
+          subst (AreOf new) same (adds (rows ++ h.0) h.2.0),
+          subst (All (IsRowOf plan)) same (All-append (IsRowOf plan) (rows ++ h.0) (row ∷ []) h.2.1 (All-cons (IsRowOf plan) row [] is.of_plan (All-nil (IsRowOf plan)))),
+        ),
       )
 
   other_of : (totals : RowTotals) (m : Merging) (fault : RowFault) → fault ≢ faults.OutOfMemory → plan_of m ≡ plan → Behind plan totals rows rs → IsRowFault plan r fault → FirstOther (plan_of m) (rs ++ r ∷ []) fault

@@ -1,4 +1,4 @@
-use Rattle.std.proofs.Common.{◌≡◌, ℕ, List, [], ◌∷◌, length, Result, Ok, Err, OnOk, refl, sym, subst, arith}
+use Rattle.std.proofs.Common.{◌≡◌, List, [], ◌∷◌, length, Result, Ok, Err, OnOk, refl, sym, subst, arith}
 use Rattle.std.specs.Prelude.{flat_map, IfErr, IfOk, IsErrAnd}
 use Rattle.std.specs.List.{AllZip}
 use Rattle.flow_table.specs.AddedUp.{rows_in}

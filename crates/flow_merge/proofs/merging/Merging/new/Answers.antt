@@ -1,4 +1,3 @@
-use Rattle.std.proofs.Common.{All}
 use Rattle.std.proofs.lemmas.List.Elements.{All-nil}
 use Rattle.flow_merge.specs.Merging.{StandsFor, plan_of}
 use Rattle.flow_merge.specs.RowRecords.{IsRowOf}

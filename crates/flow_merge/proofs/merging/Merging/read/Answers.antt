@@ -1,7 +1,6 @@
 use Rattle.std.proofs.lemmas.Result.{IfErr-weaker}
-use Rattle.flow_table.specs.AddedUp.{rows_in, AddUpTooLarge}
-use Rattle.std.proofs.Common.{◌++◌, refl}
-use Rattle.flow_merge.specs.Merging.{IsDue, IsExportFault, StandsFor, plan_of}
+use Rattle.std.proofs.Common.{refl}
+use Rattle.flow_merge.specs.Merging.{plan_of}
 use Rattle.flow_merge.proofs.ExportsRead.{adds_export, due_report, due_row, err_match, same_plan}
 use Rattle.flow_merge.proofs.HeldExports.{adds_own, own_fault}
 use Rattle.flow_merge.proofs.merging.Merging.read.Goals as goal
@@ -14,7 +13,7 @@ returns-in_err-judge-clause-fault g c = λ rows stands.
 pub returns-in_err-judge-clause-export : goal.returns-in_err-judge-clause-export
 returns-in_err-judge-clause-export g c = λ rows rs holds stands.
     let due = due_report c.args.limit (g.S.Source.seen c.args.source.now) (g.S.Source.seen c.drive-report.new.source) c.drive-report.result c.args.self c.drive-report.new.sink c.drive-report.ensures
-        rows stands c.from_residual.result c.in_err-judge.field-0.0 c.in_err-judge.ensures.fault c.from_residual.ensures.1 in
+    rows stands c.from_residual.result c.in_err-judge.field-0.0 c.in_err-judge.ensures.fault c.from_residual.ensures.1 in
     err_match c.from_residual.result c.in_err-judge.field-0.0 _ _ c.from_residual.ensures.1 (IfErr-weaker c.from_residual.result _ _ (own_fault c.args.limit (g.S.Source.seen c.args.source.now) (g.S.Source.seen c.drive-report.new.source) (g.met.S.Source.ended_is_end c.drive-report.new.source) (plan_of c.args.self) rs holds rows) due)
 
 pub returns-in-Some-clause-fault : goal.returns-in-Some-clause-fault
