@@ -1,9 +1,12 @@
 //! Merging the exports in files.
 
-ghost use Rattle.std.specs.Prelude.{◌≡◌, ◌⊎◌, length, IfErr, IfOk};
+ghost use Rattle.std.specs.Prelude.{◌≡◌, ◌⊎◌, [], length, List, IfErr, IfOk};
+ghost use Rattle.flow_table.specs.AddedUp.{rows_in, AreAddedUp};
 ghost use Rattle.flow_table.specs.Fitting.{FitsPlan};
+ghost use Rattle.flow_table.specs.SameTables.{RowValue};
 ghost use Rattle.flow_table.specs.declared.table.Table.{Table as TableValue};
-ghost use Rattle.collectd.specs.Merges.{IsMerged, WritesMerged};
+ghost use Rattle.flow_merge.specs.Merging.{plan_of, StandsFor};
+ghost use Rattle.collectd.specs.Merges.{AddsFile, IsMerged, IsNotMerged, WritesMerged};
 
 use crate::dumping::READ_LIMIT;
 use crate::files::open_source;
@@ -55,7 +58,7 @@ pub fn run_merge<W: Write, E: Write, R: Files<File = File>>(
     Status::Well.number()
 }
 
-// The table of the exports in files, or the status if a file can't be opened or merged, which is told.
+// The table of the exports in files; or the status, if one can't be opened or merged, which is told.
 fn merge_files<E: Write, R: Files<File = File>>(
     rt: &R,
     alloc: Global,
@@ -65,31 +68,63 @@ fn merge_files<E: Write, R: Files<File = File>>(
 ) -> Result<Table, Status>
     ensures merged { IfOk result (IsMerged (length paths.now) plan.now) }
     ensures fits { IfOk result (FitsPlan plan.now) }
-    ensures status { IfErr result (λ status. (status ≡ Status.NotOpened) ⊎ (status ≡ Status.Failed)) }
+    ensures status { IfErr result IsNotMerged }
 {
-    let mut merging = match Merging::new(alloc, plan) {
-        Ok(merging) => merging,
-        Err(fault) => {
-            let _ = write_merge_fault(fault, err);
-            return Err(Status::Failed);
-        }
-    };
+    let mut merging = begin(alloc, plan, err)?;
     let mut file = 0_usize;
     for path in paths {
         file = file.saturating_add(1);
-        let Some(source) = open_source(rt, path) else {
-            let _ = writeln!(err, "collectd: open: {path}");
-            return Err(Status::NotOpened);
-        };
-        let mut source = source;
-        merging = match merging.read(&mut source, READ_LIMIT) {
-            Ok(merging) => merging,
-            Err(fault) => {
-                let _ = write_file_fault(file, fault, err);
-                return Err(Status::Failed);
-            }
-        };
+        merging = add_file(rt, merging, file, path, err)?;
     }
+    end(merging, err)
+}
+
+// Nothing merged.
+fn begin<E: Write>(alloc: Global, plan: &Plan, err: &mut E) -> Result<Merging, Status>
+    ensures plan { IfOk result (λ m. plan_of m ≡ plan.now) }
+    ensures empty { IfOk result (λ m. StandsFor m []) }
+    ensures status { IfErr result IsNotMerged }
+{
+    match Merging::new(alloc, plan) {
+        Ok(merging) => Ok(merging),
+        Err(fault) => {
+            let _ = write_merge_fault(fault, err);
+            Err(Status::Failed)
+        }
+    }
+}
+
+// Adds the file of this number, counted from 1.
+fn add_file<E: Write, R: Files<File = File>>(
+    rt: &R,
+    merging: Merging,
+    file: usize,
+    path: &str,
+    err: &mut E,
+) -> Result<Merging, Status>
+    ensures added { IfOk result (AddsFile merging) }
+    ensures status { IfErr result IsNotMerged }
+{
+    let Some(source) = open_source(rt, path) else {
+        let _ = writeln!(err, "collectd: open: {path}");
+        return Err(Status::NotOpened);
+    };
+    let mut source = source;
+    match merging.read(&mut source, READ_LIMIT) {
+        Ok(merging) => Ok(merging),
+        Err(fault) => {
+            let _ = write_file_fault(file, fault, err);
+            Err(Status::Failed)
+        }
+    }
+}
+
+// The table of all that was added.
+fn end<E: Write>(merging: Merging, err: &mut E) -> Result<Table, Status>
+    ensures rows { (rows : List RowValue) → StandsFor merging rows → IfOk result (λ table. AreAddedUp rows (rows_in table)) }
+    ensures fits { (rows : List RowValue) → StandsFor merging rows → IfOk result (FitsPlan (plan_of merging)) }
+    ensures status { IfErr result IsNotMerged }
+{
     match merging.finish() {
         Ok(table) => Ok(table),
         Err(fault) => {

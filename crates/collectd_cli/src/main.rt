@@ -241,9 +241,5 @@ fn tcp<R: Threads + Wait + Sync>(threads: &R, rt: &HostRuntime, chosen: &ArgMatc
 
 // `collectd explain`: what is told of a fault, or the list of all, to standard output.
 fn explain(rt: &HostRuntime, chosen: &ArgMatches) -> u8 {
-    run_explain(
-        chosen.get_str("fault"),
-        &mut rt.stdout(),
-        &mut rt.stderr(),
-    )
+    run_explain(chosen.get_str("fault"), &mut rt.stdout(), &mut rt.stderr())
 }

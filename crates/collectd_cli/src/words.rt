@@ -84,9 +84,7 @@ fn merge_command<'a>(alloc: Global) -> Result<Command<'a>, AllocError> {
         .help("A table that was written as IPFIX under the same plan; '-' is standard input");
     let merge = Command::new(alloc, "merge")
         .about("Adds up tables that were written as IPFIX and writes the table of all of them")
-        .after_help(
-            "Example:\n  collectd merge --plan plan.toml one.ipfix two.ipfix > table.csv",
-        );
+        .after_help("Example:\n  collectd merge --plan plan.toml one.ipfix two.ipfix > table.csv");
     with_output(alloc, with_plan(alloc, merge)?)?.arg(file)
 }
 

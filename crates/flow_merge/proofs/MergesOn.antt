@@ -1,5 +1,5 @@
 -- Exports of tables that are merged one after another.
-use Rattle.std.proofs.Common.{◌≡◌, List, [], ◌∷◌, ◌++◌, refl, sym, ap, ◌∙◌, subst, append-nil, append_assoc}
+use Rattle.std.proofs.Common.{◌≡◌, ℕ, List, [], ◌∷◌, ◌++◌, refl, sym, ap, ◌∙◌, subst, append-nil, append_assoc}
 use Rattle.std.specs.Prelude.{flat_map}
 use Rattle.std.specs.List.{AllZip}
 use Rattle.ipfix_message.specs.declared.fault.MessageFault.TheVariants as messages
@@ -13,7 +13,8 @@ use Rattle.flow_table.specs.Tables.{IsTable}
 use Rattle.flow_table.specs.declared.table.Table.{Table}
 use Rattle.flow_table.proofs.AddedUp.{too_large_more}
 use Rattle.flow_table.proofs.TablesAdded.{too_large_both}
-use Rattle.flow_merge.specs.Merging.{all_of, AreExportsOf, HoldsExport, IsExportFault, StandsFor, plan_of}
+use Rattle.flow_merge.specs.Merging.{all_of, AddsExport, AreExportsOf, GiveExports, GivesExport, HoldsExport, IsExportFault, StandsFor, plan_of}
+use Rattle.flow_merge.proofs.RowsRead.{zip_more}
 use Rattle.flow_merge.specs.declared.merge_fault.MergeFault.{MergeFault}
 use Rattle.flow_merge.specs.declared.merge_fault.MergeFault.TheVariants.{OutOfMemory, SumTooLarge, Session, NotAnExport, Lost, Row}
 use Rattle.flow_merge.specs.declared.merging.Merging.{Merging}
@@ -39,6 +40,10 @@ rows_of_more (t ∷ tables) table = ap (λ (l : List RowValue). rows_in t ++ l) 
 rows_of_both : (tables more : List Table) → flat_map rows_in (tables ++ more) ≡ flat_map rows_in tables ++ flat_map rows_in more
 rows_of_both [] more = refl
 rows_of_both (t ∷ tables) more = ap (λ (l : List RowValue). rows_in t ++ l) (rows_of_both tables more) ∙ sym (append_assoc (rows_in t) (flat_map rows_in tables) (flat_map rows_in more))
+
+flat_more : (exports : List (List RowValue)) (rows : List RowValue) → flat_map (λ r. r) (exports ++ rows ∷ []) ≡ flat_map (λ r. r) exports ++ rows
+flat_more [] rows = append-nil rows
+flat_more (x ∷ exports) rows = ap (λ (l : List RowValue). x ++ l) (flat_more exports rows) ∙ sym (append_assoc x (flat_map (λ r. r) exports) rows)
 
 zip_both : {A B : Type 0} (R : A → B → Type 0) (xs us : List A) (ys vs : List B) → AllZip R xs ys → AllZip R us vs → AllZip R (xs ++ us) (ys ++ vs)
 zip_both R [] us [] vs h i = i
@@ -66,17 +71,25 @@ module _ {S : Type 0} (seen : S → SourceView) (plan : PlanValue) where
     pub wait : AreExportsOf seen plan waiting others
     pub all : lists ≡ first ++ others
 
+  -- the sources before those that wait gave exports, for whose rows it stands
+  pub record HasRead (limit : ℕ) (sources waiting : List S) (m : Merging) : Type 0 where
+    pub used : List S
+    pub exports : List (List RowValue)
+    pub split : sources ≡ used ++ waiting
+    pub given : GiveExports seen limit plan used exports
+    pub stands : StandsFor m (flat_map (λ rows. rows) exports)
+
   -- what holds while sources are merged
-  pub record MergesOn (sources waiting : List S) (m : Merging) : Type 0 where
+  pub record MergesOn (limit : ℕ) (sources waiting : List S) (m : Merging) : Type 0 where
     pub same_plan : plan_of m ≡ plan
-    pub stands : (rows : List RowValue) × StandsFor m rows
+    pub read : HasRead limit sources waiting m
     pub merged : (lists : List (List DataRecord)) → AreExportsOf seen plan sources lists → Merged lists waiting m
 
-  pub none_merged : (sources : List S) (m : Merging) → plan_of m ≡ plan → StandsFor m [] → MergesOn sources sources m
-  none_merged sources m same stands =
+  pub none_merged : (limit : ℕ) (sources : List S) (m : Merging) → plan_of m ≡ plan → StandsFor m [] → MergesOn limit sources sources m
+  none_merged limit sources m same stands =
       record {
         same_plan = same;
-        stands = ([], stands);
+        read = record { used = []; exports = []; split = refl; given = tt; stands = stands };
         merged = λ lists h. record { first = []; tables = []; are_tables = tt; stands = stands; others = lists; wait = h; all = refl };
       }
 
@@ -130,14 +143,26 @@ module _ {S : Type 0} (seen : S → SourceView) (plan : PlanValue) where
   -- ---- a step, and the end
 
   -- a source was read
-  pub merged_on : (sources before : List S) (s : S) (waiting : List S) (old new : Merging) → before ≡ s ∷ waiting → MergesOn sources before old → plan_of new ≡ plan_of old
-      → ((rows : List RowValue) → StandsFor old rows → (more : List RowValue) × StandsFor new (rows ++ more))
-      → ((rows : List RowValue) (rs : List DataRecord) (holds : HoldsExport (plan_of old) (seen s) rs) → StandsFor old rows → StandsFor new (rows ++ rows_in holds.table)) → MergesOn sources waiting new
-  merged_on sources before s waiting old new is on same adds exports =
-      let more = adds on.stands.0 on.stands.1 in
+  more_read : (limit : ℕ) (sources : List S) (s : S) (waiting : List S) (old new : Merging) (after : SourceView) (read : HasRead limit sources (s ∷ waiting) old) → plan_of old ≡ plan
+      → AddsExport limit old (seen s) after (flat_map (λ rows. rows) read.exports) new → HasRead limit sources waiting new
+  more_read limit sources s waiting old new after read same adds =
+      record {
+        used = read.used ++ s ∷ [];
+        exports = read.exports ++ adds.more ∷ [];
+        split = read.split ∙ sym (append_assoc read.used (s ∷ []) waiting);
+        given = zip_more (λ source rows. (view : SourceView) × GivesExport limit plan (seen source) view rows) read.used read.exports s adds.more read.given
+            (after, subst (λ (p : PlanValue). GivesExport limit p (seen s) after adds.more) same adds.gives_export);
+        stands = subst (StandsFor new) (sym (flat_more read.exports adds.more)) adds.stands;
+      }
+
+  pub merged_on : (limit : ℕ) (sources before : List S) (s : S) (waiting : List S) (old new : Merging) (after : SourceView) → before ≡ s ∷ waiting → MergesOn limit sources before old → plan_of new ≡ plan_of old
+      → ((rows : List RowValue) → StandsFor old rows → AddsExport limit old (seen s) after rows new)
+      → ((rows : List RowValue) (rs : List DataRecord) (holds : HoldsExport (plan_of old) (seen s) rs) → StandsFor old rows → StandsFor new (rows ++ rows_in holds.table)) → MergesOn limit sources waiting new
+  merged_on limit sources before s waiting old new after is on same adds exports =
+      let read = subst (λ (l : List S). HasRead limit sources l old) is on.read in
       record {
         same_plan = same ∙ on.same_plan;
-        stands = (on.stands.0 ++ more.0, more.1);
+        read = more_read limit sources s waiting old new after read on.same_plan (adds (flat_map (λ rows. rows) read.exports) read.stands);
         merged = λ lists h.
             let now = subst (λ (l : List S). Merged lists l old) is (on.merged lists h) in
             one_merged lists s waiting old new now (λ rs.
@@ -146,10 +171,10 @@ module _ {S : Type 0} (seen : S → SourceView) (plan : PlanValue) where
       }
 
   -- a source was refused
-  pub refused_on : (sources before : List S) (s : S) (waiting : List S) (old : Merging) (fault : MergeFault) → before ≡ s ∷ waiting → MergesOn sources before old
+  pub refused_on : (limit : ℕ) (sources before : List S) (s : S) (waiting : List S) (old : Merging) (fault : MergeFault) → before ≡ s ∷ waiting → MergesOn limit sources before old
       → ((rows : List RowValue) (rs : List DataRecord) (holds : HoldsExport (plan_of old) (seen s) rs) → StandsFor old rows → IsExportFault (AddUpTooLarge (rows ++ rows_in holds.table)) fault)
       → (lists : List (List DataRecord)) → AreExportsOf seen plan sources lists → IsExportFault (HasTooLargeRow plan (all_of lists)) fault
-  refused_on sources before s waiting old fault is on refuses lists h =
+  refused_on limit sources before s waiting old fault is on refuses lists h =
       let now = subst (λ (l : List S). Merged lists l old) is (on.merged lists h) in
       let next = next_held lists s waiting old now in
       still_due _ _ fault (too_large_all lists s waiting old now next)
@@ -157,6 +182,12 @@ module _ {S : Type 0} (seen : S → SourceView) (plan : PlanValue) where
       (λ holds. refuses (flat_map rows_in now.tables) next.0 holds now.stands) next.2)
 
   -- no source waits
-  pub merged_all : (sources waiting : List S) (m : Merging) → waiting ≡ [] → MergesOn sources waiting m → (lists : List (List DataRecord)) → AreExportsOf seen plan sources lists
+  pub merged_all : (limit : ℕ) (sources waiting : List S) (m : Merging) → waiting ≡ [] → MergesOn limit sources waiting m → (lists : List (List DataRecord)) → AreExportsOf seen plan sources lists
       → (tables : List Table) × AllZip (IsTable plan) lists tables × StandsFor m (flat_map rows_in tables)
-  merged_all sources waiting m none on lists h = all_merged lists m (subst (λ (l : List S). Merged lists l m) none (on.merged lists h))
+  merged_all limit sources waiting m none on lists h = all_merged lists m (subst (λ (l : List S). Merged lists l m) none (on.merged lists h))
+
+  pub read_all : (limit : ℕ) (sources waiting : List S) (m : Merging) → waiting ≡ [] → (on : MergesOn limit sources waiting m) → GiveExports seen limit plan sources on.read.exports
+  read_all limit sources waiting m none on =
+      let read = on.read in
+      let all : sources ≡ read.used = read.split ∙ ap (λ (l : List S). read.used ++ l) none ∙ append-nil read.used in
+      subst (λ (l : List S). GiveExports seen limit plan l read.exports) (sym all) read.given

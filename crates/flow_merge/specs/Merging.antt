@@ -14,7 +14,7 @@ use Rattle.ipfix_session.specs.Given.{gives, records_of, stop_of}
 use Rattle.ipfix_session.specs.Ledger.{domain_report, domains_of}
 use Rattle.ipfix_session.specs.Reports.{passed_over_in}
 use Rattle.ipfix_session.specs.Sources.{SourceView}
-use Rattle.flow_table.specs.AddedUp.{rows_in, AddUpTooLarge}
+use Rattle.flow_table.specs.AddedUp.{rows_in, AddUpTooLarge, AreAddedUp}
 use Rattle.flow_table.specs.Fitting.{FitsPlan}
 use Rattle.flow_table.specs.Plans.{PlanValue, IsPlan}
 use Rattle.flow_table.specs.RowTotals.{AreOf}
@@ -67,6 +67,16 @@ pub record GivesExport (limit : ℕ) (plan : PlanValue) (before after : SourceVi
   pub gave : List ℕ
   pub given : Gave limit READ_SIZE before gave after None
   pub export : IsExport plan gave rows
+
+-- each source gave the export of one of the lists of rows, in their order
+abbrev pub GiveExports : {S : Type 0} → (S → SourceView) → ℕ → PlanValue → List S → List (List RowValue) → Type 0
+GiveExports seen limit plan sources exports = AllZip (λ source rows. (after : SourceView) × GivesExport limit plan (seen source) after rows) sources exports
+
+-- the rows of the exports that each source gave, added up, are those of a table
+pub record AddsAllUp {S : Type 0} (seen : S → SourceView) (limit : ℕ) (plan : PlanValue) (sources : List S) (table : Table) : Type 0 where
+  pub exports : List (List RowValue)
+  pub given : GiveExports seen limit plan sources exports
+  pub added_up : AreAddedUp (flat_map (λ rows. rows) exports) (rows_in table)
 
 -- the first records are those of rows, which are too large behind the rows before them
 pub record FirstTooLarge (plan : PlanValue) (before : List RowValue) (rs : List DataRecord) : Type 0 where

@@ -5,7 +5,7 @@ ghost use Rattle.std.specs.List.{AllZip};
 ghost use Rattle.ipfix_message.specs.declared.record.DataRecord.{DataRecord};
 ghost use Rattle.flow_table.specs.AddedUp.{HasTooLargeRow};
 ghost use Rattle.flow_table.specs.Fitting.{FitsPlan};
-ghost use Rattle.flow_merge.specs.Merging.{all_of, AreExportsOf, HasRowsOf, IsExportFault};
+ghost use Rattle.flow_merge.specs.Merging.{all_of, AddsAllUp, AreExportsOf, HasRowsOf, IsExportFault};
 
 use crate::merge_fault::MergeFault;
 use crate::merging::Merging;
@@ -26,6 +26,9 @@ pub fn merge<S: Source + Drop>(
     sources: Vec<S>,
     limit: u64,
 ) -> Result<Table, MergeFault>
+    // Each source gave an export, and the rows of all of them are added up.
+    ensures read { IfOk result (AddsAllUp S.seen limit plan.now sources.items) }
+    // Of exports of tables these are the rows of the table of all their records.
     ensures rows { (lists : List (List DataRecord)) → AreExportsOf S.seen plan.now sources.items lists → IfOk result (HasRowsOf plan.now (all_of lists)) }
     // `SumTooLarge` comes exactly if a sum or a number of flows of that table is too large.
     ensures small { (lists : List (List DataRecord)) → AreExportsOf S.seen plan.now sources.items lists → OnOk result (HasTooLargeRow plan.now (all_of lists) → ⊥) }

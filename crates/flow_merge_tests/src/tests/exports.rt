@@ -27,14 +27,7 @@ pub fn plan_of(alloc: Global, length: u32, prefix: Option<u8>) -> Result<Plan, F
         prefix,
     };
     let counters = [ElementId::iana(1)];
-    Ok(Plan::new(
-        alloc,
-        length,
-        Method::Start,
-        &[source],
-        &counters,
-        4096,
-    )?)
+    Ok(Plan::new(alloc, length, Method::Start, &[source], &counters, 4096)?)
 }
 
 /// Appends a message with a data set of these rows, which has this sequence number.

@@ -121,7 +121,10 @@ fn exported_again(rt: HostRuntime) -> Result<(), Fail> {
 #[test]
 fn sums_at_the_limit(rt: HostRuntime) -> Result<(), Fail> {
     let alloc = rt.alloc();
-    let text = csv_of(alloc, &[&[(0, 1, u64::MAX - 1, 1)], &[(0, 1, 1, u64::MAX - 1)]])?;
+    let text = csv_of(
+        alloc,
+        &[&[(0, 1, u64::MAX - 1, 1)], &[(0, 1, 1, u64::MAX - 1)]],
+    )?;
     let rows = "start,end,sourceIPv4Address,octetDeltaCount,flows
 0,59999,192.0.2.1,18446744073709551615,18446744073709551615
 ";
@@ -218,6 +221,9 @@ fn reads_that_fail(rt: HostRuntime) -> Result<(), Fail> {
     let mut sources = Vec::new(alloc);
     sources.push(ScriptSource::new(text, 10, None, None))?;
     let fault = merge(alloc, &plan, sources, 10).err();
-    assert_eq!(rt; fault, Some(MergeFault::Session(SessionFault::TooManyReads)));
+    assert_eq!(rt;
+        fault,
+        Some(MergeFault::Session(SessionFault::TooManyReads))
+    );
     Ok(())
 }
