@@ -66,7 +66,7 @@ fn open_all<'a, R: Files<File = File>>(
 {
     let mut sources = Unread::new(alloc);
     for path in paths {
-        let Some(source) = open_source(rt, path) else {
+        let Some(source) = open_source(rt, *path) else {
             return Err(*path);
         };
         let Ok(()) = sources.push(source) else {

@@ -5,6 +5,7 @@ ghost use Rattle.std.specs.Io.KnownBytes.{Appends};
 ghost use Rattle.flow_merge.specs.MergeFaults.{number_of, name_of};
 ghost use Rattle.collectd.specs.ReportLines.{fault_text, file_fault_line, merged_line};
 
+use crate::reports::write_fault;
 use flow_merge::MergeFault;
 use std::io::{self, Write};
 
@@ -17,13 +18,10 @@ pub fn write_merged<W: Write>(files: usize, rows: usize, out: &mut W) -> io::Res
 }
 
 /// Writes the line of a fault of merging that is no file's.
-#[tactic(auto, unfolding(crate::specs::ReportLines::fault_text))]
 pub fn write_merge_fault<W: Write>(fault: MergeFault, out: &mut W) -> io::Result<()>
     ensures { OnOk result (Appends (W.contents out.old) (W.contents out.new) (codes "collectd: merge" ++ fault_text (number_of fault) (name_of fault))) }
 {
-    let number = fault.number();
-    let name = fault.name();
-    writeln!(out, "collectd: merge: fault {number} {name}")
+    write_fault("merge", fault.number(), fault.name(), out)
 }
 
 /// Writes the line of a file, counted from 1, that was not merged: the fault, and behind it that of its

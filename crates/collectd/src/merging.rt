@@ -74,7 +74,7 @@ fn merge_files<E: Write, R: Files<File = File>>(
     let mut file = 0_usize;
     for path in paths {
         file = file.saturating_add(1);
-        merging = add_file(rt, merging, file, path, err)?;
+        merging = add_file(rt, merging, file, *path, err)?;
     }
     end(merging, err)
 }

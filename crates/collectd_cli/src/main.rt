@@ -121,7 +121,7 @@ fn read_pool(chosen: &ArgMatches) -> Option<Pool> {
 }
 
 // The files that are named, or the status if standard input is among them twice, which is told.
-fn read_paths<'a>(chosen: &'a ArgMatches, err: &mut Stderr) -> Result<&'a [&'a str], u8> {
+fn read_paths<'c, 'w>(chosen: &'c ArgMatches<'w>, err: &mut Stderr) -> Result<&'c [&'w str], u8> {
     let Some(paths) = chosen.get_strs("file") else {
         return Err(COMMAND_LINE);
     };

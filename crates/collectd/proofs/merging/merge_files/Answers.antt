@@ -1,4 +1,4 @@
-use Rattle.std.proofs.Common.{length, sym, subst, arith}
+use Rattle.std.proofs.Common.{◌≡◌, ℕ, length, subst, arith}
 use Rattle.std.specs.Prelude.{IfOk}
 use Rattle.flow_table.specs.Fitting.{FitsPlan}
 use Rattle.flow_table.specs.Plans.{PlanValue}
@@ -14,7 +14,10 @@ loop-path-preserved g c = one_read c.args.plan.now c.loop-path.path-index c.loop
 
 pub returns-clause-merged : goal.returns-clause-merged
 returns-clause-merged g c =
-    let so_far = c.loop-path.invariant in ?
+    let so_far = c.loop-path.invariant in
+    let all : c.loop-path.path-index ≡ length c.args.paths.now = omega (arith, c.loop-path-test.false, c.loop-path.auto.path-index-end) in
+    subst (λ (n : ℕ). IfOk c.end.result (IsMerged n c.args.plan.now)) all
+    (all_read c.args.plan.now c.loop-path.path-index c.loop-path.merging c.end.result so_far (c.end.ensures.rows (all_rows so_far.exports) so_far.stands))
 
 pub returns-clause-fits : goal.returns-clause-fits
 returns-clause-fits g c =
