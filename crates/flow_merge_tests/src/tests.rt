@@ -1,0 +1,3 @@
+mod row_faults;
+mod row_records;
+mod rows;
