@@ -4,7 +4,7 @@ PREFIX = /usr/local
 bin/collectd: crates.txt HANDLES $(shell find crates \( -name out -o -name must-fail \) -prune -o -type f -print)
 	cd crates/collectd_cli && rt run -- dump < /dev/null && install -D out/collectd_cli ../../bin/collectd
 
-.PHONY: test bench compare refusals hostile soak install clean
+.PHONY: test bench compare refusals hostile soak install dist deb packages clean
 test: ; @tests/gate
 
 bench: bin/collectd ; @for run in bench/*/run; do $$run || exit 1; done
@@ -21,4 +21,10 @@ install: bin/collectd
 	install -D bin/collectd $(DESTDIR)$(PREFIX)/bin/collectd
 	cd share && find . -type f -exec install -D -m 644 {} $(abspath $(DESTDIR)$(PREFIX))/share/{} ';'
 
-clean: ; rm -rf bin tests/out crates/*/out
+dist: bin/collectd ; @packaging/dist
+
+deb: bin/collectd ; @packaging/deb
+
+packages: dist deb ; @tests/packages
+
+clean: ; rm -rf bin dist tests/out crates/*/out

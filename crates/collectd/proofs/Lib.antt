@@ -1,3 +1,4 @@
 pub mod Writing
 pub mod Numbering
 mod Ran
+pub mod Merged

@@ -2,6 +2,7 @@
 pub mod DumpLines
 pub mod Dumped
 pub mod Runs
+pub mod Merges
 pub mod ReportLines
 pub mod PlaceLines
 pub mod Statuses

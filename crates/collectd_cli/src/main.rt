@@ -6,21 +6,23 @@ mod words;
 use clap::error::ErrorKind;
 use clap::{ArgMatches, Error};
 use collectd::{
-    DumpFault, Output, Status, load_plan, run_dump, run_files, run_tcp, write_dump_fault,
-    write_export_fault,
+    DumpFault, Output, Status, load_plan, run_dump, run_files, run_merge, run_tcp,
+    write_dump_fault, write_export_fault,
 };
+use fault_guide::run_explain;
 use flow_collect::Pool;
 use flow_export::{ExportFault, Format};
 use flow_table::Plan;
 use ipfix_session::FromReader;
 use std::env;
 use std::fs::File;
-use std::io::{self, BufWriter, Stdout, Write};
+use std::io::{self, BufWriter, Stderr, Stdout, Write};
 use std::net::TcpListener;
 use std::process::ExitCode;
 use std::rt::Files;
 use std::sync::Wait;
 use std::thread::Threads;
+use std::time::Duration;
 
 /// The exit status if the words of the command line can't be served.
 const COMMAND_LINE: u8 = 2;
@@ -52,6 +54,8 @@ fn run<R: Files<File = File> + Threads + Wait + Sync>(
             Some(("dump", _)) => dump(rt),
             Some(("files", chosen)) => files(threads, rt, chosen),
             Some(("tcp", chosen)) => tcp(threads, rt, chosen),
+            Some(("merge", chosen)) => merge(rt, chosen),
+            Some(("explain", chosen)) => explain(rt, chosen),
             _ => COMMAND_LINE,
         }),
         Err(error) => Ok(show(rt, &error)),
@@ -85,19 +89,16 @@ fn dump(rt: &HostRuntime) -> u8 {
     run_dump(rt.alloc(), &mut source, &mut out, &mut err)
 }
 
-// What `files` and `tcp` are told alike.
+// What all commands with a plan are told alike.
 #[derive(Drop)]
 struct Job {
     plan: Plan,
-    pool: Pool,
     output: Output,
 }
 
 // The plan, which is read here, and the options. `None` if there is no plan, and that was told.
 fn read_job(rt: &HostRuntime, chosen: &ArgMatches) -> Option<Job> {
     let plan = load_plan(rt, rt.alloc(), chosen.get_str("plan")?, &mut rt.stderr())?;
-    let workers = chosen.get_one::<u32>("workers")?;
-    let capacity = chosen.get_one::<u32>("ring")?;
     let time = chosen.get_one::<u32>("time")?;
     let format = match chosen.get_str("format")? {
         "ipfix" => Format::Ipfix,
@@ -105,12 +106,33 @@ fn read_job(rt: &HostRuntime, chosen: &ArgMatches) -> Option<Job> {
     };
     Some(Job {
         plan,
-        pool: Pool {
-            workers: workers as usize,
-            capacity: capacity as usize,
-        },
         output: Output { format, time },
     })
+}
+
+// What `files` and `tcp` are told of their threads.
+fn read_pool(chosen: &ArgMatches) -> Option<Pool> {
+    let workers = chosen.get_one::<u32>("workers")?;
+    let capacity = chosen.get_one::<u32>("ring")?;
+    Some(Pool {
+        workers: workers as usize,
+        capacity: capacity as usize,
+    })
+}
+
+// The files that are named, or the status if standard input is among them twice, which is told.
+fn read_paths<'a>(chosen: &'a ArgMatches, err: &mut Stderr) -> Result<&'a [&'a str], u8> {
+    let Some(paths) = chosen.get_strs("file") else {
+        return Err(COMMAND_LINE);
+    };
+    if stands_twice(paths, "-") {
+        let _ = writeln!(
+            err,
+            "error: standard input ('-') can be one of the files only once"
+        );
+        return Err(COMMAND_LINE);
+    }
+    Ok(paths)
 }
 
 // `collectd files`: the table of the sessions in files to standard output.
@@ -120,17 +142,11 @@ fn files<R: Files<File = File> + Threads + Wait + Sync>(
     chosen: &ArgMatches,
 ) -> u8 {
     let mut err = rt.stderr();
-    let Some(paths) = chosen.get_strs("file") else {
-        return COMMAND_LINE;
+    let paths = match read_paths(chosen, &mut err) {
+        Ok(paths) => paths,
+        Err(status) => return status,
     };
-    if stands_twice(paths, "-") {
-        let _ = writeln!(
-            err,
-            "error: standard input ('-') can be one of the files only once"
-        );
-        return COMMAND_LINE;
-    }
-    let Some(job) = read_job(rt, chosen) else {
+    let (Some(job), Some(pool)) = (read_job(rt, chosen), read_pool(chosen)) else {
         return Status::NotOpened.number();
     };
     let Some(mut out) = buffered_output(rt) else {
@@ -142,7 +158,32 @@ fn files<R: Files<File = File> + Threads + Wait + Sync>(
         rt.alloc(),
         paths,
         &job.plan,
-        job.pool,
+        pool,
+        job.output,
+        &mut out,
+        &mut err,
+    )
+}
+
+// `collectd merge`: the table of the exports in files to standard output.
+fn merge(rt: &HostRuntime, chosen: &ArgMatches) -> u8 {
+    let mut err = rt.stderr();
+    let paths = match read_paths(chosen, &mut err) {
+        Ok(paths) => paths,
+        Err(status) => return status,
+    };
+    let Some(job) = read_job(rt, chosen) else {
+        return Status::NotOpened.number();
+    };
+    let Some(mut out) = buffered_output(rt) else {
+        let _ = write_export_fault(ExportFault::OutOfMemory, &mut err);
+        return Status::Failed.number();
+    };
+    run_merge(
+        rt,
+        rt.alloc(),
+        paths,
+        &job.plan,
         job.output,
         &mut out,
         &mut err,
@@ -169,7 +210,10 @@ fn tcp<R: Threads + Wait + Sync>(threads: &R, rt: &HostRuntime, chosen: &ArgMatc
     else {
         return COMMAND_LINE;
     };
-    let Some(job) = read_job(rt, chosen) else {
+    let idle = chosen
+        .get_one::<u32>("idle")
+        .map(|seconds| Duration::from_secs(u64::from(seconds)));
+    let (Some(job), Some(pool)) = (read_job(rt, chosen), read_pool(chosen)) else {
         return Status::NotOpened.number();
     };
     let Ok(listener) = TcpListener::bind(rt, addr) else {
@@ -186,10 +230,16 @@ fn tcp<R: Threads + Wait + Sync>(threads: &R, rt: &HostRuntime, chosen: &ArgMatc
         &listener,
         addr,
         sessions as usize,
+        idle,
         &job.plan,
-        job.pool,
+        pool,
         job.output,
         &mut out,
         &mut err,
     )
+}
+
+// `collectd explain`: what is told of a fault, or the list of all, to standard output.
+fn explain(rt: &HostRuntime, chosen: &ArgMatches) -> u8 {
+    run_explain(chosen.get_str("fault"), &mut rt.stdout(), &mut rt.stderr())
 }

@@ -1,6 +1,7 @@
 //! Records that are no rows.
 
-use super::rows::{by_source, record_of};
+use super::exports::plan_of;
+use super::rows::record_of;
 use flow_merge::{RowFault, read_row};
 use ipfix_wire::ElementId;
 use std::test::Fail;
@@ -12,7 +13,7 @@ const NEXT_START: u64 = 1_125_899_906_880_000;
 
 #[test]
 fn other_templates(rt: HostRuntime) -> Result<(), Fail> {
-    let plan = by_source(rt.alloc(), None)?;
+    let plan = plan_of(rt.alloc(), 60_000, None)?;
     for (domain, template, scope, fault) in [
         (0, 256, 0, None),
         (1, 256, 0, Some(RowFault::Template)),
@@ -37,7 +38,7 @@ fn other_templates(rt: HostRuntime) -> Result<(), Fail> {
 
 #[test]
 fn other_fields(rt: HostRuntime) -> Result<(), Fail> {
-    let plan = by_source(rt.alloc(), None)?;
+    let plan = plan_of(rt.alloc(), 60_000, None)?;
     // The elements of the fields, and how many octets they have.
     let cases: [&[(u16, usize)]; 9] = [
         // No fields, no key, no counter, no flows, one field too many.
@@ -91,7 +92,7 @@ fn other_values(rt: HostRuntime) -> Result<(), Fail> {
         (60_000, 119_998, 1, 0, Some(RowFault::Interval)),
         (60_000, 119_999, 1, 0, Some(RowFault::Prefix)),
     ];
-    let plan = by_source(rt.alloc(), Some(24))?;
+    let plan = plan_of(rt.alloc(), 60_000, Some(24))?;
     for (start, end, last, flows, fault) in cases {
         let fields: [(u16, &[u8]); 5] = [
             (152, &start.to_be_bytes()),

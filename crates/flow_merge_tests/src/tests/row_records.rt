@@ -1,6 +1,7 @@
 //! Records of exports are read as their rows.
 
-use super::rows::{by_source, key, record_of};
+use super::exports::plan_of;
+use super::rows::{key, record_of};
 use flow_merge::read_row;
 use flow_table::{Method, Plan};
 use ipfix_elements::Cell;
@@ -16,7 +17,7 @@ fn export_of_one_flow(rt: HostRuntime) -> Result<(), Fail> {
     let decoded = decode_text(rt.alloc(), &octets)?;
     assert_eq!(rt; decoded.stop, Stop::Clean);
     assert_eq!(rt; decoded.records.len(), 1);
-    let plan = by_source(rt.alloc(), None)?;
+    let plan = plan_of(rt.alloc(), 60_000, None)?;
     for data_record in &decoded.records {
         let row = read_row(rt.alloc(), &plan, data_record)?;
         assert_eq!(rt; row.interval, 0);

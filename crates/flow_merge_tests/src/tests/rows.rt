@@ -1,6 +1,6 @@
-//! Plans and records of exports, as the tests make them.
+//! Keys and records of exports, as the tests make them.
 
-use flow_table::{Key, Method, Plan};
+use flow_table::Key;
 use ipfix_message::{DataRecord, Fields};
 use ipfix_wire::ElementId;
 use std::alloc::Global;
@@ -12,13 +12,6 @@ pub fn key(number: u16, prefix: Option<u8>) -> Key {
         element: ElementId::iana(number),
         prefix,
     }
-}
-
-/// A plan with intervals of a minute, by source address, that adds octets.
-pub fn by_source(alloc: Global, prefix: Option<u8>) -> Result<Plan, Fail> {
-    let keys = [key(8, prefix)];
-    let counters = [ElementId::iana(1)];
-    Ok(Plan::new(alloc, 60_000, Method::Start, &keys, &counters, 4096)?)
 }
 
 /// A record of template 256 in domain 0 with these fields: numbers of IANA's elements, and the octets.

@@ -1,0 +1,3 @@
+-- what public contracts cite
+pub mod Explained
+pub mod Guide

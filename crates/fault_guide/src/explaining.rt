@@ -1,0 +1,134 @@
+//! Finding and writing what is told of a fault.
+
+ghost use Rattle.std.specs.Prelude.{◌≡◌, ◌⊎◌, ◌↔◌, find, None, Some, IsOk, IsSomeAnd, OnOk};
+ghost use Rattle.std.specs.List.{flat_map};
+ghost use Rattle.std.specs.Option.{option_map};
+ghost use Rattle.std.specs.Io.KnownBytes.{Appends};
+ghost use Rattle.ipfix_session.specs.declared.fault.SessionFault.{SessionFault};
+ghost use Rattle.fault_guide.specs.Explained.{IsWordOf, answer, explanation_text, fault_line, list_text, named, names, rule_lines};
+
+use crate::faults::FAULTS;
+use crate::guide::Explanation;
+use ipfix_session::SessionFault;
+use itoa::Buffer;
+use std::io::{self, Write};
+
+/// The fault that a word names: by its number in decimal, or by its name.
+pub fn fault_named(word: &str) -> Option<SessionFault>
+    // Each fault is found by both.
+    ensures each { (fault : SessionFault) → IsWordOf word.now fault → result ≡ Some fault }
+    ensures exact { result ≡ named word.now }
+{
+    named_fault(word)
+}
+
+#[tactic(auto, unfolding(crate::specs::Explained::named))]
+fn named_fault(word: &str) -> Option<SessionFault>
+    ensures { result ≡ named word.now }
+{
+    find_fault(&FAULTS, word)
+}
+
+fn find_fault(mut faults: &'static [SessionFault], word: &str) -> Option<SessionFault>
+    ensures { result ≡ find (names word.now) faults.entry.now }
+{
+    while let [fault, rest @ ..] = faults {
+        if is_named(*fault, word) {
+            return Some(*fault);
+        }
+        faults = rest;
+    }
+    None
+}
+
+fn is_named(fault: SessionFault, word: &str) -> bool
+    ensures { result ≡ names word.now fault }
+{
+    let mut digits = Buffer::new();
+    word == digits.format(fault.number()) || word == fault.name()
+}
+
+/// Writes what is told of a fault, and sees to it that nothing is left in the writer's buffer.
+pub fn explain<W: Write>(fault: SessionFault, out: &mut W) -> io::Result<()>
+    ensures { OnOk result (Appends (W.contents out.old) (W.contents out.new) (explanation_text fault)) }
+{
+    write!(out, "fault ")?;
+    write_fault_line(fault, out)?;
+    write_rule_lines(fault, out)?;
+    out.flush()
+}
+
+#[tactic(auto, unfolding(crate::specs::Explained::fault_line))]
+fn write_fault_line<W: Write>(fault: SessionFault, out: &mut W) -> io::Result<()>
+    ensures { OnOk result (Appends (W.contents out.old) (W.contents out.new) (fault_line fault)) }
+{
+    let (number, name) = (fault.number(), fault.name());
+    let found = Explanation::of(fault).found;
+    writeln!(out, "{number} {name}: {found}")
+}
+
+#[tactic(auto, unfolding(crate::specs::Explained::rule_lines))]
+fn write_rule_lines<W: Write>(fault: SessionFault, out: &mut W) -> io::Result<()>
+    ensures { OnOk result (Appends (W.contents out.old) (W.contents out.new) (rule_lines fault)) }
+{
+    let told = Explanation::of(fault);
+    let (rule, advice) = (told.rule, told.advice);
+    writeln!(out, "rule: {rule}\n{advice}")
+}
+
+/// Writes a line for each fault, in the order of their numbers, and sees to it that nothing is left in
+/// the writer's buffer.
+pub fn list_faults<W: Write>(out: &mut W) -> io::Result<()>
+    ensures { OnOk result (Appends (W.contents out.old) (W.contents out.new) list_text) }
+{
+    write_fault_lines(&FAULTS, out)?;
+    out.flush()
+}
+
+fn write_fault_lines<W: Write>(faults: &[SessionFault], out: &mut W) -> io::Result<()>
+    ensures { OnOk result (Appends (W.contents out.old) (W.contents out.new) (flat_map fault_line faults.now)) }
+{
+    for fault in faults {
+        write_fault_line(*fault, out)?;
+    }
+    Ok(())
+}
+
+/// Writes to `out` what is told of the fault that a word names, or without a word the list of all, and
+/// answers the exit status: 0 if it was written; 2 if the word names no fault, and then nothing was
+/// written; 3 if it couldn't be written. To `err` it writes a line for status 2 or 3. A fault of `err`
+/// is passed over.
+pub fn run_explain<W: Write, E: Write>(word: Option<&str>, out: &mut W, err: &mut E) -> u8
+    ensures statuses { (result ≡ 0) ⊎ (result ≡ 2) ⊎ (result ≡ 3) }
+    ensures told { result ≡ 0 → IsSomeAnd (answer (option_map (λ w. w.now) word.entry)) (Appends (W.contents out.old) (W.contents out.new)) }
+    ensures unknown { (result ≡ 2) ↔ (answer (option_map (λ w. w.now) word.entry) ≡ None) }
+    ensures untouched { result ≡ 2 → out.new ≡ out.old }
+{
+    match word {
+        None => status_of(list_faults(out), err),
+        Some(word) => match fault_named(word) {
+            Some(fault) => status_of(explain(fault, out), err),
+            None => {
+                let _ = writeln!(
+                    err,
+                    "error: no fault has this number or name; 'collectd explain' lists them"
+                );
+                2
+            }
+        },
+    }
+}
+
+// The exit status of what was written.
+fn status_of<E: Write>(written: io::Result<()>, err: &mut E) -> u8
+    ensures statuses { (result ≡ 0) ⊎ (result ≡ 3) }
+    ensures well { result ≡ 0 → IsOk written }
+{
+    match written {
+        Ok(()) => 0,
+        Err(_) => {
+            let _ = writeln!(err, "collectd: explain: fault 1 WriteFailed");
+            3
+        }
+    }
+}

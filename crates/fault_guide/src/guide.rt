@@ -1,0 +1,135 @@
+//! What is told of each fault.
+
+ghost use Rattle.std.specs.Prelude.{◌≡◌};
+ghost use Rattle.fault_guide.specs.Guide.{told_of, told_of_message};
+
+use ipfix_message::MessageFault;
+use ipfix_session::SessionFault;
+
+/// What is told of a fault.
+#[derive(Clone, Copy, Debug)]
+pub struct Explanation {
+    /// What was found, without a capital letter and a full stop.
+    pub found: &'static str,
+    /// The sections of RFC 7011 by which it is a fault, or that there are none.
+    pub rule: &'static str,
+    /// What an operator does about it, in sentences. A line has less than 90 octets.
+    pub advice: &'static str,
+}
+
+impl Explanation {
+    /// What is told of a fault.
+    pub fn of(fault: SessionFault) -> Self
+        ensures found { result.found.now ≡ (told_of fault).found }
+        ensures rule { result.rule.now ≡ (told_of fault).rule }
+        ensures advice { result.advice.now ≡ (told_of fault).advice }
+    {
+        match fault {
+            SessionFault::Message(fault) => explanation_of_message(fault),
+            SessionFault::Truncated => Explanation {
+                found: "the input ended inside a message",
+                rule: "RFC 7011, section 3.1",
+                advice: "The file was cut, or the exporter was stopped while it sent. A tunnel that is killed\n\
+                    ends a session in the same way (seen of stunnel). Copy the file again, or see why.",
+            },
+            SessionFault::ReadFailed => Explanation {
+                found: "the input could not be read on, or sent nothing for as long as --idle says",
+                rule: "none of RFC 7011",
+                advice: "The connection was reset or fell silent, or the file's disk fails. Look at the log of\n\
+                    the system and of the exporter, and let it connect again.",
+            },
+            SessionFault::TooManyReads => Explanation {
+                found: "the input had not ended after 2^40 reads",
+                rule: "none of RFC 7011",
+                advice: "End the session earlier, and begin another one.",
+            },
+            SessionFault::SinkClosed => Explanation {
+                found: "the sink takes no more records",
+                rule: "none of RFC 7011",
+                advice: "What the records went to has ended. Look for the fault that it tells.",
+            },
+        }
+    }
+}
+
+fn explanation_of_message(fault: MessageFault) -> Explanation
+    ensures found { result.found.now ≡ (told_of_message fault).found }
+    ensures rule { result.rule.now ≡ (told_of_message fault).rule }
+    ensures advice { result.advice.now ≡ (told_of_message fault).advice }
+{
+    match fault {
+        MessageFault::Version => Explanation {
+            found: "the version is not 10",
+            rule: "RFC 7011, section 3.1",
+            advice: "What was sent is not IPFIX. Let the exporter send version 10, not NetFlow 5 or 9\n\
+                (softflowd: -v 10), and see that nothing else writes to the port or the file.",
+        },
+        MessageFault::MessageLength => Explanation {
+            found: "the length field is below 16, or is not the length of the message",
+            rule: "RFC 7011, section 3.1",
+            advice: "The exporter is faulty, or octets were lost or added on the way. A file has to be\n\
+                copied as it is, and to begin where a message begins.",
+        },
+        MessageFault::SetHeader => Explanation {
+            found: "1 to 3 octets where a set should begin",
+            rule: "RFC 7011, section 3.3",
+            advice: "The lengths that the exporter writes don't fit each other. Tell its maker.",
+        },
+        MessageFault::SetLength => Explanation {
+            found: "a set's length is below 4, or past the end of the message",
+            rule: "RFC 7011, section 3.3",
+            advice: "The lengths that the exporter writes don't fit each other. Tell its maker.",
+        },
+        MessageFault::TemplateId => Explanation {
+            found: "a template id below 256 that is no withdrawal of all",
+            rule: "RFC 7011, sections 3.4.1 and 8.1",
+            advice: "The exporter gives a template an id that is kept for sets. Tell its maker.",
+        },
+        MessageFault::TemplateCut => Explanation {
+            found: "a template record goes past its set",
+            rule: "RFC 7011, sections 3.4.1 and 3.4.2",
+            advice: "The field count that the exporter writes doesn't fit the fields after it, or the\n\
+                length of the set is wrong. Tell its maker.",
+        },
+        MessageFault::Scope => Explanation {
+            found: "a scope field count of 0, or above the field count",
+            rule: "RFC 7011, section 3.4.2",
+            advice: "The options template doesn't say what its options are about. Tell the exporter's\n\
+                maker, and turn its options off until then, if it can.",
+        },
+        MessageFault::ZeroLength => Explanation {
+            found: "a template whose records would have no octets",
+            rule: "none of RFC 7011",
+            advice: "Every field of the template has width 0, so its records couldn't be counted. Tell\n\
+                the exporter's maker.",
+        },
+        MessageFault::TemplateChanged => Explanation {
+            found: "another template is in force under that id",
+            rule: "RFC 7011, section 8.1",
+            advice: "The exporter gave an id to another template without a withdrawal. Give each\n\
+                exporter, and each start of one, a session of its own. If it has one, tell its maker.",
+        },
+        MessageFault::RecordCut => Explanation {
+            found: "a data record goes past its set",
+            rule: "RFC 7011, section 3.4.3",
+            advice: "The records don't fit their template. Give each exporter, and each start of one, a\n\
+                session of its own. If it has one, tell its maker.",
+        },
+        MessageFault::TooManyDomains => Explanation {
+            found: "one domain more than 1,024",
+            rule: "none of RFC 7011",
+            advice: "The session has more observation domains than this program takes. Let the exporter\n\
+                use fewer, or more sessions.",
+        },
+        MessageFault::OutOfMemory => Explanation {
+            found: "memory was refused; may stand in place of any other answer",
+            rule: "none of RFC 7011",
+            advice: "Give the program more memory, or fewer sessions at once, or shorter rings (--ring).",
+        },
+        MessageFault::Spent => Explanation {
+            found: "an earlier message of the session had a fault",
+            rule: "none of RFC 7011",
+            advice: "Look for the fault of that message: it came first.",
+        },
+    }
+}
