@@ -3,6 +3,7 @@ pub mod DumpLines
 pub mod JsonLines
 pub mod Dumped
 pub mod Runs
+pub mod Merges
 pub mod ReportLines
 pub mod PlaceLines
 pub mod Statuses

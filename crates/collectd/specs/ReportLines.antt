@@ -7,6 +7,10 @@ use Rattle.ipfix_session.specs.declared.fault.SessionFault.{SessionFault}
 use Rattle.ipfix_session.specs.Faults.{number_of, name_of}
 use Rattle.flow_table.specs.PlanFaults as plan
 use Rattle.flow_table.specs.declared.tally.Tally.{Tally}
+use Rattle.flow_merge.specs.MergeFaults as merging
+use Rattle.flow_merge.specs.RowFaults as rows
+use Rattle.flow_merge.specs.declared.merge_fault.MergeFault.{MergeFault}
+use Rattle.flow_merge.specs.declared.merge_fault.MergeFault.TheVariants.{Session, Row}
 use Rattle.plan_file.specs.Faults as text
 use Rattle.plan_file.specs.declared.fault.PlanTextFault.{PlanTextFault}
 use Rattle.plan_file.specs.declared.fault.PlanTextFault.TheVariants.{Plan}
@@ -50,3 +54,18 @@ tally_line t = first_counts t ++ last_counts t
 abbrev pub plan_fault_text : PlanTextFault → List ℕ
 plan_fault_text (Plan fault) = codes ": fault 6 Plan" ++ fault_text (plan.number_of fault) (plan.name_of fault)
 plan_fault_text fault = fault_text (text.number_of fault) (text.name_of fault)
+
+-- ---- merging
+
+-- how many files were merged, and how many rows their table has
+unfoldable pub merged_line : ℕ → ℕ → List ℕ
+merged_line files rows = codes "collectd: merged: files " ++ (decimal files ++ (codes " rows " ++ (decimal rows ++ codes "\n")))
+
+-- the fault of a file, and behind it that of its session or of its record
+abbrev pub merge_fault_text : MergeFault → List ℕ
+merge_fault_text (Session fault) = codes ": fault 3 Session" ++ fault_text (number_of fault) (name_of fault)
+merge_fault_text (Row fault) = codes ": fault 6 Row" ++ fault_text (rows.number_of fault) (rows.name_of fault)
+merge_fault_text fault = fault_text (merging.number_of fault) (merging.name_of fault)
+
+abbrev pub file_fault_line : ℕ → MergeFault → List ℕ
+file_fault_line file fault = codes "collectd: merge: file " ++ (decimal file ++ merge_fault_text fault)

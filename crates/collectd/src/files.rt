@@ -1,7 +1,7 @@
 //! Collecting from files.
 
-ghost use Rattle.std.specs.Prelude.{◌≡◌, ◌≢◌, ◌⊎◌, length, IfOk};
-ghost use Rattle.collectd.specs.Runs.{RunsSources};
+ghost use Rattle.std.specs.Prelude.{◌≡◌, ◌≢◌, ◌⊎◌, length, IfOk, IfSome};
+ghost use Rattle.collectd.specs.Runs.{IsUnread, RunsSources};
 
 use crate::status::Status;
 use crate::table_run::{Output, run};
@@ -66,17 +66,25 @@ fn open_all<'a, R: Files<File = File>>(
 {
     let mut sources = Unread::new(alloc);
     for path in paths {
-        let name = if *path == STANDARD_INPUT.0 {
-            STANDARD_INPUT.1
-        } else {
-            *path
-        };
-        let Ok(file) = fs::open(rt, name) else {
+        let Some(source) = open_source(rt, *path) else {
             return Err(*path);
         };
-        let Ok(()) = sources.push(FromReader::new(file)) else {
+        let Ok(()) = sources.push(source) else {
             return Err(*path);
         };
     }
     Ok(sources)
+}
+
+/// The file as a source of which nothing was read, if it can be opened. The file `-` is standard input.
+pub fn open_source<R: Files<File = File>>(rt: &R, path: &str) -> Option<FromReader<File>>
+    ensures { IfSome result (IsUnread ⟦<FromReader<File> as Source>⟧.seen) }
+{
+    let name = if path == STANDARD_INPUT.0 {
+        STANDARD_INPUT.1
+    } else {
+        path
+    };
+    let file = fs::open(rt, name).ok()?;
+    Some(FromReader::new(file))
 }

@@ -10,6 +10,8 @@ mod labels;
 mod line;
 mod line_octets;
 mod line_sink;
+mod merge_reports;
+mod merging;
 mod network;
 mod places;
 mod plans;
@@ -25,6 +27,7 @@ mod unread;
 pub use dumping::{dump, dump_json};
 pub use fault::DumpFault;
 pub use files::run_files;
+pub use merging::run_merge;
 pub use network::run_tcp;
 pub use plans::load_plan;
 pub use reports::{

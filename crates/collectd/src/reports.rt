@@ -114,9 +114,9 @@ fn write_last_counts<W: Write>(tally: &Tally, out: &mut W) -> io::Result<()>
     )
 }
 
-// The line of a fault, of whatever it is.
+/// The line of a fault, of whatever it is.
 #[tactic(auto, unfolding(crate::specs::ReportLines::fault_text))]
-fn write_fault<W: Write>(what: &str, number: u8, name: &str, out: &mut W) -> io::Result<()>
+pub fn write_fault<W: Write>(what: &str, number: u8, name: &str, out: &mut W) -> io::Result<()>
     ensures { OnOk result (Appends (W.contents out.old) (W.contents out.new) (codes "collectd: " ++ (what.now ++ fault_text number name.now))) }
 {
     writeln!(out, "collectd: {what}: fault {number} {name}")

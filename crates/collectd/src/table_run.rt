@@ -90,8 +90,8 @@ fn collect_and_write<S: Source + Send + Drop, W: Write, R: Threads + Wait + Sync
     }
 }
 
-// Writes a table, and sees to it that nothing is left in the writer's buffer.
-fn export<W: Write>(
+/// Writes a table, and sees to it that nothing is left in the writer's buffer.
+pub fn export<W: Write>(
     alloc: Global,
     plan: &Plan,
     table: &Table,

@@ -6,8 +6,8 @@ mod words;
 use clap::error::ErrorKind;
 use clap::{ArgMatches, Error};
 use collectd::{
-    DumpFault, Output, Status, load_plan, run_dump, run_dump_json, run_files, run_tcp, write_dump_fault,
-    write_export_fault,
+    DumpFault, Output, Status, load_plan, run_dump, run_dump_json, run_files, run_merge, run_tcp,
+    write_dump_fault, write_export_fault,
 };
 use fault_guide::run_explain;
 use flow_collect::Pool;
@@ -16,7 +16,7 @@ use flow_table::Plan;
 use ipfix_session::FromReader;
 use std::env;
 use std::fs::File;
-use std::io::{self, BufWriter, Stdout, Write};
+use std::io::{self, BufWriter, Stderr, Stdout, Write};
 use std::net::TcpListener;
 use std::process::ExitCode;
 use std::rt::Files;
@@ -54,6 +54,7 @@ fn run<R: Files<File = File> + Threads + Wait + Sync>(
             Some(("dump", chosen)) => dump(rt, chosen),
             Some(("files", chosen)) => files(threads, rt, chosen),
             Some(("tcp", chosen)) => tcp(threads, rt, chosen),
+            Some(("merge", chosen)) => merge(rt, chosen),
             Some(("explain", chosen)) => explain(rt, chosen),
             _ => COMMAND_LINE,
         }),
@@ -91,19 +92,16 @@ fn dump(rt: &HostRuntime, chosen: &ArgMatches) -> u8 {
     }
 }
 
-// What `files` and `tcp` are told alike.
+// What all commands with a plan are told alike.
 #[derive(Drop)]
 struct Job {
     plan: Plan,
-    pool: Pool,
     output: Output,
 }
 
 // The plan, which is read here, and the options. `None` if there is no plan, and that was told.
 fn read_job(rt: &HostRuntime, chosen: &ArgMatches) -> Option<Job> {
     let plan = load_plan(rt, rt.alloc(), chosen.get_str("plan")?, &mut rt.stderr())?;
-    let workers = chosen.get_one::<u32>("workers")?;
-    let capacity = chosen.get_one::<u32>("ring")?;
     let time = chosen.get_one::<u32>("time")?;
     let format = match chosen.get_str("format")? {
         "ipfix" => Format::Ipfix,
@@ -111,12 +109,33 @@ fn read_job(rt: &HostRuntime, chosen: &ArgMatches) -> Option<Job> {
     };
     Some(Job {
         plan,
-        pool: Pool {
-            workers: workers as usize,
-            capacity: capacity as usize,
-        },
         output: Output { format, time },
     })
+}
+
+// What `files` and `tcp` are told of their threads.
+fn read_pool(chosen: &ArgMatches) -> Option<Pool> {
+    let workers = chosen.get_one::<u32>("workers")?;
+    let capacity = chosen.get_one::<u32>("ring")?;
+    Some(Pool {
+        workers: workers as usize,
+        capacity: capacity as usize,
+    })
+}
+
+// The files that are named, or the status if standard input is among them twice, which is told.
+fn read_paths<'c, 'w>(chosen: &'c ArgMatches<'w>, err: &mut Stderr) -> Result<&'c [&'w str], u8> {
+    let Some(paths) = chosen.get_strs("file") else {
+        return Err(COMMAND_LINE);
+    };
+    if stands_twice(paths, "-") {
+        let _ = writeln!(
+            err,
+            "error: standard input ('-') can be one of the files only once"
+        );
+        return Err(COMMAND_LINE);
+    }
+    Ok(paths)
 }
 
 // `collectd files`: the table of the sessions in files to standard output.
@@ -126,17 +145,11 @@ fn files<R: Files<File = File> + Threads + Wait + Sync>(
     chosen: &ArgMatches,
 ) -> u8 {
     let mut err = rt.stderr();
-    let Some(paths) = chosen.get_strs("file") else {
-        return COMMAND_LINE;
+    let paths = match read_paths(chosen, &mut err) {
+        Ok(paths) => paths,
+        Err(status) => return status,
     };
-    if stands_twice(paths, "-") {
-        let _ = writeln!(
-            err,
-            "error: standard input ('-') can be one of the files only once"
-        );
-        return COMMAND_LINE;
-    }
-    let Some(job) = read_job(rt, chosen) else {
+    let (Some(job), Some(pool)) = (read_job(rt, chosen), read_pool(chosen)) else {
         return Status::NotOpened.number();
     };
     let Some(mut out) = buffered_output(rt) else {
@@ -148,7 +161,32 @@ fn files<R: Files<File = File> + Threads + Wait + Sync>(
         rt.alloc(),
         paths,
         &job.plan,
-        job.pool,
+        pool,
+        job.output,
+        &mut out,
+        &mut err,
+    )
+}
+
+// `collectd merge`: the table of the exports in files to standard output.
+fn merge(rt: &HostRuntime, chosen: &ArgMatches) -> u8 {
+    let mut err = rt.stderr();
+    let paths = match read_paths(chosen, &mut err) {
+        Ok(paths) => paths,
+        Err(status) => return status,
+    };
+    let Some(job) = read_job(rt, chosen) else {
+        return Status::NotOpened.number();
+    };
+    let Some(mut out) = buffered_output(rt) else {
+        let _ = write_export_fault(ExportFault::OutOfMemory, &mut err);
+        return Status::Failed.number();
+    };
+    run_merge(
+        rt,
+        rt.alloc(),
+        paths,
+        &job.plan,
         job.output,
         &mut out,
         &mut err,
@@ -178,7 +216,7 @@ fn tcp<R: Threads + Wait + Sync>(threads: &R, rt: &HostRuntime, chosen: &ArgMatc
     let idle = chosen
         .get_one::<u32>("idle")
         .map(|seconds| Duration::from_secs(u64::from(seconds)));
-    let Some(job) = read_job(rt, chosen) else {
+    let (Some(job), Some(pool)) = (read_job(rt, chosen), read_pool(chosen)) else {
         return Status::NotOpened.number();
     };
     let Ok(listener) = TcpListener::bind(rt, addr) else {
@@ -197,7 +235,7 @@ fn tcp<R: Threads + Wait + Sync>(threads: &R, rt: &HostRuntime, chosen: &ArgMatc
         sessions as usize,
         idle,
         &job.plan,
-        job.pool,
+        pool,
         job.output,
         &mut out,
         &mut err,
@@ -206,9 +244,5 @@ fn tcp<R: Threads + Wait + Sync>(threads: &R, rt: &HostRuntime, chosen: &ArgMatc
 
 // `collectd explain`: what is told of a fault, or the list of all, to standard output.
 fn explain(rt: &HostRuntime, chosen: &ArgMatches) -> u8 {
-    run_explain(
-        chosen.get_str("fault"),
-        &mut rt.stdout(),
-        &mut rt.stderr(),
-    )
+    run_explain(chosen.get_str("fault"), &mut rt.stdout(), &mut rt.stderr())
 }

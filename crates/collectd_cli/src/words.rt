@@ -24,6 +24,7 @@ fn command<'a>(alloc: Global) -> Result<Command<'a>, AllocError> {
         .subcommand(dump_command(alloc)?)?
         .subcommand(files_command(alloc)?)?
         .subcommand(tcp_command(alloc)?)?
+        .subcommand(merge_command(alloc)?)?
         .subcommand(explain_command(alloc)?)
 }
 
@@ -84,6 +85,18 @@ fn tcp_command<'a>(alloc: Global) -> Result<Command<'a>, AllocError> {
         .arg(idle)
 }
 
+fn merge_command<'a>(alloc: Global) -> Result<Command<'a>, AllocError> {
+    let file = Arg::new(alloc, "file")
+        .value_name("FILE")
+        .required(true)
+        .num_args(1..)
+        .help("A table that was written as IPFIX under the same plan; '-' is standard input");
+    let merge = Command::new(alloc, "merge")
+        .about("Adds up tables that were written as IPFIX and writes the table of all of them")
+        .after_help("Example:\n  collectd merge --plan plan.toml one.ipfix two.ipfix > table.csv");
+    with_output(alloc, with_plan(alloc, merge)?)?.arg(file)
+}
+
 fn explain_command<'a>(alloc: Global) -> Result<Command<'a>, AllocError> {
     let fault = Arg::new(alloc, "fault")
         .value_name("FAULT")
@@ -96,11 +109,19 @@ fn explain_command<'a>(alloc: Global) -> Result<Command<'a>, AllocError> {
 
 // The options that `files` and `tcp` share.
 fn with_options<'a>(alloc: Global, command: Command<'a>) -> Result<Command<'a>, AllocError> {
+    with_output(alloc, with_pool(alloc, with_plan(alloc, command)?)?)
+}
+
+fn with_plan<'a>(alloc: Global, command: Command<'a>) -> Result<Command<'a>, AllocError> {
     let plan = Arg::new(alloc, "plan")
         .long("plan")
         .value_name("P")
         .required(true)
         .help("The plan of the aggregation, a TOML file");
+    command.arg(plan)
+}
+
+fn with_pool<'a>(alloc: Global, command: Command<'a>) -> Result<Command<'a>, AllocError> {
     let workers = Arg::new(alloc, "workers")
         .long("workers")
         .value_name("N")
@@ -113,6 +134,10 @@ fn with_options<'a>(alloc: Global, command: Command<'a>) -> Result<Command<'a>, 
         .default_value("64")
         .value_parser(value_parser!(u32))
         .help("Records that may wait between a session and its worker, 1 to 65536");
+    command.arg(workers)?.arg(ring)
+}
+
+fn with_output<'a>(alloc: Global, command: Command<'a>) -> Result<Command<'a>, AllocError> {
     let format = Arg::new(alloc, "format")
         .long("format")
         .value_name("FORMAT")
@@ -125,10 +150,5 @@ fn with_options<'a>(alloc: Global, command: Command<'a>) -> Result<Command<'a>, 
         .default_value("0")
         .value_parser(value_parser!(u32))
         .help("The export time of messages of IPFIX, in seconds since 1970-01-01 UTC");
-    command
-        .arg(plan)?
-        .arg(workers)?
-        .arg(ring)?
-        .arg(format)?
-        .arg(time)
+    command.arg(format)?.arg(time)
 }

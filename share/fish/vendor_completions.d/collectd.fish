@@ -1,23 +1,24 @@
 # Completions of collectd for fish.
-set -l commands dump files tcp explain help
+set -l commands dump files tcp merge explain help
 complete -c collectd -f
 complete -c collectd -n "not __fish_seen_subcommand_from $commands" -a dump -d 'Write a line for each data record'
 complete -c collectd -n "not __fish_seen_subcommand_from $commands" -a files -d 'Write the table of files'
 complete -c collectd -n "not __fish_seen_subcommand_from $commands" -a tcp -d 'Write the table of connections'
+complete -c collectd -n "not __fish_seen_subcommand_from $commands" -a merge -d 'Write the table of tables'
 complete -c collectd -n "not __fish_seen_subcommand_from $commands" -a explain -d 'Tell what a fault is'
 complete -c collectd -n "not __fish_seen_subcommand_from $commands" -a help -d 'Print help'
 complete -c collectd -n "not __fish_seen_subcommand_from $commands" -l version -d 'Print the version'
 complete -c collectd -l help -d 'Print help'
-complete -c collectd -n '__fish_seen_subcommand_from help' -a 'dump files tcp explain'
+complete -c collectd -n '__fish_seen_subcommand_from help' -a 'dump files tcp merge explain'
 # (the names of the faults, as the program lists them)
 complete -c collectd -n '__fish_seen_subcommand_from explain' -a "(command -q collectd; and collectd explain 2> /dev/null | string replace -r '^\d+ (\w+): ' '\$1\t')"
 complete -c collectd -n '__fish_seen_subcommand_from dump' -l format -x -a 'text json' -d 'How a data record is written'
-complete -c collectd -n '__fish_seen_subcommand_from files' -F
-complete -c collectd -n '__fish_seen_subcommand_from files tcp' -l plan -r -F -d 'The plan of the aggregation'
+complete -c collectd -n '__fish_seen_subcommand_from files merge' -F
+complete -c collectd -n '__fish_seen_subcommand_from files tcp merge' -l plan -r -F -d 'The plan of the aggregation'
 complete -c collectd -n '__fish_seen_subcommand_from files tcp' -l workers -x -d 'Threads that aggregate, 1 to 16'
 complete -c collectd -n '__fish_seen_subcommand_from files tcp' -l ring -x -d 'Records that may wait for a worker'
-complete -c collectd -n '__fish_seen_subcommand_from files tcp' -l format -x -a 'csv ipfix' -d 'How the table is written'
-complete -c collectd -n '__fish_seen_subcommand_from files tcp' -l time -x -d 'The export time of messages of IPFIX'
+complete -c collectd -n '__fish_seen_subcommand_from files tcp merge' -l format -x -a 'csv ipfix' -d 'How the table is written'
+complete -c collectd -n '__fish_seen_subcommand_from files tcp merge' -l time -x -d 'The export time of messages of IPFIX'
 complete -c collectd -n '__fish_seen_subcommand_from tcp' -l listen -x -d 'The address and port to listen on'
 complete -c collectd -n '__fish_seen_subcommand_from tcp' -l sessions -x -d 'How many connections to accept'
 complete -c collectd -n '__fish_seen_subcommand_from tcp' -l idle -x -d 'Seconds that a connection may send nothing'

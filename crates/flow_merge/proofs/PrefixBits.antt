@@ -1,0 +1,80 @@
+-- A key that was projected to its prefixes is the same when it is projected again.
+use Rattle.std.proofs.Common.{◌≡◌, ℕ, zero, suc, ◌+◌, ◌-◌, ◌*◌, ◌/◌, ◌%◌, ◌^◌, ◌<◌, List, [], ◌∷◌, Option, Some, None, refl, sym, ap, subst, ◌∙◌, option_map, option_and_then, add-zero, arith}
+use Rattle.std.specs.Int.{byte_at, bytes_high_first}
+use Rattle.std.proofs.Math.Nat.{div-add-mod', div-one, mul-add-div_right, mul-add-mod_self_right, mul-div_cancel, mul-mod_left, mul_assoc, one-le-pow, pow-succ'}
+use Rattle.std.proofs.lemmas.Nat.{mod-pow-add}
+use Rattle.std.proofs.lemmas.Option.{option_and_then_some}
+use Rattle.byteorder.specs.Endian.{big_bytes, big_number}
+use Rattle.byteorder.specs.Numbers.{big_from-bytes}
+use Rattle.ipfix_elements.proofs.Lookups.{mapped}
+use Rattle.ipfix_elements.specs.Elements.{kind_of}
+use Rattle.ipfix_elements.specs.Prefixes.{masked}
+use Rattle.ipfix_elements.specs.Values.{cell_in}
+use Rattle.ipfix_elements.specs.declared.cell.Cell.{Cell}
+use Rattle.ipfix_elements.specs.declared.cell.Cell.TheVariants.{Number, Ipv4, Ipv6, Mac}
+use Rattle.ipfix_message.specs.Fields.{octets_of}
+use Rattle.ipfix_message.specs.declared.record.DataRecord.{DataRecord}
+use Rattle.flow_table.specs.declared.key.Key.{Key}
+use Rattle.flow_table.specs.Reading.{projected, cell_of, cells_of}
+use Rattle.flow_merge.specs.RowRecords.{AreProjected}
+
+-- ---- an address
+
+byte_is : (k x : ℕ) → byte_at k x ≡ x / 256 ^ k % 256
+byte_is zero x = ap (λ (y : ℕ). y % 256) (sym (div-one x))
+byte_is (suc k) x = refl
+
+-- the lowest octets of a number are those of what is below their place
+bytes_below : (n q x : ℕ) → bytes_high_first n (q * 256 ^ n + x) ≡ bytes_high_first n x
+bytes_below zero q x = refl
+bytes_below (suc n) q x =
+    let positive : 0 < 256 ^ n = one-le-pow n 256 (omega arith) in
+    let moved : q * 256 ^ suc n + x ≡ q * 256 * 256 ^ n + x = ap (λ (p : ℕ). q * p + x) (pow-succ' 256 n) ∙ ap (λ (m : ℕ). m + x) (sym (mul_assoc q 256 (256 ^ n))) in
+    let first : byte_at n (q * 256 * 256 ^ n + x) ≡ byte_at n x =
+    byte_is n (q * 256 * 256 ^ n + x) ∙ ap (λ (m : ℕ). m % 256) (mul-add-div_right positive (q * 256) x) ∙ mul-add-mod_self_right q 256 (x / 256 ^ n) ∙ sym (byte_is n x) in
+    rw (moved, first, bytes_below n (q * 256) x) refl
+
+-- a multiple of a power of 2 is one below a higher power, too
+cut_multiple : (m k j : ℕ) → m * 2 ^ k % 2 ^ (j + k) / 2 ^ k * 2 ^ k ≡ m * 2 ^ k % 2 ^ (j + k)
+cut_multiple m k j =
+    let p = 2 ^ k in
+    let positive : 0 < p = one-le-pow k 2 (omega arith) in
+    let times = m * p / p % 2 ^ j in
+    let is : m * p % 2 ^ (j + k) ≡ times * p = mod-pow-add (m * p) j k ∙ ap (λ (r : ℕ). times * p + r) (mul-mod_left m p) ∙ add-zero (times * p) in
+    ap (λ (n : ℕ). n / p * p) is ∙ ap (λ (n : ℕ). n * p) (mul-div_cancel times positive) ∙ sym is
+
+masked_kept : (x k j : ℕ) → j + k ≡ 32 → big_bytes 4 (x / 2 ^ k * 2 ^ k % 256 ^ 4 / 2 ^ k * 2 ^ k) ≡ big_bytes 4 (x / 2 ^ k * 2 ^ k)
+masked_kept x k j sum =
+    let n = x / 2 ^ k * 2 ^ k in
+    let square : 2 ^ (j + k) ≡ 256 ^ 4 = ap (λ (w : ℕ). 2 ^ w) sum in
+    let cut : n % 256 ^ 4 / 2 ^ k * 2 ^ k ≡ n % 256 ^ 4 = subst (λ (s : ℕ). n % s / 2 ^ k * 2 ^ k ≡ n % s) square (cut_multiple (x / 2 ^ k) k j) in
+    ap (big_bytes 4) cut ∙ sym (bytes_below 4 (n / 256 ^ 4) (n % 256 ^ 4)) ∙ ap (big_bytes 4) (div-add-mod' n (256 ^ 4))
+
+masked_again : (address : List ℕ) (bits : ℕ) → masked (masked address bits) bits ≡ masked address bits
+masked_again address bits =
+    let k = 32 - bits in
+    let n = big_number 4 address in
+    let sum : 32 - k + k ≡ 32 = omega arith in
+    ap (λ (m : ℕ). big_bytes 4 (m / 2 ^ k * 2 ^ k)) (big_from-bytes 4 (n / 2 ^ k * 2 ^ k) []) ∙ masked_kept n k (32 - k) sum
+
+projected_again : (prefix : Option ℕ) (cell : Cell) → projected prefix (projected prefix cell) ≡ projected prefix cell
+projected_again None cell = refl
+projected_again (Some bits) (Number n) = refl
+projected_again (Some bits) (Ipv4 address) = ap (λ (a : List ℕ). Ipv4 a) (masked_again address bits)
+projected_again (Some bits) (Ipv6 address) = refl
+projected_again (Some bits) (Mac address) = refl
+
+-- ---- a key
+
+cell_projected : (key : Key) (r : DataRecord) (cell : Cell) → cell_of key r ≡ Some cell → projected key.prefix cell ≡ cell
+unfolding cell_of
+cell_projected key r cell is =
+    let whole = mapped (projected key.prefix) (option_and_then (cell_in (kind_of key.element)) (octets_of key.element r.fields)) cell is in
+    subst (λ (c : Cell). projected key.prefix c ≡ c) whole.2 (projected_again key.prefix whole.0)
+
+pub cells_projected : (keys : List Key) (r : DataRecord) (cells : List Cell) → cells_of keys r ≡ Some cells → AreProjected keys cells
+cells_projected [] r cells is = let none : [] ≡ cells = cc in subst (AreProjected []) none tt
+cells_projected (key ∷ keys) r cells is =
+    option_and_then_some (λ cell. option_map (λ others. cell ∷ others) (cells_of keys r)) (cell_of key r) cells is (λ cell first rest.
+    let others = mapped (λ (cs : List Cell). cell ∷ cs) (cells_of keys r) cells rest in
+    subst (AreProjected (key ∷ keys)) others.2 (cell_projected key r cell first, cells_projected keys r others.0 others.1))

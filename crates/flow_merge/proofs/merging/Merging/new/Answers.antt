@@ -1,0 +1,12 @@
+use Rattle.std.proofs.lemmas.List.Elements.{All-nil}
+use Rattle.flow_merge.specs.Merging.{StandsFor, plan_of}
+use Rattle.flow_merge.specs.RowRecords.{IsRowOf}
+use Rattle.flow_merge.proofs.merging.Merging.new.Goals as goal
+
+pub returns-clause-plan : goal.returns-clause-plan
+unfolding plan_of
+returns-clause-plan c = c.in_ok-copy.ensures
+
+pub returns-clause-empty : goal.returns-clause-empty
+unfolding StandsFor
+returns-clause-empty c = (c.new.ensures, All-nil (IsRowOf c.in_ok-copy.field-0))

@@ -1,0 +1,173 @@
+-- Exports of tables, as they are read, and their rows added up.
+use Rattle.std.specs.Prelude.{◌≡◌, ◌≢◌, ℕ, ◌^◌, ◌<◌, List, ◌∷◌, ◌++◌, length, flat_map, All, None, Some}
+use Rattle.std.specs.List.{AllZip}
+use Rattle.ipfix_message.specs.Domains.{Message}
+use Rattle.ipfix_message.specs.declared.record.DataRecord.{DataRecord}
+use Rattle.ipfix_message.specs.declared.fault.MessageFault.TheVariants as messages
+use Rattle.ipfix_message.specs.declared.passed_over.PassedOver.{PassedOver}
+use Rattle.ipfix_session.specs.declared.driver.TheConstants.{READ_SIZE}
+use Rattle.ipfix_session.specs.declared.fault.SessionFault.TheVariants as sessions
+use Rattle.ipfix_session.specs.declared.stop.Stop.TheVariants.{Clean}
+use Rattle.ipfix_session.specs.declared.report.DomainReport.{DomainReport}
+use Rattle.ipfix_session.specs.Drives.{Gave}
+use Rattle.ipfix_session.specs.Given.{gives, records_of, stop_of}
+use Rattle.ipfix_session.specs.Ledger.{domain_report, domains_of}
+use Rattle.ipfix_session.specs.Reports.{passed_over_in}
+use Rattle.ipfix_session.specs.Sources.{SourceView}
+use Rattle.flow_table.specs.AddedUp.{rows_in, AddUpTooLarge, AreAddedUp}
+use Rattle.flow_table.specs.Fitting.{FitsPlan}
+use Rattle.flow_table.specs.Plans.{PlanValue, IsPlan}
+use Rattle.flow_table.specs.RowTotals.{AreOf}
+use Rattle.flow_table.specs.SameTables.{RowValue}
+use Rattle.flow_table.specs.Tables.{tally_of, IsTable}
+use Rattle.flow_table.specs.declared.table.Table.{Table}
+use Rattle.flow_export.specs.IpfixText.{ipfix_text}
+use Rattle.flow_merge.specs.RowRecords.{IsRowOf, IsRowRecord}
+use Rattle.flow_merge.specs.RowFaults.{IsRowFault}
+use Rattle.flow_merge.specs.declared.row_fault.RowFault.{RowFault}
+use Rattle.flow_merge.specs.declared.row_fault.RowFault.TheVariants as faults
+use Rattle.flow_merge.specs.declared.merge_fault.MergeFault.{MergeFault}
+use Rattle.flow_merge.specs.declared.merge_fault.MergeFault.TheVariants.{OutOfMemory, SumTooLarge, Session, NotAnExport, Lost, Row}
+use Rattle.flow_merge.specs.declared.merging.Merging.{Merging}
+
+-- ---- an export
+
+-- nothing is passed over
+abbrev pub nothing : PassedOver
+nothing = record { skipped_sets = 0; unknown_sets = 0; ignored_withdrawals = 0 }
+
+-- there are messages, of which nothing is passed over: no set, and no withdrawal
+pub record AreOfExport (ms : List Message) : Type 0 where
+  pub some : 0 < length ms
+  pub whole : passed_over_in ms ≡ nothing
+
+-- the sequence numbers count on (RFC 7011, section 3.1): no data record is missing, and none comes twice
+abbrev pub LosesNone : DomainReport → Type 0
+LosesNone d = (d.lost ≡ 0) × (d.backward ≡ 0)
+
+abbrev pub NoneLost : List Message → Type 0
+NoneLost ms = All (λ domain. LosesNone (domain_report ms domain)) (domains_of ms)
+
+-- the records are those of the rows, one after another
+abbrev pub AreRowRecords : PlanValue → List DataRecord → List RowValue → Type 0
+AreRowRecords plan rs rows = AllZip (IsRowRecord plan) rs rows
+
+-- octets that are an export of these rows: whole messages without a fault, of which nothing is passed over and nothing is
+-- lost, and all of whose records are the rows
+pub record IsExport (plan : PlanValue) (text : List ℕ) (rows : List RowValue) : Type 0 where
+  pub clean : stop_of text ≡ Clean
+  pub messages : AreOfExport (gives text).messages
+  pub none_lost : NoneLost (gives text).messages
+  pub records : AreRowRecords plan (records_of text) rows
+
+-- ---- reading one
+
+-- an export of these rows is what a source gave: it told its end, and no read failed
+pub record GivesExport (limit : ℕ) (plan : PlanValue) (before after : SourceView) (rows : List RowValue) : Type 0 where
+  pub gave : List ℕ
+  pub given : Gave limit READ_SIZE before gave after None
+  pub export : IsExport plan gave rows
+
+-- each source gave the export of one of the lists of rows, in their order
+abbrev pub GiveExports : {S : Type 0} → (S → SourceView) → ℕ → PlanValue → List S → List (List RowValue) → Type 0
+GiveExports seen limit plan sources exports = AllZip (λ source rows. (after : SourceView) × GivesExport limit plan (seen source) after rows) sources exports
+
+-- the rows of the exports that each source gave, added up, are those of a table
+pub record AddsAllUp {S : Type 0} (seen : S → SourceView) (limit : ℕ) (plan : PlanValue) (sources : List S) (table : Table) : Type 0 where
+  pub exports : List (List RowValue)
+  pub given : GiveExports seen limit plan sources exports
+  pub added_up : AreAddedUp (flat_map (λ rows. rows) exports) (rows_in table)
+
+-- the first records are those of rows, which are too large behind the rows before them
+pub record FirstTooLarge (plan : PlanValue) (before : List RowValue) (rs : List DataRecord) : Type 0 where
+  pub first : List DataRecord
+  pub others : List DataRecord
+  pub are : rs ≡ first ++ others
+  pub rows : List RowValue
+  pub records : AreRowRecords plan first rows
+  pub large : AddUpTooLarge (before ++ rows)
+
+-- the first records are those of rows, and the next one is that of none: this fault of it, which isn't want of memory
+pub record FirstOther (plan : PlanValue) (rs : List DataRecord) (fault : RowFault) : Type 0 where
+  pub first : List DataRecord
+  pub next : DataRecord
+  pub others : List DataRecord
+  pub are : rs ≡ first ++ next ∷ others
+  pub rows : List RowValue
+  pub records : AreRowRecords plan first rows
+  pub other : IsRowFault plan next fault
+  pub not_memory : fault ≢ faults.OutOfMemory
+
+-- the first thing that whole messages say against their being added to rows
+abbrev pub IsAgainst : PlanValue → List RowValue → List ℕ → MergeFault → Type 0
+IsAgainst plan before gave NotAnExport = AreOfExport (gives gave).messages → ⊥
+IsAgainst plan before gave Lost = AreOfExport (gives gave).messages × (NoneLost (gives gave).messages → ⊥)
+IsAgainst plan before gave (Row fault) = AreOfExport (gives gave).messages × NoneLost (gives gave).messages × FirstOther plan (records_of gave) fault
+IsAgainst plan before gave SumTooLarge = AreOfExport (gives gave).messages × NoneLost (gives gave).messages × FirstTooLarge plan before (records_of gave)
+IsAgainst plan before gave (Session fault) = ⊥
+IsAgainst plan before gave OutOfMemory = ⊥
+
+-- why what a source gave was not added to rows: memory ran out, which the octets can't say; the session ended early; or
+-- its messages are whole, and this is against them
+abbrev pub IsDue : ℕ → PlanValue → List RowValue → SourceView → SourceView → MergeFault → Type 0
+IsDue limit plan rows before after OutOfMemory = Unit {0}
+IsDue limit plan rows before after (Session sessions.SinkClosed) = ⊥
+IsDue limit plan rows before after (Session fault) = (gave : List ℕ) × Gave limit READ_SIZE before gave after (Some fault)
+IsDue limit plan rows before after fault = (gave : List ℕ) × Gave limit READ_SIZE before gave after None × IsAgainst plan rows gave fault
+
+-- ---- what is merged
+
+-- the plan of the exports
+unfoldable pub plan_of : Merging → PlanValue
+plan_of m = m.plan
+
+-- it stands for these rows, each of them one under the plan
+unfoldable pub StandsFor : Merging → List RowValue → Type 0
+StandsFor m rows = AreOf m.totals rows × All (IsRowOf m.plan) rows
+
+-- an export's rows are added to those before
+pub record AddsExport (limit : ℕ) (old : Merging) (before after : SourceView) (rows : List RowValue) (new : Merging) : Type 0 where
+  pub more : List RowValue
+  pub gives_export : GivesExport limit (plan_of old) before after more
+  pub stands : StandsFor new (rows ++ more)
+
+-- ---- the theorem
+
+-- octets that are the export of the table of a list of records under a plan
+pub record IsExportOf (plan : PlanValue) (rs : List DataRecord) (table : Table) (text : List ℕ) : Type 0 where
+  pub is_plan : IsPlan plan
+  pub short : plan.length < 2 ^ 32
+  pub is_table : IsTable plan rs table
+  pub fits : FitsPlan plan table
+  pub few : length table.rows.items < 2 ^ 32
+  pub time : ℕ
+  pub small_time : time < 2 ^ 32
+  pub octets : text ≡ ipfix_text plan time (rows_in table)
+
+-- a source holds them
+pub record HoldsExport (plan : PlanValue) (source : SourceView) (rs : List DataRecord) : Type 0 where
+  pub text : List ℕ
+  pub held : source.text ≡ Some text
+  pub table : Table
+  pub export : IsExportOf plan rs table text
+
+-- each source holds the export of the table of one of the lists, in their order
+abbrev pub AreExportsOf : {S : Type 0} → (S → SourceView) → PlanValue → List S → List (List DataRecord) → Type 0
+AreExportsOf seen plan sources lists = AllZip (λ source rs. HoldsExport plan (seen source) rs) sources lists
+
+-- the faults of an export: memory ran out, a read failed, more reads would have been needed, or sums are too large
+abbrev pub IsExportFault : Type 0 → MergeFault → Type 0
+IsExportFault large OutOfMemory = Unit {0}
+IsExportFault large (Session (sessions.Message messages.OutOfMemory)) = Unit {0}
+IsExportFault large (Session sessions.ReadFailed) = Unit {0}
+IsExportFault large (Session sessions.TooManyReads) = Unit {0}
+IsExportFault large SumTooLarge = large
+IsExportFault large fault = ⊥
+
+-- a table has the rows of the table of a list of records; the records by class are not exported
+abbrev pub HasRowsOf : PlanValue → List DataRecord → Table → Type 0
+HasRowsOf plan rs table = IsTable plan rs (record table { tally = tally_of plan rs })
+
+-- all records of some lists
+abbrev pub all_of : List (List DataRecord) → List DataRecord
+all_of lists = flat_map (λ rs. rs) lists

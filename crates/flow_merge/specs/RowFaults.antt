@@ -1,0 +1,70 @@
+-- Why a data record is no row's under a plan.
+use Rattle.std.specs.Prelude.{◌≡◌, ℕ, ◌+◌, ◌-◌, ◌*◌, ◌^◌, ◌<◌, List, [], ◌∷◌, ◌++◌, length, map, zip, All, codes}
+use Rattle.ipfix_elements.specs.declared.cell.Cell.{Cell}
+use Rattle.ipfix_elements.specs.declared.iana.TheConstants.{FLOW_START_MILLISECONDS, FLOW_END_MILLISECONDS, ORIGINAL_FLOWS_PRESENT}
+use Rattle.ipfix_message.specs.Fields.{Field}
+use Rattle.ipfix_message.specs.declared.record.DataRecord.{DataRecord}
+use Rattle.flow_table.specs.Fitting.{FitsKeys}
+use Rattle.flow_table.specs.Plans.{PlanValue}
+use Rattle.flow_export.specs.IpfixText.{iana, key_field, number_field}
+use Rattle.flow_merge.specs.declared.row_fault.RowFault.{RowFault}
+use Rattle.flow_merge.specs.declared.row_fault.RowFault.TheVariants.{OutOfMemory, Template, Fields, Interval, Prefix, Flows}
+use Rattle.flow_merge.specs.RowRecords.{AreProjected, IsOfTemplate}
+
+-- what the fields of a plan's exports tell: two times in milliseconds, a cell for each key, a sum for each counter, and a
+-- number of flows
+pub record FieldValues : Type 0 where
+  pub start : ℕ
+  pub end : ℕ
+  pub key : List Cell
+  pub sums : List ℕ
+  pub flows : ℕ
+
+-- the fields that tell them
+abbrev pub fields_of : PlanValue → FieldValues → List Field
+fields_of plan v =
+    number_field (iana FLOW_START_MILLISECONDS, v.start) ∷ number_field (iana FLOW_END_MILLISECONDS, v.end) ∷
+    (map key_field (zip plan.keys v.key) ++ (map number_field (zip plan.counters v.sums) ++ number_field (iana ORIGINAL_FLOWS_PRESENT, v.flows) ∷ []))
+
+-- fields of the plan's exports, in their order and in their full width
+pub record Tell (plan : PlanValue) (fields : List Field) (v : FieldValues) : Type 0 where
+  pub told : fields ≡ fields_of plan v
+  pub key : FitsKeys plan.keys v.key
+  pub sums : length v.sums ≡ length plan.counters
+  pub start : v.start < 2 ^ 64
+  pub end : v.end < 2 ^ 64
+  pub small : All (λ sum. sum < 2 ^ 64) v.sums
+  pub few : v.flows < 2 ^ 64
+
+-- the first and the last millisecond of an interval that begins in time
+pub record IsInterval (plan : PlanValue) (k : ℕ) (v : FieldValues) : Type 0 where
+  pub start : v.start ≡ k * plan.length
+  pub end : v.end ≡ k * plan.length + plan.length - 1
+  pub in_time : v.start < 2 ^ 50
+
+-- the fault is the first in the order of the faults that fits the record; want of memory fits each
+abbrev pub IsRowFault : PlanValue → DataRecord → RowFault → Type 0
+IsRowFault plan r OutOfMemory = Unit {0}
+IsRowFault plan r Template = IsOfTemplate r → ⊥
+IsRowFault plan r Fields = IsOfTemplate r × ((v : FieldValues) → Tell plan r.fields v → ⊥)
+IsRowFault plan r Interval = IsOfTemplate r × ((v : FieldValues) × Tell plan r.fields v × ((k : ℕ) → IsInterval plan k v → ⊥))
+IsRowFault plan r Prefix = IsOfTemplate r × ((v : FieldValues) × Tell plan r.fields v × ((k : ℕ) × IsInterval plan k v) × (AreProjected plan.keys v.key → ⊥))
+IsRowFault plan r Flows = IsOfTemplate r × ((v : FieldValues) × Tell plan r.fields v × ((k : ℕ) × IsInterval plan k v) × AreProjected plan.keys v.key × (v.flows ≡ 0))
+
+-- ---- the number and the name that reports give for a fault
+
+abbrev pub number_of : RowFault → ℕ
+number_of OutOfMemory = 1
+number_of Template = 2
+number_of Fields = 3
+number_of Interval = 4
+number_of Prefix = 5
+number_of Flows = 6
+
+abbrev pub name_of : RowFault → List ℕ
+name_of OutOfMemory = codes "OutOfMemory"
+name_of Template = codes "Template"
+name_of Fields = codes "Fields"
+name_of Interval = codes "Interval"
+name_of Prefix = codes "Prefix"
+name_of Flows = codes "Flows"

@@ -1,0 +1,114 @@
+//! Exports of tables, read one after another, and their rows added up.
+
+ghost use Rattle.std.specs.Prelude.{◌≡◌, ◌++◌, ◌∷◌, [], flat_map, None, List, IfOk, IfErr, MatchResult};
+ghost use Rattle.std.specs.List.{AllZip};
+ghost use Rattle.std.specs.Result.{result_err};
+ghost use Rattle.ipfix_message.specs.declared.record.DataRecord.{DataRecord};
+ghost use Rattle.flow_table.specs.AddedUp.{rows_in, AddUpTooLarge, AreAddedUp};
+ghost use Rattle.flow_table.specs.Fitting.{FitsPlan};
+ghost use Rattle.flow_table.specs.SameTables.{RowValue};
+ghost use Rattle.flow_table.specs.Tables.{IsTable};
+ghost use Rattle.flow_table.specs.declared.table.Table.{Table as TableValue};
+ghost use Rattle.flow_merge.specs.Merging.{all_of, plan_of, AddsExport, HasRowsOf, HoldsExport, IsDue, IsExportFault, StandsFor};
+ghost use Rattle.flow_merge.specs.RowSink.{HoldsAfter};
+ghost use Rattle.flow_merge.specs.declared.merge_fault.MergeFault.TheVariants.{OutOfMemory};
+
+use crate::judging::judge;
+use crate::merge_fault::MergeFault;
+use crate::row_reading::read_row;
+use crate::row_sink::RowSink;
+use flow_table::{Plan, RowTotals, Table, Tally};
+use ipfix_message::DataRecord;
+use ipfix_session::{Source, drive};
+use std::alloc::Global;
+
+/// The rows of exports of tables under a plan, added up. It stands for the list of the rows that were
+/// read.
+#[derive(Drop)]
+pub struct Merging {
+    alloc: Global,
+    plan: Plan,
+    totals: RowTotals,
+}
+
+impl Merging {
+    /// No rows. It keeps a copy of the plan.
+    ///
+    /// The fault is `OutOfMemory`: an allocation was refused.
+    pub fn new(alloc: Global, plan: &Plan) -> Result<Merging, MergeFault>
+        ensures plan { IfOk result (λ m. plan_of m ≡ plan.now) }
+        ensures empty { IfOk result (λ m. StandsFor m []) }
+        ensures err { IfErr result (λ e. e ≡ OutOfMemory) }
+    {
+        Ok(Merging {
+            alloc,
+            plan: plan.copy(alloc)?,
+            totals: RowTotals::new(alloc),
+        })
+    }
+
+    /// Adds the row of a record.
+    pub(crate) fn add(&mut self, data_record: &DataRecord) -> Result<(), MergeFault>
+        ensures plan { plan_of self.new ≡ plan_of self.old }
+        ensures holds { (rows : List RowValue) (rs : List DataRecord) → HoldsAfter None self.old rows rs → HoldsAfter (result_err result) self.new rows (rs ++ data_record.now ∷ []) }
+    {
+        let row = read_row(self.alloc, &self.plan, data_record)?;
+        self.totals.add(row)?;
+        Ok(())
+    }
+
+    /// Reads an export of a table under the plan to its end, in at most `limit` reads, and adds its rows.
+    ///
+    /// The fault is the first of these that fits. `Session`: the session of the octets ended early. Then
+    /// `NotAnExport`: they have no message, or a set or a withdrawal of theirs was passed over. Then
+    /// `Lost`: their sequence numbers don't count on (RFC 7011, section 3.1). Then, for the first record
+    /// that can't be added, `Row` with what is wrong with it, or `SumTooLarge` if a sum or a number of
+    /// flows would be 2^64 or more with its row. `OutOfMemory` may come in place of the last two.
+    pub fn read<S: Source>(self, source: &mut S, limit: u64) -> Result<Merging, MergeFault>
+        ensures plan { IfOk result (λ m. plan_of m ≡ plan_of self) }
+        ensures ok { (rows : List RowValue) → StandsFor self rows → IfOk result (AddsExport limit self (S.seen source.old) (S.seen source.new) rows) }
+        ensures fault { (rows : List RowValue) → StandsFor self rows → IfErr result (IsDue limit (plan_of self) rows (S.seen source.old) (S.seen source.new)) }
+        // The export of a table is added whole. It has none of these faults, but that sums are too large.
+        ensures export { (rows : List RowValue) (rs : List DataRecord) (holds : HoldsExport (plan_of self) (S.seen source.old) rs) → StandsFor self rows
+            → MatchResult result (λ m. StandsFor m (rows ++ rows_in holds.table)) (IsExportFault (AddUpTooLarge (rows ++ rows_in holds.table))) }
+    {
+        let alloc = self.alloc;
+        let mut sink = RowSink {
+            merging: self,
+            fault: None,
+        };
+        let report = drive(alloc, source, &mut sink, limit);
+        judge(&report)?;
+        match sink.fault {
+            Some(fault) => Err(fault),
+            None => Ok(sink.merging),
+        }
+    }
+
+    /// The table of the rows, added up. Its tally is 0: exports don't tell the records by class.
+    ///
+    /// The fault is `OutOfMemory`: an allocation was refused.
+    pub fn finish(self) -> Result<Table, MergeFault>
+        ensures rows { (rows : List RowValue) → StandsFor self rows → IfOk result (λ table. AreAddedUp rows (rows_in table)) }
+        // The table fits the plan, as an export asks.
+        ensures fits { (rows : List RowValue) → StandsFor self rows → IfOk result (FitsPlan (plan_of self)) }
+        ensures small { (rows : List RowValue) → StandsFor self rows → AddUpTooLarge rows → ⊥ }
+        // The rows of tables are merged into those of the table of all their records.
+        ensures tables { (lists : List (List DataRecord)) (tables : List TableValue) → StandsFor self (flat_map rows_in tables) → AllZip (IsTable (plan_of self)) lists tables
+            → IfOk result (HasRowsOf (plan_of self) (all_of lists)) }
+        ensures err { IfErr result (λ e. e ≡ OutOfMemory) }
+    {
+        let Merging { totals, .. } = self;
+        Ok(Table {
+            rows: totals.finish()?,
+            tally: Tally {
+                options: 0,
+                untimed: 0,
+                backward: 0,
+                unkeyed: 0,
+                too_long: 0,
+                used: 0,
+            },
+        })
+    }
+}

@@ -1,0 +1,93 @@
+//! Rows read from data records (RFC 7011, section 3.4.3).
+
+ghost use Rattle.std.specs.Prelude.{◌≡◌, ℕ, true, false, None, length, All, IfOk, IfErr, IfSome};
+ghost use Rattle.flow_table.specs.Plans.{HasPrefix};
+ghost use Rattle.flow_table.specs.Reading.{projected};
+ghost use Rattle.flow_table.specs.SameTables.{value_of};
+ghost use Rattle.flow_merge.specs.InnerReading.{values_in};
+ghost use Rattle.flow_merge.specs.RowFaults.{IsInterval, IsRowFault};
+ghost use Rattle.flow_merge.specs.RowRecords.{AreProjected, IsOfTemplate, IsRowRecord};
+
+use crate::row_fault::RowFault;
+use crate::told_values::{ToldValues, read_values};
+use flow_table::{Key, Plan, Row};
+use ipfix_elements::{Cell, mask};
+use ipfix_message::DataRecord;
+use ipfix_wire::FIRST_TEMPLATE_ID;
+use std::alloc::Global;
+
+/// The milliseconds before which an interval begins.
+const TIME_LIMIT: u64 = 1 << 50;
+
+/// The row of a data record that an export under the plan has for it, or the first fault that fits.
+pub fn read_row(alloc: Global, plan: &Plan, data_record: &DataRecord) -> Result<Row, RowFault>
+    ensures ok { IfOk result (λ row. IsRowRecord plan.now data_record.now (value_of row)) }
+    ensures fault { IfErr result (IsRowFault plan.now data_record.now) }
+{
+    if !is_of_template(data_record) {
+        return Err(RowFault::Template);
+    }
+    let told = read_values(alloc, plan, data_record.fields.iter())?;
+    let Some(interval) = interval_of(plan, &told) else {
+        return Err(RowFault::Interval);
+    };
+    if !are_projected(plan.keys(), &told.key) {
+        return Err(RowFault::Prefix);
+    }
+    if told.flows == 0 {
+        return Err(RowFault::Flows);
+    }
+    Ok(Row {
+        interval,
+        key: told.key,
+        sums: told.sums,
+        flows: told.flows,
+    })
+}
+
+fn is_of_template(data_record: &DataRecord) -> bool
+    ensures yes { result ≡ true → IsOfTemplate data_record.now }
+    ensures no { result ≡ false → IsOfTemplate data_record.now → ⊥ }
+{
+    data_record.domain == 0 && data_record.template == FIRST_TEMPLATE_ID && data_record.scope == 0
+}
+
+/// The interval of the plan whose first and last millisecond the times are, if it begins in time.
+fn interval_of(plan: &Plan, told: &ToldValues) -> Option<u64>
+    ensures some { IfSome result (λ k. IsInterval plan.now k (values_in told.now)) }
+    ensures none { result ≡ None → (k : ℕ) → IsInterval plan.now k (values_in told.now) → ⊥ }
+{
+    let length = u64::from(plan.length());
+    let starts = told.start < TIME_LIMIT && told.start % length == 0;
+    if starts && told.end == told.start + (length - 1) {
+        Some(told.start / length)
+    } else {
+        None
+    }
+}
+
+/// Whether no cell has bits behind the prefix of its key.
+fn are_projected(keys: &[Key], cells: &[Cell]) -> bool
+    requires prefixes { All HasPrefix keys.now }
+    requires each { length keys.now ≡ length cells.now }
+    ensures yes { result ≡ true → AreProjected keys.now cells.now }
+    ensures no { result ≡ false → AreProjected keys.now cells.now → ⊥ }
+{
+    for (key, cell) in keys.iter().zip(cells) {
+        if !is_projected(*key, *cell) {
+            return false;
+        }
+    }
+    true
+}
+
+fn is_projected(key: Key, cell: Cell) -> bool
+    requires { HasPrefix key }
+    ensures yes { result ≡ true → projected key.prefix cell ≡ cell }
+    ensures no { result ≡ false → projected key.prefix cell ≡ cell → ⊥ }
+{
+    match (cell, key.prefix) {
+        (Cell::Ipv4(address), Some(bits)) => mask(address, bits) == address,
+        _ => true,
+    }
+}
