@@ -4,7 +4,7 @@ PREFIX = /usr/local
 bin/collectd: crates.txt HANDLES $(shell find crates \( -name out -o -name must-fail \) -prune -o -type f -print)
 	cd crates/collectd_cli && rt run -- dump < /dev/null && install -D out/collectd_cli ../../bin/collectd
 
-.PHONY: test bench compare refusals hostile soak install dist deb packages clean
+.PHONY: test bench compare refusals hostile soak scale install dist deb packages clean
 test: ; @tests/gate
 
 bench: bin/collectd ; @for run in bench/*/run; do $$run || exit 1; done
@@ -16,6 +16,8 @@ compare: bin/collectd ; @tests/compare && tests/stress && tests/examples
 hostile: bin/collectd ; @tests/peers
 
 soak: bin/collectd ; @tests/soak
+
+scale: bin/collectd ; @tests/scale
 
 install: bin/collectd
 	install -D bin/collectd $(DESTDIR)$(PREFIX)/bin/collectd
