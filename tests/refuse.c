@@ -1,10 +1,11 @@
 // A library to preload: it refuses calls of the program that it is loaded into.
 //
 // REFUSE=5 refuses the fifth call that asks for memory, REFUSE=5.. that one and all after it, whatever thread makes it;
-// what the system's libraries ask for counts, too. With REFUSE_WHAT=reads, writes or threads calls that read, write or
-// start a thread fail in place of those. With REFUSE_WHAT=octets nothing fails, and each read and write moves one octet.
-// Each refusal writes a letter to descriptor 9, if that is open. A program that still runs after twenty seconds gets
-// SIGALRM.
+// what the system's libraries ask for counts, too. With REFUSE_WHAT=reads, writes, threads, accepts or limits calls
+// that read, write, start a thread, accept a connection or set an option of a socket, as its limits are, fail in place of
+// those. With REFUSE_WHAT=octets nothing fails, and each read and write moves one octet. With REFUSE_WHAT=interruptions
+// every other call that reads, writes or accepts a connection is interrupted. Each time a letter is written to descriptor
+// 9, if that is open. A program that still runs after twenty seconds gets SIGALRM.
 //
 // The toolchain's clang builds it, and has no headers, so that all that is called is declared here.
 
@@ -20,8 +21,8 @@ extern long syscall(long, ...);
 extern void *dlsym(void *, const char *);
 extern int *__errno_location(void);
 
-enum { READ = 0, WRITE = 1, RECEIVE = 45 };
-enum { DEVICE = 5, AGAIN = 11, NO_MEMORY = 12, SECONDS = 20 };
+enum { READ = 0, WRITE = 1, RECEIVE = 45, SET_OPTION = 54, ACCEPT = 288 };
+enum { INTERRUPTED = 4, DEVICE = 5, AGAIN = 11, NO_MEMORY = 12, SECONDS = 20 };
 
 // The first letter of what is refused; the first such call, 0 for none, and whether those after it are refused, too.
 static char what = 'm';
@@ -40,12 +41,21 @@ __attribute__((constructor)) static void start(void) {
   if (word) what = *word;
 }
 
+static void tell(void) { syscall(WRITE, 9, "r", 1); }
+
 static int is_refused(char kind, int error) {
   if (!first || kind != what) return 0;
   long call = __atomic_add_fetch(&calls, 1, __ATOMIC_SEQ_CST);
   if (call < first || (call > first && !goes_on)) return 0;
-  syscall(WRITE, 9, "r", 1);
+  tell();
   *__errno_location() = error;
+  return 1;
+}
+
+static int is_interrupted(void) {
+  if (!first || what != 'i' || __atomic_add_fetch(&calls, 1, __ATOMIC_SEQ_CST) % 2 == 0) return 0;
+  tell();
+  *__errno_location() = INTERRUPTED;
   return 1;
 }
 
@@ -70,21 +80,33 @@ int posix_memalign(void **at, size_t to, size_t size) {
 }
 
 // How much of so much is moved at once.
-static size_t moved(size_t size) { return first && what == 'o' && size > 1 ? 1 : size; }
+static size_t moved(size_t size) {
+  if (!first || what != 'o' || size <= 1) return size;
+  tell();
+  return 1;
+}
 
 long read(int from, void *to, size_t size) {
-  return is_refused('r', DEVICE) ? -1 : syscall(READ, from, to, moved(size));
+  return is_refused('r', DEVICE) || is_interrupted() ? -1 : syscall(READ, from, to, moved(size));
 }
 
 long recv(int from, void *to, size_t size, int flags) {
-  return is_refused('r', DEVICE) ? -1 : syscall(RECEIVE, from, to, moved(size), flags, 0, 0);
+  return is_refused('r', DEVICE) || is_interrupted() ? -1 : syscall(RECEIVE, from, to, moved(size), flags, 0, 0);
 }
 
 long write(int to, const void *from, size_t size) {
-  return is_refused('w', DEVICE) ? -1 : syscall(WRITE, to, from, moved(size));
+  return is_refused('w', DEVICE) || is_interrupted() ? -1 : syscall(WRITE, to, from, moved(size));
 }
 
 long __write(int to, const void *from, size_t size) { return write(to, from, size); }
+
+int accept4(int listener, void *peer, void *size, int flags) {
+  return is_refused('a', DEVICE) || is_interrupted() ? -1 : (int)syscall(ACCEPT, listener, peer, size, flags);
+}
+
+int setsockopt(int of, int level, int option, const void *value, unsigned size) {
+  return is_refused('l', DEVICE) ? -1 : (int)syscall(SET_OPTION, of, level, option, value, size);
+}
 
 int pthread_create(void *thread, const void *how, void *(*run)(void *), void *with) {
   int (*create)(void *, const void *, void *(*)(void *), void *) = dlsym((void *)-1, "pthread_create");

@@ -1,6 +1,7 @@
 //! Collecting from connections.
 
-ghost use Rattle.std.specs.Prelude.{◌≡◌, ◌≢◌, ◌⊎◌, length};
+ghost use Rattle.std.specs.Prelude.{◌≡◌, ◌≢◌, ◌⊎◌, ◌<◌, length, IfSome};
+ghost use Rattle.std.specs.Duration.{as_nanos};
 ghost use Rattle.std.specs.Option.{ForSome};
 ghost use Rattle.collectd.specs.Runs.{RunsSources};
 
@@ -15,15 +16,19 @@ use std::io::Write;
 use std::net::{TcpListener, TcpStream};
 use std::sync::Wait;
 use std::thread::Threads;
+use std::time::Duration;
 
-/// Accepts so many connections, each of which is a session, and then does as [`run`]. If one can't be
-/// accepted the status is 2, and a line with `addr` is written to `err`.
+/// Accepts so many connections, each of which is a session, and then does as [`run`]. A read that waits
+/// for longer than `idle` fails, and so ends its session as ReadFailed; with no `idle` it waits for as
+/// long as it takes. If a connection can't be accepted, or can't have that limit, the status is 2, and a
+/// line with `addr` is written to `err`.
 pub fn run_tcp<W: Write, E: Write, R: Threads + Wait + Sync>(
     rt: &R,
     alloc: Global,
     listener: &TcpListener,
     addr: &str,
     count: usize,
+    idle: Option<Duration>,
     plan: &Plan,
     pool: Pool,
     output: Output,
@@ -35,8 +40,10 @@ pub fn run_tcp<W: Write, E: Write, R: Threads + Wait + Sync>(
     ensures accepted { result ≢ 2 → RunsSources ⟦<FromReader<TcpStream> as Source>⟧.seen count plan.now pool output result (W.contents out.old) (W.contents out.new) (out.new ≡ out.old) }
     // Nothing was written unless all were accepted.
     ensures not_accepted { result ≡ 2 → out.new ≡ out.old }
+    // No connection can have a limit of no time.
+    ensures no_time { IfSome idle (λ limit. as_nanos limit ≡ 0 → 0 < count → result ≡ 2) }
 {
-    match accept_all(alloc, listener, count) {
+    match accept_all(alloc, listener, count, idle) {
         Some(sources) => run(
             rt,
             alloc,
@@ -54,17 +61,20 @@ pub fn run_tcp<W: Write, E: Write, R: Threads + Wait + Sync>(
     }
 }
 
-// So many connections as sources.
+// So many connections as sources, each with this limit of a read's time.
 fn accept_all(
     alloc: Global,
     listener: &TcpListener,
     count: usize,
+    idle: Option<Duration>,
 ) -> Option<Unread<FromReader<TcpStream>>>
-    ensures { ForSome result (λ sources. length sources ≡ count) }
+    ensures one_each { ForSome result (λ sources. length sources ≡ count) }
+    ensures no_time { IfSome idle (λ limit. as_nanos limit ≡ 0 → 0 < count → result ≡ None) }
 {
     let mut sources = Unread::new(alloc);
     for _number in 0..count {
         let (stream, _peer) = listener.accept().ok()?;
+        stream.set_read_timeout(idle).ok()?;
         sources.push(FromReader::new(stream)).ok()?;
     }
     Some(sources)

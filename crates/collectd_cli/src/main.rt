@@ -22,6 +22,7 @@ use std::process::ExitCode;
 use std::rt::Files;
 use std::sync::Wait;
 use std::thread::Threads;
+use std::time::Duration;
 
 /// The exit status if the words of the command line can't be served.
 const COMMAND_LINE: u8 = 2;
@@ -174,6 +175,9 @@ fn tcp<R: Threads + Wait + Sync>(threads: &R, rt: &HostRuntime, chosen: &ArgMatc
     else {
         return COMMAND_LINE;
     };
+    let idle = chosen
+        .get_one::<u32>("idle")
+        .map(|seconds| Duration::from_secs(u64::from(seconds)));
     let Some(job) = read_job(rt, chosen) else {
         return Status::NotOpened.number();
     };
@@ -191,6 +195,7 @@ fn tcp<R: Threads + Wait + Sync>(threads: &R, rt: &HostRuntime, chosen: &ArgMatc
         &listener,
         addr,
         sessions as usize,
+        idle,
         &job.plan,
         job.pool,
         job.output,

@@ -66,6 +66,11 @@ fn tcp_command<'a>(alloc: Global) -> Result<Command<'a>, AllocError> {
         .required(true)
         .value_parser(value_parser!(u32).range(1..=64))
         .help("How many connections to accept, each a session");
+    let idle = Arg::new(alloc, "idle")
+        .long("idle")
+        .value_name("SECONDS")
+        .value_parser(value_parser!(u32).range(1..))
+        .help("How long a connection may send nothing, from 1; then its session ends with a fault");
     let tcp = Command::new(alloc, "tcp")
         .about(
             "Accepts connections, aggregates their flows and writes their table when all have ended",
@@ -73,7 +78,10 @@ fn tcp_command<'a>(alloc: Global) -> Result<Command<'a>, AllocError> {
         .after_help(
             "Example:\n  collectd tcp --plan plan.toml --listen 0.0.0.0:4739 --sessions 2 > table.csv",
         );
-    with_options(alloc, tcp)?.arg(listen)?.arg(sessions)
+    with_options(alloc, tcp)?
+        .arg(listen)?
+        .arg(sessions)?
+        .arg(idle)
 }
 
 fn explain_command<'a>(alloc: Global) -> Result<Command<'a>, AllocError> {

@@ -46,8 +46,8 @@ abbrev pub told_of : SessionFault → Told
 told_of (Message fault) = told_of_message fault
 told_of Truncated = told (codes "the input ended inside a message") (codes "RFC 7011, section 3.1")
     (codes "The file was cut, or the exporter was stopped while it sent. A tunnel that is killed\nends a session in the same way (seen of stunnel). Copy the file again, or see why.")
-told_of ReadFailed = told (codes "the input could not be read on") (codes "none of RFC 7011")
-    (codes "The connection was reset, or the file's disk fails. Look at the log of the system and\nof the exporter, and let it connect again.")
+told_of ReadFailed = told (codes "the input could not be read on, or sent nothing for as long as --idle says") (codes "none of RFC 7011")
+    (codes "The connection was reset or fell silent, or the file's disk fails. Look at the log of\nthe system and of the exporter, and let it connect again.")
 told_of TooManyReads = told (codes "the input had not ended after 2^40 reads") (codes "none of RFC 7011")
     (codes "End the session earlier, and begin another one.")
 told_of SinkClosed = told (codes "the sink takes no more records") (codes "none of RFC 7011")

@@ -33,10 +33,10 @@ impl Explanation {
                     ends a session in the same way (seen of stunnel). Copy the file again, or see why.",
             },
             SessionFault::ReadFailed => Explanation {
-                found: "the input could not be read on",
+                found: "the input could not be read on, or sent nothing for as long as --idle says",
                 rule: "none of RFC 7011",
-                advice: "The connection was reset, or the file's disk fails. Look at the log of the system and\n\
-                    of the exporter, and let it connect again.",
+                advice: "The connection was reset or fell silent, or the file's disk fails. Look at the log of\n\
+                    the system and of the exporter, and let it connect again.",
             },
             SessionFault::TooManyReads => Explanation {
                 found: "the input had not ended after 2^40 reads",

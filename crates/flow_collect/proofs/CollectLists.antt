@@ -1,5 +1,5 @@
 -- What all threads left, put together.
-use Rattle.std.proofs.Common.{◌≡◌, ℕ, List, [], ◌∷◌, Bool, true, Option, None, Some, refl, sym, ◌∙◌, subst, map}
+use Rattle.std.proofs.Common.{◌≡◌, ℕ, List, [], ◌∷◌, true, Option, None, Some, refl, sym, ◌∙◌, subst, map}
 use Rattle.std.specs.Prelude.{All, MatchOption, slice_get}
 use Rattle.std.specs.List.{AllZip}
 use Rattle.std.proofs.lemmas.List.Elements.{All-head, All-tail, All-append, All-cons, All-nil}
@@ -12,7 +12,6 @@ use Rattle.flow_link.specs.declared.settled.Settled.{Settled}
 use Rattle.flow_table.specs.Bags.{IsSameBag}
 use Rattle.flow_table.specs.Fitting.{FitsPlan}
 use Rattle.flow_table.specs.Plans.{PlanValue}
-use Rattle.flow_table.proofs.Bags.{too_large_bag}
 use Rattle.flow_collect.specs.Dealt.{IsPaired, IsNewLot, IsNewStart, IsDealt, start_link}
 use Rattle.flow_collect.specs.Finished.{HasTaken, lanes_of, ended_link, SettlesEnds, CameOver, FinishedAs, IsOverfull}
 use Rattle.flow_collect.specs.Headline.{Headline, all_of}

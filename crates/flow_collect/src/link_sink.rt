@@ -22,6 +22,7 @@ pub struct LinkSink<'a, R: Wait, G: Gate> {
 
 impl<'a, R: Wait, G: Gate> LinkSink<'a, R, G> {
     ghost use Rattle.std.specs.Prelude.{◌≡◌, ◌∷◌, ◌++◌, [], MatchBool};
+    ghost use Rattle.ipfix_session.specs.Sources.{one_more};
     ghost use Rattle.flow_link.specs.declared.parcel.Parcel.TheVariants.{Last};
 
     /// A sink of this session over a link.
@@ -43,6 +44,7 @@ impl<'a, R: Wait, G: Gate> LinkSink<'a, R, G> {
     pub fn send_last(&mut self) -> bool
         ensures link { (self.new.sender.link ≡ self.old.sender.link) × (self.new.sender.capacity ≡ self.old.sender.capacity) }
         ensures sent { MatchBool result (self.new.sender.sent ≡ self.old.sender.sent ++ Last ∷ []) (self.new.sender ≡ self.old.sender) }
+        ensures counts { (self.new.refused ≡ self.old.refused) × MatchBool result (self.new.sent ≡ one_more self.old.sent) (self.new.sent ≡ self.old.sent) }
     {
         if self.sender.ended() {
             return false;
@@ -57,15 +59,23 @@ impl<'a, R: Wait, G: Gate> LinkSink<'a, R, G> {
 }
 
 impl<'a, R: Wait, G: Gate> Sink for LinkSink<'a, R, G> {
+    ghost use Rattle.std.specs.Prelude.{◌≡◌, OnOk, OnErr, IfErr};
+    ghost use Rattle.ipfix_session.specs.Sources.{one_more};
     ghost use Rattle.flow_collect.specs.Sends.{SendsItem};
 
     ghost seen = { record {
-      took = λ before item after. SendsItem before.sender item after.sender;
+      took = λ before item after. SendsItem before.sender item after.sender × (after.sent ≡ one_more before.sent);
       refused = λ s. s.refused;
     } };
 
     /// Sends the record. It comes back if Last was sent, or if the receiver is gone.
-    fn put(&mut self, item: DataRecord) -> Result<(), DataRecord> {
+    fn put(&mut self, item: DataRecord) -> Result<(), DataRecord>
+        ensures ok { OnOk result (SendsItem self.old.sender item self.new.sender × (self.new.sent ≡ one_more self.old.sent)) }
+        ensures none_refused { OnOk result (self.new.refused ≡ self.old.refused) }
+        ensures back { IfErr result (λ given. given ≡ item) }
+        ensures refused { OnErr result (self.new.refused ≡ one_more self.old.refused) }
+        ensures kept { OnErr result ((self.new.sender ≡ self.old.sender) × (self.new.sent ≡ self.old.sent)) }
+    {
         if self.sender.ended() {
             self.refused = self.refused.saturating_add(1);
             return Err(item);

@@ -6,9 +6,7 @@ use Rattle.std.proofs.lemmas.Grind.{flat_map-append}
 use Rattle.ipfix_wire.specs.declared.specifier.ElementId.{ElementId}
 use Rattle.ipfix_elements.specs.Elements.{kind_of}
 use Rattle.ipfix_elements.specs.declared.cell.Cell.{Cell}
-use Rattle.ipfix_elements.specs.declared.cell.Cell.TheVariants as cells
 use Rattle.ipfix_elements.specs.declared.kind.Kind.{Kind}
-use Rattle.ipfix_elements.specs.declared.kind.Kind.TheVariants.{Unsigned, Ipv4, Ipv6, Mac, Seconds, Millis, Octets}
 use Rattle.ipfix_message.specs.Fields.{Field}
 use Rattle.flow_table.specs.declared.key.Key.{Key}
 use Rattle.flow_table.specs.Fitting.{IsCellOf, FitsKeys, FitsRow}
@@ -16,7 +14,7 @@ use Rattle.flow_table.specs.Plans.{PlanValue, kinds_of}
 use Rattle.flow_table.specs.SameTables.{RowValue, value_of}
 use Rattle.flow_table.specs.declared.table.Row.{Row}
 use Rattle.flow_export.specs.Fitting.{FitsValue}
-use Rattle.flow_export.specs.IpfixText.{width_of, key_field, number_field, number_octets, row_octets}
+use Rattle.flow_export.specs.IpfixText.{key_field, number_field, number_octets, row_octets}
 use Rattle.flow_export.specs.CsvText.{first_of, last_of}
 use Rattle.flow_export.specs.Placed.{Placed}
 use Rattle.flow_export.specs.RowOctets.{wide_octets, cells_octets, octets_of_row}

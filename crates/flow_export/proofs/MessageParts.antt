@@ -11,7 +11,9 @@ use Rattle.std.proofs.lemmas.Grind.{flat_map-append}
 use Rattle.flow_table.specs.declared.table.Row.{Row}
 use Rattle.flow_table.specs.Plans.{PlanValue}
 use Rattle.flow_table.specs.SameTables.{value_of}
-use Rattle.flow_export.specs.IpfixText.{message, row_octets, rows_of_message}
+use Rattle.ipfix_wire.specs.declared.set.TheConstants.{FIRST_TEMPLATE_ID}
+use Rattle.flow_export.specs.declared.ipfix_rows.TheConstants.{ROWS_A_MESSAGE}
+use Rattle.flow_export.specs.IpfixText.{message, message_of_rows, row_octets, rows_of_message}
 use Rattle.flow_export.specs.Placed.{Placed}
 use Rattle.flow_export.specs.RowOctets.{headers_octets, octets_of_rows}
 
@@ -30,15 +32,17 @@ part_is {X} xs n first = elim (cases_Bool (ltb (length xs) (first + n))) [
     few all = take_all _ (drop first xs) (omega (arith, length-drop first xs, all)) ∙ sym (take_all n (drop first xs) (omega (arith, length-drop first xs, all)))
 
 -- the octets of the rows of a message
-pub part_octets : (plan : PlanValue) (rows part : List Row) (i first end : ℕ) → first ≡ 100 * i → end ≡ min (length rows) (first + 100) → part ≡ take (end - first) (drop first rows)
-    → octets_of_rows plan part ≡ flat_map (row_octets plan) (rows_of_message (map value_of rows) i)
-part_octets plan rows part i first end is_first is_end is_part =
-    let taken : part ≡ take 100 (drop (100 * i) rows) = is_part ∙ rw is_end (part_is rows 100 first) ∙ ap (λ (k : ℕ). take 100 (drop k rows)) is_first in
-    let moved : rows_of_message (map value_of rows) i ≡ map value_of (take 100 (drop (100 * i) rows)) = ap (take 100) (drop-map value_of (100 * i) rows) ∙ take-map value_of 100 (drop (100 * i) rows) in
-    ap (octets_of_rows plan) taken ∙ sym (flat_map-map (row_octets plan) value_of (take 100 (drop (100 * i) rows))) ∙ ap (flat_map (row_octets plan)) (sym moved)
+part_octets : (plan : PlanValue) (rows : List Row) (i first last : ℕ) → first ≡ ROWS_A_MESSAGE * i → last ≡ min (length rows) (first + ROWS_A_MESSAGE)
+    → octets_of_rows plan (take (last - first) (drop first rows)) ≡ flat_map (row_octets plan) (rows_of_message (map value_of rows) i)
+part_octets plan rows i first last is_first is_last =
+    let those = take ROWS_A_MESSAGE (drop (ROWS_A_MESSAGE * i) rows) in
+    let taken : take (last - first) (drop first rows) ≡ those = rw is_last (part_is rows ROWS_A_MESSAGE first) ∙ ap (λ (k : ℕ). take ROWS_A_MESSAGE (drop k rows)) is_first in
+    let moved : rows_of_message (map value_of rows) i ≡ map value_of those =
+    ap (take ROWS_A_MESSAGE) (drop-map value_of (ROWS_A_MESSAGE * i) rows) ∙ take-map value_of ROWS_A_MESSAGE (drop (ROWS_A_MESSAGE * i) rows) in
+    ap (octets_of_rows plan) taken ∙ sym (flat_map-map (row_octets plan) value_of those) ∙ ap (flat_map (row_octets plan)) (sym moved)
 
 -- one more text, after those of the numbers below
-pub texts_more : (text : ℕ → List ℕ) (i : ℕ) (a b c : Option (List ℕ)) → Appends a b (flat_map text (range_with_len 0 i)) → Appends b c (text i) → Appends a c (flat_map text (range_with_len 0 (i + 1)))
+texts_more : (text : ℕ → List ℕ) (i : ℕ) (a b c : Option (List ℕ)) → Appends a b (flat_map text (range_with_len 0 i)) → Appends b c (text i) → Appends a c (flat_map text (range_with_len 0 (i + 1)))
 texts_more text i a b c before here =
     let all : flat_map text (range_with_len 0 i) ++ text i ≡ flat_map text (range_with_len 0 (i + 1)) =
     ap (λ (t : List ℕ). flat_map text (range_with_len 0 i) ++ t) (sym (append-nil (text i))) ∙ sym (flat_map-append text (range_with_len 0 i) (i ∷ []))
@@ -50,6 +54,17 @@ pub message_written : (time sequence id : ℕ) (a b : Option (List ℕ)) (out oc
     → Appends a b out → Appends a b (message time sequence id text)
 message_written time sequence id a b out octets body text is_out is_octets is_body written =
     subst (λ (t : List ℕ). Appends a b t) (is_out ∙ is_octets ∙ ap (message time sequence id) is_body) written
+
+-- one more message, after those before it
+pub message_more : (plan : PlanValue) (time : ℕ) (rows : List Row) (i first last : ℕ) (a b c : Option (List ℕ)) (out : List ℕ) → first ≡ ROWS_A_MESSAGE * i → last ≡ min (length rows) (first + ROWS_A_MESSAGE)
+    → out ≡ message time first FIRST_TEMPLATE_ID (octets_of_rows plan (take (last - first) (drop first rows)))
+    → Appends a b (flat_map (message_of_rows plan time (map value_of rows)) (range_with_len 0 i)) → Appends b c out
+    → Appends a c (flat_map (message_of_rows plan time (map value_of rows)) (range_with_len 0 (i + 1)))
+message_more plan time rows i first last a b c out is_first is_last is_message before here =
+    let body = octets_of_rows plan (take (last - first) (drop first rows)) in
+    let at_first : out ≡ message time (ROWS_A_MESSAGE * i) FIRST_TEMPLATE_ID body = is_message ∙ ap (λ (n : ℕ). message time n FIRST_TEMPLATE_ID body) is_first in
+    texts_more (message_of_rows plan time (map value_of rows)) i a b c before
+    (message_written time (ROWS_A_MESSAGE * i) FIRST_TEMPLATE_ID b c out out body _ refl at_first (part_octets plan rows i first last is_first is_last) here)
 
 -- the headers and the body of a message, one after the other
 pub headers_and_body : (time sequence id n : ℕ) (headers octets body : List ℕ) → n ≡ length body → headers ≡ headers_octets time sequence id n → octets ≡ headers ++ body → octets ≡ message time sequence id body

@@ -17,7 +17,7 @@ use Rattle.ipfix_message.specs.declared.template_record.Event.{Event}
 use Rattle.ipfix_message.specs.declared.template_record.Event.TheVariants.{Define}
 use Rattle.ipfix_message.specs.TemplateRecords.{SpellsTemplate, event_at}
 use Rattle.ipfix_message.specs.TemplatesInForce.{in_force, event_gives, template_set_gives}
-use Rattle.ipfix_message.specs.Messages.{Decoding, before, templates_in, data_in, set_gives}
+use Rattle.ipfix_message.specs.Messages.{Decoding, before, more_ignored, templates_in, data_in, set_gives}
 use Rattle.ipfix_message.proofs.Bodies.{records_of_body-only}
 use Rattle.ipfix_message.proofs.TemplateRecords.{events_read}
 use Rattle.ipfix_message.proofs.TemplateSets.{template_set_gives-next, template_set_gives-done}
@@ -72,7 +72,7 @@ template_events plan room =
 
 pub template_gives : (plan : PlanValue) (h : Header) → HasRoom plan → set_gives h (before []) (set 2 (template_octets (template plan))) ≡ Ok (after_template plan)
 unfolding set_gives templates_in
-template_gives plan h room = ap (λ (r : Result (List Event × ℕ) MessageFault). r >>= λ x. Ok (record (before []) { events = x.0; ignored = 0 + x.1 })) (template_events plan room)
+template_gives plan h room = ap (λ (r : Result (List Event × ℕ) MessageFault). r >>= λ x. Ok (record (before []) { events = x.0; passed_over = more_ignored x.1 (before []).passed_over })) (template_events plan room)
 
 -- ---- the rows
 

@@ -16,7 +16,7 @@ use Rattle.flow_export_laws.proofs.Hundreds.{read_hundred, read_all}
 pub record IsDue (sequence : ℕ) (m : Message) : Type 0 where
   pub number : m.header.sequence ≡ sequence
   pub small : sequence < 2 ^ 32
-  pub known : m.decoding.unknown ≡ 0
+  pub known : m.decoding.passed_over.unknown_sets ≡ 0
   pub domain : m.header.domain ≡ 0
 
 abbrev pub CountOn : ℕ → List Message → Type 0

@@ -16,47 +16,12 @@ fn stay_silent<R: Wait>(rt: &R) {
     }
 }
 
-fn send_late<R: Wait>(rt: &R, alloc: Global, sender: Sender) -> bool {
+/// Sends two items over a link with room for one, the first of them late or at once.
+fn send_two<R: Wait>(rt: &R, alloc: Global, sender: Sender, is_late: bool) -> bool {
     let mut sender = sender;
-    stay_silent(rt);
-    !sender.ended() && sender.try_send(item(alloc, 1)).is_ok()
-}
-
-fn receive<R: Wait>(rt: &R, receiver: Receiver) -> bool {
-    let mut receiver = receiver;
-    matches!(receiver.recv(rt), Some(Parcel::Item(record)) if record.domain == 1)
-}
-
-fn silent_sender<R: Threads + Wait + Sync>(
-    rt: &R,
-    alloc: Global,
-) -> Result<(bool, bool), LinkFault> {
-    let (sender, receiver) = link(alloc, 1)?;
-    Ok(thread::join(
-        rt,
-        move || send_late(rt, alloc, sender),
-        move || receive(rt, receiver),
-    ))
-}
-
-/// A receiver waits for a sender that is silent for long, and then has its item.
-#[test]
-fn waits_for_a_silent_sender(rt: HostRuntime) -> Result<(), Fail> {
-    assert!(rt; matches!(silent_sender(&rt, rt.alloc())?, (true, true)));
-    Ok(())
-}
-
-/// Takes two items, the first of them late.
-fn receive_late<R: Wait>(rt: &R, receiver: Receiver) -> bool {
-    let mut receiver = receiver;
-    stay_silent(rt);
-    matches!(receiver.try_recv(), Taken::Got(Parcel::Item(record)) if record.domain == 1)
-        && matches!(receiver.recv(rt), Some(Parcel::Item(record)) if record.domain == 2)
-}
-
-/// Sends two items over a link with room for one.
-fn send_two<R: Wait>(rt: &R, alloc: Global, sender: Sender) -> bool {
-    let mut sender = sender;
+    if is_late {
+        stay_silent(rt);
+    }
     for number in 1..3 {
         if sender.ended() || sender.send(rt, item(alloc, number)).is_err() {
             return false;
@@ -65,21 +30,43 @@ fn send_two<R: Wait>(rt: &R, alloc: Global, sender: Sender) -> bool {
     true
 }
 
-fn silent_receiver<R: Threads + Wait + Sync>(
+/// Takes two items, the first of them late or at once.
+fn receive_two<R: Wait>(rt: &R, receiver: Receiver, is_late: bool) -> bool {
+    let mut receiver = receiver;
+    if is_late {
+        stay_silent(rt);
+    }
+    for number in 1..3 {
+        if !matches!(receiver.recv(rt), Some(Parcel::Item(record)) if record.domain == number) {
+            return false;
+        }
+    }
+    true
+}
+
+fn pass_two<R: Threads + Wait + Sync>(
     rt: &R,
     alloc: Global,
+    is_sender_late: bool,
 ) -> Result<(bool, bool), LinkFault> {
     let (sender, receiver) = link(alloc, 1)?;
     Ok(thread::join(
         rt,
-        move || send_two(rt, alloc, sender),
-        move || receive_late(rt, receiver),
+        move || send_two(rt, alloc, sender, is_sender_late),
+        move || receive_two(rt, receiver, !is_sender_late),
     ))
+}
+
+/// A receiver waits for a sender that is silent for long, and then has its items.
+#[test]
+fn waits_for_a_silent_sender(rt: HostRuntime) -> Result<(), Fail> {
+    assert!(rt; matches!(pass_two(&rt, rt.alloc(), true)?, (true, true)));
+    Ok(())
 }
 
 /// A sender waits for a receiver that is silent for long, and then has room.
 #[test]
 fn waits_for_a_silent_receiver(rt: HostRuntime) -> Result<(), Fail> {
-    assert!(rt; matches!(silent_receiver(&rt, rt.alloc())?, (true, true)));
+    assert!(rt; matches!(pass_two(&rt, rt.alloc(), false)?, (true, true)));
     Ok(())
 }

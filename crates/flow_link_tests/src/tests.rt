@@ -156,29 +156,6 @@ fn receive_all(receiver: Receiver, count: u32) -> bool {
     matches!(receive_soon(&mut receiver), Some(Parcel::Last))
 }
 
-fn passes<R: Threads + Sync>(
-    rt: &R,
-    alloc: Global,
-    capacity: usize,
-    count: u32,
-) -> Result<(bool, bool), LinkFault> {
-    let (sender, receiver) = link(alloc, capacity)?;
-    Ok(thread::join(
-        rt,
-        move || send_all(alloc, sender, count),
-        move || receive_all(receiver, count),
-    ))
-}
-
-#[test]
-fn two_threads(rt: HostRuntime) -> Result<(), Fail> {
-    for capacity in [1, 2, 3, 64] {
-        let (sent, received) = passes(&rt, rt.alloc(), capacity, 100_000)?;
-        assert!(rt; sent && received, "at {capacity}");
-    }
-    Ok(())
-}
-
 /// As `send_all`, by the call that waits.
 fn send_waiting<R: Wait>(rt: &R, alloc: Global, sender: Sender, count: u32) -> bool {
     let mut sender = sender;
@@ -202,24 +179,45 @@ fn receive_waiting<R: Wait>(rt: &R, receiver: Receiver, count: u32) -> bool {
     matches!(receiver.recv(rt), Some(Parcel::Last))
 }
 
-fn passes_waiting<R: Threads + Wait + Sync>(
+/// Whether all was sent, and whether it came, by the calls that wait or by those that don't.
+fn passes<R: Threads + Wait + Sync>(
     rt: &R,
     alloc: Global,
     capacity: usize,
-    count: u32,
+    waits: bool,
 ) -> Result<(bool, bool), LinkFault> {
+    const COUNT: u32 = 100_000;
     let (sender, receiver) = link(alloc, capacity)?;
     Ok(thread::join(
         rt,
-        move || send_waiting(rt, alloc, sender, count),
-        move || receive_waiting(rt, receiver, count),
+        move || {
+            if waits {
+                send_waiting(rt, alloc, sender, COUNT)
+            } else {
+                send_all(alloc, sender, COUNT)
+            }
+        },
+        move || {
+            if waits {
+                receive_waiting(rt, receiver, COUNT)
+            } else {
+                receive_all(receiver, COUNT)
+            }
+        },
     ))
 }
 
 #[test]
-fn two_threads_that_wait(rt: HostRuntime) -> Result<(), Fail> {
-    for capacity in [1, 64] {
-        let (sent, received) = passes_waiting(&rt, rt.alloc(), capacity, 100_000)?;
+fn two_threads(rt: HostRuntime) -> Result<(), Fail> {
+    for (capacity, waits) in [
+        (1, false),
+        (2, false),
+        (3, false),
+        (64, false),
+        (1, true),
+        (64, true),
+    ] {
+        let (sent, received) = passes(&rt, rt.alloc(), capacity, waits)?;
         assert!(rt; sent && received, "at {capacity}");
     }
     Ok(())

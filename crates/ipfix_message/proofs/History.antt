@@ -13,7 +13,6 @@ use Rattle.ipfix_message.specs.declared.fault.MessageFault.TheVariants.{TooManyD
 use Rattle.ipfix_message.specs.declared.record.Template.{Template}
 use Rattle.ipfix_message.specs.declared.template_record.Event.{Event}
 use Rattle.ipfix_wire.specs.declared.header.Header.{Header}
-use Rattle.ipfix_message.specs.declared.sets.Progress.{Progress}
 use Rattle.ipfix_message.specs.declared.message.Decoded.{Decoded}
 use Rattle.ipfix_message.specs.Outcome.{◌>>=◌, Fails}
 use Rattle.ipfix_message.specs.Messages.{Decoding, before, sets_from}
@@ -279,7 +278,7 @@ bad_header e ds m fails = Fails-of e (message_header m) (message_gives ds m) (λ
 pub bad_domain : (e : MessageFault) (ds : History) (m : List ℕ) (h : Header) → message_header m ≡ Ok h → Fails e (admit ds h.domain) → Fails e (message_gives ds m)
 bad_domain e ds m h is fails = Fails-of e (admit ds h.domain) (message_gives ds m) (λ f admitted. gives_admit ds m h (Err f) is admitted) fails
 
-pub bad_sets : (e : MessageFault) (ds : History) (m : List ℕ) (h : Header) (xs : List (ℕ × BTreeMap ℕ Template)) (t : BTreeMap ℕ Template) (p : Progress) → message_header m ≡ Ok h
+pub bad_sets : (e : MessageFault) (ds : History) (m : List ℕ) (h : Header) (xs : List (ℕ × BTreeMap ℕ Template)) (t : BTreeMap ℕ Template) (p : Decoded) → message_header m ≡ Ok h
     → Admits (Ok tt) (kept xs) (admit ds h.domain) → lookup (eqb h.domain) xs ≡ Some t → ((es : List Event) → Agrees t.entries es → Holds t.entries p (before es))
     → ((d : Decoding) → Holds t.entries p d → Fails e (sets_from h d (drop 16 m))) → Fails e (message_gives ds m)
 bad_sets e ds m h xs t p is admitted here starts fails =
@@ -287,20 +286,20 @@ bad_sets e ds m h xs t p is admitted here starts fails =
     Fails-of e (sets_from h (before at.events) (drop 16 m)) (message_gives ds m) (λ f sets. gives_sets ds m h admitted.0 at.events (Err f) is admitted.1 at.are sets)
     (fails (before at.events) (starts at.events at.agrees))
 
-pub good_message : (ds : History) (m : List ℕ) (h : Header) (xs : List (ℕ × BTreeMap ℕ Template)) (t u : BTreeMap ℕ Template) (p q : Progress) (decoded : Decoded) (news : List (ℕ × BTreeMap ℕ Template)) → message_header m ≡ Ok h
+pub good_message : (ds : History) (m : List ℕ) (h : Header) (xs : List (ℕ × BTreeMap ℕ Template)) (t u : BTreeMap ℕ Template) (p decoded : Decoded) (news : List (ℕ × BTreeMap ℕ Template)) → message_header m ≡ Ok h
     → Admits (Ok tt) (kept xs) (admit ds h.domain) → lookup (eqb h.domain) xs ≡ Some t → ((es : List Event) → Agrees t.entries es → Holds t.entries p (before es))
-    → ((d : Decoding) → Holds t.entries p d → Reaches (Ok tt) u.entries q (sets_from h d (drop 16 m)))
-    → decoded ≡ record { header = h; records = q.records; skipped_sets = q.skipped; unknown_sets = q.unknown; ignored_withdrawals = q.ignored }
+    → ((d : Decoding) → Holds t.entries p d → Reaches (Ok tt) u.entries decoded (sets_from h d (drop 16 m)))
+    → decoded.header ≡ h
     → news ≡ set_value (eqb h.domain) xs u
     → Decodes (Ok decoded) (kept news) (message_gives ds m)
-good_message ds m h xs t u p q decoded news is admitted here starts reaches answered written =
+good_message ds m h xs t u p decoded news is admitted here starts reaches same written =
     let at = events_of xs admitted.0 h.domain t admitted.2 here in
     let r = reaches (before at.events) (starts at.events at.agrees) in
     let d = r.0 in
     let holds = r.2 in (
       record { header = h; decoding = d; domains = with_events admitted.0 h.domain d.events },
       gives_sets ds m h admitted.0 at.events (Ok d) is admitted.1 at.are r.1,
-      rw answered (record { header = refl; records = holds.records; skipped_sets = holds.skipped; unknown_sets = holds.unknown; ignored_withdrawals = holds.ignored }),
+      record { header = same; records = holds.records; passed_over = holds.passed_over },
       rw written (stands-put xs admitted.0 h.domain u d.events admitted.2 holds.templates),
     )
 

@@ -1,5 +1,5 @@
 -- The fields of records that were read of octets have octets.
-use Rattle.std.proofs.Common.{◌≡◌, ℕ, ◌+◌, ◌<◌, cond, eqb, ltb, List, [], ◌∷◌, ◌++◌, map, drop, length, Option, Some, None, Result, Ok, sym, subst, inl, inr}
+use Rattle.std.proofs.Common.{◌≡◌, ℕ, ◌<◌, cond, eqb, ltb, List, [], ◌∷◌, ◌++◌, map, drop, length, Option, Some, None, Result, Ok, sym, subst, inl, inr}
 use Rattle.std.specs.Prelude.{All}
 use Rattle.std.specs.Map.{lookup}
 use Rattle.std.specs.Option.{unwrap_or}
@@ -20,7 +20,7 @@ use Rattle.ipfix_message.specs.SpelledFields.{SpellsOctets, Spells}
 use Rattle.ipfix_message.specs.DataRecords.{HasOctets, records_of_body, record_of}
 use Rattle.ipfix_message.specs.TemplatesInForce.{in_force, template_set_gives}
 use Rattle.ipfix_message.specs.Sets.{Set, SpellsSet, sets_of, fault_after_sets}
-use Rattle.ipfix_message.specs.Messages.{Decoding, before, templates_in, data_in, set_gives, sets_give, sets_from}
+use Rattle.ipfix_message.specs.Messages.{Decoding, one_skipped, one_unknown, more_ignored, before, templates_in, data_in, set_gives, sets_give, sets_from}
 use Rattle.ipfix_message.specs.Domains.{History, Message, admit, with_events, message_header, message_gives}
 use Rattle.ipfix_wire.proofs.Choices.{chosen}
 use Rattle.ipfix_message.proofs.Reading.{ok_is, not_both, bind_ok}
@@ -71,22 +71,22 @@ RecordsHave d = All HasOctets d.records
 templates_have : (kind : Kind) (d e : Decoding) (body : List ℕ) → RecordsHave d → templates_in kind d body ≡ Ok e → RecordsHave e
 unfolding templates_in
 templates_have kind d e body have read =
-    let r = bind_ok (template_set_gives kind d.events body) (λ r. Ok (record { events = r.0; records = d.records; skipped = d.skipped; unknown = d.unknown; ignored = d.ignored + r.1 })) e read in
-    subst RecordsHave (ok_is (record { events = r.0.0; records = d.records; skipped = d.skipped; unknown = d.unknown; ignored = d.ignored + r.0.1 }) e r.2) have
+    let r = bind_ok (template_set_gives kind d.events body) (λ r. Ok (record d { events = r.0; passed_over = more_ignored r.1 d.passed_over })) e read in
+    subst RecordsHave (ok_is (record d { events = r.0.0; passed_over = more_ignored r.0.1 d.passed_over }) e r.2) have
 
 data_has : (h : Header) (d e : Decoding) (body : List ℕ) (o : Option Template) → IsOctets body → RecordsHave d → data_in h d body o ≡ Ok e → RecordsHave e
 unfolding data_in
-data_has h d e body None fits have read = subst RecordsHave (ok_is (record { events = d.events; records = d.records; skipped = d.skipped; unknown = d.unknown + 1; ignored = d.ignored }) e read) have
+data_has h d e body None fits have read = subst RecordsHave (ok_is (record d { passed_over = one_unknown d.passed_over }) e read) have
 data_has h d e body (Some t) fits have read =
-    let r = bind_ok (records_of_body t.specs body) (λ rs. Ok (record { events = d.events; records = d.records ++ map (record_of h t) rs; skipped = d.skipped; unknown = d.unknown; ignored = d.ignored })) e read in
-    subst RecordsHave (ok_is (record { events = d.events; records = d.records ++ map (record_of h t) r.0; skipped = d.skipped; unknown = d.unknown; ignored = d.ignored }) e r.2)
+    let r = bind_ok (records_of_body t.specs body) (λ rs. Ok (record d { records = d.records ++ map (record_of h t) rs })) e read in
+    subst RecordsHave (ok_is (record d { records = d.records ++ map (record_of h t) r.0 }) e r.2)
     (All-append HasOctets d.records (map (record_of h t) r.0) have (All-map HasOctets (record_of h t) r.0 (body_has t.specs body r.0 fits r.1)))
 
 set_has : (h : Header) (d e : Decoding) (s : Set) → IsOctets s.body → RecordsHave d → set_gives h d s ≡ Ok e → RecordsHave e
 unfolding set_gives
 set_has h d e s fits have read =
     let of_data = data_in h d s.body (in_force d.events s.id) in
-    let skipped : Result Decoding MessageFault = Ok (record { events = d.events; records = d.records; skipped = d.skipped + 1; unknown = d.unknown; ignored = d.ignored }) in
+    let skipped : Result Decoding MessageFault = Ok (record d { passed_over = one_skipped d.passed_over }) in
     let other = cond (ltb s.id 256) skipped of_data in
     let options = cond (eqb s.id 3) (templates_in Options d s.body) other in
     elim (chosen (eqb s.id 2) (templates_in Plain d s.body) options (Ok e) read) [
@@ -94,7 +94,7 @@ set_has h d e s fits have read =
       | inr f ↦ elim (chosen (eqb s.id 3) (templates_in Options d s.body) other (Ok e) f.1) [
         | inl t ↦ templates_have Options d e s.body have t.1
         | inr g ↦ elim (chosen (ltb s.id 256) skipped of_data (Ok e) g.1) [
-          | inl t ↦ subst RecordsHave (ok_is (record { events = d.events; records = d.records; skipped = d.skipped + 1; unknown = d.unknown; ignored = d.ignored }) e t.1) have
+          | inl t ↦ subst RecordsHave (ok_is (record d { passed_over = one_skipped d.passed_over }) e t.1) have
           | inr k ↦ data_has h d e s.body (in_force d.events s.id) fits have k.1
         ]
       ]

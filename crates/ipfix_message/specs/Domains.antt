@@ -9,6 +9,7 @@ use Rattle.ipfix_wire.specs.declared.header.Header.{Header}
 use Rattle.ipfix_wire.specs.declared.fault.WireFault.{WireFault}
 use Rattle.ipfix_message.specs.declared.fault.MessageFault.{MessageFault}
 use Rattle.ipfix_message.specs.declared.fault.MessageFault.TheVariants.{MessageLength, TooManyDomains}
+use Rattle.ipfix_message.specs.declared.passed_over.PassedOver.{PassedOver}
 use Rattle.ipfix_message.specs.declared.record.Template.{Template}
 use Rattle.ipfix_message.specs.declared.template_record.Event.{Event}
 use Rattle.ipfix_message.specs.declared.message.TheConstants.{MAX_DOMAINS}
@@ -90,13 +91,15 @@ pub record StandsFor (kept : List (ℕ × List (ℕ × Template))) (ds : History
   pub domains : keys_of kept ≡ keys_of ds
   pub templates : (domain id : ℕ) → template_kept kept domain id ≡ template_for ds domain id
 
+-- what an answer says was passed over
+abbrev pub passed_over_of : Decoded → PassedOver
+passed_over_of decoded = record { skipped_sets = decoded.skipped_sets; unknown_sets = decoded.unknown_sets; ignored_withdrawals = decoded.ignored_withdrawals }
+
 -- a message as it is answered
 pub record IsAnswer (decoded : Decoded) (m : Message) : Type 0 where
   pub header : decoded.header ≡ m.header
   pub records : decoded.records.items ≡ m.decoding.records
-  pub skipped_sets : decoded.skipped_sets ≡ m.decoding.skipped
-  pub unknown_sets : decoded.unknown_sets ≡ m.decoding.unknown
-  pub ignored_withdrawals : decoded.ignored_withdrawals ≡ m.decoding.ignored
+  pub passed_over : passed_over_of decoded ≡ m.decoding.passed_over
 
 -- the answer is the message that was read, and what is kept then stands for the history after it; or it is the fault
 -- of reading

@@ -6,11 +6,11 @@ use Rattle.ipfix_message.specs.declared.fault.MessageFault.{MessageFault}
 use Rattle.ipfix_message.specs.declared.fault.MessageFault.TheVariants.{TemplateChanged}
 use Rattle.ipfix_message.specs.declared.record.Template.{Template}
 use Rattle.ipfix_message.specs.declared.template_record.Event.{Event}
-use Rattle.ipfix_message.specs.declared.sets.Progress.{Progress}
+use Rattle.ipfix_message.specs.declared.message.Decoded.{Decoded}
 use Rattle.ipfix_message.specs.Outcome.{Read, Fails}
 use Rattle.ipfix_message.specs.TemplatesInForce.{in_force, is_other}
 use Rattle.ipfix_message.specs.Messages.{Decoding}
-use Rattle.ipfix_message.specs.Domains.{History, StandsFor}
+use Rattle.ipfix_message.specs.Domains.{History, StandsFor, passed_over_of}
 
 -- what the entries of a map have at an id
 abbrev pub template_in : List (ℕ × Template) → ℕ → Option Template
@@ -29,22 +29,20 @@ abbrev pub Updates : Result ℕ MessageFault → List (ℕ × Template) → Read
 Updates (Ok n) entries read = (es : List Event) × (read ≡ Ok (es, n)) × Agrees entries es
 Updates (Err e) entries read = Fails e read
 
--- entries and progress stand for what was read
-pub record Holds (entries : List (ℕ × Template)) (p : Progress) (d : Decoding) : Type 0 where
+-- entries and the answer so far stand for what was read
+pub record Holds (entries : List (ℕ × Template)) (decoded : Decoded) (d : Decoding) : Type 0 where
   pub templates : Agrees entries d.events
-  pub records : p.records.items ≡ d.records
-  pub skipped : p.skipped ≡ d.skipped
-  pub unknown : p.unknown ≡ d.unknown
-  pub ignored : p.ignored ≡ d.ignored
+  pub records : decoded.records.items ≡ d.records
+  pub passed_over : passed_over_of decoded ≡ d.passed_over
 
 -- a function answered Ok and what it leaves stands for what was read, or it failed as reading does
-abbrev pub Reaches : Result (Unit {0}) MessageFault → List (ℕ × Template) → Progress → Read Decoding → Type 0
-Reaches (Ok x) entries p read = (d : Decoding) × (read ≡ Ok d) × Holds entries p d
-Reaches (Err e) entries p read = Fails e read
+abbrev pub Reaches : Result (Unit {0}) MessageFault → List (ℕ × Template) → Decoded → Read Decoding → Type 0
+Reaches (Ok x) entries decoded read = (d : Decoding) × (read ≡ Ok d) × Holds entries decoded d
+Reaches (Err e) entries decoded read = Fails e read
 
 -- the three counts together
-abbrev pub counted : Progress → ℕ
-counted p = p.skipped + p.unknown + p.ignored
+abbrev pub counted : Decoded → ℕ
+counted decoded = decoded.skipped_sets + decoded.unknown_sets + decoded.ignored_withdrawals
 
 -- a function answered Ok and what is kept now stands for the history that was read, or it failed as reading does
 abbrev pub Admits : Result (Unit {0}) MessageFault → List (ℕ × List (ℕ × Template)) → Read History → Type 0

@@ -9,7 +9,7 @@ ghost use Rattle.ipfix_message.specs.Held.{Agrees, defining, Updates};
 ghost use Rattle.ipfix_message.specs.declared.template_record.Event.{Event};
 
 use crate::fault::MessageFault;
-use crate::template_in_force::TemplateInForce;
+use crate::template_in_force::{Definition, TemplateInForce};
 use crate::template_record::{Event, Kind, event_of, is_padding};
 use std::alloc::Global;
 use std::collections::BTreeMap;
@@ -17,8 +17,8 @@ use std::collections::BTreeMap;
 /// The templates of a domain that are in force, by id.
 pub type Templates = BTreeMap<u16, TemplateInForce>;
 
-// defines a template
-fn define(templates: &mut Templates, new: TemplateInForce) -> Result<(), MessageFault>
+// defines a template, of whose records the layout is found only if the template isn't in force already
+fn define(alloc: Global, templates: &mut Templates, new: Definition) -> Result<(), MessageFault>
     ensures gives { Gives (λ x. x) result (defining new (get nat_cmp templates.old new.id)) }
     ensures ok { OnOk result ((id : ℕ) → get nat_cmp templates.new id ≡ (if id == new.id then Some new else get nat_cmp templates.old id)) }
 {
@@ -29,7 +29,7 @@ fn define(templates: &mut Templates, new: TemplateInForce) -> Result<(), Message
         }
         return Err(MessageFault::TemplateChanged);
     }
-    templates.insert(id, new)?;
+    templates.insert(id, TemplateInForce::new(alloc, new)?)?;
     Ok(())
 }
 
@@ -56,13 +56,13 @@ fn withdraw_all(templates: &mut Templates, kind: Kind)
 }
 
 // takes an event, and answers whether it is a withdrawal that was ignored
-fn take_event(templates: &mut Templates, event: Event) -> Result<bool, MessageFault>
+fn take_event(alloc: Global, templates: &mut Templates, event: Event) -> Result<bool, MessageFault>
     ensures gives { (es : List Event) → Agrees templates.old.entries es → Gives (λ b. b) result (event_gives es event) }
     ensures ok { (es : List Event) → Agrees templates.old.entries es → OnOk result (Agrees templates.new.entries (event ∷ es)) }
 {
     match event {
         Event::Define(new) => {
-            define(templates, new)?;
+            define(alloc, templates, new)?;
             Ok(false)
         }
         Event::Withdraw(kind, id) => Ok(withdraw(templates, kind, id)),
@@ -87,7 +87,7 @@ pub fn take_templates(
     let mut rest = body;
     while !is_padding(rest) {
         let (event, after) = event_of(alloc, kind, rest)?;
-        if take_event(templates, event)? {
+        if take_event(alloc, templates, event)? {
             ignored += 1;
         }
         rest = after;

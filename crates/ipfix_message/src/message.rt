@@ -3,7 +3,7 @@
 ghost use Rattle.std.specs.Prelude.{◌≡◌, ◌≤◌, nat_eq, List, length, IsOk, IsErrOf, OnOk, IsSome};
 ghost use Rattle.indexmap.specs.IndexMap.{get};
 ghost use Rattle.ipfix_message.specs.Domains;
-ghost use Rattle.ipfix_message.specs.Domains.{History, StandsFor, Decodes, IsAdmitted, message_gives};
+ghost use Rattle.ipfix_message.specs.Domains.{History, StandsFor, Decodes, IsAdmitted, message_gives, passed_over_of};
 ghost use Rattle.ipfix_message.specs.Held.{Admits};
 ghost use Rattle.ipfix_message.specs.Outcome.{Gives};
 ghost use Rattle.ipfix_message.specs.declared.fault.MessageFault.TheVariants.{OutOfMemory};
@@ -11,8 +11,9 @@ ghost use Rattle.ipfix_message.specs.Kept.{kept};
 
 use crate::fault::MessageFault;
 use crate::in_force::Templates;
+use crate::passed_over::PassedOver;
 use crate::record::DataRecord;
-use crate::sets::{Progress, take_sets};
+use crate::sets::take_sets;
 use indexmap::IndexMap;
 use ipfix_wire::{HEADER_LENGTH, Header, read_header};
 use std::alloc::Global;
@@ -74,6 +75,19 @@ pub struct Decoded {
     pub ignored_withdrawals: u64,
 }
 
+impl Decoded {
+    /// The three counts of what was passed over.
+    pub fn passed_over(&self) -> PassedOver
+        ensures { result ≡ passed_over_of self.now }
+    {
+        PassedOver {
+            skipped_sets: self.skipped_sets,
+            unknown_sets: self.unknown_sets,
+            ignored_withdrawals: self.ignored_withdrawals,
+        }
+    }
+}
+
 /// Reads a message of a session that has these domains.
 pub fn read_message(
     alloc: Global,
@@ -85,31 +99,14 @@ pub fn read_message(
 {
     let header = header_of(message)?;
     admit(alloc, known, header.domain)?;
-    let mut progress = Progress {
+    let mut decoded = Decoded {
+        header,
         records: Vec::new(alloc),
-        skipped: 0,
-        unknown: 0,
-        ignored: 0,
+        skipped_sets: 0,
+        unknown_sets: 0,
+        ignored_withdrawals: 0,
     };
     let templates = known.get_mut(&header.domain).unwrap();
-    take_sets(
-        alloc,
-        &header,
-        &message[HEADER_LENGTH..],
-        templates,
-        &mut progress,
-    )?;
-    let Progress {
-        records,
-        skipped,
-        unknown,
-        ignored,
-    } = progress;
-    Ok(Decoded {
-        header,
-        records,
-        skipped_sets: skipped,
-        unknown_sets: unknown,
-        ignored_withdrawals: ignored,
-    })
+    take_sets(alloc, &message[HEADER_LENGTH..], templates, &mut decoded)?;
+    Ok(decoded)
 }

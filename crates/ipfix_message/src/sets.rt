@@ -11,22 +11,12 @@ ghost use Rattle.ipfix_message.specs.TemplatesInForce.{in_force};
 use crate::data_set::take_records;
 use crate::fault::MessageFault;
 use crate::in_force::{Templates, take_templates};
-use crate::record::DataRecord;
+use crate::message::Decoded;
 use crate::template_record::Kind;
 use ipfix_wire::{
-    FIRST_TEMPLATE_ID, Header, OPTIONS_TEMPLATE_SET_ID, SET_HEADER_LENGTH, TEMPLATE_SET_ID,
-    read_set,
+    FIRST_TEMPLATE_ID, OPTIONS_TEMPLATE_SET_ID, SET_HEADER_LENGTH, TEMPLATE_SET_ID, read_set,
 };
 use std::alloc::Global;
-
-/// What was read of a message so far.
-#[derive(Drop)]
-pub struct Progress {
-    pub records: Vec<DataRecord>,
-    pub skipped: u64,
-    pub unknown: u64,
-    pub ignored: u64,
-}
 
 // the id and the body of the next set, and what follows it
 #[tactic(auto, unfolding(crate::specs::Sets::next_set))]
@@ -46,36 +36,37 @@ fn take_template_set(
     kind: Kind,
     body: &[u8],
     templates: &mut Templates,
-    progress: &mut Progress,
+    decoded: &mut Decoded,
 ) -> Result<(), MessageFault>
-    requires { counted progress.old + length body.now < 2 ^ 64 }
-    ensures few { OnOk result (counted progress.new ≤ counted progress.old + length body.now) }
-    ensures gives { (d : Decoding) → Holds templates.old.entries progress.old d → Reaches result templates.new.entries progress.new (Messages.templates_in kind d body.now) }
+    requires { counted decoded.old + length body.now < 2 ^ 64 }
+    ensures few { OnOk result (counted decoded.new ≤ counted decoded.old + length body.now) }
+    ensures header { decoded.new.header ≡ decoded.old.header }
+    ensures gives { (d : Decoding) → Holds templates.old.entries decoded.old d → Reaches result templates.new.entries decoded.new (Messages.templates_in kind d body.now) }
 {
     let ignored = take_templates(alloc, kind, body, templates)?;
-    progress.ignored += ignored;
+    decoded.ignored_withdrawals += ignored;
     Ok(())
 }
 
 // a data set
 fn take_data_set(
     alloc: Global,
-    header: &Header,
     id: u16,
     body: &[u8],
     templates: &Templates,
-    progress: &mut Progress,
+    decoded: &mut Decoded,
 ) -> Result<(), MessageFault>
-    requires { counted progress.old + 1 < 2 ^ 64 }
-    ensures few { OnOk result (counted progress.new ≤ counted progress.old + 1) }
-    ensures gives { (d : Decoding) → Holds templates.now.entries progress.old d → Reaches result templates.now.entries progress.new (Messages.data_in header.now d body.now (in_force d.events id)) }
+    requires { counted decoded.old + 1 < 2 ^ 64 }
+    ensures few { OnOk result (counted decoded.new ≤ counted decoded.old + 1) }
+    ensures header { decoded.new.header ≡ decoded.old.header }
+    ensures gives { (d : Decoding) → Holds templates.now.entries decoded.old d → Reaches result templates.now.entries decoded.new (Messages.data_in decoded.old.header d body.now (in_force d.events id)) }
 {
     match templates.get(&id) {
         None => {
-            progress.unknown += 1;
+            decoded.unknown_sets += 1;
             Ok(())
         }
-        Some(known) => take_records(alloc, header, known, body, &mut progress.records),
+        Some(known) => take_records(alloc, &decoded.header, known, body, &mut decoded.records),
     }
 }
 
@@ -83,43 +74,43 @@ fn take_data_set(
 #[tactic(auto, unfolding(crate::specs::Messages::set_gives))]
 fn take_set(
     alloc: Global,
-    header: &Header,
     id: u16,
     body: &[u8],
     templates: &mut Templates,
-    progress: &mut Progress,
+    decoded: &mut Decoded,
 ) -> Result<(), MessageFault>
-    requires { counted progress.old + length body.now + 1 < 2 ^ 64 }
-    ensures few { OnOk result (counted progress.new ≤ counted progress.old + length body.now + 1) }
-    ensures gives { (d : Decoding) → Holds templates.old.entries progress.old d → Reaches result templates.new.entries progress.new (set_gives header.now d (record { id = id; body = body.now })) }
+    requires { counted decoded.old + length body.now + 1 < 2 ^ 64 }
+    ensures few { OnOk result (counted decoded.new ≤ counted decoded.old + length body.now + 1) }
+    ensures header { decoded.new.header ≡ decoded.old.header }
+    ensures gives { (d : Decoding) → Holds templates.old.entries decoded.old d → Reaches result templates.new.entries decoded.new (set_gives decoded.old.header d (record { id = id; body = body.now })) }
 {
     if id == TEMPLATE_SET_ID {
-        take_template_set(alloc, Kind::Plain, body, templates, progress)
+        take_template_set(alloc, Kind::Plain, body, templates, decoded)
     } else if id == OPTIONS_TEMPLATE_SET_ID {
-        take_template_set(alloc, Kind::Options, body, templates, progress)
+        take_template_set(alloc, Kind::Options, body, templates, decoded)
     } else if id < FIRST_TEMPLATE_ID {
-        progress.skipped += 1;
+        decoded.skipped_sets += 1;
         Ok(())
     } else {
-        take_data_set(alloc, header, id, body, templates, progress)
+        take_data_set(alloc, id, body, templates, decoded)
     }
 }
 
 /// Takes the sets of a message, which are what follows its header.
 pub fn take_sets(
     alloc: Global,
-    header: &Header,
     octets: &[u8],
     templates: &mut Templates,
-    progress: &mut Progress,
+    decoded: &mut Decoded,
 ) -> Result<(), MessageFault>
-    requires { counted progress.old + length octets.now < 2 ^ 64 }
-    ensures { (d : Decoding) → Holds templates.old.entries progress.old d → Reaches result templates.new.entries progress.new (sets_from header.now d octets.now) }
+    requires { counted decoded.old + length octets.now < 2 ^ 64 }
+    ensures header { decoded.new.header ≡ decoded.old.header }
+    ensures gives { (d : Decoding) → Holds templates.old.entries decoded.old d → Reaches result templates.new.entries decoded.new (sets_from decoded.old.header d octets.now) }
 {
     let mut rest = octets;
     while !rest.is_empty() {
         let ((id, body), after) = next_set(rest)?;
-        take_set(alloc, header, id, body, templates, progress)?;
+        take_set(alloc, id, body, templates, decoded)?;
         rest = after;
     }
     Ok(())

@@ -1,4 +1,4 @@
-//! Templates in force (RFC 7011, section 8).
+//! Templates as they are defined, and in force (RFC 7011, section 8).
 
 ghost use Rattle.std.specs.Prelude.{◌≡◌, ◌<◌, ◌^◌, ◌↔◌, length, IsTrue, IfOk};
 ghost use Rattle.std.specs.Arc.{arc_value};
@@ -12,6 +12,55 @@ use ipfix_wire::Spec;
 use std::alloc::{AllocError, Global};
 use std::marker::Model;
 use std::sync::Arc;
+
+/// A template as its record defines it, which has no layout yet, with the least length of its records
+/// at hand. Contracts see the template.
+#[derive(Drop)]
+pub struct Definition {
+    template: Template,
+    least: usize,
+}
+
+impl Model for Definition {
+    ghost use Rattle.std.specs.Prelude.{◌≡◌, ◌<◌, ◌^◌, length};
+    ghost use Rattle.ipfix_message.specs.declared.record.Template.{Template};
+    ghost use Rattle.ipfix_message.specs.DataRecords;
+
+    ghost Value = { Template };
+
+    ghost view = { λ d. d.template };
+
+    ghost invariant = { λ d. (d.least ≡ DataRecords.least d.template.specs) × (0 < d.least) × (length d.template.specs < 2 ^ 16) };
+}
+
+impl Definition {
+    pub fn new(template: Template, least: usize) -> Self
+        requires sum { least ≡ DataRecords.least template.specs }
+        requires positive { 0 < least }
+        requires few { length template.specs < 2 ^ 16 }
+        ensures { result ≡ template }
+    {
+        Definition { template, least }
+    }
+
+    pub fn id(&self) -> u16
+        ensures { result ≡ self.now.id }
+    {
+        self.template.id
+    }
+
+    fn template(&self) -> &Template
+        ensures { result.now ≡ self.now }
+    {
+        &self.template
+    }
+
+    pub fn is_same(&self, known: &TemplateInForce) -> bool
+        ensures { result ≡ TemplatesInForce.same_template self.now known.now }
+    {
+        is_same_template(self.template(), known.template())
+    }
+}
 
 /// A template in force, with the least length of its records at hand. Contracts see the template.
 #[derive(Drop)]
@@ -34,20 +83,13 @@ impl Model for TemplateInForce {
 }
 
 impl TemplateInForce {
-    pub fn new(alloc: Global, template: Template, least: usize) -> Result<Self, AllocError>
-        requires sum { least ≡ DataRecords.least template.specs }
-        requires positive { 0 < least }
-        requires few { length template.specs < 2 ^ 16 }
-        ensures { IfOk result (λ k. k ≡ template) }
+    /// The template of a definition, of whose records the layout is found.
+    pub fn new(alloc: Global, definition: Definition) -> Result<Self, AllocError>
+        ensures { IfOk result (λ k. k ≡ definition) }
     {
+        let Definition { template, least } = definition;
         let template = Arc::new(alloc, LaidOut::new(alloc, template)?)?;
         Ok(TemplateInForce { template, least })
-    }
-
-    pub fn id(&self) -> u16
-        ensures { result ≡ self.now.id }
-    {
-        self.template().id
     }
 
     pub fn template(&self) -> &Template
@@ -85,12 +127,6 @@ impl TemplateInForce {
             Kind::Plain => self.template().scope == 0,
             Kind::Options => self.template().scope != 0,
         }
-    }
-
-    pub fn is_same(&self, other: &TemplateInForce) -> bool
-        ensures { result ≡ TemplatesInForce.same_template self.now other.now }
-    {
-        is_same_template(self.template(), other.template())
     }
 }
 

@@ -9,7 +9,7 @@ ghost use Rattle.ipfix_message.specs.TemplateRecords.{set_id_of, scope_at, specs
 
 use crate::fault::MessageFault;
 use crate::record::{Specs, Template};
-use crate::template_in_force::TemplateInForce;
+use crate::template_in_force::Definition;
 use byteorder::{BigEndian, ByteOrder};
 use ipfix_wire::{
     FIRST_TEMPLATE_ID, OPTIONS_TEMPLATE_SET_ID, Spec, TEMPLATE_SET_ID, VARIABLE_WIDTH, read_spec,
@@ -30,7 +30,7 @@ pub enum Kind {
 /// What a template record does.
 #[derive(Drop)]
 pub enum Event {
-    Define(TemplateInForce),
+    Define(Definition),
     Withdraw(Kind, u16),
     WithdrawAll(Kind),
 }
@@ -149,6 +149,5 @@ pub fn event_of(alloc: Global, kind: Kind, octets: &[u8]) -> Result<(Event, &[u8
         scope,
         specs: Specs::from_vec(specs),
     };
-    let defined = TemplateInForce::new(alloc, template, least)?;
-    Ok((Event::Define(defined), rest))
+    Ok((Event::Define(Definition::new(template, least)), rest))
 }

@@ -14,8 +14,6 @@ use Rattle.ipfix_message.specs.declared.fault.MessageFault.{MessageFault}
 use Rattle.ipfix_message.specs.declared.fault.MessageFault.TheVariants.{OutOfMemory}
 use Rattle.ipfix_message.specs.declared.record.DataRecord.{DataRecord}
 use Rattle.ipfix_session.specs.declared.ledger.Account.{Account}
-use Rattle.ipfix_session.specs.declared.tally.Counted.{Counted}
-use Rattle.ipfix_session.specs.Tallies.{IsCounted}
 use Rattle.ipfix_session.specs.declared.stop.Stop.{Stop}
 use Rattle.ipfix_session.specs.declared.stop.Stop.TheVariants.{Clean, Short, Fault}
 use Rattle.ipfix_session.specs.declared.fault.SessionFault.{SessionFault}
@@ -53,11 +51,11 @@ takes-none view k = record { chain = refl; none_refused = refl }
 
 pub tells_accounts : (c : Counts) (accounts : List (ℕ × Account)) (ms : List Message) (d : ℕ) → Tells c ms d → accounts ≡ c.accounts → Tells (record c { accounts = accounts }) ms d
 tells_accounts c accounts ms d t e =
-    record { messages = t.messages; delivered_is = t.delivered_is; skipped_sets = t.skipped_sets; unknown_sets = t.unknown_sets; ignored_withdrawals = t.ignored_withdrawals; accounts = e ∙ t.accounts }
+    record { messages = t.messages; delivered_is = t.delivered_is; passed_over = t.passed_over; accounts = e ∙ t.accounts }
 
 pub tells_delivered : (c : Counts) (delivered more : ℕ) (ms : List Message) (d : ℕ) → Tells c ms d → CountsOn c.delivered more delivered → Tells (record c { delivered = delivered }) ms (d + more)
 tells_delivered c delivered more ms d t on =
-    record { messages = t.messages; delivered_is = on d t.delivered_is; skipped_sets = t.skipped_sets; unknown_sets = t.unknown_sets; ignored_withdrawals = t.ignored_withdrawals; accounts = t.accounts }
+    record { messages = t.messages; delivered_is = on d t.delivered_is; passed_over = t.passed_over; accounts = t.accounts }
 
 -- ---- one more message
 
@@ -322,11 +320,6 @@ tells_put view now after c accounts delivered whole records x tells are same put
   subst (λ (rs : List DataRecord). Tells (record c { accounts = accounts; delivered = delivered }) whole (length (records_in whole) + length rs)) are
       (tells_delivered (record c { accounts = accounts }) delivered (length records) whole (length (records_in whole)) (tells_accounts c accounts whole (length (records_in whole)) tells same) puts.1),
 )
-
-pub is_counted : (counted : Counted) (m : Message) (records : List DataRecord) → counted.header ≡ m.header → records ≡ m.decoding.records → counted.records ≡ length records → counted.skipped_sets ≡ m.decoding.skipped
-    → counted.unknown_sets ≡ m.decoding.unknown → counted.ignored_withdrawals ≡ m.decoding.ignored → IsCounted counted m
-is_counted counted m records h r n s u i =
-    record { header = sym h; records = ap length (sym r) ∙ sym n; skipped_sets = sym s; unknown_sets = sym u; ignored_withdrawals = sym i }
 
 -- ---- before the first piece
 

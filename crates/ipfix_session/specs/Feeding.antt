@@ -1,7 +1,8 @@
 -- What a session stands for, and what feeding it a piece of its text does.
-use Rattle.std.specs.Prelude.{◌≡◌, ℕ, false, List, [], ◌∷◌, ◌++◌, ◌+◌, length, sum_by, Option, Some, None, Result, Ok, Err}
+use Rattle.std.specs.Prelude.{◌≡◌, ℕ, false, List, [], ◌∷◌, ◌++◌, ◌+◌, length, Option, Some, None, Result, Ok, Err}
 use Rattle.ipfix_message.specs.Domains.{Session, Message, StandsFor}
 use Rattle.ipfix_message.specs.declared.fault.MessageFault.TheVariants.{OutOfMemory}
+use Rattle.ipfix_message.specs.declared.passed_over.PassedOver.{PassedOver}
 use Rattle.ipfix_message.specs.declared.record.DataRecord.{DataRecord}
 use Rattle.ipfix_session.specs.declared.stop.Stop.{Stop}
 use Rattle.ipfix_session.specs.declared.stop.Stop.TheVariants.{Clean, Short, Fault}
@@ -11,6 +12,7 @@ use Rattle.ipfix_session.specs.declared.ledger.Account.{Account}
 use Rattle.ipfix_session.specs.MessageStream.{cut}
 use Rattle.ipfix_session.specs.Given.{gives, known_after, records_in, records_of, stop_of, IsOpen, IsPrefix}
 use Rattle.ipfix_session.specs.Ledger.{capped, accounts_of}
+use Rattle.ipfix_session.specs.Reports.{passed_over_in}
 use Rattle.ipfix_session.specs.Sources.{one_more}
 use Rattle.ipfix_session.specs.Sinks.{SinkView, Takes}
 
@@ -18,9 +20,7 @@ use Rattle.ipfix_session.specs.Sinks.{SinkView, Takes}
 pub record Counts : Type 0 where
   pub messages : ℕ
   pub delivered : ℕ
-  pub skipped_sets : ℕ
-  pub unknown_sets : ℕ
-  pub ignored_withdrawals : ℕ
+  pub passed_over : PassedOver
   pub accounts : List (ℕ × Account)
 
 -- what contracts see of a session
@@ -34,9 +34,7 @@ pub record State : Type 0 where
 pub record Tells (c : Counts) (ms : List Message) (delivered : ℕ) : Type 0 where
   pub messages : c.messages ≡ capped (length ms)
   pub delivered_is : c.delivered ≡ capped delivered
-  pub skipped_sets : c.skipped_sets ≡ capped (sum_by (λ m. m.decoding.skipped) ms)
-  pub unknown_sets : c.unknown_sets ≡ capped (sum_by (λ m. m.decoding.unknown) ms)
-  pub ignored_withdrawals : c.ignored_withdrawals ≡ capped (sum_by (λ m. m.decoding.ignored) ms)
+  pub passed_over : c.passed_over ≡ passed_over_in ms
   pub accounts : c.accounts ≡ accounts_of ms
 
 -- the fault that a text ends its session with, however it goes on

@@ -15,7 +15,7 @@ count_in m = length m.decoding.records
 -- the sequence number that is due in the domain after a message; unknown, if a data set's records
 -- couldn't be counted
 abbrev pub due_after : Message → Option ℕ
-due_after m = if m.decoding.unknown == 0 then Some ((m.header.sequence + count_in m) % 2 ^ 32) else None
+due_after m = if m.decoding.passed_over.unknown_sets == 0 then Some ((m.header.sequence + count_in m) % 2 ^ 32) else None
 
 -- how far a sequence number is above the one that was due, modulo 2^32
 abbrev pub gap : ℕ → ℕ → ℕ

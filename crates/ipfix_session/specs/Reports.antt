@@ -1,6 +1,7 @@
 -- The report of a session.
 use Rattle.std.specs.Prelude.{◌≡◌, ℕ, List, [], ◌∷◌, length, map, sum_by, Option, Some, None}
 use Rattle.ipfix_message.specs.Domains.{Message}
+use Rattle.ipfix_message.specs.declared.passed_over.PassedOver.{PassedOver}
 use Rattle.ipfix_session.specs.declared.report.SessionReport.{SessionReport}
 use Rattle.ipfix_session.specs.declared.fault.SessionFault.{SessionFault}
 use Rattle.ipfix_session.specs.declared.fault.SessionFault.TheVariants.{Truncated}
@@ -8,13 +9,23 @@ use Rattle.ipfix_session.specs.Given.{gives, records_of}
 use Rattle.ipfix_session.specs.Ledger.{capped, domains_of, domain_report}
 use Rattle.ipfix_session.specs.Faults.{end_of}
 
+-- what messages passed over (RFC 7011, sections 3.3.2, 8.1 and 9)
+abbrev pub passed_over_in : List Message → PassedOver
+passed_over_in ms = record {
+  skipped_sets = capped (sum_by (λ m. m.decoding.passed_over.skipped_sets) ms);
+  unknown_sets = capped (sum_by (λ m. m.decoding.passed_over.unknown_sets) ms);
+  ignored_withdrawals = capped (sum_by (λ m. m.decoding.passed_over.ignored_withdrawals) ms);
+}
+
+-- what a report says was passed over
+abbrev pub passed_over_of : SessionReport → PassedOver
+passed_over_of r = record { skipped_sets = r.skipped_sets; unknown_sets = r.unknown_sets; ignored_withdrawals = r.ignored_withdrawals }
+
 -- a report is of these messages, and of that many records that were taken
 pub record Reports (r : SessionReport) (ms : List Message) (delivered : ℕ) : Type 0 where
   pub messages : r.messages ≡ capped (length ms)
   pub delivered_is : r.delivered ≡ capped delivered
-  pub skipped_sets : r.skipped_sets ≡ capped (sum_by (λ m. m.decoding.skipped) ms)
-  pub unknown_sets : r.unknown_sets ≡ capped (sum_by (λ m. m.decoding.unknown) ms)
-  pub ignored_withdrawals : r.ignored_withdrawals ≡ capped (sum_by (λ m. m.decoding.ignored) ms)
+  pub passed_over : passed_over_of r ≡ passed_over_in ms
   pub domains : r.domains.items ≡ map (domain_report ms) (domains_of ms)
 
 -- the report of a whole text: its messages before the first with a fault, all their records, and the fault that it

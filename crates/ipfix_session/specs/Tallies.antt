@@ -1,12 +1,12 @@
 -- What a message adds to the counts of its session.
-use Rattle.std.specs.Prelude.{◌≡◌}
-use Rattle.ipfix_message.specs.Domains.{Message}
-use Rattle.ipfix_session.specs.declared.tally.Counted.{Counted}
-use Rattle.ipfix_session.specs.Ledger.{count_in}
+use Rattle.std.specs.Prelude.{◌+◌}
+use Rattle.ipfix_message.specs.declared.passed_over.PassedOver.{PassedOver}
+use Rattle.ipfix_session.specs.Ledger.{capped}
 
-pub record IsCounted (c : Counted) (m : Message) : Type 0 where
-  pub header : m.header ≡ c.header
-  pub records : count_in m ≡ c.records
-  pub skipped_sets : m.decoding.skipped ≡ c.skipped_sets
-  pub unknown_sets : m.decoding.unknown ≡ c.unknown_sets
-  pub ignored_withdrawals : m.decoding.ignored ≡ c.ignored_withdrawals
+-- what was passed over before a message and in it
+abbrev pub added_up : PassedOver → PassedOver → PassedOver
+added_up before more = record {
+  skipped_sets = capped (before.skipped_sets + more.skipped_sets);
+  unknown_sets = capped (before.unknown_sets + more.unknown_sets);
+  ignored_withdrawals = capped (before.ignored_withdrawals + more.ignored_withdrawals);
+}

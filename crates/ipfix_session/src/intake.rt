@@ -13,8 +13,8 @@ ghost use Rattle.ipfix_session.specs.Puts.{Puts};
 use crate::fault::SessionFault;
 use crate::message_stream::next_message;
 use crate::sink::Sink;
-use crate::tally::{Counted, Tally};
-use ipfix_message::{DataRecord, Decoded, Domains};
+use crate::tally::Tally;
+use ipfix_message::{DataRecord, Domains};
 use std::alloc::Global;
 
 /// What whole messages of a session left: its domains, and its counts.
@@ -67,23 +67,12 @@ impl Intake {
             (λ _. IsBetween K.seen old text before sink.new (counts_of self.new.tally) self.new.domains rest)
             (λ fault. GoesNoFurther K.seen fault old text before sink.new (counts_of self.new.tally)) }
     {
-        let Decoded {
-            header,
-            records,
-            skipped_sets,
-            unknown_sets,
-            ignored_withdrawals,
-        } = self.domains.decode(alloc, message)?;
+        let decoded = self.domains.decode(alloc, message)?;
         self.tally.ledger.make_room()?;
-        let counted = Counted {
-            header,
-            records: records.len() as u64,
-            skipped_sets,
-            unknown_sets,
-            ignored_withdrawals,
-        };
-        put_all(records, &mut self.tally.delivered, sink)?;
-        self.tally.take(&counted);
+        let passed_over = decoded.passed_over();
+        let count = decoded.records.len() as u64;
+        put_all(decoded.records, &mut self.tally.delivered, sink)?;
+        self.tally.take(&decoded.header, count, passed_over);
         Ok(())
     }
 

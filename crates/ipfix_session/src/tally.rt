@@ -6,34 +6,37 @@ ghost use Rattle.indexmap.specs.IndexMap.{spare, index_map_len};
 ghost use Rattle.ipfix_message.specs.Domains.{Message};
 ghost use Rattle.ipfix_session.specs.Feeding.{Tells};
 ghost use Rattle.ipfix_session.specs.Intake.{counts_of};
-ghost use Rattle.ipfix_session.specs.Tallies.{IsCounted};
+ghost use Rattle.ipfix_session.specs.Ledger.{count_in};
+ghost use Rattle.ipfix_session.specs.Tallies.{added_up};
 ghost use Rattle.ipfix_session.specs.Reports.{Reports};
 
 use crate::fault::SessionFault;
 use crate::ledger::Ledger;
 use crate::report::SessionReport;
+use ipfix_message::PassedOver;
 use ipfix_wire::Header;
 use std::alloc::Global;
-
-/// What a message adds to the counts of its session.
-#[derive(Clone, Copy)]
-pub struct Counted {
-    pub header: Header,
-    pub records: u64,
-    pub skipped_sets: u64,
-    pub unknown_sets: u64,
-    pub ignored_withdrawals: u64,
-}
 
 /// The counts of a session. They stop at `u64::MAX`.
 #[derive(Drop)]
 pub struct Tally {
     pub messages: u64,
     pub delivered: u64,
-    pub skipped_sets: u64,
-    pub unknown_sets: u64,
-    pub ignored_withdrawals: u64,
+    pub passed_over: PassedOver,
     pub ledger: Ledger,
+}
+
+// What was passed over before a message and in it.
+fn add_up(before: PassedOver, more: PassedOver) -> PassedOver
+    ensures { result ≡ added_up before more }
+{
+    PassedOver {
+        skipped_sets: before.skipped_sets.saturating_add(more.skipped_sets),
+        unknown_sets: before.unknown_sets.saturating_add(more.unknown_sets),
+        ignored_withdrawals: before
+            .ignored_withdrawals
+            .saturating_add(more.ignored_withdrawals),
+    }
 }
 
 impl Tally {
@@ -43,28 +46,26 @@ impl Tally {
         Tally {
             messages: 0,
             delivered: 0,
-            skipped_sets: 0,
-            unknown_sets: 0,
-            ignored_withdrawals: 0,
+            passed_over: PassedOver {
+                skipped_sets: 0,
+                unknown_sets: 0,
+                ignored_withdrawals: 0,
+            },
             ledger: Ledger::new(alloc),
         }
     }
 
-    /// Counts a message whose records were all delivered.
-    pub fn take(&mut self, message: &Counted)
+    /// Counts a message whose records, so many, were all delivered.
+    pub fn take(&mut self, header: &Header, records: u64, passed_over: PassedOver)
         requires account { 0 < spare self.old.ledger.accounts }
         requires report { index_map_len self.old.ledger.accounts < vec_capacity self.old.ledger.reports }
-        ensures { (ms : List Message) (m : Message) (delivered : ℕ) → Tells (counts_of self.old) ms delivered → IsCounted message.now m
+        ensures { (ms : List Message) (m : Message) (delivered : ℕ) → Tells (counts_of self.old) ms delivered
+            → m.header ≡ header.now → count_in m ≡ records → m.decoding.passed_over ≡ passed_over
             → Tells (counts_of self.new) (ms ++ m ∷ []) delivered }
     {
-        self.ledger
-            .take(&message.header, message.records, message.unknown_sets);
+        self.ledger.take(header, records, passed_over.unknown_sets);
         self.messages = self.messages.saturating_add(1);
-        self.skipped_sets = self.skipped_sets.saturating_add(message.skipped_sets);
-        self.unknown_sets = self.unknown_sets.saturating_add(message.unknown_sets);
-        self.ignored_withdrawals = self
-            .ignored_withdrawals
-            .saturating_add(message.ignored_withdrawals);
+        self.passed_over = add_up(self.passed_over, passed_over);
     }
 
     /// The report of the session, which ended with this fault. This takes no memory.
@@ -75,17 +76,15 @@ impl Tally {
         let Tally {
             messages,
             delivered,
-            skipped_sets,
-            unknown_sets,
-            ignored_withdrawals,
+            passed_over,
             ledger,
         } = self;
         SessionReport {
             messages,
             delivered,
-            skipped_sets,
-            unknown_sets,
-            ignored_withdrawals,
+            skipped_sets: passed_over.skipped_sets,
+            unknown_sets: passed_over.unknown_sets,
+            ignored_withdrawals: passed_over.ignored_withdrawals,
             domains: ledger.into_reports(),
             fault,
         }

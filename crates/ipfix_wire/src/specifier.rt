@@ -54,10 +54,7 @@ pub fn read_spec(rest: &[u8]) -> Option<(Spec, usize)>
     let first = u16_at(rest, 0);
     let width = u16_at(rest, 2);
     if first < ENTERPRISE_BIT {
-        let element = ElementId {
-            pen: 0,
-            number: first,
-        };
+        let element = ElementId::iana(first);
         return Some((Spec { element, width }, 4));
     }
     if rest.len() < 8 {

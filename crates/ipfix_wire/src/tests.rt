@@ -64,7 +64,7 @@ fn specifiers(rt: HostRuntime) -> Result<(), Fail> {
     assert_eq!(rt; read_spec(&[0x80, 0x01, 0x00, 0x04, 0x00, 0x00]), None);
     // an enterprise bit with enterprise number 0 is read as no bit
     let iana = Spec {
-        element: ElementId { pen: 0, number: 1 },
+        element: ElementId::iana(1),
         width: 4,
     };
     assert_eq!(rt; read_spec(&[0x80, 1, 0, 4, 0, 0, 0, 0]), Some((iana, 8)));

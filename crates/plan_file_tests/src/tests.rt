@@ -1,8 +1,9 @@
-use flow_table::{Key, Method, PlanFault};
+use flow_table::{Key, Method, Plan, PlanFault};
 use ipfix_wire::ElementId;
 use plan_file::{PlanTextError, PlanTextFault, read_plan, read_plan_octets};
 use std::alloc::Global;
-use std::test::Fail;
+use std::process::Abort;
+use std::test::*;
 
 const BY_SOURCE: &str = "interval_ms = 60000
 method = \"start\"
@@ -10,7 +11,7 @@ keys = [\"sourceIPv4Address\"]
 counters = [\"octetDeltaCount\"]
 ";
 
-const BY_NETWORK: &str = "# a comment
+pub const BY_NETWORK: &str = "# a comment
 counters = ['packetDeltaCount', \"e0.1\"]
 max_spread = 2
 keys = [\"sourceIPv4Address/24\", \"protocolIdentifier\"]
@@ -38,9 +39,8 @@ fn reads_a_plan(rt: HostRuntime) -> Result<(), Fail> {
     Ok(())
 }
 
-#[test]
-fn reads_keys_in_any_order(rt: HostRuntime) -> Result<(), Fail> {
-    let plan = read_plan(rt.alloc(), BY_NETWORK)?;
+/// That a plan is the one that [`BY_NETWORK`] says.
+pub fn assert_by_network(rt: &impl Abort, plan: &Plan) {
     let network = Key {
         element: ElementId::iana(8),
         prefix: Some(24),
@@ -57,6 +57,11 @@ fn reads_keys_in_any_order(rt: HostRuntime) -> Result<(), Fail> {
         plan.counters(),
         [ElementId::iana(2), ElementId::iana(1)].as_slice()
     );
+}
+
+#[test]
+fn reads_keys_in_any_order(rt: HostRuntime) -> Result<(), Fail> {
+    assert_by_network(&rt, &read_plan(rt.alloc(), BY_NETWORK)?);
     Ok(())
 }
 

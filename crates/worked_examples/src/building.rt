@@ -20,6 +20,15 @@ pub fn header(length: u16, sequence: u32, domain: u32) -> [u8; 16] {
     [0, 10, a, b, 0x65, 0x53, 0xf1, 0, c, d, e, f, g, h, i, j]
 }
 
+/// The octets of messages, one after another.
+pub fn text_of(alloc: Global, messages: &[&[u8]]) -> Result<Vec<u8>, AllocError> {
+    let mut octets = Vec::new(alloc);
+    for message in messages {
+        octets.extend_from_slice(message)?;
+    }
+    Ok(octets)
+}
+
 /// A length field. One that is too long for it is written as 65535.
 fn length_of(octets: usize) -> u16 {
     u16::try_from(octets).unwrap_or(u16::MAX)

@@ -12,5 +12,5 @@ pub mod templates;
 pub mod values;
 mod writers;
 
-pub use building::{Flow, header, message_of_flows};
+pub use building::{Flow, header, message_of_flows, text_of};
 pub use writers::FailingWriter;

@@ -20,3 +20,4 @@ complete -c collectd -n '__fish_seen_subcommand_from files tcp' -l format -x -a 
 complete -c collectd -n '__fish_seen_subcommand_from files tcp' -l time -x -d 'The export time of messages of IPFIX'
 complete -c collectd -n '__fish_seen_subcommand_from tcp' -l listen -x -d 'The address and port to listen on'
 complete -c collectd -n '__fish_seen_subcommand_from tcp' -l sessions -x -d 'How many connections to accept'
+complete -c collectd -n '__fish_seen_subcommand_from tcp' -l idle -x -d 'Seconds that a connection may send nothing'

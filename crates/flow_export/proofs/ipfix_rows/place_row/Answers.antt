@@ -1,4 +1,4 @@
-use Rattle.std.proofs.Common.{◌∙◌, subst, sym, List, arith}
+use Rattle.std.proofs.Common.{◌∙◌, subst, sym, List, arith, rules}
 use Rattle.std.specs.List.{AllZip}
 use Rattle.ipfix_elements.specs.declared.cell.Cell.{Cell}
 use Rattle.ipfix_elements.specs.declared.kind.Kind.{Kind}
@@ -41,7 +41,7 @@ pub returns-clause-placed : goal.returns-clause-placed
 returns-clause-placed c =
     row_placed c.args.plan.now c.args.row.now c.from-length.result c.kinds.result.now c.deref.result.now c.deref-2.result.now c.requires.fits
     (c.from-length.ensures ∙ c.length.ensures.value) c.kinds.ensures.value c.deref.ensures.value c.deref-2.ensures.value
-    c.place_number-times.ensures c.place_number-times-2.ensures c.place_cells-key.ensures.placed c.place_numbers-sums.ensures.placed c.place_number.ensures
+    c.place_number-times.ensures (search rules) c.place_cells-key.ensures.placed c.place_numbers-sums.ensures.placed (search rules)
 
 pub returns-clause-short : goal.returns-clause-short
 returns-clause-short c = omega (arith, (returns-clause-placed c).moved, row_short c.args.plan.now c.args.row.now c.length.ensures.sound c.requires.fits)

@@ -30,14 +30,14 @@ returns-in_err-take_sets-clause-gives c = λ ds stands.
     let found : get nat_eq c.admit.new.known c.in_ok-header.header.domain ≡ Some c.unwrap-templates.result.now = search rules in
     rw (p.1, p.2) (bad_sets c.in_err-take_sets.field-0.0 ds c.args.message.now c.in_ok-header.header c.admit.new.known.entries c.unwrap-templates.result.now _ c.in_ok-header.ensures.gives
     (c.in_ok-admit.ensures.gives ds stands) found
-    (λ es agrees. record { templates = agrees; records = c.new.ensures.items; skipped = refl; unknown = refl; ignored = refl })
-    (λ d holds. rw take_rest at (c.in_err-take_sets.ensures d holds)))
+    (λ es agrees. record { templates = agrees; records = c.new.ensures.items; passed_over = refl })
+    (λ d holds. rw take_rest at (c.in_err-take_sets.ensures.gives d holds)))
 
 pub returns-clause-gives : goal.returns-clause-gives
 returns-clause-gives c = λ ds stands.
     let found : get nat_eq c.admit.new.known c.in_ok-header.header.domain ≡ Some c.unwrap-templates.result.now = search rules in
-    good_message ds c.args.message.now c.in_ok-header.header c.admit.new.known.entries c.unwrap-templates.result.now c.take_sets.new.templates _ c.take_sets.new.progress _ _ c.in_ok-header.ensures.gives
+    good_message ds c.args.message.now c.in_ok-header.header c.admit.new.known.entries c.unwrap-templates.result.now c.take_sets.new.templates _ c.take_sets.new.decoded _ c.in_ok-header.ensures.gives
     (c.in_ok-admit.ensures.gives ds stands) found
-    (λ es agrees. record { templates = agrees; records = c.new.ensures.items; skipped = refl; unknown = refl; ignored = refl })
-    (λ d holds. rw take_rest at (c.in_ok-take_sets.ensures d holds))
-    refl (c.get_mut.follows.holds c.take_sets.new.templates).0
+    (λ es agrees. record { templates = agrees; records = c.new.ensures.items; passed_over = refl })
+    (λ d holds. rw take_rest at (c.in_ok-take_sets.ensures.gives d holds))
+    c.take_sets.ensures.header (c.get_mut.follows.holds c.take_sets.new.templates).0

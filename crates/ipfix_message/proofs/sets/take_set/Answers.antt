@@ -8,4 +8,4 @@ returns-then-id-lt-FIRST_TEMPLATE_ID-clause-gives c = λ d holds.
     let two : c.args.id ≢ 2 = omega arith in
     let three : c.args.id ≢ 3 = omega arith in
     let below : c.args.id < 256 = omega arith in
-    skipped_set c.args.header.now d c.args.id c.args.body.now c.args.templates.now.entries c.args.progress.now holds two three below
+    skipped_set c.args.decoded.now.header d c.args.id c.args.body.now c.args.templates.now.entries c.args.decoded.now holds two three below

@@ -9,4 +9,4 @@ returns-in_err-ignored-clause-gives c = λ d holds.
 
 pub returns-clause-gives : goal.returns-clause-gives
 returns-clause-gives c = λ d holds.
-    template_set c.args.kind d c.args.body.now c.args.templates.now.entries c.take_templates.new.templates.entries c.args.progress.now c.in_ok-ignored.ignored holds (c.in_ok-ignored.ensures.gives d.events holds.templates)
+    template_set c.args.kind d c.args.body.now c.args.templates.now.entries c.take_templates.new.templates.entries c.args.decoded.now c.in_ok-ignored.ignored holds (c.in_ok-ignored.ensures.gives d.events holds.templates)

@@ -7,7 +7,7 @@ pub returns-then-first-lt-ENTERPRISE_BIT-clause-found : goal.returns-then-first-
 returns-then-first-lt-ENTERPRISE_BIT-clause-found c =
     let fits : IsOctets c.args.rest.now = λ i. omega (arith, c.type_inv.rest i) in
     let at = short_found c.args.rest.now c.u16_at-first.result c.u16_at-width.result fits (omega arith) c.u16_at-first.ensures c.u16_at-width.ensures (omega arith) in
-    (at.room, at.is)
+    (at.room, rw c.iana-element.ensures at.is)
 
 pub returns-clause-found : goal.returns-clause-found
 returns-clause-found c =

@@ -8,8 +8,6 @@ returns-clause-reports c = λ ms delivered t.
     record {
       messages = t.messages;
       delivered_is = t.delivered_is;
-      skipped_sets = t.skipped_sets;
-      unknown_sets = t.unknown_sets;
-      ignored_withdrawals = t.ignored_withdrawals;
+      passed_over = t.passed_over;
       domains = c.into_reports.ensures ∙ ap (map report_of) t.accounts ∙ reports_of-accounts ms;
     }
