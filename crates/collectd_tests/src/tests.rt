@@ -1,7 +1,5 @@
 //! What a dump writes, of sources and to writers that fail, and over a live connection.
 
-ghost use Rattle.std.specs.Prelude.{◌<◌};
-
 use collectd::*;
 use ipfix_session::{DomainReport, FromReader, ScriptSource, SessionFault, SessionReport};
 use std::alloc::Global;
@@ -11,38 +9,21 @@ use std::sync::Arc;
 use std::sync::atomic::{AtomicBool, Ordering};
 use std::test::Fail;
 use std::thread;
-use worked_examples::FailingWriter;
-
-// A message of domain 1: template 256, and one record of it.
-const ONE_FLOW: [u8; 68] = [
-    0, 10, 0, 68, 0x65, 0x53, 0xf1, 0, 0, 0, 0, 0, 0, 0, 0, 1, 0, 2, 0, 24, 1, 0, 0, 4, 0, 152, 0,
-    8, 0, 153, 0, 8, 0, 8, 0, 4, 0, 1, 0, 4, 1, 0, 0, 28, 0, 0, 0, 0, 0, 0, 3, 232, 0, 0, 0, 0, 0,
-    0, 7, 208, 192, 0, 2, 1, 0, 0, 5, 220,
-];
+use worked_examples::flows::ONE_FLOW;
+use worked_examples::sequences::*;
+use worked_examples::{FailingWriter, text_of};
 
 const LINE: &str =
     "d=1 t=256 x=1700000000 s=0 flowStartMilliseconds=1000 flowEndMilliseconds=2000 sourceIPv4Address=192.0.2.1 octetDeltaCount=1500\n";
 
-// Messages of domain 1 whose sequence number and records are (4294967295, 2), (1, 1). Template 256
-// has octetDeltaCount in 4 octets.
-const WRAP: [u8; 64] = [
-    0, 10, 0, 40, 0x65, 0x53, 0xf1, 0, 255, 255, 255, 255, 0, 0, 0, 1, 0, 2, 0, 12, 1, 0, 0, 1, 0,
-    1, 0, 4, 1, 0, 0, 12, 0, 0, 0, 1, 0, 0, 0, 2, 0, 10, 0, 24, 0x65, 0x53, 0xf1, 0, 0, 0, 0, 1, 0,
-    0, 0, 1, 1, 0, 0, 8, 0, 0, 0, 3,
-];
+const WRAP: &[&[u8]] = &[TWO_BEFORE_THE_WRAP, ONE_AFTER_THE_WRAP];
 
 const WRAP_LINES: &str = "d=1 t=256 x=1700000000 s=0 octetDeltaCount=1
 d=1 t=256 x=1700000000 s=0 octetDeltaCount=2
 d=1 t=256 x=1700000000 s=0 octetDeltaCount=3
 ";
 
-// The same with (0, 2), (5, 1), (1, 1).
-const GAP: [u8; 88] = [
-    0, 10, 0, 40, 0x65, 0x53, 0xf1, 0, 0, 0, 0, 0, 0, 0, 0, 1, 0, 2, 0, 12, 1, 0, 0, 1, 0, 1, 0, 4,
-    1, 0, 0, 12, 0, 0, 0, 1, 0, 0, 0, 2, 0, 10, 0, 24, 0x65, 0x53, 0xf1, 0, 0, 0, 0, 5, 0, 0, 0, 1,
-    1, 0, 0, 8, 0, 0, 0, 3, 0, 10, 0, 24, 0x65, 0x53, 0xf1, 0, 0, 0, 0, 1, 0, 0, 0, 1, 1, 0, 0, 8,
-    0, 0, 0, 4,
-];
+const GAP: &[&[u8]] = &[TWO_AT_0, ONE_AT_5, ONE_BACK_AT_1];
 
 const GAP_LINES: &str = "d=1 t=256 x=1700000000 s=0 octetDeltaCount=1
 d=1 t=256 x=1700000000 s=0 octetDeltaCount=2
@@ -50,34 +31,21 @@ d=1 t=256 x=1700000000 s=0 octetDeltaCount=3
 d=1 t=256 x=1700000000 s=0 octetDeltaCount=4
 ";
 
-// A source of one flow twice, that gives it in pieces.
-fn twice(
-    alloc: Global,
-    piece: usize,
-    interrupt_at: Option<u64>,
-    fail_at: Option<usize>,
-) -> Result<ScriptSource, Fail>
-    requires { 0 < piece }
-{
-    let mut text = Vec::from_slice(alloc, &ONE_FLOW)?;
-    text.extend_from_slice(&ONE_FLOW)?;
-    Ok(ScriptSource::new(text, piece, interrupt_at, fail_at))
-}
-
 #[test]
 fn whole_inputs(rt: HostRuntime) -> Result<(), Fail> {
-    let cases: [(&[u8], &str, &str); 4] = [
+    let cases: [(&[&[u8]], &str, &str); 4] = [
         (&[], "", ""),
-        (&ONE_FLOW, LINE, ""),
-        (&WRAP, WRAP_LINES, ""),
+        (&[ONE_FLOW], LINE, ""),
+        (WRAP, WRAP_LINES, ""),
         (
-            &GAP,
+            GAP,
             GAP_LINES,
             "collectd: session 1: domain 1: lost 3 backward 1\n",
         ),
     ];
-    for (input, lines, texts) in cases {
-        let mut source = FromReader::new(input);
+    for (messages, lines, texts) in cases {
+        let text = text_of(rt.alloc(), messages)?;
+        let mut source = FromReader::new(text.as_slice());
         let mut out = Vec::new(rt.alloc());
         let mut err = Vec::new(rt.alloc());
         assert_eq!(rt; run_dump(rt.alloc(), &mut source, &mut out, &mut err), 0);
@@ -90,7 +58,8 @@ fn whole_inputs(rt: HostRuntime) -> Result<(), Fail> {
 #[test]
 fn a_failing_read(rt: HostRuntime) -> Result<(), Fail> {
     for (piece, interrupt_at) in [(1, None), (7, Some(3)), (100, Some(1))] {
-        let mut source = twice(rt.alloc(), piece, interrupt_at, Some(80))?;
+        let text = text_of(rt.alloc(), &[ONE_FLOW, ONE_FLOW])?;
+        let mut source = ScriptSource::new(text, piece, interrupt_at, Some(80));
         let mut out = Vec::new(rt.alloc());
         let mut err = Vec::new(rt.alloc());
         assert_eq!(rt; run_dump(rt.alloc(), &mut source, &mut out, &mut err), 1);
@@ -106,11 +75,12 @@ fn a_failing_read(rt: HostRuntime) -> Result<(), Fail> {
 /// Pieces of lines, and then the flush.
 #[test]
 fn each_write_fails(rt: HostRuntime) -> Result<(), Fail> {
-    let cases: [(&[u8], &str); 2] = [(&[], ""), (&GAP, GAP_LINES)];
-    for (input, lines) in cases {
+    let cases: [(&[&[u8]], &str); 2] = [(&[], ""), (GAP, GAP_LINES)];
+    for (messages, lines) in cases {
+        let text = text_of(rt.alloc(), messages)?;
         let mut flush_fails = false;
         for calls in 0..100 {
-            let mut source = FromReader::new(input);
+            let mut source = FromReader::new(text.as_slice());
             let mut out = FailingWriter::new(rt.alloc(), 30, calls);
             let mut err = Vec::new(rt.alloc());
             let status = run_dump(rt.alloc(), &mut source, &mut out, &mut err);
@@ -209,7 +179,7 @@ impl Write for Noting {
 // Sends one flow, and closes the connection once its line has come, or gives up. Whether it came.
 fn export(connection: TcpStream, line_came: &AtomicBool) -> bool {
     let mut connection = connection;
-    if connection.write_all(&ONE_FLOW).is_err() {
+    if connection.write_all(ONE_FLOW).is_err() {
         return false;
     }
     for _ in 0..1_000_000 {

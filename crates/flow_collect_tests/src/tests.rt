@@ -5,4 +5,3 @@ mod memory;
 mod serial;
 mod texts;
 mod threaded;
-mod threaded_memory;

@@ -1,9 +1,6 @@
 //! Writers that fail, at each of their calls in turn.
 
-use super::sessions::{BY_SOURCE, CSV, two_flows};
-use collectd::run;
-use flow_collect::Pool;
-use plan_file::read_plan;
+use super::sessions::{run_by_source, two_flows};
 use std::alloc::Global;
 use std::sync::Wait;
 use std::test::Fail;
@@ -22,14 +19,7 @@ fn run_to<R: Threads + Wait + Sync>(
 ) -> Result<(u8, Vec<u8>), Fail> {
     let mut sources = Vec::new(alloc);
     sources.push(two_flows(alloc, 64, None, None)?)?;
-    let plan = read_plan(alloc, BY_SOURCE)?;
-    let pool = Pool {
-        workers: 1,
-        capacity: 1,
-    };
-    let mut err = Vec::new(alloc);
-    let status = run(rt, alloc, sources, &plan, pool, CSV, out, &mut err);
-    Ok((status, err))
+    run_by_source(rt, alloc, sources, (1, 1), out)
 }
 
 /// Eight writes for the heading and four for the row, of at most seven octets each, and a flush.

@@ -8,16 +8,19 @@ use flow_export::Format;
 use ipfix_session::ScriptSource;
 use plan_file::read_plan;
 use std::alloc::Global;
+use std::io::Write;
+use std::sync::Wait;
 use std::test::Fail;
+use std::thread::Threads;
 use worked_examples::flows::{NEXT_FLOW, ONE_FLOW};
 
-pub const BY_SOURCE: &str = "interval_ms = 60000
+const BY_SOURCE: &str = "interval_ms = 60000
 method = \"start\"
 keys = [\"sourceIPv4Address\"]
 counters = [\"octetDeltaCount\"]
 ";
 
-pub const CSV: Output = Output {
+const CSV: Output = Output {
     format: Format::Csv,
     time: 0,
 };
@@ -49,6 +52,22 @@ fn three_sources(
     Ok(sources)
 }
 
+// The status and the texts of a run of these sessions by source address, on so many workers and with room
+// for so many parcels in a link.
+pub fn run_by_source<W: Write, R: Threads + Wait + Sync>(
+    rt: &R,
+    alloc: Global,
+    sources: Vec<ScriptSource>,
+    (workers, capacity): (usize, usize),
+    out: &mut W,
+) -> Result<(u8, Vec<u8>), Fail> {
+    let plan = read_plan(alloc, BY_SOURCE)?;
+    let pool = Pool { workers, capacity };
+    let mut err = Vec::new(alloc);
+    let status = run(rt, alloc, sources, &plan, pool, CSV, out, &mut err);
+    Ok((status, err))
+}
+
 // What is told of a session that fails, and of so many records.
 fn texts_of(alloc: Global, used: u64) -> Result<String, Fail> {
     Ok(format!(in alloc;
@@ -73,23 +92,8 @@ fn each_read_fails(rt: HostRuntime) -> Result<(), Fail> {
     for fail_at in 0..113 {
         let interrupt_at = Some(1 + fail_at as u64 / 16);
         let sources = three_sources(rt.alloc(), interrupt_at, fail_at)?;
-        let plan = read_plan(rt.alloc(), BY_SOURCE)?;
-        let pool = Pool {
-            workers: 2,
-            capacity: 64,
-        };
         let mut out = Vec::new(rt.alloc());
-        let mut err = Vec::new(rt.alloc());
-        let status = run(
-            &rt,
-            rt.alloc(),
-            sources,
-            &plan,
-            pool,
-            CSV,
-            &mut out,
-            &mut err,
-        );
+        let (status, err) = run_by_source(&rt, rt.alloc(), sources, (2, 64), &mut out)?;
         let used = match fail_at {
             0..68 => 4,
             68..112 => 5,
@@ -104,24 +108,9 @@ fn each_read_fails(rt: HostRuntime) -> Result<(), Fail> {
 
 #[test]
 fn no_sources(rt: HostRuntime) -> Result<(), Fail> {
-    let sources: Vec<ScriptSource> = Vec::new(rt.alloc());
-    let plan = read_plan(rt.alloc(), BY_SOURCE)?;
-    let pool = Pool {
-        workers: 1,
-        capacity: 1,
-    };
     let mut out = Vec::from_slice(rt.alloc(), b"before")?;
-    let mut err = Vec::new(rt.alloc());
-    let status = run(
-        &rt,
-        rt.alloc(),
-        sources,
-        &plan,
-        pool,
-        CSV,
-        &mut out,
-        &mut err,
-    );
+    let none = Vec::new(rt.alloc());
+    let (status, err) = run_by_source(&rt, rt.alloc(), none, (1, 1), &mut out)?;
     assert_eq!(rt; status, 3);
     assert_eq!(rt; out.as_slice(), b"before".as_slice());
     assert_eq!(rt;

@@ -12,6 +12,7 @@ use std::test::*;
 use std::thread;
 use std::thread::Threads;
 use worked_examples::flows::*;
+use worked_examples::text_of;
 
 /// A wait gives up after so many turns.
 const TURNS: u32 = 1_000_000;
@@ -41,13 +42,15 @@ fn raise(number: &AtomicU64, to: u64) {
     }
 }
 
+/// What was collected by source address, with so many workers and room for so many parcels in a link.
 fn collected<S: Source + Send + Drop, G: Gate + Sync, R: Threads + Wait + Sync>(
     rt: &R,
     alloc: Global,
     sources: Vec<S>,
-    pool: Pool,
+    (workers, capacity): (usize, usize),
     gate: &G,
 ) -> Result<Collected<S>, Fail> {
+    let pool = Pool { workers, capacity };
     let plan = by_source(alloc)?;
     Ok(collect(rt, alloc, sources, &plan, pool, gate)?)
 }
@@ -92,23 +95,14 @@ impl Gate for Meeting {
 #[test]
 fn all_threads_at_once(rt: HostRuntime) -> Result<(), Fail> {
     let alloc: Global = rt.alloc();
-    let mut sources = Vec::new(alloc);
-    sources.push(source_of(alloc, &[FIVE_FLOWS])?)?;
-    sources.push(source_of(alloc, &[FIVE_FLOWS])?)?;
+    let sources = sources_of(alloc, &[&[FIVE_FLOWS], &[FIVE_FLOWS]])?;
     let gate = Meeting {
         came: AtomicU64::new(0),
         missed: AtomicU64::new(0),
     };
-    let pool = Pool {
-        workers: 2,
-        capacity: 1,
-    };
-    let run = collected(&rt, alloc, sources, pool, &gate)?;
+    let run = collected(&rt, alloc, sources, (2, 1), &gate)?;
     assert_eq!(rt; gate.missed.load(Ordering::SeqCst), 0);
-    assert_eq!(rt;
-        lines_of(alloc, &run.table)?.as_str(),
-        "0,59999,192.0.2.1,30,10;"
-    );
+    assert_lines(&rt, alloc, &run.table, "0,59999,192.0.2.1,30,10;")?;
     assert_no_fault(&rt, &run);
     Ok(())
 }
@@ -144,23 +138,15 @@ impl Gate for Holding {
 #[test]
 fn full_link_holds_its_session_back(rt: HostRuntime) -> Result<(), Fail> {
     let alloc: Global = rt.alloc();
-    let mut sources = Vec::new(alloc);
-    sources.push(source_of(alloc, &[FIVE_FLOWS, FIVE_FLOWS])?)?;
+    let sources = sources_of(alloc, &[&[FIVE_FLOWS, FIVE_FLOWS]])?;
     let gate = Holding {
         sent: AtomicU64::new(0),
         sent_when_let_go: AtomicU64::new(0),
     };
-    let pool = Pool {
-        workers: 1,
-        capacity: 2,
-    };
-    let run = collected(&rt, alloc, sources, pool, &gate)?;
+    let run = collected(&rt, alloc, sources, (1, 2), &gate)?;
     assert_eq!(rt; gate.sent_when_let_go.load(Ordering::SeqCst), 2);
     assert_eq!(rt; gate.sent.load(Ordering::SeqCst), 10);
-    assert_eq!(rt;
-        lines_of(alloc, &run.table)?.as_str(),
-        "0,59999,192.0.2.1,30,10;"
-    );
+    assert_lines(&rt, alloc, &run.table, "0,59999,192.0.2.1,30,10;")?;
     assert_no_fault(&rt, &run);
     Ok(())
 }
@@ -236,15 +222,8 @@ fn decoding_goes_on_while_records_are_collected(rt: HostRuntime) -> Result<(), F
             gate: &gate,
         }))?;
     }
-    let pool = Pool {
-        workers: 2,
-        capacity: 64,
-    };
-    let run = collected(&rt, alloc, sources, pool, &gate)?;
-    assert_eq!(rt;
-        lines_of(alloc, &run.table)?.as_str(),
-        "0,59999,192.0.2.1,6000,4;"
-    );
+    let run = collected(&rt, alloc, sources, (2, 64), &gate)?;
+    assert_lines(&rt, alloc, &run.table, "0,59999,192.0.2.1,6000,4;")?;
     assert_no_fault(&rt, &run);
     Ok(())
 }
@@ -255,21 +234,11 @@ fn decoding_goes_on_while_records_are_collected(rt: HostRuntime) -> Result<(), F
 #[test]
 fn sessions_go_to_workers_by_turns(rt: HostRuntime) -> Result<(), Fail> {
     let alloc: Global = rt.alloc();
-    let mut sources = Vec::new(alloc);
-    sources.push(source_of(alloc, &[ONE_FLOW, NEXT_FLOW])?)?;
-    sources.push(source_of(alloc, &[ONE_FLOW, CUT_FLOW])?)?;
-    sources.push(source_of(alloc, &[ONE_FLOW, NEXT_FLOW])?)?;
+    let sources = sources_of(alloc, ONE_OF_THREE_CUT_SHORT.texts)?;
     let gate = new_noting();
-    let pool = Pool {
-        workers: 2,
-        capacity: 64,
-    };
-    let run = collected(&rt, alloc, sources, pool, &gate)?;
+    let run = collected(&rt, alloc, sources, (2, 64), &gate)?;
     assert_eq!(rt; gate.taken[0].load(Ordering::SeqCst), 5);
     assert_eq!(rt; gate.taken[1].load(Ordering::SeqCst), 1);
-    assert_eq!(rt;
-        lines_of(alloc, &run.table)?.as_str(),
-        "0,59999,192.0.2.1,7500,5;"
-    );
+    assert_lines(&rt, alloc, &run.table, "0,59999,192.0.2.1,7500,5;")?;
     Ok(())
 }

@@ -8,15 +8,7 @@ use std::process::Abort;
 use std::test::*;
 use worked_examples::faults::VERSION_9;
 use worked_examples::flows::*;
-
-/// A source for each text.
-fn sources_of(alloc: Global, texts: &[&[&[u8]]]) -> Result<Vec<ScriptSource>, Fail> {
-    let mut sources = Vec::new(alloc);
-    for text in texts {
-        sources.push(source_of(alloc, text)?)?;
-    }
-    Ok(sources)
-}
+use worked_examples::text_of;
 
 /// What was collected of sources, by source address.
 fn collected(
@@ -26,41 +18,26 @@ fn collected(
     Ok(collect_serial(alloc, sources, &by_source(alloc)?))
 }
 
-/// That each session tells these messages, records and fault.
+/// That each session tells these messages, records and fault, and each source came back.
 fn assert_tells<S>(rt: &impl Abort, run: &Serial<S>, reports: &[(u64, u64, Option<u8>)]) {
     assert_eq!(rt; run.sources.len(), reports.len());
-    assert_eq!(rt; run.sessions.len(), reports.len());
-    for (report, expected) in run.sessions.iter().zip(reports) {
-        assert_eq!(rt; told(report), *expected);
+    assert_told(rt, &run.sessions, reports);
+}
+
+#[test]
+fn examples(rt: HostRuntime) -> Result<(), Fail> {
+    let alloc: Global = rt.alloc();
+    for example in [
+        TWO_SESSIONS_OF_FIVE,
+        ONE_OF_THREE_CUT_SHORT,
+        SUM_AT_THE_LIMIT,
+        ALL_SOURCES_EMPTY,
+    ] {
+        let run = collected(alloc, sources_of(alloc, example.texts)?)??;
+        assert_lines(&rt, alloc, &run.table, example.lines)?;
+        assert_eq!(rt; run.table.tally, used(example.used));
+        assert_tells(&rt, &run, example.told);
     }
-}
-
-#[test]
-fn two_sessions_of_five(rt: HostRuntime) -> Result<(), Fail> {
-    let alloc: Global = rt.alloc();
-    let sources = sources_of(alloc, &[&[FIVE_FLOWS], &[FIVE_FLOWS]])?;
-    let run = collected(alloc, sources)??;
-    assert_eq!(rt;
-        lines_of(alloc, &run.table)?.as_str(),
-        "0,59999,192.0.2.1,30,10;"
-    );
-    assert_eq!(rt; run.table.tally, used(10));
-    assert_tells(&rt, &run, &[(1, 5, None), (1, 5, None)]);
-    Ok(())
-}
-
-#[test]
-fn three_sessions_one_cut_short(rt: HostRuntime) -> Result<(), Fail> {
-    let alloc: Global = rt.alloc();
-    let whole: &[&[u8]] = &[ONE_FLOW, NEXT_FLOW];
-    let sources = sources_of(alloc, &[whole, &[ONE_FLOW, CUT_FLOW], whole])?;
-    let run = collected(alloc, sources)??;
-    assert_eq!(rt;
-        lines_of(alloc, &run.table)?.as_str(),
-        "0,59999,192.0.2.1,7500,5;"
-    );
-    assert_eq!(rt; run.table.tally, used(5));
-    assert_tells(&rt, &run, &[(2, 2, None), (1, 1, Some(14)), (2, 2, None)]);
     Ok(())
 }
 
@@ -79,27 +56,17 @@ fn a_read_that_fails(rt: HostRuntime) -> Result<(), Fail> {
         sources.push(ScriptSource::new(text, 1, interrupt_at, Some(fail_at)))?;
         sources.push(source_of(alloc, whole)?)?;
         let run = collected(alloc, sources)??;
-        assert_eq!(rt; lines_of(alloc, &run.table)?.as_str(), lines);
+        assert_lines(&rt, alloc, &run.table, lines)?;
         assert_tells(&rt, &run, &[(2, 2, None), failed, (2, 2, None)]);
     }
     Ok(())
 }
 
 #[test]
-fn sum_at_the_limit(rt: HostRuntime) -> Result<(), Fail> {
+fn sum_too_large(rt: HostRuntime) -> Result<(), Fail> {
     let alloc: Global = rt.alloc();
-    let together = sources_of(alloc, &[&[LARGEST_FLOW], &[ONE_OCTET_FLOW]])?;
-    assert_eq!(rt;
-        collected(alloc, together)?.err(),
-        Some(CollectFault::SumTooLarge)
-    );
-    let apart = sources_of(alloc, &[&[LARGEST_FLOW], &[ONE_OCTET_FLOW_LATER]])?;
-    let run = collected(alloc, apart)??;
-    assert_eq!(rt;
-        lines_of(alloc, &run.table)?.as_str(),
-        "0,59999,192.0.2.1,18446744073709551615,1;60000,119999,192.0.2.1,1,1;"
-    );
-    assert_tells(&rt, &run, &[(1, 1, None), (1, 1, None)]);
+    let fault = collected(alloc, sources_of(alloc, SUM_TOO_LARGE)?)?.err();
+    assert_eq!(rt; fault, Some(CollectFault::SumTooLarge));
     Ok(())
 }
 
@@ -126,15 +93,6 @@ fn how_many_sources(rt: HostRuntime) -> Result<(), Fail> {
             Err(found) => assert_eq!(rt; Some(found), fault),
         }
     }
-    Ok(())
-}
-
-#[test]
-fn all_sources_empty(rt: HostRuntime) -> Result<(), Fail> {
-    let alloc: Global = rt.alloc();
-    let run = collected(alloc, sources_of(alloc, &[&[], &[], &[]])?)??;
-    assert_eq!(rt; run.table.rows.len(), 0);
-    assert_tells(&rt, &run, &[(0, 0, None), (0, 0, None), (0, 0, None)]);
     Ok(())
 }
 
@@ -172,10 +130,7 @@ fn over_readers(rt: HostRuntime) -> Result<(), Fail> {
     sources.push(FromReader::new(FIVE_FLOWS))?;
     sources.push(FromReader::new(FIVE_FLOWS))?;
     let run = collect_serial(alloc, sources, &by_source(alloc)?)?;
-    assert_eq!(rt;
-        lines_of(alloc, &run.table)?.as_str(),
-        "0,59999,192.0.2.1,30,10;"
-    );
+    assert_lines(&rt, alloc, &run.table, "0,59999,192.0.2.1,30,10;")?;
     assert_tells(&rt, &run, &[(1, 5, None), (1, 5, None)]);
     Ok(())
 }

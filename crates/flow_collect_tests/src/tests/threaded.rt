@@ -11,21 +11,12 @@ use std::sync::atomic::{AtomicU64, Ordering};
 use std::test::*;
 use std::thread::Threads;
 use worked_examples::flows::*;
-use worked_examples::header;
+use worked_examples::{header, text_of};
 
 /// A flow of 1 octet, as a record of the template of [`LARGEST_FLOW`].
 const FLOW_OF_ONE: [u8; 28] = [
     0, 0, 0, 0, 0, 0, 3, 232, 0, 0, 0, 0, 0, 0, 7, 208, 192, 0, 2, 1, 0, 0, 0, 0, 0, 0, 0, 1,
 ];
-
-/// A source for each text.
-fn sources_of(alloc: Global, texts: &[&[&[u8]]]) -> Result<Vec<ScriptSource>, Fail> {
-    let mut sources = Vec::new(alloc);
-    for text in texts {
-        sources.push(source_of(alloc, text)?)?;
-    }
-    Ok(sources)
-}
 
 /// So many sources of five flows each.
 fn fives(alloc: Global, count: usize) -> Result<Vec<ScriptSource>, Fail> {
@@ -51,61 +42,42 @@ fn collected<R: Threads + Wait + Sync>(
 
 /// That each session tells these messages, records and fault, and that nothing is left in its link.
 fn assert_tells<S>(rt: &impl Abort, run: &Collected<S>, reports: &[(u64, u64, Option<u8>)]) {
-    assert_eq!(rt; run.sources.len(), reports.len());
-    assert_eq!(rt; run.sessions.len(), reports.len());
-    assert_eq!(rt; run.links.len(), reports.len());
-    for (report, expected) in run.sessions.iter().zip(reports) {
-        assert_eq!(rt; told(report), *expected);
-    }
+    assert_eq!(rt;
+        (run.sources.len(), run.links.len()),
+        (reports.len(), reports.len())
+    );
+    assert_told(rt, &run.sessions, reports);
     for link in &run.links {
         assert_eq!(rt; link.left.len(), 0);
     }
 }
 
 #[test]
-fn two_sessions_of_five(rt: HostRuntime) -> Result<(), Fail> {
+fn examples(rt: HostRuntime) -> Result<(), Fail> {
     let alloc: Global = rt.alloc();
-    let run = collected(&rt, alloc, fives(alloc, 2)?, 2, 1)??;
-    assert_eq!(rt;
-        lines_of(alloc, &run.table)?.as_str(),
-        "0,59999,192.0.2.1,30,10;"
-    );
-    assert_eq!(rt; run.table.tally, used(10));
-    assert_tells(&rt, &run, &[(1, 5, None), (1, 5, None)]);
+    for (example, workers, capacity) in [
+        (TWO_SESSIONS_OF_FIVE, 2, 1),
+        (ONE_OF_THREE_CUT_SHORT, 2, 64),
+        (SUM_AT_THE_LIMIT, 1, 1),
+        (SUM_AT_THE_LIMIT, 2, 1),
+        (ALL_SOURCES_EMPTY, 2, 1),
+    ] {
+        let sources = sources_of(alloc, example.texts)?;
+        let run = collected(&rt, alloc, sources, workers, capacity)??;
+        assert_lines(&rt, alloc, &run.table, example.lines)?;
+        assert_eq!(rt; run.table.tally, used(example.used));
+        assert_tells(&rt, &run, example.told);
+    }
     Ok(())
 }
 
 #[test]
-fn three_sessions_one_cut_short(rt: HostRuntime) -> Result<(), Fail> {
-    let alloc: Global = rt.alloc();
-    let whole: &[&[u8]] = &[ONE_FLOW, NEXT_FLOW];
-    let sources = sources_of(alloc, &[whole, &[ONE_FLOW, CUT_FLOW], whole])?;
-    let run = collected(&rt, alloc, sources, 2, 64)??;
-    assert_eq!(rt;
-        lines_of(alloc, &run.table)?.as_str(),
-        "0,59999,192.0.2.1,7500,5;"
-    );
-    assert_eq!(rt; run.table.tally, used(5));
-    assert_tells(&rt, &run, &[(2, 2, None), (1, 1, Some(14)), (2, 2, None)]);
-    Ok(())
-}
-
-#[test]
-fn sum_at_the_limit(rt: HostRuntime) -> Result<(), Fail> {
+fn sum_too_large(rt: HostRuntime) -> Result<(), Fail> {
     let alloc: Global = rt.alloc();
     for workers in [1, 2] {
-        let together = sources_of(alloc, &[&[LARGEST_FLOW], &[ONE_OCTET_FLOW]])?;
-        assert_eq!(rt;
-            collected(&rt, alloc, together, workers, 1)?.err(),
-            Some(CollectFault::SumTooLarge)
-        );
-        let apart = sources_of(alloc, &[&[LARGEST_FLOW], &[ONE_OCTET_FLOW_LATER]])?;
-        let run = collected(&rt, alloc, apart, workers, 1)??;
-        assert_eq!(rt;
-            lines_of(alloc, &run.table)?.as_str(),
-            "0,59999,192.0.2.1,18446744073709551615,1;60000,119999,192.0.2.1,1,1;"
-        );
-        assert_tells(&rt, &run, &[(1, 1, None), (1, 1, None)]);
+        let sources = sources_of(alloc, SUM_TOO_LARGE)?;
+        let fault = collected(&rt, alloc, sources, workers, 1)?.err();
+        assert_eq!(rt; fault, Some(CollectFault::SumTooLarge));
     }
     Ok(())
 }
@@ -133,10 +105,7 @@ fn any_capacity_and_any_workers(rt: HostRuntime) -> Result<(), Fail> {
     for capacity in [1, 2, 5, 6, 65_536] {
         for workers in [1, 2, 16] {
             let run = collected(&rt, alloc, fives(alloc, 3)?, workers, capacity)??;
-            assert_eq!(rt;
-                lines_of(alloc, &run.table)?.as_str(),
-                "0,59999,192.0.2.1,45,15;"
-            );
+            assert_lines(&rt, alloc, &run.table, "0,59999,192.0.2.1,45,15;")?;
             assert_tells(&rt, &run, &[(1, 5, None), (1, 5, None), (1, 5, None)]);
         }
     }
@@ -147,21 +116,9 @@ fn any_capacity_and_any_workers(rt: HostRuntime) -> Result<(), Fail> {
 fn most_sessions_on_most_workers(rt: HostRuntime) -> Result<(), Fail> {
     let alloc: Global = rt.alloc();
     let run = collected(&rt, alloc, fives(alloc, 64)?, 16, 1)??;
-    assert_eq!(rt;
-        lines_of(alloc, &run.table)?.as_str(),
-        "0,59999,192.0.2.1,960,320;"
-    );
+    assert_lines(&rt, alloc, &run.table, "0,59999,192.0.2.1,960,320;")?;
     assert_eq!(rt; run.table.tally, used(320));
     assert_tells(&rt, &run, &[(1, 5, None); 64]);
-    Ok(())
-}
-
-#[test]
-fn all_sources_empty(rt: HostRuntime) -> Result<(), Fail> {
-    let alloc: Global = rt.alloc();
-    let run = collected(&rt, alloc, sources_of(alloc, &[&[], &[], &[]])?, 2, 1)??;
-    assert_eq!(rt; run.table.rows.len(), 0);
-    assert_tells(&rt, &run, &[(0, 0, None), (0, 0, None), (0, 0, None)]);
     Ok(())
 }
 
@@ -172,10 +129,7 @@ fn a_source_that_fails_at_its_first_read(rt: HostRuntime) -> Result<(), Fail> {
     let mut sources = fives(alloc, 1)?;
     sources.push(ScriptSource::new(text, 1, None, Some(0)))?;
     let run = collected(&rt, alloc, sources, 2, 1)??;
-    assert_eq!(rt;
-        lines_of(alloc, &run.table)?.as_str(),
-        "0,59999,192.0.2.1,15,5;"
-    );
+    assert_lines(&rt, alloc, &run.table, "0,59999,192.0.2.1,15,5;")?;
     assert_tells(&rt, &run, &[(1, 5, None), (0, 0, Some(15))]);
     Ok(())
 }

@@ -1,9 +1,8 @@
 //! Tables as CSV.
 
-use super::tables::{Flow, by_source, key, record_of, table_of, table_of_flows};
+use super::tables::{Flow, by_source, plan_of_all_kinds, table_of_all_kinds, table_of_flows};
 use flow_export::write_csv;
-use flow_table::{Method, Plan};
-use ipfix_wire::ElementId;
+use flow_table::Method;
 use std::test::Fail;
 
 #[test]
@@ -73,30 +72,8 @@ fn flows_by_source(rt: HostRuntime) -> Result<(), Fail> {
 
 #[test]
 fn keys_of_all_kinds(rt: HostRuntime) -> Result<(), Fail> {
-    let keys = [4, 7, 10, 24, 8, 12, 27, 56].map(key);
-    let counters = [1, 2, 3, 23].map(ElementId::iana);
-    let plan = Plan::new(rt.alloc(), 1000, Method::End, &keys, &counters, 4096)?;
-    let fields: [(u16, &[u8]); 14] = [
-        (152, &5000_u64.to_be_bytes()),
-        (153, &7000_u64.to_be_bytes()),
-        (4, &[6]),
-        (7, &[80]),
-        (10, &[1, 0, 0]),
-        (24, &[9]),
-        (8, &[192, 0, 2, 1]),
-        (12, &[198, 51, 100, 7]),
-        (
-            27,
-            &[0x20, 1, 0xd, 0xb8, 0, 0, 0, 0, 0, 0, 0, 0, 0, 0, 0, 0xff],
-        ),
-        (56, &[0, 0, 0x5e, 0, 0x53, 0xaf]),
-        (1, &[1]),
-        (2, &[2]),
-        (3, &[3]),
-        (23, &[4]),
-    ];
-    let records = [record_of(rt.alloc(), &fields)?];
-    let table = table_of(rt.alloc(), &plan, &records)?;
+    let plan = plan_of_all_kinds(rt.alloc())?;
+    let table = table_of_all_kinds(rt.alloc(), &plan)?;
     let mut out = Vec::new(rt.alloc());
     write_csv(rt.alloc(), &plan, &table, &mut out)?;
     let text =

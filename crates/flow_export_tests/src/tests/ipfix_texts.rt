@@ -1,9 +1,11 @@
 //! Tables as messages of IPFIX.
 
-use super::tables::{TIME, by_source, key, record_of, table_of, table_of_flows, table_of_minutes};
+use super::tables::{
+    TIME, by_source, plan_of_all_kinds, table_of_all_kinds, table_of_flows, table_of_minutes,
+};
 use flow_export::{ipfix_bytes, write_ipfix};
-use flow_table::{Method, Plan};
-use ipfix_wire::{ElementId, read_header};
+use flow_table::Method;
+use ipfix_wire::read_header;
 use std::test::Fail;
 
 // One flow's table by source address: a message with the template, and one with the row.
@@ -67,28 +69,8 @@ fn rows_in_messages(rt: HostRuntime) -> Result<(), Fail> {
 
 #[test]
 fn keys_at_their_widths(rt: HostRuntime) -> Result<(), Fail> {
-    let keys = [4, 7, 10, 24, 8, 12, 27, 56].map(key);
-    let counters = [1, 2, 3, 23].map(ElementId::iana);
-    let plan = Plan::new(rt.alloc(), 1000, Method::End, &keys, &counters, 4096)?;
-    let fields: [(u16, &[u8]); 14] = [
-        (152, &5000_u64.to_be_bytes()),
-        (153, &7000_u64.to_be_bytes()),
-        (4, &[6]),
-        (7, &[80]),
-        (10, &[1, 0, 0]),
-        (24, &[9]),
-        (8, &[192, 0, 2, 1]),
-        (12, &[198, 51, 100, 7]),
-        (
-            27,
-            &[0x20, 1, 0xd, 0xb8, 0, 0, 0, 0, 0, 0, 0, 0, 0, 0, 0, 0xff],
-        ),
-        (56, &[0, 0, 0x5e, 0, 0x53, 0xaf]),
-        (1, &[1]),
-        (2, &[2]),
-        (3, &[3]),
-        (23, &[4]),
-    ];
+    let plan = plan_of_all_kinds(rt.alloc())?;
+    let table = table_of_all_kinds(rt.alloc(), &plan)?;
     let octets: [u8; 205] = [
         0, 10, 0, 84, 0, 0, 0, 7, 0, 0, 0, 0, 0, 0, 0, 0, 0, 2, 0, 68, 1, 0, 0, 15, 0, 152, 0, 8,
         0, 153, 0, 8, 0, 4, 0, 1, 0, 7, 0, 2, 0, 10, 0, 4, 0, 24, 0, 8, 0, 8, 0, 4, 0, 12, 0, 4, 0,
@@ -99,8 +81,6 @@ fn keys_at_their_widths(rt: HostRuntime) -> Result<(), Fail> {
         0x53, 0xaf, 0, 0, 0, 0, 0, 0, 0, 1, 0, 0, 0, 0, 0, 0, 0, 2, 0, 0, 0, 0, 0, 0, 0, 3, 0, 0,
         0, 0, 0, 0, 0, 4, 0, 0, 0, 0, 0, 0, 0, 1,
     ];
-    let records = [record_of(rt.alloc(), &fields)?];
-    let table = table_of(rt.alloc(), &plan, &records)?;
     let bytes = ipfix_bytes(rt.alloc(), &plan, &table, 7)?;
     assert_eq!(rt; bytes.as_slice(), octets.as_slice());
     Ok(())

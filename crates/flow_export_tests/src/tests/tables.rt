@@ -93,3 +93,36 @@ pub fn table_of_minutes(alloc: Global, plan: &Plan, count: u64) -> Result<Table,
     }
     table_of_flows(alloc, plan, &flows)
 }
+
+/// A plan with keys of all kinds.
+pub fn plan_of_all_kinds(alloc: Global) -> Result<Plan, Fail> {
+    let keys = [4, 7, 10, 24, 8, 12, 27, 56].map(key);
+    let counters = [1, 2, 3, 23].map(ElementId::iana);
+    Ok(Plan::new(alloc, 1000, Method::End, &keys, &counters, 4096)?)
+}
+
+/// The table of a flow that has an element of each kind.
+pub fn table_of_all_kinds(alloc: Global, plan: &Plan) -> Result<Table, Fail>
+    ensures { IfOk result (FitsPlan plan.now) }
+{
+    let fields: [(u16, &[u8]); 14] = [
+        (152, &5000_u64.to_be_bytes()),
+        (153, &7000_u64.to_be_bytes()),
+        (4, &[6]),
+        (7, &[80]),
+        (10, &[1, 0, 0]),
+        (24, &[9]),
+        (8, &[192, 0, 2, 1]),
+        (12, &[198, 51, 100, 7]),
+        (
+            27,
+            &[0x20, 1, 0xd, 0xb8, 0, 0, 0, 0, 0, 0, 0, 0, 0, 0, 0, 0xff],
+        ),
+        (56, &[0, 0, 0x5e, 0, 0x53, 0xaf]),
+        (1, &[1]),
+        (2, &[2]),
+        (3, &[3]),
+        (23, &[4]),
+    ];
+    table_of(alloc, plan, &[record_of(alloc, &fields)?])
+}

@@ -1,6 +1,6 @@
 //! Messages that are cut, and messages with a wrong length (RFC 7011, section 3).
 
-use super::examples::{examples, joined};
+use super::examples::examples;
 use super::runs::{Run, assert_one_meaning, driven};
 use ipfix_message::{Domains, MessageFault};
 use std::alloc::Global;
@@ -9,6 +9,7 @@ use std::test::*;
 use worked_examples::faults::VERSION_9_AND_LENGTH_20;
 use worked_examples::flows::ONE_FLOW;
 use worked_examples::templates::VARIABLE_LENGTHS;
+use worked_examples::text_of;
 
 /// That the front of a message is refused.
 fn assert_cut(rt: &impl Abort, alloc: Global, message: &[u8]) {
@@ -114,7 +115,7 @@ fn template_set_cut_short(rt: HostRuntime) -> Result<(), Fail> {
 fn other_numbers(rt: HostRuntime) -> Result<(), Fail> {
     let alloc = rt.alloc();
     for example in examples() {
-        let whole = joined(alloc, example.messages)?;
+        let whole = text_of(alloc, example.messages)?;
         for at in 0..whole.len().min(200) {
             for number in [0, 3, 4, 65_535] {
                 let mut text = Vec::from_slice(alloc, &whole)?;

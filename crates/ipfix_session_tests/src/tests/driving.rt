@@ -1,17 +1,17 @@
 //! Why a driven session ended: a sink that takes nothing, a first read that fails, and readers' errors.
 
-use super::examples::joined;
 use super::narrow::Narrow;
 use ipfix_session::{FromReader, ReadError, ScriptSource, SessionFault, Source, VecSink, drive};
 use std::alloc::Global;
 use std::io::{self, ErrorKind, Read};
 use std::test::*;
 use worked_examples::flows::ONE_FLOW;
+use worked_examples::text_of;
 
 #[test]
 fn a_sink_that_takes_nothing(rt: HostRuntime) -> Result<(), Fail> {
     let alloc: Global = rt.alloc();
-    let text = joined(alloc, &[ONE_FLOW, ONE_FLOW])?;
+    let text = text_of(alloc, &[ONE_FLOW, ONE_FLOW])?;
     let mut source = FromReader::new(text.as_slice());
     let mut sink = Narrow::new(alloc, 0);
     let report = drive(alloc, &mut source, &mut sink, 100);

@@ -1,7 +1,6 @@
 //! The worked examples of the profile: texts of messages, and what they give.
 
 use ipfix_message::DataRecord;
-use std::alloc::Global;
 use std::test::*;
 use worked_examples::{faults, flows, sequences, templates, values};
 
@@ -278,15 +277,6 @@ pub fn examples() -> [Example; 45] {
             &[(1, 2, 0, 1)],
         ),
     ]
-}
-
-/// Messages, one after the other.
-pub fn joined(alloc: Global, messages: &[&[u8]]) -> Result<Vec<u8>, Fail> {
-    let mut text = Vec::new(alloc);
-    for message in messages {
-        text.extend_from_slice(message)?;
-    }
-    Ok(text)
 }
 
 fn is_same(left: &DataRecord, right: &DataRecord) -> bool {

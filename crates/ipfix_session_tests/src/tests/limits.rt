@@ -1,7 +1,6 @@
 //! Limits, failing reads, and faults that stay.
 
 use super::drain;
-use super::examples::joined;
 use super::narrow::Narrow;
 use super::runs::{Run, fed};
 use ipfix_message::MessageFault;
@@ -13,7 +12,7 @@ use std::process::Abort;
 use std::test::*;
 use worked_examples::faults::VERSION_9;
 use worked_examples::flows::{NEXT_FLOW, ONE_FLOW};
-use worked_examples::header;
+use worked_examples::{header, text_of};
 
 const NOTHING: &[u8] = &[];
 
@@ -32,7 +31,7 @@ fn failing_reads(rt: HostRuntime) -> Result<(), Fail> {
         ([ONE_FLOW, ONE_FLOW], 80, 1, Some(80), 1, Some(17)),
         ([VERSION_9, NOTHING], 16, 1, Some(16), 0, Some(1)),
     ] {
-        let text = joined(rt.alloc(), &texts)?;
+        let text = text_of(rt.alloc(), &texts)?;
         let mut source = ScriptSource::new(text, piece, None, fail_at);
         let run = driven_from(rt.alloc(), &mut source, limit);
         assert_eq!(rt; run.report.messages, delivered);
@@ -54,7 +53,7 @@ fn driven_from(alloc: Global, source: &mut ScriptSource, limit: u64) -> Run {
 #[test]
 fn no_read_too_many(rt: HostRuntime) -> Result<(), Fail> {
     let alloc: Global = rt.alloc();
-    let text = joined(alloc, &[VERSION_9, ONE_FLOW])?;
+    let text = text_of(alloc, &[VERSION_9, ONE_FLOW])?;
     let mut source = ScriptSource::new(text, 16, None, None);
     let report = drive(alloc, &mut source, &mut VecSink::new(alloc), 100);
     assert_eq!(rt; report.fault.map(|fault| fault.number()), Some(1));
@@ -67,14 +66,14 @@ fn no_read_too_many(rt: HostRuntime) -> Result<(), Fail> {
 #[test]
 fn faults_stay(rt: HostRuntime) -> Result<(), Fail> {
     let alloc: Global = rt.alloc();
-    let more = joined(alloc, &[ONE_FLOW])?;
+    let more = text_of(alloc, &[ONE_FLOW])?;
     let version = SessionFault::Message(MessageFault::Version);
     for (room, texts, fault, messages) in [
         (9, [ONE_FLOW, VERSION_9], version, 1),
         (0, [ONE_FLOW, NOTHING], SessionFault::SinkClosed, 0),
         (1, [ONE_FLOW, NEXT_FLOW], SessionFault::SinkClosed, 1),
     ] {
-        let text = joined(alloc, &texts)?;
+        let text = text_of(alloc, &texts)?;
         let mut sink = Narrow::new(alloc, room);
         let report = fed_after_fault(&rt, alloc, [&text, &more], &mut sink, fault);
         assert_eq!(rt; sink.records.len() as u64, messages);

@@ -1,10 +1,11 @@
 //! What the worked examples give, however they are cut.
 
-use super::examples::{Example, are_same, examples, joined};
+use super::examples::{Example, are_same, examples};
 use super::runs::{Run, assert_one_meaning, driven, fed, fed_all, trickled};
 use std::alloc::Global;
 use std::process::Abort;
 use std::test::*;
+use worked_examples::text_of;
 
 /// That a run gave what an example says.
 fn assert_gives(rt: &impl Abort, run: &Run, example: &Example) {
@@ -30,7 +31,7 @@ fn assert_gives(rt: &impl Abort, run: &Run, example: &Example) {
 fn worked_examples(rt: HostRuntime) -> Result<(), Fail> {
     let alloc: Global = rt.alloc();
     for example in examples() {
-        let text = joined(alloc, example.messages)?;
+        let text = text_of(alloc, example.messages)?;
         let run = assert_one_meaning(&rt, alloc, &text)?;
         assert_gives(&rt, &run, &example);
         assert_same_in_pieces(&rt, alloc, &text, &run, &example);
