@@ -1,20 +1,28 @@
 //! What is answered where memory runs out: `tests/refusals` refuses each allocation of these calls in
 //! turn.
 
-use super::records::{flow, iana};
+use super::records::flow;
 use flow_table::{Key, Method, Partial, Plan, PlanFault, Table, TableFault};
 use ipfix_elements::Cell;
 use ipfix_message::DataRecord;
+use ipfix_wire::ElementId;
 use std::alloc::Global;
 use std::process::Abort;
 use std::test::*;
 
 fn by_source(alloc: Global) -> Result<Plan, PlanFault> {
     let source = Key {
-        element: iana(8),
+        element: ElementId::iana(8),
         prefix: None,
     };
-    Plan::new(alloc, 60_000, Method::Uniform, &[source], &[iana(1)], 4096)
+    Plan::new(
+        alloc,
+        60_000,
+        Method::Uniform,
+        &[source],
+        &[ElementId::iana(1)],
+        4096,
+    )
 }
 
 /// The table of two records, merged with that of two others. Where a call is refused, all after it are.

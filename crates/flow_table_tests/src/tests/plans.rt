@@ -1,4 +1,3 @@
-use super::records::iana;
 use flow_table::{Key, Method, Plan, PlanFault, share};
 use ipfix_wire::ElementId;
 use std::alloc::Global;
@@ -6,14 +5,14 @@ use std::test::Fail;
 
 fn key(number: u16) -> Key {
     Key {
-        element: iana(number),
+        element: ElementId::iana(number),
         prefix: None,
     }
 }
 
 fn prefix_key(number: u16, bits: u8) -> Key {
     Key {
-        element: iana(number),
+        element: ElementId::iana(number),
         prefix: Some(bits),
     }
 }
@@ -25,7 +24,14 @@ fn fault(alloc: Global, keys: &[Key], counters: &[ElementId]) -> Option<PlanFaul
 
 // The octets of each source address, minute by minute.
 fn by_source(alloc: Global, method: Method) -> Result<Plan, PlanFault> {
-    Plan::new(alloc, 60_000, method, &[key(8)], &[iana(1)], 4096)
+    Plan::new(
+        alloc,
+        60_000,
+        method,
+        &[key(8)],
+        &[ElementId::iana(1)],
+        4096,
+    )
 }
 
 #[test]
@@ -34,7 +40,7 @@ fn keeps_its_arguments(rt: HostRuntime) -> Result<(), Fail> {
     assert_eq!(rt; plan.length(), 60_000);
     assert_eq!(rt; plan.method(), Method::Mid);
     assert_eq!(rt; plan.keys(), [key(8)].as_slice());
-    assert_eq!(rt; plan.counters(), [iana(1)].as_slice());
+    assert_eq!(rt; plan.counters(), [ElementId::iana(1)].as_slice());
     assert_eq!(rt; plan.max_spread(), 4096);
     Ok(())
 }
@@ -49,7 +55,7 @@ fn compares_by_value(rt: HostRuntime) -> Result<(), Fail> {
         60_000,
         Method::Start,
         &[prefix_key(8, 32)],
-        &[iana(1)],
+        &[ElementId::iana(1)],
         4096,
     )?;
     assert!(rt; one == same);
@@ -74,7 +80,7 @@ fn lengths_and_spreads(rt: HostRuntime) {
             length,
             Method::Start,
             &keys,
-            &[iana(1)],
+            &[ElementId::iana(1)],
             max_spread,
         );
         assert_eq!(rt; plan.err(), want, "at {length} and {max_spread}");
@@ -104,20 +110,30 @@ fn key_faults(rt: HostRuntime) {
         (&[], None),
     ];
     for (keys, want) in cases {
-        assert_eq!(rt; fault(rt.alloc(), keys, &[iana(1)]), want);
+        assert_eq!(rt; fault(rt.alloc(), keys, &[ElementId::iana(1)]), want);
     }
 }
 
 #[test]
 fn counter_faults(rt: HostRuntime) {
-    let five = [1, 2, 3, 23, 24].map(iana);
+    let five = [1, 2, 3, 23, 24].map(ElementId::iana);
     let cases: [(&[ElementId], Option<PlanFault>); 6] = [
         (&[], Some(PlanFault::CounterCount)),
         (&five, Some(PlanFault::CounterCount)),
         (&five[..4], None),
-        (&[iana(4)], Some(PlanFault::CounterKind)),
-        (&[iana(1), iana(1)], Some(PlanFault::Repeated)),
-        (&[iana(24), iana(132), iana(133)], None),
+        (&[ElementId::iana(4)], Some(PlanFault::CounterKind)),
+        (
+            &[ElementId::iana(1), ElementId::iana(1)],
+            Some(PlanFault::Repeated),
+        ),
+        (
+            &[
+                ElementId::iana(24),
+                ElementId::iana(132),
+                ElementId::iana(133),
+            ],
+            None,
+        ),
     ];
     for (counters, want) in cases {
         assert_eq!(rt; fault(rt.alloc(), &[key(8)], counters), want);
@@ -144,7 +160,7 @@ fn prefix_faults(rt: HostRuntime) {
         (&[prefix_key(8, 32), prefix_key(12, 32)], None),
     ];
     for (keys, want) in cases {
-        assert_eq!(rt; fault(rt.alloc(), keys, &[iana(1)]), want);
+        assert_eq!(rt; fault(rt.alloc(), keys, &[ElementId::iana(1)]), want);
     }
     let prefix = Some(PlanFault::Prefix);
     assert_eq!(rt; fault(rt.alloc(), &[prefix_key(8, 33)], &[]), prefix);
@@ -152,9 +168,9 @@ fn prefix_faults(rt: HostRuntime) {
 
 #[test]
 fn exported_elements(rt: HostRuntime) {
-    assert_eq!(rt; prefix_key(8, 24).exported_element(), iana(44));
-    assert_eq!(rt; prefix_key(12, 24).exported_element(), iana(45));
-    assert_eq!(rt; key(8).exported_element(), iana(8));
+    assert_eq!(rt; prefix_key(8, 24).exported_element(), ElementId::iana(44));
+    assert_eq!(rt; prefix_key(12, 24).exported_element(), ElementId::iana(45));
+    assert_eq!(rt; key(8).exported_element(), ElementId::iana(8));
 }
 
 #[test]

@@ -1,9 +1,10 @@
 //! Data records read under a plan: worked examples of classes, times, keys and counters.
 
-use super::records::{by_source, class_of, iana, record_of, table_of_one};
+use super::records::{by_source, class_of, record_of, table_of_one};
 use flow_table::{Class, Method, Plan};
 use ipfix_elements::Cell;
 use ipfix_message::DataRecord;
+use ipfix_wire::ElementId;
 use std::alloc::Global;
 use std::test::Fail;
 
@@ -138,7 +139,7 @@ fn unkeyed_before_too_long(rt: HostRuntime) -> Result<(), Fail> {
 
 /// The start, or the end, in milliseconds: the interval of a table whose intervals have one.
 fn time_of(alloc: Global, method: Method, data_record: &DataRecord) -> Result<Option<u64>, Fail> {
-    let plan = Plan::new(alloc, 1, method, &[], &[iana(1)], 4096)?;
+    let plan = Plan::new(alloc, 1, method, &[], &[ElementId::iana(1)], 4096)?;
     let table = table_of_one(alloc, &plan, data_record)?;
     Ok(table.rows.first().map(|row| row.interval))
 }
@@ -241,7 +242,14 @@ fn keys(rt: HostRuntime) -> Result<(), Fail> {
 
 /// The sum of the octets of one record.
 fn sum_of(alloc: Global, data_record: &DataRecord) -> Result<Option<u64>, Fail> {
-    let plan = Plan::new(alloc, 60_000, Method::Start, &[], &[iana(1)], 4096)?;
+    let plan = Plan::new(
+        alloc,
+        60_000,
+        Method::Start,
+        &[],
+        &[ElementId::iana(1)],
+        4096,
+    )?;
     let table = table_of_one(alloc, &plan, data_record)?;
     Ok(table.rows.first().and_then(|row| row.sums.first().copied()))
 }

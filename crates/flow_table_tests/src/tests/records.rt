@@ -10,16 +10,12 @@ use ipfix_wire::ElementId;
 use std::alloc::Global;
 use std::test::Fail;
 
-pub fn iana(number: u16) -> ElementId {
-    ElementId { pen: 0, number }
-}
-
 /// A record with these fields: numbers of IANA's elements, and the octets.
 pub fn record_of(alloc: Global, scope: u16, fields: &[(u16, &[u8])]) -> Result<DataRecord, Fail> {
     let mut kept = Fields::new(alloc);
     for (number, octets) in fields {
         u16::try_from(octets.len())?;
-        kept.push(iana(*number), octets)?;
+        kept.push(ElementId::iana(*number), octets)?;
     }
     Ok(DataRecord {
         domain: 1,
@@ -55,10 +51,17 @@ pub fn by_source(
     max_spread: u32,
 ) -> Result<Plan, Fail> {
     let key = Key {
-        element: iana(8),
+        element: ElementId::iana(8),
         prefix,
     };
-    Ok(Plan::new(alloc, 60_000, method, &[key], &[iana(1)], max_spread)?)
+    Ok(Plan::new(
+        alloc,
+        60_000,
+        method,
+        &[key],
+        &[ElementId::iana(1)],
+        max_spread,
+    )?)
 }
 
 /// The class of a record, as a partial table of no other answers it.

@@ -1,9 +1,10 @@
 //! Tables of data records: worked examples.
 
-use super::records::{by_source, flow, iana, partial_of, record_of, rows_of, table_of};
+use super::records::{by_source, flow, partial_of, record_of, rows_of, table_of};
 use flow_table::{Class, Key, Method, Partial, Plan, TableFault};
 use ipfix_elements::Cell;
 use ipfix_message::DataRecord;
+use ipfix_wire::ElementId;
 use std::alloc::Global;
 use std::test::Fail;
 
@@ -191,11 +192,18 @@ fn order_of(alloc: Global, keys: &[u16], flows: &[([u8; 4], u16)]) -> Result<Vec
     let mut elements = Vec::new(alloc);
     for number in keys {
         elements.push(Key {
-            element: iana(*number),
+            element: ElementId::iana(*number),
             prefix: None,
         })?;
     }
-    let plan = Plan::new(alloc, 60_000, Method::Start, &elements, &[iana(1)], 4096)?;
+    let plan = Plan::new(
+        alloc,
+        60_000,
+        Method::Start,
+        &elements,
+        &[ElementId::iana(1)],
+        4096,
+    )?;
     let mut partial = Partial::new(alloc, &plan)?;
     for (address, port) in flows {
         let protocol = address[3];
