@@ -116,7 +116,7 @@ fn key_faults(rt: HostRuntime) {
 
 #[test]
 fn counter_faults(rt: HostRuntime) {
-    let five = [1, 2, 3, 23, 24].map(iana);
+    let five = [1, 2, 3, 23, 24].map(ElementId::iana);
     let cases: [(&[ElementId], Option<PlanFault>); 6] = [
         (&[], Some(PlanFault::CounterCount)),
         (&five, Some(PlanFault::CounterCount)),
