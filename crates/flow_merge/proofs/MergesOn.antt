@@ -13,7 +13,7 @@ use Rattle.flow_table.specs.Tables.{IsTable}
 use Rattle.flow_table.specs.declared.table.Table.{Table}
 use Rattle.flow_table.proofs.AddedUp.{too_large_more}
 use Rattle.flow_table.proofs.TablesAdded.{too_large_both}
-use Rattle.flow_merge.specs.Merging.{all_of, AddsExport, AreExportsOf, GiveExports, GivesExport, HoldsExport, IsExportFault, StandsFor, plan_of}
+use Rattle.flow_merge.specs.Merging.{all_of, AddsExport, AreExportsOf, GiveExports, GivesExport, HoldsExport, IsDue, IsExportFault, StandsFor, StopsAt, plan_of}
 use Rattle.flow_merge.proofs.RowsRead.{zip_more}
 use Rattle.flow_merge.specs.declared.merge_fault.MergeFault.{MergeFault}
 use Rattle.flow_merge.specs.declared.merge_fault.MergeFault.TheVariants.{OutOfMemory, SumTooLarge, Session, NotAnExport, Lost, Row}
@@ -180,6 +180,22 @@ module _ {S : Type 0} (seen : S → SourceView) (plan : PlanValue) where
       still_due _ _ fault (too_large_all lists s waiting old now next)
       (subst (λ (p : PlanValue). (holds : HoldsExport p (seen s) next.0) → IsExportFault (AddUpTooLarge (flat_map rows_in now.tables ++ rows_in holds.table)) fault) on.same_plan
       (λ holds. refuses (flat_map rows_in now.tables) next.0 holds now.stands) next.2)
+
+  pub stopped_on : (limit : ℕ) (sources before : List S) (s : S) (waiting : List S) (old : Merging) (after : SourceView) (fault : MergeFault) → before ≡ s ∷ waiting → MergesOn limit sources before old
+      → ((rows : List RowValue) → StandsFor old rows → IsDue limit (plan_of old) rows (seen s) after fault) → StopsAt seen limit plan sources fault
+  stopped_on limit sources before s waiting old after fault is on due =
+      let read = subst (λ (l : List S). HasRead limit sources l old) is on.read in
+      let rows = flat_map (λ r. r) read.exports in
+      record {
+        first = read.used;
+        next = s;
+        others = waiting;
+        are = read.split;
+        exports = read.exports;
+        given = read.given;
+        after = after;
+        due = subst (λ (p : PlanValue). IsDue limit p rows (seen s) after fault) on.same_plan (due rows read.stands);
+      }
 
   -- no source waits
   pub merged_all : (limit : ℕ) (sources waiting : List S) (m : Merging) → waiting ≡ [] → MergesOn limit sources waiting m → (lists : List (List DataRecord)) → AreExportsOf seen plan sources lists

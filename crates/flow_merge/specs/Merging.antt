@@ -21,6 +21,7 @@ use Rattle.flow_table.specs.RowTotals.{AreOf}
 use Rattle.flow_table.specs.SameTables.{RowValue}
 use Rattle.flow_table.specs.Tables.{tally_of, IsTable}
 use Rattle.flow_table.specs.declared.table.Table.{Table}
+use Rattle.flow_table.specs.declared.tally.Tally.{Tally}
 use Rattle.flow_export.specs.IpfixText.{ipfix_text}
 use Rattle.flow_merge.specs.RowRecords.{IsRowOf, IsRowRecord}
 use Rattle.flow_merge.specs.RowFaults.{IsRowFault}
@@ -115,6 +116,17 @@ IsDue limit plan rows before after (Session sessions.SinkClosed) = ⊥
 IsDue limit plan rows before after (Session fault) = (gave : List ℕ) × Gave limit READ_SIZE before gave after (Some fault)
 IsDue limit plan rows before after fault = (gave : List ℕ) × Gave limit READ_SIZE before gave after None × IsAgainst plan rows gave fault
 
+-- why sources were not all added up: the first of them gave exports, and of the next one this fault is due
+pub record StopsAt {S : Type 0} (seen : S → SourceView) (limit : ℕ) (plan : PlanValue) (sources : List S) (fault : MergeFault) : Type 0 where
+  pub first : List S
+  pub next : S
+  pub others : List S
+  pub are : sources ≡ first ++ next ∷ others
+  pub exports : List (List RowValue)
+  pub given : GiveExports seen limit plan first exports
+  pub after : SourceView
+  pub due : IsDue limit plan (flat_map (λ rows. rows) exports) (seen next) after fault
+
 -- ---- what is merged
 
 -- the plan of the exports
@@ -167,6 +179,10 @@ IsExportFault large fault = ⊥
 -- a table has the rows of the table of a list of records; the records by class are not exported
 abbrev pub HasRowsOf : PlanValue → List DataRecord → Table → Type 0
 HasRowsOf plan rs table = IsTable plan rs (record table { tally = tally_of plan rs })
+
+-- what counts no records: exports don't tell them by class
+abbrev pub no_records : Tally
+no_records = record { options = 0; untimed = 0; backward = 0; unkeyed = 0; too_long = 0; used = 0 }
 
 -- all records of some lists
 abbrev pub all_of : List (List DataRecord) → List DataRecord

@@ -1,11 +1,12 @@
 //! Many exports merged.
 
-ghost use Rattle.std.specs.Prelude.{List, IfErr, IfOk, OnOk};
+ghost use Rattle.std.specs.Prelude.{◌≡◌, ◌⊎◌, List, IfErr, IfOk, OnOk};
 ghost use Rattle.std.specs.List.{AllZip};
 ghost use Rattle.ipfix_message.specs.declared.record.DataRecord.{DataRecord};
 ghost use Rattle.flow_table.specs.AddedUp.{HasTooLargeRow};
 ghost use Rattle.flow_table.specs.Fitting.{FitsPlan};
-ghost use Rattle.flow_merge.specs.Merging.{all_of, AddsAllUp, AreExportsOf, HasRowsOf, IsExportFault};
+ghost use Rattle.flow_merge.specs.Merging.{all_of, AddsAllUp, AreExportsOf, HasRowsOf, IsExportFault, StopsAt, no_records};
+ghost use Rattle.flow_merge.specs.declared.merge_fault.MergeFault.TheVariants.{OutOfMemory};
 
 use crate::merge_fault::MergeFault;
 use crate::merging::Merging;
@@ -28,6 +29,8 @@ pub fn merge<S: Source + Drop>(
 ) -> Result<Table, MergeFault>
     // Each source gave an export, and the rows of all of them are added up.
     ensures read { IfOk result (AddsAllUp S.seen limit plan.now sources.items) }
+    // Else the fault is want of memory, or that of the first source that has one.
+    ensures stops { IfErr result (λ e. (e ≡ OutOfMemory) ⊎ StopsAt S.seen limit plan.now sources.items e) }
     // Of exports of tables these are the rows of the table of all their records.
     ensures rows { (lists : List (List DataRecord)) → AreExportsOf S.seen plan.now sources.items lists → IfOk result (HasRowsOf plan.now (all_of lists)) }
     // `SumTooLarge` comes exactly if a sum or a number of flows of that table is too large.
@@ -35,6 +38,7 @@ pub fn merge<S: Source + Drop>(
     ensures fault { (lists : List (List DataRecord)) → AreExportsOf S.seen plan.now sources.items lists → IfErr result (IsExportFault (HasTooLargeRow plan.now (all_of lists))) }
     // The table fits the plan, as an export asks.
     ensures fits { IfOk result (FitsPlan plan.now) }
+    ensures tally { IfOk result (λ table. table.tally ≡ no_records) }
 {
     let mut merging = Merging::new(alloc, plan)?;
     let mut waiting = VecDeque::from_vec(sources);

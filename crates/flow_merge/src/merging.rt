@@ -9,7 +9,7 @@ ghost use Rattle.flow_table.specs.Fitting.{FitsPlan};
 ghost use Rattle.flow_table.specs.SameTables.{RowValue};
 ghost use Rattle.flow_table.specs.Tables.{IsTable};
 ghost use Rattle.flow_table.specs.declared.table.Table.{Table as TableValue};
-ghost use Rattle.flow_merge.specs.Merging.{all_of, plan_of, AddsExport, HasRowsOf, HoldsExport, IsDue, IsExportFault, StandsFor};
+ghost use Rattle.flow_merge.specs.Merging.{all_of, plan_of, AddsExport, HasRowsOf, HoldsExport, IsDue, IsExportFault, StandsFor, no_records};
 ghost use Rattle.flow_merge.specs.RowSink.{HoldsAfter};
 ghost use Rattle.flow_merge.specs.declared.merge_fault.MergeFault.TheVariants.{OutOfMemory};
 
@@ -96,6 +96,7 @@ impl Merging {
         // The rows of tables are merged into those of the table of all their records.
         ensures tables { (lists : List (List DataRecord)) (tables : List TableValue) → StandsFor self (flat_map rows_in tables) → AllZip (IsTable (plan_of self)) lists tables
             → IfOk result (HasRowsOf (plan_of self) (all_of lists)) }
+        ensures tally { IfOk result (λ table. table.tally ≡ no_records) }
         ensures err { IfErr result (λ e. e ≡ OutOfMemory) }
     {
         let Merging { totals, .. } = self;

@@ -1,4 +1,4 @@
-use Rattle.std.proofs.Common.{◌≡◌, ℕ, List, [], ◌∷◌, length, Result, Ok, Err, OnOk, refl, sym, subst, arith}
+use Rattle.std.proofs.Common.{◌≡◌, ℕ, List, [], ◌∷◌, length, Result, Ok, Err, OnOk, refl, sym, subst, inr, arith}
 use Rattle.std.specs.Prelude.{flat_map, IfErr, IfOk, IsErrAnd}
 use Rattle.std.specs.List.{AllZip}
 use Rattle.flow_table.specs.AddedUp.{rows_in, AreAddedUp}
@@ -9,9 +9,9 @@ use Rattle.flow_table.specs.Plans.{PlanValue}
 use Rattle.flow_table.specs.Tables.{IsTable}
 use Rattle.flow_table.specs.declared.table.Table.{Table}
 use Rattle.flow_table.proofs.TablesAdded.{too_large_both}
-use Rattle.flow_merge.specs.Merging.{all_of, AddsAllUp, AreExportsOf, GiveExports, HasRowsOf}
+use Rattle.flow_merge.specs.Merging.{all_of, AddsAllUp, AreExportsOf, GiveExports, HasRowsOf, StopsAt}
 use Rattle.flow_merge.specs.declared.merge_fault.MergeFault.{MergeFault}
-use Rattle.flow_merge.proofs.MergesOn.{merged_all, merged_on, none_merged, read_all, refused_on}
+use Rattle.flow_merge.proofs.MergesOn.{merged_all, merged_on, none_merged, read_all, refused_on, stopped_on}
 use Rattle.flow_merge.proofs.merges.merge.Goals as goal
 
 pub loop-source-init : goal.loop-source-init
@@ -31,6 +31,13 @@ returns-in_err-merging-2-clause-fault g c = λ lists h.
     err_due c.from_residual-in_err-merging-2.result c.in_err-merging-2.field-0.0 _ c.from_residual-in_err-merging-2.ensures.1
     (refused_on g.S.Source.seen c.args.plan.now c.args.limit c.from_vec-waiting.result.items c.loop-source.waiting.items c.in-Some.source c.pop_front.new.self.items c.loop-source.merging c.in_err-merging-2.field-0.0
     c.in-Some.ensures.items c.loop-source.invariant c.in_err-merging-2.ensures.export lists (subst (λ (l : List g.row.S.Denot). AreExportsOf g.S.Source.seen c.args.plan.now l lists) (sym c.from_vec-waiting.ensures.items) h))
+
+pub returns-in_err-merging-2-clause-stops : goal.returns-in_err-merging-2-clause-stops
+returns-in_err-merging-2-clause-stops g c =
+    err_due c.from_residual-in_err-merging-2.result c.in_err-merging-2.field-0.0 _ c.from_residual-in_err-merging-2.ensures.1
+    (inr (subst (λ (l : List g.row.S.Denot). StopsAt g.S.Source.seen c.args.limit c.args.plan.now l c.in_err-merging-2.field-0.0) c.from_vec-waiting.ensures.items
+    (stopped_on g.S.Source.seen c.args.plan.now c.args.limit c.from_vec-waiting.result.items c.loop-source.waiting.items c.in-Some.source c.pop_front.new.self.items c.loop-source.merging (g.S.Source.seen c.read.new.source) c.in_err-merging-2.field-0.0
+    c.in-Some.ensures.items c.loop-source.invariant c.in_err-merging-2.ensures.fault)))
 
 -- ---- the end
 
