@@ -16,6 +16,7 @@ use crate::status::Status;
 use crate::table_run::{Output, export};
 use flow_merge::Merging;
 use flow_table::{Plan, Table};
+use ipfix_session::{FromReader, Source};
 use std::alloc::Global;
 use std::fs::File;
 use std::io::Write;
@@ -39,12 +40,13 @@ pub fn run_merge<W: Write, E: Write, R: Files<File = File>>(
     err: &mut E,
 ) -> u8
     ensures statuses { (result ≡ 0) ⊎ (result ≡ 2) ⊎ (result ≡ 3) }
-    // The rows of an export of each path, added up, were written, and nothing else.
-    ensures table { result ≡ 0 → WritesMerged (length paths.now) plan.now output (W.contents out.old) (W.contents out.new) }
+    // A source for each path, none of which was read before, gave an export; the rows of all of them,
+    // added up, were written, and nothing else.
+    ensures table { result ≡ 0 → WritesMerged ⟦<FromReader<File> as Source>⟧.seen (length paths.now) plan.now output (W.contents out.old) (W.contents out.new) }
     // Nothing was written unless all were opened,
     ensures not_opened { result ≡ 2 → out.new ≡ out.old }
     // and merged.
-    ensures untouched { result ≡ 3 → (out.new ≡ out.old) ⊎ ((table : TableValue) × IsMerged (length paths.now) plan.now table) }
+    ensures untouched { result ≡ 3 → (out.new ≡ out.old) ⊎ ((table : TableValue) × IsMerged ⟦<FromReader<File> as Source>⟧.seen (length paths.now) plan.now table) }
 {
     let table = match merge_files(rt, alloc, paths, plan, err) {
         Ok(table) => table,
@@ -66,7 +68,7 @@ fn merge_files<E: Write, R: Files<File = File>>(
     plan: &Plan,
     err: &mut E,
 ) -> Result<Table, Status>
-    ensures merged { IfOk result (IsMerged (length paths.now) plan.now) }
+    ensures merged { IfOk result (IsMerged ⟦<FromReader<File> as Source>⟧.seen (length paths.now) plan.now) }
     ensures fits { IfOk result (FitsPlan plan.now) }
     ensures status { IfErr result IsNotMerged }
 {
@@ -102,7 +104,7 @@ fn add_file<E: Write, R: Files<File = File>>(
     path: &str,
     err: &mut E,
 ) -> Result<Merging, Status>
-    ensures added { IfOk result (AddsFile merging) }
+    ensures added { IfOk result (AddsFile ⟦<FromReader<File> as Source>⟧.seen merging) }
     ensures status { IfErr result IsNotMerged }
 {
     let Some(source) = open_source(rt, path) else {

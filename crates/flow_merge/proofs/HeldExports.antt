@@ -57,8 +57,8 @@ own_row plan [] r others (row ∷ rows) all = (row, all.0)
 own_row plan (x ∷ first) r others [] all = absurd all
 own_row plan (x ∷ first) r others (row ∷ rows) all = own_row plan first r others rows all.1
 
-no_other : (plan : PlanValue) (rs : List DataRecord) (rows : List RowValue) (fault : RowFault) → AreRowRecords plan rs rows → FirstOther plan rs fault → ⊥
-no_other plan rs rows fault all other =
+no_other : (plan : PlanValue) (before : List RowValue) (rs : List DataRecord) (rows : List RowValue) (fault : RowFault) → AreRowRecords plan rs rows → FirstOther plan before rs fault → ⊥
+no_other plan before rs rows fault all other =
     let one = own_row plan other.first other.next other.others rows (subst (λ (l : List DataRecord). AreRowRecords plan l rows) other.are all) in
     no_row plan other.next fault one.0 other.not_memory other.other one.1
 
@@ -122,6 +122,6 @@ module _ (limit : ℕ) (before after : SourceView) (at_end : after.ended ≡ tru
   own_fault rows (Session fault) due = session_fault rows fault due
   own_fault rows NotAnExport due = absurd (due.2 (subst (λ (w : List ℕ). AreOfExport (gives w).messages) (sym (whole due.0 due.1)) is_export.messages))
   own_fault rows Lost due = absurd (due.2.1 (subst (λ (w : List ℕ). NoneLost (gives w).messages) (sym (whole due.0 due.1)) is_export.none_lost))
-  own_fault rows (Row fault) due = absurd (no_other plan (records_of holds.text) own fault is_export.records (subst (λ (w : List ℕ). FirstOther plan (records_of w) fault) (whole due.0 due.1) due.2.2))
+  own_fault rows (Row fault) due = absurd (no_other plan rows (records_of holds.text) own fault is_export.records (subst (λ (w : List ℕ). FirstOther plan rows (records_of w) fault) (whole due.0 due.1) due.2.2))
   own_fault rows SumTooLarge due =
       all_too_large plan rows own (records_of holds.text) holds.export.is_plan is_export.records (subst (λ (w : List ℕ). FirstTooLarge plan rows (records_of w)) (whole due.0 due.1) due.2.2)

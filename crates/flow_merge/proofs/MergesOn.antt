@@ -143,20 +143,20 @@ module _ {S : Type 0} (seen : S → SourceView) (plan : PlanValue) where
   -- ---- a step, and the end
 
   -- a source was read
-  more_read : (limit : ℕ) (sources : List S) (s : S) (waiting : List S) (old new : Merging) (after : SourceView) (read : HasRead limit sources (s ∷ waiting) old) → plan_of old ≡ plan
-      → AddsExport limit old (seen s) after (flat_map (λ rows. rows) read.exports) new → HasRead limit sources waiting new
+  more_read : (limit : ℕ) (sources : List S) (s : S) (waiting : List S) (old new : Merging) (after : S) (read : HasRead limit sources (s ∷ waiting) old) → plan_of old ≡ plan
+      → AddsExport limit old (seen s) (seen after) (flat_map (λ rows. rows) read.exports) new → HasRead limit sources waiting new
   more_read limit sources s waiting old new after read same adds =
       record {
         used = read.used ++ s ∷ [];
         exports = read.exports ++ adds.more ∷ [];
         split = read.split ∙ sym (append_assoc read.used (s ∷ []) waiting);
-        given = zip_more (λ source rows. (view : SourceView) × GivesExport limit plan (seen source) view rows) read.used read.exports s adds.more read.given
-            (after, subst (λ (p : PlanValue). GivesExport limit p (seen s) after adds.more) same adds.gives_export);
+        given = zip_more (λ source rows. (left : S) × GivesExport limit plan (seen source) (seen left) rows) read.used read.exports s adds.more read.given
+            (after, subst (λ (p : PlanValue). GivesExport limit p (seen s) (seen after) adds.more) same adds.gives_export);
         stands = subst (StandsFor new) (sym (flat_more read.exports adds.more)) adds.stands;
       }
 
-  pub merged_on : (limit : ℕ) (sources before : List S) (s : S) (waiting : List S) (old new : Merging) (after : SourceView) → before ≡ s ∷ waiting → MergesOn limit sources before old → plan_of new ≡ plan_of old
-      → ((rows : List RowValue) → StandsFor old rows → AddsExport limit old (seen s) after rows new)
+  pub merged_on : (limit : ℕ) (sources before : List S) (s : S) (waiting : List S) (old new : Merging) (after : S) → before ≡ s ∷ waiting → MergesOn limit sources before old → plan_of new ≡ plan_of old
+      → ((rows : List RowValue) → StandsFor old rows → AddsExport limit old (seen s) (seen after) rows new)
       → ((rows : List RowValue) (rs : List DataRecord) (holds : HoldsExport (plan_of old) (seen s) rs) → StandsFor old rows → StandsFor new (rows ++ rows_in holds.table)) → MergesOn limit sources waiting new
   merged_on limit sources before s waiting old new after is on same adds exports =
       let read = subst (λ (l : List S). HasRead limit sources l old) is on.read in
@@ -181,8 +181,8 @@ module _ {S : Type 0} (seen : S → SourceView) (plan : PlanValue) where
       (subst (λ (p : PlanValue). (holds : HoldsExport p (seen s) next.0) → IsExportFault (AddUpTooLarge (flat_map rows_in now.tables ++ rows_in holds.table)) fault) on.same_plan
       (λ holds. refuses (flat_map rows_in now.tables) next.0 holds now.stands) next.2)
 
-  pub stopped_on : (limit : ℕ) (sources before : List S) (s : S) (waiting : List S) (old : Merging) (after : SourceView) (fault : MergeFault) → before ≡ s ∷ waiting → MergesOn limit sources before old
-      → ((rows : List RowValue) → StandsFor old rows → IsDue limit (plan_of old) rows (seen s) after fault) → StopsAt seen limit plan sources fault
+  pub stopped_on : (limit : ℕ) (sources before : List S) (s : S) (waiting : List S) (old : Merging) (after : S) (fault : MergeFault) → before ≡ s ∷ waiting → MergesOn limit sources before old
+      → ((rows : List RowValue) → StandsFor old rows → IsDue limit (plan_of old) rows (seen s) (seen after) fault) → StopsAt seen limit plan sources fault
   stopped_on limit sources before s waiting old after fault is on due =
       let read = subst (λ (l : List S). HasRead limit sources l old) is on.read in
       let rows = flat_map (λ r. r) read.exports in
@@ -194,7 +194,7 @@ module _ {S : Type 0} (seen : S → SourceView) (plan : PlanValue) where
         exports = read.exports;
         given = read.given;
         after = after;
-        due = subst (λ (p : PlanValue). IsDue limit p rows (seen s) after fault) on.same_plan (due rows read.stands);
+        due = subst (λ (p : PlanValue). IsDue limit p rows (seen s) (seen after) fault) on.same_plan (due rows read.stands);
       }
 
   -- no source waits

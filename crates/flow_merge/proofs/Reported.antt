@@ -118,11 +118,11 @@ module _ (limit : ℕ) (before after : SourceView) (r : SessionReport) (rs : Lis
     lossless = none_lost r _ _ (reports_all well.no_fault) well.no_loss
 
     pub due_by_sink : (fault : MergeFault) → HoldsAfter (Some fault) m rows rs → IsMergeDue limit plan rows before after fault
-    due_by_sink OutOfMemory h = tt
+    due_by_sink OutOfMemory h = (given.gave, gave_none well.no_fault, (whole, lossless))
     due_by_sink SumTooLarge h =
         (given.gave, gave_none well.no_fault, (whole, lossless, subst (λ (l : List DataRecord). FirstTooLarge plan rows l) (records_all well.no_fault) (subst (λ (p : PlanValue). FirstTooLarge p rows rs) same h)))
     due_by_sink (Row fault) h =
-        (given.gave, gave_none well.no_fault, (whole, lossless, subst (λ (l : List DataRecord). FirstOther plan l fault) (records_all well.no_fault) (subst (λ (p : PlanValue). FirstOther p rs fault) same h)))
+        (given.gave, gave_none well.no_fault, (whole, lossless, subst (λ (l : List DataRecord). FirstOther plan rows l fault) (records_all well.no_fault) (subst (λ (p : PlanValue). FirstOther p rows rs fault) same h)))
     due_by_sink (Session fault) h = absurd h
     due_by_sink NotAnExport h = absurd h
     due_by_sink Lost h = absurd h

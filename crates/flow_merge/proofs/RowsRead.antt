@@ -24,6 +24,11 @@ use Rattle.flow_merge.specs.Merging.{AreRowRecords, FirstOther, FirstTooLarge, p
 use Rattle.flow_merge.specs.MergeFaults.{fault_of_row, fault_of_table}
 use Rattle.flow_merge.specs.RowSink.{HoldsAfter, TakesRecord}
 
+-- what totals stand for is not too large
+none_too_large : (totals : RowTotals) (rows : List RowValue) → AreOf totals rows → AddUpTooLarge rows → ⊥
+unfolding AreOf
+none_too_large totals rows are = are.small
+
 -- one place more
 pub zip_more : {A B : Type 0} (R : A → B → Type 0) (xs : List A) (ys : List B) (x : A) (y : B) → AllZip R xs ys → R x y → AllZip R (xs ++ x ∷ []) (ys ++ y ∷ [])
 zip_more R [] [] x y all one = (one, tt)
@@ -48,9 +53,9 @@ module _ (plan : PlanValue) (rows : List RowValue) (rs : List DataRecord) (r : D
         ),
       )
 
-  other_of : (totals : RowTotals) (m : Merging) (fault : RowFault) → fault ≢ faults.OutOfMemory → plan_of m ≡ plan → Behind plan totals rows rs → IsRowFault plan r fault → FirstOther (plan_of m) (rs ++ r ∷ []) fault
+  other_of : (totals : RowTotals) (m : Merging) (fault : RowFault) → fault ≢ faults.OutOfMemory → plan_of m ≡ plan → Behind plan totals rows rs → IsRowFault plan r fault → FirstOther (plan_of m) rows (rs ++ r ∷ []) fault
   other_of totals m fault named same h is =
-      subst (λ (p : PlanValue). FirstOther p (rs ++ r ∷ []) fault) (sym same) (record { first = rs; next = r; others = []; are = refl; rows = h.0; records = h.1; other = is; not_memory = named })
+      subst (λ (p : PlanValue). FirstOther p rows (rs ++ r ∷ []) fault) (sym same) (record { first = rs; next = r; others = []; are = refl; rows = h.0; records = h.1; small = none_too_large totals (rows ++ h.0) h.2.0; other = is; not_memory = named })
 
   -- by the fault of a record that is no row's
   pub other_holds : (totals : RowTotals) (m : Merging) (fault : RowFault) → plan_of m ≡ plan → Behind plan totals rows rs → IsRowFault plan r fault → HoldsAfter (Some (fault_of_row fault)) m rows (rs ++ r ∷ [])
@@ -96,6 +101,7 @@ still_holds (Row fault) m rows rs r h =
       are = ap (λ (l : List DataRecord). l ++ r ∷ []) h.are ∙ append_assoc h.first (h.next ∷ h.others) (r ∷ []);
       rows = h.rows;
       records = h.records;
+      small = h.small;
       other = h.other;
       not_memory = h.not_memory;
     }

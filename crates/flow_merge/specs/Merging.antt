@@ -71,7 +71,7 @@ pub record GivesExport (limit : ℕ) (plan : PlanValue) (before after : SourceVi
 
 -- each source gave the export of one of the lists of rows, in their order
 abbrev pub GiveExports : {S : Type 0} → (S → SourceView) → ℕ → PlanValue → List S → List (List RowValue) → Type 0
-GiveExports seen limit plan sources exports = AllZip (λ source rows. (after : SourceView) × GivesExport limit plan (seen source) after rows) sources exports
+GiveExports {S = S} seen limit plan sources exports = AllZip (λ source rows. (after : S) × GivesExport limit plan (seen source) (seen after) rows) sources exports
 
 -- the rows of the exports that each source gave, added up, are those of a table
 pub record AddsAllUp {S : Type 0} (seen : S → SourceView) (limit : ℕ) (plan : PlanValue) (sources : List S) (table : Table) : Type 0 where
@@ -88,30 +88,31 @@ pub record FirstTooLarge (plan : PlanValue) (before : List RowValue) (rs : List 
   pub records : AreRowRecords plan first rows
   pub large : AddUpTooLarge (before ++ rows)
 
--- the first records are those of rows, and the next one is that of none: this fault of it, which isn't want of memory
-pub record FirstOther (plan : PlanValue) (rs : List DataRecord) (fault : RowFault) : Type 0 where
+-- the first records are those of rows, which are not too large behind the rows before them, and the next one is that of none:
+-- this fault of it, which isn't want of memory
+pub record FirstOther (plan : PlanValue) (before : List RowValue) (rs : List DataRecord) (fault : RowFault) : Type 0 where
   pub first : List DataRecord
   pub next : DataRecord
   pub others : List DataRecord
   pub are : rs ≡ first ++ next ∷ others
   pub rows : List RowValue
   pub records : AreRowRecords plan first rows
+  pub small : AddUpTooLarge (before ++ rows) → ⊥
   pub other : IsRowFault plan next fault
   pub not_memory : fault ≢ faults.OutOfMemory
 
--- the first thing that whole messages say against their being added to rows
+-- the first thing that whole messages say against their being added to rows; nothing does if memory runs out while an export's
+-- are added
 abbrev pub IsAgainst : PlanValue → List RowValue → List ℕ → MergeFault → Type 0
 IsAgainst plan before gave NotAnExport = AreOfExport (gives gave).messages → ⊥
 IsAgainst plan before gave Lost = AreOfExport (gives gave).messages × (NoneLost (gives gave).messages → ⊥)
-IsAgainst plan before gave (Row fault) = AreOfExport (gives gave).messages × NoneLost (gives gave).messages × FirstOther plan (records_of gave) fault
+IsAgainst plan before gave (Row fault) = AreOfExport (gives gave).messages × NoneLost (gives gave).messages × FirstOther plan before (records_of gave) fault
 IsAgainst plan before gave SumTooLarge = AreOfExport (gives gave).messages × NoneLost (gives gave).messages × FirstTooLarge plan before (records_of gave)
 IsAgainst plan before gave (Session fault) = ⊥
-IsAgainst plan before gave OutOfMemory = ⊥
+IsAgainst plan before gave OutOfMemory = AreOfExport (gives gave).messages × NoneLost (gives gave).messages
 
--- why what a source gave was not added to rows: memory ran out, which the octets can't say; the session ended early; or
--- its messages are whole, and this is against them
+-- why what a source gave was not added to rows: the session ended early; or its messages are whole, and this is against them
 abbrev pub IsDue : ℕ → PlanValue → List RowValue → SourceView → SourceView → MergeFault → Type 0
-IsDue limit plan rows before after OutOfMemory = Unit {0}
 IsDue limit plan rows before after (Session sessions.SinkClosed) = ⊥
 IsDue limit plan rows before after (Session fault) = (gave : List ℕ) × Gave limit READ_SIZE before gave after (Some fault)
 IsDue limit plan rows before after fault = (gave : List ℕ) × Gave limit READ_SIZE before gave after None × IsAgainst plan rows gave fault
@@ -124,8 +125,8 @@ pub record StopsAt {S : Type 0} (seen : S → SourceView) (limit : ℕ) (plan : 
   pub are : sources ≡ first ++ next ∷ others
   pub exports : List (List RowValue)
   pub given : GiveExports seen limit plan first exports
-  pub after : SourceView
-  pub due : IsDue limit plan (flat_map (λ rows. rows) exports) (seen next) after fault
+  pub after : S
+  pub due : IsDue limit plan (flat_map (λ rows. rows) exports) (seen next) (seen after) fault
 
 -- ---- what is merged
 

@@ -12,7 +12,7 @@ use Rattle.flow_merge.specs.Merging.{AreRowRecords, FirstOther, FirstTooLarge, S
 abbrev pub HoldsAfter : Option MergeFault → Merging → List RowValue → List DataRecord → Type 0
 HoldsAfter None m rows rs = (more : List RowValue) × AreRowRecords (plan_of m) rs more × StandsFor m (rows ++ more)
 HoldsAfter (Some SumTooLarge) m rows rs = FirstTooLarge (plan_of m) rows rs
-HoldsAfter (Some (Row fault)) m rows rs = FirstOther (plan_of m) rs fault
+HoldsAfter (Some (Row fault)) m rows rs = FirstOther (plan_of m) rows rs fault
 HoldsAfter (Some OutOfMemory) m rows rs = Unit {0}
 HoldsAfter (Some (Session fault)) m rows rs = ⊥
 HoldsAfter (Some NotAnExport) m rows rs = ⊥

@@ -63,7 +63,8 @@ impl Merging {
     /// `NotAnExport`: they have no message, or a set or a withdrawal of theirs was passed over. Then
     /// `Lost`: their sequence numbers don't count on (RFC 7011, section 3.1). Then, for the first record
     /// that can't be added, `Row` with what is wrong with it, or `SumTooLarge` if a sum or a number of
-    /// flows would be 2^64 or more with its row. `OutOfMemory` may come in place of the last two.
+    /// flows would be 2^64 or more with its row. `OutOfMemory` may come in place of the last two, or
+    /// of success.
     pub fn read<S: Source>(self, source: &mut S, limit: u64) -> Result<Merging, MergeFault>
         ensures plan { IfOk result (λ m. plan_of m ≡ plan_of self) }
         ensures ok { (rows : List RowValue) → StandsFor self rows → IfOk result (AddsExport limit self (S.seen source.old) (S.seen source.new) rows) }

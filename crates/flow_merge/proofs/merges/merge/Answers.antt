@@ -19,7 +19,7 @@ loop-source-init g c = none_merged g.S.Source.seen c.args.plan.now c.args.limit 
 
 pub loop-source-preserved : goal.loop-source-preserved
 loop-source-preserved g c =
-    merged_on g.S.Source.seen c.args.plan.now c.args.limit c.from_vec-waiting.result.items c.loop-source.waiting.items c.in-Some.source c.pop_front.new.self.items c.loop-source.merging c.in_ok-merging-2.merging (g.S.Source.seen c.read.new.source)
+    merged_on g.S.Source.seen c.args.plan.now c.args.limit c.from_vec-waiting.result.items c.loop-source.waiting.items c.in-Some.source c.pop_front.new.self.items c.loop-source.merging c.in_ok-merging-2.merging c.read.new.source
     c.in-Some.ensures.items c.loop-source.invariant c.in_ok-merging-2.ensures.plan c.in_ok-merging-2.ensures.ok c.in_ok-merging-2.ensures.export
 
 err_due : (answer : Result Table MergeFault) (fault : MergeFault) (P : MergeFault → Type 0) → IsErrAnd answer (λ e. e ≡ fault) → P fault → IfErr answer P
@@ -36,7 +36,7 @@ pub returns-in_err-merging-2-clause-stops : goal.returns-in_err-merging-2-clause
 returns-in_err-merging-2-clause-stops g c =
     err_due c.from_residual-in_err-merging-2.result c.in_err-merging-2.field-0.0 _ c.from_residual-in_err-merging-2.ensures.1
     (inr (subst (λ (l : List g.row.S.Denot). StopsAt g.S.Source.seen c.args.limit c.args.plan.now l c.in_err-merging-2.field-0.0) c.from_vec-waiting.ensures.items
-    (stopped_on g.S.Source.seen c.args.plan.now c.args.limit c.from_vec-waiting.result.items c.loop-source.waiting.items c.in-Some.source c.pop_front.new.self.items c.loop-source.merging (g.S.Source.seen c.read.new.source) c.in_err-merging-2.field-0.0
+    (stopped_on g.S.Source.seen c.args.plan.now c.args.limit c.from_vec-waiting.result.items c.loop-source.waiting.items c.in-Some.source c.pop_front.new.self.items c.loop-source.merging c.read.new.source c.in_err-merging-2.field-0.0
     c.in-Some.ensures.items c.loop-source.invariant c.in_err-merging-2.ensures.fault)))
 
 -- ---- the end
