@@ -1,6 +1,7 @@
 //! The command `collectd`: words in, one call of the library, the exit status out.
 #![tactic(auto)]
 
+mod timers;
 mod words;
 
 use clap::error::ErrorKind;
@@ -23,6 +24,7 @@ use std::rt::Files;
 use std::sync::Wait;
 use std::thread::Threads;
 use std::time::Duration;
+use timers::ask_for_short_sleeps;
 
 /// The exit status if the words of the command line can't be served.
 const COMMAND_LINE: u8 = 2;
@@ -156,6 +158,7 @@ fn files<R: Files<File = File> + Threads + Wait + Sync>(
         let _ = write_export_fault(ExportFault::OutOfMemory, &mut err);
         return Status::Failed.number();
     };
+    ask_for_short_sleeps(rt);
     run_files(
         threads,
         rt.alloc(),
@@ -227,6 +230,7 @@ fn tcp<R: Threads + Wait + Sync>(threads: &R, rt: &HostRuntime, chosen: &ArgMatc
         let _ = write_export_fault(ExportFault::OutOfMemory, &mut err);
         return Status::Failed.number();
     };
+    ask_for_short_sleeps(rt);
     run_tcp(
         threads,
         rt.alloc(),

@@ -18,4 +18,4 @@ pub use parcel::Parcel;
 pub use receiver::{Receiver, Taken};
 pub use sender::Sender;
 pub use settled::{SettleFault, Settled, settle};
-pub use waiting::pause;
+pub use waiting::Patience;

@@ -3,7 +3,7 @@
 ghost use Rattle.std.specs.Prelude.{◌≡◌};
 
 use crate::parcel::Parcel;
-use crate::waiting::pause;
+use crate::waiting::Patience;
 use rtrb::Consumer;
 use std::marker::Model;
 use std::sync::Wait;
@@ -13,6 +13,7 @@ use std::sync::Wait;
 #[derive(Drop)]
 pub struct Receiver {
     pub(crate) consumer: Consumer<Parcel>,
+    patience: Patience,
 }
 
 impl Model for Receiver {
@@ -43,7 +44,15 @@ impl Receiver {
     pub(crate) fn new(consumer: Consumer<Parcel>) -> Receiver
         ensures { result ≡ record { link = (consumer.end.words, consumer.end.slots, consumer.end.names); capacity = consumer.capacity; received = ring.received consumer } }
     {
-        Receiver { consumer }
+        let patience = Patience::new(consumer.capacity());
+        Receiver { consumer, patience }
+    }
+
+    /// How many parcels the link has room for.
+    pub fn capacity(&self) -> usize
+        ensures { result ≡ self.now.capacity }
+    {
+        self.consumer.capacity()
     }
 
     /// Takes the oldest parcel, if one is there. It waits for nobody, and takes no memory.
@@ -53,6 +62,7 @@ impl Receiver {
         ensures none { UnlessGot result (self.new ≡ self.old) }
     {
         if let Ok(parcel) = self.consumer.pop() {
+            self.patience.moved(1);
             return Taken::Got(parcel);
         }
         if !self.consumer.is_abandoned() {
@@ -72,14 +82,12 @@ impl Receiver {
         ensures some { IfSome result (λ parcel. self.new.received ≡ self.old.received ++ parcel ∷ []) }
         ensures none { IfNone result (self.new ≡ self.old) }
     {
-        let mut tries = 0u32;
         for _ in rt.forever() {
             match self.try_recv() {
                 Taken::Got(parcel) => return Some(parcel),
                 Taken::Gone => return None,
-                Taken::Empty => pause(rt, tries),
+                Taken::Empty => self.patience.wait(rt),
             }
-            tries = tries.saturating_add(1);
         }
         unreachable!()
     }

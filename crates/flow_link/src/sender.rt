@@ -4,7 +4,7 @@ ghost use Rattle.std.specs.Prelude.{◌≡◌};
 ghost use Rattle.flow_link.specs.Parcels.{is_last as is_last_parcel};
 
 use crate::parcel::Parcel;
-use crate::waiting::pause;
+use crate::waiting::Patience;
 use rtrb::{Producer, PushError};
 use std::marker::Model;
 use std::sync::Wait;
@@ -15,6 +15,7 @@ use std::sync::Wait;
 pub struct Sender {
     pub(crate) producer: Producer<Parcel>,
     ended: bool,
+    patience: Patience,
 }
 
 impl Model for Sender {
@@ -40,9 +41,11 @@ impl Sender {
         requires { ring.sent producer ≡ [] }
         ensures { result ≡ record { link = (producer.end.words, producer.end.slots, producer.end.names); capacity = producer.capacity; sent = [] } }
     {
+        let patience = Patience::new(producer.capacity());
         Sender {
             producer,
             ended: false,
+            patience,
         }
     }
 
@@ -59,6 +62,7 @@ impl Sender {
         match self.producer.push(parcel) {
             Ok(()) => {
                 self.ended = last;
+                self.patience.moved(1);
                 Ok(())
             }
             Err(PushError::Full(back)) => Err(back),
@@ -73,7 +77,6 @@ impl Sender {
         ensures err { IfErr result (λ back. (back ≡ parcel) × (self.new ≡ self.old)) }
     {
         let mut parcel = parcel;
-        let mut tries = 0u32;
         for _ in rt.forever() {
             if self.producer.is_abandoned() {
                 return Err(parcel);
@@ -82,8 +85,7 @@ impl Sender {
                 Ok(()) => return Ok(()),
                 Err(back) => parcel = back,
             }
-            pause(rt, tries);
-            tries = tries.saturating_add(1);
+            self.patience.wait(rt);
         }
         unreachable!()
     }

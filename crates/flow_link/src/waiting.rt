@@ -9,21 +9,61 @@ use std::time::Duration;
 /// processor while its worker serves others.)
 const SPINS: u32 = 8;
 
-/// From then on it sleeps, each time longer than before by so many microseconds.
-const NAP: u32 = 10;
+/// The shortest sleep, in microseconds.
+const SHORTEST_NAP: u32 = 10;
 
 /// The longest sleep, in microseconds.
 const LONGEST_NAP: u32 = 1000;
 
-/// Waits a little before the next try, after so many `tries` in a row that found nothing: first it
-/// spins, and then it sleeps, for 1 ms at most.
-pub fn pause(rt: &impl Wait, tries: u32) {
-    if tries < SPINS {
-        spin_loop();
-    } else {
+/// How one end of a link waits for the other: first it spins, and then it sleeps, for 1 ms at most. It
+/// learns how long: if no more than half of what the ring holds was moved since it slept, it sleeps
+/// twice as long, and if as much as the ring holds was, half as long.
+#[derive(Clone, Copy, Debug)]
+pub struct Patience {
+    capacity: u64,
+    tries: u32,
+    moved: u64,
+    nap: u32,
+}
+
+impl Patience {
+    /// For a link of this capacity, in parcels.
+    pub fn new(capacity: usize) -> Patience {
+        Patience {
+            capacity: capacity as u64,
+            tries: 0,
+            moved: 0,
+            nap: SHORTEST_NAP,
+        }
+    }
+
+    /// So many parcels were moved.
+    pub fn moved(&mut self, parcels: u64) {
+        self.tries = 0;
+        self.moved = self.moved.saturating_add(parcels);
+    }
+
+    /// Waits a little before the next try, after one that moved nothing.
+    pub fn wait(&mut self, rt: &impl Wait) {
+        if self.tries < SPINS {
+            self.tries += 1;
+            spin_loop();
+            return;
+        }
+        self.nap = self.next_nap();
+        self.moved = 0;
         // (a thread that only gave way would be put off for a whole slice of time by busy ones)
-        let naps = (tries - SPINS).saturating_add(1);
-        let nap = naps.saturating_mul(NAP).min(LONGEST_NAP);
-        Parker::new().park_timeout(rt, Duration::from_micros(u64::from(nap)));
+        Parker::new().park_timeout(rt, Duration::from_micros(u64::from(self.nap)));
+    }
+
+    // How long to sleep now.
+    fn next_nap(&self) -> u32 {
+        if self.moved <= self.capacity / 2 {
+            self.nap.saturating_mul(2).min(LONGEST_NAP)
+        } else if self.moved >= self.capacity {
+            (self.nap / 2).max(SHORTEST_NAP)
+        } else {
+            self.nap
+        }
     }
 }

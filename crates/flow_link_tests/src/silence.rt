@@ -6,13 +6,14 @@ use std::test::Fail;
 use std::thread;
 use std::thread::Threads;
 
-/// So many waits in a row spin, give way, take each of the longer and longer sleeps, and then some
-/// dozens of the longest: about a tenth of a second.
-const SILENT_TRIES: u32 = 256;
+/// So many waits in a row spin, take each of the longer and longer sleeps, and then some dozens of the
+/// longest: about a tenth of a second.
+const SILENT_TRIES: u32 = 110;
 
 fn stay_silent<R: Wait>(rt: &R) {
-    for tries in 0..SILENT_TRIES {
-        pause(rt, tries);
+    let mut patience = Patience::new(1);
+    for _ in 0..SILENT_TRIES {
+        patience.wait(rt);
     }
 }
 

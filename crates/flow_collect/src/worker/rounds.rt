@@ -7,7 +7,7 @@ ghost use Rattle.flow_collect.specs.Lanes.{TakesInto, RoundsInto, IsEnded, IsUnu
 
 use super::{Lane, Lot, Worked};
 use crate::gate::Gate;
-use flow_link::{Parcel, Taken, pause};
+use flow_link::{Parcel, Patience, Taken};
 use flow_table::Partial;
 use std::sync::Wait;
 
@@ -23,8 +23,8 @@ pub fn run_worker<G: Gate, R: Wait>(rt: &R, gate: &G, lot: Lot) -> Option<Worked
     } = lot;
     let mut lanes = lanes;
     let mut partial = partial;
+    let mut patience = patience_for(&lanes);
     let mut taken = 0;
-    let mut tries = 0;
     for _ in rt.forever() {
         let round = go_round(gate, worker, taken, &mut lanes, &mut partial);
         if round.gone {
@@ -33,19 +33,27 @@ pub fn run_worker<G: Gate, R: Wait>(rt: &R, gate: &G, lot: Lot) -> Option<Worked
         if all_ended(&lanes) {
             return Some(Worked { lanes, partial });
         }
-        tries = rest(rt, round.found, tries);
+        rest(rt, &mut patience, round.taken.saturating_sub(taken));
         taken = round.taken;
     }
     unreachable!()
 }
 
-// Waits a little after a round that found nothing, and counts such rounds in a row.
-fn rest<R: Wait>(rt: &R, found: bool, tries: u32) -> u32 {
-    if found {
-        return 0;
+// The links of a worker have the same capacity.
+fn patience_for(lanes: &[Lane]) -> Patience {
+    match lanes.first() {
+        Some(lane) => Patience::new(lane.receiver.capacity()),
+        None => Patience::new(1),
     }
-    pause(rt, tries);
-    tries.saturating_add(1)
+}
+
+// Waits a little after a round that found nothing.
+fn rest<R: Wait>(rt: &R, patience: &mut Patience, found: u64) {
+    if found > 0 {
+        patience.moved(found);
+    } else {
+        patience.wait(rt);
+    }
 }
 
 fn all_ended(lanes: &[Lane]) -> bool
@@ -59,12 +67,10 @@ fn all_ended(lanes: &[Lane]) -> bool
     true
 }
 
-// What a round did: how many parcels were taken by its end, whether it took any of them, and
-// whether a sender was gone.
+// What a round did: how many parcels were taken by its end, and whether a sender was gone.
 #[derive(Clone, Copy)]
 struct Round {
     taken: u64,
-    found: bool,
     gone: bool,
 }
 
@@ -78,11 +84,7 @@ fn go_round<G: Gate>(
 ) -> Round
     ensures { RoundsInto lanes.old.items partial.old lanes.new.items partial.new }
 {
-    let mut round = Round {
-        taken,
-        found: false,
-        gone: false,
-    };
+    let mut round = Round { taken, gone: false };
     for place in 0..lanes.len() {
         try_lane(gate, worker, &mut round, &mut lanes[place], partial);
     }
@@ -107,7 +109,6 @@ fn try_lane<G: Gate>(
         Taken::Got(parcel) => {
             lane.last = absorb(partial, parcel);
             round.taken = round.taken.saturating_add(1);
-            round.found = true;
         }
         Taken::Empty => (),
         Taken::Gone => round.gone = true,

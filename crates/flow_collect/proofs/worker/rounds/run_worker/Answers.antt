@@ -14,5 +14,5 @@ loop-preserved g c =
 pub returns-then-all_ended : goal.returns-then-all_ended
 returns-then-all_ended g c =
     worker_ran _ _ (c.go_round-round.ensures.keys ∙ c.loop.invariant.0) (c.go_round-round.ensures.adds.0 ∙ c.loop.invariant.1)
-    (subst (All IsEnded) c.deref.ensures.value (c.all_ended.ensures c.if-all_ended.true))
+    (subst (All IsEnded) c.deref-in-loop.ensures.value (c.all_ended.ensures c.if-all_ended.true))
     (stands_on _ _ _ _ c.loop.invariant.2 c.go_round-round.ensures)
