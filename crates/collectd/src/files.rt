@@ -27,6 +27,7 @@ const STANDARD_INPUT: (&str, &str) = ("-", "/dev/stdin");
 ///
 /// Each session writes to `progress`, if it is there, what it has read, and of how many octets: a line at
 /// most once a second, after a read. A fault of `progress` is passed over.
+#[tactic(auto, using(crate::proofs::Ran::runs_sources))]
 pub fn run_files<
     P: Write + Copy + Drop + Send,
     W: Write,

@@ -2,7 +2,6 @@
 
 ghost use Rattle.std.specs.Prelude.{◌≡◌, ◌≢◌, ◌⊎◌, ◌<◌, length, IfSome};
 ghost use Rattle.std.specs.Duration.{as_nanos};
-ghost use Rattle.std.specs.Option.{ForSome};
 ghost use Rattle.collectd.specs.Runs.{RunsSources};
 
 use crate::status::Status;
@@ -27,6 +26,7 @@ use std::time::Duration;
 ///
 /// Each session writes to `progress`, if it is there, what it has read: a line at most once a second,
 /// after a read. A fault of `progress` is passed over.
+#[tactic(auto, using(crate::proofs::Ran::runs_sources))]
 pub fn run_tcp<P: Write + Copy + Drop + Send, W: Write, E: Write, R: Clock + Threads + Wait + Sync>(
     rt: &R,
     alloc: Global,
@@ -76,7 +76,7 @@ fn accept_all<'r, P: Write + Copy + Drop, R: Clock>(
     idle: Option<Duration>,
     progress: Option<P>,
 ) -> Option<Unread<Watched<'r, FromReader<TcpStream>, R, P>>>
-    ensures one_each { ForSome result (λ sources. length sources ≡ count) }
+    ensures one_each { IfSome result (λ sources. length sources ≡ count) }
     ensures no_time { IfSome idle (λ limit. as_nanos limit ≡ 0 → 0 < count → result ≡ None) }
 {
     let mut sources = Unread::new(alloc);
