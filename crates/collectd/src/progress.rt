@@ -1,6 +1,6 @@
 //! Telling what a session has read, while it reads.
 
-ghost use Rattle.std.specs.Prelude.{◌≡◌, ◌≤◌, ◌<◌, ◌+◌, ◌⊎◌, IsTrue, ◌↔◌, OnOk, IfSome, option_map};
+ghost use Rattle.std.specs.Prelude.{◌≡◌, ◌≤◌, ◌<◌, ◌+◌, IsTrue, ◌↔◌, OnOk, IfSome, IfNone, option_map};
 ghost use Rattle.std.specs.Int.NonZero.{non_zero_u64_get};
 ghost use Rattle.std.specs.Time.{instant_nanos};
 ghost use Rattle.std.specs.Io.KnownBytes.{Appends};
@@ -72,15 +72,25 @@ impl<'a, C: Clock, P: Write + Drop> Progress<'a, C, P> {
         })
     }
 
-    /// Counts octets that were read, and tells of them if a second has gone by.
-    pub fn took(&mut self, count: usize) -> io::Result<()>
+    /// The time by its clock, if that tells it.
+    pub fn time(&self) -> Option<Instant> {
+        Instant::now(self.clock).ok()
+    }
+
+    /// Counts octets that were read by now, and tells of all that were if a second has gone by since it
+    /// told last. If no time is known it doesn't tell.
+    pub fn took(&mut self, count: usize, now: Option<Instant>) -> io::Result<()>
         ensures counted { CountsOctets self.old count self.new }
-        ensures told { OnOk result (IsSilent self.old self.new ⊎ TellsLine self.old self.new) }
+        ensures due { IfSome now (λ time. self.old.last + second ≤ instant_nanos time → OnOk result (TellsLine self.old self.new)) }
         // Also if it can't be told.
-        ensures seldom { IsSilent self.old self.new ⊎ (self.old.last + second ≤ self.new.last) }
+        ensures last { IfSome now (λ time. self.old.last + second ≤ instant_nanos time → self.new.last ≡ instant_nanos time) }
+        ensures early { IfSome now (λ time. instant_nanos time < self.old.last + second → IsSilent self.old self.new) }
+        ensures no_time { IfNone now (IsSilent self.old self.new) }
     {
         self.read = self.read.saturating_add(count as u64);
-        let now = Instant::now(self.clock)?;
+        let Some(now) = now else {
+            return Ok(());
+        };
         if !is_due(self.last, now) {
             return Ok(());
         }

@@ -70,7 +70,8 @@ fn read_and_tell<S: Source, C: Clock, P: Write + Drop>(
 {
     let answer = source.read(buffer);
     if let Ok(count) = answer {
-        let _ = progress.took(count);
+        let now = progress.time();
+        let _ = progress.took(count, now);
     }
     answer
 }
