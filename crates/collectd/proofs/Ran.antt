@@ -2,7 +2,7 @@
 use Rattle.std.proofs.Common.{◌≡◌, ℕ, ◌+◌, ◌<◌, ◌≤◌, true, false, List, [], ◌∷◌, length, take, get_or, All, Option, Some, None, refl, sym, subst, inl, inr, arith}
 use Rattle.std.proofs.lemmas.List.{take_more, take_all}
 use Rattle.std.proofs.lemmas.List.Elements.{All-nil, All-cons, All-append}
-use Rattle.std.specs.Prelude.{◌↔◌, ◌⊎◌, is_some}
+use Rattle.std.specs.Prelude.{◌↔◌, ◌⊎◌, ◌≢◌, is_some}
 use Rattle.std.specs.Option.{ForSome}
 use Rattle.std.specs.Io.KnownBytes.{Appends}
 use Rattle.ipfix_message.specs.declared.record.DataRecord.{DataRecord}
@@ -14,7 +14,7 @@ use Rattle.flow_collect.specs.Texts.{HasNoFault}
 use Rattle.flow_collect.specs.declared.collected.Collected.{Collected}
 use Rattle.flow_collect.specs.declared.collected.Pool.{Pool}
 use Rattle.flow_collect.proofs.GivenLists.{first_each, all_whole, whole_records, whole_clean}
-use Rattle.collectd.specs.Runs.{export_text, AddsUpWhole, WritesTable}
+use Rattle.collectd.specs.Runs.{export_text, AddsUpWhole, IsUnread, RunsSources, WasCollected, WritesTable, WritesWholeTable}
 use Rattle.collectd.specs.Statuses.{number_of}
 use Rattle.collectd.specs.declared.status.Status.{Status}
 use Rattle.collectd.specs.declared.status.Status.TheVariants.{Well, SessionFault, NotOpened, Failed}
@@ -40,6 +40,13 @@ module _ {S : Type 0} (seen : S → SourceView) where
         whole = whole_clean h.records texts whole;
         added_up = subst (λ (rs : List DataRecord). IsAddedUp plan rs c.table) (whole_records h.records texts whole) h.added_up;
       }
+
+  -- sources that were had one after another, and then run
+  pub runs_sources : (count : ℕ) (plan : PlanValue) (pool : Pool) (output : Output) (status : ℕ) (old new : Option (List ℕ)) (Untouched : Type 0) (sources had : List S)
+      → sources ≡ had → length had ≡ count → All (IsUnread seen) had → (status ≢ 3 → WritesTable seen sources plan pool output status old new) → (status ≡ 0 → WritesWholeTable seen sources plan output old new)
+      → (status ≡ 3 → Untouched ⊎ WasCollected seen sources plan pool) → RunsSources seen count plan pool output status old new Untouched
+  runs_sources count plan pool output status old new Untouched sources had same one_each unread table all untouched =
+      record { sources = sources; one_each = rw same one_each; unread = rw same unread; table = table; all = all; untouched = untouched }
 
 -- the status is 0 exactly if all was well
 pub zero_if_well : (s : Status) (n : ℕ) (P : Type 0) → n ≡ number_of s → (s ≡ Well) ⊎ (s ≡ SessionFault) → ((s ≡ Well) ↔ P) → ((n ≡ 0) ↔ P)

@@ -9,4 +9,5 @@ pub mod PlaceLines
 pub mod Statuses
 pub mod Faults
 -- what only inner functions need
+pub mod Progressing
 pub mod LineParts

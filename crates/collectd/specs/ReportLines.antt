@@ -1,5 +1,5 @@
 -- The lines that tell of sessions and of faults.
-use Rattle.std.specs.Prelude.{ℕ, List, [], ◌++◌, codes, decimal, ◌==◌, ◌&&◌, if◌then◌else◌, Option, Some, None}
+use Rattle.std.specs.Prelude.{ℕ, ◌*◌, ◌/◌, min, List, [], ◌++◌, codes, decimal, ◌==◌, ◌&&◌, if◌then◌else◌, Option, Some, None}
 use Rattle.std.specs.List.{flat_map, enumerate_from}
 use Rattle.ipfix_session.specs.declared.report.DomainReport.{DomainReport}
 use Rattle.ipfix_session.specs.declared.report.SessionReport.{SessionReport}
@@ -69,3 +69,22 @@ merge_fault_text fault = fault_text (merging.number_of fault) (merging.name_of f
 
 abbrev pub file_fault_line : ℕ → MergeFault → List ℕ
 file_fault_line file fault = codes "collectd: merge: file " ++ (decimal file ++ merge_fault_text fault)
+
+-- ---- progress
+
+-- what a session has read, in octets
+unfoldable pub read_line : ℕ → ℕ → List ℕ
+read_line session read = codes "collectd: session " ++ (decimal session ++ (codes ": read " ++ (decimal read ++ codes " octets\n")))
+
+-- and of how many, in percent
+unfoldable pub share_line : ℕ → ℕ → ℕ → ℕ → List ℕ
+share_line session read size percent =
+    codes "collectd: session " ++ (decimal session ++ (codes ": read " ++ (decimal read ++ (codes " of " ++ (decimal size ++ (codes " octets (" ++ (decimal percent ++ codes "%)\n")))))))
+
+-- the whole percents of a size that were read, at most 100
+abbrev pub percent_of : ℕ → ℕ → ℕ
+percent_of read size = min 100 (100 * read / size)
+
+abbrev pub progress_line : ℕ → ℕ → Option ℕ → List ℕ
+progress_line session read None = read_line session read
+progress_line session read (Some size) = share_line session read size (percent_of read size)

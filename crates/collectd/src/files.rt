@@ -6,13 +6,15 @@ ghost use Rattle.collectd.specs.Runs.{IsUnread, RunsSources};
 use crate::status::Status;
 use crate::table_run::{Output, run};
 use crate::unread::Unread;
+use crate::watched::Watched;
 use flow_collect::Pool;
 use flow_table::Plan;
 use ipfix_session::{FromReader, Source};
 use std::alloc::Global;
 use std::fs::{self, File};
 use std::io::Write;
-use std::rt::Files;
+use std::num::NonZeroU64;
+use std::rt::{Clock, Files};
 use std::sync::Wait;
 use std::thread::Threads;
 
@@ -22,13 +24,23 @@ const STANDARD_INPUT: (&str, &str) = ("-", "/dev/stdin");
 /// Opens the files of IPFIX messages (RFC 5655), each of which is a session, in order, and then does as
 /// [`run`]. The file `-` is standard input. If one can't be opened the status is 2, and its line is
 /// written to `err`.
-pub fn run_files<W: Write, E: Write, R: Files<File = File> + Threads + Wait + Sync>(
+///
+/// Each session writes to `progress`, if it is there, what it has read, and of how many octets: a line at
+/// most once a second, after a read. A fault of `progress` is passed over.
+#[tactic(auto, using(crate::proofs::Ran::runs_sources))]
+pub fn run_files<
+    P: Write + Copy + Drop + Send,
+    W: Write,
+    E: Write,
+    R: Files<File = File> + Clock + Threads + Wait + Sync,
+>(
     rt: &R,
     alloc: Global,
     paths: &[&str],
     plan: &Plan,
     pool: Pool,
     output: Output,
+    progress: Option<P>,
     out: &mut W,
     err: &mut E,
 ) -> u8
@@ -38,7 +50,7 @@ pub fn run_files<W: Write, E: Write, R: Files<File = File> + Threads + Wait + Sy
     // Nothing was written unless all were opened.
     ensures not_opened { result ≡ 2 → out.new ≡ out.old }
 {
-    match open_all(rt, alloc, paths) {
+    match open_all(rt, alloc, paths, progress) {
         Ok(sources) => run(
             rt,
             alloc,
@@ -57,16 +69,19 @@ pub fn run_files<W: Write, E: Write, R: Files<File = File> + Threads + Wait + Sy
 }
 
 // The files as sources, or the first that can't be had.
-fn open_all<'a, R: Files<File = File>>(
-    rt: &R,
+fn open_all<'r, 'a, P: Write + Copy + Drop, R: Files<File = File> + Clock>(
+    rt: &'r R,
     alloc: Global,
     paths: &[&'a str],
-) -> Result<Unread<FromReader<File>>, &'a str>
+    progress: Option<P>,
+) -> Result<Unread<Watched<'r, FromReader<File>, R, P>>, &'a str>
     ensures { IfOk result (λ sources. length sources ≡ length paths.now) }
 {
     let mut sources = Unread::new(alloc);
+    let mut session = 0_usize;
     for path in paths {
-        let Some(source) = open_source(rt, *path) else {
+        session = session.saturating_add(1);
+        let Some(source) = open_watched(rt, alloc, session, *path, progress) else {
             return Err(*path);
         };
         let Ok(()) = sources.push(source) else {
@@ -76,15 +91,43 @@ fn open_all<'a, R: Files<File = File>>(
     Ok(sources)
 }
 
+// The file of the session of this number, counted from 1.
+fn open_watched<'r, P: Write + Copy + Drop, R: Files<File = File> + Clock>(
+    rt: &'r R,
+    alloc: Global,
+    session: usize,
+    path: &str,
+    progress: Option<P>,
+) -> Option<Watched<'r, FromReader<File>, R, P>>
+    ensures { IfSome result (IsUnread ⟦<FromReader<File> as Source>⟧.seen) }
+{
+    let file = open_file(rt, path)?;
+    let size = if progress.is_some() {
+        size_of(&file)
+    } else {
+        None
+    };
+    let source = FromReader::new(file);
+    Some(Watched::new(alloc, rt, session, source, size, progress))
+}
+
+// How many octets the file has, if that can be known before it is read.
+fn size_of(file: &File) -> Option<NonZeroU64> {
+    NonZeroU64::new(file.metadata().ok()?.len())
+}
+
 /// The file as a source of which nothing was read, if it can be opened. The file `-` is standard input.
 pub fn open_source<R: Files<File = File>>(rt: &R, path: &str) -> Option<FromReader<File>>
     ensures { IfSome result (IsUnread ⟦<FromReader<File> as Source>⟧.seen) }
 {
+    Some(FromReader::new(open_file(rt, path)?))
+}
+
+fn open_file<R: Files<File = File>>(rt: &R, path: &str) -> Option<File> {
     let name = if path == STANDARD_INPUT.0 {
         STANDARD_INPUT.1
     } else {
         path
     };
-    let file = fs::open(rt, name).ok()?;
-    Some(FromReader::new(file))
+    fs::open(rt, name).ok()
 }

@@ -15,6 +15,7 @@ mod merging;
 mod network;
 mod places;
 mod plans;
+mod progress;
 mod record_line;
 mod reports;
 mod run_fault;
@@ -23,6 +24,7 @@ mod status;
 mod table_run;
 mod text;
 mod unread;
+mod watched;
 
 pub use dumping::{dump, dump_json};
 pub use fault::DumpFault;

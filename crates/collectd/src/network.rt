@@ -2,18 +2,19 @@
 
 ghost use Rattle.std.specs.Prelude.{◌≡◌, ◌≢◌, ◌⊎◌, ◌<◌, length, IfSome};
 ghost use Rattle.std.specs.Duration.{as_nanos};
-ghost use Rattle.std.specs.Option.{ForSome};
 ghost use Rattle.collectd.specs.Runs.{RunsSources};
 
 use crate::status::Status;
 use crate::table_run::{Output, run};
 use crate::unread::Unread;
+use crate::watched::Watched;
 use flow_collect::Pool;
 use flow_table::Plan;
 use ipfix_session::{FromReader, Source};
 use std::alloc::Global;
 use std::io::Write;
 use std::net::{TcpListener, TcpStream};
+use std::rt::Clock;
 use std::sync::Wait;
 use std::thread::Threads;
 use std::time::Duration;
@@ -22,7 +23,11 @@ use std::time::Duration;
 /// for longer than `idle` fails, and so ends its session as ReadFailed; with no `idle` it waits for as
 /// long as it takes. If a connection can't be accepted, or can't have that limit, the status is 2, and a
 /// line with `addr` is written to `err`.
-pub fn run_tcp<W: Write, E: Write, R: Threads + Wait + Sync>(
+///
+/// Each session writes to `progress`, if it is there, what it has read: a line at most once a second,
+/// after a read. A fault of `progress` is passed over.
+#[tactic(auto, using(crate::proofs::Ran::runs_sources))]
+pub fn run_tcp<P: Write + Copy + Drop + Send, W: Write, E: Write, R: Clock + Threads + Wait + Sync>(
     rt: &R,
     alloc: Global,
     listener: &TcpListener,
@@ -32,6 +37,7 @@ pub fn run_tcp<W: Write, E: Write, R: Threads + Wait + Sync>(
     plan: &Plan,
     pool: Pool,
     output: Output,
+    progress: Option<P>,
     out: &mut W,
     err: &mut E,
 ) -> u8
@@ -43,7 +49,7 @@ pub fn run_tcp<W: Write, E: Write, R: Threads + Wait + Sync>(
     // No connection can have a limit of no time.
     ensures no_time { IfSome idle (λ limit. as_nanos limit ≡ 0 → 0 < count → result ≡ 2) }
 {
-    match accept_all(alloc, listener, count, idle) {
+    match accept_all(rt, alloc, listener, count, idle, progress) {
         Some(sources) => run(
             rt,
             alloc,
@@ -62,20 +68,24 @@ pub fn run_tcp<W: Write, E: Write, R: Threads + Wait + Sync>(
 }
 
 // So many connections as sources, each with this limit of a read's time.
-fn accept_all(
+fn accept_all<'r, P: Write + Copy + Drop, R: Clock>(
+    rt: &'r R,
     alloc: Global,
     listener: &TcpListener,
     count: usize,
     idle: Option<Duration>,
-) -> Option<Unread<FromReader<TcpStream>>>
-    ensures one_each { ForSome result (λ sources. length sources ≡ count) }
+    progress: Option<P>,
+) -> Option<Unread<Watched<'r, FromReader<TcpStream>, R, P>>>
+    ensures one_each { IfSome result (λ sources. length sources ≡ count) }
     ensures no_time { IfSome idle (λ limit. as_nanos limit ≡ 0 → 0 < count → result ≡ None) }
 {
     let mut sources = Unread::new(alloc);
-    for _number in 0..count {
+    for number in 0..count {
         let (stream, _peer) = listener.accept().ok()?;
         stream.set_read_timeout(idle).ok()?;
-        sources.push(FromReader::new(stream)).ok()?;
+        let source = FromReader::new(stream);
+        let watched = Watched::new(alloc, rt, number + 1, source, None, progress);
+        sources.push(watched).ok()?;
     }
     Some(sources)
 }

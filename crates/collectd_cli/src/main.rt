@@ -1,6 +1,7 @@
 //! The command `collectd`: words in, one call of the library, the exit status out.
 #![tactic(auto)]
 
+mod progress_output;
 mod timers;
 mod words;
 
@@ -15,12 +16,13 @@ use flow_collect::Pool;
 use flow_export::{ExportFault, Format};
 use flow_table::Plan;
 use ipfix_session::FromReader;
+use progress_output::{ProgressOutput, open_terminal};
 use std::env;
 use std::fs::File;
 use std::io::{self, BufWriter, Stderr, Stdout, Write};
 use std::net::TcpListener;
 use std::process::ExitCode;
-use std::rt::Files;
+use std::rt::{Clock, Files};
 use std::sync::Wait;
 use std::thread::Threads;
 use std::time::Duration;
@@ -43,7 +45,7 @@ fn main(rt: HostRuntime) -> ExitCode {
 }
 
 // Reads the words and runs the command that they name. The first handle may start threads.
-fn run<R: Files<File = File> + Threads + Wait + Sync>(
+fn run<R: Files<File = File> + Clock + Threads + Wait + Sync>(
     threads: &R,
     rt: &HostRuntime,
 ) -> io::Result<u8> {
@@ -125,6 +127,28 @@ fn read_pool(chosen: &ArgMatches) -> Option<Pool> {
     })
 }
 
+// The terminal, if progress is asked for once and there is one.
+fn read_terminal(rt: &HostRuntime, chosen: &ArgMatches) -> Option<File> {
+    match chosen.get_count("progress") {
+        1 => open_terminal(rt),
+        _ => None,
+    }
+}
+
+// Where progress is told: on this terminal if it is asked for once; and if twice on standard error,
+// whatever that is.
+fn read_progress<'a>(
+    terminal: &'a Option<File>,
+    rt: &HostRuntime,
+    chosen: &ArgMatches,
+) -> Option<ProgressOutput<'a>> {
+    match chosen.get_count("progress") {
+        0 => None,
+        1 => terminal.as_ref().map(ProgressOutput::Terminal),
+        _ => Some(ProgressOutput::StandardError(rt.stderr())),
+    }
+}
+
 // The files that are named, or the status if standard input is among them twice, which is told.
 fn read_paths<'c, 'w>(chosen: &'c ArgMatches<'w>, err: &mut Stderr) -> Result<&'c [&'w str], u8> {
     let Some(paths) = chosen.get_strs("file") else {
@@ -141,7 +165,7 @@ fn read_paths<'c, 'w>(chosen: &'c ArgMatches<'w>, err: &mut Stderr) -> Result<&'
 }
 
 // `collectd files`: the table of the sessions in files to standard output.
-fn files<R: Files<File = File> + Threads + Wait + Sync>(
+fn files<R: Files<File = File> + Clock + Threads + Wait + Sync>(
     threads: &R,
     rt: &HostRuntime,
     chosen: &ArgMatches,
@@ -158,6 +182,7 @@ fn files<R: Files<File = File> + Threads + Wait + Sync>(
         let _ = write_export_fault(ExportFault::OutOfMemory, &mut err);
         return Status::Failed.number();
     };
+    let terminal = read_terminal(rt, chosen);
     ask_for_short_sleeps(rt);
     run_files(
         threads,
@@ -166,6 +191,7 @@ fn files<R: Files<File = File> + Threads + Wait + Sync>(
         &job.plan,
         pool,
         job.output,
+        read_progress(&terminal, rt, chosen),
         &mut out,
         &mut err,
     )
@@ -210,7 +236,7 @@ fn stands_twice(words: &[&str], word: &str) -> bool {
 }
 
 // `collectd tcp`: the table of the sessions that come over connections to standard output.
-fn tcp<R: Threads + Wait + Sync>(threads: &R, rt: &HostRuntime, chosen: &ArgMatches) -> u8 {
+fn tcp<R: Clock + Threads + Wait + Sync>(threads: &R, rt: &HostRuntime, chosen: &ArgMatches) -> u8 {
     let mut err = rt.stderr();
     let (Some(addr), Some(sessions)) = (chosen.get_str("listen"), chosen.get_one::<u32>("sessions"))
     else {
@@ -230,6 +256,7 @@ fn tcp<R: Threads + Wait + Sync>(threads: &R, rt: &HostRuntime, chosen: &ArgMatc
         let _ = write_export_fault(ExportFault::OutOfMemory, &mut err);
         return Status::Failed.number();
     };
+    let terminal = read_terminal(rt, chosen);
     ask_for_short_sleeps(rt);
     run_tcp(
         threads,
@@ -241,6 +268,7 @@ fn tcp<R: Threads + Wait + Sync>(threads: &R, rt: &HostRuntime, chosen: &ArgMatc
         &job.plan,
         pool,
         job.output,
+        read_progress(&terminal, rt, chosen),
         &mut out,
         &mut err,
     )

@@ -1,6 +1,6 @@
 //! The words that the program takes.
 
-use clap::{Arg, ArgMatches, Command, Error, value_parser};
+use clap::{Arg, ArgAction, ArgMatches, Command, Error, value_parser};
 use std::alloc::{AllocError, Global};
 
 /// The version, which `--version` prints and `CHANGELOG.md` describes.
@@ -109,7 +109,20 @@ fn explain_command<'a>(alloc: Global) -> Result<Command<'a>, AllocError> {
 
 // The options that `files` and `tcp` share.
 fn with_options<'a>(alloc: Global, command: Command<'a>) -> Result<Command<'a>, AllocError> {
-    with_output(alloc, with_pool(alloc, with_plan(alloc, command)?)?)
+    with_progress(
+        alloc,
+        with_output(alloc, with_pool(alloc, with_plan(alloc, command)?)?)?,
+    )
+}
+
+fn with_progress<'a>(alloc: Global, command: Command<'a>) -> Result<Command<'a>, AllocError> {
+    let progress = Arg::new(alloc, "progress")
+        .long("progress")
+        .action(ArgAction::Count)
+        .help(
+            "Tell on the terminal, once a second, what each session has read; twice: on standard error",
+        );
+    command.arg(progress)
 }
 
 fn with_plan<'a>(alloc: Global, command: Command<'a>) -> Result<Command<'a>, AllocError> {

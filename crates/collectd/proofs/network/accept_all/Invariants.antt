@@ -4,4 +4,4 @@ use Rattle.collectd.proofs.network.accept_all.Given as goal
 
 -- so many connections were accepted, and none with a limit of no time
 abbrev pub invariant-loop-number : goal.invariant-loop-number
-invariant-loop-number l = (length l.sources ≡ l._number) × IfSome l.fn.idle (λ limit. as_nanos limit ≡ 0 → l._number ≡ 0)
+invariant-loop-number g l = (length l.sources ≡ l.number) × IfSome l.fn.idle (λ limit. as_nanos limit ≡ 0 → l.number ≡ 0)

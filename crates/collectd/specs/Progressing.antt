@@ -1,0 +1,37 @@
+-- How a session tells what it has read.
+use Rattle.std.specs.Prelude.{◌≡◌, ℕ, ◌+◌, ◌-◌, ◌^◌, ◌≤◌, min, List, Option}
+use Rattle.std.specs.Io.KnownBytes.{Appends}
+use Rattle.collectd.specs.ReportLines.{progress_line}
+
+-- what contracts see of a session's progress
+pub record ProgressView : Type 0 where
+  -- the session's number, counted from 1
+  pub session : ℕ
+  -- the octets that it has read
+  pub read : ℕ
+  -- how many there are in all, if that is known
+  pub size : Option ℕ
+  -- when it told last, or began: nanoseconds of the clock
+  pub last : ℕ
+  -- the octets that its terminal was given, if it tells them
+  pub written : Option (List ℕ)
+
+-- a second, in nanoseconds
+abbrev pub second : ℕ
+second = 1_000_000_000
+
+-- nothing was told
+pub record IsSilent (old new : ProgressView) : Type 0 where
+  pub last : new.last ≡ old.last
+  pub written : new.written ≡ old.written
+
+-- the line of what was read by then was told, a second or more after the one before
+pub record TellsLine (old new : ProgressView) : Type 0 where
+  pub in_time : old.last + second ≤ new.last
+  pub line : Appends old.written new.written (progress_line new.session new.read new.size)
+
+-- so many octets more were read by the same session; the count stops at the greatest number of 64 bits
+pub record CountsOctets (old : ProgressView) (count : ℕ) (new : ProgressView) : Type 0 where
+  pub read : new.read ≡ min (old.read + count) (2 ^ 64 - 1)
+  pub session : new.session ≡ old.session
+  pub size : new.size ≡ old.size
