@@ -15,25 +15,23 @@ use Rattle.ipfix_elements.specs.declared.cell.Cell.TheVariants.{Number, Ipv4, Ip
 use Rattle.ipfix_message.specs.DataRecords.{HasOctets}
 use Rattle.ipfix_message.specs.Fields.{Field}
 use Rattle.ipfix_message.specs.declared.record.DataRecord.{DataRecord}
-use Rattle.collectd.specs.JsonLines.{is_small, json_value, json_field, json_fields, json_line, comma_if}
+use Rattle.flow_export.specs.JsonValues.{in_quotes, json_cell}
+use Rattle.collectd.specs.JsonLines.{json_value, json_field, json_fields, json_line, comma_if}
 use Rattle.dump_laws.specs.Objects.{data_of, value_of, field_object, field_objects, object_of}
 use Rattle.dump_laws.proofs.Plain.{IsPlain, value_plain, name_plain}
 
-quoted_plain : (s : List ℕ) → IsPlain s → quoted s ≡ 34 ∷ (s ++ 34 ∷ [])
+quoted_plain : (s : List ℕ) → IsPlain s → quoted s ≡ in_quotes s
 quoted_plain s p = ap (λ (t : List ℕ). 34 ∷ (t ++ 34 ∷ [])) p
 
 -- ---- values
 
-by_size : (b : Bool) (n : ℕ) → IsPlain (cell_text (Number n))
-    → compact_text (cond b (number (unsigned n)) (string (cell_text (Number n))))
-    ≡ cond b (cell_text (Number n)) (34 ∷ (cell_text (Number n) ++ 34 ∷ []))
-unfolding cell_text
+by_size : (b : Bool) (n : ℕ) → IsPlain (decimal n) → compact_text (cond b (number (unsigned n)) (string (decimal n))) ≡ cond b (decimal n) (in_quotes (decimal n))
 by_size true n p = refl
 by_size false n p = quoted_plain _ p
 
 of_cell : (o : Option Cell) (other : List ℕ) → IsPlain (option_map_or cell_text o other)
-    → compact_text (data_of o (option_map_or cell_text o other))
-    ≡ cond (option_map_or is_small o false) (option_map_or cell_text o other) (34 ∷ (option_map_or cell_text o other ++ 34 ∷ []))
+    → compact_text (data_of o (option_map_or cell_text o other)) ≡ option_map_or json_cell o (in_quotes (option_map_or cell_text o other))
+unfolding cell_text
 of_cell None other p = quoted_plain other p
 of_cell (Some (Number n)) other p = by_size (nat_lt n (2 ^ 53)) n p
 of_cell (Some (Ipv4 a)) other p = quoted_plain _ p

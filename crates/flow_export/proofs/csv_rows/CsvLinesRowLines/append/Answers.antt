@@ -1,6 +1,6 @@
 use Rattle.flow_export.specs.Written.{written_row}
 use Rattle.flow_export.proofs.Appending.{one_more}
-use Rattle.flow_export.proofs.csv_rows.append_lines.Goals as goal
+use Rattle.flow_export.proofs.csv_rows.CsvLinesRowLines.append.Goals as goal
 
 pub loop-row-preserved : goal.loop-row-preserved
 loop-row-preserved c =
