@@ -1,5 +1,5 @@
 -- The text of a row's object, part by part.
-use Rattle.std.proofs.Common.{◌≡◌, ℕ, ◌+◌, ◌-◌, ◌*◌, ◌<◌, ◌≤◌, List, [], ◌∷◌, ◌++◌, length, map, min, get_or, take, refl, sym, ap, ◌∙◌, append_assoc, arith}
+use Rattle.std.proofs.Common.{◌≡◌, ℕ, ◌+◌, ◌-◌, ◌*◌, ◌<◌, ◌≤◌, List, [], ◌∷◌, ◌++◌, length, map, get_or, take, refl, sym, ap, ◌∙◌, append_assoc, arith}
 use Rattle.std.specs.Prelude.{codes}
 use Rattle.std.specs.List.{flat_map, zip}
 use Rattle.std.proofs.lemmas.List.{append-nil, get_or_default, take_all, length-map, map-append}
@@ -10,11 +10,11 @@ use Rattle.ipfix_elements.specs.Names.{name_text}
 use Rattle.ipfix_elements.specs.declared.cell.Cell.{Cell}
 use Rattle.flow_table.specs.Fitting.{FitsRow}
 use Rattle.flow_table.specs.Plans.{PlanValue, kinds_of}
-use Rattle.flow_table.specs.SameTables.{RowValue, value_of}
+use Rattle.flow_table.specs.SameTables.{value_of}
 use Rattle.flow_table.specs.declared.table.Row.{Row}
-use Rattle.flow_export.specs.CsvText.{first_of, heading, key_text, last_of}
+use Rattle.flow_export.specs.CsvText.{first_of, key_text, last_of}
 use Rattle.flow_export.specs.JsonParts.{AreLabels, label, labelled, object_of, text_of}
-use Rattle.flow_export.specs.JsonText.{member, row_object, row_values}
+use Rattle.flow_export.specs.JsonText.{member}
 use Rattle.flow_export.specs.JsonValues.{json_cell, json_number}
 use Rattle.flow_export.specs.declared.json_labels.Label.{Label}
 use Rattle.flow_export.specs.declared.json_labels.RowLabels.{RowLabels}

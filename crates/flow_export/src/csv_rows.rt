@@ -1,7 +1,7 @@
 //! Rows as lines of CSV. No text of a row needs quotes (`nothing_is_quoted`), so a line is its fields, with commas
 //! between them.
 
-ghost use Rattle.std.specs.Prelude.{◌≡◌, ◌++◌, ◌∷◌, ◌*◌, ◌<◌, ◌^◌, OnOk, flat_map};
+ghost use Rattle.std.specs.Prelude.{◌≡◌, ◌++◌, ◌*◌, ◌<◌, ◌^◌, OnOk, flat_map};
 ghost use Rattle.std.specs.Fmt.{decimal};
 ghost use Rattle.flow_table.specs.SameTables.{value_of};
 ghost use Rattle.flow_export.specs.CsvText.{row_line};

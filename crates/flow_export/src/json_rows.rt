@@ -1,5 +1,5 @@
-//! Rows as lines of JSON: an object for each. No name and no value needs an escape, so what an object has is
-//! appended as it is.
+//! Rows as lines of JSON: an object for each. No name and no value needs an escape (`rows_are_objects` of
+//! `json_laws`), so what an object has is appended as it is.
 
 ghost use Rattle.std.specs.Prelude.{◌≡◌, ◌++◌, OnOk, flat_map, length};
 ghost use Rattle.std.specs.List.{zip};

@@ -17,10 +17,10 @@ use Rattle.ipfix_message.specs.Fields.{Field}
 use Rattle.ipfix_message.specs.declared.record.DataRecord.{DataRecord}
 use Rattle.flow_export.specs.JsonValues.{in_quotes, json_cell}
 use Rattle.collectd.specs.JsonLines.{json_value, json_field, json_fields, json_line, comma_if}
-use Rattle.dump_laws.specs.Objects.{data_of, value_of, field_object, field_objects, object_of}
-use Rattle.dump_laws.proofs.Plain.{IsPlain, value_plain, name_plain}
+use Rattle.json_laws.specs.Objects.{data_of, value_of, field_object, field_objects, object_of}
+use Rattle.json_laws.proofs.Plain.{IsPlain, value_plain, name_plain}
 
-quoted_plain : (s : List ℕ) → IsPlain s → quoted s ≡ in_quotes s
+pub quoted_plain : (s : List ℕ) → IsPlain s → quoted s ≡ in_quotes s
 quoted_plain s p = ap (λ (t : List ℕ). 34 ∷ (t ++ 34 ∷ [])) p
 
 -- ---- values
@@ -29,7 +29,7 @@ by_size : (b : Bool) (n : ℕ) → IsPlain (decimal n) → compact_text (cond b 
 by_size true n p = refl
 by_size false n p = quoted_plain _ p
 
-of_cell : (o : Option Cell) (other : List ℕ) → IsPlain (option_map_or cell_text o other)
+pub of_cell : (o : Option Cell) (other : List ℕ) → IsPlain (option_map_or cell_text o other)
     → compact_text (data_of o (option_map_or cell_text o other)) ≡ option_map_or json_cell o (in_quotes (option_map_or cell_text o other))
 unfolding cell_text
 of_cell None other p = quoted_plain other p

@@ -1,6 +1,6 @@
 -- No name and no value needs an escape.
 use Rattle.std.proofs.Common.{◌≡◌, ℕ, zero, suc, ◌+◌, ◌/◌, ◌%◌, ◌<◌, Bool, true, false, cond, eqb, List, [], ◌∷◌, ◌++◌, map, find, Option, Some, None, unwrap_or, option_map, length, refl, sym, subst, ◌∙◌, arith, inl, inr}
-use Rattle.std.specs.Prelude.{slice_index, All}
+use Rattle.std.specs.Prelude.{codes, slice_index, All}
 use Rattle.std.specs.Option.{option_map_or}
 use Rattle.std.specs.List.{list_all, join_with_byte}
 use Rattle.std.specs.Fmt.{decimal, digits, digits_onto, digit_glyph}
@@ -23,13 +23,16 @@ use Rattle.ipfix_elements.specs.declared.kind.Kind.{Kind}
 use Rattle.ipfix_elements.specs.declared.kind.Kind.TheVariants as kinds
 use Rattle.ipfix_elements.specs.declared.cell.Cell.{Cell}
 use Rattle.ipfix_elements.specs.declared.cell.Cell.TheVariants as cells
+use Rattle.flow_table.specs.declared.key.Key.{Key}
+use Rattle.flow_export.specs.CsvText.{key_text, prefix_text}
 use Rattle.flow_export.proofs.Finding.{find_all}
+use Rattle.json_laws.specs.RowObjects.{address_of}
 
 -- a text that stands between quotation marks as it is
 abbrev pub IsPlain : List ℕ → Type 0
 IsPlain s = escape s ≡ s
 
-abbrev AllPlain : List (List ℕ) → Type 0
+abbrev pub AllPlain : List (List ℕ) → Type 0
 AllPlain [] = Unit {0}
 AllPlain (s ∷ ss) = IsPlain s × AllPlain ss
 
@@ -77,7 +80,7 @@ digits_plain (suc k) n acc p =
       | inr f ↦ rw f (digits_plain k (n / 10) (digit_glyph false (n % 10) ∷ acc) here)
     ]
 
-decimal_plain : (n : ℕ) → IsPlain (decimal n)
+pub decimal_plain : (n : ℕ) → IsPlain (decimal n)
 unfolding digits
 decimal_plain n = digits_plain 64 n [] refl
 
@@ -189,6 +192,13 @@ value_plain kinds.Ipv4 octets all = if_some (eqb (length octets) 4) (cells.Ipv4 
 value_plain kinds.Ipv6 octets all = if_some (eqb (length octets) 16) (cells.Ipv6 octets) _ (marked kinds.Ipv6 octets all) (ipv6_plain octets all)
 value_plain kinds.Mac octets all = if_some (eqb (length octets) 6) (cells.Mac octets) _ (marked kinds.Mac octets all) (mac_plain octets all)
 
+pub cell_plain : (cell : Cell) → All is_octet (address_of cell) → IsPlain (cell_text cell)
+unfolding cell_text
+cell_plain (cells.Number n) all = decimal_plain n
+cell_plain (cells.Ipv4 a) all = ipv4_plain a
+cell_plain (cells.Ipv6 a) all = ipv6_plain a all
+cell_plain (cells.Mac a) all = mac_plain a all
+
 -- ---- names
 
 abbrev has_plain_name : Row → Bool
@@ -220,3 +230,30 @@ in_elements e r h = by (eqb e.pen 0) h
 
 pub name_plain : (e : ElementId) → IsPlain (name_text e)
 name_plain e = found_plain e (row_of e) (in_elements e)
+
+slash_stays : escape_byte 47 ≡ 47 ∷ []
+unfolding escape_byte
+slash_stays = refl
+
+prefix_plain : (o : Option ℕ) → IsPlain (prefix_text o)
+prefix_plain None = refl
+prefix_plain (Some bits) = IsPlain-cons 47 (decimal bits) slash_stays (decimal_plain bits)
+
+pub key_plain : (k : Key) → IsPlain (key_text k)
+key_plain k = IsPlain-append (name_text k.element) (prefix_text k.prefix) (name_plain k.element) (prefix_plain k.prefix)
+
+pub start_plain : IsPlain (codes "start")
+unfolding escape_byte
+start_plain = refl
+
+pub end_plain : IsPlain (codes "end")
+unfolding escape_byte
+end_plain = refl
+
+pub flows_plain : IsPlain (codes "flows")
+unfolding escape_byte
+flows_plain = refl
+
+pub AllPlain-append : (xs ys : List (List ℕ)) → AllPlain xs → AllPlain ys → AllPlain (xs ++ ys)
+AllPlain-append [] ys p q = q
+AllPlain-append (x ∷ xs) ys p q = (p.0, AllPlain-append xs ys p.1 q)
