@@ -1,7 +1,7 @@
 //! The plain program that the writers of an export are measured beside. It makes the same rows, in an ordered map as
 //! a table is made, and writes them to standard output out of one buffer. It proves nothing.
 //!
-//!     plain csv|ipfix|none source|five|prefix ROWS > TEXT
+//!     plain csv|json|ipfix|none source|five|prefix ROWS > TEXT
 //!
 //! prints to standard error the nanoseconds of writing, the rows, and its greatest resident size in kilobytes.
 
@@ -249,6 +249,37 @@ fn write_csv<W: Write>(plan: &Plan, rows: &[Row], out: &mut Buffer<W>) -> io::Re
     out.flush()
 }
 
+/// No number of a load is 2^53 or more.
+fn write_json<W: Write>(plan: &Plan, rows: &[Row], out: &mut Buffer<W>) -> io::Result<()> {
+    let names = heading(plan);
+    let labels: Vec<String> = names.trim_end().split(',').map(|name| format!(",\"{name}\":")).collect();
+    for row in rows {
+        out.reserve(LINE)?;
+        let begin = row.interval * LENGTH;
+        out.put(b"{\"start\":");
+        out.put_number(begin);
+        out.put(b",\"end\":");
+        out.put_number(begin + LENGTH - 1);
+        let mut labels = labels[2..].iter();
+        for (cell, label) in row.key.iter().zip(&mut labels) {
+            out.put(label.as_bytes());
+            if matches!(cell, Cell::Number(_)) {
+                put_cell(cell, out);
+            } else {
+                out.put_octet(b'"');
+                put_cell(cell, out);
+                out.put_octet(b'"');
+            }
+        }
+        for (number, label) in row.sums.iter().chain([&row.flows]).zip(labels) {
+            out.put(label.as_bytes());
+            out.put_number(*number);
+        }
+        out.put(b"}\n");
+    }
+    out.flush()
+}
+
 /// Begins a message of one set, whose length comes later, and answers where.
 fn begin_message<W: Write>(sequence: u32, set: u16, out: &mut Buffer<W>) -> usize {
     let start = out.end;
@@ -331,6 +362,7 @@ fn main() -> io::Result<()> {
     let mut out = Buffer { octets: Box::new([0; BUFFER]), end: 0, out: stdout };
     match words[0].as_str() {
         "csv" => write_csv(&plan, &rows, &mut out)?,
+        "json" => write_json(&plan, &rows, &mut out)?,
         "ipfix" => write_ipfix(&plan, &rows, &mut out)?,
         _ => (),
     }

@@ -1,28 +1,19 @@
 -- The text of a data record as an object of JSON (RFC 8259), as `dump --format json` writes it: one line a record.
-use Rattle.std.specs.Prelude.{ℕ, ◌^◌, Bool, true, false, nat_lt, List, [], ◌∷◌, ◌++◌, codes, if◌then◌else◌}
+use Rattle.std.specs.Prelude.{ℕ, Bool, true, false, List, [], ◌∷◌, ◌++◌, codes}
 use Rattle.std.specs.Option.{option_map_or}
 use Rattle.ipfix_elements.specs.Elements.{kind_of}
 use Rattle.ipfix_elements.specs.Names.{name_text}
 use Rattle.ipfix_elements.specs.Texts.{value_text}
 use Rattle.ipfix_elements.specs.Values.{cell_in}
 use Rattle.ipfix_elements.specs.declared.kind.Kind.{Kind}
-use Rattle.ipfix_elements.specs.declared.cell.Cell.{Cell}
-use Rattle.ipfix_elements.specs.declared.cell.Cell.TheVariants.{Number, Ipv4, Ipv6, Mac}
 use Rattle.ipfix_message.specs.Fields.{Field}
 use Rattle.ipfix_message.specs.declared.record.DataRecord.{DataRecord}
+use Rattle.flow_export.specs.JsonValues.{in_quotes, json_cell}
 use Rattle.collectd.specs.DumpLines.{labelled}
 
--- a number that every reader of JSON holds exactly (RFC 8259, section 6)
-abbrev pub is_small : Cell → Bool
-is_small (Number n) = nat_lt n (2 ^ 53)
-is_small (Ipv4 address) = false
-is_small (Ipv6 address) = false
-is_small (Mac address) = false
-
--- the value's text: such a number as it is, everything else between quotation marks
+-- the value's text: that of the cell which the octets are; between quotation marks if they are none
 abbrev pub json_value : Kind → List ℕ → List ℕ
-json_value kind octets =
-    if option_map_or is_small (cell_in kind octets) false then value_text kind octets else codes "\"" ++ (value_text kind octets ++ codes "\"")
+json_value kind octets = option_map_or json_cell (cell_in kind octets) (in_quotes (value_text kind octets))
 
 -- a field: its element's name, and its value by the element's kind
 unfoldable pub json_field : Field → List ℕ

@@ -9,9 +9,10 @@ use Rattle.flow_table.specs.Plans.{PlanValue}
 use Rattle.flow_table.specs.SameTables.{value_of}
 use Rattle.flow_table.specs.declared.table.Table.{Table}
 use Rattle.flow_export.specs.declared.format.Format.{Format}
-use Rattle.flow_export.specs.declared.format.Format.TheVariants.{Csv, Ipfix}
+use Rattle.flow_export.specs.declared.format.Format.TheVariants.{Csv, Json, Ipfix}
 use Rattle.flow_export.specs.CsvText.{csv_text}
 use Rattle.flow_export.specs.IpfixText.{ipfix_text}
+use Rattle.flow_export.specs.JsonText.{json_text}
 use Rattle.flow_collect.specs.Headline.{Headline, IsAddedUp}
 use Rattle.flow_collect.specs.Texts.{AreTexts, HasNoFault}
 use Rattle.flow_collect.specs.declared.collected.Collected.{Collected}
@@ -23,6 +24,7 @@ use Rattle.collectd.specs.declared.run_fault.RunFault.TheVariants.{Collect, Expo
 -- a table as it is written
 abbrev pub text_by : Format → ℕ → PlanValue → Table → List ℕ
 text_by Csv time plan table = csv_text plan (map value_of table.rows.items)
+text_by Json time plan table = json_text plan (map value_of table.rows.items)
 text_by Ipfix time plan table = ipfix_text plan time (map value_of table.rows.items)
 
 abbrev pub export_text : Output → PlanValue → Table → List ℕ

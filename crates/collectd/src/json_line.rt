@@ -1,20 +1,16 @@
 //! The object of a data record.
 
 ghost use Rattle.std.specs.Prelude.{◌≡◌, ◌++◌, false, OnOk};
-ghost use Rattle.std.specs.Option.{option_map_or};
-ghost use Rattle.ipfix_elements.specs.Values.{cell_in};
 ghost use Rattle.ipfix_message.specs.FieldViews.{field_of};
-ghost use Rattle.collectd.specs.JsonLines.{comma_if, is_small, json_field, json_fields, json_front, json_line, json_value};
+ghost use Rattle.collectd.specs.JsonLines.{comma_if, json_field, json_fields, json_front, json_line, json_value};
 
 use crate::line_octets::LineOctets;
 use crate::record_line::RecordLine;
 use crate::text::{append_labelled, append_name, append_value};
-use ipfix_elements::{Cell, Kind, kind_of, read_cell};
+use flow_export::append_json_cell;
+use ipfix_elements::{Kind, kind_of, read_cell};
 use ipfix_message::{DataRecord, FieldRef, Fields};
 use std::alloc::{AllocError, Global};
-
-/// Every reader of JSON holds the whole numbers below this exactly (RFC 8259, section 6).
-const EXACT_LIMIT: u64 = 1 << 53;
 
 /// Makes the lines of records as objects of JSON.
 #[derive(Drop)]
@@ -92,19 +88,12 @@ fn append_field(field: FieldRef, out: &mut LineOctets) -> Result<(), AllocError>
 fn append_json_value(kind: Kind, octets: &[u8], out: &mut LineOctets) -> Result<(), AllocError>
     ensures { OnOk result (out.new.octets.items ≡ out.old.octets.items ++ json_value kind octets.now) }
 {
-    if is_json_number(kind, octets) {
-        return append_value(kind, octets, out);
-    }
-    out.octets.extend_from_slice(b"\"")?;
-    append_value(kind, octets, out)?;
-    out.octets.extend_from_slice(b"\"")
-}
-
-fn is_json_number(kind: Kind, octets: &[u8]) -> bool
-    ensures { result ≡ option_map_or is_small (cell_in kind octets.now) false }
-{
     match read_cell(kind, octets) {
-        Some(Cell::Number(number)) => number < EXACT_LIMIT,
-        _ => false,
+        Some(cell) => append_json_cell(&cell, &mut out.octets),
+        None => {
+            out.octets.extend_from_slice(b"\"")?;
+            append_value(kind, octets, out)?;
+            out.octets.extend_from_slice(b"\"")
+        }
     }
 }

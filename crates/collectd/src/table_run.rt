@@ -12,7 +12,7 @@ use crate::reports::{write_collect_fault, write_export_fault, write_reports, wri
 use crate::run_fault::RunFault;
 use crate::status::Status;
 use flow_collect::{Collected, OpenGate, Pool, collect};
-use flow_export::{ExportFault, Format, write_csv, write_ipfix};
+use flow_export::{ExportFault, Format, write_csv, write_ipfix, write_json};
 use flow_table::{Plan, Table};
 use ipfix_session::{SessionReport, Source};
 use std::alloc::Global;
@@ -24,7 +24,7 @@ use std::thread::Threads;
 #[derive(Clone, Copy, Debug, PartialEq, Eq)]
 pub struct Output {
     pub format: Format,
-    /// The export time of messages of IPFIX, in seconds since 1970-01-01 UTC. CSV has none.
+    /// The export time of messages of IPFIX, in seconds since 1970-01-01 UTC. CSV and JSON have none.
     pub time: u32,
 }
 
@@ -103,6 +103,7 @@ pub fn export<W: Write>(
 {
     match output.format {
         Format::Csv => write_csv(alloc, plan, table, out)?,
+        Format::Json => write_json(alloc, plan, table, out)?,
         Format::Ipfix => write_ipfix(alloc, plan, table, output.time, out)?,
     }
     out.flush()?;

@@ -109,6 +109,7 @@ fn read_job(rt: &HostRuntime, chosen: &ArgMatches) -> Option<Job> {
     let time = chosen.get_one::<u32>("time")?;
     let format = match chosen.get_str("format")? {
         "ipfix" => Format::Ipfix,
+        "json" => Format::Json,
         _ => Format::Csv,
     };
     Some(Job {

@@ -8,7 +8,7 @@ const VERSION: &str = "0.1.0";
 
 static DUMP_FORMATS: [&str; 2] = ["text", "json"];
 
-static FORMATS: [&str; 2] = ["csv", "ipfix"];
+static FORMATS: [&str; 3] = ["csv", "ipfix", "json"];
 
 /// What the words of a command line say, or the text that the parser has for them.
 pub fn matches_of<'a>(alloc: Global, words: &'a [String]) -> Result<ArgMatches<'a>, Error> {

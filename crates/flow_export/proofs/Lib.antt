@@ -11,4 +11,5 @@ pub mod Lengths
 pub mod TemplateParts
 pub mod MessageParts
 pub mod Lines
+pub mod ObjectParts
 pub mod Places

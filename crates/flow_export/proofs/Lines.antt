@@ -12,11 +12,11 @@ use Rattle.ipfix_elements.specs.declared.cell.Cell.{Cell}
 use Rattle.flow_export.specs.CsvText.{first_of, last_of, row_line}
 use Rattle.flow_export.specs.Written.{next_cell, next_number}
 
-abbrev next : List ℕ → List ℕ
+abbrev pub next : List ℕ → List ℕ
 next t = 44 ∷ t
 
 -- the first field, and then each behind a comma
-behind_commas : (f : List ℕ) (fs : List (List ℕ)) → join_with_byte 44 (f ∷ fs) ≡ f ++ flat_map next fs
+pub behind_commas : (f : List ℕ) (fs : List (List ℕ)) → join_with_byte 44 (f ∷ fs) ≡ f ++ flat_map next fs
 behind_commas f [] = sym (append-nil f)
 behind_commas f (g ∷ gs) = ap (λ (t : List ℕ). f ++ (44 ∷ t)) (behind_commas g gs)
 
@@ -46,7 +46,7 @@ row_parts plan row =
     ∙ ap (λ (t : List ℕ). first ++ (second ++ t)) (append_assoc cells (sums ++ next_number row.flows) (10 ∷ []))
     ∙ ap (λ (t : List ℕ). first ++ (second ++ (cells ++ t))) (append_assoc sums (next_number row.flows) (10 ∷ []))
 
-six_parts : (o p q r s t u a b c d e f : List ℕ) → p ≡ o ++ a → q ≡ p ++ b → r ≡ q ++ c → s ≡ r ++ d → t ≡ s ++ e → u ≡ t ++ f → u ≡ o ++ (a ++ (b ++ (c ++ (d ++ (e ++ f)))))
+pub six_parts : (o p q r s t u a b c d e f : List ℕ) → p ≡ o ++ a → q ≡ p ++ b → r ≡ q ++ c → s ≡ r ++ d → t ≡ s ++ e → u ≡ t ++ f → u ≡ o ++ (a ++ (b ++ (c ++ (d ++ (e ++ f)))))
 six_parts o p q r s t u a b c d e f is_p is_q is_r is_s is_t is_u = rw (is_u, is_t, is_s, is_r, is_q, is_p) (simp append_assoc)
 
 -- a line whose fields were appended one after another

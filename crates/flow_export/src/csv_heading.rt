@@ -55,7 +55,7 @@ fn push_names(
 }
 
 /// A key by its element's name, and its prefix if it has one.
-fn append_key(key: Key, text: &mut Vec<u8>) -> Result<(), AllocError>
+pub fn append_key(key: Key, text: &mut Vec<u8>) -> Result<(), AllocError>
     ensures { OnOk result (text.new.items ≡ text.old.items ++ key_text key) }
 {
     append_name(key.element, text)?;
@@ -66,7 +66,8 @@ fn append_key(key: Key, text: &mut Vec<u8>) -> Result<(), AllocError>
     Ok(())
 }
 
-fn append_name(element: ElementId, text: &mut Vec<u8>) -> Result<(), AllocError>
+/// An element by its name.
+pub fn append_name(element: ElementId, text: &mut Vec<u8>) -> Result<(), AllocError>
     ensures { OnOk result (text.new.items ≡ text.old.items ++ name_text element) }
 {
     // A vector fails only if memory runs out.

@@ -1,27 +1,32 @@
 //! Rows as lines of CSV. No text of a row needs quotes (`nothing_is_quoted`), so a line is its fields, with commas
 //! between them.
 
-ghost use Rattle.std.specs.Prelude.{◌≡◌, ◌++◌, ◌∷◌, ◌*◌, ◌<◌, ◌^◌, All, OnOk, flat_map};
+ghost use Rattle.std.specs.Prelude.{◌≡◌, ◌++◌, ◌*◌, ◌<◌, ◌^◌, OnOk, flat_map};
 ghost use Rattle.std.specs.Fmt.{decimal};
-ghost use Rattle.flow_table.specs.Fitting.{FitsRow};
 ghost use Rattle.flow_table.specs.SameTables.{value_of};
 ghost use Rattle.flow_export.specs.CsvText.{row_line};
-ghost use Rattle.flow_export.specs.Written.{next_cell, next_number, written_rows};
+ghost use Rattle.flow_export.specs.Written.{next_cell, next_number, written_row};
 
+use crate::row_lines::RowLines;
 use flow_table::{Plan, Row};
 use ipfix_elements::{Cell, write_cell};
 use itoa::Buffer;
 use std::alloc::AllocError;
 
-/// Appends the lines of rows.
-pub fn append_lines(plan: &Plan, rows: &[Row], out: &mut Vec<u8>) -> Result<(), AllocError>
-    requires { All (FitsRow plan.now) rows.now }
-    ensures { OnOk result (out.new.items ≡ out.old.items ++ written_rows plan.now rows.now) }
-{
-    for row in rows {
-        append_line(plan, row, out)?;
+/// Makes lines of CSV, for any plan.
+pub struct CsvLines;
+
+impl RowLines for CsvLines {
+    ghost is_for = { λ _ _. Unit {0} };
+
+    ghost line_of = { written_row };
+
+    fn append(&self, plan: &Plan, rows: &[Row], out: &mut Vec<u8>) -> Result<(), AllocError> {
+        for row in rows {
+            append_line(plan, row, out)?;
+        }
+        Ok(())
     }
-    Ok(())
 }
 
 /// Appends the line of a row: its interval, its key, its sums and the number of its flows.

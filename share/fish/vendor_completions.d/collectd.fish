@@ -17,7 +17,7 @@ complete -c collectd -n '__fish_seen_subcommand_from files merge' -F
 complete -c collectd -n '__fish_seen_subcommand_from files tcp merge' -l plan -r -F -d 'The plan of the aggregation'
 complete -c collectd -n '__fish_seen_subcommand_from files tcp' -l workers -x -d 'Threads that aggregate, 1 to 16'
 complete -c collectd -n '__fish_seen_subcommand_from files tcp' -l ring -x -d 'Records that may wait for a worker'
-complete -c collectd -n '__fish_seen_subcommand_from files tcp merge' -l format -x -a 'csv ipfix' -d 'How the table is written'
+complete -c collectd -n '__fish_seen_subcommand_from files tcp merge' -l format -x -a 'csv ipfix json' -d 'How the table is written'
 complete -c collectd -n '__fish_seen_subcommand_from files tcp merge' -l time -x -d 'The export time of messages of IPFIX'
 complete -c collectd -n '__fish_seen_subcommand_from files tcp' -l progress -d 'Tell what each session has read'
 complete -c collectd -n '__fish_seen_subcommand_from tcp' -l listen -x -d 'The address and port to listen on'

@@ -2,7 +2,7 @@
 //! turn.
 
 use super::tables::{TIME, by_source, table_of_flows};
-use flow_export::{ExportFault, ipfix_bytes, write_csv, write_ipfix};
+use flow_export::{ExportFault, ipfix_bytes, write_csv, write_ipfix, write_json};
 use flow_table::Method;
 use std::io::{self, ErrorKind, Write};
 use std::process::Abort;
@@ -11,6 +11,10 @@ use std::test::*;
 const CSV: &[u8] = b"start,end,sourceIPv4Address,octetDeltaCount,flows
 0,59999,192.0.2.1,1500,1
 ";
+
+const JSON: &[u8] =
+    br#"{"start":0,"end":59999,"sourceIPv4Address":"192.0.2.1","octetDeltaCount":1500,"flows":1}
+"#;
 
 // The template, and a row.
 const IPFIX: &[u8] = &[
@@ -63,6 +67,10 @@ fn exports_with_refused_memory(rt: HostRuntime) -> Result<(), Fail> {
     let fault = write_csv(alloc, &plan, &table, &mut out).err();
     let word = judged(&rt, fault, out.rest.is_empty());
     let _ = eprintln!(rt; "write_csv: {word}");
+    let mut out = Expecting { rest: JSON };
+    let fault = write_json(alloc, &plan, &table, &mut out).err();
+    let word = judged(&rt, fault, out.rest.is_empty());
+    let _ = eprintln!(rt; "write_json: {word}");
     let mut out = Expecting { rest: IPFIX };
     let fault = write_ipfix(alloc, &plan, &table, TIME, &mut out).err();
     let word = judged(&rt, fault, out.rest.is_empty());

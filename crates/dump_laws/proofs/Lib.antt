@@ -1,2 +1,0 @@
-mod Plain
-mod Objects

@@ -1,0 +1,28 @@
+-- A table as lines of JSON: an object (RFC 8259, section 4) for each row.
+use Rattle.std.specs.Prelude.{ℕ, List, [], ◌∷◌, ◌++◌, map, flat_map, codes}
+use Rattle.std.specs.List.{join_with_byte, zip}
+use Rattle.flow_table.specs.Plans.{PlanValue}
+use Rattle.flow_table.specs.SameTables.{RowValue}
+use Rattle.flow_export.specs.CsvText.{comma, first_of, heading, last_of}
+use Rattle.flow_export.specs.JsonValues.{in_quotes, json_cell, json_number}
+
+-- the values of a row, in the order of the heading: its interval, its key, its sums and the number of its flows
+abbrev pub row_values : PlanValue → RowValue → List (List ℕ)
+row_values plan row =
+    json_number (first_of plan row) ∷ json_number (last_of plan row) ∷ (map json_cell row.key ++ (map json_number row.sums ++ json_number row.flows ∷ []))
+
+-- a name and its value
+abbrev pub member : List ℕ × List ℕ → List ℕ
+member pair = in_quotes pair.0 ++ (codes ":" ++ pair.1)
+
+-- members with commas between them, and the end of the line
+abbrev pub object_line : List (List ℕ × List ℕ) → List ℕ
+object_line pairs = codes "{" ++ (join_with_byte comma (map member pairs) ++ codes "}\n")
+
+-- each name of the heading with the row's value
+abbrev pub row_object : PlanValue → RowValue → List ℕ
+row_object plan row = object_line (zip (heading plan) (row_values plan row))
+
+-- a line for each row
+abbrev pub json_text : PlanValue → List RowValue → List ℕ
+json_text plan rows = flat_map (row_object plan) rows

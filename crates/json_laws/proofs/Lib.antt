@@ -1,0 +1,3 @@
+mod Plain
+mod Objects
+mod RowObjects
