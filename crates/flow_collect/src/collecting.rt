@@ -90,6 +90,6 @@ fn collect_judged<S: Source + Send + Drop, G: Gate + Sync, R: Threads + Wait + S
 {
     let dealt = deal(alloc, sources, plan, pool)?;
     let joined = in_threads(rt, alloc, gate, dealt)?;
-    let answer = finish_all(alloc, joined)?;
+    let answer = finish_all(rt, alloc, joined)?;
     Ok(answer)
 }
