@@ -1,8 +1,9 @@
 -- Settled links and merged tables, one more.
-use Rattle.std.proofs.Common.{◌≡◌, ℕ, List, [], ◌∷◌, ◌++◌, refl, ap, sym, ◌∙◌, append_assoc, append-nil, length, map, arith}
+use Rattle.std.proofs.Common.{◌≡◌, ℕ, List, [], ◌∷◌, ◌++◌, refl, ap, sym, ◌∙◌, append_assoc, append-nil, length, map, take, drop, arith}
 use Rattle.std.specs.Prelude.{Some, slice_get, All, sum_by, IsPermutation}
-use Rattle.std.proofs.lemmas.List.{map_push}
-use Rattle.std.proofs.lemmas.List.Elements.{All-head, All-tail, All-append, All-nil}
+use Rattle.std.proofs.lemmas.Grind.{flat_map-append}
+use Rattle.std.proofs.lemmas.List.{map_push, take-append-drop}
+use Rattle.std.proofs.lemmas.List.Elements.{All-head, All-tail, All-append, All-nil, All-take}
 use Rattle.std.proofs.lemmas.List.Sorted.{sum_by-IsPermutation}
 use Rattle.std.proofs.lemmas.List.Sums.{sum_by-append, sum_by-cons}
 use Rattle.ipfix_message.specs.declared.record.DataRecord.{DataRecord}
@@ -10,11 +11,11 @@ use Rattle.ipfix_session.specs.declared.report.SessionReport.{SessionReport}
 use Rattle.flow_link.specs.Parcels.{records_in}
 use Rattle.flow_link.specs.Settling.{settled_received}
 use Rattle.flow_link.specs.declared.settled.Settled.{Settled}
-use Rattle.flow_table.specs.Partials.{StandsFor}
+use Rattle.flow_table.specs.Partials.{StandsFor, plan_of}
 use Rattle.flow_table.specs.Plans.{PlanValue}
 use Rattle.flow_table.specs.declared.partial.Partial.{Partial}
 use Rattle.flow_collect.specs.Dealt.{IsPaired}
-use Rattle.flow_collect.specs.Finished.{HasTaken, lanes_of, ended_link, SettlesEnds, SettledAll, SettlesOne, CameOver}
+use Rattle.flow_collect.specs.Finished.{HasTaken, IsMerged, lanes_of, ended_link, SettlesEnds, SettledAll, SettlesOne, CameOver}
 use Rattle.flow_collect.specs.Lanes.{StandsForLanes, IsEnded, lane_weight}
 use Rattle.flow_collect.specs.Places.{Each3}
 use Rattle.flow_collect.specs.Promises.{settled_records}
@@ -55,6 +56,18 @@ stands_joined p q r xs ys merged a b =
       records = a.records ++ b.records;
       stands = merged a.records b.records a.stands b.stands;
       weighs = λ w. let s = sum_by-append w a.records b.records in let l = sum_by-append (lane_weight w) xs ys in omega (arith, a.weighs w, b.weighs w);
+    }
+
+-- what came of merging each half by itself and then both
+pub merged_halves : (ws low high : List Worked) (n : ℕ) (first second all : Worked) → low ≡ take n ws → high ≡ drop n ws → IsMerged low first → IsMerged high second
+    → all.lanes.items ≡ first.lanes.items ++ second.lanes.items → plan_of all.partial ≡ plan_of first.partial
+    → ((rs qs : List DataRecord) → StandsFor first.partial rs → StandsFor second.partial qs → StandsFor all.partial (rs ++ qs)) → IsMerged ws all
+merged_halves ws low high n first second all front back a b lanes plan merges =
+    let whole : low ++ high ≡ ws = rw (front, back) (take-append-drop n ws) in
+    record {
+      lanes_are = lanes ∙ rw (a.lanes_are, b.lanes_are) (sym (flat_map-append (λ (w : Worked). w.lanes.items) low high) ∙ ap lanes_of whole);
+      table = rw lanes (stands_joined _ _ _ _ _ merges a.table b.table);
+      plan_is = λ p taken. plan ∙ a.plan_is p (rw front (All-take (HasTaken p) n ws taken));
     }
 
 -- the lanes weigh what the settled links weigh

@@ -28,6 +28,12 @@ pub record HasTaken (plan : PlanValue) (w : Worked) : Type 0 where
 abbrev pub lanes_of : List Worked → List Lane
 lanes_of ws = flat_map (λ (w : Worked). w.lanes.items) ws
 
+-- as if one worker had taken all that these took
+pub record IsMerged (ws : List Worked) (all : Worked) : Type 0 where
+  pub lanes_are : all.lanes.items ≡ lanes_of ws
+  pub table : StandsForLanes all.partial all.lanes.items
+  pub plan_is : (plan : PlanValue) → All (HasTaken plan) ws → plan_of all.partial ≡ plan
+
 module _ {S : Type 0} where
   abbrev pub ended_link : EndedSession S → LinkName
   ended_link t = t.sender.link

@@ -24,7 +24,9 @@ use std::thread::Threads;
 /// the workers. Session i, counted from 0, sends over a link of its own to worker `i mod workers`.
 ///
 /// It reads a source at most [`READ_LIMIT`](crate::READ_LIMIT) times. A session's own fault stands in its
-/// report, also if memory ran out in the session. Each thread has ended when it returns.
+/// report, also if memory ran out in the session. The tables of four and more workers are merged by
+/// halves, side by side in threads; a half for which no thread can be had is merged on this one. Each
+/// thread has ended when it returns.
 ///
 /// The fault is the first of `Workers`, `Sessions` and `Link` that the arguments have, and then nothing
 /// was read; else `NoThread` before `OutOfMemory`, and this before `SumTooLarge`. A fault drops the
@@ -90,6 +92,6 @@ fn collect_judged<S: Source + Send + Drop, G: Gate + Sync, R: Threads + Wait + S
 {
     let dealt = deal(alloc, sources, plan, pool)?;
     let joined = in_threads(rt, alloc, gate, dealt)?;
-    let answer = finish_all(alloc, joined)?;
+    let answer = finish_all(rt, alloc, joined)?;
     Ok(answer)
 }

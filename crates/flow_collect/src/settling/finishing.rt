@@ -15,9 +15,11 @@ use crate::worker::Worked;
 use flow_table::TableFault;
 use std::alloc::Global;
 use std::collections::VecDeque;
+use std::thread::Threads;
 
 /// Settles the links and merges the tables. `None` if a sum is too large.
-pub fn finish_all<S: Drop>(
+pub fn finish_all<S: Drop, R: Threads + Sync>(
+    rt: &R,
     alloc: Global,
     joined: Joined<S>,
 ) -> Result<Option<Collected<S>>, RunFault>
@@ -27,7 +29,7 @@ pub fn finish_all<S: Drop>(
         → IfOk result (λ answer. MatchOption answer (IsOverfull plan joined.sessions.items) (λ c. FinishedAs plan joined.sessions.items c)) }
 {
     let Joined { sessions, worked } = joined;
-    let all = gather(worked)?;
+    let all = gather(rt, worked)?;
     let Worked { lanes, partial } = all;
     let parts = settle_all(alloc, sessions, VecDeque::from_vec(lanes))?;
     let table = match partial.finish() {

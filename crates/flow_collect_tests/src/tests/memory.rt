@@ -66,7 +66,7 @@ fn collect_with_refused_memory(rt: HostRuntime) {
         return;
     };
     let pool = Pool {
-        workers: 2,
+        workers: 4,
         capacity: 1,
     };
     let word = match collect(&rt, rt.alloc(), sources, &plan, pool, &OpenGate) {

@@ -74,7 +74,7 @@ fn examples(rt: HostRuntime) -> Result<(), Fail> {
 #[test]
 fn sum_too_large(rt: HostRuntime) -> Result<(), Fail> {
     let alloc: Global = rt.alloc();
-    for workers in [1, 2] {
+    for workers in [1, 2, 4] {
         let sources = sources_of(alloc, SUM_TOO_LARGE)?;
         let fault = collected(&rt, alloc, sources, workers, 1)?.err();
         assert_eq!(rt; fault, Some(CollectFault::SumTooLarge));

@@ -18,10 +18,10 @@ in_threads-requires-clause-lots g c κs within =
     All-weaker (IsNewLot c.args.plan.now (map start_link c.in_ok-dealt.dealt.starts.items)) IsUnused (λ lot new. new.unused) _ c.in_ok-dealt.ensures.new_lots
 
 pub finish_all-requires-clause-taken : goal.finish_all-requires-clause-taken
-finish_all-requires-clause-taken g c = (c.args.plan.now, all_taken _ _ _ _ c.in_ok-joined.ensures.workers c.in_ok-dealt.ensures.new_lots)
+finish_all-requires-clause-taken g c κs within = (c.args.plan.now, all_taken _ _ _ _ c.in_ok-joined.ensures.workers c.in_ok-dealt.ensures.new_lots)
 
 pub finish_all-requires-clause-paired : goal.finish_all-requires-clause-paired
-finish_all-requires-clause-paired g c =
+finish_all-requires-clause-paired g c κs within =
     subst (λ (links : List LinkName). All (IsPaired links) (lanes_of c.in_ok-joined.joined.worked.items))
     (sym (links_same g.S.Source.seen _ _ c.in_ok-joined.ensures.sessions))
     (all_paired _ _ _ _ c.in_ok-joined.ensures.workers c.in_ok-dealt.ensures.new_lots)

@@ -6,7 +6,7 @@ use Rattle.flow_table.specs.Plans.{PlanValue}
 use Rattle.flow_collect.specs.Finished.{HasTaken}
 use Rattle.flow_collect.proofs.ZipLists.{split_on}
 use Rattle.flow_collect.proofs.SettleLists.{lanes_of_push, stands_joined}
-use Rattle.flow_collect.proofs.settling.gathering.merge_all.Goals as goal
+use Rattle.flow_collect.proofs.settling.gathering.merge_in_turn.Goals as goal
 
 pub loop-other-init : goal.loop-other-init
 loop-other-init c =

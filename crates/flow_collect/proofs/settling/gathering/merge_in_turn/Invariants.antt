@@ -5,7 +5,7 @@ use Rattle.flow_table.specs.Partials.{plan_of}
 use Rattle.flow_collect.specs.Finished.{HasTaken, lanes_of}
 use Rattle.flow_collect.specs.Lanes.{StandsForLanes}
 use Rattle.flow_collect.specs.declared.worker.Worked.{Worked}
-use Rattle.flow_collect.proofs.settling.gathering.merge_all.Given as goal
+use Rattle.flow_collect.proofs.settling.gathering.merge_in_turn.Given as goal
 
 abbrev pub invariant-loop-other : goal.invariant-loop-other
 invariant-loop-other l =
