@@ -1,6 +1,6 @@
 -- A text without a slash.
 use Rattle.std.proofs.Common.{◌≡◌, ℕ, ◌<◌, false, List, length, get_or, Option, Some, None, sym}
-use Rattle.std.specs.Prelude.{◌≢◌, ◌==◌}
+use Rattle.std.specs.Prelude.{◌≢◌}
 use denote.Bor.{Bor}
 use Rattle.std.specs.List.{list_any}
 use Rattle.std.specs.Option.{MatchOption}

@@ -1,5 +1,5 @@
 -- The plan that a TOML document says.
-use Rattle.std.specs.Prelude.{ℕ, ◌^◌, ◌==◌, ◌&&◌, nat_lt, Bool, true, List, [], ◌∷◌, codes, pos, Option, Some, None, option_map, option_and_then, if◌then◌else◌, Result, Ok, Err, decimal}
+use Rattle.std.specs.Prelude.{ℕ, ◌^◌, ◌==◌, ◌&&◌, nat_lt, Bool, true, List, [], ◌∷◌, codes, pos, Option, Some, None, option_map, option_and_then, if◌then◌else◌, Ok, Err, decimal}
 use Rattle.std.specs.Option.{ok_or}
 use Rattle.std.specs.List.{list_any, before_first, after_first}
 use Rattle.std.specs.Str.{bytes_eq}
@@ -13,7 +13,6 @@ use Rattle.flow_table.specs.declared.method.Method.{Method}
 use Rattle.flow_table.specs.declared.method.Method.TheVariants.{Start, End, Mid, Uniform, Proportional}
 use Rattle.flow_table.specs.declared.plan_fault.PlanFault.{PlanFault}
 use Rattle.flow_table.specs.Plans.{PlanValue, plan_of, first_fault_of}
-use Rattle.plan_file.specs.declared.fault.PlanTextFault.{PlanTextFault}
 use Rattle.plan_file.specs.declared.fault.PlanTextFault.TheVariants as faults
 use Rattle.plan_file.specs.Faults.{Read, ◌>>=◌}
 

@@ -1,14 +1,13 @@
-use Rattle.std.proofs.Common.{◌≡◌, ◌+◌, List, [], ◌∷◌, ◌++◌, get_or, take, drop, length, length-append, Some, None, option_map, sym, ap, subst, ◌∙◌, arith}
+use Rattle.std.proofs.Common.{◌≡◌, ◌+◌, [], ◌∷◌, ◌++◌, get_or, length, length-append, Some, None, subst}
 use Rattle.std.proofs.lemmas.Slice.Zip.{zip_turn}
 use Rattle.std.specs.Slice.Iter.{iter_rest}
 use Rattle.std.specs.Iterator.Adapters.{zip_first, zip_second}
-use Rattle.ipfix_elements.specs.declared.cell.Cell.{Cell}
 use Rattle.ipfix_elements.specs.declared.kind.Kind.{Kind}
 use Rattle.ipfix_elements.specs.declared.kind.Kind.TheVariants.{Unsigned}
 use Rattle.ipfix_elements.specs.declared.kind.Width.TheVariants.{One}
 use Rattle.flow_table.specs.declared.key.Key.{Key}
-use Rattle.flow_table.specs.Fitting.{FitsKeys, IsCellOf}
-use Rattle.flow_table.specs.Reading.{cell_of, cells_of}
+use Rattle.flow_table.specs.Fitting.{IsCellOf}
+use Rattle.flow_table.specs.Reading.{cell_of}
 use Rattle.flow_table.proofs.KeyCells.{more_fit, cells_more}
 use Rattle.flow_table.proofs.reading.read_key.Goals as goal
 

@@ -1,4 +1,4 @@
-use Rattle.std.proofs.Common.{◌≡◌, map, take, Some}
+use Rattle.std.proofs.Common.{◌≡◌, take, Some}
 use Rattle.toml.specs.View.{items_view}
 use Rattle.plan_file.specs.PlanTexts.{texts_in}
 use Rattle.plan_file.specs.Shown.{texts_of}

@@ -1,4 +1,4 @@
-use Rattle.std.proofs.Common.{Some, None, ap, sym, cond, option_map, ◌∙◌, arith}
+use Rattle.std.proofs.Common.{ap, sym, option_map, ◌∙◌, arith}
 use Rattle.std.proofs.lemmas.Str.Pattern.{split_parts}
 use Rattle.plan_file.specs.PlanTexts.{whole_key}
 use Rattle.plan_file.proofs.Slashes.{no_slash}
