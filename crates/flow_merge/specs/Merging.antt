@@ -101,8 +101,8 @@ pub record FirstOther (plan : PlanValue) (before : List RowValue) (rs : List Dat
   pub other : IsRowFault plan next fault
   pub not_memory : fault ≢ faults.OutOfMemory
 
--- the first thing that whole messages say against their being added to rows; nothing does if memory runs out while an export's
--- are added
+-- why whole messages were not added to the rows before them, and what of them was in order: memory may run out while the records
+-- of an export are added, and the other faults say what is wrong with it
 abbrev pub IsAgainst : PlanValue → List RowValue → List ℕ → MergeFault → Type 0
 IsAgainst plan before gave NotAnExport = AreOfExport (gives gave).messages → ⊥
 IsAgainst plan before gave Lost = AreOfExport (gives gave).messages × (NoneLost (gives gave).messages → ⊥)
