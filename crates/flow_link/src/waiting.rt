@@ -1,5 +1,9 @@
 //! Waiting for the other end of a link.
 
+ghost use Rattle.std.specs.Prelude.{◌≡◌, ◌*◌, ◌≤◌};
+ghost use Rattle.std.specs.Duration.{as_nanos};
+ghost use Rattle.flow_link.specs.declared.waiting.TheConstants.{LONGEST_NAP, SHORTEST_NAP};
+
 use std::hint::spin_loop;
 use std::sync::Wait;
 use std::thread::Parker;
@@ -24,6 +28,8 @@ pub struct Patience {
     tries: u32,
     moved: u64,
     nap: u32,
+    ghost not_too_short: { SHORTEST_NAP ≤ nap },
+    ghost not_too_long: { nap ≤ LONGEST_NAP },
 }
 
 impl Patience {
@@ -53,11 +59,14 @@ impl Patience {
         self.nap = self.next_nap();
         self.moved = 0;
         // (a thread that only gave way would be put off for a whole slice of time by busy ones)
-        Parker::new().park_timeout(rt, Duration::from_micros(u64::from(self.nap)));
+        Parker::new().park_timeout(rt, in_micros(self.nap));
     }
 
-    // How long to sleep now.
-    fn next_nap(&self) -> u32 {
+    // How long to sleep now, in microseconds.
+    fn next_nap(&self) -> u32
+        ensures shortest { SHORTEST_NAP ≤ result }
+        ensures longest { result ≤ LONGEST_NAP }
+    {
         if self.moved <= self.capacity / 2 {
             self.nap.saturating_mul(2).min(LONGEST_NAP)
         } else if self.moved >= self.capacity {
@@ -66,4 +75,11 @@ impl Patience {
             self.nap
         }
     }
+}
+
+// A sleep of so many microseconds.
+fn in_micros(nap: u32) -> Duration
+    ensures { as_nanos result ≡ 1000 * nap }
+{
+    Duration::from_micros(u64::from(nap))
 }
