@@ -53,8 +53,8 @@ module _ {S : Type 0} (seen : S → SourceView) (plan : PlanValue) where
         one_each = let both = length-append so_far.sources (file.before ∷ []) in omega (arith, both, so_far.one_each);
         unread = All-append (IsUnread seen) so_far.sources (file.before ∷ []) so_far.unread (All-cons (IsUnread seen) file.before [] file.unread (All-nil (IsUnread seen)));
         exports = so_far.exports ++ one.more ∷ [];
-        given = zip_more (λ source rows. (left : S) × GivesExport READ_LIMIT plan (seen source) (seen left) rows) so_far.sources so_far.exports file.before one.more so_far.given
-            (file.after, subst (λ (p : PlanValue). GivesExport READ_LIMIT p (seen file.before) (seen file.after) one.more) so_far.same_plan one.gives_export);
+        given = zip_more (λ source rows. (left : S) × GivesExport seen READ_LIMIT plan source left rows) so_far.sources so_far.exports file.before one.more so_far.given
+            (file.after, subst (λ (p : PlanValue). GivesExport seen READ_LIMIT p file.before file.after one.more) so_far.same_plan one.gives_export);
         stands = subst (StandsFor new) (sym (all_rows-more so_far.exports one.more)) one.stands;
       }
 
@@ -64,5 +64,5 @@ module _ {S : Type 0} (seen : S → SourceView) (plan : PlanValue) where
   all_read count m (Err status) so_far added = tt
 
 pub adds_file : {S : Type 0} (seen : S → SourceView) (old new : Merging) (before after : S) → IsUnread seen before → plan_of new ≡ plan_of old
-    → ((rows : List RowValue) → StandsFor old rows → AddsExport READ_LIMIT old (seen before) (seen after) rows new) → AddsFile seen old new
+    → ((rows : List RowValue) → StandsFor old rows → AddsExport seen READ_LIMIT old before after rows new) → AddsFile seen old new
 adds_file seen old new before after unread same adds = record { before = before; after = after; unread = unread; same_plan = same; adds = adds }

@@ -23,9 +23,9 @@ module _ {K N : Type 0} (line_of : DataRecord → List ℕ) (name : K → N) (co
 
 -- ---- a dump without a fault
 
-pub dumps_all : (line_of : DataRecord → List ℕ) (before after : SourceView) (old new : Option (List ℕ)) (r : SessionReport) → (after.ended ≡ true → ForSome after.text (λ xs. xs ≡ [])) → DumpsBy line_of before after old new r → r.fault ≡ None
-    → (held : Option (List ℕ)) → before.text ≡ held → DumpsAllBy line_of held old new
-dumps_all line_of before after old new r at_end d none None is = tt
-dumps_all line_of before after old new r at_end d none (Some whole) is =
-    let all = given_all_of _ _ before after r d.records whole at_end d.given none is in
+pub dumps_all : {S : Type 0} (seen : S → SourceView) (line_of : DataRecord → List ℕ) (before after : S) (old new : Option (List ℕ)) (r : SessionReport) → ((seen after).ended ≡ true → ForSome (seen after).text (λ xs. xs ≡ []))
+    → DumpsBy line_of seen before after old new r → r.fault ≡ None → (held : Option (List ℕ)) → (seen before).text ≡ held → DumpsAllBy line_of held old new
+dumps_all seen line_of before after old new r at_end d none None is = tt
+dumps_all seen line_of before after old new r at_end d none (Some whole) is =
+    let all = given_all_of seen _ _ before after r d.records whole at_end d.given none is in
     (all.0, subst (λ (rs : List DataRecord). Appends old new (flat_map line_of rs)) all.1 d.written)

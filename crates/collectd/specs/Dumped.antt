@@ -16,9 +16,9 @@ use Rattle.collectd.specs.JsonLines.{json_line}
 -- with the line of a record
 module _ (line_of : DataRecord → List ℕ) where
   -- a source gave octets that have these records, as the report tells, and their lines were written
-  pub record DumpsBy (before after : SourceView) (old new : Option (List ℕ)) (report : SessionReport) : Type 0 where
+  pub record DumpsBy {S : Type 0} (seen : S → SourceView) (before after : S) (old new : Option (List ℕ)) (report : SessionReport) : Type 0 where
     pub records : List DataRecord
-    pub given : IsGiven READ_LIMIT READ_SIZE before after report records
+    pub given : IsGiven seen READ_LIMIT READ_SIZE before after report records
     pub written : Appends old new (flat_map line_of records)
 
   -- if a source tells its octets, the lines of all of them were written, and no fault was met
@@ -27,14 +27,14 @@ module _ (line_of : DataRecord → List ℕ) where
   DumpsAllBy (Some whole) old new = (stop_of whole ≡ Clean) × Appends old new (flat_map line_of (records_of whole))
 
 -- by lines of text
-abbrev pub Dumps : SourceView → SourceView → Option (List ℕ) → Option (List ℕ) → SessionReport → Type 0
+abbrev pub Dumps : {S : Type 0} → (S → SourceView) → S → S → Option (List ℕ) → Option (List ℕ) → SessionReport → Type 0
 Dumps = DumpsBy dump_line
 
 abbrev pub DumpsAll : Option (List ℕ) → Option (List ℕ) → Option (List ℕ) → Type 0
 DumpsAll = DumpsAllBy dump_line
 
 -- by lines of JSON
-abbrev pub DumpsJson : SourceView → SourceView → Option (List ℕ) → Option (List ℕ) → SessionReport → Type 0
+abbrev pub DumpsJson : {S : Type 0} → (S → SourceView) → S → S → Option (List ℕ) → Option (List ℕ) → SessionReport → Type 0
 DumpsJson = DumpsBy json_line
 
 abbrev pub DumpsAllJson : Option (List ℕ) → Option (List ℕ) → Option (List ℕ) → Type 0

@@ -34,7 +34,7 @@ module _ {S : Type 0} (seen : S → SourceView) where
     pub after : S
     pub unread : IsUnread seen before
     pub same_plan : plan_of new ≡ plan_of old
-    pub adds : (rows : List RowValue) → StandsFor old rows → AddsExport READ_LIMIT old (seen before) (seen after) rows new
+    pub adds : (rows : List RowValue) → StandsFor old rows → AddsExport seen READ_LIMIT old before after rows new
 
 -- the status if a file can't be opened or merged
 abbrev pub IsNotMerged : Status → Type 0

@@ -26,7 +26,7 @@ pub fn dump<S: Source, W: Write>(
     source: &mut S,
     out: &mut W,
 ) -> Result<SessionReport, DumpFault>
-    ensures { IfOk result (λ report. Dumps (S.seen source.old) (S.seen source.new) (W.contents out.old) (W.contents out.new) report) }
+    ensures { IfOk result (λ report. Dumps S.seen source.old source.new (W.contents out.old) (W.contents out.new) report) }
 {
     dump_by(alloc, &mut Line::new(alloc), source, out)
 }
@@ -37,7 +37,7 @@ pub fn dump_json<S: Source, W: Write>(
     source: &mut S,
     out: &mut W,
 ) -> Result<SessionReport, DumpFault>
-    ensures { IfOk result (λ report. DumpsJson (S.seen source.old) (S.seen source.new) (W.contents out.old) (W.contents out.new) report) }
+    ensures { IfOk result (λ report. DumpsJson S.seen source.old source.new (W.contents out.old) (W.contents out.new) report) }
 {
     dump_by(alloc, &mut JsonLine::new(alloc), source, out)
 }
@@ -49,7 +49,7 @@ pub fn dump_by<L: RecordLine, S: Source, W: Write>(
     source: &mut S,
     out: &mut W,
 ) -> Result<SessionReport, DumpFault>
-    ensures { IfOk result (λ report. DumpsBy L.line_of (S.seen source.old) (S.seen source.new) (W.contents out.old) (W.contents out.new) report) }
+    ensures { IfOk result (λ report. DumpsBy L.line_of S.seen source.old source.new (W.contents out.old) (W.contents out.new) report) }
 {
     let mut sink = LineSink::new(line, out);
     let report = drive(alloc, source, &mut sink, READ_LIMIT);

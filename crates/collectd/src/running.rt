@@ -28,7 +28,7 @@ pub fn run_dump<S: Source, W: Write, E: Write>(
     ensures statuses { (result ≡ 0) ⊎ (result ≡ 1) ⊎ (result ≡ 3) }
     ensures all { result ≡ 0 → DumpsAll (S.seen source.old).text (W.contents out.old) (W.contents out.new) }
     ensures fault { result ≡ 1 → (report : SessionReport) × (fault : SessionFault) × (report.fault ≡ Some fault)
-        × Dumps (S.seen source.old) (S.seen source.new) (W.contents out.old) (W.contents out.new) report }
+        × Dumps S.seen source.old source.new (W.contents out.old) (W.contents out.new) report }
 {
     run_dump_by(alloc, &mut Line::new(alloc), source, out, err)
 }
@@ -43,7 +43,7 @@ pub fn run_dump_json<S: Source, W: Write, E: Write>(
     ensures statuses { (result ≡ 0) ⊎ (result ≡ 1) ⊎ (result ≡ 3) }
     ensures all { result ≡ 0 → DumpsAllJson (S.seen source.old).text (W.contents out.old) (W.contents out.new) }
     ensures fault { result ≡ 1 → (report : SessionReport) × (fault : SessionFault) × (report.fault ≡ Some fault)
-        × DumpsJson (S.seen source.old) (S.seen source.new) (W.contents out.old) (W.contents out.new) report }
+        × DumpsJson S.seen source.old source.new (W.contents out.old) (W.contents out.new) report }
 {
     run_dump_by(alloc, &mut JsonLine::new(alloc), source, out, err)
 }
@@ -59,7 +59,7 @@ fn run_dump_by<L: RecordLine, S: Source, W: Write, E: Write>(
     ensures statuses { (result ≡ 0) ⊎ (result ≡ 1) ⊎ (result ≡ 3) }
     ensures all { result ≡ 0 → DumpsAllBy L.line_of (S.seen source.old).text (W.contents out.old) (W.contents out.new) }
     ensures fault { result ≡ 1 → (report : SessionReport) × (fault : SessionFault) × (report.fault ≡ Some fault)
-        × DumpsBy L.line_of (S.seen source.old) (S.seen source.new) (W.contents out.old) (W.contents out.new) report }
+        × DumpsBy L.line_of S.seen source.old source.new (W.contents out.old) (W.contents out.new) report }
 {
     match dump_whole(alloc, line, source, out) {
         Ok(report) => {
@@ -83,7 +83,7 @@ fn dump_whole<L: RecordLine, S: Source, W: Write>(
     source: &mut S,
     out: &mut W,
 ) -> Result<SessionReport, DumpFault>
-    ensures { IfOk result (λ report. DumpsBy L.line_of (S.seen source.old) (S.seen source.new) (W.contents out.old) (W.contents out.new) report) }
+    ensures { IfOk result (λ report. DumpsBy L.line_of S.seen source.old source.new (W.contents out.old) (W.contents out.new) report) }
 {
     let report = dump_by(alloc, line, source, out)?;
     out.flush()?;

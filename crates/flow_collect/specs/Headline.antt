@@ -47,7 +47,7 @@ pub record IsReceived (capacity : ℕ) (link : Settled) (records : List DataReco
 --   memory that ran out in the session is the one exception: then records and report are of the first of these messages;
 --   no report has SinkClosed
 abbrev pub IsGivenBy : {S : Type 0} → (S → SourceView) → S → S → SessionReport → List DataRecord → Type 0
-IsGivenBy seen before after report records = IsGiven READ_LIMIT READ_SIZE (seen before) (seen after) report records
+IsGivenBy seen before after report records = IsGiven seen READ_LIMIT READ_SIZE before after report records
 
 -- ---- what was added up
 

@@ -24,9 +24,9 @@ sink_view = record { took = TakesRecord; refused = λ s. 0 }
 abbrev new_sink : Merging → RowSink
 new_sink m = record { merging = m; fault = None }
 
-module _ (limit : ℕ) (before after : SourceView) (r : SessionReport) (old : Merging) (last : RowSink) (driven : Drives sink_view limit READ_SIZE before after (new_sink old) last r) where
-  taken : TakesGiven sink_view limit READ_SIZE before after (new_sink old) last r
-  taken = driven_took_all sink_view limit READ_SIZE before after (new_sink old) last r driven refl
+module _ {S : Type 0} (seen : S → SourceView) (limit : ℕ) (before after : S) (r : SessionReport) (old : Merging) (last : RowSink) (driven : Drives seen sink_view limit READ_SIZE before after (new_sink old) last r) where
+  taken : TakesGiven seen sink_view limit READ_SIZE before after (new_sink old) last r
+  taken = driven_took_all seen sink_view limit READ_SIZE before after (new_sink old) last r driven refl
 
   pub same_plan : plan_of last.merging ≡ plan_of old
   same_plan = (takes_all (new_sink old) last taken.records taken.takes.chain).plan
@@ -38,22 +38,22 @@ module _ (limit : ℕ) (before after : SourceView) (r : SessionReport) (old : Me
     held_with : (fault : Option MergeFault) → last.fault ≡ fault → HoldsAfter fault last.merging rows taken.records
     held_with fault is = subst (λ (o : Option MergeFault). HoldsAfter o last.merging rows taken.records) is held
 
-    pub adds_export : IsWell r → last.fault ≡ None → AddsExport limit old before after rows last.merging
+    pub adds_export : IsWell r → last.fault ≡ None → AddsExport seen limit old before after rows last.merging
     adds_export well none =
         let h = held_with None none in
         record {
           more = h.0;
-          gives_export = gives_export limit before after r taken.records taken.given (plan_of old) h.0 well (subst (λ (p : PlanValue). AreRowRecords p taken.records h.0) same_plan h.1);
+          gives_export = gives_export seen limit before after r taken.records taken.given (plan_of old) h.0 well (subst (λ (p : PlanValue). AreRowRecords p taken.records h.0) same_plan h.1);
           stands = h.2;
         }
 
-    pub due_row : (fault : MergeFault) → IsWell r → last.fault ≡ Some fault → IsDue limit (plan_of old) rows before after fault
-    due_row fault well is = due_by_sink limit before after r taken.records taken.given last.merging (plan_of old) rows well same_plan fault (held_with (Some fault) is)
+    pub due_row : (fault : MergeFault) → IsWell r → last.fault ≡ Some fault → IsDue seen limit (plan_of old) rows before after fault
+    due_row fault well is = due_by_sink seen limit before after r taken.records taken.given last.merging (plan_of old) rows well same_plan fault (held_with (Some fault) is)
 
-    pub due_report : (answer : Result Merging MergeFault) (fault : MergeFault) → IsBadBy r fault → IsErrAnd answer (λ e. e ≡ fault) → IfErr answer (IsDue limit (plan_of old) rows before after)
+    pub due_report : (answer : Result Merging MergeFault) (fault : MergeFault) → IsBadBy r fault → IsErrAnd answer (λ e. e ≡ fault) → IfErr answer (IsDue seen limit (plan_of old) rows before after)
     due_report (Ok m) fault bad is = tt
     due_report (Err e) fault bad is =
-        subst (IsDue limit (plan_of old) rows before after) (sym is) (due_by_report limit before after r taken.records taken.given (plan_of old) rows fault bad)
+        subst (IsDue seen limit (plan_of old) rows before after) (sym is) (due_by_report seen limit before after r taken.records taken.given (plan_of old) rows fault bad)
 
 -- an answer that is a fault
 pub err_match : (answer : Result Merging MergeFault) (fault : MergeFault) (P : Merging → Type 0) (Q : MergeFault → Type 0) → IsErrAnd answer (λ e. e ≡ fault) → IfErr answer Q → MatchResult answer P Q

@@ -78,7 +78,8 @@ gave_all before after text gave held octets at_end ended =
     let some = gave_some before.text after.text text gave held octets in
     sym (some.1 ∙ ap (λ (l : List ℕ). gave ++ l) (at_end ended some.0 some.2) ∙ append-nil gave)
 
-module _ (limit : ℕ) (before after : SourceView) (at_end : after.ended ≡ true → ForSome after.text (λ xs. xs ≡ [])) (plan : PlanValue) (rs : List DataRecord) (holds : HoldsExport plan before rs) where
+module _ {S : Type 0} (seen : S → SourceView) (limit : ℕ) (before after : S) (at_end : (seen after).ended ≡ true → ForSome (seen after).text (λ xs. xs ≡ [])) (plan : PlanValue) (rs : List DataRecord)
+    (holds : HoldsExport plan (seen before) rs) where
   abbrev own : List RowValue
   own = rows_in holds.table
 
@@ -86,11 +87,11 @@ module _ (limit : ℕ) (before after : SourceView) (at_end : after.ended ≡ tru
   is_export = export_is_export plan rs holds.table holds.text holds.export
 
   -- without a fault all of it was given
-  whole : (gave : List ℕ) → Gave limit READ_SIZE before gave after None → gave ≡ holds.text
-  whole gave given = gave_all before after holds.text gave holds.held given.octets at_end given.fault_is_due.1
+  whole : (gave : List ℕ) → Gave seen limit READ_SIZE before gave after None → gave ≡ holds.text
+  whole gave given = gave_all (seen before) (seen after) holds.text gave holds.held given.octets at_end given.fault_is_due.1
 
   -- its rows were added
-  pub adds_own : (old new : Merging) (rows : List RowValue) → plan_of old ≡ plan → AddsExport limit old before after rows new → StandsFor new (rows ++ own)
+  pub adds_own : (old new : Merging) (rows : List RowValue) → plan_of old ≡ plan → AddsExport seen limit old before after rows new → StandsFor new (rows ++ own)
   adds_own old new rows same adds =
       let read = adds.gives_export in
       let export = subst (λ (w : List ℕ). IsExport plan w adds.more) (whole read.gave read.given) (subst (λ (p : PlanValue). IsExport p read.gave adds.more) same read.export) in
@@ -98,26 +99,26 @@ module _ (limit : ℕ) (before after : SourceView) (at_end : after.ended ≡ tru
       subst (λ (l : List RowValue). StandsFor new (rows ++ l)) is adds.stands
 
   -- a text without a fault doesn't begin with one that has one
-  no_message_fault : (gave : List ℕ) (e : MessageFault) → Consumes before.text after.text gave → stop_of gave ≡ Fault e → ⊥
+  no_message_fault : (gave : List ℕ) (e : MessageFault) → Consumes (seen before).text (seen after).text gave → stop_of gave ≡ Fault e → ⊥
   no_message_fault gave e octets is =
-      let some = gave_some before.text after.text holds.text gave holds.held octets in
+      let some = gave_some (seen before).text (seen after).text holds.text gave holds.held octets in
       let stays = ap (λ (g : Given). g.stop) (gives_after-fault_stays [] gave some.0 e is) in
       let clean : Clean ≡ Fault e = sym is_export.clean ∙ ap stop_of some.1 ∙ stays ∙ is in
       cc
 
-  session_fault : (rows : List RowValue) (fault : SessionFault) → IsMergeDue limit plan rows before after (Session fault) → IsExportFault (AddUpTooLarge (rows ++ own)) (Session fault)
+  session_fault : (rows : List RowValue) (fault : SessionFault) → IsMergeDue seen limit plan rows before after (Session fault) → IsExportFault (AddUpTooLarge (rows ++ own)) (Session fault)
   session_fault rows sessions.SinkClosed due = absurd due
   session_fault rows sessions.ReadFailed due = tt
   session_fault rows sessions.TooManyReads due = tt
   session_fault rows (sessions.Message messages.OutOfMemory) due = tt
   session_fault rows (sessions.Message e) due = absurd (no_message_fault due.0 e due.1.octets due.1.fault_is_due)
   session_fault rows sessions.Truncated due =
-      let all = gave_all before after holds.text due.0 holds.held due.1.octets at_end due.1.fault_is_due.1 in
+      let all = gave_all (seen before) (seen after) holds.text due.0 holds.held due.1.octets at_end due.1.fault_is_due.1 in
       let short : Clean ≡ Short = sym is_export.clean ∙ ap stop_of (sym all) ∙ due.1.fault_is_due.0 in
       absurd (cc)
 
   -- the fault is none of the export's own, but that it is too large
-  pub own_fault : (rows : List RowValue) (fault : MergeFault) → IsMergeDue limit plan rows before after fault → IsExportFault (AddUpTooLarge (rows ++ own)) fault
+  pub own_fault : (rows : List RowValue) (fault : MergeFault) → IsMergeDue seen limit plan rows before after fault → IsExportFault (AddUpTooLarge (rows ++ own)) fault
   own_fault rows OutOfMemory due = tt
   own_fault rows (Session fault) due = session_fault rows fault due
   own_fault rows NotAnExport due = absurd (due.2 (subst (λ (w : List ℕ). AreOfExport (gives w).messages) (sym (whole due.0 due.1)) is_export.messages))

@@ -144,19 +144,19 @@ module _ {S : Type 0} (seen : S → SourceView) (plan : PlanValue) where
 
   -- a source was read
   more_read : (limit : ℕ) (sources : List S) (s : S) (waiting : List S) (old new : Merging) (after : S) (read : HasRead limit sources (s ∷ waiting) old) → plan_of old ≡ plan
-      → AddsExport limit old (seen s) (seen after) (flat_map (λ rows. rows) read.exports) new → HasRead limit sources waiting new
+      → AddsExport seen limit old s after (flat_map (λ rows. rows) read.exports) new → HasRead limit sources waiting new
   more_read limit sources s waiting old new after read same adds =
       record {
         used = read.used ++ s ∷ [];
         exports = read.exports ++ adds.more ∷ [];
         split = read.split ∙ sym (append_assoc read.used (s ∷ []) waiting);
-        given = zip_more (λ source rows. (left : S) × GivesExport limit plan (seen source) (seen left) rows) read.used read.exports s adds.more read.given
-            (after, subst (λ (p : PlanValue). GivesExport limit p (seen s) (seen after) adds.more) same adds.gives_export);
+        given = zip_more (λ source rows. (left : S) × GivesExport seen limit plan source left rows) read.used read.exports s adds.more read.given
+            (after, subst (λ (p : PlanValue). GivesExport seen limit p s after adds.more) same adds.gives_export);
         stands = subst (StandsFor new) (sym (flat_more read.exports adds.more)) adds.stands;
       }
 
   pub merged_on : (limit : ℕ) (sources before : List S) (s : S) (waiting : List S) (old new : Merging) (after : S) → before ≡ s ∷ waiting → MergesOn limit sources before old → plan_of new ≡ plan_of old
-      → ((rows : List RowValue) → StandsFor old rows → AddsExport limit old (seen s) (seen after) rows new)
+      → ((rows : List RowValue) → StandsFor old rows → AddsExport seen limit old s after rows new)
       → ((rows : List RowValue) (rs : List DataRecord) (holds : HoldsExport (plan_of old) (seen s) rs) → StandsFor old rows → StandsFor new (rows ++ rows_in holds.table)) → MergesOn limit sources waiting new
   merged_on limit sources before s waiting old new after is on same adds exports =
       let read = subst (λ (l : List S). HasRead limit sources l old) is on.read in
@@ -182,7 +182,7 @@ module _ {S : Type 0} (seen : S → SourceView) (plan : PlanValue) where
       (λ holds. refuses (flat_map rows_in now.tables) next.0 holds now.stands) next.2)
 
   pub stopped_on : (limit : ℕ) (sources before : List S) (s : S) (waiting : List S) (old : Merging) (after : S) (fault : MergeFault) → before ≡ s ∷ waiting → MergesOn limit sources before old
-      → ((rows : List RowValue) → StandsFor old rows → IsDue limit (plan_of old) rows (seen s) (seen after) fault) → StopsAt seen limit plan sources fault
+      → ((rows : List RowValue) → StandsFor old rows → IsDue seen limit (plan_of old) rows s after fault) → StopsAt seen limit plan sources fault
   stopped_on limit sources before s waiting old after fault is on due =
       let read = subst (λ (l : List S). HasRead limit sources l old) is on.read in
       let rows = flat_map (λ r. r) read.exports in
@@ -194,7 +194,7 @@ module _ {S : Type 0} (seen : S → SourceView) (plan : PlanValue) where
         exports = read.exports;
         given = read.given;
         after = after;
-        due = subst (λ (p : PlanValue). IsDue limit p rows (seen s) (seen after) fault) on.same_plan (due rows read.stands);
+        due = subst (λ (p : PlanValue). IsDue seen limit p rows s after fault) on.same_plan (due rows read.stands);
       }
 
   -- no source waits

@@ -64,13 +64,13 @@ module _ (r : SessionReport) (ms : List Message) (n : ℕ) (reports : Reports r 
 
 -- ---- a session that its source's octets were given to
 
-module _ (limit : ℕ) (before after : SourceView) (r : SessionReport) (rs : List DataRecord) (given : IsGiven limit READ_SIZE before after r rs) where
+module _ {S : Type 0} (seen : S → SourceView) (limit : ℕ) (before after : S) (r : SessionReport) (rs : List DataRecord) (given : IsGiven seen limit READ_SIZE before after r rs) where
   -- without a fault all messages count
   counted_all : r.fault ≡ None → given.counted ≡ (gives given.gave).messages
   counted_all none = given.all (λ memory. let no : None ≡ Some (sessions.Message messages.OutOfMemory) = sym none ∙ memory in cc)
 
-  gave_none : r.fault ≡ None → Gave limit READ_SIZE before given.gave after None
-  gave_none none = subst (λ (fault : Option SessionFault). Gave limit READ_SIZE before given.gave after fault) none given.given
+  gave_none : r.fault ≡ None → Gave seen limit READ_SIZE before given.gave after None
+  gave_none none = subst (λ (fault : Option SessionFault). Gave seen limit READ_SIZE before given.gave after fault) none given.given
 
   reports_all : r.fault ≡ None → Reports r (gives given.gave).messages (length rs)
   reports_all none = subst (λ (ms : List Message). Reports r ms (length rs)) (counted_all none) given.report_is
@@ -79,7 +79,7 @@ module _ (limit : ℕ) (before after : SourceView) (r : SessionReport) (rs : Lis
   records_all none = given.records_are ∙ ap records_in (counted_all none)
 
   -- an export
-  pub gives_export : (plan : PlanValue) (rows : List RowValue) → IsWell r → AreRowRecords plan rs rows → GivesExport limit plan before after rows
+  pub gives_export : (plan : PlanValue) (rows : List RowValue) → IsWell r → AreRowRecords plan rs rows → GivesExport seen limit plan before after rows
   gives_export plan rows well are =
       record {
         gave = given.gave;
@@ -93,15 +93,15 @@ module _ (limit : ℕ) (before after : SourceView) (r : SessionReport) (rs : Lis
       }
 
   -- the session's own fault
-  ended_early : (plan : PlanValue) (rows : List RowValue) (fault : SessionFault) → r.fault ≡ Some fault → IsMergeDue limit plan rows before after (Session fault)
+  ended_early : (plan : PlanValue) (rows : List RowValue) (fault : SessionFault) → r.fault ≡ Some fault → IsMergeDue seen limit plan rows before after (Session fault)
   ended_early plan rows sessions.SinkClosed is = absurd (given.not_closed is)
-  ended_early plan rows (sessions.Message e) is = (given.gave, subst (λ (o : Option SessionFault). Gave limit READ_SIZE before given.gave after o) is given.given)
-  ended_early plan rows sessions.Truncated is = (given.gave, subst (λ (o : Option SessionFault). Gave limit READ_SIZE before given.gave after o) is given.given)
-  ended_early plan rows sessions.ReadFailed is = (given.gave, subst (λ (o : Option SessionFault). Gave limit READ_SIZE before given.gave after o) is given.given)
-  ended_early plan rows sessions.TooManyReads is = (given.gave, subst (λ (o : Option SessionFault). Gave limit READ_SIZE before given.gave after o) is given.given)
+  ended_early plan rows (sessions.Message e) is = (given.gave, subst (λ (o : Option SessionFault). Gave seen limit READ_SIZE before given.gave after o) is given.given)
+  ended_early plan rows sessions.Truncated is = (given.gave, subst (λ (o : Option SessionFault). Gave seen limit READ_SIZE before given.gave after o) is given.given)
+  ended_early plan rows sessions.ReadFailed is = (given.gave, subst (λ (o : Option SessionFault). Gave seen limit READ_SIZE before given.gave after o) is given.given)
+  ended_early plan rows sessions.TooManyReads is = (given.gave, subst (λ (o : Option SessionFault). Gave seen limit READ_SIZE before given.gave after o) is given.given)
 
   -- what the report has against them
-  pub due_by_report : (plan : PlanValue) (rows : List RowValue) (fault : MergeFault) → IsBadBy r fault → IsMergeDue limit plan rows before after fault
+  pub due_by_report : (plan : PlanValue) (rows : List RowValue) (fault : MergeFault) → IsBadBy r fault → IsMergeDue seen limit plan rows before after fault
   due_by_report plan rows (Session fault) bad = ended_early plan rows fault bad
   due_by_report plan rows NotAnExport bad = (given.gave, gave_none bad.0, λ are. bad.1 (reports_export r _ _ (reports_all bad.0) are))
   due_by_report plan rows Lost bad = (given.gave, gave_none bad.0, (are_of_export r _ _ (reports_all bad.0) bad.1, λ none. bad.2 (reports_no_loss r _ _ (reports_all bad.0) none)))
@@ -117,7 +117,7 @@ module _ (limit : ℕ) (before after : SourceView) (r : SessionReport) (rs : Lis
     lossless : NoneLost (gives given.gave).messages
     lossless = none_lost r _ _ (reports_all well.no_fault) well.no_loss
 
-    pub due_by_sink : (fault : MergeFault) → HoldsAfter (Some fault) m rows rs → IsMergeDue limit plan rows before after fault
+    pub due_by_sink : (fault : MergeFault) → HoldsAfter (Some fault) m rows rs → IsMergeDue seen limit plan rows before after fault
     due_by_sink OutOfMemory h = (given.gave, gave_none well.no_fault, (whole, lossless))
     due_by_sink SumTooLarge h =
         (given.gave, gave_none well.no_fault, (whole, lossless, subst (λ (l : List DataRecord). FirstTooLarge plan rows l) (records_all well.no_fault) (subst (λ (p : PlanValue). FirstTooLarge p rows rs) same h)))

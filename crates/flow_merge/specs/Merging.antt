@@ -63,21 +63,22 @@ pub record IsExport (plan : PlanValue) (text : List ℕ) (rows : List RowValue) 
 
 -- ---- reading one
 
--- an export of these rows is what a source gave: it told its end, and no read failed
-pub record GivesExport (limit : ℕ) (plan : PlanValue) (before after : SourceView) (rows : List RowValue) : Type 0 where
-  pub gave : List ℕ
-  pub given : Gave limit READ_SIZE before gave after None
-  pub export : IsExport plan gave rows
+module _ {S : Type 0} (seen : S → SourceView) where
+  -- an export of these rows is what a source gave: it told its end, and no read failed
+  pub record GivesExport (limit : ℕ) (plan : PlanValue) (before after : S) (rows : List RowValue) : Type 0 where
+    pub gave : List ℕ
+    pub given : Gave seen limit READ_SIZE before gave after None
+    pub export : IsExport plan gave rows
 
--- each source gave the export of one of the lists of rows, in their order
-abbrev pub GiveExports : {S : Type 0} → (S → SourceView) → ℕ → PlanValue → List S → List (List RowValue) → Type 0
-GiveExports {S = S} seen limit plan sources exports = AllZip (λ source rows. (after : S) × GivesExport limit plan (seen source) (seen after) rows) sources exports
+  -- each source gave the export of one of the lists of rows, in their order
+  abbrev pub GiveExports : ℕ → PlanValue → List S → List (List RowValue) → Type 0
+  GiveExports limit plan sources exports = AllZip (λ source rows. (after : S) × GivesExport limit plan source after rows) sources exports
 
--- the rows of the exports that each source gave, added up, are those of a table
-pub record AddsAllUp {S : Type 0} (seen : S → SourceView) (limit : ℕ) (plan : PlanValue) (sources : List S) (table : Table) : Type 0 where
-  pub exports : List (List RowValue)
-  pub given : GiveExports seen limit plan sources exports
-  pub added_up : AreAddedUp (flat_map (λ rows. rows) exports) (rows_in table)
+  -- the rows of the exports that each source gave, added up, are those of a table
+  pub record AddsAllUp (limit : ℕ) (plan : PlanValue) (sources : List S) (table : Table) : Type 0 where
+    pub exports : List (List RowValue)
+    pub given : GiveExports limit plan sources exports
+    pub added_up : AreAddedUp (flat_map (λ rows. rows) exports) (rows_in table)
 
 -- the first records are those of rows, which are too large behind the rows before them
 pub record FirstTooLarge (plan : PlanValue) (before : List RowValue) (rs : List DataRecord) : Type 0 where
@@ -111,22 +112,24 @@ IsAgainst plan before gave SumTooLarge = AreOfExport (gives gave).messages × No
 IsAgainst plan before gave (Session fault) = ⊥
 IsAgainst plan before gave OutOfMemory = AreOfExport (gives gave).messages × NoneLost (gives gave).messages
 
--- why what a source gave was not added to rows: the session ended early; or its messages are whole, and this is against them
-abbrev pub IsDue : ℕ → PlanValue → List RowValue → SourceView → SourceView → MergeFault → Type 0
-IsDue limit plan rows before after (Session sessions.SinkClosed) = ⊥
-IsDue limit plan rows before after (Session fault) = (gave : List ℕ) × Gave limit READ_SIZE before gave after (Some fault)
-IsDue limit plan rows before after fault = (gave : List ℕ) × Gave limit READ_SIZE before gave after None × IsAgainst plan rows gave fault
+module _ {S : Type 0} (seen : S → SourceView) where
+  -- why what a source gave was not added to rows: the session ended early; or its messages are whole, and this is against
+  -- them
+  abbrev pub IsDue : ℕ → PlanValue → List RowValue → S → S → MergeFault → Type 0
+  IsDue limit plan rows before after (Session sessions.SinkClosed) = ⊥
+  IsDue limit plan rows before after (Session fault) = (gave : List ℕ) × Gave seen limit READ_SIZE before gave after (Some fault)
+  IsDue limit plan rows before after fault = (gave : List ℕ) × Gave seen limit READ_SIZE before gave after None × IsAgainst plan rows gave fault
 
--- why sources were not all added up: the first of them gave exports, and of the next one this fault is due
-pub record StopsAt {S : Type 0} (seen : S → SourceView) (limit : ℕ) (plan : PlanValue) (sources : List S) (fault : MergeFault) : Type 0 where
-  pub first : List S
-  pub next : S
-  pub others : List S
-  pub are : sources ≡ first ++ next ∷ others
-  pub exports : List (List RowValue)
-  pub given : GiveExports seen limit plan first exports
-  pub after : S
-  pub due : IsDue limit plan (flat_map (λ rows. rows) exports) (seen next) (seen after) fault
+  -- why sources were not all added up: the first of them gave exports, and of the next one this fault is due
+  pub record StopsAt (limit : ℕ) (plan : PlanValue) (sources : List S) (fault : MergeFault) : Type 0 where
+    pub first : List S
+    pub next : S
+    pub others : List S
+    pub are : sources ≡ first ++ next ∷ others
+    pub exports : List (List RowValue)
+    pub given : GiveExports seen limit plan first exports
+    pub after : S
+    pub due : IsDue limit plan (flat_map (λ rows. rows) exports) next after fault
 
 -- ---- what is merged
 
@@ -139,9 +142,9 @@ unfoldable pub StandsFor : Merging → List RowValue → Type 0
 StandsFor m rows = AreOf m.totals rows × All (IsRowOf m.plan) rows
 
 -- an export's rows are added to those before
-pub record AddsExport (limit : ℕ) (old : Merging) (before after : SourceView) (rows : List RowValue) (new : Merging) : Type 0 where
+pub record AddsExport {S : Type 0} (seen : S → SourceView) (limit : ℕ) (old : Merging) (before after : S) (rows : List RowValue) (new : Merging) : Type 0 where
   pub more : List RowValue
-  pub gives_export : GivesExport limit (plan_of old) before after more
+  pub gives_export : GivesExport seen limit (plan_of old) before after more
   pub stands : StandsFor new (rows ++ more)
 
 -- ---- the theorem

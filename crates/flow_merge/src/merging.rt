@@ -67,8 +67,8 @@ impl Merging {
     /// of success.
     pub fn read<S: Source>(self, source: &mut S, limit: u64) -> Result<Merging, MergeFault>
         ensures plan { IfOk result (λ m. plan_of m ≡ plan_of self) }
-        ensures ok { (rows : List RowValue) → StandsFor self rows → IfOk result (AddsExport limit self (S.seen source.old) (S.seen source.new) rows) }
-        ensures fault { (rows : List RowValue) → StandsFor self rows → IfErr result (IsDue limit (plan_of self) rows (S.seen source.old) (S.seen source.new)) }
+        ensures ok { (rows : List RowValue) → StandsFor self rows → IfOk result (AddsExport S.seen limit self source.old source.new rows) }
+        ensures fault { (rows : List RowValue) → StandsFor self rows → IfErr result (IsDue S.seen limit (plan_of self) rows source.old source.new) }
         // The export of a table is added whole. It has none of these faults, but that sums are too large.
         ensures export { (rows : List RowValue) (rs : List DataRecord) (holds : HoldsExport (plan_of self) (S.seen source.old) rs) → StandsFor self rows
             → MatchResult result (λ m. StandsFor m (rows ++ rows_in holds.table)) (IsExportFault (AddUpTooLarge (rows ++ rows_in holds.table))) }

@@ -107,9 +107,9 @@ driving_again view n before now after first last s buffer d read =
 -- ---- nothing is read after a fault
 
 -- all octets so far have no fault, and the last read, if there was one more, gave these
-stops_at : {K : Type 0} (view : SinkView K) (most n : ℕ) (before now after : SourceView) (first last : K) (s : State) (d : Driving view n before now first last s) (gave piece : List ℕ)
-    → after.reads ≤ now.reads + 1 → gave ≡ d.gave ++ piece → length piece ≤ most → StopsAtFault most before gave after
-stops_at view most n before now after first last s d gave piece few is fits =
+stops_at : {S K : Type 0} (seen : S → SourceView) (view : SinkView K) (most n : ℕ) (before now after : S) (first last : K) (s : State) (d : Driving view n (seen before) (seen now) first last s) (gave piece : List ℕ)
+    → (seen after).reads ≤ (seen now).reads + 1 → gave ≡ d.gave ++ piece → length piece ≤ most → StopsAtFault seen most before gave after
+stops_at seen view most n before now after first last s d gave piece few is fits =
     record {
       at = now;
       earlier = d.gave;
@@ -166,20 +166,20 @@ put_by view last more s gave piece told faults.Truncated tell fed = absurd fed
 put_by view last more s gave piece told faults.ReadFailed tell fed = absurd fed
 put_by view last more s gave piece told faults.TooManyReads tell fed = absurd fed
 
-pub drives_fault : {K : Type 0} (view : SinkView K) (limit most n count : ℕ) (before now after : SourceView) (first last more : K) (s t : State) (buffer : List ℕ) (r : SessionReport) (f : SessionFault)
-    → (d : Driving view n before now first last s) → n < limit → length buffer ≤ most → IsRead now (Ok count) after buffer → Feeds view (Err f) d.gave (take count buffer) last more t
+pub drives_fault : {S K : Type 0} (seen : S → SourceView) (view : SinkView K) (limit most n count : ℕ) (before now after : S) (first last more : K) (s t : State) (buffer : List ℕ) (r : SessionReport) (f : SessionFault)
+    → (d : Driving view n (seen before) (seen now) first last s) → n < limit → length buffer ≤ most → IsRead (seen now) (Ok count) (seen after) buffer → Feeds view (Err f) d.gave (take count buffer) last more t
     → ((ms : List Message) (delivered : ℕ) → Tells t.counts ms delivered → Reports r ms delivered) → r.fault ≡ Some f
-    → Drives view limit most before after first more r
+    → Drives seen view limit most before after first more r
 unfolding stops_at
-drives_fault view limit most n count before now after first last more s t buffer r f d less room read fed tell fault =
+drives_fault seen view limit most n count before now after first last more s t buffer r f d less room read fed tell fault =
     let piece = take count buffer in
     record {
       gave = d.gave ++ piece;
       given = record {
-        octets = Consumes-trans before.text now.text after.text d.gave piece d.octets read.moved;
+        octets = Consumes-trans (seen before).text (seen now).text (seen after).text d.gave piece d.octets read.moved;
         within = omega (arith, d.within, read.counted, less);
-        stops = stops_at view most n before now after first last s d (d.gave ++ piece) piece (omega (arith, read.counted)) refl (read_fits most count buffer read.fits room);
-        fault_is_due = subst (λ (o : Option SessionFault). IsDue o limit (d.gave ++ piece) before after) (sym fault) (due_by view limit before after last more t d.gave piece f fed);
+        stops = stops_at seen view most n before now after first last s d (d.gave ++ piece) piece (omega (arith, read.counted)) refl (read_fits most count buffer read.fits room);
+        fault_is_due = subst (λ (o : Option SessionFault). IsDue o limit (d.gave ++ piece) (seen before) (seen after)) (sym fault) (due_by view limit (seen before) (seen after) last more t d.gave piece f fed);
       };
       middle = last;
       earlier = d.takes;
@@ -194,18 +194,19 @@ puts_none : {K : Type 0} (view : SinkView K) (k : K) (gave : List ℕ) (told : L
 puts_none view k gave told tells = record { put = []; takes = takes-none view k; records = sym (append-nil (records_of gave)); tells = tells }
 
 -- a source that gave nothing more, and why that was the last read
-drives_still : {K : Type 0} (view : SinkView K) (limit most n : ℕ) (before now after : SourceView) (first last : K) (s : State) (r : SessionReport)
-    → (d : Driving view n before now first last s) → Consumes before.text after.text d.gave → after.reads ≤ before.reads + limit → after.reads ≤ now.reads + 1 → IsDue r.fault limit d.gave before after
+drives_still : {S K : Type 0} (seen : S → SourceView) (view : SinkView K) (limit most n : ℕ) (before now after : S) (first last : K) (s : State) (r : SessionReport)
+    → (d : Driving view n (seen before) (seen now) first last s) → Consumes (seen before).text (seen after).text d.gave → (seen after).reads ≤ (seen before).reads + limit → (seen after).reads ≤ (seen now).reads + 1
+    → IsDue r.fault limit d.gave (seen before) (seen after)
     → PutsUpTo view r.fault (gives d.gave).messages (gives d.gave).messages last last (Reports r)
-    → Drives view limit most before after first last r
+    → Drives seen view limit most before after first last r
 unfolding stops_at
-drives_still view limit most n before now after first last s r d octets within few due puts =
+drives_still seen view limit most n before now after first last s r d octets within few due puts =
     record {
       gave = d.gave;
       given = record {
         octets = octets;
         within = within;
-        stops = stops_at view most n before now after first last s d d.gave [] few (sym (append-nil d.gave)) (omega arith);
+        stops = stops_at seen view most n before now after first last s d d.gave [] few (sym (append-nil d.gave)) (omega arith);
         fault_is_due = due;
       };
       middle = last;
@@ -229,55 +230,55 @@ put_at view first last old all told Clean is_open puts = puts
 put_at view first last old all told Short is_open puts = puts
 put_at view first last old all told (Fault e) is_open puts = absurd is_open
 
-pub drives_ended : {K : Type 0} (view : SinkView K) (limit most n count : ℕ) (before now after : SourceView) (first last : K) (s : State) (buffer : List ℕ) (r : SessionReport)
-    → (d : Driving view n before now first last s) → n < limit → IsRead now (Ok count) after buffer → count ≡ 0 → 0 < length buffer → IsReport r d.gave
-    → Drives view limit most before after first last r
-drives_ended view limit most n count before now after first last s buffer r d less read none room report =
+pub drives_ended : {S K : Type 0} (seen : S → SourceView) (view : SinkView K) (limit most n count : ℕ) (before now after : S) (first last : K) (s : State) (buffer : List ℕ) (r : SessionReport)
+    → (d : Driving view n (seen before) (seen now) first last s) → n < limit → IsRead (seen now) (Ok count) (seen after) buffer → count ≡ 0 → 0 < length buffer → IsReport r d.gave
+    → Drives seen view limit most before after first last r
+drives_ended seen view limit most n count before now after first last s buffer r d less read none room report =
     let is_open = may_go_on s d.gave d.stands d.no_fault in
-    let same : List ℕ → Type 0 = λ gave. Consumes before.text after.text gave in
-    let moved = subst (λ k. Consumes now.text after.text (take k buffer)) none read.moved in
-    drives_still view limit most n before now after first last s r d
-    (subst same (append-nil d.gave) (Consumes-trans before.text now.text after.text d.gave [] d.octets moved)) (omega (arith, d.within, read.counted, less)) (omega (arith, read.counted))
-    (subst (λ (o : Option SessionFault). IsDue o limit d.gave before after) (sym report.fault)
-    (due_at limit before after d.gave (stop_of d.gave) refl is_open (told_end now.ended after.ended count buffer read.end none room) (read.failures ∙ d.none_failed)))
+    let same : List ℕ → Type 0 = λ gave. Consumes (seen before).text (seen after).text gave in
+    let moved = subst (λ k. Consumes (seen now).text (seen after).text (take k buffer)) none read.moved in
+    drives_still seen view limit most n before now after first last s r d
+    (subst same (append-nil d.gave) (Consumes-trans (seen before).text (seen now).text (seen after).text d.gave [] d.octets moved)) (omega (arith, d.within, read.counted, less)) (omega (arith, read.counted))
+    (subst (λ (o : Option SessionFault). IsDue o limit d.gave (seen before) (seen after)) (sym report.fault)
+    (due_at limit (seen before) (seen after) d.gave (stop_of d.gave) refl is_open (told_end (seen now).ended (seen after).ended count buffer read.end none room) (read.failures ∙ d.none_failed)))
     (subst (λ (o : Option SessionFault). PutsUpTo view o (gives d.gave).messages (gives d.gave).messages last last (Reports r)) (sym report.fault)
     (put_at view last last (gives d.gave).messages (gives d.gave).messages (Reports r) (stop_of d.gave) is_open (puts_none view last d.gave (Reports r) report.reports)))
 
 -- ---- a read that failed
 
-pub drives_failed : {K : Type 0} (view : SinkView K) (limit most n : ℕ) (before now after : SourceView) (first last : K) (s : State) (buffer : List ℕ) (r : SessionReport)
-    → (d : Driving view n before now first last s) → n < limit → IsRead now (Err Failed) after buffer
+pub drives_failed : {S K : Type 0} (seen : S → SourceView) (view : SinkView K) (limit most n : ℕ) (before now after : S) (first last : K) (s : State) (buffer : List ℕ) (r : SessionReport)
+    → (d : Driving view n (seen before) (seen now) first last s) → n < limit → IsRead (seen now) (Err Failed) (seen after) buffer
     → ((ms : List Message) (delivered : ℕ) → Tells s.counts ms delivered → Reports r ms delivered) → r.fault ≡ Some faults.ReadFailed
-    → Drives view limit most before after first last r
-drives_failed view limit most n before now after first last s buffer r d less read tell fault =
-    drives_still view limit most n before now after first last s r d
-    (Consumes-kept before.text now.text after.text d.gave d.octets read.moved) (omega (arith, d.within, read.counted, less)) (omega (arith, read.counted))
-    (subst (λ (o : Option SessionFault). IsDue o limit d.gave before after) (sym fault) (may_go_on s d.gave d.stands d.no_fault, read.failures ∙ ap one_more d.none_failed))
+    → Drives seen view limit most before after first last r
+drives_failed seen view limit most n before now after first last s buffer r d less read tell fault =
+    drives_still seen view limit most n before now after first last s r d
+    (Consumes-kept (seen before).text (seen now).text (seen after).text d.gave d.octets read.moved) (omega (arith, d.within, read.counted, less)) (omega (arith, read.counted))
+    (subst (λ (o : Option SessionFault). IsDue o limit d.gave (seen before) (seen after)) (sym fault) (may_go_on s d.gave d.stands d.no_fault, read.failures ∙ ap one_more d.none_failed))
     (subst (λ (o : Option SessionFault). PutsUpTo view o (gives d.gave).messages (gives d.gave).messages last last (Reports r)) (sym fault) (puts_none view last d.gave (Reports r) (tell _ _ d.stands.tells)))
 
 -- ---- no more reads
 
-pub drives_limit : {K : Type 0} (view : SinkView K) (limit most n : ℕ) (before now : SourceView) (first last : K) (s : State) (r : SessionReport)
-    → (d : Driving view n before now first last s) → n ≡ limit
+pub drives_limit : {S K : Type 0} (seen : S → SourceView) (view : SinkView K) (limit most n : ℕ) (before now : S) (first last : K) (s : State) (r : SessionReport)
+    → (d : Driving view n (seen before) (seen now) first last s) → n ≡ limit
     → ((ms : List Message) (delivered : ℕ) → Tells s.counts ms delivered → Reports r ms delivered) → r.fault ≡ Some faults.TooManyReads
-    → Drives view limit most before now first last r
-drives_limit view limit most n before now first last s r d all tell fault =
-    drives_still view limit most n before now now first last s r d d.octets (omega (arith, d.within, all)) (omega arith)
-    (subst (λ (o : Option SessionFault). IsDue o limit d.gave before now) (sym fault)
-    (may_go_on s d.gave d.stands d.no_fault, subst (λ (k : ℕ). (now.reads ≡ before.reads + k) ⊎ (now.reads ≡ 2 ^ 64 - 1)) all d.counted, d.none_failed, d.not_ended))
+    → Drives seen view limit most before now first last r
+drives_limit seen view limit most n before now first last s r d all tell fault =
+    drives_still seen view limit most n before now now first last s r d d.octets (omega (arith, d.within, all)) (omega arith)
+    (subst (λ (o : Option SessionFault). IsDue o limit d.gave (seen before) (seen now)) (sym fault)
+    (may_go_on s d.gave d.stands d.no_fault, subst (λ (k : ℕ). ((seen now).reads ≡ (seen before).reads + k) ⊎ ((seen now).reads ≡ 2 ^ 64 - 1)) all d.counted, d.none_failed, d.not_ended))
     (subst (λ (o : Option SessionFault). PutsUpTo view o (gives d.gave).messages (gives d.gave).messages last last (Reports r)) (sym fault) (puts_none view last d.gave (Reports r) (tell _ _ d.stands.tells)))
 
 -- ---- no memory for a buffer
 
-pub drives_nowhere : {K : Type 0} (view : SinkView K) (limit most : ℕ) (source : SourceView) (sink : K) (s : State) (r : SessionReport) → StandsForText s []
+pub drives_nowhere : {S K : Type 0} (seen : S → SourceView) (view : SinkView K) (limit most : ℕ) (source : S) (sink : K) (s : State) (r : SessionReport) → StandsForText s []
     → ((ms : List Message) (delivered : ℕ) → Tells s.counts ms delivered → Reports r ms delivered) → r.fault ≡ Some (faults.Message OutOfMemory)
-    → Drives view limit most source source sink sink r
+    → Drives seen view limit most source source sink sink r
 unfolding driving_first
-drives_nowhere view limit most source sink s r stands tell fault =
-    let d = driving_first view source sink s stands in
+drives_nowhere seen view limit most source sink s r stands tell fault =
+    let d = driving_first view (seen source) sink s stands in
     let ms = (gives []).messages in
     let out : RunsOut view ms ms sink sink (Reports r) =
     record { whole = ms; from = ([], sym (append-nil ms)); up_to = ([], sym (append-nil ms)); puts = puts_none view sink [] (Reports r) (tell _ _ stands.tells) } in
-    drives_still view limit most 0 source source source sink sink s r d d.octets (omega arith) (omega arith)
-    (subst (λ (o : Option SessionFault). IsDue o limit [] source source) (sym fault) tt)
+    drives_still seen view limit most 0 source source source sink sink s r d d.octets (omega arith) (omega arith)
+    (subst (λ (o : Option SessionFault). IsDue o limit [] (seen source) (seen source)) (sym fault) tt)
     (subst (λ (o : Option SessionFault). PutsUpTo view o ms ms sink sink (Reports r)) (sym fault) out)

@@ -34,49 +34,50 @@ IsDue (Some faults.SinkClosed) limit gave before after = Unit {0}
 -- the first malformed message of the octets has this fault (RFC 7011, section 9.1)
 IsDue (Some (faults.Message e)) limit gave before after = stop_of gave ≡ Fault e
 
--- reading stops at the first malformed message, at the first read that fails, and at the end: before the last read there
--- was none of these
-pub record StopsAtFault (most : ℕ) (before : SourceView) (gave : List ℕ) (after : SourceView) : Type 0 where
-  -- the source before the last read, and what it had given by then
-  pub at : SourceView
-  pub earlier : List ℕ
-  pub octets : Consumes before.text at.text earlier
-  pub no_fault : IsOpen (stop_of earlier)
-  pub none_failed : at.failed ≡ before.failed
-  pub not_ended : at.ended ≡ before.ended
-  -- there was at most one read more, which gave at most that many octets
-  pub one_read : after.reads ≤ at.reads + 1
-  pub last : List ℕ
-  pub is : gave ≡ earlier ++ last
-  pub size : length last ≤ most
+module _ {S : Type 0} (seen : S → SourceView) where
+  -- reading stops at the first malformed message, at the first read that fails, and at the end: before the last read there
+  -- was none of these
+  pub record StopsAtFault (most : ℕ) (before : S) (gave : List ℕ) (after : S) : Type 0 where
+    -- the source before the last read, itself and no view that could be made up, and what it had given by then
+    pub at : S
+    pub earlier : List ℕ
+    pub octets : Consumes (seen before).text (seen at).text earlier
+    pub no_fault : IsOpen (stop_of earlier)
+    pub none_failed : (seen at).failed ≡ (seen before).failed
+    pub not_ended : (seen at).ended ≡ (seen before).ended
+    -- there was at most one read more, which gave at most that many octets
+    pub one_read : (seen after).reads ≤ (seen at).reads + 1
+    pub last : List ℕ
+    pub is : gave ≡ earlier ++ last
+    pub size : length last ≤ most
 
--- a source gave these octets, in at most that many reads, until this fault, which is due
-pub record Gave (limit most : ℕ) (before : SourceView) (gave : List ℕ) (after : SourceView) (fault : Option SessionFault) : Type 0 where
-  -- what the source held before is these, and then what it holds after
-  pub octets : Consumes before.text after.text gave
-  pub within : after.reads ≤ before.reads + limit
-  pub stops : StopsAtFault most before gave after
-  pub fault_is_due : IsDue fault limit gave before after
+  -- a source gave these octets, in at most that many reads, until this fault, which is due
+  pub record Gave (limit most : ℕ) (before : S) (gave : List ℕ) (after : S) (fault : Option SessionFault) : Type 0 where
+    -- what the source held before is these, and then what it holds after
+    pub octets : Consumes (seen before).text (seen after).text gave
+    pub within : (seen after).reads ≤ (seen before).reads + limit
+    pub stops : StopsAtFault most before gave after
+    pub fault_is_due : IsDue fault limit gave (seen before) (seen after)
 
--- ---- a session of a source
+  -- ---- a session of a source
 
--- a source gave octets that have these records, and the report tells of them; no record was given back
-pub record IsGiven (limit most : ℕ) (before after : SourceView) (report : SessionReport) (records : List DataRecord) : Type 0 where
-  pub gave : List ℕ
-  pub given : Gave limit most before gave after report.fault
-  -- the messages that count are the first of those that RFC 7011 (sections 3 and 8) gives for the octets before their
-  -- first malformed one
-  pub counted : List Message
-  pub first : IsPrefix counted (gives gave).messages
-  -- and are all of those, unless memory ran out; even then those of what was given before the last read are among them
-  pub all : report.fault ≢ Some (faults.Message OutOfMemory) → counted ≡ (gives gave).messages
-  pub earlier : IsPrefix (gives given.stops.earlier).messages counted
-  -- the records are all data records of these messages, in their order (RFC 7011, section 3.4.3)
-  pub records_are : records ≡ records_in counted
-  -- the report counts these messages and records, and what their sequence numbers say was lost (RFC 7011, section 3.1)
-  pub report_is : Reports report counted (length records)
-  -- no record was given back
-  pub not_closed : report.fault ≢ Some faults.SinkClosed
+  -- a source gave octets that have these records, and the report tells of them; no record was given back
+  pub record IsGiven (limit most : ℕ) (before after : S) (report : SessionReport) (records : List DataRecord) : Type 0 where
+    pub gave : List ℕ
+    pub given : Gave limit most before gave after report.fault
+    -- the messages that count are the first of those that RFC 7011 (sections 3 and 8) gives for the octets before their
+    -- first malformed one
+    pub counted : List Message
+    pub first : IsPrefix counted (gives gave).messages
+    -- and are all of those, unless memory ran out; even then those of what was given before the last read are among them
+    pub all : report.fault ≢ Some (faults.Message OutOfMemory) → counted ≡ (gives gave).messages
+    pub earlier : IsPrefix (gives given.stops.earlier).messages counted
+    -- the records are all data records of these messages, in their order (RFC 7011, section 3.4.3)
+    pub records_are : records ≡ records_in counted
+    -- the report counts these messages and records, and what their sequence numbers say was lost (RFC 7011, section 3.1)
+    pub report_is : Reports report counted (length records)
+    -- no record was given back
+    pub not_closed : report.fault ≢ Some faults.SinkClosed
 
 module _ {K : Type 0} (view : SinkView K) where
   -- what a sink that had taken the old ones' records took of all these messages, by the fault of the report
@@ -85,17 +86,18 @@ module _ {K : Type 0} (view : SinkView K) where
   PutsUpTo (Some faults.SinkClosed) old all before after told = IsRefused view old all before after told
   PutsUpTo fault old all before after told = PutsWhole view old all before after told
 
+module _ {S K : Type 0} (seen : S → SourceView) (view : SinkView K) where
   -- a source gave octets, and a sink took their records
-  pub record Drives (limit most : ℕ) (before after : SourceView) (first last : K) (report : SessionReport) : Type 0 where
+  pub record Drives (limit most : ℕ) (before after : S) (first last : K) (report : SessionReport) : Type 0 where
     pub gave : List ℕ
-    pub given : Gave limit most before gave after report.fault
-    -- before the last read the sink had taken all records of what was given by then, and had given none back
+    pub given : Gave seen limit most before gave after report.fault
+    -- the first records that the sink took are those of what was given before the last read, and it gave none of them back
     pub middle : K
     pub earlier : Takes view first (records_of given.stops.earlier) middle
-    pub puts : PutsUpTo report.fault (gives given.stops.earlier).messages (gives gave).messages middle last (Reports report)
+    pub puts : PutsUpTo view report.fault (gives given.stops.earlier).messages (gives gave).messages middle last (Reports report)
 
   -- the sink took, one after another, the records that a source gave
-  pub record TakesGiven (limit most : ℕ) (before after : SourceView) (first last : K) (report : SessionReport) : Type 0 where
+  pub record TakesGiven (limit most : ℕ) (before after : S) (first last : K) (report : SessionReport) : Type 0 where
     pub records : List DataRecord
-    pub given : IsGiven limit most before after report records
+    pub given : IsGiven seen limit most before after report records
     pub takes : Takes view first records last

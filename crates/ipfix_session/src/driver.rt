@@ -29,7 +29,7 @@ pub fn drive<S: Source, K: Sink>(
     sink: &mut K,
     limit: u64,
 ) -> SessionReport
-    ensures { Drives K.seen limit READ_SIZE (S.seen source.old) (S.seen source.new) sink.old sink.new result }
+    ensures { Drives S.seen K.seen limit READ_SIZE source.old source.new sink.old sink.new result }
 {
     match vec![in alloc; 0; READ_SIZE] {
         Ok(mut buffer) => drive_through(alloc, source, sink, limit, &mut buffer),
@@ -48,7 +48,7 @@ fn drive_through<S: Source, K: Sink>(
     buffer: &mut [u8],
 ) -> SessionReport
     requires { 0 < length buffer.old }
-    ensures { (most : ℕ) → length buffer.old ≤ most → Drives K.seen limit most (S.seen source.old) (S.seen source.new) sink.old sink.new result }
+    ensures { (most : ℕ) → length buffer.old ≤ most → Drives S.seen K.seen limit most source.old source.new sink.old sink.new result }
 {
     let mut session = Session::new(alloc);
     for _ in 0..limit {

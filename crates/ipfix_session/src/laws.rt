@@ -7,7 +7,6 @@ ghost use Rattle.ipfix_message.specs.declared.fault.MessageFault.{MessageFault};
 ghost use Rattle.ipfix_message.specs.declared.record.DataRecord.{DataRecord};
 ghost use Rattle.ipfix_session.specs.MessageStream.{SpellsMessage, cut};
 ghost use Rattle.ipfix_session.specs.Given.{gives, gives_after, behind, known_after, records_of, stop_of, IsOpen, IsPrefix};
-ghost use Rattle.ipfix_session.specs.Sources.{SourceView};
 ghost use Rattle.ipfix_session.specs.Drives.{Drives, IsGiven, TakesGiven};
 ghost use Rattle.ipfix_session.specs.declared.stop.Stop.TheVariants.{Clean, Fault};
 ghost use Rattle.ipfix_session.specs.declared.fault.SessionFault.TheVariants.{SinkClosed};
@@ -38,17 +37,17 @@ pub fn goes_on()
 
 /// What [`drive`](crate::drive) says of a session whose sink gave no record back: the sink took the
 /// records of what the source gave.
-pub fn driven_is_given<K: Sink>()
-    ensures refused { (limit most : ℕ) (before after : SourceView) (first last : K) (r : SessionReport)
-        → Drives K.seen limit most before after first last r → K.seen.refused last ≡ 0 → TakesGiven K.seen limit most before after first last r }
-    ensures fault { (limit most : ℕ) (before after : SourceView) (first last : K) (r : SessionReport)
-        → Drives K.seen limit most before after first last r → r.fault ≢ Some SinkClosed → TakesGiven K.seen limit most before after first last r }
+pub fn driven_is_given<S: Source, K: Sink>()
+    ensures refused { (limit most : ℕ) (before after : S) (first last : K) (r : SessionReport)
+        → Drives S.seen K.seen limit most before after first last r → K.seen.refused last ≡ 0 → TakesGiven S.seen K.seen limit most before after first last r }
+    ensures fault { (limit most : ℕ) (before after : S) (first last : K) (r : SessionReport)
+        → Drives S.seen K.seen limit most before after first last r → r.fault ≢ Some SinkClosed → TakesGiven S.seen K.seen limit most before after first last r }
 {}
 
 /// A session without a fault has read all that its source held: whole messages, of which it has all
 /// records.
 pub fn no_fault_is_all<S: Source>()
     ensures { (limit most : ℕ) (before after : S) (r : SessionReport) (records : List DataRecord) (text : List ℕ)
-        → IsGiven limit most (S.seen before) (S.seen after) r records → r.fault ≡ None → (S.seen before).text ≡ Some text
+        → IsGiven S.seen limit most before after r records → r.fault ≡ None → (S.seen before).text ≡ Some text
         → (stop_of text ≡ Clean) × (records ≡ records_of text) }
 {}

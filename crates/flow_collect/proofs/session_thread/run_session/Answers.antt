@@ -13,7 +13,7 @@ returns g c = λ whole.
       | then-sent w ↦
           (let took_all = sym w.whole-is ∙ whole in
           let none : c.drive-report.new.sink.refused ≡ 0 = grind (arith, nat_tests) in
-          let put = driven_took_all _ _ _ _ _ _ _ _ c.drive-report.ensures none in
+          let put = driven_took_all _ _ _ _ _ _ _ _ _ c.drive-report.ensures none in
           let chain = chain_sent (λ k. k.sender) (λ k. k.sent) _ put.records c.drive-report.new.sink put.takes.chain in
           let last = rw w.if-sent.true at c.send_last-sent.ensures.sent in
           let new = c.new-sink.ensures.0 in
