@@ -3,8 +3,7 @@ use Rattle.std.proofs.Common.{◌≡◌, ℕ, ◌+◌, List, [], ◌∷◌, ◌+
 use Rattle.std.specs.Prelude.{flat_map, IfOk}
 use Rattle.std.proofs.lemmas.List.{length-append}
 use Rattle.std.proofs.lemmas.List.Elements.{All-append, All-cons, All-nil}
-use Rattle.std.specs.declared.fs.File.{File}
-use Rattle.std.specs.contracts.fs.FileRead.TheImpl as file_read
+use Rattle.std.specs.declared.io.traits.Read as read
 use Rattle.ipfix_session.specs.Sources.{SourceView}
 use Rattle.ipfix_session.specs.declared.reader.FromReader.{FromReader}
 use Rattle.flow_table.specs.AddedUp.{rows_in, AreAddedUp}
@@ -20,8 +19,8 @@ use Rattle.collectd.specs.declared.status.Status.{Status}
 use Rattle.collectd.specs.declared.dumping.TheConstants.{READ_LIMIT}
 
 -- what is seen of a file as a source
-abbrev pub seen_file : FromReader File file_read.ghosts → SourceView
-seen_file s = record { text = file_read.ghosts.remaining s.reader; reads = s.reads; failed = s.failed; ended = s.ended }
+abbrev pub seen_file : {F : Type 0} (file : read.Ghosts F) → FromReader F file → SourceView
+seen_file file s = record { text = file.remaining s.reader; reads = s.reads; failed = s.failed; ended = s.ended }
 
 abbrev pub all_rows : List (List RowValue) → List RowValue
 all_rows exports = flat_map (λ rows. rows) exports

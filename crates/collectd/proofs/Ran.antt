@@ -2,7 +2,7 @@
 use Rattle.std.proofs.Common.{◌≡◌, ℕ, ◌+◌, ◌<◌, ◌≤◌, true, false, List, [], ◌∷◌, length, take, get_or, All, Option, Some, None, refl, sym, subst, inl, inr, arith}
 use Rattle.std.proofs.lemmas.List.{take_more, take_all}
 use Rattle.std.proofs.lemmas.List.Elements.{All-nil, All-cons, All-append}
-use Rattle.std.specs.Prelude.{◌↔◌, ◌⊎◌, ◌≢◌, is_some}
+use Rattle.std.specs.Prelude.{◌↔◌, ◌⊎◌, ◌≢◌, is_some, IfSome}
 use Rattle.std.specs.Option.{ForSome}
 use Rattle.std.specs.Io.KnownBytes.{Appends}
 use Rattle.ipfix_message.specs.declared.record.DataRecord.{DataRecord}
@@ -10,6 +10,7 @@ use Rattle.ipfix_session.specs.Sources.{SourceView}
 use Rattle.flow_table.specs.Plans.{PlanValue}
 use Rattle.ipfix_session.specs.declared.report.SessionReport.{SessionReport}
 use Rattle.flow_collect.specs.Headline.{Headline, IsAddedUp}
+use Rattle.flow_collect.specs.Refusals.{fault_of_arguments}
 use Rattle.flow_collect.specs.Texts.{HasNoFault}
 use Rattle.flow_collect.specs.declared.collected.Collected.{Collected}
 use Rattle.flow_collect.specs.declared.collected.Pool.{Pool}
@@ -47,6 +48,23 @@ module _ {S : Type 0} (seen : S → SourceView) where
       → (status ≡ 3 → Untouched ⊎ WasCollected seen sources plan pool) → RunsSources seen count plan pool output status old new Untouched
   runs_sources count plan pool output status old new Untouched sources had same one_each unread table all untouched =
       record { sources = sources; one_each = rw same one_each; unread = rw same unread; table = table; all = all; untouched = untouched }
+
+-- ---- a run by a caller that has one status more, for what can't be opened
+
+pub one_of_four : (status : ℕ) → (status ≡ 0) ⊎ (status ≡ 1) ⊎ (status ≡ 3) → (status ≡ 0) ⊎ (status ≡ 1) ⊎ (status ≡ 2) ⊎ (status ≡ 3)
+one_of_four status (inl zero) = inl zero
+one_of_four status (inr (inl one)) = inr (inl one)
+one_of_four status (inr (inr three)) = inr (inr (inr three))
+
+refused_if : {X : Type 0} (fault : Option X) (status : ℕ) (Untouched : Type 0) → IfSome fault (λ x. (status ≡ 3) × Untouched) → IfSome fault (λ x. ((status ≡ 2) ⊎ (status ≡ 3)) × Untouched)
+refused_if None status Untouched refused = tt
+refused_if (Some x) status Untouched refused = (inr refused.0, refused.1)
+
+-- arguments that have a fault
+pub refused_for : (pool : Pool) (sources count status : ℕ) (Untouched : Type 0) → sources ≡ count → IfSome (fault_of_arguments pool sources) (λ fault. (status ≡ 3) × Untouched)
+    → IfSome (fault_of_arguments pool count) (λ fault. ((status ≡ 2) ⊎ (status ≡ 3)) × Untouched)
+refused_for pool sources count status Untouched same refused =
+    refused_if (fault_of_arguments pool count) status Untouched (subst (λ (n : ℕ). IfSome (fault_of_arguments pool n) (λ fault. (status ≡ 3) × Untouched)) same refused)
 
 -- the status is 0 exactly if all was well
 pub zero_if_well : (s : Status) (n : ℕ) (P : Type 0) → n ≡ number_of s → (s ≡ Well) ⊎ (s ≡ SessionFault) → ((s ≡ Well) ↔ P) → ((n ≡ 0) ↔ P)

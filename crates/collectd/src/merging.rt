@@ -18,8 +18,8 @@ use flow_merge::Merging;
 use flow_table::{Plan, Table};
 use ipfix_session::{FromReader, Source};
 use std::alloc::Global;
-use std::fs::File;
-use std::io::Write;
+use std::fs::OpenFile;
+use std::io::{Read, Write};
 use std::rt::Files;
 
 /// Opens the files of exports one after another, and writes the table of all of them to `out`: rows of
@@ -30,7 +30,7 @@ use std::rt::Files;
 /// To `err` it writes how many files and rows there were, or else a line for the first file that was not
 /// opened or not merged, and what is wrong with it. A fault of `err` is passed over. Nothing is written
 /// to `out` unless all files were merged.
-pub fn run_merge<W: Write, E: Write, R: Files<File = File>>(
+pub fn run_merge<F: Read + OpenFile + Drop, W: Write, E: Write, R: Files<File = F>>(
     rt: &R,
     alloc: Global,
     paths: &[&str],
@@ -42,11 +42,11 @@ pub fn run_merge<W: Write, E: Write, R: Files<File = File>>(
     ensures statuses { (result ≡ 0) ⊎ (result ≡ 2) ⊎ (result ≡ 3) }
     // A source for each path, none of which was read before, gave an export; the rows of all of them,
     // added up, were written, and nothing else.
-    ensures table { result ≡ 0 → WritesMerged ⟦<FromReader<File> as Source>⟧.seen (length paths.now) plan.now output (W.contents out.old) (W.contents out.new) }
+    ensures table { result ≡ 0 → WritesMerged ⟦<FromReader<F> as Source>⟧.seen (length paths.now) plan.now output (W.contents out.old) (W.contents out.new) }
     // Nothing was written unless all were opened,
     ensures not_opened { result ≡ 2 → out.new ≡ out.old }
     // and merged.
-    ensures untouched { result ≡ 3 → (out.new ≡ out.old) ⊎ ((table : TableValue) × IsMerged ⟦<FromReader<File> as Source>⟧.seen (length paths.now) plan.now table) }
+    ensures untouched { result ≡ 3 → (out.new ≡ out.old) ⊎ ((table : TableValue) × IsMerged ⟦<FromReader<F> as Source>⟧.seen (length paths.now) plan.now table) }
 {
     let table = match merge_files(rt, alloc, paths, plan, err) {
         Ok(table) => table,
@@ -61,14 +61,14 @@ pub fn run_merge<W: Write, E: Write, R: Files<File = File>>(
 }
 
 // The table of the exports in files; or the status, if one can't be opened or merged, which is told.
-fn merge_files<E: Write, R: Files<File = File>>(
+fn merge_files<F: Read + OpenFile + Drop, E: Write, R: Files<File = F>>(
     rt: &R,
     alloc: Global,
     paths: &[&str],
     plan: &Plan,
     err: &mut E,
 ) -> Result<Table, Status>
-    ensures merged { IfOk result (IsMerged ⟦<FromReader<File> as Source>⟧.seen (length paths.now) plan.now) }
+    ensures merged { IfOk result (IsMerged ⟦<FromReader<F> as Source>⟧.seen (length paths.now) plan.now) }
     ensures fits { IfOk result (FitsPlan plan.now) }
     ensures status { IfErr result IsNotMerged }
 {
@@ -97,14 +97,14 @@ fn begin<E: Write>(alloc: Global, plan: &Plan, err: &mut E) -> Result<Merging, S
 }
 
 // Adds the file of this number, counted from 1.
-fn add_file<E: Write, R: Files<File = File>>(
+fn add_file<F: Read + OpenFile + Drop, E: Write, R: Files<File = F>>(
     rt: &R,
     merging: Merging,
     file: usize,
     path: &str,
     err: &mut E,
 ) -> Result<Merging, Status>
-    ensures added { IfOk result (AddsFile ⟦<FromReader<File> as Source>⟧.seen merging) }
+    ensures added { IfOk result (AddsFile ⟦<FromReader<F> as Source>⟧.seen merging) }
     ensures status { IfErr result IsNotMerged }
 {
     let Some(source) = open_source(rt, path) else {

@@ -2,6 +2,7 @@
 
 ghost use Rattle.std.specs.Prelude.{◌≡◌, ◌≢◌, ◌⊎◌, ◌<◌, length, IfSome};
 ghost use Rattle.std.specs.Duration.{as_nanos};
+ghost use Rattle.flow_collect.specs.Refusals.{fault_of_arguments};
 ghost use Rattle.collectd.specs.Runs.{RunsSources};
 
 use crate::status::Status;
@@ -46,6 +47,8 @@ pub fn run_tcp<P: Write + Copy + Drop + Send, W: Write, E: Write, R: Clock + Thr
     ensures accepted { result ≢ 2 → RunsSources ⟦<FromReader<TcpStream> as Source>⟧.seen count plan.now pool output result (W.contents out.old) (W.contents out.new) (out.new ≡ out.old) }
     // Nothing was written unless all were accepted.
     ensures not_accepted { result ≡ 2 → out.new ≡ out.old }
+    // Nothing was collected if the arguments have a fault.
+    ensures refused { IfSome (fault_of_arguments pool count) (λ fault. ((result ≡ 2) ⊎ (result ≡ 3)) × (out.new ≡ out.old)) }
     // No connection can have a limit of no time.
     ensures no_time { IfSome idle (λ limit. as_nanos limit ≡ 0 → 0 < count → result ≡ 2) }
 {

@@ -1,6 +1,6 @@
 //! The plan that a file has.
 
-ghost use Rattle.std.specs.Prelude.{◌≡◌, Ok, List, ℕ};
+ghost use Rattle.std.specs.Prelude.{◌≡◌, Ok, IfSome};
 ghost use Rattle.std.specs.Option.{ForSome};
 ghost use Rattle.flow_table.specs.Plans.{IsPlan};
 ghost use Rattle.plan_file.specs.PlanTexts.{plan_of_text};
@@ -15,8 +15,14 @@ use std::rt::Files;
 
 /// Reads the plan in a file. If the file can't be read, or its text is no plan, the answer is `None`
 /// and `err` is told why: a line, and for the fault of a text a second one that says where it is.
-pub fn load_plan<R: Files, E: Write>(rt: &R, alloc: Global, path: &str, err: &mut E) -> Option<Plan>
-    ensures text { ForSome result (λ plan. (text : List ℕ) × (plan_of_text text ≡ Ok plan)) }
+pub fn load_plan<F: Read + Drop, R: Files<File = F>, E: Write>(
+    rt: &R,
+    alloc: Global,
+    path: &str,
+    err: &mut E,
+) -> Option<Plan>
+    // A file was opened, and the plan is that of its octets, if it tells them.
+    ensures text { ForSome result (λ plan. (file : F) × ForSome (F.remaining file) (λ octets. plan_of_text octets ≡ Ok plan)) }
     // No fault fits a plan that was read.
     ensures sound { ForSome result IsPlan }
 {
@@ -33,7 +39,14 @@ pub fn load_plan<R: Files, E: Write>(rt: &R, alloc: Global, path: &str, err: &mu
     }
 }
 
-fn read_file<R: Files>(rt: &R, alloc: Global, path: &str) -> Option<Vec<u8>> {
+// The octets of a file.
+fn read_file<F: Read + Drop, R: Files<File = F>>(
+    rt: &R,
+    alloc: Global,
+    path: &str,
+) -> Option<Vec<u8>>
+    ensures { IfSome result (λ octets. (file : F) × ForSome (F.remaining file) (λ held. octets.items ≡ held)) }
+{
     let mut octets = Vec::new(alloc);
     let mut file = fs::open(rt, path).ok()?;
     file.read_to_end(&mut octets).ok()?;

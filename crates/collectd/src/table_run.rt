@@ -1,10 +1,11 @@
 //! Collecting and writing the table.
 
-ghost use Rattle.std.specs.Prelude.{◌≡◌, ◌≢◌, ◌⊎◌, ◌↔◌, List, IfOk, IfErr, OnOk, All};
+ghost use Rattle.std.specs.Prelude.{◌≡◌, ◌≢◌, ◌⊎◌, ◌↔◌, List, Err, IfOk, IfErr, IfSome, OnOk, All, vec_len};
 ghost use Rattle.std.specs.Io.KnownBytes.{Appends};
 ghost use Rattle.flow_table.specs.Fitting.{FitsPlan};
 ghost use Rattle.flow_table.specs.Plans.{PlanValue};
 ghost use Rattle.flow_collect.specs.Headline.{Headline};
+ghost use Rattle.flow_collect.specs.Refusals.{fault_of_arguments};
 ghost use Rattle.flow_collect.specs.Texts.{HasNoFault};
 ghost use Rattle.collectd.specs.Runs.{export_text, AddsUpWhole, MatchRunFault, WasCollected, WritesTable, WritesWholeTable};
 
@@ -53,6 +54,8 @@ pub fn run<S: Source + Send + Drop, W: Write, E: Write, R: Threads + Wait + Sync
     ensures all { result ≡ 0 → WritesWholeTable S.seen sources.items plan.now output (W.contents out.old) (W.contents out.new) }
     // Nothing was written unless all was collected.
     ensures untouched { result ≡ 3 → (out.new ≡ out.old) ⊎ WasCollected S.seen sources.items plan.now pool }
+    // Nothing was collected if the arguments have a fault.
+    ensures refused { IfSome (fault_of_arguments pool (vec_len sources)) (λ fault. (result ≡ 3) × (out.new ≡ out.old)) }
 {
     match collect_and_write(rt, alloc, sources, plan, pool, output, out) {
         Ok(collected) => {
@@ -79,6 +82,7 @@ fn collect_and_write<S: Source + Send + Drop, W: Write, R: Threads + Wait + Sync
     ensures ok { IfOk result (λ c. Headline S.seen sources.items plan.now pool c
         × Appends (W.contents out.old) (W.contents out.new) (export_text output plan.now c.table)) }
     ensures err { IfErr result (λ fault. MatchRunFault fault (out.new ≡ out.old) (WasCollected S.seen sources.items plan.now pool)) }
+    ensures refused { IfSome (fault_of_arguments pool (vec_len sources)) (λ fault. (result ≡ Err (RunFault.Collect fault)) × (out.new ≡ out.old)) }
 {
     let collected = match collect(rt, alloc, sources, plan, pool, &OpenGate) {
         Ok(collected) => collected,
