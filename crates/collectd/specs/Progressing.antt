@@ -1,5 +1,5 @@
 -- How a session tells what it has read.
-use Rattle.std.specs.Prelude.{◌≡◌, ℕ, ◌+◌, ◌-◌, ◌^◌, ◌≤◌, min, List, Option}
+use Rattle.std.specs.Prelude.{◌≡◌, ℕ, ◌+◌, ◌-◌, ◌^◌, ◌≤◌, min, List, [], Option}
 use Rattle.std.specs.Io.KnownBytes.{Appends}
 use Rattle.collectd.specs.ReportLines.{progress_line}
 
@@ -13,8 +13,9 @@ pub record ProgressView : Type 0 where
   pub size : Option ℕ
   -- when it told last, or began: nanoseconds of the clock
   pub last : ℕ
-  -- the octets that its terminal was given, if it tells them
+  -- the octets that were written, if its terminal tells them, and those of them that it was not given yet
   pub written : Option (List ℕ)
+  pub kept : List ℕ
 
 -- a second, in nanoseconds
 abbrev pub second : ℕ
@@ -24,11 +25,13 @@ second = 1_000_000_000
 pub record IsSilent (old new : ProgressView) : Type 0 where
   pub last : new.last ≡ old.last
   pub written : new.written ≡ old.written
+  pub kept : new.kept ≡ old.kept
 
--- the line of what was read by then was told, a second or more after the one before
+-- the line of what was read by then was told, a second or more after the one before, and nothing is kept back
 pub record TellsLine (old new : ProgressView) : Type 0 where
   pub in_time : old.last + second ≤ new.last
   pub line : Appends old.written new.written (progress_line new.session new.read new.size)
+  pub given : new.kept ≡ []
 
 -- so many octets more were read by the same session; the count stops at the greatest number of 64 bits
 pub record CountsOctets (old : ProgressView) (count : ℕ) (new : ProgressView) : Type 0 where

@@ -33,7 +33,7 @@ impl<'a, C: Clock, P: Write + Drop> Model for Progress<'a, C, P> {
     ghost use Rattle.std.specs.Prelude.{option_map};
     ghost use Rattle.std.specs.Int.NonZero.{non_zero_u64_get};
     ghost use Rattle.std.specs.Time.{instant_nanos};
-    ghost use Rattle.std.specs.Io.Buffered.{writer_contents};
+    ghost use Rattle.std.specs.Io.Buffered.{writer_buffer, writer_contents};
     ghost use Rattle.collectd.specs.Progressing.{ProgressView};
 
     ghost Value = { ProgressView };
@@ -44,6 +44,7 @@ impl<'a, C: Clock, P: Write + Drop> Model for Progress<'a, C, P> {
       size = option_map non_zero_u64_get p.size;
       last = instant_nanos p.last;
       written = writer_contents P.contents p.out;
+      kept = writer_buffer p.out;
     } };
 }
 
@@ -59,6 +60,7 @@ impl<'a, C: Clock, P: Write + Drop> Progress<'a, C, P> {
         ensures session { IfSome result (λ p. p.session ≡ session) }
         ensures read { IfSome result (λ p. p.read ≡ 0) }
         ensures size { IfSome result (λ p. p.size ≡ option_map non_zero_u64_get size) }
+        ensures written { IfSome result (λ p. p.written ≡ P.contents out) }
     {
         let last = Instant::now(clock).ok()?;
         let out = BufWriter::with_capacity(alloc, LINE, out).ok()?;
