@@ -1,6 +1,6 @@
 -- What a run wrote, from the headline and from what the export wrote.
-use Rattle.std.proofs.Common.{◌≡◌, ℕ, ◌+◌, ◌<◌, ◌≤◌, true, false, List, [], ◌∷◌, length, take, get_or, All, Option, Some, None, refl, sym, subst, inl, inr, arith}
-use Rattle.std.proofs.lemmas.List.{take_more, take_all}
+use Rattle.std.proofs.Common.{◌≡◌, ℕ, ◌+◌, ◌<◌, ◌≤◌, true, false, List, [], ◌∷◌, ◌++◌, length, take, get_or, All, Option, Some, None, refl, sym, subst, inl, inr, arith}
+use Rattle.std.proofs.lemmas.List.{length-append, take_more, take_all}
 use Rattle.std.proofs.lemmas.List.Elements.{All-nil, All-cons, All-append}
 use Rattle.std.specs.Prelude.{◌↔◌, ◌⊎◌, ◌≢◌, is_some, IfSome}
 use Rattle.std.specs.Option.{ForSome}
@@ -65,6 +65,14 @@ pub refused_for : (pool : Pool) (sources count status : ℕ) (Untouched : Type 0
     → IfSome (fault_of_arguments pool count) (λ fault. ((status ≡ 2) ⊎ (status ≡ 3)) × Untouched)
 refused_for pool sources count status Untouched same refused =
     refused_if (fault_of_arguments pool count) status Untouched (subst (λ (n : ℕ). IfSome (fault_of_arguments pool n) (λ fault. (status ≡ 3) × Untouched)) same refused)
+
+pub one_longer : {X : Type 0} (old new : List X) (x : X) (n : ℕ) → new ≡ old ++ x ∷ [] → length old ≡ n → length new ≡ n + 1
+one_longer old new x n is count = let both = length-append old (x ∷ []) in rw is (omega (arith, both, count))
+
+-- a connection that was had is none with a limit that none can have
+pub has_no_limit : {X T : Type 0} (limit : Option X) (Zero : X → Type 0) (P : Type 0) (stream : T) → IfSome limit (λ x. Zero x → Some stream ≡ None) → IfSome limit (λ x. Zero x → P)
+has_no_limit None Zero P stream had = tt
+has_no_limit (Some x) Zero P stream had = λ zero. absurd (cc (had zero))
 
 -- the status is 0 exactly if all was well
 pub zero_if_well : (s : Status) (n : ℕ) (P : Type 0) → n ≡ number_of s → (s ≡ Well) ⊎ (s ≡ SessionFault) → ((s ≡ Well) ↔ P) → ((n ≡ 0) ↔ P)

@@ -30,7 +30,7 @@ pub use dumping::{dump, dump_json};
 pub use fault::DumpFault;
 pub use files::run_files;
 pub use merging::run_merge;
-pub use network::run_tcp;
+pub use network::{Listener, run_tcp};
 pub use plans::load_plan;
 pub use reports::{
     write_collect_fault, write_dump_fault, write_export_fault, write_plan_fault, write_reports,

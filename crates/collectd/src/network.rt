@@ -13,12 +13,32 @@ use flow_collect::Pool;
 use flow_table::Plan;
 use ipfix_session::{FromReader, Source};
 use std::alloc::Global;
-use std::io::Write;
+use std::io::{Read, Write};
 use std::net::{TcpListener, TcpStream};
 use std::rt::Clock;
 use std::sync::Wait;
 use std::thread::Threads;
 use std::time::Duration;
+
+/// What gives one connection after another.
+pub trait Listener {
+    type Stream: Read + Drop;
+
+    /// The next connection. A read that waits for longer than `idle` fails; with no `idle` it waits for as
+    /// long as it takes. `None` if there is no connection, or it can't have that limit.
+    fn next_stream(&self, idle: Option<Duration>) -> Option<Self::Stream>
+        ensures no_time { IfSome idle (λ limit. as_nanos limit ≡ 0 → result ≡ None) };
+}
+
+impl Listener for TcpListener {
+    type Stream = TcpStream;
+
+    fn next_stream(&self, idle: Option<Duration>) -> Option<TcpStream> {
+        let (stream, _peer) = self.accept().ok()?;
+        stream.set_read_timeout(idle).ok()?;
+        Some(stream)
+    }
+}
 
 /// Accepts so many connections, each of which is a session, and then does as [`run`]. A read that waits
 /// for longer than `idle` fails, and so ends its session as ReadFailed; with no `idle` it waits for as
@@ -28,10 +48,17 @@ use std::time::Duration;
 /// Each session writes to `progress`, if it is there, what it has read: a line at most once a second,
 /// after a read. A fault of `progress` is passed over.
 #[tactic(auto, using(crate::proofs::Ran::runs_sources))]
-pub fn run_tcp<P: Write + Copy + Drop + Send, W: Write, E: Write, R: Clock + Threads + Wait + Sync>(
+pub fn run_tcp<
+    T: Read + Send + Drop,
+    L: Listener<Stream = T>,
+    P: Write + Copy + Drop + Send,
+    W: Write,
+    E: Write,
+    R: Clock + Threads + Wait + Sync,
+>(
     rt: &R,
     alloc: Global,
-    listener: &TcpListener,
+    listener: &L,
     addr: &str,
     count: usize,
     idle: Option<Duration>,
@@ -44,7 +71,7 @@ pub fn run_tcp<P: Write + Copy + Drop + Send, W: Write, E: Write, R: Clock + Thr
 ) -> u8
     ensures statuses { (result ≡ 0) ⊎ (result ≡ 1) ⊎ (result ≡ 2) ⊎ (result ≡ 3) }
     // So many sources were run, as `run` says it.
-    ensures accepted { result ≢ 2 → RunsSources ⟦<FromReader<TcpStream> as Source>⟧.seen count plan.now pool output result (W.contents out.old) (W.contents out.new) (out.new ≡ out.old) }
+    ensures accepted { result ≢ 2 → RunsSources ⟦<FromReader<T> as Source>⟧.seen count plan.now pool output result (W.contents out.old) (W.contents out.new) (out.new ≡ out.old) }
     // Nothing was written unless all were accepted.
     ensures not_accepted { result ≡ 2 → out.new ≡ out.old }
     // Nothing was collected if the arguments have a fault.
@@ -71,24 +98,24 @@ pub fn run_tcp<P: Write + Copy + Drop + Send, W: Write, E: Write, R: Clock + Thr
 }
 
 // So many connections as sources, each with this limit of a read's time.
-fn accept_all<'r, P: Write + Copy + Drop, R: Clock>(
+fn accept_all<'r, T: Read + Drop, L: Listener<Stream = T>, P: Write + Copy + Drop, R: Clock>(
     rt: &'r R,
     alloc: Global,
-    listener: &TcpListener,
+    listener: &L,
     count: usize,
     idle: Option<Duration>,
     progress: Option<P>,
-) -> Option<Unread<Watched<'r, FromReader<TcpStream>, R, P>>>
+) -> Option<Unread<Watched<'r, FromReader<T>, R, P>>>
     ensures one_each { IfSome result (λ sources. length sources ≡ count) }
     ensures no_time { IfSome idle (λ limit. as_nanos limit ≡ 0 → 0 < count → result ≡ None) }
 {
     let mut sources = Unread::new(alloc);
     for number in 0..count {
-        let (stream, _peer) = listener.accept().ok()?;
-        stream.set_read_timeout(idle).ok()?;
-        let source = FromReader::new(stream);
+        let source = FromReader::new(listener.next_stream(idle)?);
         let watched = Watched::new(alloc, rt, number + 1, source, None, progress);
-        sources.push(watched).ok()?;
+        let Ok(()) = sources.push(watched) else {
+            return None;
+        };
     }
     Some(sources)
 }

@@ -1,4 +1,4 @@
-use Rattle.std.proofs.Common.{◌≡◌, length, rules}
+use Rattle.std.proofs.Common.{length, rules}
 use Rattle.collectd.proofs.Ran.{one_of_four, refused_for, runs_sources}
 use Rattle.collectd.proofs.files.run_files.Goals as goal
 
