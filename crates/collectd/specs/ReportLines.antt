@@ -7,6 +7,10 @@ use Rattle.ipfix_session.specs.declared.fault.SessionFault.{SessionFault}
 use Rattle.ipfix_session.specs.Faults.{number_of, name_of}
 use Rattle.flow_table.specs.PlanFaults as plan
 use Rattle.flow_table.specs.declared.tally.Tally.{Tally}
+use Rattle.flow_collect.specs.Faults as collect
+use Rattle.flow_collect.specs.declared.fault.CollectFault.{CollectFault}
+use Rattle.flow_export.specs.Faults as export
+use Rattle.flow_export.specs.declared.fault.ExportFault.{ExportFault}
 use Rattle.flow_merge.specs.MergeFaults as merging
 use Rattle.flow_merge.specs.RowFaults as rows
 use Rattle.flow_merge.specs.declared.merge_fault.MergeFault.{MergeFault}
@@ -14,6 +18,8 @@ use Rattle.flow_merge.specs.declared.merge_fault.MergeFault.TheVariants.{Session
 use Rattle.plan_file.specs.Faults as text
 use Rattle.plan_file.specs.declared.fault.PlanTextFault.{PlanTextFault}
 use Rattle.plan_file.specs.declared.fault.PlanTextFault.TheVariants.{Plan}
+use Rattle.collectd.specs.declared.run_fault.RunFault.{RunFault}
+use Rattle.collectd.specs.declared.run_fault.RunFault.TheVariants.{Collect, Export}
 
 -- a fault, by its number and its name, at the end of a line
 unfoldable pub fault_text : ℕ → List ℕ → List ℕ
@@ -49,6 +55,17 @@ last_counts t = codes " backward " ++ (decimal t.backward ++ (codes " unkeyed " 
 
 abbrev pub tally_line : Tally → List ℕ
 tally_line t = first_counts t ++ last_counts t
+
+-- what ended a run: a fault of collecting, or one of the export
+abbrev pub collect_fault_line : CollectFault → List ℕ
+collect_fault_line fault = codes "collectd: collect" ++ fault_text (collect.number_of fault) (collect.name_of fault)
+
+abbrev pub export_fault_line : ExportFault → List ℕ
+export_fault_line fault = codes "collectd: export" ++ fault_text (export.number_of fault) (export.name_of fault)
+
+abbrev pub run_fault_line : RunFault → List ℕ
+run_fault_line (Collect fault) = collect_fault_line fault
+run_fault_line (Export fault) = export_fault_line fault
 
 -- the fault of a plan's text, and the plan's own after it
 abbrev pub plan_fault_text : PlanTextFault → List ℕ

@@ -4,12 +4,10 @@ ghost use Rattle.std.specs.Prelude.{◌++◌, codes, decimal, OnOk};
 ghost use Rattle.std.specs.List.{flat_map};
 ghost use Rattle.std.specs.Io.KnownBytes.{Appends};
 ghost use Rattle.collectd.specs.Faults.{number_of, name_of};
-ghost use Rattle.flow_collect.specs.Faults as collect;
-ghost use Rattle.flow_export.specs.Faults as export;
 ghost use Rattle.flow_table.specs.PlanFaults as plan;
 ghost use Rattle.plan_file.specs.Faults as text;
 ghost use Rattle.collectd.specs.PlaceLines.{plan_lines};
-ghost use Rattle.collectd.specs.ReportLines.{domain_lines, fault_text, first_counts, last_counts, loss_line, plan_fault_text, report_lines, session_lines, tally_line};
+ghost use Rattle.collectd.specs.ReportLines.{collect_fault_line, domain_lines, export_fault_line, fault_text, first_counts, last_counts, loss_line, plan_fault_text, report_lines, session_lines, tally_line};
 
 use crate::fault::DumpFault;
 use crate::places::write_place;
@@ -131,14 +129,14 @@ pub fn write_dump_fault<W: Write>(fault: DumpFault, out: &mut W) -> io::Result<(
 
 /// Writes the line of a fault of collecting.
 pub fn write_collect_fault<W: Write>(fault: CollectFault, out: &mut W) -> io::Result<()>
-    ensures { OnOk result (Appends (W.contents out.old) (W.contents out.new) (codes "collectd: collect" ++ fault_text (collect.number_of fault) (collect.name_of fault))) }
+    ensures { OnOk result (Appends (W.contents out.old) (W.contents out.new) (collect_fault_line fault)) }
 {
     write_fault("collect", fault.number(), fault.name(), out)
 }
 
 /// Writes the line of a fault of the export.
 pub fn write_export_fault<W: Write>(fault: ExportFault, out: &mut W) -> io::Result<()>
-    ensures { OnOk result (Appends (W.contents out.old) (W.contents out.new) (codes "collectd: export" ++ fault_text (export.number_of fault) (export.name_of fault))) }
+    ensures { OnOk result (Appends (W.contents out.old) (W.contents out.new) (export_fault_line fault)) }
 {
     write_fault("export", fault.number(), fault.name(), out)
 }

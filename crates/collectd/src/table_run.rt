@@ -1,12 +1,13 @@
 //! Collecting and writing the table.
 
-ghost use Rattle.std.specs.Prelude.{◌≡◌, ◌≢◌, ◌⊎◌, ◌↔◌, List, Err, IfOk, IfErr, IfSome, OnOk, All, vec_len};
+ghost use Rattle.std.specs.Prelude.{◌≡◌, ◌≢◌, ◌⊎◌, ◌↔◌, List, ◌++◌, Err, IfOk, IfErr, IfSome, OnOk, All, vec_len};
 ghost use Rattle.std.specs.Io.KnownBytes.{Appends};
 ghost use Rattle.flow_table.specs.Fitting.{FitsPlan};
 ghost use Rattle.flow_table.specs.Plans.{PlanValue};
 ghost use Rattle.flow_collect.specs.Headline.{Headline};
 ghost use Rattle.flow_collect.specs.Refusals.{fault_of_arguments};
 ghost use Rattle.flow_collect.specs.Texts.{HasNoFault};
+ghost use Rattle.collectd.specs.ReportLines.{report_lines, run_fault_line, tally_line};
 ghost use Rattle.collectd.specs.Runs.{export_text, AddsUpWhole, MatchRunFault, WasCollected, WritesTable, WritesWholeTable};
 
 use crate::reports::{write_collect_fault, write_export_fault, write_reports, write_tally};
@@ -138,12 +139,17 @@ fn ends_of(reports: &[SessionReport]) -> Status
 }
 
 // What there is to tell of sessions and their records.
-fn tell<S, E: Write>(collected: &Collected<S>, err: &mut E) -> io::Result<()> {
+fn tell<S, E: Write>(collected: &Collected<S>, err: &mut E) -> io::Result<()>
+    ensures { OnOk result (Appends (E.contents err.old) (E.contents err.new) (report_lines collected.now.sessions.items ++ tally_line collected.now.table.tally)) }
+{
     write_reports(&collected.sessions, err)?;
     write_tally(&collected.table.tally, err)
 }
 
-fn tell_fault<E: Write>(fault: RunFault, err: &mut E) -> io::Result<()> {
+// The line of what ended a run.
+fn tell_fault<E: Write>(fault: RunFault, err: &mut E) -> io::Result<()>
+    ensures { OnOk result (Appends (E.contents err.old) (E.contents err.new) (run_fault_line fault)) }
+{
     match fault {
         RunFault::Collect(fault) => write_collect_fault(fault, err),
         RunFault::Export(fault) => write_export_fault(fault, err),
