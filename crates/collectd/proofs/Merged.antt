@@ -1,11 +1,10 @@
 -- Files that are merged one after another.
-use Rattle.std.proofs.Common.{◌≡◌, ℕ, ◌+◌, List, [], ◌∷◌, ◌++◌, length, All, Result, Ok, Err, refl, sym, ap, ◌∙◌, subst, append-nil, append_assoc, arith}
+use Rattle.std.proofs.Common.{◌≡◌, ℕ, ◌+◌, ◌<◌, ◌≤◌, List, [], ◌∷◌, ◌++◌, length, take, get_or, All, Result, Ok, Err, refl, sym, ap, ◌∙◌, subst, append-nil, append_assoc}
 use Rattle.std.specs.Prelude.{flat_map, IfOk}
-use Rattle.std.proofs.lemmas.List.{length-append}
+use Rattle.std.specs.List.{AllZip}
+use Rattle.std.proofs.lemmas.List.{take_more, take_all}
 use Rattle.std.proofs.lemmas.List.Elements.{All-append, All-cons, All-nil}
-use Rattle.std.specs.declared.io.traits.Read as read
 use Rattle.ipfix_session.specs.Sources.{SourceView}
-use Rattle.ipfix_session.specs.declared.reader.FromReader.{FromReader}
 use Rattle.flow_table.specs.AddedUp.{rows_in, AreAddedUp}
 use Rattle.flow_table.specs.Plans.{PlanValue}
 use Rattle.flow_table.specs.SameTables.{RowValue}
@@ -18,10 +17,6 @@ use Rattle.collectd.specs.Runs.{IsUnread}
 use Rattle.collectd.specs.declared.status.Status.{Status}
 use Rattle.collectd.specs.declared.dumping.TheConstants.{READ_LIMIT}
 
--- what is seen of a file as a source
-abbrev pub seen_file : {F : Type 0} (file : read.Ghosts F) → FromReader F file → SourceView
-seen_file file s = record { text = file.remaining s.reader; reads = s.reads; failed = s.failed; ended = s.ended }
-
 abbrev pub all_rows : List (List RowValue) → List RowValue
 all_rows exports = flat_map (λ rows. rows) exports
 
@@ -29,27 +24,27 @@ all_rows-more : (exports : List (List RowValue)) (rows : List RowValue) → all_
 all_rows-more [] rows = append-nil rows
 all_rows-more (x ∷ exports) rows = ap (λ (l : List RowValue). x ++ l) (all_rows-more exports rows) ∙ sym (append_assoc x (all_rows exports) rows)
 
-module _ {S : Type 0} (seen : S → SourceView) (plan : PlanValue) where
-  -- so many files were read, and it stands for all of their rows
-  pub record Stands (count : ℕ) (m : Merging) : Type 0 where
+module _ {S X : Type 0} (seen : S → SourceView) (opens : X → S → Type 0) (plan : PlanValue) where
+  -- the sources of these paths were read, and it stands for all of their rows
+  pub record Stands (paths : List X) (m : Merging) : Type 0 where
     pub same_plan : plan_of m ≡ plan
     pub sources : List S
-    pub one_each : length sources ≡ count
+    pub opened : AllZip opens paths sources
     pub unread : All (IsUnread seen) sources
     pub exports : List (List RowValue)
     pub given : GiveExports seen READ_LIMIT plan sources exports
     pub stands : StandsFor m (all_rows exports)
 
-  pub none_read : (m : Merging) → plan_of m ≡ plan → StandsFor m [] → Stands 0 m
-  none_read m same stands = record { same_plan = same; sources = []; one_each = refl; unread = All-nil (IsUnread seen); exports = []; given = tt; stands = stands }
+  pub none_read : (m : Merging) → plan_of m ≡ plan → StandsFor m [] → Stands [] m
+  none_read m same stands = record { same_plan = same; sources = []; opened = tt; unread = All-nil (IsUnread seen); exports = []; given = tt; stands = stands }
 
-  pub one_read : (count : ℕ) (old new : Merging) → AddsFile seen old new → Stands count old → Stands (count + 1) new
-  one_read count old new file so_far =
+  one_read : (paths : List X) (path : X) (old new : Merging) → AddsFile seen (opens path) old new → Stands paths old → Stands (paths ++ path ∷ []) new
+  one_read paths path old new file so_far =
       let one = file.adds (all_rows so_far.exports) so_far.stands in
       record {
         same_plan = file.same_plan ∙ so_far.same_plan;
         sources = so_far.sources ++ file.before ∷ [];
-        one_each = let both = length-append so_far.sources (file.before ∷ []) in omega (arith, both, so_far.one_each);
+        opened = zip_more opens paths so_far.sources path file.before so_far.opened file.had;
         unread = All-append (IsUnread seen) so_far.sources (file.before ∷ []) so_far.unread (All-cons (IsUnread seen) file.before [] file.unread (All-nil (IsUnread seen)));
         exports = so_far.exports ++ one.more ∷ [];
         given = zip_more (λ source rows. (left : S) × GivesExport seen READ_LIMIT plan source left rows) so_far.sources so_far.exports file.before one.more so_far.given
@@ -57,11 +52,22 @@ module _ {S : Type 0} (seen : S → SourceView) (plan : PlanValue) where
         stands = subst (StandsFor new) (sym (all_rows-more so_far.exports one.more)) one.stands;
       }
 
-  pub all_read : (count : ℕ) (m : Merging) (answer : Result Table Status) (so_far : Stands count m) → IfOk answer (λ table. AreAddedUp (all_rows so_far.exports) (rows_in table)) → IfOk answer (IsMerged seen count plan)
-  all_read count m (Ok table) so_far added =
-      record { sources = so_far.sources; one_each = so_far.one_each; unread = so_far.unread; added_up = record { exports = so_far.exports; given = so_far.given; added_up = added } }
-  all_read count m (Err status) so_far added = tt
+  all_read : (paths : List X) (m : Merging) (answer : Result Table Status) (so_far : Stands paths m) → IfOk answer (λ table. AreAddedUp (all_rows so_far.exports) (rows_in table))
+      → IfOk answer (IsMerged seen (AllZip opens paths) plan)
+  all_read paths m (Ok table) so_far added =
+      record { sources = so_far.sources; had = so_far.opened; unread = so_far.unread; added_up = record { exports = so_far.exports; given = so_far.given; added_up = added } }
+  all_read paths m (Err status) so_far added = tt
 
-pub adds_file : {S : Type 0} (seen : S → SourceView) (old new : Merging) (before after : S) → IsUnread seen before → plan_of new ≡ plan_of old
-    → ((rows : List RowValue) → StandsFor old rows → AddsExport seen READ_LIMIT old before after rows new) → AddsFile seen old new
-adds_file seen old new before after unread same adds = record { before = before; after = after; unread = unread; same_plan = same; adds = adds }
+  -- one more of these paths
+  pub one_path : (paths : List X) (i : ℕ) (path : X) (old new : Merging) → i < length paths → AddsFile seen (opens (get_or paths i path)) old new → Stands (take i paths) old → Stands (take (i + 1) paths) new
+  one_path paths i path old new less file so_far =
+      subst (λ (ps : List X). Stands ps new) (sym (take_more paths i path less)) (one_read (take i paths) (get_or paths i path) old new file so_far)
+
+  -- all of them
+  pub all_paths : (paths : List X) (i : ℕ) (m : Merging) (answer : Result Table Status) → length paths ≤ i → (so_far : Stands (take i paths) m) → IfOk answer (λ table. AreAddedUp (all_rows so_far.exports) (rows_in table))
+      → IfOk answer (IsMerged seen (AllZip opens paths) plan)
+  all_paths paths i m answer all so_far added = subst (λ (ps : List X). IfOk answer (IsMerged seen (AllZip opens ps) plan)) (take_all i paths all) (all_read (take i paths) m answer so_far added)
+
+pub adds_file : {S : Type 0} (seen : S → SourceView) (IsHad : S → Type 0) (old new : Merging) (before after : S) → IsHad before → IsUnread seen before → plan_of new ≡ plan_of old
+    → ((rows : List RowValue) → StandsFor old rows → AddsExport seen READ_LIMIT old before after rows new) → AddsFile seen IsHad old new
+adds_file seen IsHad old new before after had unread same adds = record { before = before; after = after; had = had; unread = unread; same_plan = same; adds = adds }

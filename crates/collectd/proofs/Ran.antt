@@ -5,6 +5,7 @@ use Rattle.std.proofs.lemmas.List.Elements.{All-nil, All-cons, All-append}
 use Rattle.std.specs.Prelude.{◌↔◌, ◌⊎◌, ◌≢◌, is_some, IfSome}
 use Rattle.std.specs.Option.{ForSome}
 use Rattle.std.specs.Io.KnownBytes.{Appends}
+use Rattle.std.specs.List.{AllZip}
 use Rattle.ipfix_message.specs.declared.record.DataRecord.{DataRecord}
 use Rattle.ipfix_session.specs.Sources.{SourceView}
 use Rattle.flow_table.specs.Plans.{PlanValue}
@@ -14,6 +15,7 @@ use Rattle.flow_collect.specs.Refusals.{fault_of_arguments}
 use Rattle.flow_collect.specs.Texts.{HasNoFault}
 use Rattle.flow_collect.specs.declared.collected.Collected.{Collected}
 use Rattle.flow_collect.specs.declared.collected.Pool.{Pool}
+use Rattle.flow_merge.proofs.RowsRead.{zip_more}
 use Rattle.flow_collect.proofs.GivenLists.{first_each, all_whole, whole_records, whole_clean}
 use Rattle.collectd.specs.Runs.{export_text, AddsUpWhole, IsUnread, RunsSources, WasCollected, WritesTable, WritesWholeTable}
 use Rattle.collectd.specs.Statuses.{number_of}
@@ -43,11 +45,31 @@ module _ {S : Type 0} (seen : S → SourceView) where
       }
 
   -- sources that were had one after another, and then run
-  pub runs_sources : (count : ℕ) (plan : PlanValue) (pool : Pool) (output : Output) (status : ℕ) (old new : Option (List ℕ)) (Untouched : Type 0) (sources had : List S)
-      → sources ≡ had → length had ≡ count → All (IsUnread seen) had → (status ≢ 3 → WritesTable seen sources plan pool output status old new) → (status ≡ 0 → WritesWholeTable seen sources plan output old new)
-      → (status ≡ 3 → Untouched ⊎ WasCollected seen sources plan pool) → RunsSources seen count plan pool output status old new Untouched
-  runs_sources count plan pool output status old new Untouched sources had same one_each unread table all untouched =
-      record { sources = sources; one_each = rw same one_each; unread = rw same unread; table = table; all = all; untouched = untouched }
+  pub runs_sources : (AreHad : List S → Type 0) (plan : PlanValue) (pool : Pool) (output : Output) (status : ℕ) (old new : Option (List ℕ)) (Untouched : Type 0) (sources had : List S)
+      → sources ≡ had → AreHad had → All (IsUnread seen) had → (status ≢ 3 → WritesTable seen sources plan pool output status old new) → (status ≡ 0 → WritesWholeTable seen sources plan output old new)
+      → (status ≡ 3 → Untouched ⊎ WasCollected seen sources plan pool) → RunsSources seen AreHad plan pool output status old new Untouched
+  runs_sources AreHad plan pool output status old new Untouched sources had same are_had unread table all untouched =
+      record { sources = sources; had = rw same are_had; unread = rw same unread; table = table; all = all; untouched = untouched }
+
+-- ---- sources that are opened by their paths
+
+module _ {X S : Type 0} (opens : X → S → Type 0) where
+  -- one more path
+  pub one_opened : (paths : List X) (i : ℕ) (path : X) (had new : List S) (source : S) → i < length paths → new ≡ had ++ source ∷ [] → AllZip opens (take i paths) had → opens (get_or paths i path) source
+      → AllZip opens (take (i + 1) paths) new
+  one_opened paths i path had new source less is first one =
+      rw is (subst (λ (ps : List X). AllZip opens ps (had ++ source ∷ [])) (sym (take_more paths i path less)) (zip_more opens (take i paths) had (get_or paths i path) source first one))
+
+  -- all of them
+  pub all_opened : (paths : List X) (i : ℕ) (had : List S) → length paths ≤ i → AllZip opens (take i paths) had → AllZip opens paths had
+  all_opened paths i had all first = subst (λ (ps : List X). AllZip opens ps had) (take_all i paths all) first
+
+-- as many of them as paths
+pub one_for_each : {X S : Type 0} (opens : X → S → Type 0) (paths : List X) (had : List S) → AllZip opens paths had → length had ≡ length paths
+one_for_each opens [] [] all = refl
+one_for_each opens [] (s ∷ had) all = absurd all
+one_for_each opens (p ∷ paths) [] all = absurd all
+one_for_each opens (p ∷ paths) (s ∷ had) all = let shorter = one_for_each opens paths had all.1 in omega (arith, shorter)
 
 -- ---- a run by a caller that has one status more, for what can't be opened
 
@@ -68,6 +90,9 @@ refused_for pool sources count status Untouched same refused =
 
 pub one_longer : {X : Type 0} (old new : List X) (x : X) (n : ℕ) → new ≡ old ++ x ∷ [] → length old ≡ n → length new ≡ n + 1
 one_longer old new x n is count = let both = length-append old (x ∷ []) in rw is (omega (arith, both, count))
+
+pub one_more : {X : Type 0} (P : X → Type 0) (old new : List X) (x : X) → new ≡ old ++ x ∷ [] → All P old → P x → All P new
+one_more P old new x is all one = rw is (All-append P old (x ∷ []) all (All-cons P x [] one (All-nil P)))
 
 -- a connection that was had is none with a limit that none can have
 pub has_no_limit : {X T : Type 0} (limit : Option X) (Zero : X → Type 0) (P : Type 0) (stream : T) → IfSome limit (λ x. Zero x → Some stream ≡ None) → IfSome limit (λ x. Zero x → P)

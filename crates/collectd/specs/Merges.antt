@@ -14,24 +14,25 @@ use Rattle.collectd.specs.declared.status.Status.TheVariants.{NotOpened, Failed}
 use Rattle.collectd.specs.declared.table_run.Output.{Output}
 
 module _ {S : Type 0} (seen : S → SourceView) where
-  -- so many sources were had, none of which was read before; each gave an export, and the rows of all of them, added up, are
-  -- those of the table
-  pub record IsMerged (count : ℕ) (plan : PlanValue) (table : Table) : Type 0 where
+  -- sources were had as the first fact says it, none of which was read before; each gave an export, and the rows of all of
+  -- them, added up, are those of the table
+  pub record IsMerged (AreHad : List S → Type 0) (plan : PlanValue) (table : Table) : Type 0 where
     pub sources : List S
-    pub one_each : length sources ≡ count
+    pub had : AreHad sources
     pub unread : All (IsUnread seen) sources
     pub added_up : AddsAllUp seen READ_LIMIT plan sources table
 
   -- that table was written, and nothing else
-  pub record WritesMerged (count : ℕ) (plan : PlanValue) (output : Output) (old new : Option (List ℕ)) : Type 0 where
+  pub record WritesMerged (AreHad : List S → Type 0) (plan : PlanValue) (output : Output) (old new : Option (List ℕ)) : Type 0 where
     pub table : Table
-    pub merged : IsMerged count plan table
+    pub merged : IsMerged AreHad plan table
     pub written : Appends old new (export_text output plan table)
 
-  -- the export of a source that was not read before is added
-  pub record AddsFile (old new : Merging) : Type 0 where
+  -- the export of a source that was had as the first fact says it, and not read before, is added
+  pub record AddsFile (IsHad : S → Type 0) (old new : Merging) : Type 0 where
     pub before : S
     pub after : S
+    pub had : IsHad before
     pub unread : IsUnread seen before
     pub same_plan : plan_of new ≡ plan_of old
     pub adds : (rows : List RowValue) → StandsFor old rows → AddsExport seen READ_LIMIT old before after rows new

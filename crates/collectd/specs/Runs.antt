@@ -65,11 +65,11 @@ module _ {S : Type 0} (seen : S → SourceView) where
     pub failed : (seen source).failed ≡ 0
     pub ended : (seen source).ended ≡ false
 
-  -- so many sources were had, none of which was read before, and a run of them ended like this; the last fact says that
-  -- the writer is untouched
-  pub record RunsSources (count : ℕ) (plan : PlanValue) (pool : Pool) (output : Output) (status : ℕ) (old new : Option (List ℕ)) (Untouched : Type 0) : Type 0 where
+  -- sources were had as the first fact says it, none of which was read before, and a run of them ended like this; the last
+  -- fact says that the writer is untouched
+  pub record RunsSources (AreHad : List S → Type 0) (plan : PlanValue) (pool : Pool) (output : Output) (status : ℕ) (old new : Option (List ℕ)) (Untouched : Type 0) : Type 0 where
     pub sources : List S
-    pub one_each : length sources ≡ count
+    pub had : AreHad sources
     pub unread : All IsUnread sources
     pub table : status ≢ 3 → WritesTable sources plan pool output status old new
     pub all : status ≡ 0 → WritesWholeTable sources plan output old new

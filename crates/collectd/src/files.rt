@@ -1,43 +1,41 @@
 //! Collecting from files.
 
 ghost use Rattle.std.specs.Prelude.{◌≡◌, ◌≢◌, ◌⊎◌, length, IfOk, IfSome};
+ghost use Rattle.std.specs.List.{AllZip};
 ghost use Rattle.flow_collect.specs.Refusals.{fault_of_arguments};
 ghost use Rattle.collectd.specs.Runs.{IsUnread, RunsSources};
 
+use crate::opening::{OpenSource, Opened};
 use crate::status::Status;
 use crate::table_run::{Output, run};
 use crate::unread::Unread;
 use crate::watched::Watched;
 use flow_collect::Pool;
 use flow_table::Plan;
-use ipfix_session::{FromReader, Source};
+use ipfix_session::Source;
 use std::alloc::Global;
-use std::fs::{self, OpenFile};
-use std::io::{Read, Write};
-use std::num::NonZeroU64;
-use std::rt::{Clock, Files};
+use std::io::Write;
+use std::rt::Clock;
 use std::sync::Wait;
 use std::thread::Threads;
 
-/// The word for standard input, and the file that it is.
-const STANDARD_INPUT: (&str, &str) = ("-", "/dev/stdin");
-
 /// Opens the files of IPFIX messages (RFC 5655), each of which is a session, in order, and then does as
-/// [`run`]. The file `-` is standard input. If one can't be opened the status is 2, and its line is
-/// written to `err`.
+/// [`run`]. If one can't be opened the status is 2, and its line is written to `err`.
 ///
 /// Each session writes to `progress`, if it is there, what it has read, and of how many octets: a line at
 /// most once a second, after a read. A fault of `progress` is passed over.
 #[tactic(auto, using(crate::proofs::Ran::runs_sources))]
 pub fn run_files<
-    F: Read + OpenFile + Send + Drop,
+    S: Source + Send + Drop,
+    O: OpenSource<S>,
     P: Write + Copy + Drop + Send,
     W: Write,
     E: Write,
-    R: Files<File = F> + Clock + Threads + Wait + Sync,
+    R: Clock + Threads + Wait + Sync,
 >(
     rt: &R,
     alloc: Global,
+    files: &O,
     paths: &[&str],
     plan: &Plan,
     pool: Pool,
@@ -47,14 +45,14 @@ pub fn run_files<
     err: &mut E,
 ) -> u8
     ensures statuses { (result ≡ 0) ⊎ (result ≡ 1) ⊎ (result ≡ 2) ⊎ (result ≡ 3) }
-    // A source for each path was run, as `run` says it.
-    ensures opened { result ≢ 2 → RunsSources ⟦<FromReader<F> as Source>⟧.seen (length paths.now) plan.now pool output result (W.contents out.old) (W.contents out.new) (out.new ≡ out.old) }
+    // The sources of the paths, in their order, were run, as `run` says it.
+    ensures opened { result ≢ 2 → RunsSources S.seen (AllZip (λ path. O.opens files.now path.now) paths.now) plan.now pool output result (W.contents out.old) (W.contents out.new) (out.new ≡ out.old) }
     // Nothing was written unless all were opened.
     ensures not_opened { result ≡ 2 → out.new ≡ out.old }
     // Nothing was collected if the arguments have a fault.
     ensures refused { IfSome (fault_of_arguments pool (length paths.now)) (λ fault. ((result ≡ 2) ⊎ (result ≡ 3)) × (out.new ≡ out.old)) }
 {
-    match open_all(rt, alloc, paths, progress) {
+    match open_all(rt, alloc, files, paths, progress) {
         Ok(sources) => run(
             rt,
             alloc,
@@ -72,20 +70,21 @@ pub fn run_files<
     }
 }
 
-// The files as sources, or the first that can't be had.
-fn open_all<'r, 'a, F: Read + OpenFile + Drop, P: Write + Copy + Drop, R: Files<File = F> + Clock>(
+// The sources of the paths, or the first path that can't be opened.
+fn open_all<'r, 'a, S: Source + Drop, O: OpenSource<S>, P: Write + Copy + Drop, R: Clock>(
     rt: &'r R,
     alloc: Global,
+    files: &O,
     paths: &[&'a str],
     progress: Option<P>,
-) -> Result<Unread<Watched<'r, FromReader<F>, R, P>>, &'a str>
-    ensures { IfOk result (λ sources. length sources ≡ length paths.now) }
+) -> Result<Unread<Watched<'r, S, R, P>>, &'a str>
+    ensures { IfOk result (AllZip (λ path. O.opens files.now path.now) paths.now) }
 {
     let mut sources = Unread::new(alloc);
     let mut session = 0_usize;
     for path in paths {
         session = session.saturating_add(1);
-        let Some(source) = open_watched(rt, alloc, session, *path, progress) else {
+        let Some(source) = open_watched(rt, alloc, files, session, *path, progress) else {
             return Err(*path);
         };
         let Ok(()) = sources.push(source) else {
@@ -95,46 +94,18 @@ fn open_all<'r, 'a, F: Read + OpenFile + Drop, P: Write + Copy + Drop, R: Files<
     Ok(sources)
 }
 
-// The file of the session of this number, counted from 1.
-fn open_watched<'r, F: Read + OpenFile + Drop, P: Write + Copy + Drop, R: Files<File = F> + Clock>(
+// The source of a path, for the session of this number, counted from 1.
+fn open_watched<'r, S: Source + Drop, O: OpenSource<S>, P: Write + Copy + Drop, R: Clock>(
     rt: &'r R,
     alloc: Global,
+    files: &O,
     session: usize,
     path: &str,
     progress: Option<P>,
-) -> Option<Watched<'r, FromReader<F>, R, P>>
-    ensures { IfSome result (IsUnread ⟦<FromReader<F> as Source>⟧.seen) }
+) -> Option<Watched<'r, S, R, P>>
+    ensures named { IfSome result (O.opens files.now path.now) }
+    ensures unread { IfSome result (IsUnread S.seen) }
 {
-    let file = open_file(rt, path)?;
-    let size = if progress.is_some() {
-        size_of(&file)
-    } else {
-        None
-    };
-    let source = FromReader::new(file);
+    let Opened { source, size } = files.open_source(path)?;
     Some(Watched::new(alloc, rt, session, source, size, progress))
-}
-
-// How many octets the file has, if that can be known before it is read.
-fn size_of<F: OpenFile>(file: &F) -> Option<NonZeroU64> {
-    NonZeroU64::new(file.metadata().ok()?.len())
-}
-
-/// The file as a source of which nothing was read, if it can be opened. The file `-` is standard input.
-pub fn open_source<F: Read + OpenFile + Drop, R: Files<File = F>>(
-    rt: &R,
-    path: &str,
-) -> Option<FromReader<F>>
-    ensures { IfSome result (IsUnread ⟦<FromReader<F> as Source>⟧.seen) }
-{
-    Some(FromReader::new(open_file(rt, path)?))
-}
-
-fn open_file<R: Files>(rt: &R, path: &str) -> Option<R::File> {
-    let name = if path == STANDARD_INPUT.0 {
-        STANDARD_INPUT.1
-    } else {
-        path
-    };
-    fs::open(rt, name).ok()
 }

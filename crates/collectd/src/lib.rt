@@ -13,6 +13,7 @@ mod line_sink;
 mod merge_reports;
 mod merging;
 mod network;
+mod opening;
 mod places;
 mod plans;
 mod progress;
@@ -31,6 +32,7 @@ pub use fault::DumpFault;
 pub use files::run_files;
 pub use merging::run_merge;
 pub use network::{Listener, run_tcp};
+pub use opening::{OpenSource, Opened};
 pub use plans::load_plan;
 pub use reports::{
     write_collect_fault, write_dump_fault, write_export_fault, write_plan_fault, write_reports,

@@ -1,6 +1,7 @@
 //! Merging the exports in files.
 
-ghost use Rattle.std.specs.Prelude.{◌≡◌, ◌⊎◌, [], length, List, IfErr, IfOk};
+ghost use Rattle.std.specs.Prelude.{◌≡◌, ◌⊎◌, [], List, IfErr, IfOk};
+ghost use Rattle.std.specs.List.{AllZip};
 ghost use Rattle.flow_table.specs.AddedUp.{rows_in, AreAddedUp};
 ghost use Rattle.flow_table.specs.Fitting.{FitsPlan};
 ghost use Rattle.flow_table.specs.SameTables.{RowValue};
@@ -9,29 +10,26 @@ ghost use Rattle.flow_merge.specs.Merging.{plan_of, StandsFor};
 ghost use Rattle.collectd.specs.Merges.{AddsFile, IsMerged, IsNotMerged, WritesMerged};
 
 use crate::dumping::READ_LIMIT;
-use crate::files::open_source;
 use crate::merge_reports::{write_file_fault, write_merge_fault, write_merged};
+use crate::opening::OpenSource;
 use crate::reports::write_export_fault;
 use crate::status::Status;
 use crate::table_run::{Output, export};
 use flow_merge::Merging;
 use flow_table::{Plan, Table};
-use ipfix_session::{FromReader, Source};
+use ipfix_session::Source;
 use std::alloc::Global;
-use std::fs::OpenFile;
-use std::io::{Read, Write};
-use std::rt::Files;
+use std::io::Write;
 
 /// Opens the files of exports one after another, and writes the table of all of them to `out`: rows of
-/// the same interval and key are added up. The file `-` is standard input. Answers the exit status: 0 if
-/// all was well; 2 if a file can't be opened; 3 if a file is no whole export under the plan, a sum is too
+/// the same interval and key are added up. Answers the exit status: 0 if all was well; 2 if a file can't be opened; 3 if a file is no whole export under the plan, a sum is too
 /// large, memory runs out, or the table can't be written.
 ///
 /// To `err` it writes how many files and rows there were, or else a line for the first file that was not
 /// opened or not merged, and what is wrong with it. A fault of `err` is passed over. Nothing is written
 /// to `out` unless all files were merged.
-pub fn run_merge<F: Read + OpenFile + Drop, W: Write, E: Write, R: Files<File = F>>(
-    rt: &R,
+pub fn run_merge<S: Source + Drop, O: OpenSource<S>, W: Write, E: Write>(
+    files: &O,
     alloc: Global,
     paths: &[&str],
     plan: &Plan,
@@ -40,15 +38,15 @@ pub fn run_merge<F: Read + OpenFile + Drop, W: Write, E: Write, R: Files<File = 
     err: &mut E,
 ) -> u8
     ensures statuses { (result ≡ 0) ⊎ (result ≡ 2) ⊎ (result ≡ 3) }
-    // A source for each path, none of which was read before, gave an export; the rows of all of them,
-    // added up, were written, and nothing else.
-    ensures table { result ≡ 0 → WritesMerged ⟦<FromReader<F> as Source>⟧.seen (length paths.now) plan.now output (W.contents out.old) (W.contents out.new) }
+    // The source of each path, in their order, gave an export; the rows of all of them, added up, were
+    // written, and nothing else.
+    ensures table { result ≡ 0 → WritesMerged S.seen (AllZip (λ path. O.opens files.now path.now) paths.now) plan.now output (W.contents out.old) (W.contents out.new) }
     // Nothing was written unless all were opened,
     ensures not_opened { result ≡ 2 → out.new ≡ out.old }
     // and merged.
-    ensures untouched { result ≡ 3 → (out.new ≡ out.old) ⊎ ((table : TableValue) × IsMerged ⟦<FromReader<F> as Source>⟧.seen (length paths.now) plan.now table) }
+    ensures untouched { result ≡ 3 → (out.new ≡ out.old) ⊎ ((table : TableValue) × IsMerged S.seen (AllZip (λ path. O.opens files.now path.now) paths.now) plan.now table) }
 {
-    let table = match merge_files(rt, alloc, paths, plan, err) {
+    let table = match merge_files(files, alloc, paths, plan, err) {
         Ok(table) => table,
         Err(status) => return status.number(),
     };
@@ -61,14 +59,14 @@ pub fn run_merge<F: Read + OpenFile + Drop, W: Write, E: Write, R: Files<File = 
 }
 
 // The table of the exports in files; or the status, if one can't be opened or merged, which is told.
-fn merge_files<F: Read + OpenFile + Drop, E: Write, R: Files<File = F>>(
-    rt: &R,
+fn merge_files<S: Source + Drop, O: OpenSource<S>, E: Write>(
+    files: &O,
     alloc: Global,
     paths: &[&str],
     plan: &Plan,
     err: &mut E,
 ) -> Result<Table, Status>
-    ensures merged { IfOk result (IsMerged ⟦<FromReader<F> as Source>⟧.seen (length paths.now) plan.now) }
+    ensures merged { IfOk result (IsMerged S.seen (AllZip (λ path. O.opens files.now path.now) paths.now) plan.now) }
     ensures fits { IfOk result (FitsPlan plan.now) }
     ensures status { IfErr result IsNotMerged }
 {
@@ -76,7 +74,7 @@ fn merge_files<F: Read + OpenFile + Drop, E: Write, R: Files<File = F>>(
     let mut file = 0_usize;
     for path in paths {
         file = file.saturating_add(1);
-        merging = add_file(rt, merging, file, *path, err)?;
+        merging = add_file(files, merging, file, *path, err)?;
     }
     end(merging, err)
 }
@@ -97,21 +95,21 @@ fn begin<E: Write>(alloc: Global, plan: &Plan, err: &mut E) -> Result<Merging, S
 }
 
 // Adds the file of this number, counted from 1.
-fn add_file<F: Read + OpenFile + Drop, E: Write, R: Files<File = F>>(
-    rt: &R,
+fn add_file<S: Source + Drop, O: OpenSource<S>, E: Write>(
+    files: &O,
     merging: Merging,
     file: usize,
     path: &str,
     err: &mut E,
 ) -> Result<Merging, Status>
-    ensures added { IfOk result (AddsFile ⟦<FromReader<F> as Source>⟧.seen merging) }
+    ensures added { IfOk result (AddsFile S.seen (O.opens files.now path.now) merging) }
     ensures status { IfErr result IsNotMerged }
 {
-    let Some(source) = open_source(rt, path) else {
+    let Some(opened) = files.open_source(path) else {
         let _ = writeln!(err, "collectd: open: {path}");
         return Err(Status::NotOpened);
     };
-    let mut source = source;
+    let mut source = opened.source;
     match merging.read(&mut source, READ_LIMIT) {
         Ok(merging) => Ok(merging),
         Err(fault) => {

@@ -1,6 +1,6 @@
 //! Collecting from connections.
 
-ghost use Rattle.std.specs.Prelude.{◌≡◌, ◌≢◌, ◌⊎◌, ◌<◌, length, IfSome};
+ghost use Rattle.std.specs.Prelude.{◌≡◌, ◌≢◌, ◌⊎◌, ◌<◌, ⊤, length, All, IfSome};
 ghost use Rattle.std.specs.Duration.{as_nanos};
 ghost use Rattle.flow_collect.specs.Refusals.{fault_of_arguments};
 ghost use Rattle.collectd.specs.Runs.{RunsSources};
@@ -13,7 +13,7 @@ use flow_collect::Pool;
 use flow_table::Plan;
 use ipfix_session::{FromReader, Source};
 use std::alloc::Global;
-use std::io::{Read, Write};
+use std::io::Write;
 use std::net::{TcpListener, TcpStream};
 use std::rt::Clock;
 use std::sync::Wait;
@@ -21,22 +21,30 @@ use std::thread::Threads;
 use std::time::Duration;
 
 /// What gives one connection after another.
-pub trait Listener {
-    type Stream: Read + Drop;
+pub trait Listener<S: Source> {
+    ghost use Rattle.std.specs.Prelude.{Option, IfSome};
+    ghost use Rattle.std.specs.declared.time.Duration.{Duration};
+    ghost use Rattle.collectd.specs.Runs.{IsUnread};
 
-    /// The next connection. A read that waits for longer than `idle` fails; with no `idle` it waits for as
-    /// long as it takes. `None` if there is no connection, or it can't have that limit.
-    fn next_stream(&self, idle: Option<Duration>) -> Option<Self::Stream>
+    /// Whether a source is a connection with this limit of a read's time, as it is before it is read.
+    ghost gives: { Self → Option Duration → S → Type 0 };
+
+    /// The next connection, of which nothing was read. A read that waits for longer than `idle` fails;
+    /// with no `idle` it waits for as long as it takes. `None` if there is no connection, or it can't
+    /// have that limit.
+    fn next_source(&self, idle: Option<Duration>) -> Option<S>
+        ensures given { IfSome result (gives self.now idle) }
+        ensures unread { IfSome result (IsUnread S.seen) }
         ensures no_time { IfSome idle (λ limit. as_nanos limit ≡ 0 → result ≡ None) };
 }
 
-impl Listener for TcpListener {
-    type Stream = TcpStream;
+impl Listener<FromReader<TcpStream>> for TcpListener {
+    ghost gives = { λ _ _ _. ⊤ };
 
-    fn next_stream(&self, idle: Option<Duration>) -> Option<TcpStream> {
+    fn next_source(&self, idle: Option<Duration>) -> Option<FromReader<TcpStream>> {
         let (stream, _peer) = self.accept().ok()?;
         stream.set_read_timeout(idle).ok()?;
-        Some(stream)
+        Some(FromReader::new(stream))
     }
 }
 
@@ -49,8 +57,8 @@ impl Listener for TcpListener {
 /// after a read. A fault of `progress` is passed over.
 #[tactic(auto, using(crate::proofs::Ran::runs_sources))]
 pub fn run_tcp<
-    T: Read + Send + Drop,
-    L: Listener<Stream = T>,
+    S: Source + Send + Drop,
+    L: Listener<S>,
     P: Write + Copy + Drop + Send,
     W: Write,
     E: Write,
@@ -70,8 +78,8 @@ pub fn run_tcp<
     err: &mut E,
 ) -> u8
     ensures statuses { (result ≡ 0) ⊎ (result ≡ 1) ⊎ (result ≡ 2) ⊎ (result ≡ 3) }
-    // So many sources were run, as `run` says it.
-    ensures accepted { result ≢ 2 → RunsSources ⟦<FromReader<T> as Source>⟧.seen count plan.now pool output result (W.contents out.old) (W.contents out.new) (out.new ≡ out.old) }
+    // So many connections with this limit were run, as `run` says it.
+    ensures accepted { result ≢ 2 → RunsSources S.seen (λ sources. (length sources ≡ count) × All (L.gives listener.now idle) sources) plan.now pool output result (W.contents out.old) (W.contents out.new) (out.new ≡ out.old) }
     // Nothing was written unless all were accepted.
     ensures not_accepted { result ≡ 2 → out.new ≡ out.old }
     // Nothing was collected if the arguments have a fault.
@@ -98,20 +106,21 @@ pub fn run_tcp<
 }
 
 // So many connections as sources, each with this limit of a read's time.
-fn accept_all<'r, T: Read + Drop, L: Listener<Stream = T>, P: Write + Copy + Drop, R: Clock>(
+fn accept_all<'r, S: Source + Drop, L: Listener<S>, P: Write + Copy + Drop, R: Clock>(
     rt: &'r R,
     alloc: Global,
     listener: &L,
     count: usize,
     idle: Option<Duration>,
     progress: Option<P>,
-) -> Option<Unread<Watched<'r, FromReader<T>, R, P>>>
+) -> Option<Unread<Watched<'r, S, R, P>>>
     ensures one_each { IfSome result (λ sources. length sources ≡ count) }
+    ensures given { IfSome result (λ sources. All (L.gives listener.now idle) sources) }
     ensures no_time { IfSome idle (λ limit. as_nanos limit ≡ 0 → 0 < count → result ≡ None) }
 {
     let mut sources = Unread::new(alloc);
     for number in 0..count {
-        let source = FromReader::new(listener.next_stream(idle)?);
+        let source = listener.next_source(idle)?;
         let watched = Watched::new(alloc, rt, number + 1, source, None, progress);
         let Ok(()) = sources.push(watched) else {
             return None;

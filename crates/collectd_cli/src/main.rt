@@ -22,7 +22,7 @@ use std::fs::File;
 use std::io::{self, BufWriter, Stderr, Stdout, Write};
 use std::net::TcpListener;
 use std::process::ExitCode;
-use std::rt::{Clock, Files};
+use std::rt::Clock;
 use std::sync::Wait;
 use std::thread::Threads;
 use std::time::Duration;
@@ -45,7 +45,7 @@ fn main(rt: HostRuntime) -> ExitCode {
 }
 
 // Reads the words and runs the command that they name. The first handle may start threads.
-fn run<R: Files<File = File> + Clock + Threads + Wait + Sync>(
+fn run<R: Clock + Threads + Wait + Sync>(
     threads: &R,
     rt: &HostRuntime,
 ) -> io::Result<u8> {
@@ -166,7 +166,7 @@ fn read_paths<'c, 'w>(chosen: &'c ArgMatches<'w>, err: &mut Stderr) -> Result<&'
 }
 
 // `collectd files`: the table of the sessions in files to standard output.
-fn files<R: Files<File = File> + Clock + Threads + Wait + Sync>(
+fn files<R: Clock + Threads + Wait + Sync>(
     threads: &R,
     rt: &HostRuntime,
     chosen: &ArgMatches,
@@ -188,6 +188,7 @@ fn files<R: Files<File = File> + Clock + Threads + Wait + Sync>(
     run_files(
         threads,
         rt.alloc(),
+        rt,
         paths,
         &job.plan,
         pool,

@@ -1,3 +1,4 @@
 mod failing;
+mod inputs;
 mod plans;
 mod sessions;

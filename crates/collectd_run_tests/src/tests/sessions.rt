@@ -14,13 +14,13 @@ use std::test::Fail;
 use std::thread::Threads;
 use worked_examples::flows::{NEXT_FLOW, ONE_FLOW};
 
-const BY_SOURCE: &str = "interval_ms = 60000
+pub const BY_SOURCE: &str = "interval_ms = 60000
 method = \"start\"
 keys = [\"sourceIPv4Address\"]
 counters = [\"octetDeltaCount\"]
 ";
 
-const CSV: Output = Output {
+pub const CSV: Output = Output {
     format: Format::Csv,
     time: 0,
 };

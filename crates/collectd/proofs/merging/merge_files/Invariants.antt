@@ -1,5 +1,6 @@
-use Rattle.collectd.proofs.Merged.{Stands, seen_file}
+use Rattle.std.proofs.Common.{take}
+use Rattle.collectd.proofs.Merged.{Stands}
 use Rattle.collectd.proofs.merging.merge_files.Given as goal
 
 abbrev pub invariant-loop-path : goal.invariant-loop-path
-invariant-loop-path g l = Stands (seen_file g.F.Read) l.fn.plan l.path-index l.merging
+invariant-loop-path g l = Stands g.S.Source.seen (λ path. g.O.OpenSource.opens l.fn.files path.now) l.fn.plan (take l.path-index l.fn.paths) l.merging

@@ -1,8 +1,11 @@
 use Rattle.std.proofs.Common.{◌≡◌}
 use Rattle.std.specs.Duration.{as_nanos}
-use Rattle.collectd.proofs.Ran.{has_no_limit, one_longer}
+use Rattle.collectd.proofs.Ran.{has_no_limit, one_longer, one_more}
 use Rattle.collectd.proofs.network.accept_all.Goals as goal
 
 pub loop-number-preserved : goal.loop-number-preserved
-loop-number-preserved g c =
-    (one_longer _ _ _ _ c.in-Ok.ensures c.loop-number.invariant.0, has_no_limit c.args.idle (λ limit. as_nanos limit ≡ 0) _ _ c.in_ok-next_stream.ensures.no_time)
+loop-number-preserved g c = (
+  one_longer _ _ _ _ c.in-Ok.ensures c.loop-number.invariant.0,
+  one_more (g.L.Listener.gives c.args.listener.now c.args.idle) _ _ _ c.in-Ok.ensures c.loop-number.invariant.1 (rw c.new-watched.ensures c.in_ok-source.ensures.given),
+  has_no_limit c.args.idle (λ limit. as_nanos limit ≡ 0) _ _ c.in_ok-source.ensures.no_time,
+)

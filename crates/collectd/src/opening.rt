@@ -1,0 +1,58 @@
+//! What opens sources.
+
+ghost use Rattle.std.specs.Prelude.{⊤};
+
+use ipfix_session::{FromReader, Source};
+use std::fs::{self, OpenFile};
+use std::io::Read;
+use std::num::NonZeroU64;
+use std::rt::Files;
+
+/// The word for standard input, and the file that it is.
+const STANDARD_INPUT: (&str, &str) = ("-", "/dev/stdin");
+
+/// A source that was opened.
+#[derive(Drop)]
+pub struct Opened<S> {
+    pub source: S,
+    /// How many octets it has, if that is known before it is read.
+    pub size: Option<NonZeroU64>,
+}
+
+/// Opens sources by their paths.
+pub trait OpenSource<S: Source> {
+    ghost use Rattle.std.specs.Prelude.{ℕ, List, IfSome};
+    ghost use Rattle.collectd.specs.Runs.{IsUnread};
+
+    /// Whether a source is the one that a path opens, as it is before it is read.
+    ghost opens: { Self → List ℕ → S → Type 0 };
+
+    /// The source of a path, of which nothing was read. `None` if it can't be opened.
+    fn open_source(&self, path: &str) -> Option<Opened<S>>
+        ensures named { IfSome result (λ opened. opens self.now path.now opened.source) }
+        ensures unread { IfSome result (λ opened. IsUnread S.seen opened.source) };
+}
+
+/// The files of the system. The path `-` is standard input.
+impl<F: Read + OpenFile + Drop, R: Files<File = F>> OpenSource<FromReader<F>> for R {
+    ghost opens = { λ _ _ _. ⊤ };
+
+    fn open_source(&self, path: &str) -> Option<Opened<FromReader<F>>> {
+        let name = if path == STANDARD_INPUT.0 {
+            STANDARD_INPUT.1
+        } else {
+            path
+        };
+        let file = fs::open(self, name).ok()?;
+        let size = size_of(&file);
+        Some(Opened {
+            source: FromReader::new(file),
+            size,
+        })
+    }
+}
+
+// How many octets a file has, if that can be known before it is read.
+fn size_of<F: OpenFile>(file: &F) -> Option<NonZeroU64> {
+    NonZeroU64::new(file.metadata().ok()?.len())
+}
