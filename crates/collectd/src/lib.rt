@@ -12,6 +12,7 @@ mod line_octets;
 mod line_sink;
 mod merge_reports;
 mod merging;
+mod message_counter;
 mod network;
 mod places;
 mod plans;
@@ -30,6 +31,7 @@ pub use dumping::{dump, dump_json};
 pub use fault::DumpFault;
 pub use files::run_files;
 pub use merging::run_merge;
+pub use message_counter::MessageCounter;
 pub use network::{Listener, run_tcp};
 pub use plans::load_plan;
 pub use reports::{
