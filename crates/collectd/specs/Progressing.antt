@@ -37,8 +37,8 @@ pub record TellsLine (old new : ProgressView) : Type 0 where
   pub line : Appends old.written new.written (progress_line new.session new.read (count_of new.counter) new.size)
   pub given : new.kept ≡ []
 
--- these octets were read next by the same session, and so were the messages that they make whole; the
--- count of octets stops at the greatest number of 64 bits
+-- these octets were read next by the same session: they are counted, and so are the messages that they
+-- make whole; both counts stop at the greatest number of 64 bits
 pub record CountsOctets (old : ProgressView) (octets : List ℕ) (new : ProgressView) : Type 0 where
   pub read : new.read ≡ min (old.read + length octets) (2 ^ 64 - 1)
   pub messages : (text : List ℕ) → HasRead old.counter text → HasRead new.counter (text ++ octets)

@@ -23,8 +23,8 @@ enum Place {
     Fault,
 }
 
-/// Counts the messages of a text that is read in pieces. It goes from header to header by the lengths
-/// that they tell, and looks at nothing else.
+/// Counts the messages of a text that is read in pieces. It goes from header to header by their lengths,
+/// and looks at nothing between them.
 #[derive(Drop)]
 pub struct MessageCounter {
     messages: u64,
