@@ -2,4 +2,5 @@ pub mod Writing
 pub mod Numbering
 mod Joined
 mod Ran
+mod Counting
 pub mod Merged

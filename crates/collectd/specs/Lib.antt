@@ -7,6 +7,7 @@ pub mod Merges
 pub mod ReportLines
 pub mod PlaceLines
 pub mod Statuses
+pub mod MessageCounts
 pub mod Faults
 -- what only inner functions need
 pub mod Progressing

@@ -1,7 +1,9 @@
 -- How a session tells what it has read.
-use Rattle.std.specs.Prelude.{◌≡◌, ℕ, ◌+◌, ◌-◌, ◌^◌, ◌≤◌, min, List, [], Option}
+use Rattle.std.specs.Prelude.{◌≡◌, ℕ, ◌+◌, ◌-◌, ◌^◌, ◌≤◌, min, List, [], ◌++◌, length, Option}
 use Rattle.std.specs.Io.KnownBytes.{Appends}
+use Rattle.collectd.specs.MessageCounts.{count_of, HasRead}
 use Rattle.collectd.specs.ReportLines.{progress_line}
+use Rattle.collectd.specs.declared.message_counter.MessageCounter.{MessageCounter}
 
 -- what contracts see of a session's progress
 pub record ProgressView : Type 0 where
@@ -9,7 +11,9 @@ pub record ProgressView : Type 0 where
   pub session : ℕ
   -- the octets that it has read
   pub read : ℕ
-  -- how many there are in all, if that is known
+  -- the counter of their messages
+  pub counter : MessageCounter
+  -- how many octets there are in all, if that is known
   pub size : Option ℕ
   -- when it told last, or began: nanoseconds of the clock
   pub last : ℕ
@@ -30,11 +34,13 @@ pub record IsSilent (old new : ProgressView) : Type 0 where
 -- the line of what was read by then was told, a second or more after the one before, and nothing is kept back
 pub record TellsLine (old new : ProgressView) : Type 0 where
   pub in_time : old.last + second ≤ new.last
-  pub line : Appends old.written new.written (progress_line new.session new.read new.size)
+  pub line : Appends old.written new.written (progress_line new.session new.read (count_of new.counter) new.size)
   pub given : new.kept ≡ []
 
--- so many octets more were read by the same session; the count stops at the greatest number of 64 bits
-pub record CountsOctets (old : ProgressView) (count : ℕ) (new : ProgressView) : Type 0 where
-  pub read : new.read ≡ min (old.read + count) (2 ^ 64 - 1)
+-- these octets were read next by the same session: they are counted, and so are the messages that they
+-- make whole; both counts stop at the greatest number of 64 bits
+pub record CountsOctets (old : ProgressView) (octets : List ℕ) (new : ProgressView) : Type 0 where
+  pub read : new.read ≡ min (old.read + length octets) (2 ^ 64 - 1)
+  pub messages : (text : List ℕ) → HasRead old.counter text → HasRead new.counter (text ++ octets)
   pub session : new.session ≡ old.session
   pub size : new.size ≡ old.size

@@ -89,19 +89,24 @@ file_fault_line file fault = codes "collectd: merge: file " ++ (decimal file ++ 
 
 -- ---- progress
 
--- what a session has read, in octets
-unfoldable pub read_line : ℕ → ℕ → List ℕ
-read_line session read = codes "collectd: session " ++ (decimal session ++ (codes ": read " ++ (decimal read ++ codes " octets\n")))
+-- at the end of a line
+abbrev pub message_count : ℕ → List ℕ
+message_count messages = codes ", " ++ (decimal messages ++ codes " messages\n")
 
--- and of how many, in percent
-unfoldable pub share_line : ℕ → ℕ → ℕ → ℕ → List ℕ
-share_line session read size percent =
-    codes "collectd: session " ++ (decimal session ++ (codes ": read " ++ (decimal read ++ (codes " of " ++ (decimal size ++ (codes " octets (" ++ (decimal percent ++ codes "%)\n")))))))
+-- what a session has read, in octets and in messages
+unfoldable pub read_line : ℕ → ℕ → ℕ → List ℕ
+read_line session read messages =
+    codes "collectd: session " ++ (decimal session ++ (codes ": read " ++ (decimal read ++ (codes " octets" ++ message_count messages))))
+
+-- and of how many octets, in percent
+unfoldable pub share_line : ℕ → ℕ → ℕ → ℕ → ℕ → List ℕ
+share_line session read size percent messages =
+    codes "collectd: session " ++ (decimal session ++ (codes ": read " ++ (decimal read ++ (codes " of " ++ (decimal size ++ (codes " octets (" ++ (decimal percent ++ (codes "%)" ++ message_count messages))))))))
 
 -- the whole percents of a size that were read, at most 100
 abbrev pub percent_of : ℕ → ℕ → ℕ
 percent_of read size = min 100 (100 * read / size)
 
-abbrev pub progress_line : ℕ → ℕ → Option ℕ → List ℕ
-progress_line session read None = read_line session read
-progress_line session read (Some size) = share_line session read size (percent_of read size)
+abbrev pub progress_line : ℕ → ℕ → ℕ → Option ℕ → List ℕ
+progress_line session read messages None = read_line session read messages
+progress_line session read messages (Some size) = share_line session read size (percent_of read size) messages

@@ -1,12 +1,14 @@
 //! Telling what a session has read, while it reads.
 
-ghost use Rattle.std.specs.Prelude.{◌≡◌, ◌≤◌, ◌<◌, ◌+◌, IsTrue, ◌↔◌, OnOk, IfSome, IfNone, option_map};
+ghost use Rattle.std.specs.Prelude.{◌≡◌, ◌≤◌, ◌<◌, ◌+◌, [], IsTrue, ◌↔◌, OnOk, IfSome, IfNone, option_map};
 ghost use Rattle.std.specs.Int.NonZero.{non_zero_u64_get};
 ghost use Rattle.std.specs.Time.{instant_nanos};
 ghost use Rattle.std.specs.Io.KnownBytes.{Appends};
+ghost use Rattle.collectd.specs.MessageCounts.{HasRead};
 ghost use Rattle.collectd.specs.ReportLines.{percent_of, progress_line, read_line, share_line};
 ghost use Rattle.collectd.specs.Progressing.{second, CountsOctets, IsSilent, TellsLine};
 
+use crate::message_counter::MessageCounter;
 use std::alloc::Global;
 use std::cmp;
 use std::io::{self, BufWriter, Write};
@@ -16,7 +18,7 @@ use std::rt::Clock;
 use std::time::Instant;
 
 /// Room for the longest line, so that a line goes out in one piece.
-const LINE: usize = 128;
+const LINE: usize = 160;
 
 /// Tells what a session has read, at most once a second.
 #[derive(Drop)]
@@ -25,6 +27,7 @@ pub struct Progress<'a, C: Clock, P: Write + Drop> {
     last: Instant,
     session: usize,
     read: u64,
+    counter: MessageCounter,
     size: Option<NonZeroU64>,
     out: BufWriter<P>,
 }
@@ -41,6 +44,7 @@ impl<'a, C: Clock, P: Write + Drop> Model for Progress<'a, C, P> {
     ghost view = { λ p. record {
       session = p.session;
       read = p.read;
+      counter = p.counter;
       size = option_map non_zero_u64_get p.size;
       last = instant_nanos p.last;
       written = writer_contents P.contents p.out;
@@ -59,6 +63,7 @@ impl<'a, C: Clock, P: Write + Drop> Progress<'a, C, P> {
     ) -> Option<Self>
         ensures session { IfSome result (λ p. p.session ≡ session) }
         ensures read { IfSome result (λ p. p.read ≡ 0) }
+        ensures messages { IfSome result (λ p. HasRead p.counter []) }
         ensures size { IfSome result (λ p. p.size ≡ option_map non_zero_u64_get size) }
         ensures written { IfSome result (λ p. p.written ≡ P.contents out) }
     {
@@ -69,6 +74,7 @@ impl<'a, C: Clock, P: Write + Drop> Progress<'a, C, P> {
             last,
             session,
             read: 0,
+            counter: MessageCounter::new(),
             size,
             out,
         })
@@ -79,17 +85,18 @@ impl<'a, C: Clock, P: Write + Drop> Progress<'a, C, P> {
         Instant::now(self.clock).ok()
     }
 
-    /// Counts octets that were read by now, and tells of all that were if a second has gone by since it
-    /// told last. If no time is known it doesn't tell.
-    pub fn took(&mut self, count: usize, now: Option<Instant>) -> io::Result<()>
-        ensures counted { CountsOctets self.old count self.new }
+    /// Counts octets that were read by now and their messages, and tells of all that were if a second has
+    /// gone by since it told last. If no time is known it doesn't tell.
+    pub fn took(&mut self, octets: &[u8], now: Option<Instant>) -> io::Result<()>
+        ensures counted { CountsOctets self.old octets.now self.new }
         ensures due { IfSome now (λ time. self.old.last + second ≤ instant_nanos time → OnOk result (TellsLine self.old self.new)) }
         // Also if it can't be told.
         ensures last { IfSome now (λ time. self.old.last + second ≤ instant_nanos time → self.new.last ≡ instant_nanos time) }
         ensures early { IfSome now (λ time. instant_nanos time < self.old.last + second → IsSilent self.old self.new) }
         ensures no_time { IfNone now (IsSilent self.old self.new) }
     {
-        self.read = self.read.saturating_add(count as u64);
+        self.read = self.read.saturating_add(octets.len() as u64);
+        self.counter.read(octets);
         let Some(now) = now else {
             return Ok(());
         };
@@ -97,7 +104,13 @@ impl<'a, C: Clock, P: Write + Drop> Progress<'a, C, P> {
             return Ok(());
         }
         self.last = now;
-        write_progress(self.session, self.read, self.size, &mut self.out)?;
+        write_progress(
+            self.session,
+            self.read,
+            self.counter.count(),
+            self.size,
+            &mut self.out,
+        )?;
         self.out.flush()
     }
 }
@@ -112,14 +125,22 @@ fn is_due(last: Instant, now: Instant) -> bool
 fn write_progress<W: Write>(
     session: usize,
     read: u64,
+    messages: u64,
     size: Option<NonZeroU64>,
     out: &mut W,
 ) -> io::Result<()>
-    ensures { OnOk result (Appends (W.contents out.old) (W.contents out.new) (progress_line session read (option_map non_zero_u64_get size))) }
+    ensures { OnOk result (Appends (W.contents out.old) (W.contents out.new) (progress_line session read messages (option_map non_zero_u64_get size))) }
 {
     match size {
-        None => write_read(session, read, out),
-        Some(size) => write_share(session, read, size.get(), percent(read, size), out),
+        None => write_read(session, read, messages, out),
+        Some(size) => write_share(
+            session,
+            read,
+            size.get(),
+            percent(read, size),
+            messages,
+            out,
+        ),
     }
 }
 
@@ -132,10 +153,13 @@ fn percent(read: u64, size: NonZeroU64) -> u8
 }
 
 #[tactic(auto, unfolding(crate::specs::ReportLines::read_line))]
-fn write_read<W: Write>(session: usize, read: u64, out: &mut W) -> io::Result<()>
-    ensures { OnOk result (Appends (W.contents out.old) (W.contents out.new) (read_line session read)) }
+fn write_read<W: Write>(session: usize, read: u64, messages: u64, out: &mut W) -> io::Result<()>
+    ensures { OnOk result (Appends (W.contents out.old) (W.contents out.new) (read_line session read messages)) }
 {
-    writeln!(out, "collectd: session {session}: read {read} octets")
+    writeln!(
+        out,
+        "collectd: session {session}: read {read} octets, {messages} messages"
+    )
 }
 
 #[tactic(auto, unfolding(crate::specs::ReportLines::share_line))]
@@ -144,12 +168,13 @@ fn write_share<W: Write>(
     read: u64,
     size: u64,
     percent: u8,
+    messages: u64,
     out: &mut W,
 ) -> io::Result<()>
-    ensures { OnOk result (Appends (W.contents out.old) (W.contents out.new) (share_line session read size percent)) }
+    ensures { OnOk result (Appends (W.contents out.old) (W.contents out.new) (share_line session read size percent messages)) }
 {
     writeln!(
         out,
-        "collectd: session {session}: read {read} of {size} octets ({percent}%)"
+        "collectd: session {session}: read {read} of {size} octets ({percent}%), {messages} messages"
     )
 }

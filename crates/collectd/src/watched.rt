@@ -1,6 +1,6 @@
 //! A source that tells what was read from it.
 
-ghost use Rattle.std.specs.Prelude.{◌≡◌, MatchResult};
+ghost use Rattle.std.specs.Prelude.{◌≡◌, take, MatchResult};
 ghost use Rattle.ipfix_session.specs.Sources.{IsRead};
 ghost use Rattle.collectd.specs.Progressing.{CountsOctets};
 
@@ -66,12 +66,12 @@ fn read_and_tell<S: Source, C: Clock, P: Write + Drop>(
     buffer: &mut [u8],
 ) -> Result<usize, ReadError>
     ensures read { IsRead (S.seen source.old) result (S.seen source.new) buffer.new }
-    ensures told { MatchResult result (λ count. CountsOctets progress.old count progress.new) (λ e. progress.new ≡ progress.old) }
+    ensures told { MatchResult result (λ count. CountsOctets progress.old (take count buffer.new) progress.new) (λ e. progress.new ≡ progress.old) }
 {
     let answer = source.read(buffer);
     if let Ok(count) = answer {
         let now = progress.time();
-        let _ = progress.took(count, now);
+        let _ = progress.took(&buffer[..count], now);
     }
     answer
 }

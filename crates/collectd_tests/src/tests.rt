@@ -1,4 +1,7 @@
-//! What a dump writes, of sources and to writers that fail, and over a live connection.
+//! What a dump writes, of sources and to writers that fail, and over a live connection; and how many
+//! messages are counted.
+
+ghost use Rattle.std.specs.Prelude.{◌<◌};
 
 use collectd::*;
 use ipfix_session::{DomainReport, FromReader, ScriptSource, SessionFault, SessionReport};
@@ -9,9 +12,10 @@ use std::sync::Arc;
 use std::sync::atomic::{AtomicBool, Ordering};
 use std::test::Fail;
 use std::thread;
+use worked_examples::faults::{MESSAGE_LENGTH_15, MESSAGE_WITHOUT_SETS, VERSION_9};
 use worked_examples::flows::ONE_FLOW;
 use worked_examples::sequences::*;
-use worked_examples::{FailingWriter, text_of};
+use worked_examples::{FailingWriter, header, text_of};
 
 const LINE: &str =
     "d=1 t=256 x=1700000000 s=0 flowStartMilliseconds=1000 flowEndMilliseconds=2000 sourceIPv4Address=192.0.2.1 octetDeltaCount=1500\n";
@@ -224,4 +228,62 @@ fn a_live_connection(rt: HostRuntime) -> Result<(), Fail> {
     );
     assert_eq!(rt; out.text.as_slice(), LINE.as_bytes());
     Ok(())
+}
+
+// How many messages a text has, read in pieces of this size.
+fn count_in_pieces(text: &[u8], size: usize) -> u64
+    requires { 0 < size }
+{
+    let mut counter = MessageCounter::new();
+    for piece in text.chunks(size) {
+        counter.read(piece);
+    }
+    counter.count()
+}
+
+/// However they are cut: each header here is cut behind each of its octets.
+#[test]
+fn messages_in_pieces(rt: HostRuntime) -> Result<(), Fail> {
+    let cases: [(&[&[u8]], u64); 7] = [
+        (&[], 0),
+        (&[ONE_FLOW], 1),
+        (&[ONE_FLOW, ONE_FLOW], 2),
+        (&[MESSAGE_WITHOUT_SETS, ONE_FLOW, MESSAGE_WITHOUT_SETS], 3),
+        (&[MESSAGE_LENGTH_15, ONE_FLOW], 0),
+        (&[ONE_FLOW, MESSAGE_LENGTH_15, ONE_FLOW], 1),
+        (&[ONE_FLOW, VERSION_9, ONE_FLOW], 1),
+    ];
+    for (messages, count) in cases {
+        let text = text_of(rt.alloc(), messages)?;
+        for size in 1..200 {
+            assert_eq!(rt; count_in_pieces(text.as_slice(), size), count);
+        }
+    }
+    Ok(())
+}
+
+/// An octet at a time: a message counts with its last octet.
+#[test]
+fn messages_by_octets(rt: HostRuntime) {
+    let mut counter = MessageCounter::new();
+    for round in 0..3 {
+        for octet in &ONE_FLOW[..67] {
+            counter.read(&[*octet]);
+            assert_eq!(rt; counter.count(), round);
+        }
+        counter.read(&ONE_FLOW[67..]);
+        assert_eq!(rt; counter.count(), round + 1);
+    }
+}
+
+#[test]
+fn the_longest_message(rt: HostRuntime) {
+    let mut counter = MessageCounter::new();
+    counter.read(&header(65535, 0, 1));
+    for _ in 0..65518 {
+        counter.read(&[0]);
+    }
+    assert_eq!(rt; counter.count(), 0);
+    counter.read(&[0, 0]);
+    assert_eq!(rt; counter.count(), 1);
 }

@@ -1,0 +1,9 @@
+use Rattle.std.proofs.Common.{◌++◌, ℕ, List, length}
+use Rattle.collectd.specs.MessageCounts.{HasRead, IsReading}
+use Rattle.collectd.proofs.message_counter.MessageCounter.read.Given as goal
+
+abbrev pub invariant-loop-left : goal.invariant-loop-left
+invariant-loop-left l = (text : List ℕ) → HasRead l.initial.self text → IsReading l.self l.left (text ++ l.piece)
+
+abbrev pub decreases-loop-left : goal.decreases-loop-left
+decreases-loop-left l = length l.left
