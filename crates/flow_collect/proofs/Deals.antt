@@ -1,5 +1,5 @@
 -- One link more is dealt.
-use Rattle.std.proofs.Common.{◌≡◌, ℕ, List, [], ◌∷◌, ◌++◌, zero, suc, refl, ap, sym, ◌∙◌, subst, length, map}
+use Rattle.std.proofs.Common.{◌≡◌, ℕ, List, [], ◌∷◌, ◌++◌, zero, suc, refl, ap, sym, ◌∙◌, subst, length, length-append, map, arith}
 use Rattle.std.specs.Prelude.{Some, slice_get, All}
 use Rattle.std.proofs.lemmas.List.{map_push}
 use Rattle.std.proofs.lemmas.List.Elements.{All-head, All-tail, All-append, All-cons, All-nil, All-weaker}
@@ -76,3 +76,12 @@ lots_more plan lots lots' lot h new e = rw e (All-append (IsNewLot plan []) lots
 pub first_dealt : {S : Type 0} (plan : PlanValue) (capacity : ℕ) (starts : List (Start S)) (lots : List Lot) → starts ≡ [] → All (IsNewLot plan []) lots → IsDealt plan capacity [] starts lots
 first_dealt {S} plan capacity starts lots e h =
     rw e (record { sources_are = refl; new_starts = All-nil (IsNewStart {S = S} capacity); new_lots = h })
+
+-- there are as many lots as before
+pub as_many : {S : Type 0} (capacity : ℕ) (source : S) (starts : List (Start S)) (lots : List Lot) (starts' : List (Start S)) (lots' : List Lot)
+    → DealsOne capacity source starts lots starts' lots' → length lots' ≡ length lots
+as_many capacity source starts lots starts' lots' one =
+    let more = ap length one.lots_are in
+    let were = ap length one.lots_were in
+    let both = length-append one.others (one.dealt ∷ []) in
+    omega (arith, more, were, both)

@@ -45,6 +45,7 @@ module _ {S : Type 0} where
     pub dealt : Lot
     pub others : List Lot
     pub source_is : start.source ≡ source
+    pub number_is : start.session ≡ length starts
     pub link : IsNewLink capacity start.sender lane.receiver
     pub session_is : lane.session ≡ length starts
     pub starts_are : starts' ≡ starts ++ start ∷ []
@@ -52,3 +53,4 @@ module _ {S : Type 0} where
     pub lots_are : lots' ≡ others ++ dealt ∷ []
     pub lanes_are : dealt.lanes.items ≡ first.lanes.items ++ lane ∷ []
     pub partial_is : dealt.partial ≡ first.partial
+    pub worker_is : dealt.worker ≡ first.worker

@@ -1,5 +1,6 @@
 -- What a worker's thread does.
 use Rattle.std.specs.Prelude.{◌≡◌, ℕ, ◌+◌, List, [], ◌++◌, All, true, map, sum_by}
+use Rattle.std.specs.List.Sorted.{IsNonDecreasingBy}
 use Rattle.ipfix_message.specs.declared.record.DataRecord.{DataRecord}
 use Rattle.flow_link.specs.Ends.{LinkName, ReceiverView}
 use Rattle.flow_link.specs.Parcels.{has_last, records_in}
@@ -24,6 +25,10 @@ lane_records lane = records_in lane.receiver.received
 
 abbrev pub lane_weight : (DataRecord → ℕ) → Lane → ℕ
 lane_weight weight lane = sum_by weight (lane_records lane)
+
+-- the lanes stand in the order of their sessions
+abbrev pub AreInOrder : List Lane → Type 0
+AreInOrder lanes = IsNonDecreasingBy (λ (lane : Lane). lane.session) lanes
 
 -- Last came over the lane
 abbrev pub IsEnded : Lane → Type 0

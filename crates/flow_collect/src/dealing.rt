@@ -1,6 +1,6 @@
 //! A link for each session, whose receiving ends are dealt out to the workers.
 
-ghost use Rattle.std.specs.Prelude.{◌≡◌, [], All, IfOk, OnOk, IfSome};
+ghost use Rattle.std.specs.Prelude.{◌≡◌, [], All, IfOk, OnOk, IfSome, length};
 ghost use Rattle.flow_link.specs.Ends.{IsNewLink};
 ghost use Rattle.flow_collect.specs.Dealt.{IsCapacity, IsDealt, IsNewLot, DealsOne};
 
@@ -28,7 +28,8 @@ pub fn deal<S: Drop>(
     pool: Pool,
 ) -> Result<Dealt<S>, RunFault>
     requires { IsCapacity pool.capacity }
-    ensures { IfOk result (λ d. IsDealt plan.now pool.capacity sources.items d.starts.items d.lots.items) }
+    ensures dealt { IfOk result (λ d. IsDealt plan.now pool.capacity sources.items d.starts.items d.lots.items) }
+    ensures workers { IfOk result (λ d. length d.lots.items ≡ pool.workers) }
 {
     let mut sources = VecDeque::from_vec(sources);
     let mut starts = VecDeque::new(alloc);
@@ -40,7 +41,8 @@ pub fn deal<S: Drop>(
 }
 
 fn empty_lots(alloc: Global, plan: &Plan, workers: usize) -> Result<VecDeque<Lot>, RunFault>
-    ensures { IfOk result (λ lots. All (IsNewLot plan.now []) lots.items) }
+    ensures new { IfOk result (λ lots. All (IsNewLot plan.now []) lots.items) }
+    ensures count { IfOk result (λ lots. length lots.items ≡ workers) }
 {
     let mut lots = VecDeque::new(alloc);
     for worker in 0..workers {

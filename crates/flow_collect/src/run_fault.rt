@@ -1,5 +1,8 @@
 //! Why nothing came of a run whose arguments have no fault.
 
+ghost use Rattle.std.specs.Prelude.{◌≡◌};
+ghost use Rattle.flow_collect.specs.declared.run_fault.RunFault.TheVariants.{OutOfMemory};
+
 use std::alloc::{AllocError, AllocFailed};
 
 /// Why nothing came of a run.
@@ -12,12 +15,16 @@ pub enum RunFault {
 }
 
 impl From<AllocError> for RunFault {
+    ghost from_gives = { λ _ e. e ≡ OutOfMemory };
+
     fn from(_e: AllocError) -> RunFault {
         RunFault::OutOfMemory
     }
 }
 
 impl<T: Drop> From<AllocFailed<T>> for RunFault {
+    ghost from_gives = { λ _ e. e ≡ OutOfMemory };
+
     fn from(_e: AllocFailed<T>) -> RunFault {
         RunFault::OutOfMemory
     }

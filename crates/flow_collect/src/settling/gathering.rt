@@ -6,7 +6,7 @@ ghost use Rattle.ipfix_message.specs.declared.record.DataRecord.{DataRecord};
 ghost use Rattle.flow_table.specs.Partials.{StandsFor, plan_of};
 ghost use Rattle.flow_table.specs.Plans.{PlanValue};
 ghost use Rattle.flow_collect.specs.Finished.{HasTaken, IsMerged, lanes_of};
-ghost use Rattle.flow_collect.specs.Lanes.{StandsForLanes};
+ghost use Rattle.flow_collect.specs.Lanes.{AreInOrder, StandsForLanes};
 
 use crate::run_fault::RunFault;
 use crate::worker::{Lane, Worked};
@@ -20,6 +20,7 @@ use std::thread::{Threads, join};
 pub fn gather<R: Threads + Sync>(rt: &R, worked: VecDeque<Worked>) -> Result<Worked, RunFault>
     requires { (plan : PlanValue) × All (HasTaken plan) worked.items }
     ensures lanes { IfOk result (λ all. IsPermutation (lanes_of worked.items) all.lanes.items) }
+    ensures order { IfOk result (λ all. AreInOrder all.lanes.items) }
     ensures table { IfOk result (λ all. StandsForLanes all.partial all.lanes.items) }
     ensures plan { (plan : PlanValue) → All (HasTaken plan) worked.items → IfOk result (λ all. plan_of all.partial ≡ plan) }
 {
@@ -88,7 +89,8 @@ fn merge_one(all: &mut Worked, other: Worked) -> Result<(), RunFault>
 }
 
 fn sort_lanes(lanes: &mut Vec<Lane>)
-    ensures { IsPermutation lanes.old.items lanes.new.items }
+    ensures same { IsPermutation lanes.old.items lanes.new.items }
+    ensures order { AreInOrder lanes.new.items }
 {
     lanes.sort_unstable_by_key(|lane| lane.session);
 }

@@ -1,4 +1,4 @@
-use Rattle.std.proofs.Common.{◌≡◌, List, ◌++◌}
+use Rattle.std.proofs.Common.{◌≡◌, List, ◌++◌, length}
 use Rattle.std.specs.VecDeque.{deque_len}
 use Rattle.flow_collect.specs.Dealt.{IsDealt}
 use Rattle.flow_collect.proofs.dealing.deal.Given as goal
@@ -7,6 +7,7 @@ abbrev pub invariant-loop-source : goal.invariant-loop-source
 invariant-loop-source g l =
     (used : List g.row.S.Denot) × (l.initial.sources.items ≡ used ++ l.sources.items)
     × IsDealt l.plan l.pool.capacity used l.starts.items l.lots.items
+    × (length l.lots.items ≡ l.pool.workers)
 
 abbrev pub decreases-loop-source : goal.decreases-loop-source
 decreases-loop-source g l = deque_len l.sources

@@ -12,6 +12,7 @@ returns g c =
       dealt = record c.in-Some.lot { lanes = c.push.new.self };
       others = c.pop_front.new.self.items;
       source_is = refl;
+      number_is = place;
       link = subst (λ (r : ReceiverView). IsNewLink c.args.capacity c.in_ok-sender.sender r) (sym c.new_lane-lane.ensures.1) c.in_ok-sender.ensures;
       session_is = c.new_lane-lane.ensures.0 ∙ place;
       starts_are = c.in_ok-push_back-2.ensures.items;
@@ -19,4 +20,5 @@ returns g c =
       lots_are = c.in_ok-push_back.ensures.items;
       lanes_are = c.in_ok-push.ensures.items;
       partial_is = refl;
+      worker_is = refl;
     }
