@@ -33,7 +33,7 @@ pub fn merge<S: Source + Drop>(
     ensures stops { IfErr result (λ e. (e ≡ OutOfMemory) ⊎ StopsAt S.seen limit plan.now sources.items e) }
     // Of exports of tables these are the rows of the table of all their records.
     ensures rows { (lists : List (List DataRecord)) → AreExportsOf S.seen plan.now sources.items lists → IfOk result (HasRowsOf plan.now (all_of lists)) }
-    // `SumTooLarge` comes exactly if a sum or a number of flows of that table is too large.
+    // `Ok` only if no sum and no number of flows of that table is too large, `SumTooLarge` only if one is.
     ensures small { (lists : List (List DataRecord)) → AreExportsOf S.seen plan.now sources.items lists → OnOk result (HasTooLargeRow plan.now (all_of lists) → ⊥) }
     ensures fault { (lists : List (List DataRecord)) → AreExportsOf S.seen plan.now sources.items lists → IfErr result (IsExportFault (HasTooLargeRow plan.now (all_of lists))) }
     // The table fits the plan, as an export asks.
