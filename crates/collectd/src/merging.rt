@@ -83,7 +83,7 @@ fn merge_files<S: Source + Drop, O: OpenSource<S>, E: Write>(
 fn begin<E: Write>(alloc: Global, plan: &Plan, err: &mut E) -> Result<Merging, Status>
     ensures plan { IfOk result (λ m. plan_of m ≡ plan.now) }
     ensures empty { IfOk result (λ m. StandsFor m []) }
-    ensures status { IfErr result IsNotMerged }
+    ensures status { IfErr result (λ status. status ≡ Status.Failed) }
 {
     match Merging::new(alloc, plan) {
         Ok(merging) => Ok(merging),
@@ -123,7 +123,7 @@ fn add_file<S: Source + Drop, O: OpenSource<S>, E: Write>(
 fn end<E: Write>(merging: Merging, err: &mut E) -> Result<Table, Status>
     ensures rows { (rows : List RowValue) → StandsFor merging rows → IfOk result (λ table. AreAddedUp rows (rows_in table)) }
     ensures fits { (rows : List RowValue) → StandsFor merging rows → IfOk result (FitsPlan (plan_of merging)) }
-    ensures status { IfErr result IsNotMerged }
+    ensures status { IfErr result (λ status. status ≡ Status.Failed) }
 {
     match merging.finish() {
         Ok(table) => Ok(table),
