@@ -1,11 +1,12 @@
 //! Runs over files and connections that are in memory.
 
-ghost use Rattle.std.specs.Prelude.{⊤};
+ghost use Rattle.std.specs.Prelude.{⊤, IfSome};
+ghost use Rattle.collectd.specs.Runs.{IsUnread};
 
 use super::sessions::{BY_SOURCE, CSV};
 use collectd::{Listener, OpenSource, Opened, run_files, run_merge, run_tcp};
 use flow_collect::Pool;
-use ipfix_session::ScriptSource;
+use ipfix_session::{ScriptSource, Source};
 use plan_file::read_plan;
 use std::alloc::Global;
 use std::io::Sink;
@@ -32,7 +33,9 @@ struct Inputs {
 }
 
 impl Inputs {
-    fn source(&self, path: &str) -> Option<ScriptSource> {
+    fn source(&self, path: &str) -> Option<ScriptSource>
+        ensures { IfSome result (IsUnread ⟦<ScriptSource as Source>⟧.seen) }
+    {
         match path {
             "flows" => joined(self.alloc, ONE_FLOW, NEXT_FLOW, None),
             "cut" => joined(self.alloc, ONE_FLOW, NEXT_FLOW, Some(111)),
@@ -48,7 +51,9 @@ fn joined(
     first: &[u8],
     second: &[u8],
     fail_at: Option<usize>,
-) -> Option<ScriptSource> {
+) -> Option<ScriptSource>
+    ensures { IfSome result (IsUnread ⟦<ScriptSource as Source>⟧.seen) }
+{
     let mut text = Vec::from_slice(alloc, first).ok()?;
     text.extend_from_slice(second).ok()?;
     Some(ScriptSource::new(text, 9, None, fail_at))
