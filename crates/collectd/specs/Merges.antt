@@ -1,5 +1,5 @@
 -- What merging the exports in files wrote.
-use Rattle.std.specs.Prelude.{◌≡◌, ◌⊎◌, ℕ, List, length, All, Option}
+use Rattle.std.specs.Prelude.{◌≡◌, ◌⊎◌, ℕ, List, All, Option}
 use Rattle.std.specs.Io.KnownBytes.{Appends}
 use Rattle.ipfix_session.specs.Sources.{SourceView}
 use Rattle.flow_table.specs.Plans.{PlanValue}
