@@ -45,10 +45,7 @@ fn main(rt: HostRuntime) -> ExitCode {
 }
 
 // Reads the words and runs the command that they name. The first handle may start threads.
-fn run<R: Clock + Threads + Wait + Sync>(
-    threads: &R,
-    rt: &HostRuntime,
-) -> io::Result<u8> {
+fn run<R: Clock + Threads + Wait + Sync>(threads: &R, rt: &HostRuntime) -> io::Result<u8> {
     let mut words = Vec::new(rt.alloc());
     for word in env::args(rt)? {
         words.push(word)?;
