@@ -22,8 +22,9 @@ use std::alloc::Global;
 use std::io::Write;
 
 /// Opens the files of exports one after another, and writes the table of all of them to `out`: rows of
-/// the same interval and key are added up. Answers the exit status: 0 if all was well; 2 if a file can't be opened; 3 if a file is no whole export under the plan, a sum is too
-/// large, memory runs out, or the table can't be written.
+/// the same interval and key are added up. Answers the exit status: 0 if all was well; 2 if a file can't
+/// be opened; 3 if a file is no whole export under the plan, a sum is too large, memory runs out, or the
+/// table can't be written.
 ///
 /// To `err` it writes how many files and rows there were, or else a line for the first file that was not
 /// opened or not merged, and what is wrong with it. A fault of `err` is passed over. Nothing is written
