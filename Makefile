@@ -4,8 +4,10 @@ PREFIX = /usr/local
 bin/collectd: crates.txt HANDLES $(shell find crates \( -name out -o -name must-fail \) -prune -o -type f -print)
 	cd crates/collectd_cli && rt run -- dump < /dev/null && install -D out/collectd_cli ../../bin/collectd
 
-.PHONY: test bench compare interop refusals hostile soak scale install dist deb packages clean
+.PHONY: test edits bench compare interop refusals hostile soak scale install dist deb packages clean
 test: ; @tests/gate
+
+edits: ; @tests/try_edits
 
 bench: bin/collectd ; @for run in bench/*/run; do $$run || exit 1; done
 
