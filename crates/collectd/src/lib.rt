@@ -35,7 +35,7 @@ pub use merging::run_merge;
 pub use message_counter::MessageCounter;
 pub use network::{Listener, run_tcp};
 pub use opening::{OpenSource, Opened};
-pub use plans::load_plan;
+pub use plans::{ReadText, load_plan};
 pub use reports::{
     write_collect_fault, write_dump_fault, write_export_fault, write_plan_fault, write_reports,
     write_tally,

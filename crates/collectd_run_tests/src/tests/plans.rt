@@ -1,6 +1,9 @@
-//! The lines that tell of a plan's fault.
+//! Plans that are read from texts, and the lines that tell of a plan's fault.
 
-use collectd::write_plan_fault;
+ghost use Rattle.std.specs.Prelude.{◌≡◌, string_bytes};
+
+use super::sessions::BY_SOURCE;
+use collectd::{ReadText, load_plan, write_plan_fault};
 use plan_file::{PlanTextError, read_plan_octets};
 use std::alloc::Global;
 use std::test::Fail;
@@ -47,5 +50,52 @@ fn want_of_memory_has_one_line(rt: HostRuntime) -> Result<(), Fail> {
         out.as_slice(),
         b"collectd: plan: fault 7 OutOfMemory\n".as_slice()
     );
+    Ok(())
+}
+
+// A text in memory, and the only path that has it.
+#[derive(Drop)]
+struct OneText {
+    path: String,
+    octets: Vec<u8>,
+}
+
+impl ReadText for OneText {
+    ghost has = { λ text path octets. (string_bytes text.path ≡ path) × (text.octets.items ≡ octets) };
+
+    fn read_text(&self, alloc: Global, path: &str) -> Option<Vec<u8>> {
+        if self.path.as_str() != path {
+            return None;
+        }
+        Vec::from_slice(alloc, &self.octets).ok()
+    }
+}
+
+#[test]
+fn plans_of_texts(rt: HostRuntime) -> Result<(), Fail> {
+    for (path, octets, length, lines) in [
+        ("plan", BY_SOURCE.as_bytes(), Some(60000), b"".as_slice()),
+        (
+            "none",
+            BY_SOURCE.as_bytes(),
+            None,
+            b"collectd: open: none\n".as_slice(),
+        ),
+        (
+            "plan",
+            b"\n\xff".as_slice(),
+            None,
+            b"collectd: plan: fault 1 NotToml\ncollectd: plan: line 2: not UTF-8\n".as_slice(),
+        ),
+    ] {
+        let text = OneText {
+            path: String::from_str(rt.alloc(), "plan")?,
+            octets: Vec::from_slice(rt.alloc(), octets)?,
+        };
+        let mut err = Vec::new(rt.alloc());
+        let plan = load_plan(&text, rt.alloc(), path, &mut err);
+        assert_eq!(rt; plan.map(|plan| plan.length()), length, "{path}");
+        assert_eq!(rt; err.as_slice(), lines, "{path}");
+    }
     Ok(())
 }
