@@ -11,4 +11,5 @@ pub mod MessageCounts
 pub mod Faults
 -- what only inner functions need
 pub mod Progressing
+pub mod CounterPlaces
 pub mod LineParts

@@ -1,9 +1,8 @@
 -- How a session tells what it has read.
 use Rattle.std.specs.Prelude.{◌≡◌, ℕ, ◌+◌, ◌-◌, ◌^◌, ◌≤◌, min, List, [], ◌++◌, length, Option}
 use Rattle.std.specs.Io.KnownBytes.{Appends}
-use Rattle.collectd.specs.MessageCounts.{count_of, HasRead}
+use Rattle.collectd.specs.MessageCounts.{CounterView, HasRead}
 use Rattle.collectd.specs.ReportLines.{progress_line}
-use Rattle.collectd.specs.declared.message_counter.MessageCounter.{MessageCounter}
 
 -- what contracts see of a session's progress
 pub record ProgressView : Type 0 where
@@ -12,7 +11,7 @@ pub record ProgressView : Type 0 where
   -- the octets that it has read
   pub read : ℕ
   -- the counter of their messages
-  pub counter : MessageCounter
+  pub counter : CounterView
   -- how many octets there are in all, if that is known
   pub size : Option ℕ
   -- when it told last, or began: nanoseconds of the clock
@@ -34,7 +33,7 @@ pub record IsSilent (old new : ProgressView) : Type 0 where
 -- the line of what was read by then was told, a second or more after the one before, and nothing is kept back
 pub record TellsLine (old new : ProgressView) : Type 0 where
   pub in_time : old.last + second ≤ new.last
-  pub line : Appends old.written new.written (progress_line new.session new.read (count_of new.counter) new.size)
+  pub line : Appends old.written new.written (progress_line new.session new.read new.counter.messages new.size)
   pub given : new.kept ≡ []
 
 -- these octets were read next by the same session: they are counted, and so are the messages that they

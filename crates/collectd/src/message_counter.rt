@@ -3,10 +3,12 @@
 ghost use Rattle.std.specs.Prelude.{◌≡◌, ◌+◌, ◌<◌, ◌++◌, ℕ, List, [], length};
 ghost use Rattle.ipfix_session.specs.MessageStream.{cut};
 ghost use Rattle.ipfix_session.specs.Ledger.{capped};
-ghost use Rattle.collectd.specs.MessageCounts.{count_of, whole_messages, HasRead, IsReading, IsWithin};
+ghost use Rattle.collectd.specs.MessageCounts.{whole_messages, HasRead, IsWithinMessage};
+ghost use Rattle.collectd.specs.CounterPlaces.{IsReading};
 
 use arrayvec::ArrayVec;
 use ipfix_wire::{HEADER_LENGTH, read_header};
+use std::marker::Model;
 use std::num::NonZeroU16;
 
 // The most octets of a header that isn't whole.
@@ -15,11 +17,11 @@ const MOST_BEGUN: usize = HEADER_LENGTH - 1;
 /// Where what was read of a text ends.
 #[derive(Drop)]
 enum Place {
-    /// Behind these octets of a header; before it, if there are none.
+    /// After these octets of a header; before it, if there are none.
     Header(ArrayVec<u8, MOST_BEGUN>),
     /// Within a message of which this many octets are to come.
     Message(NonZeroU16),
-    /// Behind a header that no message has: none is found from there on.
+    /// After a header that no message has: none is found from there on.
     Fault,
 }
 
@@ -29,6 +31,15 @@ enum Place {
 pub struct MessageCounter {
     messages: u64,
     place: Place,
+}
+
+impl Model for MessageCounter {
+    ghost use Rattle.collectd.specs.MessageCounts.{CounterView};
+    ghost use Rattle.collectd.specs.CounterPlaces.{place_of};
+
+    ghost Value = { CounterView };
+
+    ghost view = { λ c. record { messages = c.messages; place = place_of c.place } };
 }
 
 impl MessageCounter {
@@ -44,7 +55,7 @@ impl MessageCounter {
 
     /// How many messages were read to their end. It stops at `u64::MAX`.
     pub fn count(&self) -> u64
-        ensures { result ≡ count_of self.now }
+        ensures { result ≡ self.now.messages }
     {
         self.messages
     }
@@ -85,9 +96,9 @@ impl MessageCounter {
         }
     }
 
-    // Goes on behind a whole header.
+    // Goes on after a whole header.
     fn begin_message(&mut self, header: &[u8; HEADER_LENGTH])
-        ensures { (text part : List ℕ) → count_of self.old ≡ capped (whole_messages text)
+        ensures { (text part : List ℕ) → self.old.messages ≡ capped (whole_messages text)
             → (cut text).rest ++ part ≡ header.now → HasRead self.new (text ++ part) }
     {
         match read_header(header) {
@@ -98,8 +109,8 @@ impl MessageCounter {
 
     // Goes on in a message of which so many octets are to come.
     fn go_on(&mut self, due: u16)
-        ensures { (text part : List ℕ) → count_of self.old ≡ capped (whole_messages text)
-            → IsWithin due ((cut text).rest ++ part) → HasRead self.new (text ++ part) }
+        ensures { (text part : List ℕ) → self.old.messages ≡ capped (whole_messages text)
+            → IsWithinMessage due ((cut text).rest ++ part) → HasRead self.new (text ++ part) }
     {
         match NonZeroU16::new(due) {
             Some(due) => self.place = Place::Message(due),

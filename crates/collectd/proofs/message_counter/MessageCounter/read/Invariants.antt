@@ -1,5 +1,6 @@
 use Rattle.std.proofs.Common.{◌++◌, ℕ, List, length}
-use Rattle.collectd.specs.MessageCounts.{HasRead, IsReading}
+use Rattle.collectd.specs.MessageCounts.{HasRead}
+use Rattle.collectd.specs.CounterPlaces.{IsReading}
 use Rattle.collectd.proofs.message_counter.MessageCounter.read.Given as goal
 
 abbrev pub invariant-loop-left : goal.invariant-loop-left

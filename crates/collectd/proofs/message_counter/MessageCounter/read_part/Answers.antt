@@ -1,10 +1,11 @@
 use Rattle.std.proofs.Common.{◌≡◌, ◌++◌, ℕ, List, [], Result, Ok, Err, true, false, sym, ap, subst, ◌∙◌, arith}
+use Rattle.std.specs.Int.NonZero.{non_zero_u16_get}
 use Rattle.std.specs.Result.{is_ok, OnOk, OnErr}
 use Rattle.std.proofs.lemmas.List.{append-nil}
 use Rattle.arrayvec.specs.ArrayVec.{ArrayVec}
 use Rattle.ipfix_session.specs.MessageStream.{cut}
-use Rattle.collectd.specs.MessageCounts.{EndsAt}
-use Rattle.collectd.specs.declared.message_counter.Place.{Place}
+use Rattle.collectd.specs.MessageCounts.{PlaceView, EndsAt, CounterView, HasRead}
+use Rattle.collectd.specs.CounterPlaces.{place_of}
 use Rattle.collectd.proofs.Counting.{reading_on, goes_on_header, goes_on_within, goes_on_faulty}
 use Rattle.collectd.proofs.message_counter.MessageCounter.read_part.Goals as goal
 
@@ -24,7 +25,9 @@ returns-then-is_ok-clause-reads c = λ text reading.
     let room = kept.ensures.variant.0 fits in
     let grown = on_ok kept.result fits kept.ensures.len in
     reading_on c.args.self.now _ c.args.piece.now c.args.piece.now [] text (sym (append-nil c.args.piece.now))
-    (λ t has. goes_on_header c.args.self.now c.in-Header.begun kept.new.self t c.args.piece.now c.in-Header.is (on_ok kept.result fits kept.ensures.ok) (omega (arith, room, grown)) has) reading
+    (λ t has.
+    let inside = subst (λ (v : CounterView). HasRead v t) (sym c.self.view_is) has in
+    goes_on_header _ c.in-Header.begun.items kept.new.self.items t c.args.piece.now (ap place_of c.in-Header.is) (on_ok kept.result fits kept.ensures.ok) (omega (arith, room, grown)) inside) reading
 
 pub returns-else-is_ok-clause-reads : goal.returns-else-is_ok-clause-reads
 returns-else-is_ok-clause-reads c = λ text reading.
@@ -33,16 +36,22 @@ returns-else-is_ok-clause-reads c = λ text reading.
     let same : kept.new.self ≡ c.in-Header.begun = on_err kept.result full kept.ensures.err in
     reading_on c.args.self.now c.begin_message.new.self c.args.piece.now c.split_at.result.0.now c.split_at.result.1.now text c.split_at.ensures.by_index.0
     (λ t has.
-    let rest = subst (λ (p : Place). EndsAt p (cut t).rest) c.in-Header.is has.place in
-    c.begin_message.ensures t c.split_at.result.0.now has.count
-    (ap (λ (w : List ℕ). w ++ c.split_at.result.0.now) (rest ∙ ap (λ (v : ArrayVec ℕ). v.items) (sym same) ∙ sym c.as_slice.ensures.value) ∙ sym c.whole_header-header.ensures)) reading
+    let inside = subst (λ (v : CounterView). HasRead v t) (sym c.self.view_is) has in
+    let begins = subst (λ (p : PlaceView). EndsAt p (cut t).rest) (ap place_of c.in-Header.is) inside.place in
+    c.begin_message.ensures t c.split_at.result.0.now inside.count
+    (ap (λ (w : List ℕ). w ++ c.split_at.result.0.now) (begins.octets ∙ ap (λ (v : ArrayVec ℕ). v.items) (sym same) ∙ sym c.as_slice.ensures.value) ∙ sym c.whole_header-header.ensures)) reading
 
 pub returns-in-Message-clause-reads : goal.returns-in-Message-clause-reads
 returns-in-Message-clause-reads c = λ text reading.
     reading_on c.args.self.now c.go_on.new.self c.args.piece.now c.split_at-in-Message.result.0.now c.split_at-in-Message.result.1.now text c.split_at-in-Message.ensures.by_index.0
-    (λ t has. c.go_on.ensures t c.split_at-in-Message.result.0.now has.count (goes_on_within c.args.self.now c.in-Message.due _ t c.split_at-in-Message.result.0.now c.in-Message.is (omega arith) has)) reading
+    (λ t has.
+    let inside = subst (λ (v : CounterView). HasRead v t) (sym c.self.view_is) has in
+    c.go_on.ensures t c.split_at-in-Message.result.0.now inside.count
+    (goes_on_within _ (non_zero_u16_get c.in-Message.due) _ t c.split_at-in-Message.result.0.now (ap place_of c.in-Message.is) (omega arith) inside)) reading
 
 pub returns-in-Fault-clause-reads : goal.returns-in-Fault-clause-reads
 returns-in-Fault-clause-reads c = λ text reading.
-    reading_on c.args.self.now c.args.self.now c.args.piece.now c.args.piece.now [] text (sym (append-nil c.args.piece.now))
-    (λ t has. goes_on_faulty c.args.self.now t c.args.piece.now c.in-Fault.is has) reading
+    reading_on c.args.self.now _ c.args.piece.now c.args.piece.now [] text (sym (append-nil c.args.piece.now))
+    (λ t has.
+    let inside = subst (λ (v : CounterView). HasRead v t) (sym c.self.view_is) has in
+    goes_on_faulty _ t c.args.piece.now (ap place_of c.in-Fault.is) inside) reading
