@@ -54,23 +54,28 @@ fn name_text(alloc: Global, element: ElementId) -> Result<Vec<u8>, Fail> {
 }
 
 fn value_text(alloc: Global, kind: Kind, octets: &[u8]) -> Result<Vec<u8>, Fail> {
-    let mut out = Vec::new(alloc);
-    write_value(kind, octets, &mut out)?;
-    Ok(out)
+    let mut text = Vec::new(alloc);
+    write_value(kind, octets, &mut text)?;
+    Ok(text)
 }
 
 #[test]
-fn table(rt: HostRuntime) -> Result<(), Fail> {
-    for (number, name, kind) in TABLE {
+fn kinds_and_names(rt: HostRuntime) {
+    for &(number, name, kind) in &TABLE {
         let element = ElementId::iana(number);
-        assert_eq!(rt; kind_of(element), kind, "kind of {name}");
-        assert_eq!(rt; name_of(element), Some(name), "name of {number}");
-        assert_eq!(rt; by_name(name), Some(element), "element {name}");
         assert_eq!(rt;
-            name_text(rt.alloc(), element)?.as_slice(),
-            name.as_bytes(),
-            "text of {number}"
+            (kind_of(element), name_of(element), by_name(name)),
+            (kind, Some(name), Some(element)),
+            "{number} {name}"
         );
+    }
+}
+
+#[test]
+fn names_are_written(rt: HostRuntime) -> Result<(), Fail> {
+    for &(number, name, _) in &TABLE {
+        let written = name_text(rt.alloc(), ElementId::iana(number))?;
+        assert_eq!(rt; written.as_slice(), name.as_bytes(), "text of {number}");
     }
     Ok(())
 }
@@ -96,38 +101,40 @@ fn named_numbers(rt: HostRuntime) {
 }
 
 #[test]
-fn names(rt: HostRuntime) -> Result<(), Fail> {
-    let private = ElementId {
-        pen: 32473,
-        number: 1,
-    };
-    assert_eq!(rt; name_of(private), None);
-    assert_eq!(rt; kind_of(private), Kind::Octets);
-    assert_eq!(rt;
-        kind_of(ElementId {
-            pen: 32473,
-            number: 8
-        }),
-        Kind::Octets
-    );
-    assert_eq!(rt;
-        name_text(rt.alloc(), private)?.as_slice(),
-        b"e32473.1".as_slice()
-    );
-    assert_eq!(rt;
-        name_text(rt.alloc(), ElementId::iana(999))?.as_slice(),
-        b"e0.999".as_slice()
-    );
-    assert_eq!(rt; by_name("e32473.1"), Some(private));
-    assert_eq!(rt; by_name("e0.8"), Some(ElementId::iana(8)));
-    assert_eq!(rt;
-        by_name("e4294967295.32767"),
-        Some(ElementId {
-            pen: 4294967295,
-            number: 32767
-        })
-    );
-    for refused in [
+fn private_elements_have_no_name(rt: HostRuntime) {
+    for number in [1, 8] {
+        let private = ElementId { pen: 32473, number };
+        assert_eq!(rt;
+            (name_of(private), kind_of(private)),
+            (None, Kind::Octets),
+            "{number}"
+        );
+    }
+}
+
+#[test]
+fn elements_without_names_are_written_by_numbers(rt: HostRuntime) -> Result<(), Fail> {
+    for (pen, number, text) in [(32473, 1, "e32473.1"), (0, 999, "e0.999")] {
+        let written = name_text(rt.alloc(), ElementId { pen, number })?;
+        assert_eq!(rt; written.as_slice(), text.as_bytes(), "{text}");
+    }
+    Ok(())
+}
+
+#[test]
+fn elements_are_found_by_numbers(rt: HostRuntime) {
+    for (text, pen, number) in [
+        ("e32473.1", 32473, 1),
+        ("e0.8", 0, 8),
+        ("e4294967295.32767", 4294967295, 32767),
+    ] {
+        assert_eq!(rt; by_name(text), Some(ElementId { pen, number }), "{text}");
+    }
+}
+
+#[test]
+fn other_texts_name_no_element(rt: HostRuntime) {
+    for &refused in &[
         "",
         "e",
         "nobody",
@@ -147,50 +154,54 @@ fn names(rt: HostRuntime) -> Result<(), Fail> {
     ] {
         assert_eq!(rt; by_name(refused), None, "{refused}");
     }
-    Ok(())
 }
 
 #[test]
 fn numbers(rt: HostRuntime) {
     let two = Kind::Unsigned(Width::Two);
-    assert_eq!(rt; read_number(two, &[0x12]), Some(18));
-    assert_eq!(rt; read_number(two, &[0, 0x12]), Some(18));
-    assert_eq!(rt; read_number(two, &[]), None);
-    assert_eq!(rt; read_number(two, &[0, 0, 0x12]), None);
-    assert_eq!(rt;
-        read_number(Kind::Unsigned(Width::Eight), &[1, 2, 3]),
-        Some(66051)
-    );
-    assert_eq!(rt;
-        read_number(Kind::Seconds, &[0x65, 0x53, 0xf1, 0]),
-        Some(1700000000)
-    );
-    assert_eq!(rt; read_number(Kind::Seconds, &[0xf1, 0]), None);
-    assert_eq!(rt;
-        read_number(Kind::Millis, &[0, 0, 0, 0, 0, 0, 3, 0xe8]),
-        Some(1000)
-    );
-    assert_eq!(rt; read_number(Kind::Millis, &[0, 0, 3, 0xe8]), None);
-    assert_eq!(rt; read_number(Kind::Ipv4, &[192, 0, 2, 1]), None);
+    let eight = Kind::Unsigned(Width::Eight);
+    let cases: [(Kind, &[u8], Option<u64>); 10] = [
+        (two, &[0x12], Some(18)),
+        (two, &[0, 0x12], Some(18)),
+        (two, &[], None),
+        (two, &[0, 0, 0x12], None),
+        (eight, &[1, 2, 3], Some(66051)),
+        (Kind::Seconds, &[0x65, 0x53, 0xf1, 0], Some(1700000000)),
+        (Kind::Seconds, &[0xf1, 0], None),
+        (Kind::Millis, &[0, 0, 0, 0, 0, 0, 3, 0xe8], Some(1000)),
+        (Kind::Millis, &[0, 0, 3, 0xe8], None),
+        (Kind::Ipv4, &[192, 0, 2, 1], None),
+    ];
+    for (kind, octets, wanted) in cases {
+        assert_eq!(rt; read_number(kind, octets), wanted, "{kind:?} {octets:?}");
+    }
 }
 
 #[test]
 fn cells(rt: HostRuntime) {
-    assert_eq!(rt;
-        read_cell(Kind::Ipv4, &[192, 0, 2, 1]),
-        Some(Cell::Ipv4([192, 0, 2, 1]))
-    );
-    assert_eq!(rt; read_cell(Kind::Ipv4, &[192, 0, 2]), None);
-    assert_eq!(rt;
-        read_cell(Kind::Mac, &[2, 0x42, 0xac, 0x11, 0, 2]),
-        Some(Cell::Mac([2, 0x42, 0xac, 0x11, 0, 2]))
-    );
-    assert_eq!(rt; read_cell(Kind::Ipv6, &[1; 16]), Some(Cell::Ipv6([1; 16])));
-    assert_eq!(rt;
-        read_cell(Kind::Seconds, &[0, 0, 0, 7]),
-        Some(Cell::Number(7))
-    );
-    assert_eq!(rt; read_cell(Kind::Octets, &[1]), None);
+    let cases: [(Kind, &[u8], Option<Cell>); 6] = [
+        (
+            Kind::Ipv4,
+            &[192, 0, 2, 1],
+            Some(Cell::Ipv4([192, 0, 2, 1])),
+        ),
+        (Kind::Ipv4, &[192, 0, 2], None),
+        (
+            Kind::Mac,
+            &[2, 0x42, 0xac, 0x11, 0, 2],
+            Some(Cell::Mac([2, 0x42, 0xac, 0x11, 0, 2])),
+        ),
+        (Kind::Ipv6, &[1; 16], Some(Cell::Ipv6([1; 16]))),
+        (Kind::Seconds, &[0, 0, 0, 7], Some(Cell::Number(7))),
+        (Kind::Octets, &[1], None),
+    ];
+    for (kind, octets, wanted) in cases {
+        assert_eq!(rt; read_cell(kind, octets), wanted, "{kind:?} {octets:?}");
+    }
+}
+
+#[test]
+fn cells_ascend(rt: HostRuntime) {
     cell_order();
     let ascending = [
         Cell::Number(9),

@@ -21,54 +21,78 @@ fn headers(rt: HostRuntime) -> Result<(), Fail> {
     write_header(&header, &mut out)?;
     assert_eq!(rt; out.as_slice(), HEADER.as_slice());
     assert_eq!(rt; read_header(&HEADER), Ok(header));
+    Ok(())
+}
+
+#[test]
+fn refused_headers(rt: HostRuntime) {
     for (at, octet, fault) in [
         (1, 9, WireFault::Version),
         (3, 15, WireFault::MessageLength),
     ] {
         let mut octets = HEADER;
         octets[at] = octet;
-        assert_eq!(rt; read_header(&octets), Err(fault));
+        assert_eq!(rt; read_header(&octets), Err(fault), "{octet} at {at}");
     }
-    Ok(())
 }
 
 #[test]
-fn sets(rt: HostRuntime) -> Result<(), Fail> {
+fn written_set(rt: HostRuntime) -> Result<(), Fail> {
     let mut out = Vec::new(rt.alloc());
     write_set(256, 40, &mut out)?;
     assert_eq!(rt; out.as_slice(), [0x01, 0x00, 0x00, 0x2c].as_slice());
-    assert_eq!(rt; read_set(&out), Err(WireFault::SetLength));
-    assert_eq!(rt; read_set(&[0, 2, 0, 4]), Ok(SetSpan { id: 2, body: 0 }));
-    assert_eq!(rt; read_set(&[0, 2, 0]), Err(WireFault::SetHeader));
-    assert_eq!(rt; read_set(&[0, 2, 0, 3]), Err(WireFault::SetLength));
     Ok(())
 }
 
 #[test]
-fn specifiers(rt: HostRuntime) -> Result<(), Fail> {
-    let element = ElementId {
+fn read_sets(rt: HostRuntime) {
+    for (octets, answer) in [
+        ([0x01, 0x00, 0x00, 0x2c], Err(WireFault::SetLength)),
+        ([0, 2, 0, 4], Ok(SetSpan { id: 2, body: 0 })),
+        ([0, 2, 0, 3], Err(WireFault::SetLength)),
+    ] {
+        assert_eq!(rt; read_set(&octets), answer, "{octets:?}");
+    }
+}
+
+#[test]
+fn cut_set_header(rt: HostRuntime) {
+    assert_eq!(rt; read_set(&[0, 2, 0]), Err(WireFault::SetHeader));
+}
+
+const SPEC: Spec = Spec {
+    element: ElementId {
         pen: 32473,
         number: 1,
-    };
-    let spec = Spec {
-        element,
-        width: 65535,
-    };
+    },
+    width: 65535,
+};
+
+const SPEC_OCTETS: [u8; 8] = [0x80, 0x01, 0xff, 0xff, 0x00, 0x00, 0x7e, 0xd9];
+
+#[test]
+fn written_specifier(rt: HostRuntime) -> Result<(), Fail> {
     let mut out = Vec::new(rt.alloc());
-    write_spec(&spec, &mut out)?;
-    assert_eq!(rt;
-        out.as_slice(),
-        [0x80, 0x01, 0xff, 0xff, 0x00, 0x00, 0x7e, 0xd9].as_slice()
-    );
-    assert_eq!(rt; read_spec(&out), Some((spec, 8)));
-    assert_eq!(rt; read_spec(&[0x80, 0x01, 0x00, 0x04, 0x00, 0x00]), None);
+    write_spec(&SPEC, &mut out)?;
+    assert_eq!(rt; out.as_slice(), SPEC_OCTETS.as_slice());
+    Ok(())
+}
+
+#[test]
+fn read_specifiers(rt: HostRuntime) {
     // an enterprise bit with enterprise number 0 is read as no bit
     let iana = Spec {
         element: ElementId::iana(1),
         width: 4,
     };
-    assert_eq!(rt; read_spec(&[0x80, 1, 0, 4, 0, 0, 0, 0]), Some((iana, 8)));
-    Ok(())
+    let cases: [(&[u8], Option<(Spec, usize)>); 3] = [
+        (&SPEC_OCTETS, Some((SPEC, 8))),
+        (&[0x80, 0x01, 0x00, 0x04, 0x00, 0x00], None),
+        (&[0x80, 1, 0, 4, 0, 0, 0, 0], Some((iana, 8))),
+    ];
+    for (octets, wanted) in cases {
+        assert_eq!(rt; read_spec(octets), wanted, "{octets:?}");
+    }
 }
 
 fn length_octets(rt: &HostRuntime, length: u16) -> Result<Vec<u8>, AllocError> {
@@ -78,17 +102,25 @@ fn length_octets(rt: &HostRuntime, length: u16) -> Result<Vec<u8>, AllocError> {
 }
 
 #[test]
-fn lengths(rt: HostRuntime) -> Result<(), Fail> {
-    assert_eq!(rt; length_octets(&rt, 5)?.as_slice(), [0x05].as_slice());
-    assert_eq!(rt; length_octets(&rt, 254)?.as_slice(), [0xfe].as_slice());
-    assert_eq!(rt;
-        length_octets(&rt, 255)?.as_slice(),
-        [0xff, 0x00, 0xff].as_slice()
-    );
-    assert_eq!(rt; read_length(&[0xff, 0x00, 0x05]), Some((5, 3)));
-    assert_eq!(rt; read_length(&[0xff, 0x00]), None);
-    assert_eq!(rt; read_length(&[0x05]), Some((5, 1)));
+fn written_lengths(rt: HostRuntime) -> Result<(), Fail> {
+    let cases: [(u16, &[u8]); 3] = [(5, &[0x05]), (254, &[0xfe]), (255, &[0xff, 0x00, 0xff])];
+    for (length, wanted) in cases {
+        let octets = length_octets(&rt, length)?;
+        assert_eq!(rt; octets.as_slice(), wanted, "{length}");
+    }
     Ok(())
+}
+
+#[test]
+fn read_lengths(rt: HostRuntime) {
+    let cases: [(&[u8], Option<(usize, usize)>); 3] = [
+        (&[0xff, 0x00, 0x05], Some((5, 3))),
+        (&[0xff, 0x00], None),
+        (&[0x05], Some((5, 1))),
+    ];
+    for (octets, wanted) in cases {
+        assert_eq!(rt; read_length(octets), wanted, "{octets:?}");
+    }
 }
 
 #[test]
@@ -99,7 +131,6 @@ fn fault_numbers_and_names(rt: HostRuntime) {
         (WireFault::SetHeader, 3, "SetHeader"),
         (WireFault::SetLength, 4, "SetLength"),
     ] {
-        assert_eq!(rt; fault.number(), number);
-        assert_eq!(rt; fault.name(), name);
+        assert_eq!(rt; (fault.number(), fault.name()), (number, name));
     }
 }
