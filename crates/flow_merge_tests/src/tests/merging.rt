@@ -1,10 +1,13 @@
 //! Exports merged.
 
+ghost use Rattle.std.specs.Prelude.{IfOk};
+ghost use Rattle.flow_table.specs.Fitting.{FitsPlan};
+
 use super::exports::{Line, TEMPLATE, export_of, plan_of, push_rows};
 use flow_export::{ipfix_bytes, write_csv};
 use flow_merge::{MergeFault, RowFault, merge};
 use flow_table::{Plan, Table};
-use ipfix_session::{FromReader, ScriptSource, SessionFault};
+use ipfix_session::{ScriptSource, SessionFault};
 use std::alloc::Global;
 use std::test::Fail;
 use worked_examples::flows::ONE_FLOW;
@@ -17,23 +20,27 @@ fn by_source(alloc: Global) -> Result<Plan, Fail> {
     plan_of(alloc, 60_000, None)
 }
 
-/// Merges exports.
-fn merged(
-    alloc: Global,
-    plan: &Plan,
-    exports: &[Vec<u8>],
-) -> Result<Result<Table, MergeFault>, Fail> {
+/// Merges exports, each read seven octets at a time.
+fn merged(alloc: Global, plan: &Plan, exports: &[&[u8]]) -> Result<Result<Table, MergeFault>, Fail>
+    ensures fits { IfOk result (λ merging. IfOk merging (λ table. FitsPlan plan.now table)) }
+{
     let mut sources = Vec::new(alloc);
     for export in exports {
-        sources.push(FromReader::new(export.as_slice()))?;
+        sources.push(ScriptSource::new(export.to_vec(alloc)?, 7, None, None))?;
     }
     Ok(merge(alloc, plan, sources, READS))
 }
 
-/// The fault of merging exports under the plan of the tests.
-fn fault_of(alloc: Global, exports: &[Vec<u8>]) -> Result<Option<MergeFault>, Fail> {
+/// The fault of merging exports.
+fn fault_of(alloc: Global, plan: &Plan, exports: &[&[u8]]) -> Result<Option<MergeFault>, Fail> {
+    Ok(merged(alloc, plan, exports)?.err())
+}
+
+/// The export of the table of merged exports.
+fn exported(alloc: Global, exports: &[&[u8]]) -> Result<Vec<u8>, Fail> {
     let plan = by_source(alloc)?;
-    Ok(merged(alloc, &plan, exports)?.err())
+    let table = merged(alloc, &plan, exports)??;
+    Ok(ipfix_bytes(alloc, &plan, &table, 1_700_000_000)?)
 }
 
 /// The table of merged exports of these rows, as CSV.
@@ -56,17 +63,16 @@ const HEADING: &str = "start,end,sourceIPv4Address,octetDeltaCount,flows\n";
 fn rows_are_added_up(rt: HostRuntime) -> Result<(), Fail> {
     let one: &[Line] = &[(0, 1, 1500, 1), (1, 1, 40, 3)];
     let two: &[Line] = &[(0, 1, 500, 2), (0, 2, 7, 1), (2, 1, 9, 1)];
-    let text = csv_of(rt.alloc(), &[one, two])?;
     let rows = "start,end,sourceIPv4Address,octetDeltaCount,flows
 0,59999,192.0.2.1,2000,3
 0,59999,192.0.2.2,7,1
 60000,119999,192.0.2.1,40,3
 120000,179999,192.0.2.1,9,1
 ";
-    assert_eq!(rt; text.as_slice(), rows.as_bytes());
-    // In the other order the same.
-    let text = csv_of(rt.alloc(), &[two, one])?;
-    assert_eq!(rt; text.as_slice(), rows.as_bytes());
+    for exports in [[one, two], [two, one]] {
+        let text = csv_of(rt.alloc(), &exports)?;
+        assert_eq!(rt; text.as_slice(), rows.as_bytes());
+    }
     Ok(())
 }
 
@@ -80,10 +86,11 @@ fn one_export_alone(rt: HostRuntime) -> Result<(), Fail> {
 
 #[test]
 fn no_rows(rt: HostRuntime) -> Result<(), Fail> {
-    let text = csv_of(rt.alloc(), &[&[], &[]])?;
-    assert_eq!(rt; text.as_slice(), HEADING.as_bytes());
-    let text = csv_of(rt.alloc(), &[])?;
-    assert_eq!(rt; text.as_slice(), HEADING.as_bytes());
+    let two: &[&[Line]] = &[&[], &[]];
+    for exports in [two, &[]] {
+        let text = csv_of(rt.alloc(), exports)?;
+        assert_eq!(rt; text.as_slice(), HEADING.as_bytes());
+    }
     Ok(())
 }
 
@@ -103,108 +110,100 @@ fn two_hundred_exports(rt: HostRuntime) -> Result<(), Fail> {
 #[test]
 fn exported_again(rt: HostRuntime) -> Result<(), Fail> {
     let alloc = rt.alloc();
-    let plan = by_source(alloc)?;
-    let mut exports = Vec::new(alloc);
-    exports.push(export_of(alloc, &[(0, 1, 1500, 1)])?)?;
-    exports.push(export_of(alloc, &[(0, 1, 500, 2), (1, 2, 7, 1)])?)?;
-    let mut sources = Vec::new(alloc);
-    for export in &exports {
-        sources.push(FromReader::new(export.as_slice()))?;
-    }
-    let table = merge(alloc, &plan, sources, READS)?;
-    let bytes = ipfix_bytes(alloc, &plan, &table, 1_700_000_000)?;
-    let expected = export_of(alloc, &[(0, 1, 2000, 3), (1, 2, 7, 1)])?;
-    assert_eq!(rt; bytes.as_slice(), expected.as_slice());
+    let one = export_of(alloc, &[(0, 1, 1500, 1)])?;
+    let two = export_of(alloc, &[(0, 1, 500, 2), (1, 2, 7, 1)])?;
+    let both = export_of(alloc, &[(0, 1, 2000, 3), (1, 2, 7, 1)])?;
+    assert_eq!(rt; exported(alloc, &[&one, &two])?.as_slice(), both.as_slice());
     Ok(())
 }
 
 #[test]
 fn sums_at_the_limit(rt: HostRuntime) -> Result<(), Fail> {
-    let alloc = rt.alloc();
     let text = csv_of(
-        alloc,
+        rt.alloc(),
         &[&[(0, 1, u64::MAX - 1, 1)], &[(0, 1, 1, u64::MAX - 1)]],
     )?;
     let rows = "start,end,sourceIPv4Address,octetDeltaCount,flows
 0,59999,192.0.2.1,18446744073709551615,18446744073709551615
 ";
     assert_eq!(rt; text.as_slice(), rows.as_bytes());
-    let mut exports = Vec::new(alloc);
-    exports.push(export_of(alloc, &[(0, 1, u64::MAX, 1)])?)?;
-    exports.push(export_of(alloc, &[(0, 1, 1, 1)])?)?;
-    assert_eq!(rt; fault_of(alloc, &exports)?, Some(MergeFault::SumTooLarge));
-    let mut exports = Vec::new(alloc);
-    exports.push(export_of(alloc, &[(0, 1, 1, u64::MAX)])?)?;
-    exports.push(export_of(alloc, &[(0, 1, 1, 1)])?)?;
-    assert_eq!(rt; fault_of(alloc, &exports)?, Some(MergeFault::SumTooLarge));
     Ok(())
+}
+
+#[test]
+fn sums_past_the_limit(rt: HostRuntime) -> Result<(), Fail> {
+    let alloc = rt.alloc();
+    let plan = by_source(alloc)?;
+    let one = export_of(alloc, &[(0, 1, 1, 1)])?;
+    for row in [(0, 1, u64::MAX, 1), (0, 1, 1, u64::MAX)] {
+        let large = export_of(alloc, &[row])?;
+        let fault = fault_of(alloc, &plan, &[&large, &one])?;
+        assert_eq!(rt; fault, Some(MergeFault::SumTooLarge));
+    }
+    Ok(())
+}
+
+/// An export of one row, and a message with this sequence number and another row behind it.
+fn with_more(alloc: Global, sequence: u32, row: Line) -> Result<Vec<u8>, Fail> {
+    let mut text = export_of(alloc, &[(0, 1, 1500, 1)])?;
+    push_rows(&mut text, sequence, &[row])?;
+    Ok(text)
 }
 
 #[test]
 fn damaged_exports(rt: HostRuntime) -> Result<(), Fail> {
     let alloc = rt.alloc();
-    // Without its last octet, and without its message of rows but for a header's first octet.
+    let plan = by_source(alloc)?;
     let whole = export_of(alloc, &[(0, 1, 1500, 1)])?;
+    // Without its last octet, and without its message of rows but for a header's first octet.
     for length in [99, 45] {
-        let mut exports = Vec::new(alloc);
-        exports.push(export_of(alloc, &[(0, 1, 1, 1)])?)?;
-        exports.push(whole.as_slice().get(..length).unwrap_or(&[]).to_vec(alloc)?)?;
+        let front = whole.as_slice().get(..length).unwrap_or(&[]);
         let fault = MergeFault::Session(SessionFault::Truncated);
-        assert_eq!(rt; fault_of(alloc, &exports)?, Some(fault));
+        assert_eq!(rt; fault_of(alloc, &plan, &[&whole, front])?, Some(fault));
     }
-    // Rows 5 to 8 are missing.
-    let mut text = export_of(alloc, &[(0, 1, 1500, 1)])?;
-    push_rows(&mut text, 5, &[(1, 1, 1500, 1)])?;
-    let mut exports = Vec::new(alloc);
-    exports.push(text)?;
-    assert_eq!(rt; fault_of(alloc, &exports)?, Some(MergeFault::Lost));
-    // A message of rows comes twice.
-    let mut text = export_of(alloc, &[(0, 1, 1500, 1)])?;
-    push_rows(&mut text, 0, &[(0, 1, 1500, 1)])?;
-    let mut exports = Vec::new(alloc);
-    exports.push(text)?;
-    assert_eq!(rt; fault_of(alloc, &exports)?, Some(MergeFault::Lost));
+    // Rows 5 to 8 are missing, and a message of rows comes twice.
+    for (sequence, row) in [(5, (1, 1, 1500, 1)), (0, (0, 1, 1500, 1))] {
+        let text = with_more(alloc, sequence, row)?;
+        assert_eq!(rt; fault_of(alloc, &plan, &[&text])?, Some(MergeFault::Lost));
+    }
     Ok(())
 }
 
 #[test]
 fn no_exports(rt: HostRuntime) -> Result<(), Fail> {
     let alloc = rt.alloc();
-    // No octets.
-    let mut exports = Vec::new(alloc);
-    exports.push(Vec::new(alloc))?;
-    assert_eq!(rt; fault_of(alloc, &exports)?, Some(MergeFault::NotAnExport));
-    // Rows without a template.
-    let mut text = Vec::new(alloc);
-    push_rows(&mut text, 0, &[(0, 1, 1500, 1)])?;
-    let mut exports = Vec::new(alloc);
-    exports.push(text)?;
-    assert_eq!(rt; fault_of(alloc, &exports)?, Some(MergeFault::NotAnExport));
-    // A session of another exporter.
-    let mut exports = Vec::new(alloc);
-    exports.push(ONE_FLOW.to_vec(alloc)?)?;
-    let fault = MergeFault::Row(RowFault::Template);
-    assert_eq!(rt; fault_of(alloc, &exports)?, Some(fault));
+    let plan = by_source(alloc)?;
+    let mut rows = Vec::new(alloc);
+    push_rows(&mut rows, 0, &[(0, 1, 1500, 1)])?;
+    // No octets, rows without a template, and a session of another exporter.
+    let cases: [(&[u8], MergeFault); 3] = [
+        (&[], MergeFault::NotAnExport),
+        (&rows, MergeFault::NotAnExport),
+        (ONE_FLOW, MergeFault::Row(RowFault::Template)),
+    ];
+    for (text, fault) in cases {
+        assert_eq!(rt; fault_of(alloc, &plan, &[text])?, Some(fault));
+    }
     Ok(())
 }
 
 #[test]
 fn exports_of_another_plan(rt: HostRuntime) -> Result<(), Fail> {
     let alloc = rt.alloc();
-    let mut exports = Vec::new(alloc);
-    exports.push(export_of(alloc, &[(0, 1, 1500, 1)])?)?;
-    // Half as long intervals.
-    let plan = plan_of(alloc, 30_000, None)?;
-    let fault = merged(alloc, &plan, &exports)?.err();
-    assert_eq!(rt; fault, Some(MergeFault::Row(RowFault::Interval)));
-    // Networks in place of addresses.
-    let plan = plan_of(alloc, 60_000, Some(24))?;
-    let fault = merged(alloc, &plan, &exports)?.err();
-    assert_eq!(rt; fault, Some(MergeFault::Row(RowFault::Fields)));
-    // Of its template alone nothing differs.
-    let mut exports = Vec::new(alloc);
-    exports.push(TEMPLATE.to_vec(alloc)?)?;
-    assert!(rt; merged(alloc, &plan, &exports)?.is_ok());
+    let text = export_of(alloc, &[(0, 1, 1500, 1)])?;
+    // Half as long intervals, networks in place of addresses, and a template alone, of which nothing differs.
+    let cases: [(u32, Option<u8>, &[u8], Option<RowFault>); 3] = [
+        (30_000, None, &text, Some(RowFault::Interval)),
+        (60_000, Some(24), &text, Some(RowFault::Fields)),
+        (60_000, Some(24), TEMPLATE, None),
+    ];
+    for (length, prefix, export, fault) in cases {
+        let plan = plan_of(alloc, length, prefix)?;
+        assert_eq!(rt;
+            fault_of(alloc, &plan, &[export])?,
+            fault.map(MergeFault::Row)
+        );
+    }
     Ok(())
 }
 
@@ -213,17 +212,14 @@ fn reads_that_fail(rt: HostRuntime) -> Result<(), Fail> {
     let alloc = rt.alloc();
     let plan = by_source(alloc)?;
     let text = export_of(alloc, &[(0, 1, 1500, 1)])?;
-    let mut sources = Vec::new(alloc);
-    sources.push(ScriptSource::new(text, 10, Some(2), Some(60)))?;
-    let fault = merge(alloc, &plan, sources, READS).err();
-    assert_eq!(rt; fault, Some(MergeFault::Session(SessionFault::ReadFailed)));
-    let text = export_of(alloc, &[(0, 1, 1500, 1)])?;
-    let mut sources = Vec::new(alloc);
-    sources.push(ScriptSource::new(text, 10, None, None))?;
-    let fault = merge(alloc, &plan, sources, 10).err();
-    assert_eq!(rt;
-        fault,
-        Some(MergeFault::Session(SessionFault::TooManyReads))
-    );
+    for (interrupt_at, fail_at, reads, fault) in [
+        (Some(2), Some(60), READS, SessionFault::ReadFailed),
+        (None, None, 10, SessionFault::TooManyReads),
+    ] {
+        let mut sources = Vec::new(alloc);
+        sources.push(ScriptSource::new(text.as_slice().to_vec(alloc)?, 10, interrupt_at, fail_at))?;
+        let merging = merge(alloc, &plan, sources, reads);
+        assert_eq!(rt; merging.err(), Some(MergeFault::Session(fault)));
+    }
     Ok(())
 }

@@ -122,8 +122,7 @@ fn numbers_and_names(rt: HostRuntime) -> Result<(), Fail> {
         (RowFault::Flows, 6, "Flows"),
     ];
     for (fault, number, name) in faults {
-        assert_eq!(rt; fault.number(), number);
-        assert_eq!(rt; fault.name(), name);
+        assert_eq!(rt; (fault.number(), fault.name()), (number, name));
     }
     Ok(())
 }

@@ -3,7 +3,7 @@
 use super::exports::plan_of;
 use super::rows::{key, record_of};
 use flow_merge::read_row;
-use flow_table::{Method, Plan};
+use flow_table::{Method, Plan, Row};
 use ipfix_elements::Cell;
 use ipfix_session::{Stop, decode_text};
 use ipfix_wire::ElementId;
@@ -20,10 +20,11 @@ fn export_of_one_flow(rt: HostRuntime) -> Result<(), Fail> {
     let plan = plan_of(rt.alloc(), 60_000, None)?;
     for data_record in &decoded.records {
         let row = read_row(rt.alloc(), &plan, data_record)?;
-        assert_eq!(rt; row.interval, 0);
-        assert_eq!(rt; row.key.as_slice(), [Cell::Ipv4([192, 0, 2, 1])].as_slice());
-        assert_eq!(rt; row.sums.as_slice(), [1500].as_slice());
-        assert_eq!(rt; row.flows, 1);
+        assert_eq!(rt; (row.interval, row.flows), (0, 1));
+        assert_eq!(rt;
+            (row.key.as_slice(), row.sums.as_slice()),
+            ([Cell::Ipv4([192, 0, 2, 1])].as_slice(), [1500].as_slice())
+        );
     }
     Ok(())
 }
@@ -71,9 +72,16 @@ fn keys_of_all_kinds(rt: HostRuntime) -> Result<(), Fail> {
         Cell::Ipv6(ipv6),
         Cell::Mac([0, 0, 0x5e, 0, 0x53, 0xaf]),
     ];
-    assert_eq!(rt; row.interval, 7);
-    assert_eq!(rt; row.key.as_slice(), cells.as_slice());
-    assert_eq!(rt; row.sums.as_slice(), [u64::MAX, 0, 256, 4].as_slice());
-    assert_eq!(rt; row.flows, 65_538);
+    let Row {
+        interval,
+        key,
+        sums,
+        flows,
+    } = row;
+    assert_eq!(rt; (interval, flows), (7, 65_538));
+    assert_eq!(rt;
+        (key.as_slice(), sums.as_slice()),
+        (cells.as_slice(), [u64::MAX, 0, 256, 4].as_slice())
+    );
     Ok(())
 }

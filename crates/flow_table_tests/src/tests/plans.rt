@@ -37,11 +37,14 @@ fn by_source(alloc: Global, method: Method) -> Result<Plan, PlanFault> {
 #[test]
 fn keeps_its_arguments(rt: HostRuntime) -> Result<(), Fail> {
     let plan = by_source(rt.alloc(), Method::Mid)?;
-    assert_eq!(rt; plan.length(), 60_000);
-    assert_eq!(rt; plan.method(), Method::Mid);
-    assert_eq!(rt; plan.keys(), [key(8)].as_slice());
-    assert_eq!(rt; plan.counters(), [ElementId::iana(1)].as_slice());
-    assert_eq!(rt; plan.max_spread(), 4096);
+    assert_eq!(rt;
+        (plan.length(), plan.method(), plan.max_spread()),
+        (60_000, Method::Mid, 4096)
+    );
+    assert_eq!(rt;
+        (plan.keys(), plan.counters()),
+        ([key(8)].as_slice(), [ElementId::iana(1)].as_slice())
+    );
     Ok(())
 }
 
@@ -50,17 +53,13 @@ fn compares_by_value(rt: HostRuntime) -> Result<(), Fail> {
     let one = by_source(rt.alloc(), Method::Start)?;
     let same = one.copy(rt.alloc())?;
     let other = by_source(rt.alloc(), Method::End)?;
-    let prefixed = Plan::new(
-        rt.alloc(),
-        60_000,
-        Method::Start,
-        &[prefix_key(8, 32)],
-        &[ElementId::iana(1)],
-        4096,
-    )?;
-    assert!(rt; one == same);
-    assert!(rt; one != other);
-    assert!(rt; one != prefixed);
+    let keys = [prefix_key(8, 32)];
+    let counters = [ElementId::iana(1)];
+    let prefixed = Plan::new(rt.alloc(), 60_000, Method::Start, &keys, &counters, 4096)?;
+    assert_eq!(rt;
+        [one == same, one == other, one == prefixed],
+        [true, false, false]
+    );
     Ok(())
 }
 
@@ -173,53 +172,44 @@ fn exported_elements(rt: HostRuntime) {
     assert_eq!(rt; key(8).exported_element(), ElementId::iana(8));
 }
 
+/// A flow's start and how long it lasts, in milliseconds, and its value.
+type Flow = (u32, u32, u64);
+
+/// The shares that the first four intervals and the last one have of a flow's value.
+fn shares_of(alloc: Global, method: Method, flow: Flow) -> Result<[u64; 5], Fail> {
+    let plan = by_source(alloc, method)?;
+    let (start, length, value) = flow;
+    let start = u64::from(start);
+    let end = start + u64::from(length);
+    Ok([
+        share(&plan, start, end, value, 0),
+        share(&plan, start, end, value, 1),
+        share(&plan, start, end, value, 2),
+        share(&plan, start, end, value, 3),
+        share(&plan, start, end, value, u64::MAX),
+    ])
+}
+
 #[test]
-fn one_flow_over_two_intervals(rt: HostRuntime) -> Result<(), Fail> {
-    for (method, want) in [
-        (Method::Start, [7, 0]),
-        (Method::End, [0, 7]),
-        (Method::Mid, [0, 7]),
-        (Method::Uniform, [4, 3]),
-        (Method::Proportional, [3, 4]),
+fn shares(rt: HostRuntime) -> Result<(), Fail> {
+    let two = (59_000, 2000, 7);
+    let three = (0, 120_000, 1);
+    let most = (0, 119_999, u64::MAX);
+    let half = 9_223_372_036_854_775_807;
+    for (method, flow, want) in [
+        (Method::Start, two, [7, 0, 0, 0, 0]),
+        (Method::End, two, [0, 7, 0, 0, 0]),
+        (Method::Mid, two, [0, 7, 0, 0, 0]),
+        (Method::Uniform, two, [4, 3, 0, 0, 0]),
+        (Method::Proportional, two, [3, 4, 0, 0, 0]),
+        (Method::End, (0, 60_000, 5), [0, 5, 0, 0, 0]),
+        (Method::Uniform, three, [1, 0, 0, 0, 0]),
+        (Method::Proportional, three, [0, 0, 1, 0, 0]),
+        (Method::Proportional, most, [half, half + 1, 0, 0, 0]),
+        (Method::Proportional, (59_999, 0, 5), [5, 0, 0, 0, 0]),
     ] {
-        let plan = by_source(rt.alloc(), method)?;
-        assert_eq!(rt; share(&plan, 59_000, 61_000, 7, 0), want[0]);
-        assert_eq!(rt; share(&plan, 59_000, 61_000, 7, 1), want[1]);
-        assert_eq!(rt; share(&plan, 59_000, 61_000, 7, 2), 0);
-        assert_eq!(rt; share(&plan, 59_000, 61_000, 7, u64::MAX), 0);
+        assert_eq!(rt; shares_of(rt.alloc(), method, flow)?, want);
     }
-    Ok(())
-}
-
-#[test]
-fn ends_and_zero_shares(rt: HostRuntime) -> Result<(), Fail> {
-    let end = by_source(rt.alloc(), Method::End)?;
-    assert_eq!(rt; share(&end, 0, 60_000, 5, 0), 0);
-    assert_eq!(rt; share(&end, 0, 60_000, 5, 1), 5);
-    let uniform = by_source(rt.alloc(), Method::Uniform)?;
-    let proportional = by_source(rt.alloc(), Method::Proportional)?;
-    for (k, even, by_time) in [(0, 1, 0), (1, 0, 0), (2, 0, 1), (3, 0, 0)] {
-        assert_eq!(rt; share(&uniform, 0, 120_000, 1, k), even);
-        assert_eq!(rt; share(&proportional, 0, 120_000, 1, k), by_time);
-    }
-    Ok(())
-}
-
-#[test]
-fn proportional_shares(rt: HostRuntime) -> Result<(), Fail> {
-    let plan = by_source(rt.alloc(), Method::Proportional)?;
-    let most = 18_446_744_073_709_551_615;
-    assert_eq!(rt;
-        share(&plan, 0, 119_999, most, 0),
-        9_223_372_036_854_775_807
-    );
-    assert_eq!(rt;
-        share(&plan, 0, 119_999, most, 1),
-        9_223_372_036_854_775_808
-    );
-    assert_eq!(rt; share(&plan, 0, 119_999, most, 2), 0);
-    assert_eq!(rt; share(&plan, 59_999, 59_999, 5, 0), 5);
-    assert_eq!(rt; share(&plan, 59_999, 59_999, 5, 1), 0);
     Ok(())
 }
 
@@ -236,7 +226,6 @@ fn numbers_and_names(rt: HostRuntime) {
         (PlanFault::OutOfMemory, 8, "OutOfMemory"),
         (PlanFault::Prefix, 9, "Prefix"),
     ] {
-        assert_eq!(rt; fault.number(), number);
-        assert_eq!(rt; fault.name(), name);
+        assert_eq!(rt; (fault.number(), fault.name()), (number, name));
     }
 }

@@ -210,6 +210,18 @@ fn times(rt: HostRuntime) -> Result<(), Fail> {
     Ok(())
 }
 
+/// The interval and the key of the one row of a record's table.
+fn row_of(alloc: Global, plan: &Plan, flow: &DataRecord) -> Result<Option<(u64, Cell)>, Fail> {
+    let table = table_of_one(alloc, plan, flow)?;
+    let [row] = table.rows.as_slice() else {
+        return Ok(None);
+    };
+    let [cell] = row.key.as_slice() else {
+        return Ok(None);
+    };
+    Ok(Some((row.interval, *cell)))
+}
+
 #[test]
 fn keys(rt: HostRuntime) -> Result<(), Fail> {
     let flow = record_of(
@@ -231,11 +243,10 @@ fn keys(rt: HostRuntime) -> Result<(), Fail> {
     ];
     for (prefix, address) in cases {
         let plan = by_source(rt.alloc(), Method::Mid, prefix, 4096)?;
-        let table = table_of_one(rt.alloc(), &plan, &flow)?;
-        assert_eq!(rt; table.rows.len(), 1);
-        let row = &table.rows[0];
-        assert_eq!(rt; row.interval, 1);
-        assert_eq!(rt; row.key.as_slice(), [Cell::Ipv4(address)].as_slice());
+        assert_eq!(rt;
+            row_of(rt.alloc(), &plan, &flow)?,
+            Some((1, Cell::Ipv4(address)))
+        );
     }
     Ok(())
 }

@@ -10,6 +10,9 @@ use ipfix_wire::ElementId;
 use std::alloc::Global;
 use std::test::Fail;
 
+/// A flow's start and end in milliseconds, the last octet of its address, and its octets.
+pub type Flow = (u64, u64, u8, u64);
+
 /// A record with these fields: numbers of IANA's elements, and the octets.
 pub fn record_of(alloc: Global, scope: u16, fields: &[(u16, &[u8])]) -> Result<DataRecord, Fail> {
     let mut kept = Fields::new(alloc);
@@ -77,12 +80,8 @@ pub fn table_of_one(alloc: Global, plan: &Plan, data_record: &DataRecord) -> Res
     Ok(partial.finish()?)
 }
 
-/// The partial table of flows with these starts, ends, last octets of the address and octet counts.
-pub fn partial_of(
-    alloc: Global,
-    plan: &Plan,
-    flows: &[(u64, u64, u8, u64)],
-) -> Result<Partial, Fail>
+/// The partial table of these flows.
+pub fn partial_of(alloc: Global, plan: &Plan, flows: &[Flow]) -> Result<Partial, Fail>
     ensures { IfOk result (λ p. plan_of p ≡ plan.now) }
 {
     let mut partial = Partial::new(alloc, plan)?;
@@ -113,7 +112,33 @@ pub fn text_of(alloc: Global, rows: &[Row]) -> Result<String, Fail> {
     Ok(text)
 }
 
-pub fn table_of(alloc: Global, plan: &Plan, flows: &[(u64, u64, u8, u64)]) -> Result<String, Fail> {
+/// The rows of the table of these flows as text.
+pub fn table_of(alloc: Global, plan: &Plan, flows: &[Flow]) -> Result<String, Fail> {
     let table = partial_of(alloc, plan, flows)?.finish()?;
     rows_of(alloc, &table)
+}
+
+/// The rows of the table of these flows, merged with that of those, as text, and how many of them are
+/// used.
+pub fn merged(
+    alloc: Global,
+    plan: &Plan,
+    flows: &[Flow],
+    others: &[Flow],
+) -> Result<(String, u64), Fail> {
+    let mut partial = partial_of(alloc, plan, flows)?;
+    partial.merge(partial_of(alloc, plan, others)?)?;
+    let table = partial.finish()?;
+    Ok((rows_of(alloc, &table)?, table.tally.used))
+}
+
+/// How many rows the table of these flows has, and how many of the flows are used, backward and too
+/// long.
+pub fn counts_of(
+    alloc: Global,
+    plan: &Plan,
+    flows: &[Flow],
+) -> Result<(usize, u64, u64, u64), Fail> {
+    let Table { rows, tally } = partial_of(alloc, plan, flows)?.finish()?;
+    Ok((rows.len(), tally.used, tally.backward, tally.too_long))
 }

@@ -1,12 +1,14 @@
 //! Rows of worked examples: the records of two sources, times in seconds, one record under a prefix, and
 //! a flow that is too long.
 
-use super::records::{by_source, flow, partial_of, record_of, rows_of, table_of, table_of_one};
-use flow_table::{Class, Method, Partial};
+use super::records::{
+    Flow, by_source, counts_of, merged, record_of, rows_of, table_of, table_of_one,
+};
+use flow_table::Method;
 use std::test::Fail;
 
 /// Five flows of a source, of 1 to 5 octets.
-const FIVE: [(u64, u64, u8, u64); 5] = [
+const FIVE: [Flow; 5] = [
     (1000, 2000, 1, 1),
     (1000, 2000, 1, 2),
     (1000, 2000, 1, 3),
@@ -17,12 +19,8 @@ const FIVE: [(u64, u64, u8, u64); 5] = [
 #[test]
 fn five_and_five_records(rt: HostRuntime) -> Result<(), Fail> {
     let plan = by_source(rt.alloc(), Method::Start, None, 4096)?;
-    let mut first = partial_of(rt.alloc(), &plan, &FIVE)?;
-    let second = partial_of(rt.alloc(), &plan, &FIVE)?;
-    first.merge(second)?;
-    let table = first.finish()?;
-    assert_eq!(rt; rows_of(rt.alloc(), &table)?.as_str(), "0:192.0.2.1=30,10;");
-    assert_eq!(rt; table.tally.used, 10);
+    let (rows, used) = merged(rt.alloc(), &plan, &FIVE, &FIVE)?;
+    assert_eq!(rt; (rows.as_str(), used), ("0:192.0.2.1=30,10;", 10));
     Ok(())
 }
 
@@ -59,15 +57,10 @@ fn one_record_under_a_prefix(rt: HostRuntime) -> Result<(), Fail> {
 
 #[test]
 fn too_long_to_be_spread(rt: HostRuntime) -> Result<(), Fail> {
-    let data_record = flow(rt.alloc(), 0, 120_000, 1, 1)?;
     for method in [Method::Uniform, Method::Proportional] {
         let plan = by_source(rt.alloc(), method, None, 2)?;
-        let mut partial = Partial::new(rt.alloc(), &plan)?;
-        assert_eq!(rt; partial.add(&data_record), Ok(Class::TooLong));
-        let table = partial.finish()?;
-        assert_eq!(rt; table.rows.len(), 0);
-        assert_eq!(rt; table.tally.too_long, 1);
-        assert_eq!(rt; table.tally.used, 0);
+        let counts = counts_of(rt.alloc(), &plan, &[(0, 120_000, 1, 1)])?;
+        assert_eq!(rt; counts, (0, 0, 0, 1));
     }
     Ok(())
 }

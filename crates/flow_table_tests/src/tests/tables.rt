@@ -1,7 +1,7 @@
 //! Tables of data records: worked examples.
 
-use super::records::{by_source, flow, partial_of, record_of, rows_of, table_of};
-use flow_table::{Class, Key, Method, Partial, Plan, TableFault};
+use super::records::{Flow, by_source, counts_of, flow, merged, partial_of, record_of, table_of};
+use flow_table::{Key, Method, Partial, Plan, Table, TableFault};
 use ipfix_elements::Cell;
 use ipfix_message::DataRecord;
 use ipfix_wire::ElementId;
@@ -55,68 +55,51 @@ fn ends_and_zero_shares(rt: HostRuntime) -> Result<(), Fail> {
 #[test]
 fn backward_flow(rt: HostRuntime) -> Result<(), Fail> {
     let plan = by_source(rt.alloc(), Method::End, None, 4096)?;
-    let mut partial = Partial::new(rt.alloc(), &plan)?;
-    let backward = flow(rt.alloc(), 2000, 1000, 1, 5)?;
-    assert_eq!(rt; partial.add(&backward), Ok(Class::Backward));
-    let table = partial.finish()?;
-    assert_eq!(rt; table.tally.backward, 1);
-    assert_eq!(rt; table.tally.used, 0);
-    assert_eq!(rt; table.rows.len(), 0);
-    Ok(())
-}
-
-#[test]
-fn too_long_a_flow(rt: HostRuntime) -> Result<(), Fail> {
-    let plan = by_source(rt.alloc(), Method::Uniform, None, 2)?;
-    let table = partial_of(rt.alloc(), &plan, &[(0, 120_000, 1, 1)])?.finish()?;
-    assert_eq!(rt; table.tally.too_long, 1);
-    assert_eq!(rt; table.rows.len(), 0);
+    let counts = counts_of(rt.alloc(), &plan, &[(2000, 1000, 1, 5)])?;
+    assert_eq!(rt; counts, (0, 0, 1, 0));
     Ok(())
 }
 
 /// A flow with the largest count of octets, one octet at the same times, and one a minute later.
-const LARGEST: (u64, u64, u8, u64) = (1000, 2000, 1, u64::MAX);
+const LARGEST: Flow = (1000, 2000, 1, u64::MAX);
 
-const ONE_MORE: (u64, u64, u8, u64) = (1000, 2000, 1, 1);
+const ONE_MORE: Flow = (1000, 2000, 1, 1);
 
-const A_MINUTE_LATER: (u64, u64, u8, u64) = (61_000, 62_000, 1, 1);
+const A_MINUTE_LATER: Flow = (61_000, 62_000, 1, 1);
+
+const TOO_LARGE: Option<TableFault> = Some(TableFault::SumTooLarge);
 
 #[test]
 fn sum_past_the_limit_by_merging(rt: HostRuntime) -> Result<(), Fail> {
     let plan = by_source(rt.alloc(), Method::Start, None, 4096)?;
+    let other = flow(rt.alloc(), 1000, 2000, 2, 1)?;
     let mut left = partial_of(rt.alloc(), &plan, &[LARGEST])?;
     let right = partial_of(rt.alloc(), &plan, &[ONE_MORE])?;
-    assert_eq!(rt; left.merge(right), Err(TableFault::SumTooLarge));
-    let other = flow(rt.alloc(), 1000, 2000, 2, 1)?;
-    assert_eq!(rt; left.add(&other), Err(TableFault::SumTooLarge));
-    Ok(())
-}
-
-#[test]
-fn sum_at_the_limit(rt: HostRuntime) -> Result<(), Fail> {
-    let plan = by_source(rt.alloc(), Method::Start, None, 4096)?;
-    let mut apart = partial_of(rt.alloc(), &plan, &[LARGEST])?;
-    let later = partial_of(rt.alloc(), &plan, &[A_MINUTE_LATER])?;
-    apart.merge(later)?;
-    let table = apart.finish()?;
-    assert_eq!(rt;
-        rows_of(rt.alloc(), &table)?.as_str(),
-        "0:192.0.2.1=18446744073709551615,1;1:192.0.2.1=1,1;"
-    );
+    let faults = (left.merge(right).err(), left.add(&other).err());
+    assert_eq!(rt; faults, (TOO_LARGE, TOO_LARGE));
     Ok(())
 }
 
 #[test]
 fn sum_past_the_limit_by_adding(rt: HostRuntime) -> Result<(), Fail> {
     let plan = by_source(rt.alloc(), Method::Start, None, 4096)?;
-    let mut again = partial_of(rt.alloc(), &plan, &[LARGEST])?;
     let same_key = flow(rt.alloc(), 1000, 2000, 1, 1)?;
-    assert_eq!(rt; again.add(&same_key), Err(TableFault::SumTooLarge));
     let other_key = flow(rt.alloc(), 1000, 2000, 2, 1)?;
-    assert_eq!(rt; again.add(&other_key), Err(TableFault::SumTooLarge));
-    let mut third = partial_of(rt.alloc(), &plan, &[ONE_MORE])?;
-    assert_eq!(rt; third.merge(again), Err(TableFault::SumTooLarge));
-    assert_eq!(rt; third.finish().err(), Some(TableFault::SumTooLarge));
+    let mut full = partial_of(rt.alloc(), &plan, &[LARGEST])?;
+    let added = (full.add(&same_key).err(), full.add(&other_key).err());
+    assert_eq!(rt; added, (TOO_LARGE, TOO_LARGE));
+    let mut other = partial_of(rt.alloc(), &plan, &[ONE_MORE])?;
+    let merged = (other.merge(full).err(), other.finish().err());
+    assert_eq!(rt; merged, (TOO_LARGE, TOO_LARGE));
+    Ok(())
+}
+
+#[test]
+fn sum_at_the_limit(rt: HostRuntime) -> Result<(), Fail> {
+    let plan = by_source(rt.alloc(), Method::Start, None, 4096)?;
+    let (rows, _) = merged(rt.alloc(), &plan, &[LARGEST], &[A_MINUTE_LATER])?;
+    let text = "0:192.0.2.1=18446744073709551615,1;1:192.0.2.1=1,1;";
+    assert_eq!(rt; rows.as_str(), text);
     Ok(())
 }
 
@@ -124,15 +107,8 @@ fn sum_past_the_limit_by_adding(rt: HostRuntime) -> Result<(), Fail> {
 fn one_flow_twice(rt: HostRuntime) -> Result<(), Fail> {
     let plan = by_source(rt.alloc(), Method::Start, None, 4096)?;
     let flows = [(1000, 2000, 1, 1500)];
-    let mut left = partial_of(rt.alloc(), &plan, &flows)?;
-    let right = partial_of(rt.alloc(), &plan, &flows)?;
-    left.merge(right)?;
-    let table = left.finish()?;
-    assert_eq!(rt;
-        rows_of(rt.alloc(), &table)?.as_str(),
-        "0:192.0.2.1=3000,2;"
-    );
-    assert_eq!(rt; table.tally.used, 2);
+    let (rows, used) = merged(rt.alloc(), &plan, &flows, &flows)?;
+    assert_eq!(rt; (rows.as_str(), used), ("0:192.0.2.1=3000,2;", 2));
     Ok(())
 }
 
@@ -186,9 +162,8 @@ fn keyed(alloc: Global, address: [u8; 4], port: u16, protocol: u8) -> Result<Dat
     )
 }
 
-/// The order of flows in the table under these keys, of which the last is the protocol: each flow has
-/// the last octet of its address for one.
-fn order_of(alloc: Global, keys: &[u16], flows: &[([u8; 4], u16)]) -> Result<Vec<Cell>, Fail> {
+/// A plan with intervals of a minute and these elements as keys.
+fn plan_by(alloc: Global, keys: &[u16]) -> Result<Plan, Fail> {
     let mut elements = Vec::new(alloc);
     for number in keys {
         elements.push(Key {
@@ -196,21 +171,24 @@ fn order_of(alloc: Global, keys: &[u16], flows: &[([u8; 4], u16)]) -> Result<Vec
             prefix: None,
         })?;
     }
-    let plan = Plan::new(
-        alloc,
-        60_000,
-        Method::Start,
-        &elements,
-        &[ElementId::iana(1)],
-        4096,
-    )?;
+    let counters = [ElementId::iana(1)];
+    Ok(Plan::new(alloc, 60_000, Method::Start, &elements, &counters, 4096)?)
+}
+
+/// The table of flows under these keys. The last octet of a flow's address is its protocol.
+fn keyed_table(alloc: Global, keys: &[u16], flows: &[([u8; 4], u16)]) -> Result<Table, Fail> {
+    let plan = plan_by(alloc, keys)?;
     let mut partial = Partial::new(alloc, &plan)?;
     for (address, port) in flows {
-        let protocol = address[3];
-        partial.add(&keyed(alloc, *address, *port, protocol)?)?;
+        partial.add(&keyed(alloc, *address, *port, address[3])?)?;
     }
+    Ok(partial.finish()?)
+}
+
+/// The order of these flows in the table under these keys, by the last of them.
+fn order_of(alloc: Global, keys: &[u16], flows: &[([u8; 4], u16)]) -> Result<Vec<Cell>, Fail> {
     let mut order = Vec::new(alloc);
-    for row in &partial.finish()?.rows {
+    for row in &keyed_table(alloc, keys, flows)?.rows {
         order.push(row.key.last().copied().ok_or("a key with cells")?)?;
     }
     Ok(order)
