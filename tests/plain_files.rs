@@ -57,19 +57,36 @@ fn names_of(array: &str) -> Vec<&str> {
     array.split('"').skip(1).step_by(2).collect()
 }
 
-/// The number and the name of the fault of a plan, as the program tells it.
-type PlanFault = &'static str;
+/// The fault of a plan, as the program tells it.
+struct PlanFault {
+    /// Its number and its name.
+    name: &'static str,
+    /// The key where it is, and what is wrong there.
+    key: &'static str,
+    words: String,
+}
+
+impl PlanFault {
+    fn new(name: &'static str, key: &'static str, words: &str) -> PlanFault {
+        PlanFault { name, key, words: words.to_string() }
+    }
+
+    fn unknown(key: &'static str, name: &str) -> PlanFault {
+        PlanFault::new("5 UnknownElement", key, &format!("no element is named \"{name}\""))
+    }
+}
 
 fn read_plan(text: &str) -> Result<Plan, PlanFault> {
     let mut keys = Vec::new();
     for name in names_of(value_of(text, "keys")) {
-        let (name, prefix) = match name.split_once('/') {
-            Some((name, bits)) => (name, Some(bits.parse().expect("bits are a number"))),
+        let (element, prefix) = match name.split_once('/') {
+            Some((element, bits)) => (element, Some(bits.parse().expect("bits are a number"))),
             None => (name, None),
         };
-        keys.push(Key { element: element_of(name).ok_or("5 UnknownElement")?, prefix });
+        keys.push(Key { element: element_of(element).ok_or_else(|| PlanFault::unknown("keys", name))?, prefix });
     }
-    let counters = names_of(value_of(text, "counters")).into_iter().map(|name| element_of(name).ok_or("5 UnknownElement"));
+    let counters = names_of(value_of(text, "counters")).into_iter();
+    let counters = counters.map(|name| element_of(name).ok_or_else(|| PlanFault::unknown("counters", name)));
     let plan = Plan {
         length: value_of(text, "interval_ms").parse().expect("a number"),
         method: value_of(text, "method").trim_matches('"').to_string(),
@@ -103,25 +120,26 @@ fn fault_of(plan: &Plan) -> Option<PlanFault> {
     let is_counter = |element: &Element| element.pen == 0 && [1, 2, 3, 23, 24, 132, 133].contains(&element.number);
     let read: Vec<Element> = plan.keys.iter().map(|key| key.element).chain(plan.counters.iter().copied()).collect();
     let written: Vec<Element> = plan.keys.iter().map(exported).chain(plan.counters.iter().copied()).collect();
-    if plan.length == 0 {
-        Some("6 Plan: fault 1 Length")
+    let (name, key, words) = if plan.length == 0 {
+        ("6 Plan: fault 1 Length", "interval_ms", "0")
     } else if !(1..=4096).contains(&plan.max_spread) {
-        Some("6 Plan: fault 2 Spread")
+        ("6 Plan: fault 2 Spread", "max_spread", "not from 1 to 4096")
     } else if plan.keys.len() > 8 {
-        Some("6 Plan: fault 3 KeyCount")
+        ("6 Plan: fault 3 KeyCount", "keys", "more than 8")
     } else if !plan.keys.iter().all(is_key) {
-        Some("6 Plan: fault 4 KeyKind")
+        ("6 Plan: fault 4 KeyKind", "keys", "an element is neither a number nor an address")
     } else if plan.keys.iter().any(|key| key.prefix.is_some_and(|bits| bits > 32 || !has_prefix(key))) {
-        Some("6 Plan: fault 9 Prefix")
+        ("6 Plan: fault 9 Prefix", "keys", "an element cannot have its prefix")
     } else if !(1..=4).contains(&plan.counters.len()) {
-        Some("6 Plan: fault 5 CounterCount")
+        ("6 Plan: fault 5 CounterCount", "counters", "not 1 to 4 of them")
     } else if !plan.counters.iter().all(is_counter) {
-        Some("6 Plan: fault 6 CounterKind")
+        ("6 Plan: fault 6 CounterKind", "counters", "an element is no delta counter")
     } else if stand_twice(&read) || stand_twice(&written) {
-        Some("6 Plan: fault 7 Repeated")
+        ("6 Plan: fault 7 Repeated", "counters", "an element stands twice among keys and counters")
     } else {
-        None
-    }
+        return None;
+    };
+    Some(PlanFault::new(name, key, words))
 }
 
 /// A record: whether it has scope fields, and its fields as their names and texts.
@@ -292,8 +310,8 @@ fn main() -> ExitCode {
     let words: Vec<String> = std::env::args().skip(1).collect();
     let plan = match read_plan(&fs::read_to_string(&words[0]).expect("the plan is there")) {
         Ok(plan) => plan,
-        Err(fault) => {
-            eprintln!("collectd: plan: fault {fault}");
+        Err(PlanFault { name, key, words }) => {
+            eprintln!("collectd: plan: fault {name}\ncollectd: plan: key \"{key}\": {words}");
             return ExitCode::from(2);
         }
     };
