@@ -1,6 +1,2 @@
-pub mod Writing
-pub mod Numbering
-mod Joined
 mod Ran
-mod Counting
 pub mod Merged

@@ -14,8 +14,8 @@ use Rattle.flow_merge.specs.declared.merging.Merging.{Merging}
 use Rattle.flow_merge.proofs.RowsRead.{zip_more}
 use Rattle.collectd.specs.Merges.{AddsFile, IsMerged}
 use Rattle.collectd.specs.Runs.{IsUnread}
-use Rattle.collectd.specs.declared.status.Status.{Status}
-use Rattle.collectd.specs.declared.dumping.TheConstants.{READ_LIMIT}
+use Rattle.exit_status.specs.declared.status.Status.{Status}
+use Rattle.ipfix_session.specs.declared.driver.TheConstants.{READ_LIMIT}
 
 abbrev pub all_rows : List (List RowValue) → List RowValue
 all_rows exports = flat_map (λ rows. rows) exports

@@ -18,10 +18,10 @@ use Rattle.flow_collect.specs.declared.collected.Pool.{Pool}
 use Rattle.flow_merge.proofs.RowsRead.{zip_more}
 use Rattle.flow_collect.proofs.GivenLists.{first_each, all_whole, whole_records, whole_clean}
 use Rattle.collectd.specs.Runs.{export_text, AddsUpWhole, IsUnread, RunsSources, WasCollected, WritesTable, WritesWholeTable}
-use Rattle.collectd.specs.Statuses.{number_of}
-use Rattle.collectd.specs.declared.status.Status.{Status}
-use Rattle.collectd.specs.declared.status.Status.TheVariants.{Well, SessionFault, NotOpened, Failed}
-use Rattle.collectd.specs.declared.table_run.Output.{Output}
+use Rattle.exit_status.specs.Statuses.{number_of}
+use Rattle.exit_status.specs.declared.status.Status.{Status}
+use Rattle.exit_status.specs.declared.status.Status.TheVariants.{Well, SessionFault, NotOpened, Failed}
+use Rattle.collectd.specs.declared.table.Output.{Output}
 
 module _ {S : Type 0} (seen : S → SourceView) where
   pub writes_table : (sources : List S) (plan : PlanValue) (pool : Pool) (output : Output) (status : ℕ) (old new : Option (List ℕ)) (c : Collected S)

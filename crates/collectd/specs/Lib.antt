@@ -1,15 +1,6 @@
--- what public contracts cite
-pub mod DumpLines
-pub mod JsonLines
-pub mod Dumped
+-- What public contracts cite.
 pub mod Runs
 pub mod Merges
-pub mod ReportLines
-pub mod PlaceLines
-pub mod Statuses
-pub mod MessageCounts
-pub mod Faults
--- what only inner functions need
-pub mod Progressing
-pub mod CounterPlaces
-pub mod LineParts
+-- What only inner functions and proofs need.
+pub mod RunLines
+pub mod MergeLines

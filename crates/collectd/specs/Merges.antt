@@ -8,10 +8,10 @@ use Rattle.flow_table.specs.declared.table.Table.{Table}
 use Rattle.flow_merge.specs.Merging.{plan_of, AddsAllUp, AddsExport, StandsFor}
 use Rattle.flow_merge.specs.declared.merging.Merging.{Merging}
 use Rattle.collectd.specs.Runs.{export_text, IsUnread}
-use Rattle.collectd.specs.declared.dumping.TheConstants.{READ_LIMIT}
-use Rattle.collectd.specs.declared.status.Status.{Status}
-use Rattle.collectd.specs.declared.status.Status.TheVariants.{NotOpened, Failed}
-use Rattle.collectd.specs.declared.table_run.Output.{Output}
+use Rattle.ipfix_session.specs.declared.driver.TheConstants.{READ_LIMIT}
+use Rattle.exit_status.specs.declared.status.Status.{Status}
+use Rattle.exit_status.specs.declared.status.Status.TheVariants.{NotOpened, Failed}
+use Rattle.collectd.specs.declared.table.Output.{Output}
 
 module _ {S : Type 0} (seen : S → SourceView) where
   -- sources were had as the first fact says it, none of which was read before; each gave an export, and the rows of all of

@@ -5,6 +5,8 @@ use Rattle.std.specs.Io.KnownBytes.{Appends}
 use Rattle.ipfix_session.specs.Given.{records_of, stop_of, IsPrefix}
 use Rattle.ipfix_session.specs.Sources.{SourceView}
 use Rattle.ipfix_session.specs.declared.stop.Stop.TheVariants.{Clean}
+use Rattle.exit_status.specs.Statuses.{number_of}
+use Rattle.exit_status.specs.declared.status.Status.TheVariants.{Well, Failed}
 use Rattle.flow_table.specs.Plans.{PlanValue}
 use Rattle.flow_table.specs.SameTables.{value_of}
 use Rattle.flow_table.specs.declared.table.Table.{Table}
@@ -17,7 +19,7 @@ use Rattle.flow_collect.specs.Headline.{Headline, IsAddedUp}
 use Rattle.flow_collect.specs.Texts.{AreTexts, HasNoFault}
 use Rattle.flow_collect.specs.declared.collected.Collected.{Collected}
 use Rattle.flow_collect.specs.declared.collected.Pool.{Pool}
-use Rattle.collectd.specs.declared.table_run.Output.{Output}
+use Rattle.collectd.specs.declared.table.Output.{Output}
 use Rattle.collectd.specs.declared.run_fault.RunFault.{RunFault}
 use Rattle.collectd.specs.declared.run_fault.RunFault.TheVariants.{Collect, Export}
 
@@ -31,14 +33,14 @@ abbrev pub export_text : Output → PlanValue → Table → List ℕ
 export_text output plan table = text_by output.format output.time plan table
 
 module _ {S : Type 0} (seen : S → SourceView) where
-  -- what was collected was written as a table, and nothing else; the status is 0 exactly if no session had a fault
+  -- what was collected was written as a table, and nothing else; the status says that all was well exactly if no session had a fault
   pub record WritesTable (sources : List S) (plan : PlanValue) (pool : Pool) (output : Output) (status : ℕ) (old new : Option (List ℕ)) : Type 0 where
     -- what the headline says
     pub collected : Collected S
     pub headline : Headline seen sources plan pool collected
     -- the records of each session are the first of those that its source's whole text gives
     pub first : (texts : List (List ℕ)) → AreTexts seen sources texts → AllZip (λ q t. IsPrefix q (records_of t)) headline.records texts
-    pub status_is : (status ≡ 0) ↔ All HasNoFault collected.sessions.items
+    pub status_is : (status ≡ number_of Well) ↔ All HasNoFault collected.sessions.items
     pub written : Appends old new (export_text output plan collected.table)
 
   abbrev pub WasCollected : List S → PlanValue → Pool → Type 0
@@ -71,9 +73,9 @@ module _ {S : Type 0} (seen : S → SourceView) where
     pub sources : List S
     pub had : AreHad sources
     pub unread : All IsUnread sources
-    pub table : status ≢ 3 → WritesTable sources plan pool output status old new
-    pub all : status ≡ 0 → WritesWholeTable sources plan output old new
-    pub untouched : status ≡ 3 → Untouched ⊎ WasCollected sources plan pool
+    pub table : status ≢ number_of Failed → WritesTable sources plan pool output status old new
+    pub all : status ≡ number_of Well → WritesWholeTable sources plan output old new
+    pub untouched : status ≡ number_of Failed → Untouched ⊎ WasCollected sources plan pool
 
 -- a fact for a fault of collecting, and one for a fault of the export
 abbrev pub MatchRunFault : RunFault → Type 0 → Type 0 → Type 0

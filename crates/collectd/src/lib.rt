@@ -1,45 +1,24 @@
 //! The calls of collectd's commands: what is written is the text of what was collected.
 #![tactic(auto)]
 
-mod dumping;
-mod fault;
-mod files;
-mod front;
-mod json_line;
-mod labels;
-mod line;
-mod line_octets;
-mod line_sink;
+mod commands;
 mod merge_reports;
-mod merging;
-mod message_counter;
-mod network;
-mod opening;
-mod places;
-mod plans;
-mod progress;
-mod record_line;
-mod reports;
+mod plan;
 mod run_fault;
-mod running;
-mod status;
-mod table_run;
-mod text;
-mod unread;
-mod watched;
+mod sources;
+mod table;
 
-pub use dumping::{dump, dump_json};
-pub use fault::DumpFault;
-pub use files::run_files;
-pub use merging::run_merge;
-pub use message_counter::MessageCounter;
-pub use network::{Listener, run_tcp};
-pub use opening::{OpenSource, Opened};
-pub use plans::{ReadText, load_plan};
-pub use reports::{
+pub use commands::dump::{run_dump, run_dump_json};
+pub use commands::files::run_files;
+pub use commands::merge::run_merge;
+pub use commands::tcp::{Listener, run_tcp};
+pub use exit_status::Status;
+pub use ipfix_dump::{DumpFault, dump, dump_json};
+pub use ipfix_session::MessageCounter;
+pub use plan::{ReadText, load_plan};
+pub use run_reports::{
     write_collect_fault, write_dump_fault, write_export_fault, write_plan_fault, write_reports,
     write_tally,
 };
-pub use running::{run_dump, run_dump_json};
-pub use status::Status;
-pub use table_run::{Output, run};
+pub use sources::opening::{OpenSource, Opened};
+pub use table::{Output, run};

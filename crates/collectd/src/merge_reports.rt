@@ -3,23 +3,26 @@
 ghost use Rattle.std.specs.Prelude.{◌++◌, codes, decimal, OnOk};
 ghost use Rattle.std.specs.Io.KnownBytes.{Appends};
 ghost use Rattle.flow_merge.specs.MergeFaults.{number_of, name_of};
-ghost use Rattle.collectd.specs.ReportLines.{fault_text, file_fault_line, merged_line};
+ghost use Rattle.run_reports.specs.ReportLines.{fault_text};
+ghost use Rattle.collectd.specs.MergeLines.{file_fault_line, merged_line};
 
-use crate::reports::write_fault;
 use flow_merge::MergeFault;
+use run_reports::write_fault;
 use std::io::{self, Write};
 
 /// Writes the line that counts the files that were merged, and the rows of their table.
-#[tactic(auto, unfolding(crate::specs::ReportLines::merged_line))]
+#[tactic(auto, unfolding(crate::specs::MergeLines::merged_line))]
 pub fn write_merged<W: Write>(files: usize, rows: usize, out: &mut W) -> io::Result<()>
-    ensures { OnOk result (Appends (W.contents out.old) (W.contents out.new) (merged_line files rows)) }
+    ensures { OnOk result (Appends (W.contents out.old) (W.contents out.new)
+        (merged_line files rows)) }
 {
     writeln!(out, "collectd: merged: files {files} rows {rows}")
 }
 
 /// Writes the line of a fault of merging that is no file's.
 pub fn write_merge_fault<W: Write>(fault: MergeFault, out: &mut W) -> io::Result<()>
-    ensures { OnOk result (Appends (W.contents out.old) (W.contents out.new) (codes "collectd: merge" ++ fault_text (number_of fault) (name_of fault))) }
+    ensures { OnOk result (Appends (W.contents out.old) (W.contents out.new)
+        (codes "collectd: merge" ++ fault_text (number_of fault) (name_of fault))) }
 {
     write_fault("merge", fault.number(), fault.name(), out)
 }
@@ -27,7 +30,8 @@ pub fn write_merge_fault<W: Write>(fault: MergeFault, out: &mut W) -> io::Result
 /// Writes the line of a file, counted from 1, that was not merged: the fault, and behind it that of its
 /// session or of its record.
 pub fn write_file_fault<W: Write>(file: usize, fault: MergeFault, out: &mut W) -> io::Result<()>
-    ensures { OnOk result (Appends (W.contents out.old) (W.contents out.new) (file_fault_line file fault)) }
+    ensures { OnOk result (Appends (W.contents out.old) (W.contents out.new)
+        (file_fault_line file fault)) }
 {
     match fault {
         MergeFault::Session(inner) => write_inner(
@@ -45,7 +49,7 @@ pub fn write_file_fault<W: Write>(file: usize, fault: MergeFault, out: &mut W) -
 }
 
 // The line of a file, with what stands before the last fault.
-#[tactic(auto, unfolding(crate::specs::ReportLines::fault_text))]
+#[tactic(auto, unfolding(run_reports::specs::ReportLines::fault_text))]
 fn write_inner<W: Write>(
     file: usize,
     what: &str,
@@ -53,7 +57,8 @@ fn write_inner<W: Write>(
     name: &str,
     out: &mut W,
 ) -> io::Result<()>
-    ensures { OnOk result (Appends (W.contents out.old) (W.contents out.new) (codes "collectd: merge: file " ++ (decimal file ++ (what.now ++ fault_text number name.now)))) }
+    ensures { OnOk result (Appends (W.contents out.old) (W.contents out.new)
+        (codes "collectd: merge: file " ++ (decimal file ++ (what.now ++ fault_text number name.now)))) }
 {
     writeln!(
         out,

@@ -1,20 +1,24 @@
 //! The command `collectd`: words in, one call of the library, the exit status out.
 #![tactic(auto)]
 
+mod formats;
 mod progress_output;
+mod subcommands;
 mod timers;
 mod words;
 
 use clap::error::ErrorKind;
 use clap::{ArgMatches, Error};
 use collectd::{
-    DumpFault, Output, Status, load_plan, run_dump, run_dump_json, run_files, run_merge, run_tcp,
+    DumpFault, Output, load_plan, run_dump, run_dump_json, run_files, run_merge, run_tcp,
     write_dump_fault, write_export_fault,
 };
+use exit_status::Status;
 use fault_guide::run_explain;
 use flow_collect::Pool;
-use flow_export::{ExportFault, Format};
+use flow_export::ExportFault;
 use flow_table::Plan;
+use formats::{DumpFormat, dump_format, table_format};
 use ipfix_session::FromReader;
 use progress_output::{ProgressOutput, open_terminal};
 use std::env;
@@ -26,20 +30,18 @@ use std::rt::Clock;
 use std::sync::Wait;
 use std::thread::Threads;
 use std::time::Duration;
+use subcommands::Subcommand;
 use timers::ask_for_short_sleeps;
-
-/// The exit status if the words of the command line can't be served.
-const COMMAND_LINE: u8 = 2;
 
 /// The octets that are gathered before they are written.
 const OUTPUT_BUFFER: usize = 1 << 16;
 
 fn main(rt: HostRuntime) -> ExitCode {
     match run(&rt, &rt) {
-        Ok(status) => ExitCode::from(status),
+        Ok(number) => ExitCode::from(number),
         Err(error) => {
             let _ = eprintln!(rt; "error: {error}");
-            ExitCode::from(COMMAND_LINE)
+            ExitCode::from(Status::NotOpened.number())
         }
     }
 }
@@ -52,24 +54,39 @@ fn run<R: Clock + Threads + Wait + Sync>(threads: &R, rt: &HostRuntime) -> io::R
     }
     match words::matches_of(rt.alloc(), words.as_slice()) {
         Ok(matches) => Ok(match matches.subcommand() {
-            Some(("dump", chosen)) => dump(rt, chosen),
-            Some(("files", chosen)) => files(threads, rt, chosen),
-            Some(("tcp", chosen)) => tcp(threads, rt, chosen),
-            Some(("merge", chosen)) => merge(rt, chosen),
-            Some(("explain", chosen)) => explain(rt, chosen),
-            _ => COMMAND_LINE,
+            Some((word, chosen)) => run_subcommand(threads, rt, word, chosen),
+            // (the parser asks for a command)
+            None => Status::NotOpened.number(),
         }),
-        Err(error) => Ok(show(rt, &error)),
+        Err(error) => Ok(show(rt, &error).number()),
+    }
+}
+
+// Runs the command that a word names.
+fn run_subcommand<R: Clock + Threads + Wait + Sync>(
+    threads: &R,
+    rt: &HostRuntime,
+    word: &str,
+    chosen: &ArgMatches,
+) -> u8 {
+    match Subcommand::named(word) {
+        Some(Subcommand::Dump) => dump(rt, chosen),
+        Some(Subcommand::Files) => files(threads, rt, chosen),
+        Some(Subcommand::Tcp) => tcp(threads, rt, chosen),
+        Some(Subcommand::Merge) => merge(rt, chosen),
+        Some(Subcommand::Explain) => explain(rt, chosen),
+        // (the parser lets no other word through)
+        None => Status::NotOpened.number(),
     }
 }
 
 // Prints the parser's text: the version, help, or what the words lack.
-fn show(rt: &HostRuntime, error: &Error) -> u8 {
+fn show(rt: &HostRuntime, error: &Error) -> Status {
     let printed = error.print(rt);
     match error.kind() {
-        ErrorKind::DisplayVersion if printed.is_ok() => Status::Well.number(),
-        ErrorKind::DisplayVersion => Status::Failed.number(),
-        _ => COMMAND_LINE,
+        ErrorKind::DisplayVersion if printed.is_ok() => Status::Well,
+        ErrorKind::DisplayVersion => Status::Failed,
+        _ => Status::NotOpened,
     }
 }
 
@@ -87,9 +104,11 @@ fn dump(rt: &HostRuntime, chosen: &ArgMatches) -> u8 {
         return Status::Failed.number();
     };
     let mut source = FromReader::new(rt.stdin());
-    match chosen.get_str("format") {
-        Some("json") => run_dump_json(rt.alloc(), &mut source, &mut out, &mut err),
-        _ => run_dump(rt.alloc(), &mut source, &mut out, &mut err),
+    match chosen.get_str("format").and_then(dump_format) {
+        Some(DumpFormat::Text) => run_dump(rt.alloc(), &mut source, &mut out, &mut err),
+        Some(DumpFormat::Json) => run_dump_json(rt.alloc(), &mut source, &mut out, &mut err),
+        // (the parser lets no other word through)
+        None => Status::NotOpened.number(),
     }
 }
 
@@ -104,11 +123,7 @@ struct Job {
 fn read_job(rt: &HostRuntime, chosen: &ArgMatches) -> Option<Job> {
     let plan = load_plan(rt, rt.alloc(), chosen.get_str("plan")?, &mut rt.stderr())?;
     let time = chosen.get_one::<u32>("time")?;
-    let format = match chosen.get_str("format")? {
-        "ipfix" => Format::Ipfix,
-        "json" => Format::Json,
-        _ => Format::Csv,
-    };
+    let format = table_format(chosen.get_str("format")?)?;
     Some(Job {
         plan,
         output: Output { format, time },
@@ -150,14 +165,14 @@ fn read_progress<'a>(
 // The files that are named, or the status if standard input is among them twice, which is told.
 fn read_paths<'c, 'w>(chosen: &'c ArgMatches<'w>, err: &mut Stderr) -> Result<&'c [&'w str], u8> {
     let Some(paths) = chosen.get_strs("file") else {
-        return Err(COMMAND_LINE);
+        return Err(Status::NotOpened.number());
     };
     if stands_twice(paths, "-") {
         let _ = writeln!(
             err,
             "error: standard input ('-') can be one of the files only once"
         );
-        return Err(COMMAND_LINE);
+        return Err(Status::NotOpened.number());
     }
     Ok(paths)
 }
@@ -239,7 +254,7 @@ fn tcp<R: Clock + Threads + Wait + Sync>(threads: &R, rt: &HostRuntime, chosen: 
     let mut err = rt.stderr();
     let (Some(addr), Some(sessions)) = (chosen.get_str("listen"), chosen.get_one::<u32>("sessions"))
     else {
-        return COMMAND_LINE;
+        return Status::NotOpened.number();
     };
     let idle = chosen
         .get_one::<u32>("idle")
@@ -275,5 +290,5 @@ fn tcp<R: Clock + Threads + Wait + Sync>(threads: &R, rt: &HostRuntime, chosen: 
 
 // `collectd explain`: what is told of a fault, or the list of all, to standard output.
 fn explain(rt: &HostRuntime, chosen: &ArgMatches) -> u8 {
-    run_explain(chosen.get_str("fault"), &mut rt.stdout(), &mut rt.stderr())
+    run_explain(chosen.get_str("fault"), &mut rt.stdout(), &mut rt.stderr()).number()
 }

@@ -9,6 +9,7 @@ ghost use Rattle.fault_guide.specs.Explained.{IsWordOf, answer, explanation_text
 
 use crate::faults::FAULTS;
 use crate::guide::Explanation;
+use exit_status::Status;
 use ipfix_session::SessionFault;
 use itoa::Buffer;
 use std::io::{self, Write};
@@ -50,7 +51,8 @@ fn is_named(fault: SessionFault, word: &str) -> bool
 
 /// Writes what is told of a fault, and sees to it that nothing is left in the writer's buffer.
 pub fn explain<W: Write>(fault: SessionFault, out: &mut W) -> io::Result<()>
-    ensures { OnOk result (Appends (W.contents out.old) (W.contents out.new) (explanation_text fault)) }
+    ensures { OnOk result (Appends (W.contents out.old) (W.contents out.new)
+        (explanation_text fault)) }
 {
     write!(out, "fault ")?;
     write_fault_line(fault, out)?;
@@ -86,7 +88,8 @@ pub fn list_faults<W: Write>(out: &mut W) -> io::Result<()>
 }
 
 fn write_fault_lines<W: Write>(faults: &[SessionFault], out: &mut W) -> io::Result<()>
-    ensures { OnOk result (Appends (W.contents out.old) (W.contents out.new) (flat_map fault_line faults.now)) }
+    ensures { OnOk result (Appends (W.contents out.old) (W.contents out.new)
+        (flat_map fault_line faults.now)) }
 {
     for fault in faults {
         write_fault_line(*fault, out)?;
@@ -95,14 +98,17 @@ fn write_fault_lines<W: Write>(faults: &[SessionFault], out: &mut W) -> io::Resu
 }
 
 /// Writes to `out` what is told of the fault that a word names, or without a word the list of all, and
-/// answers the exit status: 0 if it was written; 2 if the word names no fault, and then nothing was
-/// written; 3 if it couldn't be written. To `err` it writes a line for status 2 or 3. A fault of `err`
-/// is passed over.
-pub fn run_explain<W: Write, E: Write>(word: Option<&str>, out: &mut W, err: &mut E) -> u8
-    ensures statuses { (result ≡ 0) ⊎ (result ≡ 2) ⊎ (result ≡ 3) }
-    ensures told { result ≡ 0 → IsSomeAnd (answer (option_map (λ w. w.now) word.entry)) (Appends (W.contents out.old) (W.contents out.new)) }
-    ensures unknown { (result ≡ 2) ↔ (answer (option_map (λ w. w.now) word.entry) ≡ None) }
-    ensures untouched { result ≡ 2 → out.new ≡ out.old }
+/// says how that ended: `Well` if it was written; `NotOpened` if the word names no fault, and then
+/// nothing was written; `Failed` if it couldn't be written. Unless all was well it writes a line to
+/// `err`, whose own faults are passed over.
+pub fn run_explain<W: Write, E: Write>(word: Option<&str>, out: &mut W, err: &mut E) -> Status
+    ensures statuses { (result ≡ Status.Well) ⊎ (result ≡ Status.NotOpened)
+        ⊎ (result ≡ Status.Failed) }
+    ensures told { result ≡ Status.Well
+        → IsSomeAnd (answer (option_map (λ w. w.now) word.entry))
+        (Appends (W.contents out.old) (W.contents out.new)) }
+    ensures unknown { (result ≡ Status.NotOpened) ↔ (answer (option_map (λ w. w.now) word.entry) ≡ None) }
+    ensures untouched { result ≡ Status.NotOpened → out.new ≡ out.old }
 {
     match word {
         None => status_of(list_faults(out), err),
@@ -113,22 +119,22 @@ pub fn run_explain<W: Write, E: Write>(word: Option<&str>, out: &mut W, err: &mu
                     err,
                     "error: no fault has this number or name; 'collectd explain' lists them"
                 );
-                2
+                Status::NotOpened
             }
         },
     }
 }
 
 // The exit status of what was written.
-fn status_of<E: Write>(written: io::Result<()>, err: &mut E) -> u8
-    ensures statuses { (result ≡ 0) ⊎ (result ≡ 3) }
-    ensures well { result ≡ 0 → IsOk written }
+fn status_of<E: Write>(written: io::Result<()>, err: &mut E) -> Status
+    ensures statuses { (result ≡ Status.Well) ⊎ (result ≡ Status.Failed) }
+    ensures well { result ≡ Status.Well → IsOk written }
 {
     match written {
-        Ok(()) => 0,
+        Ok(()) => Status::Well,
         Err(_) => {
             let _ = writeln!(err, "collectd: explain: fault 1 WriteFailed");
-            3
+            Status::Failed
         }
     }
 }

@@ -19,14 +19,13 @@ use Rattle.flow_collect.specs.Lanes.{IsEnded, WorkerRan, lane_key, receivers_of}
 use Rattle.flow_collect.specs.Places.{Each3, Each4}
 use Rattle.flow_collect.specs.Promises.{IsSettled}
 use Rattle.flow_collect.specs.Refusals.{AreTooLarge}
-use Rattle.flow_collect.specs.Sessions.{WholeSession}
+use Rattle.flow_collect.specs.Sessions.{SessionRan}
 use Rattle.flow_collect.specs.declared.collected.Collected.{Collected}
 use Rattle.flow_collect.specs.declared.collected.Pool.{Pool}
 use Rattle.flow_collect.specs.declared.session_thread.EndedSession.{EndedSession}
 use Rattle.flow_collect.specs.declared.session_thread.Start.{Start}
 use Rattle.flow_collect.specs.declared.worker.Lane.{Lane}
 use Rattle.flow_collect.specs.declared.worker.Lot.{Lot}
-use Rattle.flow_collect.specs.declared.worker.Worked.{Worked}
 use Rattle.flow_collect.proofs.GivenLists.{too_large_due}
 use Rattle.flow_collect.proofs.LaneLists.{taken_weighs}
 use Rattle.flow_collect.proofs.Runs.{told, run_headline}
@@ -39,7 +38,7 @@ ended_lanes (lane ∷ lanes) h =
     let P = λ (r : ReceiverView). has_last r.received ≡ true in
     All-cons IsEnded lane lanes (All-head P lane.receiver (receivers_of lanes) h) (ended_lanes lanes (All-tail P lane.receiver (receivers_of lanes) h))
 
-has_taken : (plan : PlanValue) (links : List LinkName) (lot : Lot) (w : Worked) → WorkerRan lot w → IsNewLot plan links lot → HasTaken plan w
+has_taken : (plan : PlanValue) (links : List LinkName) (lot : Lot) (w : Lot) → WorkerRan lot w → IsNewLot plan links lot → HasTaken plan w
 has_taken plan links lot w ran new =
     record {
       plan_is = ran.took.plan_is ∙ new.plan_is;
@@ -47,7 +46,7 @@ has_taken plan links lot w ran new =
       table = record { records = ran.took.records; stands = ran.took.stands; weighs = λ weight. ran.took.are_taken weight ∙ taken_weighs weight w.lanes.items };
     }
 
-pub all_taken : (plan : PlanValue) (links : List LinkName) (lots : List Lot) (ws : List Worked) → AllZip WorkerRan lots ws → All (IsNewLot plan links) lots → All (HasTaken plan) ws
+pub all_taken : (plan : PlanValue) (links : List LinkName) (lots : List Lot) (ws : List Lot) → AllZip WorkerRan lots ws → All (IsNewLot plan links) lots → All (HasTaken plan) ws
 all_taken plan links [] [] e h = All-nil (HasTaken plan)
 all_taken plan links [] (w ∷ ws) e h = absurd e
 all_taken plan links (l ∷ lots) [] e h = absurd e
@@ -65,7 +64,7 @@ all_by_keys P (x ∷ xs) (y ∷ ys) e h =
     let rest : map lane_key xs ≡ map lane_key ys = cc e in
     All-cons Q x xs (subst P (sym first) (All-head Q y ys h)) (all_by_keys P xs ys rest (All-tail Q y ys h))
 
-pub all_paired : (plan : PlanValue) (links : List LinkName) (lots : List Lot) (ws : List Worked) → AllZip WorkerRan lots ws → All (IsNewLot plan links) lots → All (IsPaired links) (lanes_of ws)
+pub all_paired : (plan : PlanValue) (links : List LinkName) (lots : List Lot) (ws : List Lot) → AllZip WorkerRan lots ws → All (IsNewLot plan links) lots → All (IsPaired links) (lanes_of ws)
 all_paired plan links [] [] e h = All-nil (IsPaired links)
 all_paired plan links [] (w ∷ ws) e h = absurd e
 all_paired plan links (l ∷ lots) [] e h = absurd e
@@ -79,7 +78,7 @@ all_paired plan links (l ∷ lots) (w ∷ ws) e h =
 -- ---- sessions
 
 module _ {S : Type 0} (seen : S → SourceView) where
-  pub links_same : (starts : List (Start S)) (ts : List (EndedSession S)) → AllZip (WholeSession seen) starts ts → map ended_link ts ≡ map start_link starts
+  pub links_same : (starts : List (Start S)) (ts : List (EndedSession S)) → AllZip (SessionRan seen) starts ts → map ended_link ts ≡ map start_link starts
   links_same [] [] e = refl
   links_same [] (t ∷ ts) e = absurd e
   links_same (s ∷ starts) [] e = absurd e
@@ -88,7 +87,7 @@ module _ {S : Type 0} (seen : S → SourceView) where
       let rest = links_same starts ts e.1 in cc
 
   sessions_settled : (capacity : ℕ) (starts : List (Start S)) (ts : List (EndedSession S)) (ls : List Lane) (ks : List Settled)
-      → AllZip (WholeSession seen) starts ts → All (IsNewStart capacity) starts → Each3 SettlesEnds ts ls ks → All IsEnded ls
+      → AllZip (SessionRan seen) starts ts → All (IsNewStart capacity) starts → Each3 SettlesEnds ts ls ks → All IsEnded ls
       → Each4 (IsSettled seen capacity) (map (λ (s : Start S). s.source) starts) (map (λ (t : EndedSession S). t.source) ts) (map (λ (t : EndedSession S). t.report) ts) ks
   sessions_settled capacity [] [] [] [] e n z h = tt
   sessions_settled capacity [] (t ∷ ts) ls ks e n z h = absurd e
@@ -109,20 +108,20 @@ module _ {S : Type 0} (seen : S → SourceView) where
   sessions_settled capacity starts ts ls ks e n z h = absurd z
 
   came_settled : (plan : PlanValue) (capacity : ℕ) (sources : List S) (starts : List (Start S)) (lots : List Lot) (ts : List (EndedSession S)) (reports : List SessionReport) (links : List Settled) (afters : List S) (records : List DataRecord)
-      → IsDealt plan capacity sources starts lots → AllZip (WholeSession seen) starts ts → CameOver ts reports links afters records
+      → IsDealt plan capacity sources starts lots → AllZip (SessionRan seen) starts ts → CameOver ts reports links afters records
       → Each4 (IsSettled seen capacity) sources afters reports links
   came_settled plan capacity sources starts lots ts reports links afters records d e came =
       rw (sym d.sources_are, came.settled.sources_are, came.settled.reports_are) (sessions_settled capacity starts ts came.lanes links e d.new_starts came.settled.links_are came.ended)
 
   finished : (plan : PlanValue) (pool : Pool) (sources : List S) (starts : List (Start S)) (lots : List Lot) (ts : List (EndedSession S)) (c : Collected S)
-      → IsDealt plan pool.capacity sources starts lots → AllZip (WholeSession seen) starts ts → FinishedAs plan ts c
+      → IsDealt plan pool.capacity sources starts lots → AllZip (SessionRan seen) starts ts → FinishedAs plan ts c
       → Headline seen sources plan pool c × FitsPlan plan c.table
   finished plan pool sources starts lots ts c d e f =
       let each = came_settled plan pool.capacity sources starts lots ts c.sessions.items c.links.items c.sources.items f.records d e f.came in
       (run_headline seen sources plan pool c f.records each f.came.same f.table_is f.small, f.fits)
 
   overfull : (plan : PlanValue) (capacity : ℕ) (sources : List S) (starts : List (Start S)) (lots : List Lot) (ts : List (EndedSession S))
-      → IsDealt plan capacity sources starts lots → AllZip (WholeSession seen) starts ts → IsOverfull plan ts → AreTooLarge seen plan sources
+      → IsDealt plan capacity sources starts lots → AllZip (SessionRan seen) starts ts → IsOverfull plan ts → AreTooLarge seen plan sources
   overfull plan capacity sources starts lots ts d e f =
       let each = came_settled plan capacity sources starts lots ts f.reports f.links f.sources f.records d e f.came in
       let all = told seen capacity sources f.sources f.reports f.links each in
@@ -130,7 +129,7 @@ module _ {S : Type 0} (seen : S → SourceView) where
       too_large_due seen plan sources f.sources f.reports all.records f.records all.given same f.large
 
   pub answered : (plan : PlanValue) (pool : Pool) (sources : List S) (starts : List (Start S)) (lots : List Lot) (ts : List (EndedSession S)) (answer : Option (Collected S))
-      → IsDealt plan pool.capacity sources starts lots → AllZip (WholeSession seen) starts ts → MatchOption answer (IsOverfull plan ts) (λ c. FinishedAs plan ts c)
+      → IsDealt plan pool.capacity sources starts lots → AllZip (SessionRan seen) starts ts → MatchOption answer (IsOverfull plan ts) (λ c. FinishedAs plan ts c)
       → MatchOption answer (AreTooLarge seen plan sources) (λ c. Headline seen sources plan pool c × FitsPlan plan c.table)
   answered plan pool sources starts lots ts None d e f = overfull plan pool.capacity sources starts lots ts d e f
   answered plan pool sources starts lots ts (Some c) d e f = finished plan pool sources starts lots ts c d e f

@@ -14,7 +14,6 @@ use Rattle.flow_collect.specs.Promises.{taken_from}
 use Rattle.flow_collect.specs.Lanes.{lane_key, lane_records, lane_weight, receivers_of, TakesInto, RoundsInto, StandsForLanes, IsEnded, WorkerRan}
 use Rattle.flow_collect.specs.declared.worker.Lane.{Lane}
 use Rattle.flow_collect.specs.declared.worker.Lot.{Lot}
-use Rattle.flow_collect.specs.declared.worker.Worked.{Worked}
 
 -- what was taken of one lane joins what was taken in the round
 pub rounds_on : (lanes : List Lane) (p : Partial) (mid : List Lane) (q : Partial) (k : ℕ) (lane lane' : Lane) (q' : Partial) → k < length mid → lane ≡ get_or mid k lane
@@ -80,7 +79,7 @@ ended_receivers [] h = All-nil (λ (r : ReceiverView). has_last r.received ≡ t
 ended_receivers (lane ∷ lanes) h =
     All-cons (λ (r : ReceiverView). has_last r.received ≡ true) lane.receiver (receivers_of lanes) (All-head IsEnded lane lanes h) (ended_receivers lanes (All-tail IsEnded lane lanes h))
 
-pub worker_ran : (lot : Lot) (w : Worked) → map lane_key w.lanes.items ≡ map lane_key lot.lanes.items → plan_of w.partial ≡ plan_of lot.partial
+pub worker_ran : (lot : Lot) (w : Lot) → map lane_key w.lanes.items ≡ map lane_key lot.lanes.items → plan_of w.partial ≡ plan_of lot.partial
     → All IsEnded w.lanes.items → StandsForLanes w.partial w.lanes.items → WorkerRan lot w
 worker_ran lot w keys plan ended s =
     record {

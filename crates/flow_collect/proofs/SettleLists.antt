@@ -21,7 +21,7 @@ use Rattle.flow_collect.specs.Places.{Each3}
 use Rattle.flow_collect.specs.Promises.{settled_records}
 use Rattle.flow_collect.specs.declared.session_thread.EndedSession.{EndedSession}
 use Rattle.flow_collect.specs.declared.worker.Lane.{Lane}
-use Rattle.flow_collect.specs.declared.worker.Worked.{Worked}
+use Rattle.flow_collect.specs.declared.worker.Lot.{Lot}
 use Rattle.flow_collect.proofs.Deals.{at_seam}
 use Rattle.flow_collect.proofs.ZipLists.{each3_more}
 
@@ -46,7 +46,7 @@ pub settled_end : {S : Type 0} (ts : List (EndedSession S)) (ls : List Lane) (rs
     → ts0 ≡ ts → ls0 ≡ ls → SettledAll ts ls rs ks ss → SettledAll ts0 ls0 rs ks ss
 settled_end {S} ts ls rs ks ss ts0 ls0 e f all = rw (e, f) all
 
-pub lanes_of_push : (ws : List Worked) (w : Worked) → lanes_of (ws ++ w ∷ []) ≡ lanes_of ws ++ w.lanes.items
+pub lanes_of_push : (ws : List Lot) (w : Lot) → lanes_of (ws ++ w ∷ []) ≡ lanes_of ws ++ w.lanes.items
 lanes_of_push [] w = append-nil w.lanes.items
 lanes_of_push (x ∷ ws) w = ap (λ r. x.lanes.items ++ r) (lanes_of_push ws w) ∙ sym (append_assoc x.lanes.items (lanes_of ws) w.lanes.items)
 
@@ -59,13 +59,13 @@ stands_joined p q r xs ys merged a b =
     }
 
 -- what came of merging each half by itself and then both
-pub merged_halves : (ws low high : List Worked) (n : ℕ) (first second all : Worked) → low ≡ take n ws → high ≡ drop n ws → IsMerged low first → IsMerged high second
+pub merged_halves : (ws low high : List Lot) (n : ℕ) (first second all : Lot) → low ≡ take n ws → high ≡ drop n ws → IsMerged low first → IsMerged high second
     → all.lanes.items ≡ first.lanes.items ++ second.lanes.items → plan_of all.partial ≡ plan_of first.partial
     → ((rs qs : List DataRecord) → StandsFor first.partial rs → StandsFor second.partial qs → StandsFor all.partial (rs ++ qs)) → IsMerged ws all
 merged_halves ws low high n first second all front back a b lanes plan merges =
     let whole : low ++ high ≡ ws = rw (front, back) (take-append-drop n ws) in
     record {
-      lanes_are = lanes ∙ rw (a.lanes_are, b.lanes_are) (sym (flat_map-append (λ (w : Worked). w.lanes.items) low high) ∙ ap lanes_of whole);
+      lanes_are = lanes ∙ rw (a.lanes_are, b.lanes_are) (sym (flat_map-append (λ (w : Lot). w.lanes.items) low high) ∙ ap lanes_of whole);
       table = rw lanes (stands_joined _ _ _ _ _ merges a.table b.table);
       plan_is = λ p taken. plan ∙ a.plan_is p (rw front (All-take (HasTaken p) n ws taken));
     }
@@ -85,7 +85,7 @@ pub stands_sorted : (p : Partial) (xs ys : List Lane) → IsPermutation xs ys �
 stands_sorted p xs ys same s =
     record { records = s.records; stands = s.stands; weighs = λ w. s.weighs w ∙ sym (sum_by-IsPermutation (lane_weight w) xs ys same) }
 
-pub lanes_ended : (plan : PlanValue) (ws : List Worked) → All (HasTaken plan) ws → All IsEnded (lanes_of ws)
+pub lanes_ended : (plan : PlanValue) (ws : List Lot) → All (HasTaken plan) ws → All IsEnded (lanes_of ws)
 lanes_ended plan [] h = All-nil IsEnded
 lanes_ended plan (w ∷ ws) h =
     let first = All-head (HasTaken plan) w ws h in

@@ -17,19 +17,19 @@ use Rattle.flow_collect.specs.Promises.{settled_records}
 use Rattle.flow_collect.specs.declared.collected.Collected.{Collected}
 use Rattle.flow_collect.specs.declared.session_thread.EndedSession.{EndedSession}
 use Rattle.flow_collect.specs.declared.worker.Lane.{Lane}
-use Rattle.flow_collect.specs.declared.worker.Worked.{Worked}
+use Rattle.flow_collect.specs.declared.worker.Lot.{Lot}
 
 -- a worker took Last of each of its lanes, and has the table of all that came over them
-pub record HasTaken (plan : PlanValue) (w : Worked) : Type 0 where
+pub record HasTaken (plan : PlanValue) (w : Lot) : Type 0 where
   pub plan_is : plan_of w.partial ≡ plan
   pub ended : All IsEnded w.lanes.items
   pub table : StandsForLanes w.partial w.lanes.items
 
-abbrev pub lanes_of : List Worked → List Lane
-lanes_of ws = flat_map (λ (w : Worked). w.lanes.items) ws
+abbrev pub lanes_of : List Lot → List Lane
+lanes_of ws = flat_map (λ (w : Lot). w.lanes.items) ws
 
 -- as if one worker had taken all that these took
-pub record IsMerged (ws : List Worked) (all : Worked) : Type 0 where
+pub record IsMerged (ws : List Lot) (all : Lot) : Type 0 where
   pub lanes_are : all.lanes.items ≡ lanes_of ws
   pub table : StandsForLanes all.partial all.lanes.items
   pub plan_is : (plan : PlanValue) → All (HasTaken plan) ws → plan_of all.partial ≡ plan

@@ -8,7 +8,7 @@ use Rattle.std.specs.List.{AllZip, flat_map}
 use Rattle.ipfix_message.specs.declared.record.DataRecord.{DataRecord}
 use Rattle.ipfix_session.specs.Drives.{IsGiven}
 use Rattle.ipfix_session.specs.Sources.{SourceView}
-use Rattle.ipfix_session.specs.declared.driver.TheConstants.{READ_SIZE}
+use Rattle.ipfix_session.specs.declared.driver.TheConstants.{READ_LIMIT, READ_SIZE}
 use Rattle.ipfix_session.specs.declared.report.SessionReport.{SessionReport}
 use Rattle.flow_link.specs.Parcels.{items}
 use Rattle.flow_link.specs.Settling.{settled_capacity, settled_sent, settled_received}
@@ -21,7 +21,6 @@ use Rattle.flow_collect.specs.Places.{Each4}
 use Rattle.flow_collect.specs.declared.collected.Pool.{Pool}
 use Rattle.flow_collect.specs.declared.collected.Collected.{Collected}
 use Rattle.flow_collect.specs.declared.collected.Serial.{Serial}
-use Rattle.flow_collect.specs.declared.collected.TheConstants.{READ_LIMIT}
 
 -- ---- what was received
 

@@ -10,7 +10,6 @@ use Rattle.flow_collect.specs.Adds.{AddsAll}
 use Rattle.flow_collect.specs.Promises.{WorkerTook}
 use Rattle.flow_collect.specs.declared.worker.Lane.{Lane}
 use Rattle.flow_collect.specs.declared.worker.Lot.{Lot}
-use Rattle.flow_collect.specs.declared.worker.Worked.{Worked}
 
 -- which lane it is: its session, and its link
 abbrev pub lane_key : Lane → ℕ × LinkName
@@ -63,6 +62,6 @@ abbrev pub IsUnused : Lot → Type 0
 IsUnused lot = StandsFor lot.partial [] × All (λ lane. lane.receiver.received ≡ []) lot.lanes.items
 
 -- it hands back the lanes that it was given, all records that came over them and the partial table of these
-pub record WorkerRan (lot : Lot) (w : Worked) : Type 0 where
+pub record WorkerRan (lot : Lot) (w : Lot) : Type 0 where
   pub keys : map lane_key w.lanes.items ≡ map lane_key lot.lanes.items
   pub took : WorkerTook (plan_of lot.partial) (receivers_of lot.lanes.items) (receivers_of w.lanes.items) w.partial

@@ -1,11 +1,11 @@
--- what public contracts cite
+-- What public contracts cite.
 pub mod Places
 pub mod Headline
 pub mod Texts
 pub mod Refusals
 pub mod Faults
 pub mod Sends
--- what is known inside a run
+-- What only inner functions and proofs need.
 pub mod Adds
 pub mod Serials
 pub mod Promises

@@ -1,4 +1,22 @@
-//! Collecting in threads.
+//! Collecting in threads. What is handed from call to call, and what each holds then:
+//!
+//! ```text
+//! deal         makes of each source a Start: its number, the source, and its link's sender, unused;
+//!              makes for each link a Lane: the session's number, and the receiver, unused;
+//!              makes for each worker a Lot: its number, its lanes, and the table of no records.
+//!
+//! in_threads   gives each Start to a thread of its own, which hands back an EndedSession: the
+//!              source as it was left, the report, and the sender, with all records and then Last sent;
+//!              gives each Lot to a thread of its own, which hands it back with Last taken from each
+//!              lane, and the table of all records that came over them.
+//!              A thread that couldn't send or take all hands back nothing: the run has no answer.
+//!
+//! finish_all   makes of all lots one: the lanes of all sessions, in order, and the table of all
+//!              records;
+//!              makes of each EndedSession and its Lane a place in Parts: the report, the link, with
+//!              both ends settled, and the source;
+//!              makes of Parts and the table what `collect` answers, Collected.
+//! ```
 
 ghost use Rattle.std.specs.Prelude.{◌≡◌, Err, IfOk, IfErr, IfSome, IfNone, IsErrOf, MatchOption, vec_len};
 ghost use Rattle.flow_table.specs.Fitting.{FitsPlan};
@@ -10,8 +28,8 @@ use crate::collected::{Collected, MAX_SESSIONS, MAX_WORKERS, Pool};
 use crate::dealing::deal;
 use crate::fault::CollectFault;
 use crate::gate::Gate;
-use crate::run_fault::RunFault;
 use crate::settling::finish_all;
+use crate::shortage::Shortage;
 use crate::threads::in_threads;
 use flow_link::MAX_CAPACITY;
 use flow_table::Plan;
@@ -44,10 +62,12 @@ pub fn collect<S: Source + Send + Drop, G: Gate + Sync, R: Threads + Wait + Sync
     // The table fits the plan, as an export asks.
     ensures fits { IfOk result (λ c. FitsPlan plan.now c.table) }
     // `Workers`, `Sessions` and `Link` exactly for their arguments, in this order.
-    ensures arguments { IfSome (fault_of_arguments pool (vec_len sources)) (λ fault. result ≡ Err fault) }
+    ensures arguments { IfSome (fault_of_arguments pool (vec_len sources))
+        (λ fault. result ≡ Err fault) }
     ensures others { IfNone (fault_of_arguments pool (vec_len sources)) (IfErr result IsLate) }
     // Only if the records of the sources' whole texts are too large.
-    ensures too_large { IsErrOf result CollectFault.SumTooLarge → AreTooLarge S.seen plan.now sources.items }
+    ensures too_large { IsErrOf result CollectFault.SumTooLarge
+        → AreTooLarge S.seen plan.now sources.items }
 {
     if let Some(fault) = judge(pool, sources.len()) {
         return Err(fault);
@@ -55,8 +75,8 @@ pub fn collect<S: Source + Send + Drop, G: Gate + Sync, R: Threads + Wait + Sync
     match collect_judged(rt, alloc, sources, plan, pool, gate) {
         Ok(Some(collected)) => Ok(collected),
         Ok(None) => Err(CollectFault::SumTooLarge),
-        Err(RunFault::NoThread) => Err(CollectFault::NoThread),
-        Err(RunFault::OutOfMemory) => Err(CollectFault::OutOfMemory),
+        Err(Shortage::NoThread) => Err(CollectFault::NoThread),
+        Err(Shortage::OutOfMemory) => Err(CollectFault::OutOfMemory),
     }
 }
 
@@ -85,13 +105,13 @@ fn collect_judged<S: Source + Send + Drop, G: Gate + Sync, R: Threads + Wait + S
     plan: &Plan,
     pool: Pool,
     gate: &G,
-) -> Result<Option<Collected<S>>, RunFault>
+) -> Result<Option<Collected<S>>, Shortage>
     requires { IsCapacity pool.capacity }
     ensures { IfOk result (λ answer. MatchOption answer (AreTooLarge S.seen plan.now sources.items)
         (λ c. Headline S.seen sources.items plan.now pool c × FitsPlan plan.now c.table)) }
 {
-    let dealt = deal(alloc, sources, plan, pool)?;
-    let joined = in_threads(rt, alloc, gate, dealt)?;
-    let answer = finish_all(rt, alloc, joined)?;
+    let (starts, lots) = deal(alloc, sources, plan, pool)?;
+    let (ended, worked) = in_threads(rt, alloc, gate, starts, lots)?;
+    let answer = finish_all(rt, alloc, ended, worked)?;
     Ok(answer)
 }

@@ -5,31 +5,26 @@ ghost use Rattle.flow_link.specs.Ends.{IsNewLink};
 ghost use Rattle.flow_collect.specs.Dealt.{IsCapacity, IsDealt, IsNewLot, DealsOne};
 
 use crate::collected::Pool;
-use crate::run_fault::RunFault;
 use crate::session_thread::Start;
+use crate::shortage::Shortage;
 use crate::worker::{Lane, Lot};
 use flow_link::{LinkFault, Receiver, Sender, link};
 use flow_table::{Partial, Plan};
 use std::alloc::Global;
 use std::collections::VecDeque;
 
-/// What the threads are given: that of the sessions, in order, and that of the workers.
-#[derive(Drop)]
-pub struct Dealt<S> {
-    pub starts: VecDeque<Start<S>>,
-    pub lots: VecDeque<Lot>,
-}
-
-/// Makes a link for each source. The receiving ends go to the workers by turns.
+/// Makes a link for each source. Its sending end stands in the first part, in the order of the
+/// sources. Its receiving end goes to the lots of the workers, by turns.
 pub fn deal<S: Drop>(
     alloc: Global,
     sources: Vec<S>,
     plan: &Plan,
     pool: Pool,
-) -> Result<Dealt<S>, RunFault>
+) -> Result<(VecDeque<Start<S>>, VecDeque<Lot>), Shortage>
     requires { IsCapacity pool.capacity }
-    ensures dealt { IfOk result (λ d. IsDealt plan.now pool.capacity sources.items d.starts.items d.lots.items) }
-    ensures workers { IfOk result (λ d. length d.lots.items ≡ pool.workers) }
+    ensures dealt { IfOk result (λ d. IsDealt plan.now pool.capacity sources.items
+        d.0.items d.1.items) }
+    ensures workers { IfOk result (λ d. length d.1.items ≡ pool.workers) }
 {
     let mut sources = VecDeque::from_vec(sources);
     let mut starts = VecDeque::new(alloc);
@@ -37,10 +32,10 @@ pub fn deal<S: Drop>(
     while let Some(source) = sources.pop_front() {
         deal_one(alloc, pool.capacity, source, &mut starts, &mut lots)?;
     }
-    Ok(Dealt { starts, lots })
+    Ok((starts, lots))
 }
 
-fn empty_lots(alloc: Global, plan: &Plan, workers: usize) -> Result<VecDeque<Lot>, RunFault>
+fn empty_lots(alloc: Global, plan: &Plan, workers: usize) -> Result<VecDeque<Lot>, Shortage>
     ensures new { IfOk result (λ lots. All (IsNewLot plan.now []) lots.items) }
     ensures count { IfOk result (λ lots. length lots.items ≡ workers) }
 {
@@ -52,11 +47,11 @@ fn empty_lots(alloc: Global, plan: &Plan, workers: usize) -> Result<VecDeque<Lot
     Ok(lots)
 }
 
-fn empty_lot(alloc: Global, plan: &Plan, worker: usize) -> Result<Lot, RunFault>
+fn empty_lot(alloc: Global, plan: &Plan, worker: usize) -> Result<Lot, Shortage>
     ensures { IfOk result (λ lot. IsNewLot plan.now [] lot) }
 {
     let Ok(partial) = Partial::new(alloc, plan) else {
-        return Err(RunFault::OutOfMemory);
+        return Err(Shortage::OutOfMemory);
     };
     Ok(Lot {
         worker,
@@ -73,13 +68,14 @@ fn deal_one<S: Drop>(
     source: S,
     starts: &mut VecDeque<Start<S>>,
     lots: &mut VecDeque<Lot>,
-) -> Result<(), RunFault>
+) -> Result<(), Shortage>
     requires { IsCapacity capacity }
-    ensures { OnOk result (DealsOne capacity source starts.old.items lots.old.items starts.new.items lots.new.items) }
+    ensures { OnOk result (DealsOne capacity source starts.old.items lots.old.items
+        starts.new.items lots.new.items) }
 {
     let (sender, receiver) = new_link(alloc, capacity)?;
     let Some(mut lot) = lots.pop_front() else {
-        return Err(RunFault::NoThread);
+        return Err(Shortage::NoThread);
     };
     let session = starts.len();
     let lane = new_lane(session, receiver);
@@ -94,14 +90,14 @@ fn deal_one<S: Drop>(
     Ok(())
 }
 
-fn new_link(alloc: Global, capacity: usize) -> Result<(Sender, Receiver), RunFault>
+fn new_link(alloc: Global, capacity: usize) -> Result<(Sender, Receiver), Shortage>
     requires { IsCapacity capacity }
     ensures { IfOk result (λ ends. IsNewLink capacity ends.0 ends.1) }
 {
     match link(alloc, capacity) {
         Ok(ends) => Ok(ends),
         Err(LinkFault::Capacity) => unreachable!(),
-        Err(LinkFault::OutOfMemory) => Err(RunFault::OutOfMemory),
+        Err(LinkFault::OutOfMemory) => Err(Shortage::OutOfMemory),
     }
 }
 

@@ -7,22 +7,19 @@ mod collecting;
 mod dealing;
 mod fault;
 mod gate;
-mod laws;
+pub mod laws;
 mod link_sink;
-mod run_fault;
 mod serial;
 mod session_thread;
 mod settling;
+mod shortage;
 mod threads;
 mod worker;
 
-pub use collected::{Collected, MAX_SESSIONS, MAX_WORKERS, Pool, READ_LIMIT, Serial};
+pub use collected::{Collected, MAX_SESSIONS, MAX_WORKERS, Pool, Serial};
 pub use collecting::collect;
 pub use fault::CollectFault;
 pub use gate::{Gate, OpenGate};
-pub use laws::{
-    delivered_are_the_records, first_of_whole_texts, links_aside, reports_are_of_the_octets,
-    same_octets_same_table, whole_texts_add_up,
-};
+pub use ipfix_session::READ_LIMIT;
 pub use link_sink::LinkSink;
 pub use serial::collect_serial;

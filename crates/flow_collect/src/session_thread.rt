@@ -1,13 +1,12 @@
 //! A session's thread: what its source gives goes over its link.
 
-ghost use Rattle.std.specs.Prelude.{◌≡◌, []};
+ghost use Rattle.std.specs.Prelude.{◌≡◌, [], IfSome};
 ghost use Rattle.flow_collect.specs.Sessions.{SessionRan};
 
-use crate::collected::READ_LIMIT;
 use crate::gate::Gate;
 use crate::link_sink::LinkSink;
 use flow_link::Sender;
-use ipfix_session::{SessionReport, Source, drive};
+use ipfix_session::{READ_LIMIT, SessionReport, Source, drive};
 use std::alloc::Global;
 use std::sync::Wait;
 
@@ -20,25 +19,24 @@ pub struct Start<S> {
     pub sender: Sender,
 }
 
-/// What a session's thread hands back.
+/// What a session's thread hands back once all went over its link, and Last after it.
 #[derive(Drop)]
 pub struct EndedSession<S> {
     pub report: SessionReport,
     pub source: S,
     pub sender: Sender,
-    /// Whether the worker could take everything: no record came back, and Last was sent.
-    pub whole: bool,
 }
 
-/// Runs a session to its end, and then sends Last, whatever ended it.
-pub fn run_session<S: Source, G: Gate, R: Wait>(
+/// Runs a session to its end, and then sends Last, whatever ended it. `None` if the receiver was
+/// gone before that.
+pub fn run_session<S: Source + Drop, G: Gate, R: Wait>(
     rt: &R,
     alloc: Global,
     gate: &G,
     start: Start<S>,
-) -> EndedSession<S>
+) -> Option<EndedSession<S>>
     requires { start.sender.sent ≡ [] }
-    ensures { SessionRan S.seen start result }
+    ensures { IfSome result (SessionRan S.seen start) }
 {
     let Start {
         session,
@@ -50,11 +48,12 @@ pub fn run_session<S: Source, G: Gate, R: Wait>(
     let report = drive(alloc, &mut source, &mut sink, READ_LIMIT);
     let took_all = sink.refused == 0;
     let sent = sink.send_last();
-    let whole = sent && took_all;
-    EndedSession {
+    if !sent || !took_all {
+        return None;
+    }
+    Some(EndedSession {
         report,
         source,
         sender: sink.sender,
-        whole,
-    }
+    })
 }

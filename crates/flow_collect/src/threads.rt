@@ -1,7 +1,8 @@
-//! Threads for sessions and workers, and what they promise.
+//! Threads for sessions and workers, and what they promise to hand back.
 
+mod joining;
 mod running;
 mod sessions;
 mod workers;
 
-pub use running::{Joined, in_threads};
+pub use running::in_threads;

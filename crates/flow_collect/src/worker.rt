@@ -21,18 +21,11 @@ pub struct Lane {
     pub ghost marked: { has_last receiver.received ≡ last },
 }
 
-/// What a worker's thread is given.
+/// What a worker's thread is given, and what it hands back once each of its links gave Last.
 #[derive(Drop)]
 pub struct Lot {
     /// The worker's number, counted from 0.
     pub worker: usize,
-    pub lanes: Vec<Lane>,
-    pub partial: Partial,
-}
-
-/// What a worker's thread hands back once each of its links gave Last.
-#[derive(Drop)]
-pub struct Worked {
     pub lanes: Vec<Lane>,
     pub partial: Partial,
 }

@@ -1,5 +1,6 @@
 //! Worked examples, collected.
 
+mod calling;
 mod gates;
 mod memory;
 mod serial;

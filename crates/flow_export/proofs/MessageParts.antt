@@ -12,7 +12,7 @@ use Rattle.flow_table.specs.declared.table.Row.{Row}
 use Rattle.flow_table.specs.Plans.{PlanValue}
 use Rattle.flow_table.specs.SameTables.{value_of}
 use Rattle.ipfix_wire.specs.declared.set.TheConstants.{FIRST_TEMPLATE_ID}
-use Rattle.flow_export.specs.declared.ipfix_rows.TheConstants.{ROWS_A_MESSAGE}
+use Rattle.flow_export.specs.declared.ipfix_text.rows.TheConstants.{ROWS_A_MESSAGE}
 use Rattle.flow_export.specs.IpfixText.{message, message_of_rows, row_octets, rows_of_message}
 use Rattle.flow_export.specs.Placed.{Placed}
 use Rattle.flow_export.specs.RowOctets.{headers_octets, octets_of_rows}

@@ -15,9 +15,9 @@ use Rattle.flow_table.specs.declared.table.Row.{Row}
 use Rattle.flow_export.specs.CsvText.{first_of, key_text, last_of}
 use Rattle.flow_export.specs.JsonParts.{AreLabels, label, labelled, object_of, text_of}
 use Rattle.flow_export.specs.JsonText.{member}
-use Rattle.flow_export.specs.JsonValues.{json_cell, json_number}
-use Rattle.flow_export.specs.declared.json_labels.Label.{Label}
-use Rattle.flow_export.specs.declared.json_labels.RowLabels.{RowLabels}
+use Rattle.ipfix_elements.specs.JsonValues.{json_cell, json_number}
+use Rattle.flow_export.specs.declared.json_text.labels.MemberLabel.{MemberLabel}
+use Rattle.flow_export.specs.declared.json_text.labels.RowLabels.{RowLabels}
 use Rattle.flow_export.proofs.Appending.{one_more}
 use Rattle.flow_export.proofs.KeyCells.{kinds_fit, same_length}
 use Rattle.flow_export.proofs.Lines.{behind_commas, next, six_parts}
@@ -28,7 +28,7 @@ same_pair : {A B : Type 0} {a b : A} {x y : B} → a ≡ b → x ≡ y → ◌�
 same_pair is_a is_x = rw (is_a, is_x) refl
 
 -- one more, after those that were appended
-pub pair_more : {X : Type 0} (value : X → List ℕ) (ls : List Label) (xs : List X) (i : ℕ) (l : Label) (d : X) (o p q : List ℕ) → length ls ≡ length xs → i < length xs → l ≡ get_or ls i l
+pub pair_more : {X : Type 0} (value : X → List ℕ) (ls : List MemberLabel) (xs : List X) (i : ℕ) (l : MemberLabel) (d : X) (o p q : List ℕ) → length ls ≡ length xs → i < length xs → l ≡ get_or ls i l
     → p ≡ o ++ flat_map (labelled value) (take i (zip ls xs)) → q ≡ p ++ labelled value (l, get_or xs i d) → q ≡ o ++ flat_map (labelled value) (take (i + 1) (zip ls xs))
 pair_more {X} value ls xs i l d o p q same inside is_l is_p is_q =
     let within : i < length (zip ls xs) = omega (arith, length-zip ls xs, same, inside) in
@@ -37,10 +37,10 @@ pair_more {X} value ls xs i l d o p q same inside is_l is_p is_q =
     one_more (labelled value) (zip ls xs) i (l, x) o p q within (sym at) is_p is_q
 
 -- all of them
-pub pairs_all : {X : Type 0} (value : X → List ℕ) (ls : List Label) (xs : List X) (i : ℕ) (o p : List ℕ) → length ls ≡ length xs → length xs ≤ i
+pub pairs_all : {X : Type 0} (value : X → List ℕ) (ls : List MemberLabel) (xs : List X) (i : ℕ) (o p : List ℕ) → length ls ≡ length xs → length xs ≤ i
     → p ≡ o ++ flat_map (labelled value) (take i (zip ls xs)) → p ≡ o ++ flat_map (labelled value) (zip ls xs)
 pairs_all {X} value ls xs i o p same outside is_p =
-    is_p ∙ ap (λ (pairs : List (Label × X)). o ++ flat_map (labelled value) pairs) (take_all i (zip ls xs) (omega (arith, length-zip ls xs, same, outside)))
+    is_p ∙ ap (λ (pairs : List (MemberLabel × X)). o ++ flat_map (labelled value) pairs) (take_all i (zip ls xs) (omega (arith, length-zip ls xs, same, outside)))
 
 -- ---- members behind commas
 
@@ -49,7 +49,7 @@ member_is name made v is_made =
     ap (λ (t : List ℕ). t ++ v) is_made
     ∙ ap (λ (t : List ℕ). codes ",\"" ++ t) (append_assoc name (codes "\":") v ∙ sym (append_assoc name (codes "\"") (codes ":" ++ v)))
 
-members_are : {X : Type 0} (value : X → List ℕ) (names : List (List ℕ)) (ls : List Label) (xs : List X) → map text_of ls ≡ map label names
+members_are : {X : Type 0} (value : X → List ℕ) (names : List (List ℕ)) (ls : List MemberLabel) (xs : List X) → map text_of ls ≡ map label names
     → flat_map (labelled value) (zip ls xs) ≡ flat_map next (map member (zip names (map value xs)))
 members_are value [] [] xs same = refl
 members_are value [] (l ∷ ls) xs same = absurd cc
@@ -127,7 +127,7 @@ object_parts plan labels row made fits =
     ∙ ap (λ (t : List ℕ). codes "{" ++ t) (joined first (next second) (cells_of labels row) (sums_of labels row) (codes ",\"flows\":" ++ json_number row.flows) (codes "}\n"))
 
 -- an object whose members were appended one after another
-pub object_appended : (plan : PlanValue) (labels : RowLabels) (row : Row) (l : ℕ) (ks counters : List Label) (cs : List Cell) (vs o p q r s t u : List ℕ) → AreLabels plan labels → FitsRow plan row
+pub object_appended : (plan : PlanValue) (labels : RowLabels) (row : Row) (l : ℕ) (ks counters : List MemberLabel) (cs : List Cell) (vs o p q r s t u : List ℕ) → AreLabels plan labels → FitsRow plan row
     → l ≡ plan.length → ks ≡ labels.keys.items → counters ≡ labels.counters.items → cs ≡ row.key.items → vs ≡ row.sums.items
     → p ≡ o ++ (codes "{\"start\":" ++ json_number (row.interval * l)) → q ≡ p ++ (codes ",\"end\":" ++ json_number (row.interval * l + l - 1))
     → r ≡ q ++ flat_map (labelled json_cell) (zip ks cs) → s ≡ r ++ flat_map (labelled json_number) (zip counters vs) → t ≡ s ++ (codes ",\"flows\":" ++ json_number row.flows)

@@ -7,7 +7,7 @@ use Rattle.std.proofs.lemmas.List.{length-append, length-map}
 use Rattle.std.proofs.lemmas.List.Elements.{All-nil, All-cons, All-append}
 use Rattle.ipfix_wire.specs.declared.specifier.ElementId.{ElementId}
 use Rattle.ipfix_wire.specs.declared.specifier.Spec.{Spec}
-use Rattle.ipfix_elements.specs.Elements.{Row, kind_of, elements}
+use Rattle.ipfix_elements.specs.Elements.{Entry, kind_of, elements, iana}
 use Rattle.ipfix_elements.specs.declared.kind.Kind.{Kind}
 use Rattle.ipfix_elements.specs.declared.kind.Kind.TheVariants.{Unsigned, Ipv4, Ipv6, Mac, Seconds, Millis, Octets}
 use Rattle.ipfix_elements.specs.declared.kind.Width.TheVariants.{Eight}
@@ -18,7 +18,7 @@ use Rattle.flow_table.specs.Plans.{PlanValue, IsPlan, is_key_kind, is_counter, e
 use Rattle.flow_table.proofs.CounterKinds.{Each, any_of, counter_kind}
 use Rattle.flow_table.proofs.PlanKeys.{passed_tests}
 use Rattle.flow_export.specs.Fitting.{HasNumber}
-use Rattle.flow_export.specs.IpfixText.{iana, width_of, key_width, key_spec, number_spec}
+use Rattle.flow_export.specs.IpfixText.{width_of, key_width, key_spec, number_spec}
 use Rattle.flow_export.proofs.Finding.{find_all}
 use Rattle.flow_export.proofs.RowFields.{narrow_number}
 use Rattle.flow_export.proofs.Room.{IsSpec, HasRoom}
@@ -32,17 +32,17 @@ pub record IsValue (e : ElementId) : Type 0 where
   pub no_start : e.number ≢ 152
   pub no_end : e.number ≢ 153
 
-small_row : Row → Bool
-small_row r = ltb r.number (2 ^ 15)
+small_entry : Entry → Bool
+small_entry r = ltb r.number (2 ^ 15)
 
-all_small : list_all small_row elements ≡ true
-unfolding elements small_row
+all_small : list_all small_entry elements ≡ true
+unfolding elements small_entry
 all_small = refl
 
 -- what has the kind of a key is in the table
-in_table : (e : ElementId) → is_key_kind (kind_of e) ≡ true → (e.pen ≡ 0) × ((r : Row) × (find (λ x. eqb x.number e.number) elements ≡ Some r))
-in_table e key = elim (cases_Bool (eqb e.pen 0)) as (λ _. (e.pen ≡ 0) × ((r : Row) × (find (λ x. eqb x.number e.number) elements ≡ Some r))) [
-  | inl t ↦ elim (cases_Option (find (λ x. eqb x.number e.number) elements)) as (λ _. (e.pen ≡ 0) × ((r : Row) × (find (λ x. eqb x.number e.number) elements ≡ Some r))) [
+in_table : (e : ElementId) → is_key_kind (kind_of e) ≡ true → (e.pen ≡ 0) × ((r : Entry) × (find (λ x. eqb x.number e.number) elements ≡ Some r))
+in_table e key = elim (cases_Bool (eqb e.pen 0)) as (λ _. (e.pen ≡ 0) × ((r : Entry) × (find (λ x. eqb x.number e.number) elements ≡ Some r))) [
+  | inl t ↦ elim (cases_Option (find (λ x. eqb x.number e.number) elements)) as (λ _. (e.pen ≡ 0) × ((r : Entry) × (find (λ x. eqb x.number e.number) elements ≡ Some r))) [
     | inl none ↦ absurd (let no : false ≡ true = rw (t, none) at key in cc)
     | inr some ↦ (eqb-true e.pen 0 t, some)
   ]
@@ -61,11 +61,11 @@ unfolding elements
 end_kind = refl
 
 pub key_is_value : (e : ElementId) → is_key_kind (kind_of e) ≡ true → IsValue e
-unfolding small_row
+unfolding small_entry
 key_is_value e key =
     let at = in_table e key in
     let passes : eqb at.1.0.number e.number ≡ true = find_passes (λ x. eqb x.number e.number) elements at.1.0 at.1.1 in
-    let small : ltb at.1.0.number (2 ^ 15) ≡ true = find_all small_row (λ x. eqb x.number e.number) elements at.1.0 all_small at.1.1 in
+    let small : ltb at.1.0.number (2 ^ 15) ≡ true = find_all small_entry (λ x. eqb x.number e.number) elements at.1.0 all_small at.1.1 in
     let no : (n : ℕ) → kind_of (iana n) ≡ Millis → e.number ≢ n = λ n millis same.
     let kind : kind_of e ≡ Millis = kind_by_number e n at.0 same ∙ millis in
     let wrong : false ≡ true = sym (ap is_key_kind kind) ∙ key in cc in

@@ -12,7 +12,8 @@ use Rattle.ipfix_wire.specs.declared.specifier.Spec.{Spec}
 use Rattle.ipfix_elements.specs.declared.iana.TheConstants.{FLOW_START_MILLISECONDS, FLOW_END_MILLISECONDS, ORIGINAL_FLOWS_PRESENT}
 use Rattle.flow_table.specs.declared.key.Key.{Key}
 use Rattle.flow_table.specs.Plans.{PlanValue}
-use Rattle.flow_export.specs.IpfixText.{field_specs, iana, key_spec, number_spec, template, template_octets}
+use Rattle.ipfix_elements.specs.Elements.{iana}
+use Rattle.flow_export.specs.IpfixText.{field_specs, key_spec, number_spec, template, template_octets}
 use Rattle.flow_export.specs.SpecOctets.{counter_octets, counters_octets, keys_octets}
 
 specs_parts : (keys : List Key) (counters : List ElementId) (last : Spec) → flat_map spec_octets (map key_spec keys ++ (map number_spec counters ++ last ∷ [])) ≡ keys_octets keys ++ (counters_octets counters ++ spec_octets last)

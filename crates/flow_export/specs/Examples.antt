@@ -4,7 +4,7 @@ use Rattle.ipfix_elements.specs.declared.cell.Cell.TheVariants.{Ipv4}
 use Rattle.flow_table.specs.declared.method.Method.TheVariants.{Start}
 use Rattle.flow_table.specs.Plans.{PlanValue, plan_of}
 use Rattle.flow_table.specs.SameTables.{RowValue, row_value}
-use Rattle.flow_export.specs.IpfixText.{iana}
+use Rattle.ipfix_elements.specs.Elements.{iana}
 
 abbrev pub by_address : PlanValue
 by_address = plan_of 60000 Start (record { element = iana 8; prefix = None } ∷ []) (iana 1 ∷ []) 4096

@@ -16,20 +16,17 @@ use Rattle.ipfix_elements.specs.declared.iana.TheConstants.{FLOW_START_MILLISECO
 use Rattle.ipfix_elements.specs.declared.kind.Kind.{Kind}
 use Rattle.ipfix_elements.specs.declared.kind.Kind.TheVariants as kinds
 use Rattle.ipfix_elements.specs.Cells.{cell_octets}
-use Rattle.ipfix_elements.specs.Elements.{kind_of}
+use Rattle.ipfix_elements.specs.Elements.{iana, kind_of}
 use Rattle.ipfix_elements.specs.Values.{octets_of}
 use Rattle.ipfix_message.specs.Fields.{Field}
 use Rattle.ipfix_message.specs.declared.record.Template.{Template}
 use Rattle.flow_table.specs.declared.key.Key.{Key}
 use Rattle.flow_table.specs.Plans.{PlanValue, exported_element}
 use Rattle.flow_table.specs.SameTables.{RowValue}
-use Rattle.flow_export.specs.declared.ipfix_rows.TheConstants.{ROWS_A_MESSAGE}
+use Rattle.flow_export.specs.declared.ipfix_text.rows.TheConstants.{ROWS_A_MESSAGE}
 use Rattle.flow_export.specs.CsvText.{first_of, last_of}
 
 -- ---- the template (RFC 7011, section 3.4.1)
-
-abbrev pub iana : ℕ → ElementId
-iana number = record { pen = 0; number = number }
 
 abbrev pub spec : ElementId → ℕ → Spec
 spec element width = record { element = element; width = width }

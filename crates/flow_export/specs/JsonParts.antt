@@ -1,29 +1,46 @@
 -- The parts of a row's object, as they are appended.
-use Rattle.std.specs.Prelude.{◌≡◌, ℕ, List, ◌++◌, codes, map}
+use Rattle.std.specs.Prelude.{◌≡◌, ℕ, List, ◌++◌, codes, flat_map, map}
+use Rattle.std.specs.List.{zip}
+use Rattle.ipfix_elements.specs.JsonValues.{json_cell, json_number}
 use Rattle.ipfix_elements.specs.Names.{name_text}
+use Rattle.ipfix_elements.specs.declared.cell.Cell.{Cell}
 use Rattle.flow_table.specs.Plans.{PlanValue}
 use Rattle.flow_table.specs.SameTables.{value_of}
 use Rattle.flow_table.specs.declared.table.Row.{Row}
 use Rattle.flow_export.specs.CsvText.{key_text}
 use Rattle.flow_export.specs.JsonText.{row_object}
-use Rattle.flow_export.specs.declared.json_labels.Label.{Label}
-use Rattle.flow_export.specs.declared.json_labels.RowLabels.{RowLabels}
+use Rattle.flow_export.specs.declared.json_text.labels.MemberLabel.{MemberLabel}
+use Rattle.flow_export.specs.declared.json_text.labels.RowLabels.{RowLabels}
 
 -- what stands before the value of a member that isn't the first
 abbrev pub label : List ℕ → List ℕ
 label name = codes ",\"" ++ (name ++ codes "\":")
 
-abbrev pub text_of : Label → List ℕ
+abbrev pub text_of : MemberLabel → List ℕ
 text_of made = made.text.items
+
+-- the labels of names, in their order
+abbrev pub AreLabelsOf : List (List ℕ) → List MemberLabel → Type 0
+AreLabelsOf names labels = map text_of labels ≡ map label names
 
 -- the labels of a plan's keys and counters
 pub record AreLabels (plan : PlanValue) (labels : RowLabels) : Type 0 where
-  pub keys : map text_of labels.keys.items ≡ map label (map key_text plan.keys)
-  pub counters : map text_of labels.counters.items ≡ map label (map name_text plan.counters)
+  pub keys : AreLabelsOf (map key_text plan.keys) labels.keys.items
+  pub counters : AreLabelsOf (map name_text plan.counters) labels.counters.items
 
 -- a value behind its label
-abbrev pub labelled : {X : Type 0} → (X → List ℕ) → Label × X → List ℕ
+abbrev pub labelled : {X : Type 0} → (X → List ℕ) → MemberLabel × X → List ℕ
 labelled value pair = text_of pair.0 ++ value pair.1
+
+-- a cell behind its label, and cells and numbers, each behind its label
+abbrev pub labelled_cell : MemberLabel → Cell → List ℕ
+labelled_cell label cell = labelled json_cell (label, cell)
+
+abbrev pub labelled_cells : List MemberLabel → List Cell → List ℕ
+labelled_cells labels cells = flat_map (labelled json_cell) (zip labels cells)
+
+abbrev pub labelled_numbers : List MemberLabel → List ℕ → List ℕ
+labelled_numbers labels numbers = flat_map (labelled json_number) (zip labels numbers)
 
 abbrev pub object_of : PlanValue → Row → List ℕ
 object_of plan row = row_object plan (value_of row)

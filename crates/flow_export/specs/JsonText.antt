@@ -4,7 +4,7 @@ use Rattle.std.specs.List.{join_with_byte, zip}
 use Rattle.flow_table.specs.Plans.{PlanValue}
 use Rattle.flow_table.specs.SameTables.{RowValue}
 use Rattle.flow_export.specs.CsvText.{comma, first_of, heading, last_of}
-use Rattle.flow_export.specs.JsonValues.{in_quotes, json_cell, json_number}
+use Rattle.ipfix_elements.specs.JsonValues.{in_quotes, json_cell, json_number}
 
 -- the values of a row, in the order of the heading: its interval, its key, its sums and the number of its flows
 abbrev pub row_values : PlanValue → RowValue → List (List ℕ)

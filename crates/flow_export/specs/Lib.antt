@@ -1,14 +1,13 @@
--- what public contracts cite
+-- What public contracts cite.
 pub mod Faults
+pub mod Fitting
 pub mod CsvText
 pub mod JsonText
-pub mod JsonValues
 pub mod IpfixText
--- parts of them
-pub mod Fitting
+pub mod Examples
+-- What only inner functions and proofs need.
 pub mod Written
 pub mod JsonParts
 pub mod SpecOctets
 pub mod RowOctets
 pub mod Placed
-pub mod Examples

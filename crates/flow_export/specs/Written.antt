@@ -1,6 +1,8 @@
 -- A table's heading as the writer of `csv` writes it, and its lines as they are made.
-use Rattle.std.specs.Prelude.{ℕ, List, ◌∷◌, flat_map}
+use Rattle.std.specs.Prelude.{◌≡◌, ℕ, List, ◌∷◌, ◌++◌, flat_map}
 use Rattle.std.specs.Fmt.{decimal}
+use Rattle.csv.specs.Records.{fields_of}
+use Rattle.csv.specs.Records.{Row as CsvRecord}
 use Rattle.csv.specs.Writing.{default_writer, row_text}
 use Rattle.ipfix_elements.specs.Texts.{cell_text}
 use Rattle.ipfix_elements.specs.declared.cell.Cell.{Cell}
@@ -11,6 +13,10 @@ use Rattle.flow_export.specs.CsvText.{comma, heading, row_line}
 
 abbrev pub written_heading : PlanValue → List ℕ
 written_heading plan = row_text default_writer (heading plan)
+
+-- texts are added to the fields of a record of `csv`
+abbrev pub AddsFields : CsvRecord → CsvRecord → List (List ℕ) → Type 0
+AddsFields old new texts = fields_of new ≡ fields_of old ++ texts
 
 -- a field that stands behind another
 abbrev pub next_number : ℕ → List ℕ

@@ -1,4 +1,4 @@
-//! No text of a table needs quotes.
+//! Laws of the texts of tables: none needs quotes, and one flow's table is computed.
 
 ghost use Rattle.std.specs.Prelude.{◌≡◌};
 ghost use Rattle.csv.specs.Writing.{default_writer, row_text};
@@ -6,9 +6,15 @@ ghost use Rattle.flow_table.specs.Plans.{PlanValue};
 ghost use Rattle.flow_table.specs.SameTables.{RowValue};
 ghost use Rattle.flow_export.specs.CsvText.{line, heading, row_texts};
 
+mod examples;
+
+pub use examples::{one_flow_as_csv, one_flow_as_ipfix};
+
 /// `csv` writes a heading and a row as they stand, with commas between the fields and a line feed at
 /// the end: no field needs quotes (RFC 4180, section 2).
 pub fn nothing_is_quoted()
-    ensures names { (plan : PlanValue) → row_text default_writer (heading plan) ≡ line (heading plan) }
-    ensures rows { (plan : PlanValue) (row : RowValue) → row_text default_writer (row_texts plan row) ≡ line (row_texts plan row) }
+    ensures names { (plan : PlanValue)
+        → row_text default_writer (heading plan) ≡ line (heading plan) }
+    ensures rows { (plan : PlanValue) (row : RowValue)
+        → row_text default_writer (row_texts plan row) ≡ line (row_texts plan row) }
 {}

@@ -1,7 +1,7 @@
 //! The lines of rows, some hundred of them written at once.
 
 ghost use Rattle.std.specs.Prelude.{◌≡◌, ◌≢◌, All, OnOk, IfErr, flat_map};
-ghost use Rattle.std.specs.Io.KnownBytes.{Appends};
+ghost use Rattle.ipfix_elements.specs.Writers.{Writes};
 ghost use Rattle.flow_table.specs.Fitting.{FitsRow};
 
 use crate::fault::ExportFault;
@@ -29,7 +29,8 @@ pub trait RowLines {
     fn append(&self, plan: &Plan, rows: &[Row], out: &mut Vec<u8>) -> Result<(), AllocError>
         requires made { is_for self.now plan.now }
         requires fit { All (FitsRow plan.now) rows.now }
-        ensures { OnOk result (out.new.items ≡ out.old.items ++ flat_map (line_of plan.now) rows.now) };
+        ensures { OnOk result
+            (out.new.items ≡ out.old.items ++ flat_map (line_of plan.now) rows.now) };
 }
 
 /// Writes the line of each row.
@@ -42,7 +43,8 @@ pub fn write_lines<L: RowLines, W: Write>(
 ) -> Result<(), ExportFault>
     requires made { L.is_for lines.now plan.now }
     requires fit { All (FitsRow plan.now) rows.now }
-    ensures ok { OnOk result (Appends (W.contents out.old) (W.contents out.new) (flat_map (L.line_of plan.now) rows.now)) }
+    ensures ok { OnOk result
+        (Writes W.contents out.old out.new (flat_map (L.line_of plan.now) rows.now)) }
     ensures fault { IfErr result (λ fault. fault ≢ ExportFault.TooManyRows) }
 {
     let mut text = Vec::new(alloc);

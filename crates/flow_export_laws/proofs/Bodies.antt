@@ -12,7 +12,7 @@ use Rattle.ipfix_message.specs.Outcome.{◌>>=◌}
 use Rattle.ipfix_message.specs.Fields.{Field}
 use Rattle.ipfix_message.specs.DataRecords.{Spells, IsBody, record_of}
 use Rattle.ipfix_message.specs.declared.fault.MessageFault.{MessageFault}
-use Rattle.ipfix_message.specs.declared.template_record.Kind.TheVariants.{Plain}
+use Rattle.ipfix_message.specs.declared.template_record.TemplateKind.TheVariants.{Plain}
 use Rattle.ipfix_message.specs.declared.template_record.Event.{Event}
 use Rattle.ipfix_message.specs.declared.template_record.Event.TheVariants.{Define}
 use Rattle.ipfix_message.specs.TemplateRecords.{SpellsTemplate, event_at}

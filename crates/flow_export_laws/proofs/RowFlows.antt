@@ -7,7 +7,7 @@ use Rattle.std.proofs.lemmas.List.{map-append}
 use Rattle.std.proofs.lemmas.List.Elements.{All-nil, All-cons, All-head, All-tail, All-append}
 use Rattle.byteorder.specs.Endian.{big_bytes}
 use Rattle.ipfix_wire.specs.declared.specifier.ElementId.{ElementId}
-use Rattle.ipfix_elements.specs.Elements.{kind_of}
+use Rattle.ipfix_elements.specs.Elements.{kind_of, iana}
 use Rattle.ipfix_elements.specs.declared.cell.Cell.{Cell}
 use Rattle.ipfix_message.specs.Fields.{Field}
 use Rattle.ipfix_wire.proofs.Choices.{different}
@@ -18,7 +18,7 @@ use Rattle.flow_table.specs.SameTables.{RowValue}
 use Rattle.flow_table.proofs.PlanKeys.{passed_tests, exported_apart}
 use Rattle.flow_table.proofs.UsedRecords.{is_used}
 use Rattle.flow_export.specs.CsvText.{first_of, last_of}
-use Rattle.flow_export.specs.IpfixText.{iana, field, key_field, number_field, row_fields}
+use Rattle.flow_export.specs.IpfixText.{field, key_field, number_field, row_fields}
 use Rattle.flow_export.specs.Fitting.{FitsValue}
 use Rattle.flow_export_laws.specs.ReadBack.{IsWhole, CanBeCounted, CountsAgain, row_record, by_start}
 use Rattle.flow_export_laws.proofs.FieldsFound.{Lacks, IsFound, all_found, All-left, All-right}

@@ -9,7 +9,7 @@ use Rattle.byteorder.specs.Endian.{big_bytes, big_number}
 use Rattle.byteorder.specs.Numbers.{big_number-reads_back}
 use Rattle.ipfix_wire.specs.declared.specifier.ElementId.{ElementId}
 use Rattle.ipfix_elements.specs.Cells.{cell_octets}
-use Rattle.ipfix_elements.specs.Elements.{kind_of, elements}
+use Rattle.ipfix_elements.specs.Elements.{kind_of, elements, iana}
 use Rattle.ipfix_elements.specs.Values.{octets_of as width_in, number_in, cell_in}
 use Rattle.ipfix_elements.specs.declared.cell.Cell.{Cell}
 use Rattle.ipfix_elements.specs.declared.cell.Cell.TheVariants as cells
@@ -25,7 +25,7 @@ use Rattle.flow_table.specs.Fitting.{IsCellOf, FitsKeys}
 use Rattle.flow_table.specs.Reading.{start_of, end_of, time_in, time_of, number_of, cell_of, cells_of, counter_of}
 use Rattle.flow_table.specs.SameTables.{RowValue}
 use Rattle.flow_export.specs.CsvText.{first_of, last_of}
-use Rattle.flow_export.specs.IpfixText.{iana, width_of, key_field, number_field}
+use Rattle.flow_export.specs.IpfixText.{width_of, key_field, number_field}
 use Rattle.flow_export_laws.specs.ReadBack.{row_record, IsWhole}
 use Rattle.flow_export_laws.proofs.FieldsFound.{IsFound}
 

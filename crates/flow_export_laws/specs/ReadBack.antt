@@ -9,6 +9,7 @@ use Rattle.ipfix_session.specs.Given.{gives, records_of, stop_of}
 use Rattle.ipfix_session.specs.Ledger.{domain_report}
 use Rattle.flow_table.specs.declared.key.Key.{Key}
 use Rattle.flow_table.specs.declared.method.Method.TheVariants.{Start}
+use Rattle.flow_table.specs.declared.table.Row.{Row}
 use Rattle.flow_table.specs.declared.table.Table.{Table}
 use Rattle.flow_table.specs.AddedUp.{place}
 use Rattle.flow_table.specs.Plans.{PlanValue, IsPlan}
@@ -52,6 +53,10 @@ pub record CanBeCounted (plan : PlanValue) (rows : List RowValue) : Type 0 where
   pub ascending : IsStrictlySortedBy place_cmp (map place rows)
   pub in_time : All (λ row. last_of plan row < 2 ^ 50) rows
   pub small : All (λ row. All (λ v. v < 2 ^ 64) row.sums) rows
+
+-- the intervals of a table's rows end in time
+abbrev pub EndInTime : PlanValue → List Row → Type 0
+EndInTime plan rows = All (λ row. last_of plan (value_of row) < 2 ^ 50) rows
 
 -- a row of one flow
 abbrev pub one_flow : RowValue → RowValue

@@ -1,4 +1,4 @@
--- what public contracts cite
+-- What public contracts cite.
 pub mod Ends
 pub mod Parcels
 pub mod Taking

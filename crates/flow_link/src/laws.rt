@@ -1,4 +1,4 @@
-//! Laws of the definitions.
+//! Laws of sessions over a link.
 
 ghost use Rattle.std.specs.Prelude.{◌≡◌, ◌∷◌, ◌++◌, [], List, true};
 ghost use Rattle.ipfix_message.specs.declared.record.DataRecord.{DataRecord};
@@ -9,9 +9,11 @@ ghost use Rattle.flow_link.specs.Parcels.{has_last, items, records_in, LastEnds}
 /// A session that was sent whole is its records as items, and then Last.
 pub fn whole_sessions()
     // The records among these parcels are the session's, and Last stands at the end alone.
-    ensures records { (records : List DataRecord) → records_in (items records ++ Last ∷ []) ≡ records }
+    ensures records { (records : List DataRecord)
+        → records_in (items records ++ Last ∷ []) ≡ records }
     ensures last { (records : List DataRecord) → has_last (items records ++ Last ∷ []) ≡ true }
     ensures ends { (records : List DataRecord) → LastEnds (items records ++ Last ∷ []) }
     // Any list in which Last stands, at the end alone, is such a session.
-    ensures only { (parcels : List Parcel) → LastEnds parcels → has_last parcels ≡ true → parcels ≡ items (records_in parcels) ++ Last ∷ [] }
+    ensures only { (parcels : List Parcel) → LastEnds parcels → has_last parcels ≡ true
+        → parcels ≡ items (records_in parcels) ++ Last ∷ [] }
 {}

@@ -3,7 +3,7 @@
 #![tactic(auto)]
 
 mod fault;
-mod laws;
+pub mod laws;
 mod making;
 mod parcel;
 mod receiver;
@@ -12,7 +12,6 @@ mod settled;
 mod waiting;
 
 pub use fault::LinkFault;
-pub use laws::whole_sessions;
 pub use making::{MAX_CAPACITY, link};
 pub use parcel::Parcel;
 pub use receiver::{Receiver, Taken};

@@ -15,7 +15,8 @@ pub const MAX_CAPACITY: usize = 65_536;
 /// Makes a link with room for `capacity` parcels, 1 to [`MAX_CAPACITY`], and takes all the memory
 /// that it needs.
 pub fn link(alloc: Global, capacity: usize) -> Result<(Sender, Receiver), LinkFault>
-    ensures capacity { IsErrOf result LinkFault.Capacity ↔ ((capacity ≡ 0) ⊎ (MAX_CAPACITY < capacity)) }
+    ensures capacity { IsErrOf result LinkFault.Capacity
+        ↔ ((capacity ≡ 0) ⊎ (MAX_CAPACITY < capacity)) }
     ensures ok { IfOk result (λ ends. IsNewLink capacity ends.0 ends.1) }
 {
     if capacity == 0 || capacity > MAX_CAPACITY {

@@ -42,7 +42,11 @@ impl Receiver {
     ghost use Rattle.flow_link.specs.Taking.{IfGot, UnlessGot};
 
     pub(crate) fn new(consumer: Consumer<Parcel>) -> Receiver
-        ensures { result ≡ record { link = (consumer.end.words, consumer.end.slots, consumer.end.names); capacity = consumer.capacity; received = ring.received consumer } }
+        ensures { result ≡ record {
+          link = (consumer.end.words, consumer.end.slots, consumer.end.names);
+          capacity = consumer.capacity;
+          received = ring.received consumer;
+        } }
     {
         let patience = Patience::new(consumer.capacity());
         Receiver { consumer, patience }
@@ -58,7 +62,8 @@ impl Receiver {
     /// Takes the oldest parcel, if one is there. It waits for nobody, and takes no memory.
     pub fn try_recv(&mut self) -> Taken
         ensures link { (self.new.link ≡ self.old.link) × (self.new.capacity ≡ self.old.capacity) }
-        ensures got { IfGot result (λ parcel. self.new.received ≡ self.old.received ++ parcel ∷ []) }
+        ensures got { IfGot result (λ parcel. self.new.received
+            ≡ self.old.received ++ parcel ∷ []) }
         ensures none { UnlessGot result (self.new ≡ self.old) }
     {
         if let Ok(parcel) = self.consumer.pop() {
@@ -79,7 +84,8 @@ impl Receiver {
     /// sender is gone.
     pub fn recv(&mut self, rt: &impl Wait) -> Option<Parcel>
         ensures link { (self.new.link ≡ self.old.link) × (self.new.capacity ≡ self.old.capacity) }
-        ensures some { IfSome result (λ parcel. self.new.received ≡ self.old.received ++ parcel ∷ []) }
+        ensures some { IfSome result (λ parcel. self.new.received
+            ≡ self.old.received ++ parcel ∷ []) }
         ensures none { IfNone result (self.new ≡ self.old) }
     {
         for _ in rt.forever() {

@@ -39,7 +39,11 @@ impl Sender {
     #[tactic(auto, using(crate::proofs::ParcelLists::last_ends_empty))]
     pub(crate) fn new(producer: Producer<Parcel>) -> Sender
         requires { ring.sent producer ≡ [] }
-        ensures { result ≡ record { link = (producer.end.words, producer.end.slots, producer.end.names); capacity = producer.capacity; sent = [] } }
+        ensures { result ≡ record {
+          link = (producer.end.words, producer.end.slots, producer.end.names);
+          capacity = producer.capacity;
+          sent = [];
+        } }
     {
         let patience = Patience::new(producer.capacity());
         Sender {

@@ -2,7 +2,7 @@ use flow_link::*;
 use std::test::Fail;
 
 #[test]
-fn numbers_and_names(rt: HostRuntime) -> Result<(), Fail> {
+fn faults_have_numbers_and_names(rt: HostRuntime) -> Result<(), Fail> {
     let faults = [
         (LinkFault::Capacity, 1, "Capacity"),
         (LinkFault::OutOfMemory, 2, "OutOfMemory"),

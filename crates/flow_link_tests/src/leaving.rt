@@ -12,13 +12,13 @@ const SIDE_BY_SIDE: usize = 12;
 /// So many links are used one after the other.
 const ROUNDS: u32 = 400;
 
-/// Sends Last, and leaves at once.
+// Sends Last, and leaves at once.
 fn send_last(sender: Sender) -> bool {
     let mut sender = sender;
     !sender.ended() && sender.try_send(Parcel::Last).is_ok()
 }
 
-/// What a thousand looks found, if anything.
+// What a thousand looks found, if anything.
 fn look(receiver: &mut Receiver) -> Option<Taken> {
     for _ in 0..1000 {
         let taken = receiver.try_recv();
@@ -29,8 +29,8 @@ fn look(receiver: &mut Receiver) -> Option<Taken> {
     None
 }
 
-/// Whether Last came before the sender was found to be gone. It looks again and again, and seldom
-/// gives way, so that it is mostly in the middle of a look when the sender leaves.
+// Whether Last came before the sender was found to be gone. It looks again and again, and seldom
+// gives way, so that it is mostly in the middle of a look when the sender leaves.
 fn last_came<R: Wait>(rt: &R, receiver: Receiver) -> bool {
     let mut receiver = receiver;
     for _ in rt.forever() {
@@ -42,7 +42,7 @@ fn last_came<R: Wait>(rt: &R, receiver: Receiver) -> bool {
     unreachable!()
 }
 
-/// Whether Last came over each of many links whose sender left right after it.
+// Whether Last came over each of many links whose sender left right after it.
 fn last_always_comes<R: Threads + Wait + Sync>(rt: &R, alloc: Global) -> bool {
     for _ in 0..ROUNDS {
         let Ok((sender, receiver)) = link(alloc, 1) else {
@@ -66,7 +66,7 @@ fn all_come<R: Threads + Wait + Sync>(rt: &R, alloc: Global) -> Result<bool, All
 }
 
 #[test]
-fn sender_that_leaves_after_last(rt: HostRuntime) -> Result<(), Fail> {
+fn last_comes_from_a_sender_that_leaves(rt: HostRuntime) -> Result<(), Fail> {
     assert!(rt; all_come(&rt, rt.alloc())?);
     Ok(())
 }

@@ -17,7 +17,7 @@ fn stay_silent<R: Wait>(rt: &R) {
     }
 }
 
-/// Sends two items over a link with room for one, the first of them late or at once.
+// Sends two items over a link with room for one, the first of them late or at once.
 fn send_two<R: Wait>(rt: &R, alloc: Global, sender: Sender, is_late: bool) -> bool {
     let mut sender = sender;
     if is_late {
@@ -31,7 +31,7 @@ fn send_two<R: Wait>(rt: &R, alloc: Global, sender: Sender, is_late: bool) -> bo
     true
 }
 
-/// Takes two items, the first of them late or at once.
+// Takes two items, the first of them late or at once.
 fn receive_two<R: Wait>(rt: &R, receiver: Receiver, is_late: bool) -> bool {
     let mut receiver = receiver;
     if is_late {
@@ -58,14 +58,14 @@ fn pass_two<R: Threads + Wait + Sync>(
     ))
 }
 
-/// A receiver waits for a sender that is silent for long, and then has its items.
+// A receiver waits for a sender that is silent for long, and then has its items.
 #[test]
 fn waits_for_a_silent_sender(rt: HostRuntime) -> Result<(), Fail> {
     assert!(rt; matches!(pass_two(&rt, rt.alloc(), true)?, (true, true)));
     Ok(())
 }
 
-/// A sender waits for a receiver that is silent for long, and then has room.
+// A sender waits for a receiver that is silent for long, and then has room.
 #[test]
 fn waits_for_a_silent_receiver(rt: HostRuntime) -> Result<(), Fail> {
     assert!(rt; matches!(pass_two(&rt, rt.alloc(), false)?, (true, true)));

@@ -21,7 +21,7 @@ pub(crate) fn item(alloc: Global, number: u32) -> Parcel {
 }
 
 #[test]
-fn link_by_hand(rt: HostRuntime) -> Result<(), Fail> {
+fn one_thread_moves_parcels_by_hand(rt: HostRuntime) -> Result<(), Fail> {
     let (mut sender, mut receiver) = link(rt.alloc(), 1)?;
     assert!(rt; matches!(receiver.try_recv(), Taken::Empty));
     assert!(rt; sender.try_send(item(rt.alloc(), 1)).is_ok());
@@ -41,7 +41,7 @@ fn link_by_hand(rt: HostRuntime) -> Result<(), Fail> {
 }
 
 #[test]
-fn capacities(rt: HostRuntime) {
+fn capacities_have_limits(rt: HostRuntime) {
     for capacity in [0, 65_537] {
         assert!(rt; matches!(link(rt.alloc(), capacity), Err(LinkFault::Capacity)));
     }
@@ -51,7 +51,7 @@ fn capacities(rt: HostRuntime) {
 }
 
 #[test]
-fn dropped_ends(rt: HostRuntime) -> Result<(), Fail> {
+fn each_end_notices_that_the_other_is_gone(rt: HostRuntime) -> Result<(), Fail> {
     let (mut sender, receiver) = link(rt.alloc(), 2)?;
     drop(receiver);
     let back = sender.send(&rt, item(rt.alloc(), 1));
@@ -66,8 +66,8 @@ fn dropped_ends(rt: HostRuntime) -> Result<(), Fail> {
     Ok(())
 }
 
-/// If memory for what is left was refused, a second call gives it. `tests/refusals` refuses each
-/// allocation in turn.
+// If memory for what is left was refused, a second call gives it. `tests/gate/refusals` refuses
+// each allocation in turn.
 #[test]
 fn settle_with_refused_memory(rt: HostRuntime) {
     let (mut sender, mut receiver) = match link(rt.alloc(), 4) {
@@ -105,7 +105,7 @@ fn settle_with_refused_memory(rt: HostRuntime) {
     );
 }
 
-/// Tries to send until there is room. It gives up in the end.
+// Tries to send until there is room. It gives up in the end.
 fn send_soon(sender: &mut Sender, parcel: Parcel) -> bool {
     let mut parcel = parcel;
     for _ in 0..TRIES {
@@ -121,7 +121,7 @@ fn send_soon(sender: &mut Sender, parcel: Parcel) -> bool {
     false
 }
 
-/// Tries to take until a parcel is there. It gives up in the end.
+// Tries to take until a parcel is there. It gives up in the end.
 fn receive_soon(receiver: &mut Receiver) -> Option<Parcel> {
     for _ in 0..TRIES {
         match receiver.try_recv() {
@@ -133,7 +133,7 @@ fn receive_soon(receiver: &mut Receiver) -> Option<Parcel> {
     None
 }
 
-/// Whether the items below `count` and then Last went out.
+// Whether the items below `count` and then Last went out.
 fn send_all(alloc: Global, sender: Sender, count: u32) -> bool {
     let mut sender = sender;
     for number in 0..count {
@@ -144,7 +144,7 @@ fn send_all(alloc: Global, sender: Sender, count: u32) -> bool {
     send_soon(&mut sender, Parcel::Last)
 }
 
-/// Whether the items below `count` and then Last came, in this order.
+// Whether the items below `count` and then Last came, in this order.
 fn receive_all(receiver: Receiver, count: u32) -> bool {
     let mut receiver = receiver;
     for expected in 0..count {
@@ -156,7 +156,7 @@ fn receive_all(receiver: Receiver, count: u32) -> bool {
     matches!(receive_soon(&mut receiver), Some(Parcel::Last))
 }
 
-/// As `send_all`, by the call that waits.
+// As `send_all`, by the call that waits.
 fn send_waiting<R: Wait>(rt: &R, alloc: Global, sender: Sender, count: u32) -> bool {
     let mut sender = sender;
     for number in 0..count {
@@ -167,7 +167,7 @@ fn send_waiting<R: Wait>(rt: &R, alloc: Global, sender: Sender, count: u32) -> b
     !sender.ended() && sender.send(rt, Parcel::Last).is_ok()
 }
 
-/// As `receive_all`, by the call that waits.
+// As `receive_all`, by the call that waits.
 fn receive_waiting<R: Wait>(rt: &R, receiver: Receiver, count: u32) -> bool {
     let mut receiver = receiver;
     for expected in 0..count {
@@ -179,7 +179,7 @@ fn receive_waiting<R: Wait>(rt: &R, receiver: Receiver, count: u32) -> bool {
     matches!(receiver.recv(rt), Some(Parcel::Last))
 }
 
-/// Whether all was sent, and whether it came, by the calls that wait or by those that don't.
+// Whether all was sent, and whether it came, by the calls that wait or by those that don't.
 fn passes<R: Threads + Wait + Sync>(
     rt: &R,
     alloc: Global,
@@ -208,7 +208,7 @@ fn passes<R: Threads + Wait + Sync>(
 }
 
 #[test]
-fn two_threads(rt: HostRuntime) -> Result<(), Fail> {
+fn parcels_cross_between_two_threads(rt: HostRuntime) -> Result<(), Fail> {
     for (capacity, waits) in [
         (1, false),
         (2, false),

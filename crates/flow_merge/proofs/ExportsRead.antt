@@ -1,6 +1,6 @@
 -- What a merging stands for after an export was read, or why it wasn't added.
 use Rattle.std.proofs.Common.{◌≡◌, ℕ, List, [], Option, Some, None, Result, Ok, Err, refl, sym, subst, append-nil}
-use Rattle.std.specs.Prelude.{IfErr, IsErrAnd, MatchResult}
+use Rattle.std.specs.Prelude.{IfErr, IsErrAnd}
 use Rattle.ipfix_session.specs.Drives.{TakesGiven, Drives}
 use Rattle.ipfix_session.specs.Sinks.{SinkView}
 use Rattle.ipfix_session.specs.Sources.{SourceView}
@@ -54,8 +54,3 @@ module _ {S : Type 0} (seen : S → SourceView) (limit : ℕ) (before after : S)
     due_report (Ok m) fault bad is = tt
     due_report (Err e) fault bad is =
         subst (IsDue seen limit (plan_of old) rows before after) (sym is) (due_by_report seen limit before after r taken.records taken.given (plan_of old) rows fault bad)
-
--- an answer that is a fault
-pub err_match : (answer : Result Merging MergeFault) (fault : MergeFault) (P : Merging → Type 0) (Q : MergeFault → Type 0) → IsErrAnd answer (λ e. e ≡ fault) → IfErr answer Q → MatchResult answer P Q
-err_match (Ok m) fault P Q is h = absurd is
-err_match (Err e) fault P Q is h = h

@@ -1,12 +1,7 @@
 pub mod Beginnings
 pub mod Pairs
 pub mod Telling
-pub mod OneRow
 pub mod RowsRead
 pub mod Reported
 pub mod ExportsRead
-pub mod PrefixBits
-pub mod ExportedTables
 pub mod MergedRows
-pub mod HeldExports
-pub mod MergesOn

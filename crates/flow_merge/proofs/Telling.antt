@@ -7,21 +7,13 @@ use Rattle.ipfix_wire.specs.declared.specifier.ElementId.{ElementId}
 use Rattle.ipfix_elements.specs.declared.cell.Cell.{Cell}
 use Rattle.ipfix_message.specs.Fields.{Field}
 use Rattle.flow_table.specs.Plans.{PlanValue}
-use Rattle.flow_export.specs.IpfixText.{iana, key_field, number_field}
+use Rattle.ipfix_elements.specs.Elements.{iana}
+use Rattle.flow_export.specs.IpfixText.{key_field, number_field}
 use Rattle.flow_merge.specs.declared.row_fault.RowFault.{RowFault}
 use Rattle.flow_merge.specs.declared.row_fault.RowFault.TheVariants.{OutOfMemory, Template, Fields, Interval, Prefix, Flows}
-use Rattle.flow_merge.specs.InnerReading.{Begin, BeginEach, FitsKey, FitsNumber, Refuses}
+use Rattle.flow_merge.specs.InnerReading.{FitsKey, FitsNumber, Refuses, TellsCells, TellsNumber, TellsNumbers}
 use Rattle.flow_merge.specs.RowFaults.{FieldValues, Tell}
 use Rattle.flow_merge.proofs.Beginnings.{same_rest}
-
-abbrev pub IsNumber : ElementId → List Field → ℕ → List Field → Type 0
-IsNumber e fields n rest = Begin number_field FitsNumber e fields n rest
-
-abbrev pub AreNumbers : List ElementId → List Field → List ℕ → List Field → Type 0
-AreNumbers es fields ns rest = BeginEach number_field FitsNumber es fields ns rest
-
-abbrev pub AreCells : PlanValue → List Field → List Cell → List Field → Type 0
-AreCells plan fields cells rest = BeginEach key_field FitsKey plan.keys fields cells rest
 
 -- ---- numbers of 64 bits
 
@@ -60,34 +52,34 @@ refuse f Interval refused = refused
 refuse f Prefix refused = refused
 refuse f Flows refused = refused
 
-pub same_after : (e : ElementId) (fields rest after : List Field) (n m : ℕ) → IsNumber e fields n rest → IsNumber e fields m after → rest ≡ after
+pub same_after : (e : ElementId) (fields rest after : List Field) (n m : ℕ) → TellsNumber e fields n rest → TellsNumber e fields m after → rest ≡ after
 same_after e fields rest after n m one two = ap (drop 1) (sym one.is ∙ two.is)
 
 -- what follows the two times, and then the cells
-pub keys_follow : (plan : PlanValue) (all f g : List Field) (s e : ℕ) (v : FieldValues) → Tell plan all v → IsNumber (iana 152) all s f → IsNumber (iana 153) f e g → AreCells plan g v.key (sums_on plan v)
+pub keys_follow : (plan : PlanValue) (all f g : List Field) (s e : ℕ) (v : FieldValues) → Tell plan all v → TellsNumber (iana 152) all s f → TellsNumber (iana 153) f e g → TellsCells plan.keys g v.key (sums_on plan v)
 keys_follow plan all f g s e v tell starts ends =
     let first : f ≡ number_field (iana 153, v.end) ∷ keys_on plan v = ap (drop 1) (sym starts.is ∙ tell.told) in
     let second : g ≡ keys_on plan v = ap (drop 1) (sym ends.is ∙ first) in
     record { are = second; fit = tell.key }
 
-pub sums_follow : (plan : PlanValue) (all f g h : List Field) (s e : ℕ) (cells : List Cell) (v : FieldValues) → Tell plan all v → IsNumber (iana 152) all s f → IsNumber (iana 153) f e g → AreCells plan g cells h
-    → AreNumbers plan.counters h v.sums (flows_on v)
+pub sums_follow : (plan : PlanValue) (all f g h : List Field) (s e : ℕ) (cells : List Cell) (v : FieldValues) → Tell plan all v → TellsNumber (iana 152) all s f → TellsNumber (iana 153) f e g → TellsCells plan.keys g cells h
+    → TellsNumbers plan.counters h v.sums (flows_on v)
 sums_follow plan all f g h s e cells v tell starts ends keys = record {
   are = same_rest key_field FitsKey plan.keys g cells v.key h (sums_on plan v) keys (keys_follow plan all f g s e v tell starts ends);
   fit = numbers_fit plan.counters v.sums tell.sums tell.small;
 }
 
 -- the last field
-pub flows_follow : (plan : PlanValue) (all f g h k : List Field) (s e : ℕ) (cells : List Cell) (sums : List ℕ) (v : FieldValues) → Tell plan all v → IsNumber (iana 152) all s f → IsNumber (iana 153) f e g
-    → AreCells plan g cells h → AreNumbers plan.counters h sums k → IsNumber (iana 375) k v.flows []
+pub flows_follow : (plan : PlanValue) (all f g h k : List Field) (s e : ℕ) (cells : List Cell) (sums : List ℕ) (v : FieldValues) → Tell plan all v → TellsNumber (iana 152) all s f → TellsNumber (iana 153) f e g
+    → TellsCells plan.keys g cells h → TellsNumbers plan.counters h sums k → TellsNumber (iana 375) k v.flows []
 flows_follow plan all f g h k s e cells sums v tell starts ends keys counters = record {
   is = same_rest number_field FitsNumber plan.counters h sums v.sums k (flows_on v) counters (sums_follow plan all f g h s e cells v tell starts ends keys);
   fits = tell.few;
 }
 
 -- all that was read
-pub values_read : (plan : PlanValue) (all f g h k : List Field) (s e n : ℕ) (cells : List Cell) (sums : List ℕ) → IsNumber (iana 152) all s f → IsNumber (iana 153) f e g → AreCells plan g cells h
-    → AreNumbers plan.counters h sums k → IsNumber (iana 375) k n [] → Tell plan all (record { start = s; end = e; key = cells; sums = sums; flows = n })
+pub values_read : (plan : PlanValue) (all f g h k : List Field) (s e n : ℕ) (cells : List Cell) (sums : List ℕ) → TellsNumber (iana 152) all s f → TellsNumber (iana 153) f e g → TellsCells plan.keys g cells h
+    → TellsNumbers plan.counters h sums k → TellsNumber (iana 375) k n [] → Tell plan all (record { start = s; end = e; key = cells; sums = sums; flows = n })
 values_read plan all f g h k s e n cells sums starts ends keys counters flows =
     let both = numbers_small plan.counters sums counters.fit in
     record {

@@ -7,6 +7,7 @@ use Rattle.ipfix_elements.specs.Elements.{kind_of}
 use Rattle.ipfix_message.specs.Fields.{Field}
 use Rattle.flow_table.specs.declared.key.Key.{Key}
 use Rattle.flow_table.specs.Fitting.{IsCellOf}
+use Rattle.flow_export.specs.IpfixText.{field, key_field, number_field}
 use Rattle.flow_merge.specs.declared.row_fault.RowFault.{RowFault}
 use Rattle.flow_merge.specs.declared.row_fault.RowFault.TheVariants.{OutOfMemory, Template, Fields, Interval, Prefix, Flows}
 use Rattle.flow_merge.specs.declared.told_values.ToldValues.{ToldValues}
@@ -28,6 +29,31 @@ FitsKey key cell = IsCellOf (kind_of key.element) cell
 
 abbrev pub FitsNumber : ElementId → ℕ → Type 0
 FitsNumber element n = n < 2 ^ 64
+
+-- fields that begin with one of an element, and go on as `rest`
+abbrev pub TellsOctets : ElementId → List Field → List ℕ → List Field → Type 0
+TellsOctets element fields octets rest = fields ≡ field element octets ∷ rest
+
+-- fields that begin with a number of an element, or with the cell of a key, and go on as `rest`
+abbrev pub TellsNumber : ElementId → List Field → ℕ → List Field → Type 0
+TellsNumber element fields n rest = Begin number_field FitsNumber element fields n rest
+
+abbrev pub TellsCell : Key → List Field → Cell → List Field → Type 0
+TellsCell key fields cell rest = Begin key_field FitsKey key fields cell rest
+
+-- the same of numbers and of cells, one after another
+abbrev pub TellsNumbers : List ElementId → List Field → List ℕ → List Field → Type 0
+TellsNumbers elements fields ns rest = BeginEach number_field FitsNumber elements fields ns rest
+
+abbrev pub TellsCells : List Key → List Field → List Cell → List Field → Type 0
+TellsCells keys fields cells rest = BeginEach key_field FitsKey keys fields cells rest
+
+-- something is told, and nothing is
+abbrev pub TellsSome : {B : Type 0} → (B → List Field → Type 0) → Type 0
+TellsSome {B} Told = (b : B) × (rest : List Field) × Told b rest
+
+abbrev pub TellsNone : {B : Type 0} → (B → List Field → Type 0) → Type 0
+TellsNone {B} Told = (b : B) (rest : List Field) → Told b rest → ⊥
 
 -- a fault of fields, where what they should tell isn't told by them
 abbrev pub Refuses : Type 0 → RowFault → Type 0

@@ -1,9 +1,9 @@
--- what public contracts cite
+-- What public contracts cite.
 pub mod RowRecords
 pub mod RowFaults
 pub mod MergeFaults
 pub mod Merging
--- what the inner functions cite
+-- What only inner functions and proofs need.
 pub mod InnerReading
 pub mod Judged
 pub mod RowSink

@@ -6,7 +6,8 @@ use Rattle.ipfix_message.specs.Fields.{Field}
 use Rattle.ipfix_message.specs.declared.record.DataRecord.{DataRecord}
 use Rattle.flow_table.specs.Fitting.{FitsKeys}
 use Rattle.flow_table.specs.Plans.{PlanValue}
-use Rattle.flow_export.specs.IpfixText.{iana, key_field, number_field}
+use Rattle.ipfix_elements.specs.Elements.{iana}
+use Rattle.flow_export.specs.IpfixText.{key_field, number_field}
 use Rattle.flow_merge.specs.declared.row_fault.RowFault.{RowFault}
 use Rattle.flow_merge.specs.declared.row_fault.RowFault.TheVariants.{OutOfMemory, Template, Fields, Interval, Prefix, Flows}
 use Rattle.flow_merge.specs.RowRecords.{AreProjected, IsOfTemplate}

@@ -1,14 +1,13 @@
 //! Fields read one after another, each in its full width (RFC 7011, section 6.1).
 
-ghost use Rattle.std.specs.Prelude.{◌≡◌, ◌<◌, ◌^◌, ◌∷◌, ℕ, List, true, None, length, IfOk, IfErr, IfSome};
+ghost use Rattle.std.specs.Prelude.{◌≡◌, ℕ, true, None, IfOk, IfErr, IfSome};
 ghost use Rattle.std.specs.List.{AllPass};
 ghost use Rattle.ipfix_elements.specs.Cells.{cell_octets};
 ghost use Rattle.ipfix_elements.specs.Elements.{kind_of as kind_in};
-ghost use Rattle.ipfix_message.specs.Fields.{Field};
 ghost use Rattle.flow_table.specs.Fitting.{IsCellOf};
 ghost use Rattle.flow_table.specs.Plans.{kinds_of, is_key_kind};
-ghost use Rattle.flow_export.specs.IpfixText.{field, key_field, number_field, number_octets, width_of};
-ghost use Rattle.flow_merge.specs.InnerReading.{Begin, BeginEach, FitsKey, FitsNumber, Refuses};
+ghost use Rattle.flow_export.specs.IpfixText.{number_octets, width_of};
+ghost use Rattle.flow_merge.specs.InnerReading.{Refuses, TellsCell, TellsCells, TellsNone, TellsNumber, TellsNumbers, TellsOctets, TellsSome};
 
 use crate::row_fault::RowFault;
 use flow_table::Key;
@@ -17,10 +16,10 @@ use ipfix_message::FieldIter;
 use ipfix_wire::ElementId;
 use std::alloc::Global;
 
-/// The octets of the next field, if that is one of the element.
+// The octets of the next field, if that is one of the element.
 fn next_octets<'a>(fields: &mut FieldIter<'a>, element: ElementId) -> Option<&'a [u8]>
-    ensures some { IfSome result (λ octets. fields.old ≡ field element octets.now ∷ fields.new) }
-    ensures none { result ≡ None → (octets : List ℕ) (rest : List Field) → fields.old ≡ field element octets ∷ rest → ⊥ }
+    ensures some { IfSome result (λ octets. TellsOctets element fields.old octets.now fields.new) }
+    ensures none { result ≡ None → TellsNone (TellsOctets element fields.old) }
 {
     let field = fields.next()?;
     if field.element == element {
@@ -30,7 +29,7 @@ fn next_octets<'a>(fields: &mut FieldIter<'a>, element: ElementId) -> Option<&'a
     }
 }
 
-/// The number that eight octets are.
+// The number that eight octets are.
 fn read_full_number(octets: &[u8]) -> Option<u64>
     ensures some { IfSome result (λ n. number_octets n ≡ octets.now) }
     ensures none { result ≡ None → (n : ℕ) → number_octets n ≡ octets.now → ⊥ }
@@ -39,12 +38,13 @@ fn read_full_number(octets: &[u8]) -> Option<u64>
     Some(u64::from_be_bytes(octets))
 }
 
-/// The cell that as many octets are as the kind's values have.
+// The cell that as many octets are as the kind's values have.
 fn read_full_cell(kind: Kind, octets: &[u8]) -> Option<Cell>
     requires { is_key_kind kind ≡ true }
     ensures some { IfSome result (λ cell. cell_octets cell (width_of kind) ≡ octets.now) }
     ensures fits { IfSome result (IsCellOf kind) }
-    ensures none { result ≡ None → (cell : Cell) → IsCellOf kind cell → cell_octets cell (width_of kind) ≡ octets.now → ⊥ }
+    ensures none { result ≡ None
+        → (cell : Cell) → IsCellOf kind cell → cell_octets cell (width_of kind) ≡ octets.now → ⊥ }
 {
     if let Kind::Unsigned(width) = kind
         && octets.len() != width.octets()
@@ -56,18 +56,18 @@ fn read_full_cell(kind: Kind, octets: &[u8]) -> Option<Cell>
 
 /// The number that the next field tells, if that is one of the element.
 pub(crate) fn next_number(fields: &mut FieldIter, element: ElementId) -> Option<u64>
-    ensures some { IfSome result (λ n. Begin number_field FitsNumber element fields.old n fields.new) }
-    ensures none { result ≡ None → (n : ℕ) (rest : List Field) → Begin number_field FitsNumber element fields.old n rest → ⊥ }
+    ensures some { IfSome result (λ n. TellsNumber element fields.old n fields.new) }
+    ensures none { result ≡ None → TellsNone (TellsNumber element fields.old) }
 {
     read_full_number(next_octets(fields, element)?)
 }
 
-/// The cell that the next field tells, if that is one of the key.
+// The cell that the next field tells, if that is one of the key.
 fn next_cell(fields: &mut FieldIter, key: Key, kind: Kind) -> Option<Cell>
     requires kind { kind ≡ kind_in key.element }
     requires comparable { is_key_kind kind ≡ true }
-    ensures some { IfSome result (λ cell. Begin key_field FitsKey key fields.old cell fields.new) }
-    ensures none { result ≡ None → (cell : Cell) (rest : List Field) → Begin key_field FitsKey key fields.old cell rest → ⊥ }
+    ensures some { IfSome result (λ cell. TellsCell key fields.old cell fields.new) }
+    ensures none { result ≡ None → TellsNone (TellsCell key fields.old) }
 {
     read_full_cell(kind, next_octets(fields, key.exported_element())?)
 }
@@ -81,8 +81,8 @@ pub(crate) fn next_cells(
 ) -> Result<Vec<Cell>, RowFault>
     requires kinds { kinds.now ≡ kinds_of keys.now }
     requires comparable { AllPass is_key_kind kinds.now }
-    ensures ok { IfOk result (λ cells. BeginEach key_field FitsKey keys.now fields.old cells.items fields.new) }
-    ensures fault { IfErr result (Refuses ((cells : List Cell) × (rest : List Field) × BeginEach key_field FitsKey keys.now fields.old cells rest)) }
+    ensures ok { IfOk result (λ cells. TellsCells keys.now fields.old cells.items fields.new) }
+    ensures fault { IfErr result (Refuses (TellsSome (TellsCells keys.now fields.old))) }
 {
     let mut cells = Vec::with_capacity(alloc, keys.len())?;
     for (key, kind) in keys.iter().zip(kinds) {
@@ -100,8 +100,8 @@ pub(crate) fn next_numbers(
     elements: &[ElementId],
     fields: &mut FieldIter,
 ) -> Result<Vec<u64>, RowFault>
-    ensures ok { IfOk result (λ numbers. BeginEach number_field FitsNumber elements.now fields.old numbers.items fields.new) }
-    ensures fault { IfErr result (Refuses ((numbers : List ℕ) × (rest : List Field) × BeginEach number_field FitsNumber elements.now fields.old numbers rest)) }
+    ensures ok { IfOk result (λ made. TellsNumbers elements.now fields.old made.items fields.new) }
+    ensures fault { IfErr result (Refuses (TellsSome (TellsNumbers elements.now fields.old))) }
 {
     let mut numbers = Vec::with_capacity(alloc, elements.len())?;
     for element in elements {

@@ -1,6 +1,6 @@
 //! Exports of tables, read one after another, and their rows added up.
 
-ghost use Rattle.std.specs.Prelude.{◌≡◌, ◌++◌, ◌∷◌, [], flat_map, None, List, IfOk, IfErr, MatchResult};
+ghost use Rattle.std.specs.Prelude.{◌≡◌, ◌++◌, ◌∷◌, [], flat_map, None, List, IfOk, IfErr};
 ghost use Rattle.std.specs.List.{AllZip};
 ghost use Rattle.std.specs.Result.{result_err};
 ghost use Rattle.ipfix_message.specs.declared.record.DataRecord.{DataRecord};
@@ -9,7 +9,7 @@ ghost use Rattle.flow_table.specs.Fitting.{FitsPlan};
 ghost use Rattle.flow_table.specs.SameTables.{RowValue};
 ghost use Rattle.flow_table.specs.Tables.{IsTable};
 ghost use Rattle.flow_table.specs.declared.table.Table.{Table as TableValue};
-ghost use Rattle.flow_merge.specs.Merging.{all_of, plan_of, AddsExport, HasRowsOf, HoldsExport, IsDue, IsExportFault, StandsFor, no_records};
+ghost use Rattle.flow_merge.specs.Merging.{all_of, plan_of, AddsExport, HasRowsOf, IsDue, StandsFor, no_records};
 ghost use Rattle.flow_merge.specs.RowSink.{HoldsAfter};
 ghost use Rattle.flow_merge.specs.declared.merge_fault.MergeFault.TheVariants.{OutOfMemory};
 
@@ -50,7 +50,9 @@ impl Merging {
     /// Adds the row of a record.
     pub(crate) fn add(&mut self, data_record: &DataRecord) -> Result<(), MergeFault>
         ensures plan { plan_of self.new ≡ plan_of self.old }
-        ensures holds { (rows : List RowValue) (rs : List DataRecord) → HoldsAfter None self.old rows rs → HoldsAfter (result_err result) self.new rows (rs ++ data_record.now ∷ []) }
+        ensures holds { (rows : List RowValue) (rs : List DataRecord)
+            → HoldsAfter None self.old rows rs
+            → HoldsAfter (result_err result) self.new rows (rs ++ data_record.now ∷ []) }
     {
         let row = read_row(self.alloc, &self.plan, data_record)?;
         self.totals.add(row)?;
@@ -67,11 +69,10 @@ impl Merging {
     /// of success.
     pub fn read<S: Source>(self, source: &mut S, limit: u64) -> Result<Merging, MergeFault>
         ensures plan { IfOk result (λ m. plan_of m ≡ plan_of self) }
-        ensures ok { (rows : List RowValue) → StandsFor self rows → IfOk result (AddsExport S.seen limit self source.old source.new rows) }
-        ensures fault { (rows : List RowValue) → StandsFor self rows → IfErr result (IsDue S.seen limit (plan_of self) rows source.old source.new) }
-        // The export of a table is added whole. It has none of these faults, but that sums are too large.
-        ensures export { (rows : List RowValue) (rs : List DataRecord) (holds : HoldsExport (plan_of self) (S.seen source.old) rs) → StandsFor self rows
-            → MatchResult result (λ m. StandsFor m (rows ++ rows_in holds.table)) (IsExportFault (AddUpTooLarge (rows ++ rows_in holds.table))) }
+        ensures ok { (rows : List RowValue) → StandsFor self rows
+            → IfOk result (AddsExport S.seen limit self source.old source.new rows) }
+        ensures fault { (rows : List RowValue) → StandsFor self rows
+            → IfErr result (IsDue S.seen limit (plan_of self) rows source.old source.new) }
     {
         let alloc = self.alloc;
         let mut sink = RowSink {
@@ -90,12 +91,16 @@ impl Merging {
     ///
     /// The fault is `OutOfMemory`: an allocation was refused.
     pub fn finish(self) -> Result<Table, MergeFault>
-        ensures rows { (rows : List RowValue) → StandsFor self rows → IfOk result (λ table. AreAddedUp rows (rows_in table)) }
+        ensures rows { (rows : List RowValue) → StandsFor self rows
+            → IfOk result (λ table. AreAddedUp rows (rows_in table)) }
         // The table fits the plan, as an export asks.
-        ensures fits { (rows : List RowValue) → StandsFor self rows → IfOk result (FitsPlan (plan_of self)) }
+        ensures fits { (rows : List RowValue) → StandsFor self rows
+            → IfOk result (FitsPlan (plan_of self)) }
         ensures small { (rows : List RowValue) → StandsFor self rows → AddUpTooLarge rows → ⊥ }
         // The rows of tables are merged into those of the table of all their records.
-        ensures tables { (lists : List (List DataRecord)) (tables : List TableValue) → StandsFor self (flat_map rows_in tables) → AllZip (IsTable (plan_of self)) lists tables
+        ensures tables { (lists : List (List DataRecord)) (tables : List TableValue)
+            → StandsFor self (flat_map rows_in tables)
+            → AllZip (IsTable (plan_of self)) lists tables
             → IfOk result (HasRowsOf (plan_of self) (all_of lists)) }
         ensures tally { IfOk result (λ table. table.tally ≡ no_records) }
         ensures err { IfErr result (λ e. e ≡ OutOfMemory) }
@@ -103,14 +108,7 @@ impl Merging {
         let Merging { totals, .. } = self;
         Ok(Table {
             rows: totals.finish()?,
-            tally: Tally {
-                options: 0,
-                untimed: 0,
-                backward: 0,
-                unkeyed: 0,
-                too_long: 0,
-                used: 0,
-            },
+            tally: Tally::EMPTY,
         })
     }
 }

@@ -10,14 +10,11 @@ ghost use Rattle.flow_merge.specs.RowRecords.{AreProjected, IsOfTemplate, IsRowR
 
 use crate::row_fault::RowFault;
 use crate::told_values::{ToldValues, read_values};
-use flow_table::{Key, Plan, Row};
+use flow_table::{Key, Plan, Row, TIME_LIMIT};
 use ipfix_elements::{Cell, mask};
 use ipfix_message::DataRecord;
 use ipfix_wire::FIRST_TEMPLATE_ID;
 use std::alloc::Global;
-
-/// The milliseconds before which an interval begins.
-const TIME_LIMIT: u64 = 1 << 50;
 
 /// The row of a data record that an export under the plan has for it, or the first fault that fits.
 pub fn read_row(alloc: Global, plan: &Plan, data_record: &DataRecord) -> Result<Row, RowFault>
@@ -45,6 +42,7 @@ pub fn read_row(alloc: Global, plan: &Plan, data_record: &DataRecord) -> Result<
     })
 }
 
+// Whether it is of the one template that exports have, and no options record.
 fn is_of_template(data_record: &DataRecord) -> bool
     ensures yes { result ≡ true → IsOfTemplate data_record.now }
     ensures no { result ≡ false → IsOfTemplate data_record.now → ⊥ }
@@ -52,7 +50,7 @@ fn is_of_template(data_record: &DataRecord) -> bool
     data_record.domain == 0 && data_record.template == FIRST_TEMPLATE_ID && data_record.scope == 0
 }
 
-/// The interval of the plan whose first and last millisecond the times are, if it begins in time.
+// The interval of the plan whose first and last millisecond the times are, if it begins in time.
 fn interval_of(plan: &Plan, told: &ToldValues) -> Option<u64>
     ensures some { IfSome result (λ k. IsInterval plan.now k (values_in told.now)) }
     ensures none { result ≡ None → (k : ℕ) → IsInterval plan.now k (values_in told.now) → ⊥ }
@@ -66,7 +64,7 @@ fn interval_of(plan: &Plan, told: &ToldValues) -> Option<u64>
     }
 }
 
-/// Whether no cell has bits behind the prefix of its key.
+// Whether no cell has bits behind the prefix of its key.
 fn are_projected(keys: &[Key], cells: &[Cell]) -> bool
     requires prefixes { All HasPrefix keys.now }
     requires each { length keys.now ≡ length cells.now }
@@ -81,6 +79,7 @@ fn are_projected(keys: &[Key], cells: &[Cell]) -> bool
     true
 }
 
+// Whether a cell has no bits behind the prefix of its key.
 fn is_projected(key: Key, cell: Cell) -> bool
     requires { HasPrefix key }
     ensures yes { result ≡ true → projected key.prefix cell ≡ cell }

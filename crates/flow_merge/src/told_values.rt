@@ -1,9 +1,8 @@
 //! What the fields of an export's record tell.
 
-ghost use Rattle.std.specs.Prelude.{ℕ, List, IfOk, IfErr};
-ghost use Rattle.ipfix_message.specs.Fields.{Field};
-ghost use Rattle.flow_export.specs.IpfixText.{iana, number_field};
-ghost use Rattle.flow_merge.specs.InnerReading.{Begin, FitsNumber, Refuses, values_in};
+ghost use Rattle.std.specs.Prelude.{IfOk, IfErr};
+ghost use Rattle.ipfix_elements.specs.Elements.{iana};
+ghost use Rattle.flow_merge.specs.InnerReading.{Refuses, TellsNumber, TellsSome, values_in};
 ghost use Rattle.flow_merge.specs.RowFaults.{FieldValues, Tell};
 
 use crate::field_reading::{next_cells, next_number, next_numbers};
@@ -29,10 +28,10 @@ pub(crate) struct ToldValues {
     pub flows: u64,
 }
 
-/// The number that the next field tells, if that is one of this element of IANA's registry.
+// The number that the next field tells, if that is one of this element of IANA's registry.
 fn read_number(fields: &mut FieldIter, number: u16) -> Result<u64, RowFault>
-    ensures ok { IfOk result (λ n. Begin number_field FitsNumber (iana number) fields.old n fields.new) }
-    ensures fault { IfErr result (Refuses ((n : ℕ) × (rest : List Field) × Begin number_field FitsNumber (iana number) fields.old n rest)) }
+    ensures ok { IfOk result (λ n. TellsNumber (iana number) fields.old n fields.new) }
+    ensures fault { IfErr result (Refuses (TellsSome (TellsNumber (iana number) fields.old))) }
 {
     next_number(fields, ElementId::iana(number)).ok_or(RowFault::Fields)
 }

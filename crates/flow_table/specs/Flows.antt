@@ -7,17 +7,18 @@ use Rattle.flow_table.specs.Plans.{PlanValue}
 use Rattle.flow_table.specs.Rows.{part_at}
 use Rattle.flow_table.specs.Totals.{Total, total}
 
--- the shares of the counters of a flow from s to e at interval k
+-- the shares of the counters of a flow from start to end at interval k
 abbrev pub shares_of : PlanValue → ℕ → ℕ → List ℕ → ℕ → List ℕ
-shares_of plan s e counters k = map (λ v. share plan s e v k) counters
+shares_of plan start end counters k = map (λ value. share plan start end value k) counters
 
 -- what the flow adds to the totals there
 unfoldable pub flow_total : PlanValue → ℕ → ℕ → List ℕ → ℕ → Total
-flow_total plan s e counters k = total (shares_of plan s e counters k) 1
+flow_total plan start end counters k = total (shares_of plan start end counters k) 1
 
 -- what the flow adds at an interval and a key
 unfoldable pub flow_part : PlanValue → ℕ → ℕ → List Cell → List ℕ → ℕ → List Cell → Option Total
-flow_part plan s e key counters k q = if list_any (nat_eq k) (covers plan s e) then part_at key (flow_total plan s e counters k) q else None
+flow_part plan start end key counters k q =
+    if list_any (nat_eq k) (covers plan start end) then part_at key (flow_total plan start end counters k) q else None
 
 -- k is an interval from the first one on and below another
 unfoldable pub is_in_run : ℕ → ℕ → ℕ → Bool

@@ -12,55 +12,57 @@ interval_of length time = time / length
 
 -- how many intervals a flow covers
 abbrev pub spread : ℕ → ℕ → ℕ → ℕ
-spread length s e = interval_of length e - interval_of length s + 1
+spread length start end = interval_of length end - interval_of length start + 1
 
 -- the intervals that a flow covers, in order
 abbrev pub covered_by : ℕ → ℕ → ℕ → List ℕ
-covered_by length s e = range_with_len (interval_of length s) (spread length s e)
+covered_by length start end = range_with_len (interval_of length start) (spread length start end)
 
 -- the intervals that a flow contributes to by a method
 abbrev pub covers_by : Method → ℕ → ℕ → ℕ → List ℕ
-covers_by Start length s e = interval_of length s ∷ []
-covers_by End length s e = interval_of length e ∷ []
-covers_by Mid length s e = interval_of length ((s + e) / 2) ∷ []
-covers_by Uniform length s e = covered_by length s e
-covers_by Proportional length s e = covered_by length s e
+covers_by Start length start end = interval_of length start ∷ []
+covers_by End length start end = interval_of length end ∷ []
+covers_by Mid length start end = interval_of length ((start + end) / 2) ∷ []
+covers_by Uniform length start end = covered_by length start end
+covers_by Proportional length start end = covered_by length start end
 
 -- the same under a plan
 abbrev pub covers : PlanValue → ℕ → ℕ → List ℕ
-covers p s e = covers_by p.method p.length s e
+covers p start end = covers_by p.method p.length start end
 
 -- all to one interval
 abbrev pub whole_share : ℕ → ℕ → ℕ → ℕ
-whole_share one v k = if k == one then v else 0
+whole_share one value interval = if interval == one then value else 0
 
 -- the same to each covered interval, and 1 more to the earliest ones until nothing is left
 abbrev pub uniform_share : ℕ → ℕ → ℕ → ℕ → ℕ → ℕ
-uniform_share length s e v k =
-    let low = interval_of length s in
-    let n = spread length s e in
-    if nat_le low k && nat_le k (interval_of length e) then v / n + (if nat_lt (k - low) (v % n) then 1 else 0) else 0
+uniform_share length start end value interval =
+    let low = interval_of length start in
+    let n = spread length start end in
+    if nat_le low interval && nat_le interval (interval_of length end)
+    then value / n + (if nat_lt (interval - low) (value % n) then 1 else 0) else 0
 
--- how many of the milliseconds of a flow, its first and last among them, are before interval k
+-- how many of the milliseconds of a flow, its first and last among them, are before an interval
 abbrev pub milliseconds_before : ℕ → ℕ → ℕ → ℕ → ℕ
-milliseconds_before length s e k = min (k * length - s) (e - s + 1)
+milliseconds_before length start end interval = min (interval * length - start) (end - start + 1)
 
--- what is due when the milliseconds before interval k are over
+-- what is due when the milliseconds before the interval are over
 abbrev pub due_before : ℕ → ℕ → ℕ → ℕ → ℕ → ℕ
-due_before length s e v k = v * milliseconds_before length s e k / (e - s + 1)
+due_before length start end value interval = value * milliseconds_before length start end interval / (end - start + 1)
 
 -- in proportion to the milliseconds in the interval: what is due at its end and not yet at its begin
 abbrev pub proportional_share : ℕ → ℕ → ℕ → ℕ → ℕ → ℕ
-proportional_share length s e v k = due_before length s e v (k + 1) - due_before length s e v k
+proportional_share length start end value interval =
+    due_before length start end value (interval + 1) - due_before length start end value interval
 
--- what interval k gets of a counter v of a flow from s to e
+-- what an interval gets of the value of a counter of a flow from start to end
 abbrev pub share_by : Method → ℕ → ℕ → ℕ → ℕ → ℕ → ℕ
-share_by Start length s e v k = whole_share (interval_of length s) v k
-share_by End length s e v k = whole_share (interval_of length e) v k
-share_by Mid length s e v k = whole_share (interval_of length ((s + e) / 2)) v k
-share_by Uniform length s e v k = uniform_share length s e v k
-share_by Proportional length s e v k = proportional_share length s e v k
+share_by Start length start end value interval = whole_share (interval_of length start) value interval
+share_by End length start end value interval = whole_share (interval_of length end) value interval
+share_by Mid length start end value interval = whole_share (interval_of length ((start + end) / 2)) value interval
+share_by Uniform length start end value interval = uniform_share length start end value interval
+share_by Proportional length start end value interval = proportional_share length start end value interval
 
 -- the same under a plan
 abbrev pub share : PlanValue → ℕ → ℕ → ℕ → ℕ → ℕ
-share p s e v k = share_by p.method p.length s e v k
+share p start end value interval = share_by p.method p.length start end value interval

@@ -1,4 +1,4 @@
--- What the public contracts cite
+-- What public contracts cite.
 pub mod Plans
 pub mod PlanFaults
 pub mod Intervals
@@ -12,7 +12,7 @@ pub mod SamePlans
 pub mod SameTables
 pub mod AddedUp
 pub mod RowTotals
--- What the inner functions cite
+-- What only inner functions and proofs need.
 pub mod Totals
 pub mod Rows
 pub mod RowKeys

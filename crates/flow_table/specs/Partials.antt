@@ -1,5 +1,5 @@
 -- What a partial table stands for: a list of data records.
-use Rattle.std.specs.Prelude.{◌≡◌, ℕ, ◌+◌, ◌==◌, if◌then◌else◌, List, map, Option, Some, None, Result, Ok, Err}
+use Rattle.std.specs.Prelude.{◌≡◌, ℕ, ◌+◌, ◌==◌, if◌then◌else◌, List, ◌++◌, map, Option, Some, None, Result, Ok, Err, OnOk, IfErr}
 use Rattle.ipfix_elements.specs.declared.cell.Cell.{Cell}
 use Rattle.ipfix_message.specs.declared.record.DataRecord.{DataRecord}
 use Rattle.flow_table.specs.declared.class.Class.{Class}
@@ -42,6 +42,21 @@ fault_of p = p.fault
 -- a partial table stands for a list of records
 unfoldable pub StandsFor : Partial → List DataRecord → Type 0
 StandsFor p rs = StandsBy p.fault p.plan p.intervals.entries p.tally rs
+
+-- whatever it stood for, afterwards it stands for these records more
+abbrev pub Adds : Partial → List DataRecord → Partial → Type 0
+Adds before more after = (rs : List DataRecord) → StandsFor before rs → StandsFor after (rs ++ more)
+
+-- if these records are added without a fault, none of the numbers is too large
+abbrev pub IsSmallIfOk : {X : Type 0} → Partial → List DataRecord → Result X TableFault → Type 0
+IsSmallIfOk before more result =
+    (rs : List DataRecord) → StandsFor before rs → OnOk result (IsTooLarge (plan_of before) (rs ++ more) → ⊥)
+
+-- and if they are refused as too large, one is
+abbrev pub IsLargeIfSumTooLarge : {X : Type 0} → Partial → List DataRecord → Result X TableFault → Type 0
+IsLargeIfSumTooLarge before more result =
+    (rs : List DataRecord) → StandsFor before rs
+    → IfErr result (λ e. e ≡ SumTooLarge → IsTooLarge (plan_of before) (rs ++ more))
 
 -- x, unless there is a fault
 abbrev pub unless : {X : Type 0} → Option TableFault → X → Result X TableFault

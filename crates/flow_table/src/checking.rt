@@ -25,7 +25,6 @@ const COUNTERS: [u16; 7] = [
     iana::DROPPED_PACKET_DELTA_COUNT,
 ];
 
-/// Whether fields of the kind may be keys.
 fn is_key_kind(kind: Kind) -> bool
     ensures { result ≡ is_key_kind_in kind }
 {
@@ -35,7 +34,7 @@ fn is_key_kind(kind: Kind) -> bool
     }
 }
 
-/// Whether the element may have the prefix.
+// Whether the element may have the prefix.
 fn is_prefix_of(element: ElementId, prefix: Option<u8>) -> bool
     ensures { result ≡ is_prefix_of_in element prefix }
 {
@@ -45,35 +44,31 @@ fn is_prefix_of(element: ElementId, prefix: Option<u8>) -> bool
     }
 }
 
-/// Whether the element may be a counter.
 fn is_counter(element: ElementId) -> bool
     ensures { result ≡ is_counter_in element }
 {
     element.pen == 0 && COUNTERS.contains(&element.number)
 }
 
-/// Whether fields of all keys may be keys.
 fn are_key_kinds(keys: &[Key]) -> bool
     ensures { result ≡ list_all (λ k. is_key_kind_in (kind_in k.element)) keys.now }
 {
     keys.iter().all(|key| is_key_kind(kind_of(key.element)))
 }
 
-/// Whether the elements of all keys may have their prefixes.
+// Whether the elements of all keys may have their prefixes.
 fn have_prefixes(keys: &[Key]) -> bool
     ensures { result ≡ list_all (λ k. is_prefix_of_in k.element k.prefix) keys.now }
 {
     keys.iter().all(|key| is_prefix_of(key.element, key.prefix))
 }
 
-/// Whether all elements may be counters.
 fn are_counters(elements: &[ElementId]) -> bool
     ensures { result ≡ list_all is_counter_in elements.now }
 {
     elements.iter().all(|element| is_counter(*element))
 }
 
-/// Whether an element stands twice.
 fn has_twice(mut elements: &[ElementId]) -> bool
     ensures { result ≡ has_twice_in elements.entry.now }
 {
@@ -86,21 +81,22 @@ fn has_twice(mut elements: &[ElementId]) -> bool
     false
 }
 
-/// Whether the element is that of a key on that side.
+// Whether the element is that of a key on that side.
 fn is_among_keys(element: ElementId, keys: &[Key], side: Side) -> bool
     ensures { result ≡ list_any (λ k. same_element (element_in side k) element) keys.now }
 {
     keys.iter().any(|key| key.element_in(side) == element)
 }
 
-/// Whether the element is that of a key on that side, or a counter.
+// Whether the element is that of a key on that side, or a counter.
 fn is_among(element: ElementId, keys: &[Key], counters: &[ElementId], side: Side) -> bool
-    ensures { result ≡ list_any (λ other. same_element other element) (elements_in side keys.now counters.now) }
+    ensures { result
+        ≡ list_any (λ other. same_element other element) (elements_in side keys.now counters.now) }
 {
     is_among_keys(element, keys, side) || counters.contains(&element)
 }
 
-/// Whether an element stands twice among keys and counters on that side.
+// Whether an element stands twice among keys and counters on that side.
 fn is_repeated(mut keys: &[Key], counters: &[ElementId], side: Side) -> bool
     ensures { result ≡ has_twice_in (elements_in side keys.entry.now counters.now) }
 {
@@ -113,7 +109,6 @@ fn is_repeated(mut keys: &[Key], counters: &[ElementId], side: Side) -> bool
     has_twice(counters)
 }
 
-/// The first fault of a plan's keys.
 fn key_fault(keys: &[Key]) -> Option<PlanFault>
     ensures { result ≡ key_fault_in keys.now }
 {
@@ -129,7 +124,6 @@ fn key_fault(keys: &[Key]) -> Option<PlanFault>
     None
 }
 
-/// The first fault of a plan's counters.
 fn counter_fault(counters: &[ElementId]) -> Option<PlanFault>
     ensures { result ≡ counter_fault_in counters.now }
 {

@@ -19,7 +19,7 @@ use crate::tally::Tally;
 use crate::totals::Totals;
 use std::alloc::{AllocError, Global};
 
-/// Appends the rows of an interval.
+// Appends the rows of an interval.
 fn push_rows(interval: u64, rows: Rows, out: &mut Vec<Row>) -> Result<(), AllocError>
     ensures lines { OnOk result (map line_of out.new.items ≡ map line_of out.old.items ++ lines_at interval rows.entries) }
     ensures ascending { OnOk result (IsStrictlySortedBy key_cmp (keys rows)) }

@@ -1,18 +1,111 @@
-//! Laws of the definitions.
+//! Laws of plans and of tables: a list of records has one table, which is the same for every order of
+//! the list and fits its plan.
 
-ghost use Rattle.std.specs.Prelude.{◌≡◌, ◌↔◌, true, ◌<◌, ◌≤◌, ℕ, sum_by};
-ghost use Rattle.flow_table.specs.Plans.{PlanValue};
+ghost use Rattle.std.specs.Prelude.{◌≡◌, ◌++◌, ◌↔◌, true, ◌<◌, ◌≤◌, ℕ, List, All, IsPermutation, flat_map, sum_by};
+ghost use Rattle.std.specs.List.{AllZip};
+ghost use Rattle.ipfix_message.specs.DataRecords.{HasOctets};
+ghost use Rattle.ipfix_message.specs.declared.record.DataRecord.{DataRecord};
+ghost use Rattle.flow_table.specs.AddedUp.{AddUpTooLarge, AreAddedUp, HasTooLargeRow, rows_in};
+ghost use Rattle.flow_table.specs.Bags.{IsSameBag, IsInterleaving};
+ghost use Rattle.flow_table.specs.Fitting.{FitsPlan};
 ghost use Rattle.flow_table.specs.Intervals.{covered_by, share};
+ghost use Rattle.flow_table.specs.Plans.{PlanValue, IsPlan};
+ghost use Rattle.flow_table.specs.SameTables.{IsSameTable};
+ghost use Rattle.flow_table.specs.Tables.{IsTable, IsTooLarge, tally_of};
+ghost use Rattle.flow_table.specs.declared.table.Table.{Table};
 
 use crate::plan::Plan;
-
-/// By every method the shares of the intervals that a flow covers add up to its counter (RFC 7015,
-/// section 5.1.1).
-pub fn shares_add_up()
-    ensures { (plan : PlanValue) (s e v : ℕ) → 0 < plan.length → s ≤ e → sum_by (share plan s e v) (covered_by plan.length s e) ≡ v }
-{}
 
 /// Plans compare by value.
 pub fn plans_compare_by_value()
     ensures { (a b : PlanValue) → (⟦<Plan as PartialEq>⟧.eq a b ≡ true) ↔ (a ≡ b) }
+{}
+
+/// By every method the shares of the intervals that a flow covers add up to its counter (RFC 7015,
+/// section 5.1.1).
+pub fn shares_add_up()
+    ensures { (plan : PlanValue) (start end value : ℕ) → 0 < plan.length → start ≤ end
+        → sum_by (share plan start end value) (covered_by plan.length start end) ≡ value }
+{}
+
+/// A list of records has no two tables.
+pub fn one_table()
+    ensures { (plan : PlanValue) (rs : List DataRecord) (t u : Table)
+        → IsTable plan rs t → IsTable plan rs u → IsSameTable t u }
+{}
+
+/// A list of records and each permutation of it are the same bag.
+pub fn permutation_is_same_bag()
+    ensures { (rs qs : List DataRecord) → IsPermutation rs qs → IsSameBag rs qs }
+{}
+
+/// Two lists of records, taken turn by turn, are the same bag as one after the other.
+pub fn interleaving_is_same_bag()
+    ensures { (rs qs all : List DataRecord) → IsInterleaving rs qs all → IsSameBag all (rs ++ qs) }
+{}
+
+/// Which of two lists of records stands first doesn't matter.
+pub fn either_list_first()
+    ensures { (rs qs : List DataRecord) → IsSameBag (rs ++ qs) (qs ++ rs) }
+{}
+
+/// To be the same bag is an equivalence, and lists one after the other are the same bag if each of
+/// them is.
+pub fn same_bag_laws()
+    ensures reflexive { (rs : List DataRecord) → IsSameBag rs rs }
+    ensures symmetric { (rs qs : List DataRecord) → IsSameBag rs qs → IsSameBag qs rs }
+    ensures transitive { (rs qs ps : List DataRecord)
+        → IsSameBag rs qs → IsSameBag qs ps → IsSameBag rs ps }
+    ensures one_after_the_other { (rs qs more others : List DataRecord)
+        → IsSameBag rs qs → IsSameBag more others → IsSameBag (rs ++ more) (qs ++ others) }
+{}
+
+/// The table of a list of records, and whether it is too large, are the same for every order of the
+/// list.
+pub fn order_is_free()
+    ensures table { (plan : PlanValue) (rs qs : List DataRecord) (table : Table)
+        → IsSameBag rs qs → IsTable plan rs table → IsTable plan qs table }
+    ensures too_large { (plan : PlanValue) (rs qs : List DataRecord)
+        → IsSameBag rs qs → IsTooLarge plan rs → IsTooLarge plan qs }
+{}
+
+/// What is too large stays too large when more records are added.
+pub fn too_large_stays()
+    ensures { (plan : PlanValue) (rs qs : List DataRecord)
+        → IsTooLarge plan rs → IsTooLarge plan (rs ++ qs) }
+{}
+
+/// The table of a list of records that isn't too large fits the plan.
+///
+/// The octets of the records' fields are to be octets: `ipfix_message` owes this for the records that
+/// a message gives.
+pub fn tables_fit()
+    ensures { (plan : PlanValue) (rs : List DataRecord) (table : Table)
+        → IsPlan plan → All HasOctets rs → (IsTooLarge plan rs → ⊥)
+        → IsTable plan rs table → FitsPlan plan table }
+{}
+
+/// The rows of the tables of some lists of records, added up, are those of the table of all these
+/// records. They are too large if and only if a sum or a number of flows in that table is.
+pub fn tables_add_up()
+    ensures table { (plan : PlanValue) (lists : List (List DataRecord)) (tables : List Table)
+        → (all : Table) → AllZip (IsTable plan) lists tables
+        → AreAddedUp (flat_map rows_in tables) (rows_in all)
+        → all.tally ≡ tally_of plan (flat_map (λ rs. rs) lists)
+        → IsTable plan (flat_map (λ rs. rs) lists) all }
+    ensures too_large { (plan : PlanValue) (lists : List (List DataRecord)) (tables : List Table)
+        → AllZip (IsTable plan) lists tables
+        → AddUpTooLarge (flat_map rows_in tables)
+        ↔ HasTooLargeRow plan (flat_map (λ rs. rs) lists) }
+{}
+
+/// However some records are split into lists, and in whatever order, the rows of the lists' tables add
+/// up to the same rows.
+pub fn any_split_adds_up()
+    ensures { (plan : PlanValue) (lists others : List (List DataRecord)) (tables more : List Table)
+        → (a b : Table) → AllZip (IsTable plan) lists tables → AllZip (IsTable plan) others more
+        → IsSameBag (flat_map (λ rs. rs) lists) (flat_map (λ rs. rs) others)
+        → AreAddedUp (flat_map rows_in tables) (rows_in a)
+        → AreAddedUp (flat_map rows_in more) (rows_in b)
+        → rows_in a ≡ rows_in b }
 {}

@@ -7,10 +7,9 @@ mod checking;
 mod class;
 mod finishing;
 mod key;
-mod laws;
+pub mod laws;
 mod merging;
 mod method;
-mod order;
 mod partial;
 mod plan;
 mod plan_fault;
@@ -29,12 +28,7 @@ mod totals;
 
 pub use class::Class;
 pub use key::Key;
-pub use laws::{plans_compare_by_value, shares_add_up};
 pub use method::Method;
-pub use order::{
-    any_split_adds_up, either_list_first, interleaving_is_same_bag, one_table, order_is_free,
-    permutation_is_same_bag, same_bag_laws, tables_add_up, tables_fit, too_large_stays,
-};
 pub use partial::Partial;
 pub use plan::{MAX_COUNTERS, MAX_KEYS, MAX_SPREAD, Plan};
 pub use plan_fault::PlanFault;
@@ -43,3 +37,4 @@ pub use sharing::share;
 pub use table::{Row, Table};
 pub use table_fault::TableFault;
 pub use tally::Tally;
+pub use times::TIME_LIMIT;

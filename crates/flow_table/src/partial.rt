@@ -3,7 +3,7 @@
 ghost use Rattle.std.specs.Prelude.{◌≡◌, ◌++◌, ◌∷◌, [], List, None, Err, IfOk, IfErr, OnOk, IfSome, IsSome};
 ghost use Rattle.ipfix_message.specs.declared.record.DataRecord.{DataRecord};
 ghost use Rattle.flow_table.specs.Fitting.{FitsPlan};
-ghost use Rattle.flow_table.specs.Partials.{StandsFor, fault_of, plan_of, unless};
+ghost use Rattle.flow_table.specs.Partials.{StandsFor, Adds, IsSmallIfOk, IsLargeIfSumTooLarge, fault_of, plan_of, unless};
 ghost use Rattle.flow_table.specs.Reading.{class_of};
 ghost use Rattle.flow_table.specs.Tables.{IsTable, IsTooLarge};
 ghost use Rattle.flow_table.specs.declared.table_fault.TableFault.TheVariants.{OutOfMemory, SumTooLarge};
@@ -67,11 +67,12 @@ impl Partial {
     /// it again.
     pub fn add(&mut self, data_record: &DataRecord) -> Result<Class, TableFault>
         ensures plan { plan_of self.new ≡ plan_of self.old }
-        ensures answer { result ≡ unless (fault_of self.new) (class_of (plan_of self.old) data_record.now) }
+        ensures answer { result
+            ≡ unless (fault_of self.new) (class_of (plan_of self.old) data_record.now) }
         ensures sticky { IsSome (fault_of self.old) → fault_of self.new ≡ fault_of self.old }
-        ensures adds { (rs : List DataRecord) → StandsFor self.old rs → StandsFor self.new (rs ++ data_record.now ∷ []) }
-        ensures small { (rs : List DataRecord) → StandsFor self.old rs → OnOk result (IsTooLarge (plan_of self.old) (rs ++ data_record.now ∷ []) → ⊥) }
-        ensures large { (rs : List DataRecord) → StandsFor self.old rs → IfErr result (λ e. e ≡ SumTooLarge → IsTooLarge (plan_of self.old) (rs ++ data_record.now ∷ [])) }
+        ensures adds { Adds self.old (data_record.now ∷ []) self.new }
+        ensures small { IsSmallIfOk self.old (data_record.now ∷ []) result }
+        ensures large { IsLargeIfSumTooLarge self.old (data_record.now ∷ []) result }
     {
         if let Some(fault) = self.fault {
             return Err(fault);
@@ -97,10 +98,14 @@ impl Partial {
         ensures plan { plan_of self.new ≡ plan_of self.old }
         ensures answer { result ≡ unless (fault_of self.new) tt }
         ensures sticky { IsSome (fault_of self.old) → fault_of self.new ≡ fault_of self.old }
-        ensures takes_over { fault_of self.old ≡ None → IsSome (fault_of other) → fault_of self.new ≡ fault_of other }
-        ensures merges { (rs qs : List DataRecord) → StandsFor self.old rs → StandsFor other qs → StandsFor self.new (rs ++ qs) }
-        ensures small { (rs qs : List DataRecord) → StandsFor self.old rs → StandsFor other qs → OnOk result (IsTooLarge (plan_of self.old) (rs ++ qs) → ⊥) }
-        ensures large { (rs qs : List DataRecord) → StandsFor self.old rs → StandsFor other qs → IfErr result (λ e. e ≡ SumTooLarge → IsTooLarge (plan_of self.old) (rs ++ qs)) }
+        ensures takes_over { fault_of self.old ≡ None → IsSome (fault_of other)
+            → fault_of self.new ≡ fault_of other }
+        ensures merges { (rs qs : List DataRecord) → StandsFor self.old rs → StandsFor other qs
+            → StandsFor self.new (rs ++ qs) }
+        ensures small { (rs qs : List DataRecord) → StandsFor self.old rs → StandsFor other qs
+            → OnOk result (IsTooLarge (plan_of self.old) (rs ++ qs) → ⊥) }
+        ensures large { (rs qs : List DataRecord) → StandsFor self.old rs → StandsFor other qs
+            → IfErr result (λ e. e ≡ SumTooLarge → IsTooLarge (plan_of self.old) (rs ++ qs)) }
     {
         let Partial {
             intervals,
@@ -133,10 +138,14 @@ impl Partial {
     pub fn finish(self) -> Result<Table, TableFault>
         ensures fault { IfSome (fault_of self) (λ fault. result ≡ Err fault) }
         ensures err { fault_of self ≡ None → IfErr result (λ e. e ≡ OutOfMemory) }
-        ensures table { (rs : List DataRecord) → StandsFor self rs → IfOk result (IsTable (plan_of self) rs) }
-        ensures fits { (rs : List DataRecord) → StandsFor self rs → IfOk result (FitsPlan (plan_of self)) }
-        ensures small { (rs : List DataRecord) → StandsFor self rs → OnOk result (IsTooLarge (plan_of self) rs → ⊥) }
-        ensures large { (rs : List DataRecord) → StandsFor self rs → IfErr result (λ e. e ≡ SumTooLarge → IsTooLarge (plan_of self) rs) }
+        ensures table { (rs : List DataRecord) → StandsFor self rs
+            → IfOk result (IsTable (plan_of self) rs) }
+        ensures fits { (rs : List DataRecord) → StandsFor self rs
+            → IfOk result (FitsPlan (plan_of self)) }
+        ensures small { (rs : List DataRecord) → StandsFor self rs
+            → OnOk result (IsTooLarge (plan_of self) rs → ⊥) }
+        ensures large { (rs : List DataRecord) → StandsFor self rs
+            → IfErr result (λ e. e ≡ SumTooLarge → IsTooLarge (plan_of self) rs) }
     {
         let Partial {
             intervals,

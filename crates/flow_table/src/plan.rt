@@ -61,10 +61,15 @@ impl Plan {
         counters: &[ElementId],
         max_spread: u32,
     ) -> Result<Plan, PlanFault>
-        ensures ok { IfOk result (λ plan. plan ≡ plan_of length method keys.now counters.now max_spread) }
-        ensures sound { OnOk result (IsPlan (plan_of length method keys.now counters.now max_spread)) }
-        ensures fault { IfErr result (λ fault. fault ≢ PlanFault.OutOfMemory → first_fault_of (plan_of length method keys.now counters.now max_spread) ≡ Some fault) }
-        ensures memory { IsErrOf result PlanFault.OutOfMemory → IsPlan (plan_of length method keys.now counters.now max_spread) }
+        ensures ok { IfOk result (λ plan. plan
+            ≡ plan_of length method keys.now counters.now max_spread) }
+        ensures sound { OnOk result
+            (IsPlan (plan_of length method keys.now counters.now max_spread)) }
+        ensures fault { IfErr result (λ fault. fault ≢ PlanFault.OutOfMemory
+            → first_fault_of (plan_of length method keys.now counters.now max_spread)
+            ≡ Some fault) }
+        ensures memory { IsErrOf result PlanFault.OutOfMemory
+            → IsPlan (plan_of length method keys.now counters.now max_spread) }
     {
         if let Some(fault) = first_fault(length, keys, counters, max_spread) {
             return Err(fault);
@@ -156,7 +161,7 @@ impl Plan {
     }
 }
 
-/// The kinds that the fields of the keys are read by.
+// The kinds that the fields of the keys are read by.
 fn kinds_of(alloc: Global, keys: &[Key]) -> Result<Vec<Kind>, AllocError>
     ensures { IfOk result (λ kinds. kinds.items ≡ kinds_in keys.now) }
 {

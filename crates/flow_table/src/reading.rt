@@ -62,7 +62,7 @@ pub(crate) fn read(
     Ok(Reading::Used(span))
 }
 
-/// Whether a flow would be spread over more intervals than the plan allows.
+// Whether a flow would be spread over more intervals than the plan allows.
 fn is_too_long(plan: &Plan, span: Span) -> bool
     ensures { result ≡ is_too_long_in plan.now span.start span.end }
 {
@@ -75,7 +75,7 @@ fn is_too_long(plan: &Plan, span: Span) -> bool
     }
 }
 
-/// Leaves the cells of the keys in `cells`, and tells whether each has one.
+// Leaves the cells of the keys in `cells`, and tells whether each has one.
 fn read_key(
     keys: &[Key],
     kinds: &[Kind],
@@ -85,7 +85,8 @@ fn read_key(
     requires prefixes { All HasPrefix keys.now }
     requires kinds { kinds.now ≡ kinds_of keys.now }
     requires comparable { AllPass is_key_kind kinds.now }
-    ensures cells { IfOk result (λ whole. cells_of keys.now data_record.now ≡ (if whole then Some cells.new else None)) }
+    ensures cells { IfOk result (λ whole. cells_of keys.now data_record.now
+        ≡ (if whole then Some cells.new else None)) }
     ensures fits { IfOk result (λ whole. IsTrue whole → FitsKeys keys.now cells.new) }
 {
     cells.clear();
@@ -98,7 +99,7 @@ fn read_key(
     Ok(true)
 }
 
-/// The cell of a key, if the record has one.
+// The cell of a key, if the record has one.
 #[tactic(auto, unfolding(crate::specs::Reading::cell_of), using(crate::proofs::Fits::projected_fits))]
 fn read_cell_of(key: Key, kind: Kind, data_record: &DataRecord) -> Option<Cell>
     requires prefix { HasPrefix key }
@@ -112,7 +113,7 @@ fn read_cell_of(key: Key, kind: Kind, data_record: &DataRecord) -> Option<Cell>
     Some(project(key, cell))
 }
 
-/// The cell that octets are, by a kind of keys.
+// The cell that octets are, by a kind of keys.
 fn read_key_cell(kind: Kind, octets: &[u8]) -> Option<Cell>
     requires { is_key_kind kind ≡ true }
     ensures value { result ≡ cell_in kind octets.now }
@@ -121,7 +122,7 @@ fn read_key_cell(kind: Kind, octets: &[u8]) -> Option<Cell>
     read_cell(kind, octets)
 }
 
-/// The cell under a key: an IPv4 address with its prefix alone, if the key has one.
+// The cell under a key: an IPv4 address with its prefix alone, if the key has one.
 fn project(key: Key, cell: Cell) -> Cell
     requires { HasPrefix key }
     ensures { result ≡ projected key.prefix cell }
@@ -132,7 +133,7 @@ fn project(key: Key, cell: Cell) -> Cell
     }
 }
 
-/// The counter in the first field of an element, 0 if that is missing or no number.
+// The counter in the first field of an element, 0 if that is missing or no number.
 fn counter(data_record: &DataRecord, element: ElementId) -> u64
     requires { is_counter element ≡ true }
     ensures { result ≡ counter_of element data_record.now }
@@ -150,7 +151,8 @@ pub(crate) fn read_counters(
     counters: &mut Vec<u64>,
 ) -> Result<(), AllocError>
     requires { AllPass is_counter elements.now }
-    ensures { OnOk result (counters.new.items ≡ map (λ c. counter_of c data_record.now) elements.now) }
+    ensures { OnOk result (counters.new.items
+        ≡ map (λ c. counter_of c data_record.now) elements.now) }
 {
     counters.clear();
     for element in elements {

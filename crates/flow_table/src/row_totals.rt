@@ -40,8 +40,10 @@ impl RowTotals {
     /// The fault is `SumTooLarge` if a sum or a number of flows would be 2^64 or more with the row, and
     /// `OutOfMemory` if an allocation was refused. After a fault the totals stand for no list.
     pub fn add(&mut self, row: Row) -> Result<(), TableFault>
-        ensures adds { (rows : List RowValue) → AreOf self.old rows → OnOk result (AreOf self.new (rows ++ value_of row ∷ [])) }
-        ensures large { (rows : List RowValue) → AreOf self.old rows → IfErr result (λ e. e ≡ SumTooLarge → AddUpTooLarge (rows ++ value_of row ∷ [])) }
+        ensures adds { (rows : List RowValue) → AreOf self.old rows
+            → OnOk result (AreOf self.new (rows ++ value_of row ∷ [])) }
+        ensures large { (rows : List RowValue) → AreOf self.old rows
+            → IfErr result (λ e. e ≡ SumTooLarge → AddUpTooLarge (rows ++ value_of row ∷ [])) }
     {
         let Row {
             interval,
@@ -58,7 +60,8 @@ impl RowTotals {
     ///
     /// The fault is `OutOfMemory`: an allocation was refused.
     pub fn finish(self) -> Result<Vec<Row>, TableFault>
-        ensures sums { (rows : List RowValue) → AreOf self rows → IfOk result (λ merged. AreAddedUp rows (map value_of merged.items)) }
+        ensures sums { (rows : List RowValue) → AreOf self rows
+            → IfOk result (λ merged. AreAddedUp rows (map value_of merged.items)) }
         ensures small { (rows : List RowValue) → AreOf self rows → AddUpTooLarge rows → ⊥ }
         ensures err { IfErr result (λ e. e ≡ OutOfMemory) }
     {

@@ -10,29 +10,31 @@ use crate::plan::Plan;
 use crate::span::Span;
 use std::alloc::AllocError;
 
-/// What interval `k` gets of the counter `v` of a flow from `s` to `e`, both in milliseconds since
-/// 1970-01-01 UTC and below 2^50 (RFC 7015, section 5.1.1). It is 0 for an interval that gets
-/// nothing.
-pub fn share(plan: &Plan, s: u64, e: u64, v: u64, k: u64) -> u64
-    requires order { s ≤ e }
-    requires small { e < 2 ^ 50 }
-    ensures { result ≡ share_in plan.now s e v k }
+/// What an interval gets of a counter's value of a flow from `start` to `end` (RFC 7015, section
+/// 5.1.1). It is 0 for an interval that gets nothing.
+///
+/// `start` and `end` are milliseconds since 1970-01-01 UTC, below 2^50. `interval` is the interval's
+/// number, counted from 0 at that time.
+pub fn share(plan: &Plan, start: u64, end: u64, value: u64, interval: u64) -> u64
+    requires order { start ≤ end }
+    requires small { end < 2 ^ 50 }
+    ensures { result ≡ share_in plan.now start end value interval }
 {
-    share_of(plan, Span { start: s, end: e }, v, k)
+    share_of(plan, Span { start, end }, value, interval)
 }
 
-/// What interval `k` gets of the counter `v` of a flow.
-fn share_of(plan: &Plan, span: Span, v: u64, k: u64) -> u64
-    ensures { result ≡ share_in plan.now span.start span.end v k }
+// What an interval gets of the counter of a flow.
+fn share_of(plan: &Plan, span: Span, value: u64, interval: u64) -> u64
+    ensures { result ≡ share_in plan.now span.start span.end value interval }
 {
     let length = u64::from(plan.length());
     let Span { start, end } = span;
     match plan.method() {
-        Method::Start => whole_share(start / length, v, k),
-        Method::End => whole_share(end / length, v, k),
-        Method::Mid => whole_share((start + end) / 2 / length, v, k),
-        Method::Uniform => uniform_share(length, span, v, k),
-        Method::Proportional => proportional_share(length, span, v, k),
+        Method::Start => whole_share(start / length, value, interval),
+        Method::End => whole_share(end / length, value, interval),
+        Method::Mid => whole_share((start + end) / 2 / length, value, interval),
+        Method::Uniform => uniform_share(length, span, value, interval),
+        Method::Proportional => proportional_share(length, span, value, interval),
     }
 }
 
@@ -44,7 +46,8 @@ pub(crate) fn read_shares(
     interval: u64,
     shares: &mut Vec<u64>,
 ) -> Result<(), AllocError>
-    ensures { OnOk result (shares.new.items ≡ shares_of plan.now span.start span.end counters.now interval) }
+    ensures { OnOk result (shares.new.items
+        ≡ shares_of plan.now span.start span.end counters.now interval) }
 {
     shares.clear();
     for value in counters {
@@ -71,46 +74,46 @@ pub(crate) fn covered(plan: &Plan, span: Span) -> (u64, u64)
     }
 }
 
-/// All to one interval.
-fn whole_share(one: u64, v: u64, k: u64) -> u64
-    ensures { result ≡ whole_share_in one v k }
+// All to one interval.
+fn whole_share(one: u64, value: u64, interval: u64) -> u64
+    ensures { result ≡ whole_share_in one value interval }
 {
-    if k == one { v } else { 0 }
+    if interval == one { value } else { 0 }
 }
 
-/// The same to each covered interval, and 1 more to the earliest ones until nothing is left.
-fn uniform_share(length: u64, span: Span, v: u64, k: u64) -> u64
+// The same to each covered interval, and 1 more to the earliest ones until nothing is left.
+fn uniform_share(length: u64, span: Span, value: u64, interval: u64) -> u64
     requires { 0 < length }
-    ensures { result ≡ uniform_share_in length span.start span.end v k }
+    ensures { result ≡ uniform_share_in length span.start span.end value interval }
 {
     let low = span.start / length;
     let high = span.end / length;
-    if k < low || high < k {
+    if interval < low || high < interval {
         return 0;
     }
     let spread = high - low + 1;
-    v / spread + u64::from(k - low < v % spread)
+    value / spread + u64::from(interval - low < value % spread)
 }
 
-/// What is due at the end of the interval and not yet at its begin.
+// What is due at the end of the interval and not yet at its begin.
 #[tactic(auto, using(crate::proofs::Dues::due_grows))]
-fn proportional_share(length: u64, span: Span, v: u64, k: u64) -> u64
+fn proportional_share(length: u64, span: Span, value: u64, interval: u64) -> u64
     requires { length < 2 ^ 32 }
-    ensures { result ≡ proportional_share_in length span.start span.end v k }
+    ensures { result ≡ proportional_share_in length span.start span.end value interval }
 {
-    let end = due_before(length, span, v, u128::from(k) + 1);
-    let begin = due_before(length, span, v, u128::from(k));
+    let end = due_before(length, span, value, u128::from(interval) + 1);
+    let begin = due_before(length, span, value, u128::from(interval));
     end - begin
 }
 
-/// What is due of the counter when the milliseconds of the flow before interval `k` are over.
-fn due_before(length: u64, span: Span, v: u64, k: u128) -> u64
+// What is due of the counter when the milliseconds of the flow before the interval are over.
+fn due_before(length: u64, span: Span, value: u64, interval: u128) -> u64
     requires length { length < 2 ^ 32 }
-    requires interval { k ≤ 2 ^ 64 }
-    ensures value { result ≡ due_before_in length span.start span.end v k }
+    requires interval { interval ≤ 2 ^ 64 }
+    ensures value { result ≡ due_before_in length span.start span.end value interval }
 {
     let duration = u128::from(span.end - span.start) + 1;
-    let begin = k * u128::from(length);
+    let begin = interval * u128::from(length);
     let milliseconds = begin.saturating_sub(u128::from(span.start)).min(duration);
-    (u128::from(v) * milliseconds / duration) as u64
+    (u128::from(value) * milliseconds / duration) as u64
 }

@@ -20,7 +20,7 @@ use crate::table_fault::TableFault;
 use crate::tally::Tally;
 use ipfix_message::DataRecord;
 
-/// Adds the shares of a used record, whose key was read, to the totals.
+// Adds the shares of a used record, whose key was read, to the totals.
 fn take_flow(
     plan: &Plan,
     intervals: &mut Intervals,

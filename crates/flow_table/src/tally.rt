@@ -26,7 +26,8 @@ pub struct Tally {
 }
 
 impl Tally {
-    pub(crate) const EMPTY: Tally = Tally {
+    /// No records.
+    pub const EMPTY: Tally = Tally {
         options: 0,
         untimed: 0,
         backward: 0,
@@ -38,8 +39,10 @@ impl Tally {
     /// Counts a record of a class.
     #[tactic(auto, using(crate::proofs::Sums::same_tally, crate::proofs::Holding::counts_fit))]
     pub(crate) fn count(&mut self, class: Class) -> Result<(), TableFault>
-        ensures ok { OnOk result ((self.new ≡ tally_sum self.old (one_of class)) × ((other : ClassValue) → count_in self.new other < 2 ^ 64)) }
-        ensures large { IfErr result (λ e. (e ≡ SumTooLarge) × (2 ^ 64 ≤ count_in self.old class + 1)) }
+        ensures ok { OnOk result ((self.new ≡ tally_sum self.old (one_of class))
+            × ((other : ClassValue) → count_in self.new other < 2 ^ 64)) }
+        ensures large { IfErr result (λ e. (e ≡ SumTooLarge)
+            × (2 ^ 64 ≤ count_in self.old class + 1)) }
     {
         let Tally {
             options,
@@ -61,7 +64,7 @@ impl Tally {
     }
 }
 
-/// The sum of two counts.
+// The sum of two counts.
 fn sum(a: u64, b: u64) -> Result<u64, TableFault>
     ensures ok { IfOk result (λ n. (n ≡ a + b) × (n < 2 ^ 64)) }
     ensures large { IfErr result (λ e. (e ≡ SumTooLarge) × (2 ^ 64 ≤ a + b)) }
@@ -74,8 +77,10 @@ fn sum(a: u64, b: u64) -> Result<u64, TableFault>
 
 /// The tally of the records of two tallies.
 pub fn together(a: &Tally, b: &Tally) -> Result<Tally, TableFault>
-    ensures ok { IfOk result (λ t. (t ≡ tally_sum a.now b.now) × ((class : ClassValue) → count_in t class < 2 ^ 64)) }
-    ensures large { IfErr result (λ e. (e ≡ SumTooLarge) × ((class : ClassValue) × (2 ^ 64 ≤ count_in a.now class + count_in b.now class))) }
+    ensures ok { IfOk result (λ t. (t ≡ tally_sum a.now b.now)
+        × ((class : ClassValue) → count_in t class < 2 ^ 64)) }
+    ensures large { IfErr result (λ e. (e ≡ SumTooLarge)
+        × ((class : ClassValue) × (2 ^ 64 ≤ count_in a.now class + count_in b.now class))) }
 {
     Ok(Tally {
         options: sum(a.options, b.options)?,

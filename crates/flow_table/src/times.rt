@@ -9,7 +9,7 @@ use ipfix_message::DataRecord;
 use ipfix_wire::ElementId;
 
 /// In milliseconds since 1970-01-01 UTC: times from here on count as absent.
-const TIME_LIMIT: u64 = 1 << 50;
+pub const TIME_LIMIT: u64 = 1 << 50;
 
 /// The time in the first field of an element, whose unit is so many milliseconds.
 fn time_of(data_record: &DataRecord, number: u16, kind: Kind, unit: u64) -> Option<u64>

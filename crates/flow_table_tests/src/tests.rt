@@ -1,4 +1,5 @@
 mod added_rows;
+mod calling;
 mod memory;
 mod plans;
 mod readings;

@@ -6,7 +6,7 @@ use Rattle.std.proofs.lemmas.Bool.{eqb-true}
 use Rattle.std.proofs.lemmas.Option.{none-some, same_Some}
 use Rattle.std.proofs.lemmas.Slice.Eq.{bytes_eq-Decides}
 use Rattle.ipfix_wire.specs.declared.specifier.ElementId.{ElementId}
-use Rattle.ipfix_elements.specs.Elements.{Row, elements, listed, row_of, name_of}
+use Rattle.ipfix_elements.specs.Elements.{Entry, elements, listed, entry_of, name_of}
 use Rattle.ipfix_elements.specs.Names.{IsElement, IsNameOf, numbered_text, name_text, numbered_element, first_of_both, element_named}
 use Rattle.ipfix_elements.proofs.Lookups.{find_passes, find_again, mapped, cases_Option}
 use Rattle.ipfix_elements.proofs.Table.{has_dot, same_number, same_name, numbers_distinct, names_distinct, no_dots, by_number, by_name, dotted}
@@ -20,16 +20,16 @@ named_is : (t : List ℕ) → element_named t ≡ first_of_both (option_map list
 unfolding element_named
 named_is t = refl
 
-by_first : (t : List ℕ) (r : Row) → find (λ r. bytes_eq r.name t) elements ≡ Some r → element_named t ≡ Some (listed r)
-by_first t r h = named_is t ∙ ap (λ (o : Option Row). first_of_both (option_map listed o) (numbered_element t)) h
+by_first : (t : List ℕ) (r : Entry) → find (λ r. bytes_eq r.name t) elements ≡ Some r → element_named t ≡ Some (listed r)
+by_first t r h = named_is t ∙ ap (λ (o : Option Entry). first_of_both (option_map listed o) (numbered_element t)) h
 
 by_second : (t : List ℕ) → find (λ r. bytes_eq r.name t) elements ≡ None → element_named t ≡ numbered_element t
-by_second t h = named_is t ∙ ap (λ (o : Option Row). first_of_both (option_map listed o) (numbered_element t)) h
+by_second t h = named_is t ∙ ap (λ (o : Option Entry). first_of_both (option_map listed o) (numbered_element t)) h
 
 -- a name of the table leads to its element
 of_listed : (t : List ℕ) (e : ElementId) → name_of e ≡ Some t → element_named t ≡ Some e
 of_listed t e h =
-    let row = mapped (λ (r : Row). r.name) (row_of e) t h in
+    let row = mapped (λ (r : Entry). r.name) (entry_of e) t h in
     let at = chosen (e.pen == 0) (find (λ r. r.number == e.number) elements) row.0 row.1 in
     let again = find_again (λ r. r.number == e.number) same_name by_name elements row.0 names_distinct at.1 in
     let found = subst (λ (n : List ℕ). find (λ r. bytes_eq r.name n) elements ≡ Some row.0) row.2 again in
@@ -46,12 +46,12 @@ pub named_only : (t : List ℕ) (e : ElementId) → IsNameOf e t → element_nam
 named_only t e (inl h) = of_listed t e h
 named_only t e (inr h) = of_numbered t e h.0 h.1
 
--- the row of a name gives its element that name
-has_name : (t : List ℕ) (r : Row) → find (λ r. bytes_eq r.name t) elements ≡ Some r → name_of (listed r) ≡ Some t
+-- the entry of a name gives its element that name
+has_name : (t : List ℕ) (r : Entry) → find (λ r. bytes_eq r.name t) elements ≡ Some r → name_of (listed r) ≡ Some t
 has_name t r h =
     let again = find_again (λ r. bytes_eq r.name t) same_number by_number elements r numbers_distinct h in
     let is = (bytes_eq-Decides r.name t).0 (find_passes (λ r. bytes_eq r.name t) elements r h) in
-    ap (option_map (λ (r : Row). r.name)) again ∙ ap (λ (n : List ℕ). Some n) is
+    ap (option_map (λ (r : Entry). r.name)) again ∙ ap (λ (n : List ℕ). Some n) is
 
 pub named_so : (t : List ℕ) (e : ElementId) → element_named t ≡ Some e → IsNameOf e t
 named_so t e h =

@@ -1,4 +1,4 @@
--- A binary search of rows whose numbers ascend finds what going through them finds.
+-- A binary search of entries whose numbers ascend finds what going through them finds.
 use Rattle.std.proofs.Common.{◌≡◌, ◌≢◌, ◌==◌, ℕ, zero, suc, ◌<◌, ◌≤◌, true, List, [], ◌∷◌, length, get_or, map, find, Some, None, Result, Ok, Err, Option, refl, sym, subst, arith}
 use Rattle.std.specs.Result.{result_ok}
 use Rattle.std.specs.List.Sorted.{IsSearchInRange, IsBinarySearchResult, IsNonDecreasingBy}
@@ -6,16 +6,16 @@ use Rattle.std.specs.Ordering.{nat_cmp, ordering_index}
 use Rattle.std.proofs.lemmas.Cmp.{ranked}
 use Rattle.std.proofs.lemmas.List.Sorted.{IsNonDecreasingBy-from_default}
 use Rattle.std.proofs.lemmas.Bool.Decides.{nat_tests}
-use Rattle.ipfix_elements.specs.declared.element.Row as kept
+use Rattle.ipfix_elements.specs.declared.element.Entry as kept
 use Rattle.ipfix_elements.specs.declared.kind.Kind.TheVariants.{Octets}
-use Rattle.ipfix_elements.specs.Rows.{rise, shown}
-use Rattle.ipfix_elements.specs.Elements.{Row}
+use Rattle.ipfix_elements.specs.Entries.{rise, shown}
+use Rattle.ipfix_elements.specs.Elements.{Entry}
 
--- a row, if there is none
-abbrev pub no_row : kept.Row
-no_row = record { number = 0; name = record { ref_ptr = (0, 0); now = [] }; kind = Octets }
+-- an entry, if there is none
+abbrev pub no_entry : kept.Entry
+no_entry = record { number = 0; name = record { ref_ptr = (0, 0); now = [] }; kind = Octets }
 
-abbrev numbers : List kept.Row → List ℕ
+abbrev numbers : List kept.Entry → List ℕ
 numbers rows = map (λ r. r.number) rows
 
 rise_tail : (m : ℕ) (ns : List ℕ) → rise (m ∷ ns) ≡ true → rise ns ≡ true
@@ -26,7 +26,7 @@ rise_head : (m n : ℕ) (ns : List ℕ) → rise (m ∷ n ∷ ns) ≡ true → m
 rise_head m n ns h = grind (arith, nat_tests)
 
 -- the first number is below each later one
-below : (r : kept.Row) (rows : List kept.Row) (d : kept.Row) (k : ℕ) → rise (numbers (r ∷ rows)) ≡ true → k < length rows → r.number < (get_or rows k d).number
+below : (r : kept.Entry) (rows : List kept.Entry) (d : kept.Entry) (k : ℕ) → rise (numbers (r ∷ rows)) ≡ true → k < length rows → r.number < (get_or rows k d).number
 below r [] d k h inside = absurd (omega arith)
 below r (s ∷ rows) d zero h inside = rise_head r.number s.number (numbers rows) h
 below r (s ∷ rows) d (suc k) h inside =
@@ -34,18 +34,18 @@ below r (s ∷ rows) d (suc k) h inside =
     let later = below s rows d k (rise_tail r.number (numbers (s ∷ rows)) h) (omega arith) in
     omega (arith, first, later)
 
-ordered : (rows : List kept.Row) (d : kept.Row) (i j : ℕ) → rise (numbers rows) ≡ true → i ≤ j → j < length rows → (get_or rows i d).number ≤ (get_or rows j d).number
+ordered : (rows : List kept.Entry) (d : kept.Entry) (i j : ℕ) → rise (numbers rows) ≡ true → i ≤ j → j < length rows → (get_or rows i d).number ≤ (get_or rows j d).number
 ordered [] d i j h le inside = absurd (omega arith)
 ordered (r ∷ rows) d zero zero h le inside = omega arith
 ordered (r ∷ rows) d zero (suc j) h le inside = let first = below r rows d j h (omega arith) in omega (arith, first)
 ordered (r ∷ rows) d (suc i) zero h le inside = absurd (omega arith)
 ordered (r ∷ rows) d (suc i) (suc j) h le inside = ordered rows d i j (rise_tail r.number (numbers rows) h) (omega arith) (omega arith)
 
--- going through the rows
-abbrev through : ℕ → List kept.Row → Option Row
+-- going through the entries
+abbrev through : ℕ → List kept.Entry → Option Entry
 through n rows = find (λ r. r.number == n) (map shown rows)
 
-through_at : (rows : List kept.Row) (d : kept.Row) (n i : ℕ) → rise (numbers rows) ≡ true → i < length rows → (get_or rows i d).number ≡ n → Some (shown (get_or rows i d)) ≡ through n rows
+through_at : (rows : List kept.Entry) (d : kept.Entry) (n i : ℕ) → rise (numbers rows) ≡ true → i < length rows → (get_or rows i d).number ≡ n → Some (shown (get_or rows i d)) ≡ through n rows
 through_at [] d n i h inside is = absurd (omega arith)
 through_at (r ∷ rows) d n zero h inside is = grind (arith, nat_tests)
 through_at (r ∷ rows) d n (suc i) h inside is =
@@ -53,14 +53,14 @@ through_at (r ∷ rows) d n (suc i) h inside is =
     let rest = through_at rows d n i (rise_tail r.number (numbers rows) h) (omega arith) is in
     grind (arith, nat_tests)
 
-through_none : (rows : List kept.Row) (d : kept.Row) (n : ℕ) → ((k : ℕ) → k < length rows → (get_or rows k d).number ≢ n) → None ≡ through n rows
+through_none : (rows : List kept.Entry) (d : kept.Entry) (n : ℕ) → ((k : ℕ) → k < length rows → (get_or rows k d).number ≢ n) → None ≡ through n rows
 through_none [] d n other = refl
 through_none (r ∷ rows) d n other =
     let first = other 0 (omega arith) in
     let rest = through_none rows d n (λ k inside. other (suc k) (omega arith)) in
     grind (arith, nat_tests)
 
-module _ (rows : List kept.Row) (d : kept.Row) (n : ℕ) (up : rise (numbers rows) ≡ true) where
+module _ (rows : List kept.Entry) (d : kept.Entry) (n : ℕ) (up : rise (numbers rows) ≡ true) where
   comparisons_rise : IsNonDecreasingBy (λ r. ordering_index (nat_cmp r.number n)) rows
   comparisons_rise = IsNonDecreasingBy-from_default (λ r. ordering_index (nat_cmp r.number n)) rows d (λ i j le inside. let rise = ordered rows d i j up le inside in grind (arith, nat_tests))
 

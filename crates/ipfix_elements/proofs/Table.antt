@@ -5,13 +5,13 @@ use Rattle.std.specs.List.{list_any, list_all}
 use Rattle.std.specs.Str.{bytes_eq}
 use Rattle.std.proofs.lemmas.Bool.{cases_Bool, and_parts, not-true, both_ways, eqb-true, eq-eqb}
 use Rattle.std.proofs.lemmas.Slice.Eq.{bytes_eq-Decides}
-use Rattle.ipfix_elements.specs.Elements.{Row, elements}
+use Rattle.ipfix_elements.specs.Elements.{Entry, elements}
 use Rattle.ipfix_elements.proofs.Lookups.{are_distinct, ComparesKeys, find_rest}
 
-abbrev pub same_number : Row → Row → Bool
+abbrev pub same_number : Entry → Entry → Bool
 same_number r s = r.number == s.number
 
-abbrev pub same_name : Row → Row → Bool
+abbrev pub same_name : Entry → Entry → Bool
 same_name r s = bytes_eq r.name s.name
 
 abbrev pub has_dot : List ℕ → Bool
@@ -36,7 +36,7 @@ pub by_name : ComparesKeys same_name
 by_name = record { itself = λ r. (bytes_eq-Decides r.name r.name).1 refl; alike = λ r s e q. ap (λ (n : List ℕ). bytes_eq q.name n) ((bytes_eq-Decides r.name s.name).0 e) }
 
 -- a text with a dot is no name among those
-pub dotted : (rows : List Row) (t : List ℕ) → list_all (λ r. not (has_dot r.name)) rows ≡ true → has_dot t ≡ true → find (λ r. bytes_eq r.name t) rows ≡ None
+pub dotted : (rows : List Entry) (t : List ℕ) → list_all (λ r. not (has_dot r.name)) rows ≡ true → has_dot t ≡ true → find (λ r. bytes_eq r.name t) rows ≡ None
 dotted [] t none dot = refl
 dotted (r ∷ rows) t none dot =
     let parts = and_parts (not (has_dot r.name)) (list_all (λ r. not (has_dot r.name)) rows) none in

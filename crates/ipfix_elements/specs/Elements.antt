@@ -11,12 +11,12 @@ abbrev pub iana : ℕ → ElementId
 iana number = record { pen = 0; number = number }
 
 -- an element's number and name in IANA's registry, and the kind that its fields are read by
-pub record Row : Type 0 where
+pub record Entry : Type 0 where
   pub number : ℕ
   pub name : List ℕ
   pub kind : Kind
 
-abbrev pub element : ℕ → List ℕ → Kind → Row
+abbrev pub element : ℕ → List ℕ → Kind → Entry
 element number name kind = record { number = number; name = name; kind = kind }
 
 abbrev pub u8 : Kind
@@ -31,7 +31,7 @@ u32 = Unsigned Four
 abbrev pub u64 : Kind
 u64 = Unsigned Eight
 
-unfoldable pub elements : List Row
+unfoldable pub elements : List Entry
 elements =
     element 1 (codes "octetDeltaCount") u64 ∷
     element 2 (codes "packetDeltaCount") u64 ∷
@@ -70,17 +70,17 @@ elements =
     element 375 (codes "originalFlowsPresent") u64 ∷
     []
 
--- the row of an element; those of an enterprise have none
-abbrev pub row_of : ElementId → Option Row
-row_of e = if e.pen == 0 then find (λ r. r.number == e.number) elements else None
+-- the entry of an element; those of an enterprise have none
+abbrev pub entry_of : ElementId → Option Entry
+entry_of e = if e.pen == 0 then find (λ r. r.number == e.number) elements else None
 
 abbrev pub name_of : ElementId → Option (List ℕ)
-name_of e = option_map (λ r. r.name) (row_of e)
+name_of e = option_map (λ r. r.name) (entry_of e)
 
 -- what is not in the table is read as octets
 abbrev pub kind_of : ElementId → Kind
-kind_of e = option_map_or (λ r. r.kind) (row_of e) Octets
+kind_of e = option_map_or (λ r. r.kind) (entry_of e) Octets
 
--- the element of a row
-abbrev pub listed : Row → ElementId
+-- the element of an entry
+abbrev pub listed : Entry → ElementId
 listed r = iana r.number

@@ -1,10 +1,12 @@
--- what public contracts cite
+-- What public contracts cite.
 pub mod Elements
 pub mod Values
 pub mod Cells
 pub mod Names
 pub mod Texts
+pub mod Writers
+pub mod JsonValues
 pub mod Prefixes
+-- What only inner functions and proofs need.
 pub mod Ascii
--- what only inner functions need
-pub mod Rows
+pub mod Entries

@@ -1,5 +1,5 @@
 -- The names of elements as text.
-use Rattle.std.specs.Prelude.{◌≡◌, ℕ, ◌^◌, ◌<◌, ◌⊎◌, ◌==◌, ◌&&◌, nat_lt, List, ◌++◌, drop, find, codes, Option, Some, None, unwrap_or, option_map, if◌then◌else◌}
+use Rattle.std.specs.Prelude.{◌≡◌, ◌≢◌, ℕ, ◌^◌, ◌<◌, ◌⊎◌, ◌==◌, ◌&&◌, nat_lt, List, ◌++◌, length, get_or, drop, find, codes, Option, Some, None, unwrap_or, option_map, if◌then◌else◌}
 use Rattle.std.specs.Fmt.{decimal}
 use Rattle.std.specs.List.{before_first, after_first}
 use Rattle.std.specs.Str.{bytes_eq}
@@ -12,6 +12,10 @@ use Rattle.ipfix_elements.specs.Elements.{elements, listed, name_of}
 pub record IsElement (e : ElementId) : Type 0 where
   pub pen : e.pen < 2 ^ 32
   pub number : e.number < 2 ^ 15
+
+-- what stands before the first dot
+abbrev pub HasNoDot : List ℕ → Type 0
+HasNoDot t = (i : ℕ) → i < length t → get_or t i 0 ≢ dot
 
 -- e<pen>.<number>, both in decimal
 abbrev pub numbered_text : ElementId → List ℕ

@@ -1,12 +1,9 @@
 //! Values that can be compared: numbers and addresses.
 
 ghost use Rattle.std.specs.Prelude.{◌≡◌, ◌++◌, ◌<◌, ◌^◌, OnOk, OnErr};
-ghost use Rattle.std.specs.Cmp.{IsTotalOrder};
-ghost use Rattle.std.specs.declared.cmp.Ordering.TheVariants.{Equal};
 ghost use Rattle.byteorder.specs.Endian.{big_bytes};
 ghost use Rattle.ipfix_elements.specs.Values.{cell_in};
-ghost use Rattle.ipfix_elements.specs.Cells.{cell_cmp, cell_octets, FitsWidth};
-ghost use Rattle.ipfix_elements.specs.declared.cell.Cell.{Cell};
+ghost use Rattle.ipfix_elements.specs.Cells.{cell_octets, FitsWidth};
 
 use crate::kind::Kind;
 use crate::number::read_number;
@@ -25,13 +22,6 @@ pub enum Cell {
     /// An IEEE 802 MAC address.
     Mac([u8; 6]),
 }
-
-/// The order of cells is total, and only a cell itself is equal to it.
-pub fn cell_order()
-    ensures order { (a b : Cell) → ⟦<Cell as Ord>⟧.cmp a b ≡ cell_cmp a b }
-    ensures total { IsTotalOrder cell_cmp }
-    ensures equal { (a b : Cell) → cell_cmp a b ≡ Equal → a ≡ b }
-{}
 
 /// The value that the octets of a field are. `None` if `read_number` gives none, for an address of
 /// another length than its kind has, and for `Octets`.
@@ -64,7 +54,7 @@ pub fn write_cell_octets(cell: &Cell, width: u16, out: &mut Vec<u8>) -> Result<(
     }
 }
 
-/// Appends the number in so many octets, with zeros before its 8 if it is to have more.
+// Appends the number in so many octets, with zeros before its 8 if it is to have more.
 fn write_number(number: u64, width: u16, out: &mut Vec<u8>) -> Result<(), AllocError>
     requires { number < 256 ^ width }
     ensures ok { OnOk result (out.new.items ≡ out.old.items ++ big_bytes width number) }

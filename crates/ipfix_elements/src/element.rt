@@ -3,23 +3,23 @@
 ghost use Rattle.std.specs.Prelude.{◌≡◌, ◌==◌, true, find, map};
 ghost use Rattle.std.specs.Option.{option_copied, option_map};
 ghost use Rattle.std.specs.Str.{bytes_eq};
-ghost use Rattle.ipfix_elements.specs.Elements.{elements, listed, row_of as row_in, kind_of as kind_in, name_of as name_in};
-ghost use Rattle.ipfix_elements.specs.Rows.{rise, shown};
+ghost use Rattle.ipfix_elements.specs.Elements.{elements, listed, entry_of as entry_in, kind_of as kind_in, name_of as name_in};
+ghost use Rattle.ipfix_elements.specs.Entries.{rise, shown};
 
 use crate::kind::{Kind, Width};
 use ipfix_wire::ElementId;
 
 /// An element's number and name in IANA's registry, and the kind that its fields are read by.
 #[derive(Clone, Copy)]
-struct Row {
+struct Entry {
     number: u16,
     name: &'static str,
     kind: Kind,
 }
 
-macro_rules! rows {
+macro_rules! entries {
     ($(($number:literal, $name:literal, $kind:expr),)*) => {
-        [$(Row { number: $number, name: $name, kind: $kind }),*]
+        [$(Entry { number: $number, name: $name, kind: $kind }),*]
     };
 }
 
@@ -31,7 +31,7 @@ const U32: Kind = Kind::Unsigned(Width::Four);
 
 const U64: Kind = Kind::Unsigned(Width::Eight);
 
-static ELEMENTS: [Row; 35] = rows![
+static ELEMENTS: [Entry; 35] = entries![
     (1, "octetDeltaCount", U64),
     (2, "packetDeltaCount", U64),
     (3, "deltaFlowCount", U64),
@@ -69,17 +69,21 @@ static ELEMENTS: [Row; 35] = rows![
     (375, "originalFlowsPresent", U64),
 ];
 
-fn find_by_number(table: &'static [Row], number: u16) -> Option<Row>
+// The entry of a number, by a binary search.
+fn find_by_number(table: &'static [Entry], number: u16) -> Option<Entry>
     requires { rise (map (λ r. r.number) table.now) ≡ true }
     ensures { option_map shown result ≡ find (λ r. r.number == number) (map shown table.now) }
 {
-    let place = table.binary_search_by_key(&number, |row| row.number).ok()?;
+    let place = table
+        .binary_search_by_key(&number, |entry| entry.number)
+        .ok()?;
     Some(table[place])
 }
 
+// The entry of an element. Those of an enterprise have none.
 #[tactic(auto, unfolding(crate::specs::Elements::elements))]
-fn row_of(element: ElementId) -> Option<Row>
-    ensures { option_map shown result ≡ row_in element }
+fn entry_of(element: ElementId) -> Option<Entry>
+    ensures { option_map shown result ≡ entry_in element }
 {
     if element.pen != 0 {
         return None;
@@ -87,12 +91,13 @@ fn row_of(element: ElementId) -> Option<Row>
     find_by_number(&ELEMENTS, element.number)
 }
 
-fn find_by_name(mut table: &'static [Row], name: &str) -> Option<Row>
-    ensures { option_map shown result ≡ find (λ r. bytes_eq r.name name.now) (map shown table.entry.now) }
+fn find_by_name(mut table: &'static [Entry], name: &str) -> Option<Entry>
+    ensures { option_map shown result
+        ≡ find (λ r. bytes_eq r.name name.now) (map shown table.entry.now) }
 {
-    while let [row, rest @ ..] = table {
-        if row.name == name {
-            return Some(*row);
+    while let [entry, rest @ ..] = table {
+        if entry.name == name {
+            return Some(*entry);
         }
         table = rest;
     }
@@ -105,7 +110,7 @@ pub(crate) fn listed_element(name: &str) -> Option<ElementId>
     ensures { result ≡ option_map listed (find (λ r. bytes_eq r.name name.now) elements) }
 {
     match find_by_name(&ELEMENTS, name) {
-        Some(row) => Some(ElementId::iana(row.number)),
+        Some(entry) => Some(ElementId::iana(entry.number)),
         None => None,
     }
 }
@@ -114,8 +119,8 @@ pub(crate) fn listed_element(name: &str) -> Option<ElementId>
 pub fn kind_of(element: ElementId) -> Kind
     ensures { result ≡ kind_in element }
 {
-    match row_of(element) {
-        Some(row) => row.kind,
+    match entry_of(element) {
+        Some(entry) => entry.kind,
         None => Kind::Octets,
     }
 }
@@ -124,5 +129,5 @@ pub fn kind_of(element: ElementId) -> Kind
 pub fn name_of(element: ElementId) -> Option<&'static str>
     ensures { option_copied result ≡ name_in element }
 {
-    Some(row_of(element)?.name)
+    Some(entry_of(element)?.name)
 }

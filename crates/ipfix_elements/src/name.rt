@@ -1,16 +1,16 @@
 //! The names of elements as text.
 
-ghost use Rattle.std.specs.Prelude.{◌≡◌, ◌≢◌, ◌<◌, ◌^◌, ◌∷◌, ◌++◌, ℕ, List, None, Some, length, get_or, IfSome, IsSomeAnd, OnOk};
-ghost use Rattle.std.specs.Fmt.{decimal};
-ghost use Rattle.std.specs.Io.KnownBytes.{Appends};
+ghost use Rattle.std.specs.Prelude.{◌≡◌, ◌∷◌, ◌++◌, ℕ, List, Some, IfSome, IsSomeAnd, OnOk};
 ghost use Rattle.ipfix_wire.specs.declared.specifier.ElementId.{ElementId};
 ghost use Rattle.ipfix_elements.specs.Ascii.{dot, letter_e};
-ghost use Rattle.ipfix_elements.specs.Names.{IsElement, IsNameOf, numbered_text, name_text, numbered_element as numbered_in, element_named};
+ghost use Rattle.ipfix_elements.specs.Names.{HasNoDot, IsElement, IsNameOf, numbered_text, name_text, numbered_element as numbered_in, element_named};
+ghost use Rattle.ipfix_elements.specs.Writers.{Writes};
 
 use crate::element::{listed_element, name_of};
 use arrayvec::ArrayString;
 use ipfix_wire::ElementId;
 use itoa::Buffer;
+use std::alloc::AllocError;
 use std::io;
 use std::io::Write;
 
@@ -19,12 +19,20 @@ const NUMBER_LIMIT: u16 = 0x8000;
 
 /// Writes an element's name, or `e<pen>.<number>` if it has none. An `Err` is the writer's.
 pub fn write_name<W: Write>(element: ElementId, out: &mut W) -> io::Result<()>
-    ensures { OnOk result (Appends (W.contents out.old) (W.contents out.new) (name_text element)) }
+    ensures { OnOk result (Writes W.contents out.old out.new (name_text element)) }
 {
     match name_of(element) {
         Some(name) => out.write_all(name.as_bytes()),
         None => out.write_all(numbered_name(element).as_str().as_bytes()),
     }
+}
+
+/// Appends what `write_name` writes.
+pub fn append_name(element: ElementId, out: &mut Vec<u8>) -> Result<(), AllocError>
+    ensures { OnOk result (out.new.items ≡ out.old.items ++ name_text element) }
+{
+    // A vector fails only if memory runs out.
+    write_name(element, out).map_err(|_| AllocError)
 }
 
 /// The element that a text names: by its name, or as `e<pen>.<number>` with both numbers in decimal
@@ -41,6 +49,7 @@ pub fn by_name(name: &str) -> Option<ElementId>
     named_element(name)
 }
 
+// The element that has the name, or else the numbers.
 #[tactic(auto, unfolding(crate::specs::Names::element_named))]
 fn named_element(name: &str) -> Option<ElementId>
     ensures { result ≡ element_named name.now }
@@ -51,6 +60,7 @@ fn named_element(name: &str) -> Option<ElementId>
     }
 }
 
+// An element as `e<pen>.<number>`.
 fn numbered_name(element: ElementId) -> ArrayString<17>
     ensures { result.bytes ≡ numbered_text element }
 {
@@ -63,6 +73,7 @@ fn numbered_name(element: ElementId) -> ArrayString<17>
     name
 }
 
+// The element whose numbers a text gives in the one form that is written.
 fn numbered_element(name: &str) -> Option<ElementId>
     ensures { result ≡ numbered_in name.now }
 {
@@ -74,7 +85,7 @@ fn numbered_element(name: &str) -> Option<ElementId>
     }
 }
 
-/// The two numbers of a name in the numbered form, or else any.
+// The two numbers of a name in the numbered form, or else any.
 fn numbers_of(name: &str) -> Option<ElementId>
     ensures { (e : ElementId) → IsElement e → name.now ≡ numbered_text e → result ≡ Some e }
 {
@@ -85,9 +96,9 @@ fn numbers_of(name: &str) -> Option<ElementId>
     })
 }
 
-/// What stands between the `e` and the first dot, and what stands after that.
+// What stands between the `e` and the first dot, and what stands after that.
 fn parts_of(name: &str) -> Option<(&str, &str)>
-    ensures { (pen number : List ℕ) → ((i : ℕ) → i < length pen → get_or pen i 0 ≢ dot) → name.now ≡ letter_e ∷ (pen ++ dot ∷ number)
+    ensures { (pen number : List ℕ) → HasNoDot pen → name.now ≡ letter_e ∷ (pen ++ dot ∷ number)
         → IsSomeAnd result (λ r. (r.0.now ≡ pen) × (r.1.now ≡ number)) }
 {
     let numbers = name.strip_prefix('e')?;

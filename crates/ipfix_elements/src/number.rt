@@ -6,6 +6,7 @@ ghost use Rattle.ipfix_elements.specs.Values.{number_in, is_number_length as is_
 use crate::kind::Kind;
 use byteorder::{BigEndian, ByteOrder};
 
+// Whether so many octets are a number of the kind.
 fn is_number_length(kind: Kind, length: usize) -> bool
     ensures { result ≡ is_length kind length }
 {

@@ -1,10 +1,10 @@
 //! Values as text.
 
 ghost use Rattle.std.specs.Prelude.{◌≡◌, ◌+◌, ◌≤◌, ◌++◌, length, OnOk};
-ghost use Rattle.std.specs.Io.KnownBytes.{Appends};
 ghost use Rattle.arrayvec.specs.ArrayVec.{array_vec_len};
 ghost use Rattle.hex.specs.Hex.{encode_lower};
 ghost use Rattle.ipfix_elements.specs.Texts.{octet_text, ipv4_text as dotted, ipv6_text as groups_of_four, mac_text as groups_of_two, cell_text, hex_mark as mark_of, value_text};
+ghost use Rattle.ipfix_elements.specs.Writers.{Writes};
 
 use crate::cell::{Cell, read_cell};
 use crate::kind::Kind;
@@ -22,7 +22,7 @@ const PIECE: usize = 64;
 /// as `0x` and two hexadecimal digits each, and octets that are no value of the kind as `?0x` and
 /// the digits. An `Err` is the writer's.
 pub fn write_value<W: Write>(kind: Kind, octets: &[u8], out: &mut W) -> io::Result<()>
-    ensures { OnOk result (Appends (W.contents out.old) (W.contents out.new) (value_text kind octets.now)) }
+    ensures { OnOk result (Writes W.contents out.old out.new (value_text kind octets.now)) }
 {
     match read_cell(kind, octets) {
         Some(cell) => write_cell(&cell, out),
@@ -33,7 +33,7 @@ pub fn write_value<W: Write>(kind: Kind, octets: &[u8], out: &mut W) -> io::Resu
 /// Writes what `write_value` writes for the same value. An `Err` is the writer's.
 #[tactic(auto, unfolding(crate::specs::Texts::cell_text))]
 pub fn write_cell<W: Write>(cell: &Cell, out: &mut W) -> io::Result<()>
-    ensures { OnOk result (Appends (W.contents out.old) (W.contents out.new) (cell_text cell.now)) }
+    ensures { OnOk result (Writes W.contents out.old out.new (cell_text cell.now)) }
 {
     match cell {
         Cell::Number(number) => out.write_all(Buffer::new().format(*number).as_bytes()),
@@ -43,6 +43,7 @@ pub fn write_cell<W: Write>(cell: &Cell, out: &mut W) -> io::Result<()>
     }
 }
 
+// What stands before the digits of octets.
 fn hex_mark(kind: Kind) -> &'static str
     ensures { result.now ≡ mark_of kind }
 {
@@ -54,6 +55,7 @@ fn hex_mark(kind: Kind) -> &'static str
     }
 }
 
+// Four decimal numbers joined by dots.
 fn ipv4_text(address: &[u8; 4]) -> ArrayString<15>
     ensures { result.bytes ≡ dotted address.now }
 {
@@ -69,6 +71,7 @@ fn ipv4_text(address: &[u8; 4]) -> ArrayString<15>
     text
 }
 
+// Eight groups of four hexadecimal digits joined by colons.
 fn ipv6_text(address: &[u8; 16]) -> ArrayVec<u8, 39>
     ensures { result.items ≡ groups_of_four address.now }
 {
@@ -83,6 +86,7 @@ fn ipv6_text(address: &[u8; 16]) -> ArrayVec<u8, 39>
     text
 }
 
+// Six groups of two hexadecimal digits joined by colons.
 fn mac_text(address: &[u8; 6]) -> ArrayVec<u8, 17>
     ensures { result.items ≡ groups_of_two address.now }
 {
@@ -95,7 +99,7 @@ fn mac_text(address: &[u8; 6]) -> ArrayVec<u8, 17>
     text
 }
 
-/// Appends two lower-case hexadecimal digits.
+// Appends two lower-case hexadecimal digits.
 #[tactic(auto, unfolding(hex::specs::Hex::encode_with))]
 fn push_octet<const N: usize>(text: &mut ArrayVec<u8, N>, octet: u8)
     requires { array_vec_len text.old + 2 ≤ N }
@@ -106,9 +110,10 @@ fn push_octet<const N: usize>(text: &mut ArrayVec<u8, N>, octet: u8)
     text.push(DIGITS[usize::from(octet % 16)]);
 }
 
-/// Writes a mark, and then each octet as two lower-case hexadecimal digits.
+// Writes a mark, and then each octet as two lower-case hexadecimal digits.
 fn write_hex<W: Write>(mark: &str, octets: &[u8], out: &mut W) -> io::Result<()>
-    ensures { OnOk result (Appends (W.contents out.old) (W.contents out.new) (mark.now ++ encode_lower octets.now)) }
+    ensures { OnOk result
+        (Writes W.contents out.old out.new (mark.now ++ encode_lower octets.now)) }
 {
     out.write_all(mark.as_bytes())?;
     let mut rest = octets;
@@ -122,7 +127,7 @@ fn write_hex<W: Write>(mark: &str, octets: &[u8], out: &mut W) -> io::Result<()>
 
 fn write_piece<W: Write>(piece: &[u8], out: &mut W) -> io::Result<()>
     requires { length piece.now ≤ PIECE }
-    ensures { OnOk result (Appends (W.contents out.old) (W.contents out.new) (encode_lower piece.now)) }
+    ensures { OnOk result (Writes W.contents out.old out.new (encode_lower piece.now)) }
 {
     let mut digits = [0; 128];
     let end = 2 * piece.len();

@@ -1,3 +1,4 @@
+use ipfix_elements::laws::cell_order;
 use ipfix_elements::*;
 use ipfix_wire::ElementId;
 use std::alloc::Global;
@@ -80,7 +81,7 @@ fn names_are_written(rt: HostRuntime) -> Result<(), Fail> {
     Ok(())
 }
 
-/// The numbers that have a name of their own are those of the elements with these names.
+// The numbers that have a name of their own are those of the elements with these names.
 #[test]
 fn named_numbers(rt: HostRuntime) {
     let numbers = [

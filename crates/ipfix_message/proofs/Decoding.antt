@@ -8,7 +8,7 @@ use Rattle.ipfix_message.specs.declared.fault.MessageFault.{MessageFault}
 use Rattle.ipfix_message.specs.declared.record.Template.{Template}
 use Rattle.ipfix_message.specs.Fields.{Field}
 use Rattle.ipfix_message.specs.declared.record.DataRecord.{DataRecord}
-use Rattle.ipfix_message.specs.declared.template_record.Kind.{Kind}
+use Rattle.ipfix_message.specs.declared.template_record.TemplateKind.{TemplateKind}
 use Rattle.ipfix_message.specs.declared.template_record.Event.{Event}
 use Rattle.ipfix_message.specs.declared.message.Decoded.{Decoded}
 use Rattle.ipfix_message.specs.Outcome.{◌>>=◌, unless, Fails, Gives}
@@ -26,7 +26,7 @@ use Rattle.ipfix_wire.proofs.Choices.{different}
 
 -- ---- one set
 
-pub template_set : (kind : Kind) (d : Decoding) (body : List ℕ) (entries news : List (ℕ × Template)) (p : Decoded) (n : ℕ) → Holds entries p d
+pub template_set : (kind : TemplateKind) (d : Decoding) (body : List ℕ) (entries news : List (ℕ × Template)) (p : Decoded) (n : ℕ) → Holds entries p d
     → Updates (Ok n) news (template_set_gives kind d.events body)
     → Reaches (Ok tt) news (record p { ignored_withdrawals = p.ignored_withdrawals + n }) (templates_in kind d body)
 unfolding templates_in
@@ -36,7 +36,7 @@ template_set kind d body entries news p n holds updated = (
   record { templates = updated.2; records = holds.records; passed_over = ap (more_ignored n) holds.passed_over },
 )
 
-pub template_set_fails : (x : MessageFault) (kind : Kind) (d : Decoding) (body : List ℕ) → Fails x (template_set_gives kind d.events body) → Fails x (templates_in kind d body)
+pub template_set_fails : (x : MessageFault) (kind : TemplateKind) (d : Decoding) (body : List ℕ) → Fails x (template_set_gives kind d.events body) → Fails x (templates_in kind d body)
 unfolding templates_in
 template_set_fails x kind d body fails =
     Fails-of x (template_set_gives kind d.events body) (templates_in kind d body) (λ f h.

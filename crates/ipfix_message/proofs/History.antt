@@ -6,13 +6,14 @@ use Rattle.std.proofs.lemmas.Bool.Decides.{eqb_tells}
 use Rattle.std.specs.BTreeMap.{BTreeMap}
 use Rattle.std.proofs.lemmas.Map.Made.{lookup-map_values}
 use Rattle.std.proofs.lemmas.Map.Entries.{length-keys_of}
-use Rattle.std.proofs.lemmas.Bool.{le-ltb, lt-ltb}
+use Rattle.std.proofs.lemmas.Bool.{ltb-false, le-ltb, lt-ltb}
 use Rattle.std.proofs.lemmas.List.{map-append}
 use Rattle.ipfix_message.specs.declared.fault.MessageFault.{MessageFault}
-use Rattle.ipfix_message.specs.declared.fault.MessageFault.TheVariants.{TooManyDomains}
+use Rattle.ipfix_message.specs.declared.fault.MessageFault.TheVariants.{MessageLength, TooManyDomains}
 use Rattle.ipfix_message.specs.declared.record.Template.{Template}
 use Rattle.ipfix_message.specs.declared.template_record.Event.{Event}
 use Rattle.ipfix_wire.specs.declared.header.Header.{Header}
+use Rattle.ipfix_wire.specs.MessageHeader.{header_at}
 use Rattle.ipfix_message.specs.declared.message.Decoded.{Decoded}
 use Rattle.ipfix_message.specs.Outcome.{◌>>=◌, Fails}
 use Rattle.ipfix_message.specs.Messages.{Decoding, before, sets_from}
@@ -20,7 +21,7 @@ use Rattle.ipfix_message.proofs.Reading.{Fails-of, ok_is, not_both, bind_ok}
 use Rattle.ipfix_wire.proofs.Choices.{chosen, different}
 use Rattle.ipfix_message.specs.TemplatesInForce.{in_force}
 use Rattle.ipfix_message.specs.Held.{template_in, Agrees, Holds, Reaches, Admits}
-use Rattle.ipfix_message.specs.Domains.{History, IsAdmitted, admit, with_events, message_header, message_gives, Message, StandsFor, Decodes, template_for}
+use Rattle.ipfix_message.specs.Domains.{History, IsAdmitted, admit, with_events, of_wire, message_header, message_gives, Message, StandsFor, Decodes, template_for}
 use Rattle.ipfix_message.specs.Kept.{kept}
 
 -- ---- what is kept at each domain
@@ -271,6 +272,14 @@ gives_sets ds m h known es read is admitted are sets =
 -- a domain that was admitted
 pub was_admitted : (ds : History) (m : List ℕ) (h : Header) (es : List (ℕ × List (ℕ × Template))) → message_header m ≡ Ok h → Admits (Ok tt) es (admit ds h.domain) → IsAdmitted ds m
 was_admitted ds m h es is admitted = record { header = h; good = is; domain = rw admitted.1 refl }
+
+pub header_is_whole : (m : List ℕ) (h : Header) → message_header m ≡ Ok h → 16 ≤ length m
+unfolding message_header
+header_is_whole m h is =
+    elim (chosen (ltb (length m) 16) (Err MessageLength) (of_wire (header_at m) >>= λ k. cond (eqb k.length (length m)) (Ok k) (Err MessageLength)) (Ok h) is) [
+      | inl t ↦ absurd cc
+      | inr f ↦ ltb-false (length m) 16 f.0
+    ]
 
 pub bad_header : (e : MessageFault) (ds : History) (m : List ℕ) → Fails e (message_header m) → Fails e (message_gives ds m)
 bad_header e ds m fails = Fails-of e (message_header m) (message_gives ds m) (λ f is. gives_header ds m (Err f) is) fails

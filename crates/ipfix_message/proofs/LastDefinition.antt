@@ -3,7 +3,7 @@ use Rattle.std.proofs.Common.{◌≡◌, ℕ, Bool, true, false, eqb, List, [], 
 use Rattle.std.specs.Prelude.{IsTrue}
 use Rattle.std.proofs.lemmas.Bool.{eqb-true, eqb-false, eq-eqb, cond_both, false_from_ne_true}
 use Rattle.ipfix_message.specs.declared.record.Template.{Template}
-use Rattle.ipfix_message.specs.declared.template_record.Kind.{Kind}
+use Rattle.ipfix_message.specs.declared.template_record.TemplateKind.{TemplateKind}
 use Rattle.ipfix_message.specs.declared.template_record.Event.{Event}
 use Rattle.ipfix_message.specs.declared.template_record.Event.TheVariants.{Define, Withdraw, WithdrawAll}
 use Rattle.ipfix_message.specs.TemplatesInForce.{is_of, unless_of, in_force, Ends, Outlasts, IsInForce}
@@ -22,7 +22,7 @@ not_both_ways : (b : Bool) → b ≡ true → b ≡ false → ⊥
 not_both_ways b p q = cc
 
 -- what a withdrawal left was in force, and is not of its kind
-unless_of-some : (kind : Kind) (o : Option Template) (t : Template) → unless_of kind o ≡ some_template t → (o ≡ some_template t) × (is_of kind t ≡ false)
+unless_of-some : (kind : TemplateKind) (o : Option Template) (t : Template) → unless_of kind o ≡ some_template t → (o ≡ some_template t) × (is_of kind t ≡ false)
 unless_of-some kind None t h = absurd (none_is_not t h)
 unless_of-some kind (Some u) t h =
     elim (chosen (is_of kind u) None (some_template u) (some_template t) h) [
@@ -66,7 +66,7 @@ in_force-found (WithdrawAll kind ∷ es) id t h =
     let stays : ¬ Ends t (WithdrawAll kind) = λ e. not_both_ways (is_of kind t) e left.1 in
     (more.0, one_later (WithdrawAll kind) es t stays more.1)
 
-unless_of-left : (kind : Kind) (o : Option Template) (t : Template) → o ≡ some_template t → ¬ IsTrue (is_of kind t) → unless_of kind o ≡ some_template t
+unless_of-left : (kind : TemplateKind) (o : Option Template) (t : Template) → o ≡ some_template t → ¬ IsTrue (is_of kind t) → unless_of kind o ≡ some_template t
 unless_of-left kind o t is other =
     let left : is_of kind t ≡ false = false_from_ne_true (is_of kind t) other in
     rw (is, left) refl

@@ -8,23 +8,23 @@ use Rattle.std.proofs.lemmas.List.{append-nil, length-append, drop_more, drop_al
 use Rattle.std.proofs.lemmas.List.Elements.{All-nil, All-cons, All-append}
 use Rattle.ipfix_wire.specs.declared.specifier.Spec.{Spec}
 use Rattle.ipfix_wire.specs.declared.specifier.ElementId.{ElementId}
-use Rattle.ipfix_message.specs.declared.layout.Place.{Place}
+use Rattle.ipfix_message.specs.declared.layout.FieldPlace.{FieldPlace}
 use Rattle.ipfix_message.specs.Fields.{same_element}
 use Rattle.ipfix_message.specs.Layouts.{gaps_from, last_from, behind, place_from, key_of, IsNarrow}
 
-abbrev pub place : ℕ → ℕ → ℕ → Place
+abbrev pub place : ℕ → ℕ → ℕ → FieldPlace
 place before offset width = record { before = before; offset = offset; width = width }
 
-behind-none : (p : Option Place) → behind 0 p ≡ p
+behind-none : (p : Option FieldPlace) → behind 0 p ≡ p
 behind-none None = refl
 behind-none (Some p) = ap (λ (k : ℕ). Some (place k p.offset p.width)) (let sum : 0 + p.before ≡ p.before = omega arith in sum)
 
-behind-more : (n m : ℕ) (p : Option Place) → m ≡ n + 1 → behind n (behind 1 p) ≡ behind m p
+behind-more : (n m : ℕ) (p : Option FieldPlace) → m ≡ n + 1 → behind n (behind 1 p) ≡ behind m p
 behind-more n m None e = refl
 behind-more n m (Some p) e = ap (λ (k : ℕ). Some (place k p.offset p.width)) (let sum : n + (1 + p.before) ≡ m + p.before = omega (arith, e) in sum)
 
 -- what the layout has of the first i specifiers
-pub record LaidSoFar (gaps : List ℕ) (last : ℕ) (places : BTreeMap ℕ Place) (i : ℕ) (specs : List Spec) : Type 0 where
+pub record LaidSoFar (gaps : List ℕ) (last : ℕ) (places : BTreeMap ℕ FieldPlace) (i : ℕ) (specs : List Spec) : Type 0 where
   pub gap : gaps ++ gaps_from last (drop i specs) ≡ gaps_from 0 specs
   pub end : last_from last (drop i specs) ≡ last_from 0 specs
   pub at : (e : ElementId) → e.number < 2 ^ 16 → option_or (get nat_cmp places (key_of e)) (behind (length gaps) (place_from last (drop i specs) e)) ≡ place_from 0 specs e
@@ -32,7 +32,7 @@ pub record LaidSoFar (gaps : List ℕ) (last : ℕ) (places : BTreeMap ℕ Place
   pub small : last ≤ 65535 * i
   pub few : length gaps ≤ i
 
-pub laid_none : (places : BTreeMap ℕ Place) (specs : List Spec) → ((k : ℕ) → get nat_cmp places k ≡ None) → LaidSoFar [] 0 places 0 specs
+pub laid_none : (places : BTreeMap ℕ FieldPlace) (specs : List Spec) → ((k : ℕ) → get nat_cmp places k ≡ None) → LaidSoFar [] 0 places 0 specs
 laid_none places specs empty = record {
   gap = refl;
   end = refl;
@@ -43,11 +43,11 @@ laid_none places specs empty = record {
 }
 
 -- a place was noted for an element, unless one was there
-abbrev pub Noted : BTreeMap ℕ Place → BTreeMap ℕ Place → ElementId → Place → Type 0
+abbrev pub Noted : BTreeMap ℕ FieldPlace → BTreeMap ℕ FieldPlace → ElementId → FieldPlace → Type 0
 Noted places after element here = (e : ElementId) → e.number < 2 ^ 16 → get nat_cmp after (key_of e) ≡ option_or (get nat_cmp places (key_of e)) (cond (same_element element e) (Some here) None)
 
 -- noting it and then looking at those that follow
-noted-first : (known others : Option Place) (n : ℕ) (same : Bool) (last width : ℕ)
+noted-first : (known others : Option FieldPlace) (n : ℕ) (same : Bool) (last width : ℕ)
     → option_or (option_or known (cond same (Some (place n last width)) None)) (behind n others) ≡ option_or known (behind n (cond same (Some (place 0 last width)) others))
 noted-first (Some p) others n same last width = refl
 noted-first None others n true last width = ap (λ (k : ℕ). Some (place k last width)) (let sum : n ≡ n + 0 = omega arith in sum)
@@ -60,7 +60,7 @@ narrow-more : (specs : List Spec) (i : ℕ) (s : Spec) → i < length specs → 
 narrow-more specs i s lt item here before =
     rw (take_more specs i s lt, ← item) (All-append IsNarrow (take i specs) (s ∷ []) before (All-cons IsNarrow s [] here (All-nil IsNarrow)))
 
-pub laid_variable : (gaps : List ℕ) (last : ℕ) (places after : BTreeMap ℕ Place) (i : ℕ) (specs : List Spec) (s : Spec)
+pub laid_variable : (gaps : List ℕ) (last : ℕ) (places after : BTreeMap ℕ FieldPlace) (i : ℕ) (specs : List Spec) (s : Spec)
     → i < length specs → s ≡ get_or specs i s → s.width ≡ 65535 → Noted places after s.element (place (length gaps) last s.width)
     → LaidSoFar gaps last places i specs → LaidSoFar (gaps ++ last ∷ []) 0 after (i + 1) specs
 laid_variable gaps last places after i specs s lt item variable noted before =
@@ -78,7 +78,7 @@ laid_variable gaps last places after i specs s lt item variable noted before =
       few = omega (arith, before.few, length-append gaps (last ∷ []));
     }
 
-pub laid_fixed : (gaps : List ℕ) (last : ℕ) (places after : BTreeMap ℕ Place) (i : ℕ) (specs : List Spec) (s : Spec)
+pub laid_fixed : (gaps : List ℕ) (last : ℕ) (places after : BTreeMap ℕ FieldPlace) (i : ℕ) (specs : List Spec) (s : Spec)
     → i < length specs → s ≡ get_or specs i s → eqb s.width 65535 ≡ false → s.width < 2 ^ 16 → Noted places after s.element (place (length gaps) last s.width)
     → LaidSoFar gaps last places i specs → LaidSoFar gaps (last + s.width) after (i + 1) specs
 laid_fixed gaps last places after i specs s lt item fixed narrow noted before =
@@ -95,13 +95,13 @@ laid_fixed gaps last places after i specs s lt item fixed narrow noted before =
       few = omega (arith, before.few);
     }
 
-pub record Laid (gaps : List ℕ) (last : ℕ) (places : BTreeMap ℕ Place) (specs : List Spec) : Type 0 where
+pub record Laid (gaps : List ℕ) (last : ℕ) (places : BTreeMap ℕ FieldPlace) (specs : List Spec) : Type 0 where
   pub gap : gaps ≡ gaps_from 0 specs
   pub end : last ≡ last_from 0 specs
   pub at : (e : ElementId) → e.number < 2 ^ 16 → get nat_cmp places (key_of e) ≡ place_from 0 specs e
   pub narrow : All IsNarrow specs
 
-pub laid_all : (gaps : List ℕ) (last : ℕ) (places : BTreeMap ℕ Place) (i : ℕ) (specs : List Spec) → length specs ≤ i → LaidSoFar gaps last places i specs → Laid gaps last places specs
+pub laid_all : (gaps : List ℕ) (last : ℕ) (places : BTreeMap ℕ FieldPlace) (i : ℕ) (specs : List Spec) → length specs ≤ i → LaidSoFar gaps last places i specs → Laid gaps last places specs
 laid_all gaps last places i specs le before =
     let none : drop i specs ≡ [] = drop_all i specs le in
     record {
@@ -111,6 +111,6 @@ laid_all gaps last places i specs le before =
       narrow = rw (← take_all i specs le) before.narrow;
     }
   where
-    known-alone : (p : Option Place) → p ≡ option_or p None
+    known-alone : (p : Option FieldPlace) → p ≡ option_or p None
     known-alone None = refl
     known-alone (Some x) = refl

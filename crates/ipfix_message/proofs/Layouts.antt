@@ -16,7 +16,7 @@ use Rattle.ipfix_wire.specs.declared.specifier.ElementId.{ElementId}
 use Rattle.ipfix_wire.proofs.Parts.{cases_read}
 use Rattle.ipfix_message.specs.declared.fault.MessageFault.{MessageFault}
 use Rattle.ipfix_message.specs.declared.fault.MessageFault.TheVariants.{RecordCut}
-use Rattle.ipfix_message.specs.declared.layout.Place.{Place}
+use Rattle.ipfix_message.specs.declared.layout.FieldPlace.{FieldPlace}
 use Rattle.ipfix_message.specs.declared.layout.Layout.{Layout}
 use Rattle.ipfix_message.specs.Fields.{Field, same_element, octets_of}
 use Rattle.ipfix_message.specs.Outcome.{Read, ◌>>=◌, Gives}
@@ -98,7 +98,7 @@ after_all-reads (s ∷ ss) o w = elim (eqb_tells s.width 65535) [
 
 -- ---- the field at a place
 
-place-later : (gap : ℕ) (gaps : List ℕ) (p : Option Place) (w y : List ℕ) → after_gap gap w ≡ Ok y → octets_at_place (gap ∷ gaps) (behind 1 p) w ≡ octets_at_place gaps p y
+place-later : (gap : ℕ) (gaps : List ℕ) (p : Option FieldPlace) (w y : List ℕ) → after_gap gap w ≡ Ok y → octets_at_place (gap ∷ gaps) (behind 1 p) w ≡ octets_at_place gaps p y
 place-later gap gaps None w y after = refl
 place-later gap gaps (Some p) w y after =
     let one : 1 + p.before ≡ suc p.before = omega arith in
@@ -150,13 +150,13 @@ octets_at_place-reads (s ∷ ss) o w e x h =
 
 -- a place is behind some of the gaps
 abbrev Inside : List Spec → Type 0
-Inside ss = (o : ℕ) (e : ElementId) (p : Place) → place_from o ss e ≡ Some p → p.before ≤ length (gaps_from o ss)
+Inside ss = (o : ℕ) (e : ElementId) (p : FieldPlace) → place_from o ss e ≡ Some p → p.before ≤ length (gaps_from o ss)
 
-inside-later : (ss : List Spec) → Inside ss → (o : ℕ) (e : ElementId) (p : Place) (q : Option Place) → place_from 0 ss e ≡ q → behind 1 q ≡ Some p → p.before ≤ length (o ∷ gaps_from 0 ss)
+inside-later : (ss : List Spec) → Inside ss → (o : ℕ) (e : ElementId) (p : FieldPlace) (q : Option FieldPlace) → place_from 0 ss e ≡ q → behind 1 q ≡ Some p → p.before ≤ length (o ∷ gaps_from 0 ss)
 inside-later ss more o e p None is h = absurd cc
 inside-later ss more o e p (Some q) is h = let one : p.before ≡ 1 + q.before = cc in let below = more 0 e q is in omega (arith, one, below)
 
-inside-more : (s : Spec) (ss : List Spec) → Inside ss → (o : ℕ) (e : ElementId) (p : Place) (same : Bool)
+inside-more : (s : Spec) (ss : List Spec) → Inside ss → (o : ℕ) (e : ElementId) (p : FieldPlace) (same : Bool)
     → cond same (Some (record { before = 0; offset = o; width = s.width })) (cond (eqb s.width 65535) (behind 1 (place_from 0 ss e)) (place_from (o + s.width) ss e)) ≡ Some p
     → p.before ≤ length (gaps_from o (s ∷ ss))
 inside-more s ss more o e p true h = let none : p.before ≡ 0 = cc in omega (arith, none)
@@ -198,7 +198,7 @@ octets_at_place-finds specs w e begins =
     let read : (skip 0 w >>= fields_at specs) ≡ Ok x.0 = ap (λ (r : Read (List ℕ)). r >>= fields_at specs) (skip-none w) ∙ x.1 in
     rw (fields_in-read specs w x.0.0 x.0.1 x.1) (sym (octets_at_place-reads specs 0 w e x.0 read))
 
-pub layout-inside : (l : Layout) (specs : List Spec) (e : ElementId) (p : Place) → IsLayout l specs → e.number < 2 ^ 16 → get nat_cmp l.places (key_of e) ≡ Some p → p.before ≤ length l.gaps.items
+pub layout-inside : (l : Layout) (specs : List Spec) (e : ElementId) (p : FieldPlace) → IsLayout l specs → e.number < 2 ^ 16 → get nat_cmp l.places (key_of e) ≡ Some p → p.before ≤ length l.gaps.items
 layout-inside l specs e p is small found = rw is.gaps (before-inside specs 0 e p (sym (is.places e small) ∙ found))
 
 -- the fields of a record of octets are short

@@ -12,8 +12,8 @@ use Rattle.ipfix_wire.proofs.Octets.{IsOctets-drop, IsOctets-front, IsOctets-res
 use Rattle.ipfix_wire.proofs.Parts.{InTurn-all}
 use Rattle.ipfix_message.specs.declared.fault.MessageFault.{MessageFault}
 use Rattle.ipfix_message.specs.declared.record.Template.{Template}
-use Rattle.ipfix_message.specs.declared.template_record.Kind.{Kind}
-use Rattle.ipfix_message.specs.declared.template_record.Kind.TheVariants.{Plain, Options}
+use Rattle.ipfix_message.specs.declared.template_record.TemplateKind.{TemplateKind}
+use Rattle.ipfix_message.specs.declared.template_record.TemplateKind.TheVariants.{Plain, Options}
 use Rattle.ipfix_message.specs.Outcome.{◌>>=◌, unless}
 use Rattle.ipfix_message.specs.Fields.{Field}
 use Rattle.ipfix_message.specs.SpelledFields.{SpellsOctets, Spells}
@@ -68,7 +68,7 @@ body_has specs w rs fits read =
 abbrev RecordsHave : Decoding → Type 0
 RecordsHave d = All HasOctets d.records
 
-templates_have : (kind : Kind) (d e : Decoding) (body : List ℕ) → RecordsHave d → templates_in kind d body ≡ Ok e → RecordsHave e
+templates_have : (kind : TemplateKind) (d e : Decoding) (body : List ℕ) → RecordsHave d → templates_in kind d body ≡ Ok e → RecordsHave e
 unfolding templates_in
 templates_have kind d e body have read =
     let r = bind_ok (template_set_gives kind d.events body) (λ r. Ok (record d { events = r.0; passed_over = more_ignored r.1 d.passed_over })) e read in

@@ -10,7 +10,7 @@ use Rattle.std.proofs.lemmas.Slice.Eq.{slice_eq-Decides}
 use Rattle.ipfix_wire.specs.declared.specifier.Spec.{Spec}
 use Rattle.ipfix_wire.proofs.Choices.{both_true}
 use Rattle.ipfix_message.specs.declared.record.Template.{Template}
-use Rattle.ipfix_message.specs.declared.template_record.Kind.{Kind}
+use Rattle.ipfix_message.specs.declared.template_record.TemplateKind.{TemplateKind}
 use Rattle.ipfix_message.specs.TemplatesInForce.{same_spec, same_template, is_of, unless_of}
 
 same_spec-Decides : (a b : Spec) → Decides (same_spec a b) (a ≡ b)
@@ -42,7 +42,7 @@ same_template-Decides t u = (
 pub is_same_template : (r : Bool) (t u : Template) → Decides r (t ≡ u) → r ≡ same_template t u
 is_same_template r t u h = same_from_decides r (same_template t u) h (same_template-Decides t u)
 
-pub unless_of-filter : (kind : Kind) (o : Option Template) → option_filter (λ t. not (is_of kind t)) o ≡ unless_of kind o
+pub unless_of-filter : (kind : TemplateKind) (o : Option Template) → option_filter (λ t. not (is_of kind t)) o ≡ unless_of kind o
 unless_of-filter kind None = refl
 unless_of-filter kind (Some t) = by_test (is_of kind t)
   where

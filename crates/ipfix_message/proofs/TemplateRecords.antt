@@ -17,8 +17,8 @@ use Rattle.ipfix_wire.proofs.Longest.{longest_from, longest_only}
 use Rattle.ipfix_message.specs.declared.fault.MessageFault.{MessageFault}
 use Rattle.ipfix_message.specs.declared.fault.MessageFault.TheVariants.{TemplateId, TemplateCut, Scope, ZeroLength}
 use Rattle.ipfix_message.specs.declared.record.Template.{Template}
-use Rattle.ipfix_message.specs.declared.template_record.Kind.{Kind}
-use Rattle.ipfix_message.specs.declared.template_record.Kind.TheVariants.{Plain, Options}
+use Rattle.ipfix_message.specs.declared.template_record.TemplateKind.{TemplateKind}
+use Rattle.ipfix_message.specs.declared.template_record.TemplateKind.TheVariants.{Plain, Options}
 use Rattle.ipfix_message.specs.declared.template_record.Event.{Event}
 use Rattle.ipfix_message.specs.declared.template_record.Event.TheVariants.{Define, Withdraw, WithdrawAll}
 use Rattle.ipfix_message.specs.Outcome.{◌>>=◌}
@@ -51,7 +51,7 @@ first_one P e M N f g more (inl a) (inr b) = absurd (b.0 a.0)
 first_one P e M N f g more (inr a) (inl b) = absurd (a.0 b.0)
 first_one P e M N f g more (inr a) (inr b) = more a.1 b.1
 
-one_fault : (kind : Kind) (id count : ℕ) (w : List ℕ) (f g : MessageFault) → FaultOf kind id count w f → FaultOf kind id count w g → f ≡ g
+one_fault : (kind : TemplateKind) (id count : ℕ) (w : List ℕ) (f g : MessageFault) → FaultOf kind id count w f → FaultOf kind id count w g → f ≡ g
 one_fault kind id count w f g =
     first_one _ _ _ _ f g (first_one _ _ _ _ f g (first_one _ _ _ _ f g (first_one _ _ _ _ f g (first_one _ _ _ _ f g (λ a b. absurd a)))))
 
@@ -60,20 +60,20 @@ none_fits P e M f one more (inl a) = one a.0
 none_fits P e M f one more (inr a) = more a.1
 
 -- where none of the five fits there is no fault
-no_fault : (kind : Kind) (id count : ℕ) (w : List ℕ) → ¬ HasWrongId kind id count → ¬ MissesScope kind count w → ¬ HasWrongScope kind count w → ¬ MissesSpec count (behind_counts kind w) → ¬ HasNoOctets count (behind_counts kind w)
+no_fault : (kind : TemplateKind) (id count : ℕ) (w : List ℕ) → ¬ HasWrongId kind id count → ¬ MissesScope kind count w → ¬ HasWrongScope kind count w → ¬ MissesSpec count (behind_counts kind w) → ¬ HasNoOctets count (behind_counts kind w)
     → (f : MessageFault) → ¬ FaultOf kind id count w f
 no_fault kind id count w a b c d e f = none_fits _ _ _ f a (none_fits _ _ _ f b (none_fits _ _ _ f c (none_fits _ _ _ f d (none_fits _ _ _ f e (λ x. x)))))
 
 -- a fault that is answered is the first that fits, and where a record is answered none fits
-abbrev Judged : Kind → ℕ → ℕ → List ℕ → Result (Event × List ℕ) MessageFault → Type 0
+abbrev Judged : TemplateKind → ℕ → ℕ → List ℕ → Result (Event × List ℕ) MessageFault → Type 0
 Judged kind id count w (Ok x) = (f : MessageFault) → ¬ FaultOf kind id count w f
 Judged kind id count w (Err f) = FaultOf kind id count w f
 
-no_scope_missed : (kind : Kind) (count : ℕ) (w : List ℕ) → count ≡ 0 → ¬ MissesScope kind count w
+no_scope_missed : (kind : TemplateKind) (count : ℕ) (w : List ℕ) → count ≡ 0 → ¬ MissesScope kind count w
 no_scope_missed Plain count w empty h = h
 no_scope_missed Options count w empty h = omega (arith, empty, h.0)
 
-no_wrong_scope : (kind : Kind) (count : ℕ) (w : List ℕ) → count ≡ 0 → ¬ HasWrongScope kind count w
+no_wrong_scope : (kind : TemplateKind) (count : ℕ) (w : List ℕ) → count ≡ 0 → ¬ HasWrongScope kind count w
 no_wrong_scope Plain count w empty h = h
 no_wrong_scope Options count w empty h = omega (arith, empty, h.0)
 
@@ -81,11 +81,11 @@ no_specs : (w : List ℕ) → BeginsWith [] w
 no_specs w = record { text = []; rest = w; whole = refl; in_turn = refl }
 
 -- a withdrawal has no fault but its id
-withdraws : (kind : Kind) (id count : ℕ) (w : List ℕ) → count ≡ 0 → ¬ HasWrongId kind id count → (f : MessageFault) → ¬ FaultOf kind id count w f
+withdraws : (kind : TemplateKind) (id count : ℕ) (w : List ℕ) → count ≡ 0 → ¬ HasWrongId kind id count → (f : MessageFault) → ¬ FaultOf kind id count w f
 withdraws kind id count w empty right =
     no_fault kind id count w right (no_scope_missed kind count w empty) (no_wrong_scope kind count w empty) (λ misses. misses [] (sym empty) (no_specs (behind_counts kind w))) (λ h. omega (arith, empty, h.0))
 
-judged_withdrawal : (kind : Kind) (id count : ℕ) (w : List ℕ) → count ≡ 0 → Judged kind id count w (withdrawal kind id w)
+judged_withdrawal : (kind : TemplateKind) (id count : ℕ) (w : List ℕ) → count ≡ 0 → Judged kind id count w (withdrawal kind id w)
 judged_withdrawal kind id count w empty =
     cond_both (eqb id (set_id_of kind)) (Ok (WithdrawAll kind, w)) (cond (ltb id 256) (Err TemplateId) (Ok (Withdraw kind id, w))) (Judged kind id count w)
     (λ t. withdraws kind id count w empty (λ h. elim h.1 [ inl some ↦ omega (arith, empty, some) | inr other ↦ other (eqb-true id (set_id_of kind) t) ]))
@@ -93,7 +93,7 @@ judged_withdrawal kind id count w empty =
     (λ t. inl ((ltb-true id 256 t, inr (eqb-false id (set_id_of kind) f)), refl))
     (λ g. let high = ltb-false id 256 g in withdraws kind id count w empty (λ h. omega (arith, high, h.0))))
 
-judged_specs : (kind : Kind) (id scope count : ℕ) (w : List ℕ) → ¬ HasWrongId kind id count → ¬ MissesScope kind count w → ¬ HasWrongScope kind count w → 0 < count → IsOctets (behind_counts kind w)
+judged_specs : (kind : TemplateKind) (id scope count : ℕ) (w : List ℕ) → ¬ HasWrongId kind id count → ¬ MissesScope kind count w → ¬ HasWrongScope kind count w → 0 < count → IsOctets (behind_counts kind w)
     → Judged kind id count w (specs_at count (behind_counts kind w) >>= λ specs. definition id scope specs)
 judged_specs kind id scope count w a b c some fits = by_cases (specs_at count (behind_counts kind w)) refl
   where
@@ -112,7 +112,7 @@ judged_specs kind id scope count w a b c some fits = by_cases (specs_at count (b
         let other : h.1.0 ≡ x.0 = ap (λ (p : List Spec × List ℕ). p.0) (ok_is (h.1.0, h.1.2.rest) x (sym (specs_at-begins count (behind_counts kind w) h.1.0 h.1.1 h.1.2) ∙ is)) in
         eqb-false (least x.0) 0 f (ap least (sym other) ∙ h.1.3)))
 
-judged_fields : (kind : Kind) (id count : ℕ) (w : List ℕ) → IsOctets w → ¬ HasWrongId kind id count → 0 < count
+judged_fields : (kind : TemplateKind) (id count : ℕ) (w : List ℕ) → IsOctets w → ¬ HasWrongId kind id count → 0 < count
     → Judged kind id count w (scope_at kind count w >>= λ scope. specs_at count scope.1 >>= λ specs. definition id scope.0 specs)
 judged_fields Plain id count w fits right some = judged_specs Plain id 0 count w right (λ h. h) (λ h. h) some fits
 judged_fields Options id count w fits right some =
@@ -134,7 +134,7 @@ judged_fields Options id count w fits right some =
     wrong : (scope : ℕ) → (eqb scope 0 || ltb count scope) ≡ true → (scope ≡ 0) ⊎ (count < scope)
     wrong scope t = elim (or_true (eqb scope 0) (ltb count scope) t) [ inl none ↦ inl (eqb-true scope 0 none) | inr above ↦ inr (ltb-true count scope above) ]
 
-judged : (kind : Kind) (id count : ℕ) (w : List ℕ) → IsOctets w → Judged kind id count w (record_at kind id count w)
+judged : (kind : TemplateKind) (id count : ℕ) (w : List ℕ) → IsOctets w → Judged kind id count w (record_at kind id count w)
 judged kind id count w fits =
     let fields = scope_at kind count w >>= λ scope. specs_at count scope.1 >>= λ specs. definition id scope.0 specs in
     cond_both (eqb count 0) (withdrawal kind id w) (cond (ltb id 256) (Err TemplateId) fields) (Judged kind id count w)
@@ -146,11 +146,11 @@ judged kind id count w fits =
     (λ t. inl ((ltb-true id 256 t, inl some), refl))
     (λ g. let high = ltb-false id 256 g in judged_fields kind id count w fits (λ h. omega (arith, high, h.0)) some))
 
-event_at-long : (kind : Kind) (w : List ℕ) → 4 ≤ length w → event_at kind w ≡ record_at kind (big_number 2 w) (number_at 2 2 w) (drop 4 w)
+event_at-long : (kind : TemplateKind) (w : List ℕ) → 4 ≤ length w → event_at kind w ≡ record_at kind (big_number 2 w) (number_at 2 2 w) (drop 4 w)
 unfolding event_at
 event_at-long kind w room = let long : ltb (length w) 4 ≡ false = le-ltb (length w) 4 room in rw long refl
 
-pub event_at-faults : (kind : Kind) (w : List ℕ) (f : MessageFault) → IsOctets w → 4 ≤ length w → event_at kind w ≡ Err f ↔ FaultAt kind w f
+pub event_at-faults : (kind : TemplateKind) (w : List ℕ) (f : MessageFault) → IsOctets w → 4 ≤ length w → event_at kind w ≡ Err f ↔ FaultAt kind w f
 event_at-faults kind w f fits room =
     let id = big_number 2 w in
     let count = number_at 2 2 w in
@@ -166,18 +166,18 @@ event_at-faults kind w f fits room =
 -- ---- a record that was read
 
 -- behind its id and its field count
-record RecordSpelled (kind : Kind) (id count : ℕ) (w : List ℕ) (e : Event) (r : List ℕ) : Type 0 where
+record RecordSpelled (kind : TemplateKind) (id count : ℕ) (w : List ℕ) (e : Event) (r : List ℕ) : Type 0 where
   text : List ℕ
   whole : w ≡ text ++ r
   is : SpellsEvent kind e ((big_bytes 2 id ++ big_bytes 2 count) ++ text)
 
-abbrev PairSpelled : Kind → ℕ → ℕ → List ℕ → Event × List ℕ → Type 0
+abbrev PairSpelled : TemplateKind → ℕ → ℕ → List ℕ → Event × List ℕ → Type 0
 PairSpelled kind id count w p = RecordSpelled kind id count w p.0 p.1
 
 same_head : (a b c d : ℕ) → a ≡ c → b ≡ d → (big_bytes 2 a ++ big_bytes 2 b) ++ [] ≡ big_bytes 2 c ++ big_bytes 2 d
 same_head a b c d p q = rw (p, q) (append-nil (big_bytes 2 c ++ big_bytes 2 d))
 
-withdrawal-found : (kind : Kind) (id count : ℕ) (w : List ℕ) (e : Event) (r : List ℕ) → count ≡ 0 → id < 2 ^ 16 → withdrawal kind id w ≡ Ok (e, r) → RecordSpelled kind id count w e r
+withdrawal-found : (kind : TemplateKind) (id count : ℕ) (w : List ℕ) (e : Event) (r : List ℕ) → count ≡ 0 → id < 2 ^ 16 → withdrawal kind id w ≡ Ok (e, r) → RecordSpelled kind id count w e r
 withdrawal-found kind id count w e r empty small h =
     elim (chosen (eqb id (set_id_of kind)) (Ok (WithdrawAll kind, w)) (cond (ltb id 256) (Err TemplateId) (Ok (Withdraw kind id, w))) (Ok (e, r)) h) [
       | inl t ↦ subst (PairSpelled kind id count w) (ok_is (WithdrawAll kind, w) (e, r) t.1) (record { text = []; whole = refl; is = (refl, same_head id count (set_id_of kind) 0 (eqb-true id (set_id_of kind) t.0) empty) })
@@ -187,11 +187,11 @@ withdrawal-found kind id count w e r empty small h =
       ]
     ]
 
-record ScopeAt (kind : Kind) (count : ℕ) (w : List ℕ) (scope : ℕ) (r : List ℕ) : Type 0 where
+record ScopeAt (kind : TemplateKind) (count : ℕ) (w : List ℕ) (scope : ℕ) (r : List ℕ) : Type 0 where
   scoped : IsScope kind scope count
   whole : w ≡ scope_octets kind scope ++ r
 
-scope_at-found : (kind : Kind) (count : ℕ) (w : List ℕ) (scope : ℕ) (r : List ℕ) → IsOctets w → scope_at kind count w ≡ Ok (scope, r) → ScopeAt kind count w scope r
+scope_at-found : (kind : TemplateKind) (count : ℕ) (w : List ℕ) (scope : ℕ) (r : List ℕ) → IsOctets w → scope_at kind count w ≡ Ok (scope, r) → ScopeAt kind count w scope r
 scope_at-found Plain count w scope r fits h =
     let e = ok_is (0, w) (scope, r) h in
     record { scoped = sym (ap (λ (p : ℕ × List ℕ). p.0) e); whole = ap (λ (p : ℕ × List ℕ). p.1) e }
@@ -223,7 +223,7 @@ template id scope specs = record { id = id; scope = scope; specs = specs }
 head_is : (a b b' c d : List ℕ) → b ≡ b' → (a ++ b) ++ (c ++ d) ≡ a ++ (b' ++ (c ++ d))
 head_is a b b' c d e = append_assoc a b (c ++ d) ∙ ap (λ (t : List ℕ). a ++ (t ++ (c ++ d))) e
 
-fields-found : (kind : Kind) (id count : ℕ) (w : List ℕ) (e : Event) (r : List ℕ) → IsOctets w → 256 ≤ id → id < 2 ^ 16 → 0 < count → count < 2 ^ 16
+fields-found : (kind : TemplateKind) (id count : ℕ) (w : List ℕ) (e : Event) (r : List ℕ) → IsOctets w → 256 ≤ id → id < 2 ^ 16 → 0 < count → count < 2 ^ 16
     → (scope_at kind count w >>= λ scope. specs_at count scope.1 >>= λ specs. definition id scope.0 specs) ≡ Ok (e, r) → RecordSpelled kind id count w e r
 fields-found kind id count w e r fits high small some many h =
     let a = bind_ok (scope_at kind count w) (λ scope. specs_at count scope.1 >>= λ specs. definition id scope.0 specs) (e, r) h in
@@ -256,7 +256,7 @@ fields-found kind id count w e r fits high small some many h =
           })
     ]
 
-record_at-found : (kind : Kind) (id count : ℕ) (w : List ℕ) (e : Event) (r : List ℕ) → IsOctets w → id < 2 ^ 16 → count < 2 ^ 16 → record_at kind id count w ≡ Ok (e, r) → RecordSpelled kind id count w e r
+record_at-found : (kind : TemplateKind) (id count : ℕ) (w : List ℕ) (e : Event) (r : List ℕ) → IsOctets w → id < 2 ^ 16 → count < 2 ^ 16 → record_at kind id count w ≡ Ok (e, r) → RecordSpelled kind id count w e r
 record_at-found kind id count w e r fits small many h =
     let fields = scope_at kind count w >>= λ scope. specs_at count scope.1 >>= λ specs. definition id scope.0 specs in
     elim (chosen (eqb count 0) (withdrawal kind id w) (cond (ltb id 256) (Err TemplateId) fields) (Ok (e, r)) h) [
@@ -270,7 +270,7 @@ record_at-found kind id count w e r fits small many h =
           ]
     ]
 
-event_at-room : (kind : Kind) (w : List ℕ) (e : Event) (r : List ℕ) → event_at kind w ≡ Ok (e, r) → 4 ≤ length w
+event_at-room : (kind : TemplateKind) (w : List ℕ) (e : Event) (r : List ℕ) → event_at kind w ≡ Ok (e, r) → 4 ≤ length w
 unfolding event_at
 event_at-room kind w e r h =
     elim (chosen (ltb (length w) 4) (Err TemplateCut) (record_at kind (big_number 2 w) (number_at 2 2 w) (drop 4 w)) (Ok (e, r)) h) [
@@ -278,7 +278,7 @@ event_at-room kind w e r h =
       | inr f ↦ ltb-false (length w) 4 f.0
     ]
 
-event_at-found : (kind : Kind) (w : List ℕ) (e : Event) (r : List ℕ) → IsOctets w → event_at kind w ≡ Ok (e, r) → Spelled (SpellsEvent kind) w e r
+event_at-found : (kind : TemplateKind) (w : List ℕ) (e : Event) (r : List ℕ) → IsOctets w → event_at kind w ≡ Ok (e, r) → Spelled (SpellsEvent kind) w e r
 event_at-found kind w e r fits h =
     let room = event_at-room kind w e r h in
     let id = big_number 2 w in
@@ -294,26 +294,26 @@ event_at-found kind w e r fits h =
 
 -- ---- a record that is spelled
 
-event_at-is : (kind : Kind) (w : List ℕ) (id count : ℕ) → 4 ≤ length w → big_number 2 w ≡ id → number_at 2 2 w ≡ count → event_at kind w ≡ record_at kind id count (drop 4 w)
+event_at-is : (kind : TemplateKind) (w : List ℕ) (id count : ℕ) → 4 ≤ length w → big_number 2 w ≡ id → number_at 2 2 w ≡ count → event_at kind w ≡ record_at kind id count (drop 4 w)
 event_at-is kind w id count room i n =
     event_at-long kind w room ∙ ap (λ (k : ℕ). record_at kind k (number_at 2 2 w) (drop 4 w)) i ∙ ap (λ (k : ℕ). record_at kind id k (drop 4 w)) n
 
-event_at-again : (kind : Kind) (id count : ℕ) (x : List ℕ) → id < 2 ^ 16 → count < 2 ^ 16 → event_at kind ((big_bytes 2 id ++ big_bytes 2 count) ++ x) ≡ record_at kind id count x
+event_at-again : (kind : TemplateKind) (id count : ℕ) (x : List ℕ) → id < 2 ^ 16 → count < 2 ^ 16 → event_at kind ((big_bytes 2 id ++ big_bytes 2 count) ++ x) ≡ record_at kind id count x
 event_at-again kind id count x small many =
     let head = big_bytes 2 id ++ big_bytes 2 count in
     let first : big_number 2 ((big_bytes 2 id ++ big_bytes 2 count) ++ x) ≡ id = omega (arith, small) in
     let second : number_at 2 2 ((big_bytes 2 id ++ big_bytes 2 count) ++ x) ≡ count = omega (arith, many) in
     event_at-is kind (head ++ x) id count (omega (arith, length-append head x)) first second ∙ ap (record_at kind id count) (drop_at head x 4 refl)
 
-not_set_id : (kind : Kind) (id : ℕ) → 256 ≤ id → eqb id (set_id_of kind) ≡ false
+not_set_id : (kind : TemplateKind) (id : ℕ) → 256 ≤ id → eqb id (set_id_of kind) ≡ false
 not_set_id Plain id high = different id 2 (λ e. omega (arith, e, high))
 not_set_id Options id high = different id 3 (λ e. omega (arith, e, high))
 
-withdraws_all : (kind : Kind) (r : List ℕ) → withdrawal kind (set_id_of kind) r ≡ Ok (WithdrawAll kind, r)
+withdraws_all : (kind : TemplateKind) (r : List ℕ) → withdrawal kind (set_id_of kind) r ≡ Ok (WithdrawAll kind, r)
 withdraws_all Plain r = refl
 withdraws_all Options r = refl
 
-set_id_small : (kind : Kind) → set_id_of kind < 2 ^ 16
+set_id_small : (kind : TemplateKind) → set_id_of kind < 2 ^ 16
 set_id_small Plain = omega arith
 set_id_small Options = omega arith
 
@@ -324,7 +324,7 @@ scope_at-is count w n room e one most =
     let z : ltb count (big_number 2 w) ≡ false = le-ltb count (big_number 2 w) (omega (arith, e, most)) in
     rw (x, y, z) (ap (λ (k : ℕ). Ok (k, drop 2 w)) e)
 
-scope_at-again : (kind : Kind) (count n : ℕ) (x : List ℕ) → IsScope kind n count → count < 2 ^ 16 → scope_at kind count (scope_octets kind n ++ x) ≡ Ok (n, x)
+scope_at-again : (kind : TemplateKind) (count n : ℕ) (x : List ℕ) → IsScope kind n count → count < 2 ^ 16 → scope_at kind count (scope_octets kind n ++ x) ≡ Ok (n, x)
 scope_at-again Plain count n x scoped many = ap (λ (k : ℕ). Ok (k, x)) (sym scoped)
 scope_at-again Options count n x scoped many =
     let first : big_number 2 (big_bytes 2 n ++ x) ≡ n = omega (arith, scoped.1, many) in
@@ -336,14 +336,14 @@ regrouped a b c d r = simp append_assoc
 defined : (t : Template) (r : List ℕ) → 0 < least t.specs → definition t.id t.scope (t.specs, r) ≡ Ok (Define t, r)
 defined t r positive = let no : eqb (least t.specs) 0 ≡ false = different (least t.specs) 0 (λ e. omega (arith, e, positive)) in rw no refl
 
-event_at-only : (kind : Kind) (e : Event) (u r : List ℕ) → SpellsEvent kind e u → event_at kind (u ++ r) ≡ Ok (e, r)
+event_at-only : (kind : TemplateKind) (e : Event) (u r : List ℕ) → SpellsEvent kind e u → event_at kind (u ++ r) ≡ Ok (e, r)
 event_at-only kind (Withdraw k id) u r spelled =
     let other = not_set_id kind id spelled.1 in
     let high : ltb id 256 ≡ false = le-ltb id 256 spelled.1 in
     let taken : withdrawal kind id r ≡ Ok (Withdraw kind id, r) = rw (other, high) refl in
-    ap (λ (t : List ℕ). event_at kind (t ++ r)) spelled.3 ∙ event_at-again kind id 0 r spelled.2 (omega arith) ∙ taken ∙ ap (λ (x : Kind). Ok (Withdraw x id, r)) (sym spelled.0)
+    ap (λ (t : List ℕ). event_at kind (t ++ r)) spelled.3 ∙ event_at-again kind id 0 r spelled.2 (omega arith) ∙ taken ∙ ap (λ (x : TemplateKind). Ok (Withdraw x id, r)) (sym spelled.0)
 event_at-only kind (WithdrawAll k) u r spelled =
-    ap (λ (t : List ℕ). event_at kind (t ++ r)) spelled.1 ∙ event_at-again kind (set_id_of kind) 0 r (set_id_small kind) (omega arith) ∙ withdraws_all kind r ∙ ap (λ (x : Kind). Ok (WithdrawAll x, r)) (sym spelled.0)
+    ap (λ (t : List ℕ). event_at kind (t ++ r)) spelled.1 ∙ event_at-again kind (set_id_of kind) 0 r (set_id_small kind) (omega arith) ∙ withdraws_all kind r ∙ ap (λ (x : TemplateKind). Ok (WithdrawAll x, r)) (sym spelled.0)
 event_at-only kind (Define t) u r spelled =
     let n = length t.specs in
     let head = big_bytes 2 t.id ++ big_bytes 2 n in
@@ -359,7 +359,7 @@ event_at-only kind (Define t) u r spelled =
     ∙ ap (λ (s : Result (List Spec × List ℕ) MessageFault). s >>= λ specs. definition t.id t.scope specs) (specs_at-only t.specs spelled.fields r spelled.in_turn)
     ∙ defined t r spelled.positive
 
-pub events_read : (kind : Kind) → Reads (SpellsEvent kind) (event_at kind)
+pub events_read : (kind : TemplateKind) → Reads (SpellsEvent kind) (event_at kind)
 events_read kind = record { found = event_at-found kind; only = event_at-only kind }
 
 -- ---- how much a template record takes
@@ -379,7 +379,7 @@ specs_at-takes (suc n) w ss r h =
     let e : b.0.1 ≡ r = ap (λ (p : List Spec × List ℕ). p.1) (ok_is (a.0.0 ∷ b.0.0, b.0.1) (ss, r) b.2) in
     omega (arith, first, more, ap length e)
 
-scope_at-takes : (kind : Kind) (count : ℕ) (w : List ℕ) (n : ℕ) (r : List ℕ) → scope_at kind count w ≡ Ok (n, r) → length r ≤ length w
+scope_at-takes : (kind : TemplateKind) (count : ℕ) (w : List ℕ) (n : ℕ) (r : List ℕ) → scope_at kind count w ≡ Ok (n, r) → length r ≤ length w
 scope_at-takes Plain count w n r h = let e : w ≡ r = ap (λ (p : ℕ × List ℕ). p.1) (ok_is (0, w) (n, r) h) in omega (arith, ap length e)
 scope_at-takes Options count w n r h =
     let scope = big_number 2 w in
@@ -391,7 +391,7 @@ scope_at-takes Options count w n r h =
       ]
     ]
 
-withdrawal-takes : (kind : Kind) (id : ℕ) (w : List ℕ) (e : Event) (r : List ℕ) → withdrawal kind id w ≡ Ok (e, r) → w ≡ r
+withdrawal-takes : (kind : TemplateKind) (id : ℕ) (w : List ℕ) (e : Event) (r : List ℕ) → withdrawal kind id w ≡ Ok (e, r) → w ≡ r
 withdrawal-takes kind id w e r h =
     elim (chosen (eqb id (set_id_of kind)) (Ok (WithdrawAll kind, w)) (cond (ltb id 256) (Err TemplateId) (Ok (Withdraw kind id, w))) (Ok (e, r)) h) [
       | inl t ↦ ap (λ (p : Event × List ℕ). p.1) (ok_is (WithdrawAll kind, w) (e, r) t.1)
@@ -408,7 +408,7 @@ definition-takes id scope specs e r h =
       | inr f ↦ ap (λ (p : Event × List ℕ). p.1) (ok_is (Define (record { id = id; scope = scope; specs = specs.0 }), specs.1) (e, r) f.1)
     ]
 
-pub event_at-takes : (kind : Kind) (w : List ℕ) (e : Event) (r : List ℕ) → event_at kind w ≡ Ok (e, r) → length r < length w
+pub event_at-takes : (kind : TemplateKind) (w : List ℕ) (e : Event) (r : List ℕ) → event_at kind w ≡ Ok (e, r) → length r < length w
 unfolding event_at
 event_at-takes kind w e r h =
     let id = big_number 2 w in
@@ -433,7 +433,7 @@ event_at-takes kind w e r h =
           ]
     ]
 
-pub events_shrink : (kind : Kind) → Shrinks (event_at kind)
+pub events_shrink : (kind : TemplateKind) → Shrinks (event_at kind)
 events_shrink kind = record { less = event_at-takes kind }
 
 -- ---- padding holds no record
@@ -446,11 +446,11 @@ zeros [] i h = refl
 zeros (b ∷ w) zero h = eqb-true b 0 (both_true (eqb b 0) (list_all (λ b. eqb b 0) w) h).0
 zeros (b ∷ w) (suc i) h = zeros w i (both_true (eqb b 0) (list_all (λ b. eqb b 0) w) h).1
 
-no_withdrawal : (kind : Kind) (w : List ℕ) → withdrawal kind 0 w ≡ Err TemplateId
+no_withdrawal : (kind : TemplateKind) (w : List ℕ) → withdrawal kind 0 w ≡ Err TemplateId
 no_withdrawal Plain w = refl
 no_withdrawal Options w = refl
 
-pub padding_is_none : (kind : Kind) (w : List ℕ) → is_padding w ≡ true → (f : MessageFault) × (event_at kind w ≡ Err f)
+pub padding_is_none : (kind : TemplateKind) (w : List ℕ) → is_padding w ≡ true → (f : MessageFault) × (event_at kind w ≡ Err f)
 unfolding event_at
 padding_is_none kind w h =
     elim (or_true (ltb (length w) 4) (list_all (λ b. eqb b 0) w) h) [
@@ -470,10 +470,10 @@ padding_is_none kind w h =
 
 -- ---- all records of a set
 
-pub events_of-found : (kind : Kind) (w : List ℕ) → IsOctets w → IsLongest (SpellsEvent kind) (events_of kind w).items (events_of kind w).rest w
+pub events_of-found : (kind : TemplateKind) (w : List ℕ) → IsOctets w → IsLongest (SpellsEvent kind) (events_of kind w).items (events_of kind w).rest w
 events_of-found kind w fits = longest_from (SpellsEvent kind) (event_at kind) (events_read kind) (events_shrink kind) w fits
 
-pub events_of-only : (kind : Kind) (w rest : List ℕ) (events : List Event) → IsOctets w → IsLongest (SpellsEvent kind) events rest w → events_of kind w ≡ record { items = events; rest = rest }
+pub events_of-only : (kind : TemplateKind) (w rest : List ℕ) (events : List Event) → IsOctets w → IsLongest (SpellsEvent kind) events rest w → events_of kind w ≡ record { items = events; rest = rest }
 events_of-only kind w rest events fits longest = longest_only (SpellsEvent kind) (event_at kind) (events_read kind) (events_shrink kind) events rest w fits longest
 
 not_none : (f : MessageFault) → result_err {T = Event × List ℕ} (Err f) ≡ None → ⊥
@@ -484,7 +484,7 @@ err_of (Ok x) f h = absurd cc
 err_of (Err e) f h = let same : e ≡ f = cc in ap (λ (x : MessageFault). Err x) same
 
 -- the fault behind the last record is the first that fits
-pub fault_after_events-first : (kind : Kind) (rest : List ℕ) (f : MessageFault) → IsOctets rest → fault_after_events kind rest ≡ Some f ↔ ((¬ IsPadding rest) × FaultAt kind rest f)
+pub fault_after_events-first : (kind : TemplateKind) (rest : List ℕ) (f : MessageFault) → IsOctets rest → fault_after_events kind rest ≡ Some f ↔ ((¬ IsPadding rest) × FaultAt kind rest f)
 fault_after_events-first kind rest f fits = (
   λ h. elim (chosen (is_padding rest) None (result_err (event_at kind rest)) (Some f) h) [
     | inl t ↦ absurd cc
@@ -504,7 +504,7 @@ fault_after_events-first kind rest f fits = (
     not_yes b p q = cc
 
 -- there is no fault exactly where the whole set is records and padding
-pub template_set-whole : (kind : Kind) (w : List ℕ) (events : List Event) → IsOctets w → IsTemplateSet kind events w ↔ (((events_of kind w).items ≡ events) × (fault_after_events kind (events_of kind w).rest ≡ None))
+pub template_set-whole : (kind : TemplateKind) (w : List ℕ) (events : List Event) → IsOctets w → IsTemplateSet kind events w ↔ (((events_of kind w).items ≡ events) × (fault_after_events kind (events_of kind w).rest ≡ None))
 template_set-whole kind w events fits = (
   λ set.
       let pad : is_padding set.padding ≡ true = (is_padding-tells set.padding).1 set.padded in

@@ -2,7 +2,7 @@
 use Rattle.std.proofs.Common.{◌≡◌, ℕ, ◌+◌, Bool, true, false, cond, eqb, List, ◌∷◌, Option, Some, None, Result, Ok, Err, refl, sym, ap, ◌∙◌, arith}
 use Rattle.ipfix_message.specs.declared.fault.MessageFault.{MessageFault}
 use Rattle.ipfix_message.specs.declared.fault.MessageFault.TheVariants.{TemplateChanged}
-use Rattle.ipfix_message.specs.declared.template_record.Kind.{Kind}
+use Rattle.ipfix_message.specs.declared.template_record.TemplateKind.{TemplateKind}
 use Rattle.ipfix_message.specs.declared.template_record.Event.{Event}
 use Rattle.ipfix_message.specs.declared.template_record.Event.TheVariants.{Define, Withdraw, WithdrawAll}
 use Rattle.ipfix_message.specs.declared.record.Template.{Template}
@@ -24,7 +24,7 @@ plus n read = map_read (λ r. (r.0, n + r.1)) read
 abbrev pub count_of : Bool → ℕ
 count_of b = cond b 1 0
 
-template_set_gives-is : (kind : Kind) (es : List Event) (w : List ℕ) → template_set_gives kind es w ≡ (events_give (parts_of (event_at kind) w).items es >>= λ r. unless (fault_after_events kind (parts_of (event_at kind) w).rest) r)
+template_set_gives-is : (kind : TemplateKind) (es : List Event) (w : List ℕ) → template_set_gives kind es w ≡ (events_give (parts_of (event_at kind) w).items es >>= λ r. unless (fault_after_events kind (parts_of (event_at kind) w).rest) r)
 unfolding template_set_gives
 template_set_gives-is kind es w = refl
 
@@ -32,7 +32,7 @@ unless-plus : (o : Option MessageFault) (n : ℕ) (r : List Event × ℕ) → un
 unless-plus None n r = refl
 unless-plus (Some f) n r = refl
 
-pub template_set_gives-next : (kind : Kind) (es : List Event) (w : List ℕ) (e : Event) (r : List ℕ) (b : Bool) → event_at kind w ≡ Ok (e, r) → event_gives es e ≡ Ok b
+pub template_set_gives-next : (kind : TemplateKind) (es : List Event) (w : List ℕ) (e : Event) (r : List ℕ) (b : Bool) → event_at kind w ≡ Ok (e, r) → event_gives es e ≡ Ok b
     → template_set_gives kind es w ≡ plus (count_of b) (template_set_gives kind (e ∷ es) r)
 unfolding events_give
 template_set_gives-next kind es w e r b h taken =
@@ -47,7 +47,7 @@ template_set_gives-next kind es w e r b h taken =
     inner (Ok x) rest = unless-plus (fault_after_events kind rest) (count_of b) x
     inner (Err f) rest = refl
 
-pub template_set_gives-changed : (kind : Kind) (es : List Event) (w : List ℕ) (e : Event) (r : List ℕ) (f : MessageFault) → event_at kind w ≡ Ok (e, r) → event_gives es e ≡ Err f → template_set_gives kind es w ≡ Err f
+pub template_set_gives-changed : (kind : TemplateKind) (es : List Event) (w : List ℕ) (e : Event) (r : List ℕ) (f : MessageFault) → event_at kind w ≡ Ok (e, r) → event_gives es e ≡ Err f → template_set_gives kind es w ≡ Err f
 unfolding events_give
 template_set_gives-changed kind es w e r f h taken =
     let more = parts_of (event_at kind) r in
@@ -55,14 +55,14 @@ template_set_gives-changed kind es w e r f h taken =
     ∙ ap (λ (p : Parts Event). events_give p.items es >>= λ x. unless (fault_after_events kind p.rest) x) (parts_of-next (event_at kind) (events_shrink kind) w e r h)
     ∙ ap (λ (s : Result Bool MessageFault). (s >>= λ ignored. events_give more.items (e ∷ es) >>= λ rest. Ok (rest.0, cond ignored 1 0 + rest.1)) >>= λ x. unless (fault_after_events kind more.rest) x) taken
 
-pub template_set_gives-fault : (kind : Kind) (es : List Event) (w : List ℕ) (f : MessageFault) → is_padding w ≡ false → event_at kind w ≡ Err f → template_set_gives kind es w ≡ Err f
+pub template_set_gives-fault : (kind : TemplateKind) (es : List Event) (w : List ℕ) (f : MessageFault) → is_padding w ≡ false → event_at kind w ≡ Err f → template_set_gives kind es w ≡ Err f
 unfolding events_give
 template_set_gives-fault kind es w f long h =
     template_set_gives-is kind es w
     ∙ ap (λ (p : Parts Event). events_give p.items es >>= λ x. unless (fault_after_events kind p.rest) x) (parts_of-none (event_at kind) w f h)
     ∙ rw (long, h) refl
 
-pub template_set_gives-done : (kind : Kind) (es : List Event) (w : List ℕ) → is_padding w ≡ true → template_set_gives kind es w ≡ Ok (es, 0)
+pub template_set_gives-done : (kind : TemplateKind) (es : List Event) (w : List ℕ) → is_padding w ≡ true → template_set_gives kind es w ≡ Ok (es, 0)
 unfolding events_give
 template_set_gives-done kind es w h =
     let none = padding_is_none kind w h in
@@ -98,12 +98,12 @@ pub agrees_define : (entries news : List (ℕ × Template)) (es : List Event) (t
 unfolding in_force
 agrees_define entries news es t agrees h = record { at = λ id. h id ∙ ap (cond (eqb id t.id) (Some t)) (agrees.at id) }
 
-pub agrees_withdraw : (entries news : List (ℕ × Template)) (es : List Event) (kind : Kind) (i : ℕ) → Agrees entries es
+pub agrees_withdraw : (entries news : List (ℕ × Template)) (es : List Event) (kind : TemplateKind) (i : ℕ) → Agrees entries es
     → ((id : ℕ) → template_in news id ≡ cond (eqb id i) (unless_of kind (template_in entries id)) (template_in entries id)) → Agrees news (Withdraw kind i ∷ es)
 unfolding in_force
 agrees_withdraw entries news es kind i agrees h = record { at = λ id. h id ∙ ap (λ (o : Option Template). cond (eqb id i) (unless_of kind o) o) (agrees.at id) }
 
-pub agrees_withdraw_all : (entries news : List (ℕ × Template)) (es : List Event) (kind : Kind) → Agrees entries es
+pub agrees_withdraw_all : (entries news : List (ℕ × Template)) (es : List Event) (kind : TemplateKind) → Agrees entries es
     → ((id : ℕ) → template_in news id ≡ unless_of kind (template_in entries id)) → Agrees news (WithdrawAll kind ∷ es)
 unfolding in_force
 agrees_withdraw_all entries news es kind agrees h = record { at = λ id. h id ∙ ap (unless_of kind) (agrees.at id) }
@@ -111,7 +111,7 @@ agrees_withdraw_all entries news es kind agrees h = record { at = λ id. h id �
 -- ---- the loop over a template set
 
 -- events that the entries stand for now, from which what is left gives the same
-pub record Going (kind : Kind) (entries : List (ℕ × Template)) (ignored : ℕ) (w : List ℕ) (total : Result (List Event × ℕ) MessageFault) : Type 0 where
+pub record Going (kind : TemplateKind) (entries : List (ℕ × Template)) (ignored : ℕ) (w : List ℕ) (total : Result (List Event × ℕ) MessageFault) : Type 0 where
   pub events : List Event
   pub agrees : Agrees entries events
   pub same : plus ignored (template_set_gives kind events w) ≡ total
@@ -124,10 +124,10 @@ plus-plus : (n m : ℕ) (read : Result (List Event × ℕ) MessageFault) → plu
 plus-plus n m (Ok r) = let e : n + (m + r.1) ≡ n + m + r.1 = omega arith in ap (λ (k : ℕ). Ok (r.0, k)) e
 plus-plus n m (Err f) = refl
 
-pub starts : (kind : Kind) (entries : List (ℕ × Template)) (es : List Event) (w : List ℕ) → Agrees entries es → Going kind entries 0 w (template_set_gives kind es w)
+pub starts : (kind : TemplateKind) (entries : List (ℕ × Template)) (es : List Event) (w : List ℕ) → Agrees entries es → Going kind entries 0 w (template_set_gives kind es w)
 starts kind entries es w agrees = record { events = es; agrees = agrees; same = plus-zero (template_set_gives kind es w) }
 
-pub goes_on : (kind : Kind) (entries news : List (ℕ × Template)) (n : ℕ) (w : List ℕ) (e : Event) (r : List ℕ) (b : Bool) (total : Result (List Event × ℕ) MessageFault)
+pub goes_on : (kind : TemplateKind) (entries news : List (ℕ × Template)) (n : ℕ) (w : List ℕ) (e : Event) (r : List ℕ) (b : Bool) (total : Result (List Event × ℕ) MessageFault)
     → event_at kind w ≡ Ok (e, r) → ((es : List Event) → Agrees entries es → event_gives es e ≡ Ok b) → ((es : List Event) → Agrees entries es → Agrees news (e ∷ es))
     → Going kind entries n w total → Going kind news (n + count_of b) r total
 goes_on kind entries news n w e r b total h taken agrees going = record {
@@ -136,16 +136,16 @@ goes_on kind entries news n w e r b total h taken agrees going = record {
   same = sym (plus-plus n (count_of b) (template_set_gives kind (e ∷ going.events) r)) ∙ ap (plus n) (sym (template_set_gives-next kind going.events w e r b h (taken going.events going.agrees))) ∙ going.same;
 }
 
-pub ends : (x : MessageFault) (kind : Kind) (entries : List (ℕ × Template)) (n : ℕ) (w : List ℕ) (total : Result (List Event × ℕ) MessageFault)
+pub ends : (x : MessageFault) (kind : TemplateKind) (entries : List (ℕ × Template)) (n : ℕ) (w : List ℕ) (total : Result (List Event × ℕ) MessageFault)
     → is_padding w ≡ false → Fails x (event_at kind w) → Going kind entries n w total → Fails x total
 ends x kind entries n w total long fails going = Fails-of x (event_at kind w) total (λ f h. sym going.same ∙ ap (plus n) (template_set_gives-fault kind going.events w f long h)) fails
 
-pub changes : (x : MessageFault) (kind : Kind) (entries : List (ℕ × Template)) (n : ℕ) (w : List ℕ) (e : Event) (r : List ℕ) (total : Result (List Event × ℕ) MessageFault)
+pub changes : (x : MessageFault) (kind : TemplateKind) (entries : List (ℕ × Template)) (n : ℕ) (w : List ℕ) (e : Event) (r : List ℕ) (total : Result (List Event × ℕ) MessageFault)
     → event_at kind w ≡ Ok (e, r) → ((es : List Event) → Agrees entries es → Fails x (event_gives es e)) → Going kind entries n w total → Fails x total
 changes x kind entries n w e r total h fails going =
     Fails-of x (event_gives going.events e) total (λ f taken. sym going.same ∙ ap (plus n) (template_set_gives-changed kind going.events w e r f h taken)) (fails going.events going.agrees)
 
-pub is_done : (kind : Kind) (entries : List (ℕ × Template)) (n : ℕ) (w : List ℕ) (total : Result (List Event × ℕ) MessageFault) → is_padding w ≡ true → Going kind entries n w total → Updates (Ok n) entries total
+pub is_done : (kind : TemplateKind) (entries : List (ℕ × Template)) (n : ℕ) (w : List ℕ) (total : Result (List Event × ℕ) MessageFault) → is_padding w ≡ true → Going kind entries n w total → Updates (Ok n) entries total
 is_done kind entries n w total pad going =
     let e : n + 0 ≡ n = omega arith in
     (going.events, sym going.same ∙ ap (plus n) (template_set_gives-done kind going.events w pad) ∙ ap (λ (k : ℕ). Ok (going.events, k)) e, going.agrees)

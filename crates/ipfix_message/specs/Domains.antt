@@ -78,7 +78,7 @@ message_gives ds m = do
 
 -- what contracts see of the domains of a session: whether a message was refused, and otherwise each domain with the
 -- entries of its map of templates
-pub record Session : Type 0 where
+pub record DomainsView : Type 0 where
   pub spent : Bool
   pub domains : List (ℕ × List (ℕ × Template))
 

@@ -9,7 +9,7 @@ use Rattle.ipfix_wire.specs.declared.specifier.Spec.{Spec}
 use Rattle.ipfix_wire.specs.declared.specifier.ElementId.{ElementId}
 use Rattle.ipfix_message.specs.declared.fault.MessageFault.TheVariants.{RecordCut}
 use Rattle.ipfix_message.specs.declared.layout.Layout.{Layout}
-use Rattle.ipfix_message.specs.declared.layout.Place.{Place}
+use Rattle.ipfix_message.specs.declared.layout.FieldPlace.{FieldPlace}
 use Rattle.ipfix_message.specs.Fields.{same_element}
 use Rattle.ipfix_message.specs.Outcome.{Read, ◌>>=◌}
 use Rattle.ipfix_message.specs.SpelledFields.{value_at}
@@ -29,11 +29,11 @@ last_from o (s ∷ ss) = if s.width == VARIABLE_WIDTH then last_from 0 ss else l
 -- ---- places
 
 -- with n more fields of variable length before it
-abbrev pub behind : ℕ → Option Place → Option Place
+abbrev pub behind : ℕ → Option FieldPlace → Option FieldPlace
 behind n p = option_map (λ x. record { before = n + x.before; offset = x.offset; width = x.width }) p
 
 -- where the first field of an element stands
-abbrev pub place_from : ℕ → List Spec → ElementId → Option Place
+abbrev pub place_from : ℕ → List Spec → ElementId → Option FieldPlace
 place_from o [] e = None
 place_from o (s ∷ ss) e =
     if same_element s.element e then Some (record { before = 0; offset = o; width = s.width })
@@ -76,6 +76,6 @@ after_all gaps last w = after_gaps gaps w >>= skip last
 abbrev pub value_behind : List ℕ → ℕ → ℕ → List ℕ → Read (List ℕ × List ℕ)
 value_behind gaps offset width w = after_gaps gaps w >>= skip offset >>= value_at width
 
-abbrev pub octets_at_place : List ℕ → Option Place → List ℕ → Option (List ℕ)
+abbrev pub octets_at_place : List ℕ → Option FieldPlace → List ℕ → Option (List ℕ)
 octets_at_place gaps None w = None
 octets_at_place gaps (Some p) w = option_map (λ x. x.0) (result_ok (value_behind (take p.before gaps) p.offset p.width w))

@@ -1,4 +1,4 @@
--- what public contracts cite
+-- What public contracts cite.
 pub mod Outcome
 pub mod Faults
 pub mod Fields
@@ -10,7 +10,7 @@ pub mod TemplatesInForce
 pub mod Sets
 pub mod Messages
 pub mod Domains
--- what only inner functions need
+-- What only inner functions and proofs need.
 pub mod Layouts
 pub mod SetRecords
 pub mod KeptFields

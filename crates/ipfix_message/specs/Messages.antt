@@ -5,8 +5,8 @@ use Rattle.ipfix_wire.specs.declared.set.TheConstants.{TEMPLATE_SET_ID, OPTIONS_
 use Rattle.ipfix_message.specs.declared.passed_over.PassedOver.{PassedOver}
 use Rattle.ipfix_message.specs.declared.record.Template.{Template}
 use Rattle.ipfix_message.specs.declared.record.DataRecord.{DataRecord}
-use Rattle.ipfix_message.specs.declared.template_record.Kind.{Kind}
-use Rattle.ipfix_message.specs.declared.template_record.Kind.TheVariants.{Plain, Options}
+use Rattle.ipfix_message.specs.declared.template_record.TemplateKind.{TemplateKind}
+use Rattle.ipfix_message.specs.declared.template_record.TemplateKind.TheVariants.{Plain, Options}
 use Rattle.ipfix_message.specs.declared.template_record.Event.{Event}
 use Rattle.ipfix_message.specs.Outcome.{Read, ◌>>=◌, unless}
 use Rattle.ipfix_message.specs.Sets.{Set, sets_of, fault_after_sets}
@@ -34,7 +34,7 @@ abbrev pub more_ignored : ℕ → PassedOver → PassedOver
 more_ignored n p = record p { ignored_withdrawals = p.ignored_withdrawals + n }
 
 -- a template set gives its events
-unfoldable pub templates_in : Kind → Decoding → List ℕ → Read Decoding
+unfoldable pub templates_in : TemplateKind → Decoding → List ℕ → Read Decoding
 templates_in kind d body = template_set_gives kind d.events body >>= λ r. Ok (record d { events = r.0; passed_over = more_ignored r.1 d.passed_over })
 
 -- a data set gives the records of its body, if its template is in force, and is unknown otherwise

@@ -12,33 +12,33 @@ use Rattle.ipfix_message.specs.declared.fault.MessageFault.{MessageFault}
 use Rattle.ipfix_message.specs.declared.fault.MessageFault.TheVariants.{TemplateId, TemplateCut, Scope, ZeroLength}
 use Rattle.ipfix_message.specs.declared.record.Template.{Template}
 use Rattle.ipfix_message.specs.declared.template_record.TheConstants.{TEMPLATE_HEADER_LENGTH}
-use Rattle.ipfix_message.specs.declared.template_record.Kind.{Kind}
-use Rattle.ipfix_message.specs.declared.template_record.Kind.TheVariants.{Plain, Options}
+use Rattle.ipfix_message.specs.declared.template_record.TemplateKind.{TemplateKind}
+use Rattle.ipfix_message.specs.declared.template_record.TemplateKind.TheVariants.{Plain, Options}
 use Rattle.ipfix_message.specs.declared.template_record.Event.{Event}
 use Rattle.ipfix_message.specs.declared.template_record.Event.TheVariants.{Define, Withdraw, WithdrawAll}
 use Rattle.ipfix_message.specs.Outcome.{Read, ◌>>=◌}
 use Rattle.ipfix_message.specs.DataRecords.{least}
 
 -- the id of the sets that bring templates of a kind
-abbrev pub set_id_of : Kind → ℕ
+abbrev pub set_id_of : TemplateKind → ℕ
 set_id_of Plain = TEMPLATE_SET_ID
 set_id_of Options = OPTIONS_TEMPLATE_SET_ID
 
 -- ---- what spells a template record
 
 -- the count of scope fields: at least one and at most all; a plain template has none
-abbrev pub IsScope : Kind → ℕ → ℕ → Type 0
+abbrev pub IsScope : TemplateKind → ℕ → ℕ → Type 0
 IsScope Plain scope count = scope ≡ 0
 IsScope Options scope count = (1 ≤ scope) × (scope ≤ count)
 
 -- an options template record writes that count, a plain one does not
-abbrev pub scope_octets : Kind → ℕ → List ℕ
+abbrev pub scope_octets : TemplateKind → ℕ → List ℕ
 scope_octets Plain scope = []
 scope_octets Options scope = big_bytes 2 scope
 
 -- w spells the definition of a template: its id, the count of its fields, that of its scope fields, and one field
 -- specifier after another, by which a record has at least one octet
-pub record SpellsTemplate (kind : Kind) (t : Template) (w : List ℕ) : Type 0 where
+pub record SpellsTemplate (kind : TemplateKind) (t : Template) (w : List ℕ) : Type 0 where
   pub fields : List ℕ
   pub octets : w ≡ big_bytes 2 t.id ++ (big_bytes 2 (length t.specs) ++ (scope_octets kind t.scope ++ fields))
   pub in_turn : InTurn SpellsSpec t.specs fields
@@ -51,7 +51,7 @@ pub record SpellsTemplate (kind : Kind) (t : Template) (w : List ℕ) : Type 0 w
 
 -- w spells a template record in a set of this kind: a definition, or without fields the withdrawal of a template or,
 -- with the set's own id, of all templates of the kind
-abbrev pub SpellsEvent : Kind → Event → List ℕ → Type 0
+abbrev pub SpellsEvent : TemplateKind → Event → List ℕ → Type 0
 SpellsEvent kind (Define t) w = SpellsTemplate kind t w
 SpellsEvent kind (Withdraw k id) w = (k ≡ kind) × (FIRST_TEMPLATE_ID ≤ id) × (id < 2 ^ 16) × (w ≡ big_bytes 2 id ++ big_bytes 2 0)
 SpellsEvent kind (WithdrawAll k) w = (k ≡ kind) × (w ≡ big_bytes 2 (set_id_of kind) ++ big_bytes 2 0)
@@ -61,7 +61,7 @@ abbrev pub IsPadding : List ℕ → Type 0
 IsPadding w = (length w < TEMPLATE_HEADER_LENGTH) ⊎ All (λ b. b ≡ 0) w
 
 -- the body of a template set: template records in turn, and padding
-pub record IsTemplateSet (kind : Kind) (events : List Event) (w : List ℕ) : Type 0 where
+pub record IsTemplateSet (kind : TemplateKind) (events : List Event) (w : List ℕ) : Type 0 where
   pub octets : List ℕ
   pub padding : List ℕ
   pub whole : w ≡ octets ++ padding
@@ -75,21 +75,21 @@ abbrev pub FirstOf : Type 0 → MessageFault → Type 0 → MessageFault → Typ
 FirstOf P e More f = (P × (f ≡ e)) ⊎ ((¬ P) × More)
 
 -- an id that is no template's, but the one of all templates in a withdrawal
-abbrev pub HasWrongId : Kind → ℕ → ℕ → Type 0
+abbrev pub HasWrongId : TemplateKind → ℕ → ℕ → Type 0
 HasWrongId kind id count = (id < FIRST_TEMPLATE_ID) × ((0 < count) ⊎ ¬ (id ≡ set_id_of kind))
 
 -- in a record with fields, no scope field count
-abbrev pub MissesScope : Kind → ℕ → List ℕ → Type 0
+abbrev pub MissesScope : TemplateKind → ℕ → List ℕ → Type 0
 MissesScope Plain count w = ⊥
 MissesScope Options count w = (0 < count) × (length w < 2)
 
 -- in a record with fields, a scope field count of 0 or above the field count
-abbrev pub HasWrongScope : Kind → ℕ → List ℕ → Type 0
+abbrev pub HasWrongScope : TemplateKind → ℕ → List ℕ → Type 0
 HasWrongScope Plain count w = ⊥
 HasWrongScope Options count w = (0 < count) × ((big_number 2 w ≡ 0) ⊎ (count < big_number 2 w))
 
 -- what follows the counts
-abbrev pub behind_counts : Kind → List ℕ → List ℕ
+abbrev pub behind_counts : TemplateKind → List ℕ → List ℕ
 behind_counts Plain w = w
 behind_counts Options w = drop 2 w
 
@@ -109,7 +109,7 @@ abbrev pub HasNoOctets : ℕ → List ℕ → Type 0
 HasNoOctets count w = (0 < count) × ((specs : List Spec) × (length specs ≡ count) × BeginsWith specs w × (least specs ≡ 0))
 
 -- the fault of an id, a field count and what follows them: the first that fits
-abbrev pub FaultOf : Kind → ℕ → ℕ → List ℕ → MessageFault → Type 0
+abbrev pub FaultOf : TemplateKind → ℕ → ℕ → List ℕ → MessageFault → Type 0
 FaultOf kind id count w f =
     FirstOf (HasWrongId kind id count) TemplateId
     (FirstOf (MissesScope kind count w) TemplateCut
@@ -118,13 +118,13 @@ FaultOf kind id count w f =
     (FirstOf (HasNoOctets count (behind_counts kind w)) ZeroLength ⊥ f) f) f) f) f
 
 -- why a text that has the header of a template record begins with no template record
-abbrev pub FaultAt : Kind → List ℕ → MessageFault → Type 0
+abbrev pub FaultAt : TemplateKind → List ℕ → MessageFault → Type 0
 FaultAt kind w f = FaultOf kind (big_number 2 w) (number_at 2 2 w) (drop TEMPLATE_HEADER_LENGTH w) f
 
 -- ---- reading them
 
 -- the number of scope fields; a plain template has none and does not write it
-abbrev pub scope_at : Kind → ℕ → List ℕ → Read (ℕ × List ℕ)
+abbrev pub scope_at : TemplateKind → ℕ → List ℕ → Read (ℕ × List ℕ)
 scope_at Plain count w = Ok (0, w)
 scope_at Options count w =
     let scope = big_number 2 w in
@@ -145,7 +145,7 @@ specs_at (suc n) w = do
   Ok (first.0 ∷ others.0, others.1)
 
 -- a record with no fields
-abbrev pub withdrawal : Kind → ℕ → List ℕ → Read (Event × List ℕ)
+abbrev pub withdrawal : TemplateKind → ℕ → List ℕ → Read (Event × List ℕ)
 withdrawal kind id w =
     if id == set_id_of kind then Ok (WithdrawAll kind, w)
     else if nat_lt id FIRST_TEMPLATE_ID then Err TemplateId
@@ -155,25 +155,25 @@ abbrev pub definition : ℕ → ℕ → List Spec × List ℕ → Read (Event ×
 definition id scope specs = if least specs.0 == 0 then Err ZeroLength else Ok (Define (record { id = id; scope = scope; specs = specs.0 }), specs.1)
 
 -- a record of this id and field count, in what follows them
-abbrev pub record_at : Kind → ℕ → ℕ → List ℕ → Read (Event × List ℕ)
+abbrev pub record_at : TemplateKind → ℕ → ℕ → List ℕ → Read (Event × List ℕ)
 record_at kind id count w =
     if count == 0 then withdrawal kind id w
     else if nat_lt id FIRST_TEMPLATE_ID then Err TemplateId
     else (scope_at kind count w >>= λ scope. specs_at count scope.1 >>= λ specs. definition id scope.0 specs)
 
 -- the template record that a text begins with, or its first fault
-unfoldable pub event_at : Kind → List ℕ → Read (Event × List ℕ)
+unfoldable pub event_at : TemplateKind → List ℕ → Read (Event × List ℕ)
 event_at kind w =
     if nat_lt (length w) TEMPLATE_HEADER_LENGTH then Err TemplateCut
     else record_at kind (big_number 2 w) (number_at 2 2 w) (drop TEMPLATE_HEADER_LENGTH w)
 
 -- the template records in the body of a template set, and what follows the last one
-abbrev pub events_of : Kind → List ℕ → Parts Event
+abbrev pub events_of : TemplateKind → List ℕ → Parts Event
 events_of kind w = parts_of (event_at kind) w
 
 abbrev pub is_padding : List ℕ → Bool
 is_padding w = nat_lt (length w) TEMPLATE_HEADER_LENGTH || list_all (λ b. b == 0) w
 
 -- the fault of what is left: none if it is padding, else why no template record stands there
-abbrev pub fault_after_events : Kind → List ℕ → Option MessageFault
+abbrev pub fault_after_events : TemplateKind → List ℕ → Option MessageFault
 fault_after_events kind rest = if is_padding rest then None else result_err (event_at kind rest)

@@ -4,8 +4,8 @@ use Rattle.std.specs.Cmp.Lexicographic.{pointwise}
 use Rattle.ipfix_wire.specs.declared.specifier.Spec.{Spec}
 use Rattle.ipfix_message.specs.declared.fault.MessageFault.TheVariants.{TemplateChanged}
 use Rattle.ipfix_message.specs.declared.record.Template.{Template}
-use Rattle.ipfix_message.specs.declared.template_record.Kind.{Kind}
-use Rattle.ipfix_message.specs.declared.template_record.Kind.TheVariants.{Plain, Options}
+use Rattle.ipfix_message.specs.declared.template_record.TemplateKind.{TemplateKind}
+use Rattle.ipfix_message.specs.declared.template_record.TemplateKind.TheVariants.{Plain, Options}
 use Rattle.ipfix_message.specs.declared.template_record.Event.{Event}
 use Rattle.ipfix_message.specs.declared.template_record.Event.TheVariants.{Define, Withdraw, WithdrawAll}
 use Rattle.ipfix_message.specs.Outcome.{Read, ◌>>=◌, unless}
@@ -14,12 +14,12 @@ use Rattle.ipfix_message.specs.TemplateRecords.{events_of, fault_after_events}
 -- ---- the template in force for an id; events stand with the newest first
 
 -- an options template has scope fields
-abbrev pub is_of : Kind → Template → Bool
+abbrev pub is_of : TemplateKind → Template → Bool
 is_of Plain t = t.scope == 0
 is_of Options t = not (t.scope == 0)
 
 -- what a withdrawal of a kind leaves in force
-abbrev pub unless_of : Kind → Option Template → Option Template
+abbrev pub unless_of : TemplateKind → Option Template → Option Template
 unless_of kind None = None
 unless_of kind (Some t) = if is_of kind t then None else Some t
 
@@ -63,7 +63,7 @@ is_other t None = false
 is_other t (Some u) = not (same_template t u)
 
 -- no template of that kind is there
-abbrev pub is_none_of : Kind → Option Template → Bool
+abbrev pub is_none_of : TemplateKind → Option Template → Bool
 is_none_of kind None = true
 is_none_of kind (Some t) = not (is_of kind t)
 
@@ -92,5 +92,5 @@ events_give (e ∷ more) es = do
   Ok (rest.0, (if ignored then 1 else 0) + rest.1)
 
 -- a template set, after the events es of its domain: what its events give, and then the fault of what is left of it
-unfoldable pub template_set_gives : Kind → List Event → List ℕ → Read (List Event × ℕ)
+unfoldable pub template_set_gives : TemplateKind → List Event → List ℕ → Read (List Event × ℕ)
 template_set_gives kind es w = events_give (events_of kind w).items es >>= λ r. unless (fault_after_events kind (events_of kind w).rest) r

@@ -22,7 +22,8 @@ pub fn take_records(
     out: &mut Vec<DataRecord>,
 ) -> Result<(), MessageFault>
     ensures { Gives (λ _. out.new.items) result
-        (map_read (λ rs. out.old.items ++ map (record_of header.now known.now) rs) (records_of_body known.now.specs body.now)) }
+        (map_read (λ rs. out.old.items ++ map (record_of header.now known.now) rs)
+        (records_of_body known.now.specs body.now)) }
 {
     let template = known.template();
     let laid_out = known.laid_out();

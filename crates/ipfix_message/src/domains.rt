@@ -1,14 +1,15 @@
 //! The domains of a transport session, which decode its messages (RFC 7011, sections 3.1 and 8).
 
-ghost use Rattle.std.specs.Prelude.{[], ◌≡◌, false, true, IsTrue, IsErrOf, OnOk, OnErr, Err, None, option_copied};
-ghost use Rattle.ipfix_message.specs.Domains.{History, StandsFor, Decodes, IsAdmitted, message_gives, template_for};
+ghost use Rattle.std.specs.Prelude.{[], ◌≡◌, false, true, IsTrue, IsErrOf, OnOk, OnErr, Ok, Err, None, option_copied};
+ghost use Rattle.ipfix_message.specs.Domains.{History, StandsFor, Decodes, IsAdmitted, message_header, message_gives, template_for};
 ghost use Rattle.ipfix_message.specs.declared.fault.MessageFault.TheVariants.{OutOfMemory, Spent};
 
 use crate::fault::MessageFault;
 use crate::in_force::Templates;
-use crate::message::{Decoded, read_message};
+use crate::message::{Decoded, header_of, read_message};
 use crate::record::Template;
 use indexmap::IndexMap;
+use ipfix_wire::Header;
 use std::alloc::Global;
 use std::marker::Model;
 
@@ -21,10 +22,10 @@ pub struct Domains {
 }
 
 impl Model for Domains {
-    ghost use Rattle.ipfix_message.specs.Domains.{Session};
+    ghost use Rattle.ipfix_message.specs.Domains.{DomainsView};
     ghost use Rattle.ipfix_message.specs.Kept.{kept};
 
-    ghost Value = { Session };
+    ghost Value = { DomainsView };
 
     ghost view = { λ d. record { spent = d.spent; domains = kept d.known.entries } };
 }
@@ -62,7 +63,35 @@ impl Domains {
         if self.spent {
             return Err(MessageFault::Spent);
         }
-        let result = read_message(alloc, &mut self.known, message);
+        match header_of(message) {
+            Ok(header) => self.decode_with_header(alloc, &header, message),
+            Err(fault) => {
+                self.spent = true;
+                Err(fault)
+            }
+        }
+    }
+
+    /// Decodes a message whose header was read already, as [`decode`](Self::decode) does.
+    pub fn decode_with_header(
+        &mut self,
+        alloc: Global,
+        header: &Header,
+        message: &[u8],
+    ) -> Result<Decoded, MessageFault>
+        requires { message_header message.now ≡ Ok header.now }
+        ensures spent { IsTrue self.old.spent → result ≡ Err Spent }
+        ensures gives { self.old.spent ≡ false → (ds : History) → StandsFor self.old.domains ds
+            → Decodes result self.new.domains (message_gives ds message.now) }
+        ensures memory { IsErrOf result OutOfMemory → (ds : History) → StandsFor self.old.domains ds
+            → IsAdmitted ds message.now }
+        ensures ok { OnOk result (self.new.spent ≡ false) }
+        ensures err { OnErr result (self.new.spent ≡ true) }
+    {
+        if self.spent {
+            return Err(MessageFault::Spent);
+        }
+        let result = read_message(alloc, &mut self.known, header, message);
         self.spent = result.is_err();
         result
     }

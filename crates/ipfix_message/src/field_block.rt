@@ -78,7 +78,8 @@ impl Fields {
     /// Appends a field of at most 65,535 octets. A record of a data set gets octets of its own by it.
     pub fn push(&mut self, element: ElementId, octets: &[u8]) -> Result<(), AllocError>
         requires { length octets.now < 2 ^ 16 }
-        ensures ok { OnOk result (self.new ≡ self.old ++ record { element = element; octets = octets.now } ∷ []) }
+        ensures ok { OnOk result (self.new ≡ self.old
+            ++ record { element = element; octets = octets.now } ∷ []) }
         ensures err { OnErr result (self.new ≡ self.old) }
     {
         let alloc = self.alloc;

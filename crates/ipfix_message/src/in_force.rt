@@ -10,17 +10,18 @@ ghost use Rattle.ipfix_message.specs.declared.template_record.Event.{Event};
 
 use crate::fault::MessageFault;
 use crate::template_in_force::{Definition, TemplateInForce};
-use crate::template_record::{Event, Kind, event_of, is_padding};
+use crate::template_record::{Event, TemplateKind, event_of, is_padding};
 use std::alloc::Global;
 use std::collections::BTreeMap;
 
 /// The templates of a domain that are in force, by id.
 pub type Templates = BTreeMap<u16, TemplateInForce>;
 
-// defines a template, of whose records the layout is found only if the template isn't in force already
+// Puts a template in force. The layout of its records is found only if it isn't in force already.
 fn define(alloc: Global, templates: &mut Templates, new: Definition) -> Result<(), MessageFault>
     ensures gives { Gives (λ x. x) result (defining new (get nat_cmp templates.old new.id)) }
-    ensures ok { OnOk result ((id : ℕ) → get nat_cmp templates.new id ≡ (if id == new.id then Some new else get nat_cmp templates.old id)) }
+    ensures ok { OnOk result ((id : ℕ) → get nat_cmp templates.new id
+        ≡ (if id == new.id then Some new else get nat_cmp templates.old id)) }
 {
     let id = new.id();
     if let Some(known) = templates.get(&id) {
@@ -33,10 +34,12 @@ fn define(alloc: Global, templates: &mut Templates, new: Definition) -> Result<(
     Ok(())
 }
 
-// withdraws a template of a kind, and answers whether there was none
-fn withdraw(templates: &mut Templates, kind: Kind, id: u16) -> bool
+// Ends a template of a kind, and answers whether there was none.
+fn withdraw(templates: &mut Templates, kind: TemplateKind, id: u16) -> bool
     ensures ignored { result ≡ is_none_of kind (get nat_cmp templates.old id) }
-    ensures left { (q : ℕ) → get nat_cmp templates.new q ≡ (if q == id then unless_of kind (get nat_cmp templates.old q) else get nat_cmp templates.old q) }
+    ensures left { (q : ℕ) → get nat_cmp templates.new q
+        ≡ (if q == id then unless_of kind (get nat_cmp templates.old q)
+        else get nat_cmp templates.old q) }
 {
     let is_known = match templates.get(&id) {
         Some(known) => known.is_of(kind),
@@ -48,17 +51,19 @@ fn withdraw(templates: &mut Templates, kind: Kind, id: u16) -> bool
     !is_known
 }
 
-// withdraws all templates of a kind
-fn withdraw_all(templates: &mut Templates, kind: Kind)
+// Ends all templates of a kind.
+fn withdraw_all(templates: &mut Templates, kind: TemplateKind)
     ensures { (q : ℕ) → get nat_cmp templates.new q ≡ unless_of kind (get nat_cmp templates.old q) }
 {
     templates.retain(|_, known| !known.is_of(kind));
 }
 
-// takes an event, and answers whether it is a withdrawal that was ignored
+// Brings the templates up to an event, and answers whether it is a withdrawal that is ignored.
 fn take_event(alloc: Global, templates: &mut Templates, event: Event) -> Result<bool, MessageFault>
-    ensures gives { (es : List Event) → Agrees templates.old.entries es → Gives (λ b. b) result (event_gives es event) }
-    ensures ok { (es : List Event) → Agrees templates.old.entries es → OnOk result (Agrees templates.new.entries (event ∷ es)) }
+    ensures gives { (es : List Event) → Agrees templates.old.entries es
+        → Gives (λ b. b) result (event_gives es event) }
+    ensures ok { (es : List Event) → Agrees templates.old.entries es
+        → OnOk result (Agrees templates.new.entries (event ∷ es)) }
 {
     match event {
         Event::Define(new) => {
@@ -76,12 +81,13 @@ fn take_event(alloc: Global, templates: &mut Templates, event: Event) -> Result<
 /// Takes the body of a template set, and answers how many withdrawals were ignored.
 pub fn take_templates(
     alloc: Global,
-    kind: Kind,
+    kind: TemplateKind,
     body: &[u8],
     templates: &mut Templates,
 ) -> Result<u64, MessageFault>
     ensures few { IfOk result (λ n. n ≤ length body.now) }
-    ensures gives { (es : List Event) → Agrees templates.old.entries es → Updates result templates.new.entries (template_set_gives kind es body.now) }
+    ensures gives { (es : List Event) → Agrees templates.old.entries es
+        → Updates result templates.new.entries (template_set_gives kind es body.now) }
 {
     let mut ignored = 0;
     let mut rest = body;

@@ -48,7 +48,8 @@ impl LaidOut {
 
     /// What follows the record with which these octets begin.
     pub fn after_record<'a>(&self, octets: &'a [u8]) -> Result<&'a [u8], MessageFault>
-        ensures gives { Gives (λ after. (fields_in self.now.specs octets.now, after.now)) result (fields_at self.now.specs octets.now) }
+        ensures gives { Gives (λ after. (fields_in self.now.specs octets.now, after.now)) result
+            (fields_at self.now.specs octets.now) }
         ensures short { OnOk result (All IsShort (fields_in self.now.specs octets.now)) }
     {
         self.layout

@@ -1,4 +1,5 @@
-//! Laws of the definitions.
+//! Laws of the definitions. Each is a function that does nothing, and its contract is the theorem: a
+//! call brings that to the proof of its caller.
 
 ghost use Rattle.std.specs.Prelude.{◌≡◌, ◌<◌, ◌↔◌, ℕ, List, Some, None, Ok, Err, All, length};
 ghost use Rattle.ipfix_wire.specs.Numbers.{IsOctets};
@@ -9,7 +10,7 @@ ghost use Rattle.ipfix_message.specs.DataRecords.{IsBody, HasOctets, records_of_
 ghost use Rattle.ipfix_message.specs.Domains.{History, Message, message_gives};
 ghost use Rattle.ipfix_wire.specs.InTurn.{IsLongest};
 ghost use Rattle.ipfix_message.specs.TemplateRecords.{SpellsEvent, IsTemplateSet, IsPadding, FaultAt, events_of, fault_after_events};
-ghost use Rattle.ipfix_message.specs.declared.template_record.Kind.{Kind};
+ghost use Rattle.ipfix_message.specs.declared.template_record.TemplateKind.{TemplateKind};
 ghost use Rattle.ipfix_message.specs.declared.template_record.Event.{Event};
 ghost use Rattle.ipfix_message.specs.TemplatesInForce.{IsInForce, in_force};
 ghost use Rattle.ipfix_message.specs.declared.record.Template.{Template};
@@ -18,17 +19,22 @@ ghost use Rattle.ipfix_message.specs.declared.fault.MessageFault.{MessageFault};
 
 /// A body is read as the one list of records that it is the spelling of, up to padding.
 pub fn one_body()
-    ensures found { (specs : List Spec) (w : List ℕ) (rs : List (List Field)) → IsOctets w → records_of_body specs w ≡ Ok rs → IsBody specs rs w }
-    ensures only { (specs : List Spec) (w : List ℕ) (rs : List (List Field)) → 0 < DataRecords.least specs → IsBody specs rs w → records_of_body specs w ≡ Ok rs }
+    ensures found { (specs : List Spec) (w : List ℕ) (rs : List (List Field)) → IsOctets w
+        → records_of_body specs w ≡ Ok rs → IsBody specs rs w }
+    ensures only { (specs : List Spec) (w : List ℕ) (rs : List (List Field))
+        → 0 < DataRecords.least specs → IsBody specs rs w → records_of_body specs w ≡ Ok rs }
 {}
 
 /// The sets of a message are the longest list of sets whose spellings, one after another, begin what
 /// follows the message's header (RFC 7011, section 3.3), and the fault of what is left is that of
 /// reading one more set.
 pub fn longest_sets()
-    ensures found { (w : List ℕ) → IsOctets w → IsLongest SpellsSet (sets_of w).items (sets_of w).rest w }
-    ensures only { (w rest : List ℕ) (sets : List Set) → IsOctets w → IsLongest SpellsSet sets rest w → sets_of w ≡ record { items = sets; rest = rest } }
-    ensures left { (rest : List ℕ) (f : MessageFault) → 0 < length rest → next_set rest ≡ Err f → fault_after_sets rest ≡ Some f }
+    ensures found { (w : List ℕ) → IsOctets w
+        → IsLongest SpellsSet (sets_of w).items (sets_of w).rest w }
+    ensures only { (w rest : List ℕ) (sets : List Set) → IsOctets w
+        → IsLongest SpellsSet sets rest w → sets_of w ≡ record { items = sets; rest = rest } }
+    ensures left { (rest : List ℕ) (f : MessageFault) → 0 < length rest
+        → next_set rest ≡ Err f → fault_after_sets rest ≡ Some f }
 {}
 
 /// The template records in the body of a template set are the longest list of definitions and
@@ -36,20 +42,28 @@ pub fn longest_sets()
 /// 8.1). Where records and padding are the whole body there is no fault, and otherwise the fault is
 /// the first that fits what follows the last record.
 pub fn longest_events()
-    ensures found { (kind : Kind) (w : List ℕ) → IsOctets w → IsLongest (SpellsEvent kind) (events_of kind w).items (events_of kind w).rest w }
-    ensures only { (kind : Kind) (w rest : List ℕ) (events : List Event) → IsOctets w → IsLongest (SpellsEvent kind) events rest w → events_of kind w ≡ record { items = events; rest = rest } }
-    ensures whole { (kind : Kind) (w : List ℕ) (events : List Event) → IsOctets w → IsTemplateSet kind events w ↔ (((events_of kind w).items ≡ events) × (fault_after_events kind (events_of kind w).rest ≡ None)) }
-    ensures fault { (kind : Kind) (rest : List ℕ) (f : MessageFault) → IsOctets rest → (fault_after_events kind rest ≡ Some f) ↔ ((¬ IsPadding rest) × FaultAt kind rest f) }
+    ensures found { (kind : TemplateKind) (w : List ℕ) → IsOctets w
+        → IsLongest (SpellsEvent kind) (events_of kind w).items (events_of kind w).rest w }
+    ensures only { (kind : TemplateKind) (w rest : List ℕ) (events : List Event) → IsOctets w
+        → IsLongest (SpellsEvent kind) events rest w
+        → events_of kind w ≡ record { items = events; rest = rest } }
+    ensures whole { (kind : TemplateKind) (w : List ℕ) (events : List Event) → IsOctets w
+        → IsTemplateSet kind events w ↔ (((events_of kind w).items ≡ events)
+        × (fault_after_events kind (events_of kind w).rest ≡ None)) }
+    ensures fault { (kind : TemplateKind) (rest : List ℕ) (f : MessageFault) → IsOctets rest
+        → (fault_after_events kind rest ≡ Some f) ↔ ((¬ IsPadding rest) × FaultAt kind rest f) }
 {}
 
 /// The template in force for an id is the last one that was defined for it, unless a later
 /// withdrawal of that id or of all templates ended it (RFC 7011, section 8.1).
 pub fn last_definition()
-    ensures { (es : List Event) (id : ℕ) (t : Template) → (in_force es id ≡ Some t) ↔ ((t.id ≡ id) × IsInForce t es) }
+    ensures { (es : List Event) (id : ℕ) (t : Template)
+        → (in_force es id ≡ Some t) ↔ ((t.id ≡ id) × IsInForce t es) }
 {}
 
 /// The fields of a message's records have octets, if the message has: each number of theirs is below
 /// 256 if each of the message's is.
 pub fn records_of_octets()
-    ensures { (ds : History) (m : List ℕ) (x : Message) → IsOctets m → message_gives ds m ≡ Ok x → All HasOctets x.decoding.records }
+    ensures { (ds : History) (m : List ℕ) (x : Message) → IsOctets m
+        → message_gives ds m ≡ Ok x → All HasOctets x.decoding.records }
 {}

@@ -18,7 +18,7 @@ use std::collections::BTreeMap;
 
 /// Where a field stands in each record of a template.
 #[derive(Clone, Copy, Debug)]
-pub struct Place {
+pub struct FieldPlace {
     /// How many fields of variable length stand before it.
     pub before: u16,
     /// The octets of the fields of fixed width since the last of those.
@@ -31,29 +31,31 @@ pub struct Place {
 /// costs depends on its octets, not on how many specifiers there are.
 #[derive(Debug, Drop)]
 pub struct Layout {
-    // for each field of variable length, the octets of fixed widths since the one before it
+    // For each field of variable length, the octets of fixed widths since the one before it.
     gaps: Vec<u32>,
-    // those since the last field of variable length
+    // Those since the last field of variable length.
     last: u32,
-    // of each element, by its key, where its first field stands
-    places: BTreeMap<u64, Place>,
+    // Where the first field of each element stands, by its key.
+    places: BTreeMap<u64, FieldPlace>,
 }
 
-// the number by which an element is sought
+// The number by which an element is sought.
 fn key_of(element: ElementId) -> u64
     ensures { result ≡ Layouts.key_of element }
 {
     u64::from(element.pen) * 65536 + u64::from(element.number)
 }
 
-// notes where a field of an element stands, unless one stands before it
+// Notes where a field of an element stands, unless one stands before it.
 fn note_first(
-    places: &mut BTreeMap<u64, Place>,
+    places: &mut BTreeMap<u64, FieldPlace>,
     element: ElementId,
-    place: Place,
+    place: FieldPlace,
 ) -> Result<(), AllocError>
     ensures { OnOk result ((e : ElementId) → e.number < 2 ^ 16
-        → get nat_cmp places.new (Layouts.key_of e) ≡ option_or (get nat_cmp places.old (Layouts.key_of e)) (if same_element element e then Some place else None)) }
+        → get nat_cmp places.new (Layouts.key_of e)
+        ≡ option_or (get nat_cmp places.old (Layouts.key_of e))
+        (if same_element element e then Some place else None)) }
 {
     let key = key_of(element);
     if !places.contains_key(&key) {
@@ -62,7 +64,7 @@ fn note_first(
     Ok(())
 }
 
-// what follows that many octets
+// What follows that many octets.
 fn skip(count: u32, octets: &[u8]) -> Option<&[u8]>
     ensures { unless_cut (option_map (λ r. r.now) result) ≡ Layouts.skip count octets.now }
 {
@@ -74,7 +76,7 @@ fn skip(count: u32, octets: &[u8]) -> Option<&[u8]>
     Some(rest)
 }
 
-// what follows a gap and the field of variable length behind it
+// What follows a gap and the field of variable length behind it.
 fn after_gap(gap: u32, octets: &[u8]) -> Option<&[u8]>
     ensures { unless_cut (option_map (λ r. r.now) result) ≡ Layouts.after_gap gap octets.now }
 {
@@ -82,7 +84,7 @@ fn after_gap(gap: u32, octets: &[u8]) -> Option<&[u8]>
     Some(rest)
 }
 
-// what follows these gaps, each with its field
+// What follows these gaps, each with its field.
 fn after_gaps<'a>(gaps: &[u32], octets: &'a [u8]) -> Option<&'a [u8]>
     ensures { unless_cut (option_map (λ r. r.now) result) ≡ Layouts.after_gaps gaps.now octets.now }
 {
@@ -103,7 +105,7 @@ impl Layout {
         let mut last = 0;
         let mut places = BTreeMap::new(alloc);
         for spec in specs {
-            let place = Place {
+            let place = FieldPlace {
                 before: gaps.len() as u16,
                 offset: last,
                 width: spec.width,
@@ -121,7 +123,8 @@ impl Layout {
 
     /// What follows the record with which these octets begin, or `None` if it is cut.
     pub fn after_record<'a>(&self, octets: &'a [u8]) -> Option<&'a [u8]>
-        ensures { unless_cut (option_map (λ r. r.now) result) ≡ after_all self.now.gaps.items self.now.last octets.now }
+        ensures { unless_cut (option_map (λ r. r.now) result)
+            ≡ after_all self.now.gaps.items self.now.last octets.now }
     {
         let rest = after_gaps(&self.gaps, octets)?;
         skip(self.last, rest)
@@ -131,7 +134,8 @@ impl Layout {
     /// have cost a search alone.
     pub fn find<'a>(&self, element: ElementId, octets: &'a [u8]) -> Option<&'a [u8]>
         requires { (specs : List Spec) × IsLayout self.now specs }
-        ensures { option_copied result ≡ octets_at_place self.now.gaps.items (get nat_cmp self.now.places (Layouts.key_of element)) octets.now }
+        ensures { option_copied result ≡ octets_at_place self.now.gaps.items
+            (get nat_cmp self.now.places (Layouts.key_of element)) octets.now }
     {
         let place = self.places.get(&key_of(element))?;
         let rest = after_gaps(&self.gaps[..usize::from(place.before)], octets)?;

@@ -1,6 +1,6 @@
 //! A message: its header, its domain and its sets (RFC 7011, section 3.1).
 
-ghost use Rattle.std.specs.Prelude.{◌≡◌, ◌≤◌, nat_eq, List, length, IsOk, IsErrOf, OnOk, IsSome};
+ghost use Rattle.std.specs.Prelude.{◌≡◌, nat_eq, List, Ok, IsOk, IsErrOf, OnOk, IsSome};
 ghost use Rattle.indexmap.specs.IndexMap.{get};
 ghost use Rattle.ipfix_message.specs.Domains;
 ghost use Rattle.ipfix_message.specs.Domains.{History, StandsFor, Decodes, IsAdmitted, message_gives, passed_over_of};
@@ -19,15 +19,14 @@ use ipfix_wire::{HEADER_LENGTH, Header, read_header};
 use std::alloc::Global;
 use std::collections::BTreeMap;
 
-// how many domains a session may have
+// How many domains a session may have.
 const MAX_DOMAINS: usize = 1024;
 
-// the header, whose length is that of the message
+/// The header of a message, whose length is that of the message.
 #[tactic(auto, unfolding(crate::specs::Domains::message_header))]
-fn header_of(message: &[u8]) -> Result<Header, MessageFault>
+pub fn header_of(message: &[u8]) -> Result<Header, MessageFault>
     ensures gives { Gives (λ h. h) result (Domains.message_header message.now) }
     ensures memory { ¬ IsErrOf result OutOfMemory }
-    ensures long { OnOk result (HEADER_LENGTH ≤ length message.now) }
 {
     if message.len() < HEADER_LENGTH {
         return Err(MessageFault::MessageLength);
@@ -39,14 +38,16 @@ fn header_of(message: &[u8]) -> Result<Header, MessageFault>
     Ok(header)
 }
 
-// makes sure that a domain is known
+// Makes room for a domain that has not appeared yet.
 fn admit(
     alloc: Global,
     known: &mut IndexMap<u32, Templates>,
     domain: u32,
 ) -> Result<(), MessageFault>
-    ensures gives { (ds : History) → StandsFor (kept known.old.entries) ds → Admits result (kept known.new.entries) (Domains.admit ds domain) }
-    ensures memory { IsErrOf result OutOfMemory → (ds : History) → StandsFor (kept known.old.entries) ds → IsOk (Domains.admit ds domain) }
+    ensures gives { (ds : History) → StandsFor (kept known.old.entries) ds
+        → Admits result (kept known.new.entries) (Domains.admit ds domain) }
+    ensures memory { IsErrOf result OutOfMemory → (ds : History)
+        → StandsFor (kept known.old.entries) ds → IsOk (Domains.admit ds domain) }
     ensures present { OnOk result (IsSome (get nat_eq known.new domain)) }
 {
     if known.contains_key(&domain) {
@@ -88,19 +89,23 @@ impl Decoded {
     }
 }
 
-/// Reads a message of a session that has these domains.
+/// Reads a message that has this header, in a session that has these domains.
+#[tactic(auto, using(crate::proofs::History::header_is_whole))]
 pub fn read_message(
     alloc: Global,
     known: &mut IndexMap<u32, Templates>,
+    header: &Header,
     message: &[u8],
 ) -> Result<Decoded, MessageFault>
-    ensures gives { (ds : History) → StandsFor (kept known.old.entries) ds → Decodes result (kept known.new.entries) (message_gives ds message.now) }
-    ensures memory { IsErrOf result OutOfMemory → (ds : History) → StandsFor (kept known.old.entries) ds → IsAdmitted ds message.now }
+    requires { Domains.message_header message.now ≡ Ok header.now }
+    ensures gives { (ds : History) → StandsFor (kept known.old.entries) ds
+        → Decodes result (kept known.new.entries) (message_gives ds message.now) }
+    ensures memory { IsErrOf result OutOfMemory → (ds : History)
+        → StandsFor (kept known.old.entries) ds → IsAdmitted ds message.now }
 {
-    let header = header_of(message)?;
     admit(alloc, known, header.domain)?;
     let mut decoded = Decoded {
-        header,
+        header: *header,
         records: Vec::new(alloc),
         skipped_sets: 0,
         unknown_sets: 0,

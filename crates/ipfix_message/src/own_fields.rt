@@ -9,7 +9,7 @@ use ipfix_wire::{ElementId, Spec, VARIABLE_WIDTH};
 use std::alloc::{AllocError, Global};
 use std::marker::Model;
 
-// the length of a field of 65,535 octets, as such a field begins with it (RFC 7011, section 7)
+// The length of a field of 65,535 octets, as such a field begins with it (RFC 7011, section 7).
 const GREATEST_LENGTH: [u8; 3] = [255; 3];
 
 /// Fields with specifiers and octets of their own, spelled as in a data set. Contracts see the list
@@ -29,14 +29,16 @@ impl Model for OwnFields {
 
     ghost view = { λ f. fields_in f.specs.items f.octets.items };
 
-    ghost invariant = { λ f. Spells f.specs.items (fields_in f.specs.items f.octets.items) f.octets.items };
+    ghost invariant = { λ f.
+        Spells f.specs.items (fields_in f.specs.items f.octets.items) f.octets.items };
 }
 
-// appends what spells the octets of a field whose width is their number: the octets themselves, or
-// where that number stands for variable length, it and then the octets
+// Appends what spells the octets of a field whose width is their number: the octets themselves, or
+// where that number stands for variable length, it and then the octets.
 fn append_spelled(octets: &[u8], out: &mut Vec<u8>) -> Result<(), AllocError>
     requires { length octets.now < 2 ^ 16 }
-    ensures ok { OnOk result ((w : List ℕ) × SpellsOctets (length octets.now) octets.now w × (out.new.items ≡ out.old.items ++ w)) }
+    ensures ok { OnOk result ((w : List ℕ) × SpellsOctets (length octets.now) octets.now w
+        × (out.new.items ≡ out.old.items ++ w)) }
     ensures err { OnErr result (out.new.items ≡ out.old.items) }
 {
     if octets.len() < usize::from(VARIABLE_WIDTH) {
@@ -73,7 +75,8 @@ impl OwnFields {
     /// Appends a field of at most 65,535 octets.
     pub fn push(&mut self, element: ElementId, octets: &[u8]) -> Result<(), AllocError>
         requires { length octets.now < 2 ^ 16 }
-        ensures ok { OnOk result (self.new ≡ self.old ++ record { element = element; octets = octets.now } ∷ []) }
+        ensures ok { OnOk result (self.new ≡ self.old
+            ++ record { element = element; octets = octets.now } ∷ []) }
         ensures err { OnErr result (self.new ≡ self.old) }
     {
         let width = octets.len() as u16;

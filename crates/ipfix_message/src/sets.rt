@@ -12,17 +12,18 @@ use crate::data_set::take_records;
 use crate::fault::MessageFault;
 use crate::in_force::{Templates, take_templates};
 use crate::message::Decoded;
-use crate::template_record::Kind;
+use crate::template_record::TemplateKind;
 use ipfix_wire::{
     FIRST_TEMPLATE_ID, OPTIONS_TEMPLATE_SET_ID, SET_HEADER_LENGTH, TEMPLATE_SET_ID, read_set,
 };
 use std::alloc::Global;
 
-// the id and the body of the next set, and what follows it
+// The id and the body of the next set, and what follows it.
 #[tactic(auto, unfolding(crate::specs::Sets::next_set))]
 fn next_set(rest: &[u8]) -> Result<((u16, &[u8]), &[u8]), MessageFault>
     requires { 0 < length rest.now }
-    ensures { Gives (λ x. (record { id = x.0.0; body = x.0.1.now }, x.1.now)) result (Sets.next_set rest.now) }
+    ensures { Gives (λ x. (record { id = x.0.0; body = x.0.1.now }, x.1.now)) result
+        (Sets.next_set rest.now) }
 {
     let span = read_set(rest)?;
     let (_, rest) = rest.split_at(SET_HEADER_LENGTH);
@@ -30,10 +31,10 @@ fn next_set(rest: &[u8]) -> Result<((u16, &[u8]), &[u8]), MessageFault>
     Ok(((span.id, body), rest))
 }
 
-// a template set
+// Puts the templates of a set in force, and counts the withdrawals that are ignored.
 fn take_template_set(
     alloc: Global,
-    kind: Kind,
+    kind: TemplateKind,
     body: &[u8],
     templates: &mut Templates,
     decoded: &mut Decoded,
@@ -41,14 +42,16 @@ fn take_template_set(
     requires { counted decoded.old + length body.now < 2 ^ 64 }
     ensures few { OnOk result (counted decoded.new ≤ counted decoded.old + length body.now) }
     ensures header { decoded.new.header ≡ decoded.old.header }
-    ensures gives { (d : Decoding) → Holds templates.old.entries decoded.old d → Reaches result templates.new.entries decoded.new (Messages.templates_in kind d body.now) }
+    ensures gives { (d : Decoding) → Holds templates.old.entries decoded.old d
+        → Reaches result templates.new.entries decoded.new
+        (Messages.templates_in kind d body.now) }
 {
     let ignored = take_templates(alloc, kind, body, templates)?;
     decoded.ignored_withdrawals += ignored;
     Ok(())
 }
 
-// a data set
+// Appends the records of a data set, or counts it if no template of its id is in force.
 fn take_data_set(
     alloc: Global,
     id: u16,
@@ -59,7 +62,9 @@ fn take_data_set(
     requires { counted decoded.old + 1 < 2 ^ 64 }
     ensures few { OnOk result (counted decoded.new ≤ counted decoded.old + 1) }
     ensures header { decoded.new.header ≡ decoded.old.header }
-    ensures gives { (d : Decoding) → Holds templates.now.entries decoded.old d → Reaches result templates.now.entries decoded.new (Messages.data_in decoded.old.header d body.now (in_force d.events id)) }
+    ensures gives { (d : Decoding) → Holds templates.now.entries decoded.old d
+        → Reaches result templates.now.entries decoded.new
+        (Messages.data_in decoded.old.header d body.now (in_force d.events id)) }
 {
     match templates.get(&id) {
         None => {
@@ -70,7 +75,7 @@ fn take_data_set(
     }
 }
 
-// a set
+// Takes a set as its id says, or counts it as skipped.
 #[tactic(auto, unfolding(crate::specs::Messages::set_gives))]
 fn take_set(
     alloc: Global,
@@ -82,12 +87,14 @@ fn take_set(
     requires { counted decoded.old + length body.now + 1 < 2 ^ 64 }
     ensures few { OnOk result (counted decoded.new ≤ counted decoded.old + length body.now + 1) }
     ensures header { decoded.new.header ≡ decoded.old.header }
-    ensures gives { (d : Decoding) → Holds templates.old.entries decoded.old d → Reaches result templates.new.entries decoded.new (set_gives decoded.old.header d (record { id = id; body = body.now })) }
+    ensures gives { (d : Decoding) → Holds templates.old.entries decoded.old d
+        → Reaches result templates.new.entries decoded.new
+        (set_gives decoded.old.header d (record { id = id; body = body.now })) }
 {
     if id == TEMPLATE_SET_ID {
-        take_template_set(alloc, Kind::Plain, body, templates, decoded)
+        take_template_set(alloc, TemplateKind::Plain, body, templates, decoded)
     } else if id == OPTIONS_TEMPLATE_SET_ID {
-        take_template_set(alloc, Kind::Options, body, templates, decoded)
+        take_template_set(alloc, TemplateKind::Options, body, templates, decoded)
     } else if id < FIRST_TEMPLATE_ID {
         decoded.skipped_sets += 1;
         Ok(())
@@ -105,7 +112,9 @@ pub fn take_sets(
 ) -> Result<(), MessageFault>
     requires { counted decoded.old + length octets.now < 2 ^ 64 }
     ensures header { decoded.new.header ≡ decoded.old.header }
-    ensures gives { (d : Decoding) → Holds templates.old.entries decoded.old d → Reaches result templates.new.entries decoded.new (sets_from decoded.old.header d octets.now) }
+    ensures gives { (d : Decoding) → Holds templates.old.entries decoded.old d
+        → Reaches result templates.new.entries decoded.new
+        (sets_from decoded.old.header d octets.now) }
 {
     let mut rest = octets;
     while !rest.is_empty() {

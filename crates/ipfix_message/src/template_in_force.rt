@@ -7,7 +7,7 @@ ghost use Rattle.ipfix_message.specs.TemplatesInForce;
 
 use crate::laid_out::LaidOut;
 use crate::record::Template;
-use crate::template_record::Kind;
+use crate::template_record::TemplateKind;
 use ipfix_wire::Spec;
 use std::alloc::{AllocError, Global};
 use std::marker::Model;
@@ -30,7 +30,8 @@ impl Model for Definition {
 
     ghost view = { λ d. d.template };
 
-    ghost invariant = { λ d. (d.least ≡ DataRecords.least d.template.specs) × (0 < d.least) × (length d.template.specs < 2 ^ 16) };
+    ghost invariant = { λ d. (d.least ≡ DataRecords.least d.template.specs) × (0 < d.least)
+        × (length d.template.specs < 2 ^ 16) };
 }
 
 impl Definition {
@@ -79,7 +80,8 @@ impl Model for TemplateInForce {
 
     ghost view = { λ k. arc_value k.template };
 
-    ghost invariant = { λ k. (k.least ≡ DataRecords.least (arc_value k.template).specs) × (0 < k.least) };
+    ghost invariant = { λ k. (k.least ≡ DataRecords.least (arc_value k.template).specs)
+        × (0 < k.least) };
 }
 
 impl TemplateInForce {
@@ -120,12 +122,12 @@ impl TemplateInForce {
         self.least
     }
 
-    pub fn is_of(&self, kind: Kind) -> bool
+    pub fn is_of(&self, kind: TemplateKind) -> bool
         ensures { result ≡ TemplatesInForce.is_of kind self.now }
     {
         match kind {
-            Kind::Plain => self.template().scope == 0,
-            Kind::Options => self.template().scope != 0,
+            TemplateKind::Plain => self.template().scope == 0,
+            TemplateKind::Options => self.template().scope != 0,
         }
     }
 }

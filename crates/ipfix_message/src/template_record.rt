@@ -16,13 +16,13 @@ use ipfix_wire::{
 };
 use std::alloc::Global;
 
-// octets of the id and the field count, with which each template record begins (RFC 7011, section
-// 3.4.1)
+// Octets of the id and the field count, with which each template record begins (RFC 7011, section
+// 3.4.1).
 const TEMPLATE_HEADER_LENGTH: usize = 4;
 
 /// The two kinds of template.
 #[derive(Clone, Copy, Debug, PartialEq, Eq)]
-pub enum Kind {
+pub enum TemplateKind {
     Plain,
     Options,
 }
@@ -31,18 +31,18 @@ pub enum Kind {
 #[derive(Drop)]
 pub enum Event {
     Define(Definition),
-    Withdraw(Kind, u16),
-    WithdrawAll(Kind),
+    Withdraw(TemplateKind, u16),
+    WithdrawAll(TemplateKind),
 }
 
-impl Kind {
+impl TemplateKind {
     /// The id of the sets that bring templates of this kind.
     pub fn set_id(self) -> u16
         ensures { result ≡ set_id_of self }
     {
         match self {
-            Kind::Plain => TEMPLATE_SET_ID,
-            Kind::Options => OPTIONS_TEMPLATE_SET_ID,
+            TemplateKind::Plain => TEMPLATE_SET_ID,
+            TemplateKind::Options => OPTIONS_TEMPLATE_SET_ID,
         }
     }
 }
@@ -64,7 +64,7 @@ pub fn least_of(specs: &[Spec]) -> usize
     sum
 }
 
-// whether all octets are 0
+// Whether all octets are 0.
 fn is_zero(octets: &[u8]) -> bool
     ensures { result ≡ list_all (λ b. b == 0) octets.now }
 {
@@ -79,13 +79,13 @@ pub fn is_padding(rest: &[u8]) -> bool
     rest.len() < TEMPLATE_HEADER_LENGTH || is_zero(rest)
 }
 
-// the scope field count, which only an options template record has, and what follows it
-fn scope_of(kind: Kind, count: u16, rest: &[u8]) -> Result<(u16, &[u8]), MessageFault>
+// The scope field count, which only an options template record has, and what follows it.
+fn scope_of(kind: TemplateKind, count: u16, rest: &[u8]) -> Result<(u16, &[u8]), MessageFault>
     ensures { Gives (λ x. (x.0, x.1.now)) result (scope_at kind count rest.now) }
 {
     match kind {
-        Kind::Plain => Ok((0, rest)),
-        Kind::Options => {
+        TemplateKind::Plain => Ok((0, rest)),
+        TemplateKind::Options => {
             if rest.len() < 2 {
                 return Err(MessageFault::TemplateCut);
             }
@@ -99,7 +99,7 @@ fn scope_of(kind: Kind, count: u16, rest: &[u8]) -> Result<(u16, &[u8]), Message
     }
 }
 
-// that many field specifiers, and what follows them
+// That many field specifiers, and what follows them.
 fn specs_of(alloc: Global, count: u16, octets: &[u8]) -> Result<(Vec<Spec>, &[u8]), MessageFault>
     ensures exact { Gives (λ x. (x.0.items, x.1.now)) result (specs_at count octets.now) }
     ensures count { IfOk result (λ x. vec_len x.0 ≡ count) }
@@ -119,7 +119,11 @@ fn specs_of(alloc: Global, count: u16, octets: &[u8]) -> Result<(Vec<Spec>, &[u8
 
 /// The template record that `octets` begins with, and what follows it.
 #[tactic(auto, unfolding(crate::specs::TemplateRecords::event_at), using(std::proofs::lemmas::List::take_rest))]
-pub fn event_of(alloc: Global, kind: Kind, octets: &[u8]) -> Result<(Event, &[u8]), MessageFault>
+pub fn event_of(
+    alloc: Global,
+    kind: TemplateKind,
+    octets: &[u8],
+) -> Result<(Event, &[u8]), MessageFault>
     requires { TEMPLATE_HEADER_LENGTH ≤ length octets.now }
     ensures { Gives (λ x. (x.0, x.1.now)) result (event_at kind octets.now) }
 {

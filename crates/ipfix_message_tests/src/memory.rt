@@ -1,5 +1,5 @@
-//! What is answered where memory runs out: `tests/refusals` refuses each allocation of this call in
-//! turn.
+//! What is answered where memory runs out: `tests/gate/refusals` refuses each allocation of
+//! this call in turn.
 
 use ipfix_message::{Domains, MessageFault};
 use ipfix_wire::ElementId;

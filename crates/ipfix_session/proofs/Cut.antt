@@ -1,7 +1,7 @@
 -- Cutting a text into its messages.
 use Rattle.std.proofs.Common.{◌≡◌, ℕ, ◌≤◌, ltb, List, [], ◌∷◌, ◌++◌, length, take, drop, Result, Ok, Err, refl, sym, ap, ◌∙◌, arith, inl, inr}
 use Rattle.std.proofs.lemmas.List.{length-append, length-drop, length-take-le, take-append-drop, take_at, drop_at, take-append-le, drop-append-le}
-use Rattle.std.proofs.lemmas.Bool.{ltb-false, le-ltb}
+use Rattle.std.proofs.lemmas.Bool.{ltb-false, le-ltb, eq-eqb}
 use Rattle.ipfix_wire.specs.Numbers.{number_at}
 use Rattle.ipfix_wire.specs.MessageHeader.{header_at}
 use Rattle.ipfix_wire.specs.declared.header.Header.{Header}
@@ -9,6 +9,7 @@ use Rattle.ipfix_wire.specs.declared.fault.WireFault.{WireFault}
 use Rattle.ipfix_wire.proofs.Parts.{Reads, Shrinks}
 use Rattle.ipfix_wire.proofs.Streams.{Stable}
 use Rattle.ipfix_message.specs.Faults.{fault_of}
+use Rattle.ipfix_message.specs.Domains.{message_header}
 use Rattle.ipfix_message.specs.declared.fault.MessageFault.{MessageFault}
 use Rattle.ipfix_wire.proofs.Choices.{chosen}
 use Rattle.ipfix_session.specs.declared.stop.Stop.{Stop}
@@ -123,6 +124,17 @@ messages_read = record {
       record { text = m; whole = sym (take-append-drop b.header.length w) ∙ ap (λ (x : List ℕ). x ++ drop b.header.length w) b.message ∙ ap (λ (y : List ℕ). m ++ y) b.rest; is = (refl, message_is w m r b) };
   only = λ m u r spelled. ap (λ (x : List ℕ). next_message (x ++ r)) spelled.0 ∙ begins_next (m ++ r) m r (is_message_begins m r spelled.1);
 }
+
+-- the header that a text begins with is that of its first message
+pub header_of_first : (w : List ℕ) (h : Header) → 16 ≤ length w → header_at w ≡ read h → h.length ≤ length w → message_header (take h.length w) ≡ Ok h
+unfolding message_header
+header_of_first w h long is room =
+    let m = take h.length w in
+    let r = drop h.length w in
+    let message = message_is w m r (record { header = h; long = long; is_header = is; room = room; message = refl; rest = refl }) in
+    let size : length m ≡ h.length = length-take-le h.length w room in
+    let here : header_at m ≡ read h = sym (header_at-append m r message.header) ∙ ap header_at (take-append-drop h.length w) ∙ is in
+    rw (le-ltb (length m) 16 message.header, here, eq-eqb h.length (length m) (sym size)) refl
 
 -- ---- a text that goes on
 

@@ -1,20 +1,16 @@
 -- What a text gives, message by message.
-use Rattle.std.proofs.Common.{◌≡◌, ℕ, ◌+◌, ◌≤◌, List, [], ◌∷◌, ◌++◌, length, Option, Some, None, Result, Ok, Err, refl, sym, ap, subst, ◌∙◌, append_assoc, arith, inl, inr}
-use Rattle.std.specs.Prelude.{◌≢◌}
-use Rattle.std.proofs.lemmas.List.{append-nil, length-append}
+use Rattle.std.proofs.Common.{◌≡◌, ℕ, List, [], ◌∷◌, ◌++◌, length, Option, Some, None, Ok, Err, refl, sym, ap, subst, ◌∙◌, append_assoc, arith, inl, inr}
+use Rattle.std.proofs.lemmas.List.{append-nil}
 use Rattle.ipfix_wire.specs.InTurn.{Parts}
 use Rattle.ipfix_wire.proofs.Parts.{cons, nothing, cases_read, parts_of-next, parts_of-none}
 use Rattle.ipfix_wire.proofs.Streams.{join, parts_of-append}
-use Rattle.ipfix_message.specs.Domains.{History, Message, message_gives, StandsFor}
+use Rattle.ipfix_message.specs.Domains.{History, Message, message_gives}
 use Rattle.ipfix_message.specs.declared.fault.MessageFault.{MessageFault}
-use Rattle.ipfix_message.specs.declared.fault.MessageFault.TheVariants.{OutOfMemory}
-use Rattle.ipfix_message.specs.Outcome.{Fails}
 use Rattle.ipfix_message.specs.declared.record.DataRecord.{DataRecord}
-use Rattle.ipfix_message.specs.declared.record.Template.{Template}
 use Rattle.ipfix_session.specs.declared.stop.Stop.{Stop}
 use Rattle.ipfix_session.specs.declared.stop.Stop.TheVariants.{Fault}
 use Rattle.ipfix_session.specs.MessageStream.{rest_stop, next_message, cut}
-use Rattle.ipfix_session.specs.Given.{messages_give, Given, stop_after, gives_after, gives, behind, known_after, IsOpen, IsPrefix, records_in, records_of, count_of, stop_of}
+use Rattle.ipfix_session.specs.Given.{messages_give, Given, stop_after, gives_after, gives, behind, known_after, IsOpen, IsPrefix, records_in, records_of}
 use Rattle.ipfix_session.proofs.Cut.{found, none_at, next_stop, messages_shrink, messages_stable, bad_goes_on}
 
 -- ---- messages
@@ -73,62 +69,10 @@ behind-behind ms ns g = ap (λ (xs : List Message). record { messages = xs; stop
 
 -- ---- decoding message by message
 
--- messages at the front of a text were read, and rest is left
-pub record SoFar (text rest : List ℕ) (kept : List (ℕ × List (ℕ × Template))) (records : List DataRecord) (count : ℕ) : Type 0 where
-  pub known : History
-  pub stands : StandsFor kept known
-  pub messages : List Message
-  pub whole : gives text ≡ behind messages (gives_after known rest)
-  pub are : records ≡ records_in messages
-  pub counted : count ≡ length messages
-  pub room : count + length rest ≤ length text
-
-pub at_first : (text : List ℕ) (kept : List (ℕ × List (ℕ × Template))) → StandsFor kept [] → SoFar text text kept [] 0
-at_first text kept stands = record { known = []; stands = stands; messages = []; whole = refl; are = refl; counted = refl; room = omega arith }
-
 pub records_in-append : (ms ns : List Message) → records_in (ms ++ ns) ≡ records_in ms ++ records_in ns
 records_in-append [] ns = refl
 records_in-append (m ∷ ms) ns =
     ap (λ (rs : List DataRecord). m.decoding.records ++ rs) (records_in-append ms ns) ∙ sym (append_assoc m.decoding.records (records_in ms) (records_in ns))
-
--- one more message
-pub read_on : (text rest m after : List ℕ) (kept news : List (ℕ × List (ℕ × Template))) (records more : List DataRecord) (count : ℕ) (far : SoFar text rest kept records count) (x : Message)
-    → next_message rest ≡ found m after → message_gives far.known m ≡ Ok x → more ≡ x.decoding.records → StandsFor news x.domains
-    → SoFar text after news (records ++ more) (count + 1)
-read_on text rest m after kept news records more count far x begins reads are stands =
-    let less = messages_shrink.less rest m after begins in
-    record {
-      known = x.domains;
-      stands = stands;
-      messages = far.messages ++ x ∷ [];
-      whole = far.whole ∙ ap (behind far.messages) (gives_after-next far.known rest m after x begins reads) ∙ behind-behind far.messages (x ∷ []) (gives_after x.domains after);
-      are = rw (far.are, are) (ap (λ (rs : List DataRecord). records_in far.messages ++ rs) (sym (append-nil x.decoding.records)) ∙ sym (records_in-append far.messages (x ∷ [])));
-      counted = omega (arith, far.counted, length-append far.messages (x ∷ []));
-      room = omega (arith, far.room, less);
-    }
-
--- what a text gave in all
-pub record Told (text : List ℕ) (records : List DataRecord) (count : ℕ) (stop : Stop) : Type 0 where
-  pub are : records ≡ records_of text
-  pub counted : count ≡ count_of text
-  pub stopped : stop ≡ stop_of text
-
--- the text stops at what is left
-pub told : (text rest : List ℕ) (kept : List (ℕ × List (ℕ × Template))) (records : List DataRecord) (count : ℕ) (far : SoFar text rest kept records count) (s : Stop)
-    → gives_after far.known rest ≡ stops s → Told text records count s
-told text rest kept records count far s e =
-    let all : gives text ≡ record { messages = far.messages; stop = s } =
-    far.whole ∙ ap (behind far.messages) e ∙ ap (λ (ms : List Message). record { messages = ms; stop = s }) (append-nil far.messages) in
-    record {
-      are = far.are ∙ sym (ap (λ (g : Given). records_in g.messages) all);
-      counted = far.counted ∙ sym (ap (λ (g : Given). length g.messages) all);
-      stopped = sym (ap (λ (g : Given). g.stop) all);
-    }
-
--- a fault other than want of memory is that of the definition
-pub fails_is : {Y : Type 0} (e : MessageFault) (read : Result Y MessageFault) → e ≢ OutOfMemory → Fails e read → read ≡ Err e
-fails_is OutOfMemory read other h = absurd (other refl)
-fails_is e read other h = h
 
 -- ---- a text that goes on
 

@@ -1,4 +1,5 @@
 pub mod Cut
+mod Counting
 pub mod Giving
 pub mod Moves
 pub mod Accounts

@@ -1,8 +1,5 @@
 -- Feeding one piece after another.
-use Rattle.std.proofs.Common.{◌≡◌, ℕ, ◌+◌, ◌<◌, List, [], ◌∷◌, ◌++◌, length, take, drop, get_or, Result, Ok, Err, sym, ap, subst, ◌∙◌, append_assoc}
-use Rattle.std.proofs.lemmas.List.{append-nil, take-append-drop, take_more}
-use Rattle.std.proofs.lemmas.Grind.{flat_map-append}
-use Rattle.std.specs.List.{flat_map}
+use Rattle.std.proofs.Common.{◌≡◌, ℕ, List, [], ◌∷◌, ◌++◌, length, Result, Ok, Err, sym, ap, subst, ◌∙◌, append_assoc}
 use Rattle.ipfix_message.specs.Domains.{Message}
 use Rattle.ipfix_message.specs.declared.fault.MessageFault.{MessageFault}
 use Rattle.ipfix_message.specs.declared.fault.MessageFault.TheVariants.{OutOfMemory}
@@ -18,23 +15,6 @@ use Rattle.ipfix_session.proofs.Reaching.{takes-append}
 
 prefix_then : {X : Type 0} (xs ys zs : List X) → IsPrefix xs ys → IsPrefix ys zs → IsPrefix xs zs
 prefix_then {X} xs ys zs p q = (p.0 ++ q.0, q.1 ∙ ap (λ (ws : List X). ws ++ q.0) p.1 ∙ append_assoc xs p.0 q.0)
-
--- ---- the octets of pieces
-
-one_more_piece : {X : Type 0} (octets : X → List ℕ) (pieces : List X) (i : ℕ) (d : X) → i < length pieces → flat_map octets (take (i + 1) pieces) ≡ flat_map octets (take i pieces) ++ octets (get_or pieces i d)
-one_more_piece octets pieces i d within =
-    let piece = get_or pieces i d in
-    ap (flat_map octets) (take_more pieces i d within) ∙ flat_map-append octets (take i pieces) (piece ∷ [])
-    ∙ ap (λ (w : List ℕ). flat_map octets (take i pieces) ++ w) (append-nil (octets piece))
-
-other_pieces : {X : Type 0} (octets : X → List ℕ) (pieces : List X) (i : ℕ) (d : X) → i < length pieces
-    → flat_map octets pieces ≡ (flat_map octets (take i pieces) ++ octets (get_or pieces i d)) ++ flat_map octets (drop (i + 1) pieces)
-other_pieces octets pieces i d within =
-    let left = drop (i + 1) pieces in
-    ap (flat_map octets) (sym (take-append-drop (i + 1) pieces)) ∙ flat_map-append octets (take (i + 1) pieces) left
-    ∙ ap (λ (w : List ℕ). w ++ flat_map octets left) (one_more_piece octets pieces i d within)
-
--- ---- one piece, and then another
 
 module _ {K : Type 0} (view : SinkView K) where
   puts_then : (s later : State) (text p q : List ℕ) (before now after : K) → PutsAll view text p before now s → PutsAll view (text ++ p) q now after later
@@ -159,31 +139,3 @@ module _ {K : Type 0} (view : SinkView K) where
   feeds_more s text p q before after faults.Truncated r = absurd r
   feeds_more s text p q before after faults.ReadFailed r = absurd r
   feeds_more s text p q before after faults.TooManyReads r = absurd r
-
-  -- ---- the first pieces of a list
-
-  -- a session that stood for a text was fed these octets
-  abbrev pub WasFed : State → State → List ℕ → K → K → Type 0
-  WasFed first s octets before now = (text : List ℕ) → StandsForText first text → Feeds view (Ok tt) text octets before now s
-
-  fed_next : (first s later : State) (text octets piece : List ℕ) (before now after : K) (r : Result (Unit {0}) SessionFault) → StandsForText first text → WasFed first s octets before now
-      → ((t : List ℕ) → StandsForText s t → Feeds view r t piece now after later) → Feeds view r text (octets ++ piece) before after later
-  fed_next first s later text octets piece before now after r stands fed next =
-      let a = fed text stands in
-      feeds_then s later text octets piece before now after tt r a (next (text ++ octets) a.1.stands)
-
-  pub fed_on : {X : Type 0} (octets : X → List ℕ) (pieces : List X) (i : ℕ) (d : X) (first s later : State) (before now after : K) (x : Unit {0}) → i < length pieces → WasFed first s (flat_map octets (take i pieces)) before now
-      → ((t : List ℕ) → StandsForText s t → Feeds view (Ok x) t (octets (get_or pieces i d)) now after later) → WasFed first later (flat_map octets (take (i + 1) pieces)) before after
-  fed_on octets pieces i d first s later before now after x within fed next = λ text stands.
-      subst (λ (w : List ℕ). Feeds view (Ok tt) text w before after later) (sym (one_more_piece octets pieces i d within))
-      (fed_next first s later text (flat_map octets (take i pieces)) (octets (get_or pieces i d)) before now after (Ok x) stands fed next)
-
-  pub fed_up_to : {X : Type 0} (octets : X → List ℕ) (pieces : List X) (i : ℕ) (d : X) (first s later : State) (text : List ℕ) (before now after : K) (f : SessionFault) → i < length pieces → StandsForText first text
-      → WasFed first s (flat_map octets (take i pieces)) before now → ((t : List ℕ) → StandsForText s t → Feeds view (Err f) t (octets (get_or pieces i d)) now after later)
-      → Feeds view (Err f) text (flat_map octets pieces) before after later
-  fed_up_to octets pieces i d first s later text before now after f within stands fed next =
-      let up_to = flat_map octets (take i pieces) ++ octets (get_or pieces i d) in
-      let left = flat_map octets (drop (i + 1) pieces) in
-      subst (λ (w : List ℕ). Feeds view (Err f) text w before after later) (sym (other_pieces octets pieces i d within))
-      (feeds_more later text up_to left before after f
-      (fed_next first s later text (flat_map octets (take i pieces)) (octets (get_or pieces i d)) before now after (Err f) stands fed next))

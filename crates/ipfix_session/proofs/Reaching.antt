@@ -8,7 +8,7 @@ use Rattle.ipfix_wire.specs.InTurn.{Parts}
 use Rattle.ipfix_wire.proofs.Parts.{parts_of-next, parts_of-none}
 use Rattle.ipfix_wire.proofs.Longest.{parts_of-last}
 use Rattle.ipfix_wire.proofs.Streams.{parts_of-append}
-use Rattle.ipfix_message.specs.Domains.{History, Session, Message, message_gives, StandsFor}
+use Rattle.ipfix_message.specs.Domains.{History, DomainsView, Message, message_gives, StandsFor}
 use Rattle.ipfix_message.specs.Outcome.{Fails}
 use Rattle.ipfix_message.specs.declared.fault.MessageFault.{MessageFault}
 use Rattle.ipfix_message.specs.declared.fault.MessageFault.TheVariants.{OutOfMemory}
@@ -75,7 +75,7 @@ prefix-push old whole x p = (p.0 ++ x ∷ [], ap (λ (ms : List Message). ms ++ 
 pub put_more : (has old put more : List DataRecord) → has ≡ old ++ put → has ++ more ≡ old ++ (put ++ more)
 put_more has old put more e = ap (λ (rs : List DataRecord). rs ++ more) e ∙ append_assoc old put more
 
-pub reaches_on : {K : Type 0} (view : SinkView K) (old : List Message) (text left m rest : List ℕ) (before now after : K) (c news : Counts) (domains later : Session)
+pub reaches_on : {K : Type 0} (view : SinkView K) (old : List Message) (text left m rest : List ℕ) (before now after : K) (c news : Counts) (domains later : DomainsView)
     (r : IsBetween view old text before now c domains left) → next_message left ≡ found m rest → (x : Message) → message_gives (known_after [] r.whole) m ≡ Ok x
     → Takes view now x.decoding.records after → Tells news (r.whole ++ x ∷ []) (length (records_in r.whole) + length x.decoding.records) → later.spent ≡ false → StandsFor later.domains x.domains
     → IsBetween view old text before after news later rest
@@ -100,7 +100,7 @@ reaches_on view old text left m rest before now after c news domains later r beg
 
 -- ---- why it goes no further
 
-pub ends_out : {K : Type 0} (view : SinkView K) (old : List Message) (text left : List ℕ) (before now : K) (c news : Counts) (domains : Session)
+pub ends_out : {K : Type 0} (view : SinkView K) (old : List Message) (text left : List ℕ) (before now : K) (c news : Counts) (domains : DomainsView)
     (r : IsBetween view old text before now c domains left) → Tells news r.whole (length (records_in r.whole)) → RunsOut view old (gives text).messages before now (Tells news)
 ends_out view old text left before now c news domains r tells =
     record {
@@ -120,20 +120,20 @@ puts_all : {K : Type 0} (view : SinkView K) (old : List Message) (text : List �
 puts_all view old text before now c whole s all puts =
     subst (λ (ms : List Message). PutsWhole view old ms before now (Tells c)) (sym (ap (λ (g : Given). g.messages) all)) puts
 
-pub ends_at : {K : Type 0} (view : SinkView K) (old : List Message) (text left : List ℕ) (before now : K) (c : Counts) (domains : Session) (e : MessageFault)
+pub ends_at : {K : Type 0} (view : SinkView K) (old : List Message) (text left : List ℕ) (before now : K) (c : Counts) (domains : DomainsView) (e : MessageFault)
     (r : IsBetween view old text before now c domains left) → gives_after (known_after [] r.whole) left ≡ stops (Fault e) → GoesNoFurther view (faults.Message e) old text before now c
 ends_at view old text left before now c domains OutOfMemory r stop = ends_out view old text left before now c c domains r r.puts.tells
 ends_at view old text left before now c domains e r stop =
     let all = stops_there text left r.whole (Fault e) r.is stop in
     (ap (λ (g : Given). g.stop) all, puts_all view old text before now c r.whole (Fault e) all r.puts)
 
-pub ends_decoding : {K : Type 0} (view : SinkView K) (old : List Message) (text left m rest : List ℕ) (before now : K) (c : Counts) (domains : Session) (e : MessageFault)
+pub ends_decoding : {K : Type 0} (view : SinkView K) (old : List Message) (text left m rest : List ℕ) (before now : K) (c : Counts) (domains : DomainsView) (e : MessageFault)
     (r : IsBetween view old text before now c domains left) → next_message left ≡ found m rest → Fails e (message_gives (known_after [] r.whole) m) → GoesNoFurther view (faults.Message e) old text before now c
 ends_decoding view old text left m rest before now c domains OutOfMemory r begins fails = ends_out view old text left before now c c domains r r.puts.tells
 ends_decoding view old text left m rest before now c domains e r begins fails =
     ends_at view old text left before now c domains e r (gives_after-fault (known_after [] r.whole) left m rest e begins fails)
 
-pub ends_refused : {K : Type 0} (view : SinkView K) (old : List Message) (text left m rest : List ℕ) (before now after : K) (c news : Counts) (domains : Session) (was is : ℕ)
+pub ends_refused : {K : Type 0} (view : SinkView K) (old : List Message) (text left m rest : List ℕ) (before now after : K) (c news : Counts) (domains : DomainsView) (was is : ℕ)
     (r : IsBetween view old text before now c domains left) → next_message left ≡ found m rest → (x : Message) → message_gives (known_after [] r.whole) m ≡ Ok x
     → (b : GivesBack view x.decoding.records was is now after) → Tells news r.whole (length (records_in r.whole) + length b.first)
     → IsRefused view old (gives text).messages before after (Tells news)
@@ -284,22 +284,22 @@ buffer_is_rest s text stands none =
 -- ---- many messages
 
 -- from one place in a text to a later one
-abbrev pub GoesOver : {K : Type 0} (view : SinkView K) (was now : K) (c news : Counts) (domains later : Session) (left rest : List ℕ) → Type 0
+abbrev pub GoesOver : {K : Type 0} (view : SinkView K) (was now : K) (c news : Counts) (domains later : DomainsView) (left rest : List ℕ) → Type 0
 GoesOver {K} view was now c news domains later left rest =
     (old : List Message) (text : List ℕ) (before : K) → IsBetween view old text before was c domains left → IsBetween view old text before now news later rest
 
-pub reaches_from : {K : Type 0} (view : SinkView K) (old : List Message) (text : List ℕ) (before now : K) (c : Counts) (domains : Session) (left same : List ℕ) → left ≡ same
+pub reaches_from : {K : Type 0} (view : SinkView K) (old : List Message) (text : List ℕ) (before now : K) (c : Counts) (domains : DomainsView) (left same : List ℕ) → left ≡ same
     → IsBetween view old text before now c domains left → IsBetween view old text before now c domains same
 reaches_from view old text before now c domains left same e r = subst (λ (w : List ℕ). IsBetween view old text before now c domains w) e r
 
-pub reaches_kept : {K : Type 0} (view : SinkView K) (old : List Message) (text : List ℕ) (before now : K) (c : Counts) (domains : Session) (left same : List ℕ) → left ≡ same
+pub reaches_kept : {K : Type 0} (view : SinkView K) (old : List Message) (text : List ℕ) (before now : K) (c : Counts) (domains : DomainsView) (left same : List ℕ) → left ≡ same
     → IsBetween view old text before now c domains left × IsRest left → IsBetween view old text before now c domains same × IsRest same
 reaches_kept view old text before now c domains left same e both =
     (subst (λ (w : List ℕ). IsBetween view old text before now c domains w) e both.0, subst IsRest e both.1)
 
 -- ---- a message whose records are put
 
-pub ends_put : {K : Type 0} (view : SinkView K) (old : List Message) (text left m rest : List ℕ) (before now after : K) (c : Counts) (domains : Session) (accounts : List (ℕ × Account)) (delivered : ℕ)
+pub ends_put : {K : Type 0} (view : SinkView K) (old : List Message) (text left m rest : List ℕ) (before now after : K) (c : Counts) (domains : DomainsView) (accounts : List (ℕ × Account)) (delivered : ℕ)
     (f : SessionFault) (records : List DataRecord) (r : IsBetween view old text before now c domains left) → next_message left ≡ found m rest → (x : Message) → message_gives (known_after [] r.whole) m ≡ Ok x → records ≡ x.decoding.records
     → accounts ≡ c.accounts → Puts view (Err f) records c.delivered delivered now after
     → GoesNoFurther view f old text before after (record c { accounts = accounts; delivered = delivered })

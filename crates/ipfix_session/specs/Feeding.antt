@@ -1,6 +1,6 @@
 -- What a session stands for, and what feeding it a piece of its text does.
 use Rattle.std.specs.Prelude.{◌≡◌, ℕ, false, List, [], ◌∷◌, ◌++◌, ◌+◌, length, Option, Some, None, Result, Ok, Err}
-use Rattle.ipfix_message.specs.Domains.{Session, Message, StandsFor}
+use Rattle.ipfix_message.specs.Domains.{DomainsView, Message, StandsFor}
 use Rattle.ipfix_message.specs.declared.fault.MessageFault.TheVariants.{OutOfMemory}
 use Rattle.ipfix_message.specs.declared.passed_over.PassedOver.{PassedOver}
 use Rattle.ipfix_message.specs.declared.record.DataRecord.{DataRecord}
@@ -26,7 +26,7 @@ pub record Counts : Type 0 where
 -- what contracts see of a session
 pub record State : Type 0 where
   pub counts : Counts
-  pub domains : Session
+  pub domains : DomainsView
   pub buffer : List ℕ
   pub fault : Option SessionFault
 

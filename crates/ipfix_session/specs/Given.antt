@@ -1,5 +1,5 @@
 -- What the messages of a session give (RFC 7011, sections 3.1 and 8).
-use Rattle.std.specs.Prelude.{◌≡◌, ℕ, List, [], ◌∷◌, ◌++◌, length, Option, Some, None, Ok, Err}
+use Rattle.std.specs.Prelude.{◌≡◌, ℕ, List, [], ◌∷◌, ◌++◌, Option, Some, None, Ok, Err}
 use Rattle.std.specs.List.{flat_map}
 use Rattle.ipfix_message.specs.Domains.{History, Message, message_gives}
 use Rattle.ipfix_message.specs.declared.fault.MessageFault.{MessageFault}
@@ -66,9 +66,6 @@ records_in ms = flat_map (λ m. m.decoding.records) ms
 
 abbrev pub records_of : List ℕ → List DataRecord
 records_of text = records_in (gives text).messages
-
-abbrev pub count_of : List ℕ → ℕ
-count_of text = length (gives text).messages
 
 abbrev pub stop_of : List ℕ → Stop
 stop_of text = (gives text).stop

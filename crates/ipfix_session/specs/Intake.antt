@@ -1,11 +1,12 @@
 -- What a session has done of a text while it goes over the messages.
 use Rattle.std.specs.Prelude.{◌≡◌, ℕ, false, List, [], Err}
-use Rattle.ipfix_message.specs.Domains.{Session, Message, StandsFor}
+use Rattle.ipfix_message.specs.Domains.{DomainsView, Message, StandsFor}
 use Rattle.ipfix_message.specs.declared.fault.MessageFault.TheVariants.{OutOfMemory}
 use Rattle.ipfix_session.specs.declared.stop.Stop.{Stop}
 use Rattle.ipfix_session.specs.declared.stop.Stop.TheVariants.{Fault}
 use Rattle.ipfix_session.specs.declared.fault.SessionFault.{SessionFault}
 use Rattle.ipfix_session.specs.declared.fault.SessionFault.TheVariants as faults
+use Rattle.ipfix_session.specs.declared.intake.Intake.{Intake}
 use Rattle.ipfix_session.specs.declared.tally.Tally.{Tally}
 use Rattle.ipfix_session.specs.MessageStream.{cut, next_message}
 use Rattle.ipfix_session.specs.Given.{gives, gives_after, behind, known_after, stop_of, IsOpen, IsPrefix}
@@ -24,7 +25,7 @@ pub record IsRest (w : List ℕ) : Type 0 where
 
 module _ {K : Type 0} (view : SinkView K) where
   -- whole messages of a text were put, the old ones before, and left is what follows them
-  pub record IsBetween (old : List Message) (text : List ℕ) (before after : K) (c : Counts) (domains : Session) (left : List ℕ) : Type 0 where
+  pub record IsBetween (old : List Message) (text : List ℕ) (before after : K) (c : Counts) (domains : DomainsView) (left : List ℕ) : Type 0 where
     pub whole : List Message
     pub from : IsPrefix old whole
     pub is : gives text ≡ behind whole (gives_after (known_after [] whole) left)
@@ -41,3 +42,10 @@ module _ {K : Type 0} (view : SinkView K) where
   GoesNoFurther faults.Truncated old text before after c = ⊥
   GoesNoFurther faults.ReadFailed old text before after c = ⊥
   GoesNoFurther faults.TooManyReads old text before after c = ⊥
+
+  -- the same of what an intake has taken, and of why it can take no more
+  abbrev pub HasTaken : List Message → List ℕ → K → K → Intake → List ℕ → Type 0
+  HasTaken old text before after intake left = IsBetween old text before after (counts_of intake.tally) intake.domains left
+
+  abbrev pub CanTakeNoMore : SessionFault → List Message → List ℕ → K → K → Intake → Type 0
+  CanTakeNoMore fault old text before after intake = GoesNoFurther fault old text before after (counts_of intake.tally)

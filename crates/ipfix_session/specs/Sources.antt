@@ -14,6 +14,10 @@ pub record SourceView : Type 0 where
   -- whether one of them told the end
   pub ended : Bool
 
+-- a source of which nothing was read, and which holds these octets
+abbrev pub unread : Option (List ℕ) → SourceView
+unread text = record { text = text; reads = 0; failed = 0; ended = false }
+
 -- a count that stops at the greatest number of 64 bits
 abbrev pub one_more : ℕ → ℕ
 one_more n = min (n + 1) (2 ^ 64 - 1)

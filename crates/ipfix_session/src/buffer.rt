@@ -3,7 +3,7 @@
 ghost use Rattle.std.specs.Prelude.{◌≡◌, ◌≤◌, ◌++◌, [], ℕ, max, length, List, OnOk, IfOk, MatchOption, MatchResult};
 ghost use Rattle.std.specs.Option.{ForSome};
 ghost use Rattle.ipfix_message.specs.Domains.{Message};
-ghost use Rattle.ipfix_session.specs.Intake.{counts_of, IsRest, IsBetween, GoesNoFurther};
+ghost use Rattle.ipfix_session.specs.Intake.{IsRest, HasTaken, CanTakeNoMore};
 ghost use Rattle.ipfix_session.specs.declared.message_stream.TheConstants.{LONGEST_MESSAGE};
 ghost use Rattle.ipfix_session.specs.Buffers.{MovesUpTo, Fills};
 
@@ -20,7 +20,8 @@ fn move_up_to<'a>(
     buffer: &mut Vec<u8>,
     piece: &'a [u8],
 ) -> Result<&'a [u8], AllocError>
-    ensures moves { IfOk result (λ left. MovesUpTo size buffer.old.items buffer.new.items piece.now left.now) }
+    ensures moves { IfOk result (λ left.
+        MovesUpTo size buffer.old.items buffer.new.items piece.now left.now) }
     ensures at_most { length buffer.new.items ≤ max size (length buffer.old.items) }
 {
     let count = size.saturating_sub(buffer.len()).min(piece.len());
@@ -32,7 +33,8 @@ fn move_up_to<'a>(
 // Moves octets from the front of a piece until the buffer is a whole message, or begins with a header
 // that is refused, and gives what is left.
 fn fill<'a>(buffer: &mut Vec<u8>, piece: &'a [u8]) -> Result<&'a [u8], AllocError>
-    ensures fills { IsRest buffer.old.items → IfOk result (λ left. Fills buffer.old.items buffer.new.items piece.now left.now) }
+    ensures fills { IsRest buffer.old.items → IfOk result (λ left.
+        Fills buffer.old.items buffer.new.items piece.now left.now) }
     ensures at_most { length buffer.new.items ≤ max LONGEST_MESSAGE (length buffer.old.items) }
 {
     let left = move_up_to(HEADER_LENGTH, buffer, piece)?;
@@ -55,12 +57,13 @@ fn take_begun<'a, K: Sink>(
     sink: &mut K,
 ) -> Result<Option<&'a [u8]>, SessionFault>
     ensures takes { (old : List Message) (text : List ℕ) (before : K) → IsRest buffer.old.items
-        → IsBetween K.seen old text before sink.old (counts_of intake.old.tally) intake.old.domains (buffer.old.items ++ piece.now)
+        → HasTaken K.seen old text before sink.old intake.old (buffer.old.items ++ piece.now)
         → MatchResult result
         (λ o. MatchOption o
-        (IsBetween K.seen old text before sink.new (counts_of intake.new.tally) intake.new.domains buffer.new.items × IsRest buffer.new.items)
-        (λ left. IsBetween K.seen old text before sink.new (counts_of intake.new.tally) intake.new.domains left.now))
-        (λ fault. GoesNoFurther K.seen fault old text before sink.new (counts_of intake.new.tally)) }
+        (HasTaken K.seen old text before sink.new intake.new buffer.new.items
+        × IsRest buffer.new.items)
+        (λ left. HasTaken K.seen old text before sink.new intake.new left.now))
+        (λ fault. CanTakeNoMore K.seen fault old text before sink.new intake.new) }
     ensures emptied { IfOk result (λ o. ForSome o (λ left. buffer.new.items ≡ [])) }
     ensures at_most { length buffer.new.items ≤ max LONGEST_MESSAGE (length buffer.old.items) }
 {
@@ -69,7 +72,7 @@ fn take_begun<'a, K: Sink>(
     }
     let left = fill(buffer, piece)?;
     match next_message(buffer) {
-        Ok((message, _)) => intake.take_message(alloc, message, sink)?,
+        Ok(first) => intake.take_message(alloc, &first.header, first.octets, sink)?,
         Err(stop) => {
             stop.check_open()?;
             return Ok(None);
@@ -89,10 +92,11 @@ pub fn read_on<K: Sink>(
     sink: &mut K,
 ) -> Result<(), SessionFault>
     ensures reads { (old : List Message) (text : List ℕ) (before : K) → IsRest buffer.old.items
-        → IsBetween K.seen old text before sink.old (counts_of intake.old.tally) intake.old.domains (buffer.old.items ++ piece.now)
+        → HasTaken K.seen old text before sink.old intake.old (buffer.old.items ++ piece.now)
         → MatchResult result
-        (λ _. IsBetween K.seen old text before sink.new (counts_of intake.new.tally) intake.new.domains buffer.new.items × IsRest buffer.new.items)
-        (λ fault. GoesNoFurther K.seen fault old text before sink.new (counts_of intake.new.tally)) }
+        (λ _. HasTaken K.seen old text before sink.new intake.new buffer.new.items
+        × IsRest buffer.new.items)
+        (λ fault. CanTakeNoMore K.seen fault old text before sink.new intake.new) }
     ensures at_most { length buffer.new.items ≤ max LONGEST_MESSAGE (length buffer.old.items) }
 {
     let left = match take_begun(alloc, intake, buffer, piece, sink)? {

@@ -15,6 +15,9 @@ use std::alloc::Global;
 /// The most octets of a read.
 pub const READ_SIZE: usize = 65536;
 
+/// The most reads of a session.
+pub const READ_LIMIT: u64 = 1 << 40;
+
 /// Reads a source to its end and puts the records of its octets, in at most `limit` reads. The report
 /// says what its messages gave, and the fault that ended them.
 ///
@@ -39,7 +42,7 @@ pub fn drive<S: Source, K: Sink>(
     }
 }
 
-// The same through this buffer.
+// Does the same through this buffer.
 fn drive_through<S: Source, K: Sink>(
     alloc: Global,
     source: &mut S,
@@ -48,7 +51,8 @@ fn drive_through<S: Source, K: Sink>(
     buffer: &mut [u8],
 ) -> SessionReport
     requires { 0 < length buffer.old }
-    ensures { (most : ℕ) → length buffer.old ≤ most → Drives S.seen K.seen limit most source.old source.new sink.old sink.new result }
+    ensures { (most : ℕ) → length buffer.old ≤ most
+        → Drives S.seen K.seen limit most source.old source.new sink.old sink.new result }
 {
     let mut session = Session::new(alloc);
     for _ in 0..limit {

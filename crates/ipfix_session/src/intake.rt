@@ -2,12 +2,12 @@
 
 ghost use Rattle.std.specs.Prelude.{◌≡◌, ◌<◌, ◌++◌, ◌∷◌, [], ℕ, List, Ok, MatchResult, length, OnOk, IfOk, IfErr, false};
 ghost use Rattle.ipfix_message.specs.declared.record.DataRecord.{DataRecord};
-ghost use Rattle.ipfix_message.specs.Domains.{Message, StandsFor};
+ghost use Rattle.ipfix_message.specs.Domains.{Message, StandsFor, message_header};
 ghost use Rattle.ipfix_session.specs.MessageStream;
 ghost use Rattle.ipfix_session.specs.declared.message_stream.TheConstants.{LONGEST_MESSAGE};
 ghost use Rattle.ipfix_session.specs.Ledger.{capped};
 ghost use Rattle.ipfix_session.specs.Feeding.{Tells};
-ghost use Rattle.ipfix_session.specs.Intake.{counts_of, IsRest, IsBetween, GoesNoFurther};
+ghost use Rattle.ipfix_session.specs.Intake.{counts_of, IsRest, HasTaken, CanTakeNoMore};
 ghost use Rattle.ipfix_session.specs.Puts.{Puts};
 
 use crate::fault::SessionFault;
@@ -15,6 +15,7 @@ use crate::message_stream::next_message;
 use crate::sink::Sink;
 use crate::tally::Tally;
 use ipfix_message::{DataRecord, Domains};
+use ipfix_wire::Header;
 use std::alloc::Global;
 
 /// What whole messages of a session left: its domains, and its counts.
@@ -53,21 +54,23 @@ impl Intake {
         }
     }
 
-    /// Takes a whole message.
+    /// Takes a whole message, whose header was read.
     pub fn take_message<K: Sink>(
         &mut self,
         alloc: Global,
+        header: &Header,
         message: &[u8],
         sink: &mut K,
     ) -> Result<(), SessionFault>
+        requires { message_header message.now ≡ Ok header.now }
         ensures { (old : List Message) (text left rest : List ℕ) (before : K)
-            → IsBetween K.seen old text before sink.old (counts_of self.old.tally) self.old.domains left
+            → HasTaken K.seen old text before sink.old self.old left
             → MessageStream.next_message left ≡ Ok (message.now, rest)
             → MatchResult result
-            (λ _. IsBetween K.seen old text before sink.new (counts_of self.new.tally) self.new.domains rest)
-            (λ fault. GoesNoFurther K.seen fault old text before sink.new (counts_of self.new.tally)) }
+            (λ _. HasTaken K.seen old text before sink.new self.new rest)
+            (λ fault. CanTakeNoMore K.seen fault old text before sink.new self.new) }
     {
-        let decoded = self.domains.decode(alloc, message)?;
+        let decoded = self.domains.decode_with_header(alloc, header, message)?;
         self.tally.ledger.make_room()?;
         let passed_over = decoded.passed_over();
         let count = decoded.records.len() as u64;
@@ -84,23 +87,24 @@ impl Intake {
         sink: &mut K,
     ) -> Result<&'a [u8], SessionFault>
         ensures takes { (old : List Message) (text_of : List ℕ) (before : K)
-            → IsBetween K.seen old text_of before sink.old (counts_of self.old.tally) self.old.domains text.now
+            → HasTaken K.seen old text_of before sink.old self.old text.now
             → MatchResult result
-            (λ rest. IsBetween K.seen old text_of before sink.new (counts_of self.new.tally) self.new.domains rest.now × IsRest rest.now)
-            (λ fault. GoesNoFurther K.seen fault old text_of before sink.new (counts_of self.new.tally)) }
+            (λ rest. HasTaken K.seen old text_of before sink.new self.new rest.now
+            × IsRest rest.now)
+            (λ fault. CanTakeNoMore K.seen fault old text_of before sink.new self.new) }
         ensures begun { IfOk result (λ rest. length rest.now < LONGEST_MESSAGE) }
     {
         let mut rest = text;
         loop {
-            let (message, after) = match next_message(rest) {
-                Ok(found) => found,
+            let first = match next_message(rest) {
+                Ok(first) => first,
                 Err(stop) => {
                     stop.check_open()?;
                     return Ok(rest);
                 }
             };
-            self.take_message(alloc, message, sink)?;
-            rest = after;
+            self.take_message(alloc, &first.header, first.octets, sink)?;
+            rest = first.rest;
         }
     }
 }

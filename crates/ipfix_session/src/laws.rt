@@ -1,14 +1,17 @@
-//! Laws of the definitions.
+//! Laws of the definitions. Each is a function that does nothing, and its contract is the theorem: a
+//! call brings that to the proof of its caller.
 
-ghost use Rattle.std.specs.Prelude.{◌≡◌, ◌≢◌, ◌++◌, [], ℕ, List, Some, None};
+ghost use Rattle.std.specs.Prelude.{◌≡◌, ◌≢◌, ◌++◌, [], ℕ, List, Some, None, Result, Ok, Err};
 ghost use Rattle.ipfix_wire.specs.Numbers.{IsOctets};
 ghost use Rattle.ipfix_wire.specs.InTurn.{IsLongest};
 ghost use Rattle.ipfix_message.specs.declared.fault.MessageFault.{MessageFault};
 ghost use Rattle.ipfix_message.specs.declared.record.DataRecord.{DataRecord};
 ghost use Rattle.ipfix_session.specs.MessageStream.{SpellsMessage, cut};
 ghost use Rattle.ipfix_session.specs.Given.{gives, gives_after, behind, known_after, records_of, stop_of, IsOpen, IsPrefix};
+ghost use Rattle.ipfix_session.specs.Feeding.{State, Feeds};
 ghost use Rattle.ipfix_session.specs.Drives.{Drives, IsGiven, TakesGiven};
 ghost use Rattle.ipfix_session.specs.declared.stop.Stop.TheVariants.{Clean, Fault};
+ghost use Rattle.ipfix_session.specs.declared.fault.SessionFault.{SessionFault};
 ghost use Rattle.ipfix_session.specs.declared.fault.SessionFault.TheVariants.{SinkClosed};
 ghost use Rattle.ipfix_session.specs.declared.report.SessionReport.{SessionReport};
 
@@ -18,36 +21,58 @@ use crate::source::Source;
 /// A text is cut into the longest list of messages that it begins with, one after another, and its
 /// rest, with which no message begins (RFC 5655, section 6).
 pub fn one_cut()
-    ensures found { (text : List ℕ) → IsOctets text → IsLongest SpellsMessage (cut text).items (cut text).rest text }
-    ensures only { (text rest : List ℕ) (messages : List (List ℕ)) → IsOctets text → IsLongest SpellsMessage messages rest text
+    ensures found { (text : List ℕ) → IsOctets text
+        → IsLongest SpellsMessage (cut text).items (cut text).rest text }
+    ensures only { (text rest : List ℕ) (messages : List (List ℕ)) → IsOctets text
+        → IsLongest SpellsMessage messages rest text
         → cut text ≡ record { items = messages; rest = rest } }
 {}
 
 /// What a text gives when it goes on.
 pub fn goes_on()
     // The records of a text are the first of the longer text's.
-    ensures records { (text more : List ℕ) → IsPrefix (records_of text) (records_of (text ++ more)) }
+    ensures records { (text more : List ℕ)
+        → IsPrefix (records_of text) (records_of (text ++ more)) }
     // After a fault nothing changes.
-    ensures fault { (text more : List ℕ) (e : MessageFault) → stop_of text ≡ Fault e → gives (text ++ more) ≡ gives text }
+    ensures fault { (text more : List ℕ) (e : MessageFault) → stop_of text ≡ Fault e
+        → gives (text ++ more) ≡ gives text }
     // Without a fault the longer text is read on from the rest of the shorter, with the domains and
     // events of its messages. So it doesn't matter how a text is cut into pieces.
     ensures rest { (text more : List ℕ) → IsOpen (stop_of text)
-        → gives (text ++ more) ≡ behind (gives text).messages (gives_after (known_after [] (gives text).messages) ((cut text).rest ++ more)) }
+        → gives (text ++ more) ≡ behind (gives text).messages
+        (gives_after (known_after [] (gives text).messages) ((cut text).rest ++ more)) }
+{}
+
+/// It doesn't matter how a text is cut into pieces: two that are fed in turn do what they do as one, and
+/// those after a fault change nothing.
+pub fn pieces_are_one<K: Sink>()
+    ensures both { (text piece more : List ℕ) (first last : State) (before middle after : K)
+        (r : Result (Unit {0}) SessionFault)
+        → Feeds K.seen (Ok tt) text piece before middle first
+        → Feeds K.seen r (text ++ piece) more middle after last
+        → Feeds K.seen r text (piece ++ more) before after last }
+    ensures fault { (text piece more : List ℕ) (last : State) (before after : K) (f : SessionFault)
+        → Feeds K.seen (Err f) text piece before after last
+        → Feeds K.seen (Err f) text (piece ++ more) before after last }
 {}
 
 /// What [`drive`](crate::drive) says of a session whose sink gave no record back: the sink took the
 /// records of what the source gave.
 pub fn driven_is_given<S: Source, K: Sink>()
     ensures refused { (limit most : ℕ) (before after : S) (first last : K) (r : SessionReport)
-        → Drives S.seen K.seen limit most before after first last r → K.seen.refused last ≡ 0 → TakesGiven S.seen K.seen limit most before after first last r }
+        → Drives S.seen K.seen limit most before after first last r → K.seen.refused last ≡ 0
+        → TakesGiven S.seen K.seen limit most before after first last r }
     ensures fault { (limit most : ℕ) (before after : S) (first last : K) (r : SessionReport)
-        → Drives S.seen K.seen limit most before after first last r → r.fault ≢ Some SinkClosed → TakesGiven S.seen K.seen limit most before after first last r }
+        → Drives S.seen K.seen limit most before after first last r → r.fault ≢ Some SinkClosed
+        → TakesGiven S.seen K.seen limit most before after first last r }
 {}
 
 /// A session without a fault has read all that its source held: whole messages, of which it has all
 /// records.
 pub fn no_fault_is_all<S: Source>()
-    ensures { (limit most : ℕ) (before after : S) (r : SessionReport) (records : List DataRecord) (text : List ℕ)
-        → IsGiven S.seen limit most before after r records → r.fault ≡ None → (S.seen before).text ≡ Some text
+    ensures { (limit most : ℕ) (before after : S) (r : SessionReport) (records : List DataRecord)
+        (text : List ℕ)
+        → IsGiven S.seen limit most before after r records → r.fault ≡ None
+        → (S.seen before).text ≡ Some text
         → (stop_of text ≡ Clean) × (records ≡ records_of text) }
 {}

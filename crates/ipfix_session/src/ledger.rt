@@ -55,7 +55,8 @@ impl Account {
 
 // The sequence number that is due after a message, unless records of it couldn't be counted.
 fn due_next(sequence: u32, records: u64, unknown_sets: u64) -> Option<u32>
-    ensures { (m : Message) → m.header.sequence ≡ sequence → count_in m ≡ records → m.decoding.passed_over.unknown_sets ≡ unknown_sets → result ≡ due_after m }
+    ensures { (m : Message) → m.header.sequence ≡ sequence → count_in m ≡ records
+        → m.decoding.passed_over.unknown_sets ≡ unknown_sets → result ≡ due_after m }
 {
     if unknown_sets == 0 {
         Some(sequence.wrapping_add((records % (1 << 32)) as u32))
@@ -87,7 +88,8 @@ impl Ledger {
     /// Makes room for one more domain.
     pub fn make_room(&mut self) -> Result<(), AllocError>
         ensures same { self.new.accounts.entries ≡ self.old.accounts.entries }
-        ensures ok { OnOk result ((0 < spare self.new.accounts) × (index_map_len self.new.accounts < vec_capacity self.new.reports)) }
+        ensures ok { OnOk result ((0 < spare self.new.accounts)
+            × (index_map_len self.new.accounts < vec_capacity self.new.reports)) }
     {
         self.accounts.reserve(1)?;
         self.reports.reserve(self.accounts.len() + 1)
@@ -108,7 +110,9 @@ impl Ledger {
     pub fn take(&mut self, header: &Header, records: u64, unknown_sets: u64)
         requires account { 0 < spare self.old.accounts }
         requires report { index_map_len self.old.accounts < vec_capacity self.old.reports }
-        ensures { (ms : List Message) (m : Message) → self.old.accounts.entries ≡ accounts_of ms → m.header ≡ header.now → count_in m ≡ records → m.decoding.passed_over.unknown_sets ≡ unknown_sets
+        ensures { (ms : List Message) (m : Message) → self.old.accounts.entries ≡ accounts_of ms
+            → m.header ≡ header.now → count_in m ≡ records
+            → m.decoding.passed_over.unknown_sets ≡ unknown_sets
             → self.new.accounts.entries ≡ accounts_of (ms ++ m ∷ []) }
     {
         let before = self.account(header.domain);

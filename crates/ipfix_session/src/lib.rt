@@ -3,12 +3,12 @@
 #![tactic(auto)]
 
 mod buffer;
-mod decoding;
 mod driver;
 mod fault;
 mod intake;
-mod laws;
+pub mod laws;
 mod ledger;
+mod message_counter;
 mod message_stream;
 mod reader;
 mod report;
@@ -19,10 +19,9 @@ mod source;
 mod stop;
 mod tally;
 
-pub use decoding::{DecodedText, decode_text};
-pub use driver::{READ_SIZE, drive};
+pub use driver::{READ_LIMIT, READ_SIZE, drive};
 pub use fault::SessionFault;
-pub use laws::{driven_is_given, goes_on, no_fault_is_all, one_cut};
+pub use message_counter::MessageCounter;
 pub use message_stream::LONGEST_MESSAGE;
 pub use reader::FromReader;
 pub use report::{DomainReport, SessionReport};
@@ -30,4 +29,3 @@ pub use script::ScriptSource;
 pub use session::Session;
 pub use sink::{Sink, VecSink};
 pub use source::{ReadError, Source};
-pub use stop::Stop;

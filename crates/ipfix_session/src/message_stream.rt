@@ -1,23 +1,36 @@
 //! A text as messages, one after another (RFC 7011, section 3.1; RFC 5655, section 6).
 
-ghost use Rattle.std.specs.Prelude.{◌≡◌, ◌<◌, length, Ok, Err, IfErr, MatchResult};
+ghost use Rattle.std.specs.Prelude.{◌≡◌, ◌<◌, length, Ok, Err, IfOk, IfErr, MatchResult};
+ghost use Rattle.ipfix_message.specs.Domains.{message_header};
 ghost use Rattle.ipfix_session.specs.MessageStream;
 ghost use Rattle.ipfix_session.specs.Given.{IsOpen};
 ghost use Rattle.ipfix_session.specs.declared.message_stream.TheConstants.{LONGEST_MESSAGE};
 
 use crate::stop::Stop;
 use ipfix_message::MessageFault;
-use ipfix_wire::{HEADER_LENGTH, read_header};
+use ipfix_wire::{HEADER_LENGTH, Header, read_header};
 
 /// The most octets of a message: its header gives its length in 16 bits.
 pub const LONGEST_MESSAGE: usize = 65535;
 
-/// The message that a text begins with, and what follows it; or why it stops there.
+/// The message that a text begins with.
+#[derive(Drop)]
+pub struct FirstMessage<'a> {
+    /// Its header.
+    pub header: Header,
+    /// Its octets, those of the header included.
+    pub octets: &'a [u8],
+    /// What follows it.
+    pub rest: &'a [u8],
+}
+
+/// The message that a text begins with; or why the text stops there.
 #[tactic(auto, unfolding(crate::specs::MessageStream::next_message))]
-pub fn next_message(text: &[u8]) -> Result<(&[u8], &[u8]), Stop>
+pub fn next_message(text: &[u8]) -> Result<FirstMessage<'_>, Stop>
     ensures found { MatchResult result
-        (λ x. MessageStream.next_message text.now ≡ Ok (x.0.now, x.1.now))
+        (λ first. MessageStream.next_message text.now ≡ Ok (first.octets.now, first.rest.now))
         (λ stop. MessageStream.next_message text.now ≡ Err stop) }
+    ensures header { IfOk result (λ first. message_header first.octets.now ≡ Ok first.header) }
     // What may begin a message is shorter than the longest.
     ensures begun { IfErr result (λ stop. IsOpen stop → length text.now < LONGEST_MESSAGE) }
 {
@@ -35,5 +48,10 @@ pub fn next_message(text: &[u8]) -> Result<(&[u8], &[u8]), Stop>
     if text.len() < length {
         return Err(Stop::Short);
     }
-    Ok(text.split_at(length))
+    let (octets, rest) = text.split_at(length);
+    Ok(FirstMessage {
+        header,
+        octets,
+        rest,
+    })
 }

@@ -3,6 +3,7 @@
 ghost use Rattle.std.specs.Prelude.{◌≡◌, ◌↔◌, [], true, false};
 ghost use Rattle.std.specs.Option.{ForSome};
 ghost use Rattle.std.specs.IoError.{error_kind};
+ghost use Rattle.ipfix_session.specs.Sources.{unread};
 
 use crate::source::{ReadError, Source};
 use std::io::{self, ErrorKind, Read};
@@ -19,7 +20,7 @@ pub struct FromReader<R: Read> {
 
 impl<R: Read> FromReader<R> {
     pub fn new(reader: R) -> Self
-        ensures { ⟦<FromReader<R> as Source>⟧.seen result ≡ record { text = R.remaining reader; reads = 0; failed = 0; ended = false } }
+        ensures { ⟦<FromReader<R> as Source>⟧.seen result ≡ unread (R.remaining reader) }
     {
         FromReader {
             reader,
@@ -41,7 +42,12 @@ fn read_error(error: &io::Error) -> ReadError
 }
 
 impl<R: Read> Source for FromReader<R> {
-    ghost seen = { λ s. record { text = R.remaining s.reader; reads = s.reads; failed = s.failed; ended = s.ended } };
+    ghost seen = { λ s. record {
+      text = R.remaining s.reader;
+      reads = s.reads;
+      failed = s.failed;
+      ended = s.ended;
+    } };
 
     ghost ended_is_end = { λ s e. s.behind_the_end e };
 

@@ -1,6 +1,7 @@
 //! A source over memory, for tests: it gives its text in pieces, and can be interrupted and fail.
 
 ghost use Rattle.std.specs.Prelude.{◌≡◌, ◌≤◌, ◌<◌, [], true, false, Some, drop, take, length, vec_len};
+ghost use Rattle.ipfix_session.specs.Sources.{unread};
 
 use crate::source::{ReadError, Source};
 
@@ -35,7 +36,7 @@ impl ScriptSource {
         fail_at: Option<usize>,
     ) -> Self
         requires { 0 < piece }
-        ensures { ⟦<ScriptSource as Source>⟧.seen result ≡ record { text = Some text.items; reads = 0; failed = 0; ended = false } }
+        ensures { ⟦<ScriptSource as Source>⟧.seen result ≡ unread (Some text.items) }
     {
         let (limit, fails) = match fail_at {
             Some(at) if at <= text.len() => (at, true),
@@ -68,7 +69,12 @@ impl Source for ScriptSource {
     ghost use Rattle.std.specs.Prelude.{unwrap_or};
     ghost use Rattle.std.proofs.Common.{sym, ap, ◌∙◌};
 
-    ghost seen = { λ s. record { text = Some (drop s.given s.text.items); reads = s.reads; failed = s.failed; ended = s.ended } };
+    ghost seen = { λ s. record {
+      text = Some (drop s.given s.text.items);
+      reads = s.reads;
+      failed = s.failed;
+      ended = s.ended;
+    } };
 
     ghost ended_is_end = { λ s e xs h. sym (ap (λ o. unwrap_or o []) h) ∙ s.behind_the_end e };
 

@@ -1,7 +1,6 @@
 //! A transport session that is fed its octets in pieces (RFC 7011, section 3.1).
 
-ghost use Rattle.std.specs.Prelude.{◌≡◌, ◌≤◌, ◌++◌, [], ℕ, length, List, Some, None, Err, IfErr, OnOk};
-ghost use Rattle.std.specs.List.{flat_map};
+ghost use Rattle.std.specs.Prelude.{◌≡◌, ◌≤◌, [], ℕ, length, List, Some, None, Err, IfErr, OnOk};
 ghost use Rattle.ipfix_message.specs.Domains.{Message};
 ghost use Rattle.ipfix_session.specs.declared.message_stream.TheConstants.{LONGEST_MESSAGE};
 ghost use Rattle.ipfix_session.specs.Feeding.{Tells, StandsForText, Feeds};
@@ -32,7 +31,12 @@ impl Model for Session {
 
     ghost Value = { State };
 
-    ghost view = { λ s. record { counts = counts_of s.intake.tally; domains = s.intake.domains; buffer = s.buffer.items; fault = s.fault } };
+    ghost view = { λ s. record {
+      counts = counts_of s.intake.tally;
+      domains = s.intake.domains;
+      buffer = s.buffer.items;
+      fault = s.fault;
+    } };
 
     ghost invariant = { λ s. length s.buffer.items ≤ LONGEST_MESSAGE };
 }
@@ -60,11 +64,13 @@ impl Session {
         piece: &[u8],
         sink: &mut K,
     ) -> Result<(), SessionFault>
-        ensures feeds { (text : List ℕ) → StandsForText self.old text → Feeds K.seen result text piece.now sink.old sink.new self.new }
+        ensures feeds { (text : List ℕ) → StandsForText self.old text
+            → Feeds K.seen result text piece.now sink.old sink.new self.new }
         ensures ok { OnOk result (self.new.fault ≡ None) }
         ensures err { IfErr result (λ fault. self.new.fault ≡ Some fault) }
         ensures buffer { length self.new.buffer ≤ LONGEST_MESSAGE }
-        ensures again { (fault : SessionFault) → self.old.fault ≡ Some fault → (result ≡ Err fault) × (self.new ≡ self.old) × (sink.new ≡ sink.old) }
+        ensures again { (fault : SessionFault) → self.old.fault ≡ Some fault
+            → (result ≡ Err fault) × (self.new ≡ self.old) × (sink.new ≡ sink.old) }
     {
         if let Some(fault) = self.fault {
             return Err(fault);
@@ -74,35 +80,14 @@ impl Session {
         result
     }
 
-    /// Takes the next octets in pieces, one after another. It doesn't matter how they are cut: the
-    /// records, the answer and the session are those of their octets in one piece.
-    pub fn feed_all<K: Sink>(
-        &mut self,
-        alloc: Global,
-        pieces: &[&[u8]],
-        sink: &mut K,
-    ) -> Result<(), SessionFault>
-        ensures feeds { (text : List ℕ) → StandsForText self.old text
-            → Feeds K.seen result text (flat_map (λ piece. piece.now) pieces.now) sink.old sink.new self.new }
-        ensures ok { OnOk result (self.new.fault ≡ None) }
-        ensures err { IfErr result (λ fault. self.new.fault ≡ Some fault) }
-        ensures buffer { length self.new.buffer ≤ LONGEST_MESSAGE }
-        ensures again { (fault : SessionFault) → self.old.fault ≡ Some fault → (result ≡ Err fault) × (self.new ≡ self.old) × (sink.new ≡ sink.old) }
-    {
-        // If there are no pieces, it answers its fault.
-        self.feed(alloc, &[], sink)?;
-        for piece in pieces {
-            self.feed(alloc, piece, sink)?;
-        }
-        Ok(())
-    }
-
     /// What the session gave, and why it ended early: its fault, or `Truncated` if its octets end
     /// within a message. This takes no memory.
     pub fn finish(self) -> SessionReport
         ensures text { (text : List ℕ) → StandsForText self text → IsReport result text }
-        ensures so_far { (ms : List Message) (delivered : ℕ) → Tells self.counts ms delivered → Reports result ms delivered }
-        ensures fault { (fault : SessionFault) → self.fault ≡ Some fault → result.fault ≡ Some fault }
+        ensures so_far { (ms : List Message) (delivered : ℕ) → Tells self.counts ms delivered
+            → Reports result ms delivered }
+        ensures fault { (fault : SessionFault) → self.fault ≡ Some fault
+            → result.fault ≡ Some fault }
     {
         let Session {
             intake,
@@ -114,7 +99,8 @@ impl Session {
 
     // What the session gave, which this fault ended.
     pub(crate) fn finish_after(self, fault: SessionFault) -> SessionReport
-        ensures so_far { (ms : List Message) (delivered : ℕ) → Tells self.counts ms delivered → Reports result ms delivered }
+        ensures so_far { (ms : List Message) (delivered : ℕ) → Tells self.counts ms delivered
+            → Reports result ms delivered }
         ensures fault { result.fault ≡ Some fault }
     {
         let Session {

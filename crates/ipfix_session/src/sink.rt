@@ -43,7 +43,10 @@ impl VecSink {
 }
 
 impl Sink for VecSink {
-    ghost seen = { record { took = λ before item after. after.records.items ≡ before.records.items ++ item ∷ []; refused = λ s. s.refused } };
+    ghost seen = { record {
+      took = λ before item after. after.records.items ≡ before.records.items ++ item ∷ [];
+      refused = λ s. s.refused;
+    } };
 
     fn put(&mut self, item: DataRecord) -> Result<(), DataRecord>
         ensures ok { OnOk result (self.new.records.items ≡ self.old.records.items ++ item ∷ []) }

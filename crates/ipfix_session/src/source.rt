@@ -30,5 +30,6 @@ pub trait Source {
         ensures { IsRead (seen self.old) result (seen self.new) buffer.new };
 
     /// After its end it holds nothing.
-    ghost ended_is_end: { (s : Self) → (seen s).ended ≡ true → ForSome (seen s).text (λ xs. xs ≡ []) };
+    ghost ended_is_end: { (s : Self) → (seen s).ended ≡ true
+        → ForSome (seen s).text (λ xs. xs ≡ []) };
 }

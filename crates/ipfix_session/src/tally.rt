@@ -58,8 +58,10 @@ impl Tally {
     /// Counts a message whose records, so many, were all delivered.
     pub fn take(&mut self, header: &Header, records: u64, passed_over: PassedOver)
         requires account { 0 < spare self.old.ledger.accounts }
-        requires report { index_map_len self.old.ledger.accounts < vec_capacity self.old.ledger.reports }
-        ensures { (ms : List Message) (m : Message) (delivered : ℕ) → Tells (counts_of self.old) ms delivered
+        requires report { index_map_len self.old.ledger.accounts
+            < vec_capacity self.old.ledger.reports }
+        ensures { (ms : List Message) (m : Message) (delivered : ℕ)
+            → Tells (counts_of self.old) ms delivered
             → m.header ≡ header.now → count_in m ≡ records → m.decoding.passed_over ≡ passed_over
             → Tells (counts_of self.new) (ms ++ m ∷ []) delivered }
     {
@@ -70,7 +72,8 @@ impl Tally {
 
     /// The report of the session, which ended with this fault. This takes no memory.
     pub fn into_report(self, fault: Option<SessionFault>) -> SessionReport
-        ensures reports { (ms : List Message) (delivered : ℕ) → Tells (counts_of self) ms delivered → Reports result ms delivered }
+        ensures reports { (ms : List Message) (delivered : ℕ) → Tells (counts_of self) ms delivered
+            → Reports result ms delivered }
         ensures fault { result.fault ≡ fault }
     {
         let Tally {

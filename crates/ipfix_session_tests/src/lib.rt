@@ -2,5 +2,6 @@
 //! they are proved without the library being proved a second time.
 #![tactic(auto)]
 
+pub mod calling;
 #[cfg(test)]
 mod tests;

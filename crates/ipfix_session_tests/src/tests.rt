@@ -13,8 +13,8 @@ use ipfix_message::MessageFault;
 use ipfix_session::*;
 use std::test::*;
 
-/// The octets that a source gives until its end or its failure, the reads it took, and whether it
-/// told its end.
+// The octets that a source gives until its end or its failure, the reads it took, and whether it
+// told its end.
 fn drain<S: Source>(source: &mut S, octets: &mut Vec<u8>) -> Result<(u64, bool), Fail> {
     let mut buffer = [0; 4];
     for reads in 1..100 {

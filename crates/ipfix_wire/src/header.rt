@@ -10,7 +10,7 @@ use crate::numbers::{u16_at, u32_at};
 use byteorder::{BigEndian, ByteOrder};
 use std::alloc::AllocError;
 
-// the version of IPFIX messages
+// The version of IPFIX messages.
 const VERSION: u16 = 10;
 
 /// Octets of a message header.
@@ -34,12 +34,15 @@ pub struct Header {
 pub fn read_header(octets: &[u8]) -> Result<Header, WireFault>
     requires { HEADER_LENGTH ≤ length octets.now }
     // What is read is spelled so.
-    ensures found { IfOk result (λ h. IsHeader h × (take HEADER_LENGTH octets.now ≡ header_octets h)) }
+    ensures found { IfOk result (λ h. IsHeader h
+        × (take HEADER_LENGTH octets.now ≡ header_octets h)) }
     // What is spelled so is read, whatever follows.
-    ensures only { (h : Header) (rest : List ℕ) → IsHeader h → octets.now ≡ header_octets h ++ rest → result ≡ Ok h }
+    ensures only { (h : Header) (rest : List ℕ) → IsHeader h
+        → octets.now ≡ header_octets h ++ rest → result ≡ Ok h }
     ensures exact { result ≡ header_at octets.now }
     ensures version { IsErrOf result WireFault.Version ↔ (number_at 0 2 octets.now ≢ VERSION) }
-    ensures message_length { IsErrOf result WireFault.MessageLength ↔ ((number_at 0 2 octets.now ≡ VERSION) × (number_at 2 2 octets.now < HEADER_LENGTH)) }
+    ensures message_length { IsErrOf result WireFault.MessageLength
+        ↔ ((number_at 0 2 octets.now ≡ VERSION) × (number_at 2 2 octets.now < HEADER_LENGTH)) }
 {
     if u16_at(octets, 0) != VERSION {
         return Err(WireFault::Version);
@@ -60,7 +63,8 @@ pub fn read_header(octets: &[u8]) -> Result<Header, WireFault>
 pub fn write_header(header: &Header, out: &mut Vec<u8>) -> Result<(), AllocError>
     ensures ok { OnOk result (out.new.items ≡ out.old.items ++ header_octets header.now) }
     // It is read again, whatever follows.
-    ensures again { HEADER_LENGTH ≤ header.now.length → (more : List ℕ) → header_at (header_octets header.now ++ more) ≡ Ok header.now }
+    ensures again { HEADER_LENGTH ≤ header.now.length → (more : List ℕ)
+        → header_at (header_octets header.now ++ more) ≡ Ok header.now }
     ensures err { OnErr result (out.new.items ≡ out.old.items) }
 {
     let Header {

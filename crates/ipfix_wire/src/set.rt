@@ -1,8 +1,7 @@
 //! Set headers (RFC 7011, section 3.3.2).
 
-ghost use Rattle.std.specs.Prelude.{◌≡◌, ◌+◌, ◌<◌, ◌≤◌, ◌↔◌, ◌⊎◌, ◌++◌, ◌^◌, ℕ, List, Ok, length, take, IfOk, IsErrOf, OnOk, OnErr};
-ghost use Rattle.ipfix_wire.specs.Numbers.{number_at};
-ghost use Rattle.ipfix_wire.specs.SetHeader.{set_octets, set_at};
+ghost use Rattle.std.specs.Prelude.{◌≡◌, ◌+◌, ◌<◌, ◌≤◌, ◌↔◌, ◌++◌, ◌^◌, ℕ, List, Ok, length, IfOk, IsErrOf, OnOk, OnErr};
+ghost use Rattle.ipfix_wire.specs.SetHeader.{set_octets, set_at, BeginsWithSet, HasWrongSetLength};
 
 use crate::fault::WireFault;
 use crate::numbers::u16_at;
@@ -36,12 +35,15 @@ pub struct SetSpan {
 pub fn read_set(rest: &[u8]) -> Result<SetSpan, WireFault>
     requires { 0 < length rest.now }
     // What is read is spelled so, and its body stands there.
-    ensures found { IfOk result (λ s. (s.id < 2 ^ 16) × (SET_HEADER_LENGTH + s.body < 2 ^ 16) × (SET_HEADER_LENGTH + s.body ≤ length rest.now) × (take SET_HEADER_LENGTH rest.now ≡ set_octets s.id s.body)) }
+    ensures found { IfOk result (BeginsWithSet rest.now) }
     // What is spelled so, with its body, is read, whatever follows.
-    ensures only { (id body : ℕ) (more : List ℕ) → id < 2 ^ 16 → SET_HEADER_LENGTH + body < 2 ^ 16 → body ≤ length more → rest.now ≡ set_octets id body ++ more → result ≡ Ok (record { id = id; body = body }) }
+    ensures only { (id body : ℕ) (more : List ℕ) → id < 2 ^ 16 → SET_HEADER_LENGTH + body < 2 ^ 16
+        → body ≤ length more → rest.now ≡ set_octets id body ++ more
+        → result ≡ Ok (record { id = id; body = body }) }
     ensures exact { result ≡ set_at rest.now }
-    ensures set_header { IsErrOf result WireFault.SetHeader ↔ (length rest.now < SET_HEADER_LENGTH) }
-    ensures set_length { IsErrOf result WireFault.SetLength ↔ ((SET_HEADER_LENGTH ≤ length rest.now) × ((number_at 2 2 rest.now < SET_HEADER_LENGTH) ⊎ (length rest.now < number_at 2 2 rest.now))) }
+    ensures set_header { IsErrOf result WireFault.SetHeader
+        ↔ (length rest.now < SET_HEADER_LENGTH) }
+    ensures set_length { IsErrOf result WireFault.SetLength ↔ HasWrongSetLength rest.now }
 {
     if rest.len() < SET_HEADER_LENGTH {
         return Err(WireFault::SetHeader);
@@ -61,7 +63,8 @@ pub fn write_set(id: u16, body: u16, out: &mut Vec<u8>) -> Result<(), AllocError
     requires { SET_HEADER_LENGTH + body < 2 ^ 16 }
     ensures ok { OnOk result (out.new.items ≡ out.old.items ++ set_octets id body) }
     // It is read again where its body follows.
-    ensures again { (more : List ℕ) → body ≤ length more → set_at (set_octets id body ++ more) ≡ Ok (record { id = id; body = body }) }
+    ensures again { (more : List ℕ) → body ≤ length more
+        → set_at (set_octets id body ++ more) ≡ Ok (record { id = id; body = body }) }
     ensures err { OnErr result (out.new.items ≡ out.old.items) }
 {
     let mut octets = [0; SET_HEADER_LENGTH];

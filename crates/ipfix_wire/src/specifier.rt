@@ -43,9 +43,11 @@ pub struct Spec {
 /// a specifier that is cut. An enterprise bit with enterprise number 0 is read as no bit.
 pub fn read_spec(rest: &[u8]) -> Option<(Spec, usize)>
     // What is read is spelled so.
-    ensures found { IfSome result (λ r. (r.1 ≤ length rest.now) × SpellsSpec r.0 (take r.1 rest.now)) }
+    ensures found { IfSome result (λ r. (r.1 ≤ length rest.now)
+        × SpellsSpec r.0 (take r.1 rest.now)) }
     // What is spelled so is read, whatever follows.
-    ensures only { (s : Spec) (w more : List ℕ) → SpellsSpec s w → rest.now ≡ w ++ more → result ≡ Some (s, length w) }
+    ensures only { (s : Spec) (w more : List ℕ) → SpellsSpec s w → rest.now ≡ w ++ more
+        → result ≡ Some (s, length w) }
     ensures exact { result ≡ spec_at rest.now }
 {
     if rest.len() < 4 {
@@ -74,7 +76,8 @@ pub fn write_spec(spec: &Spec, out: &mut Vec<u8>) -> Result<(), AllocError>
     ensures ok { OnOk result (out.new.items ≡ out.old.items ++ spec_octets spec.now) }
     ensures spelled { SpellsSpec spec.now (spec_octets spec.now) }
     // It is read again, whatever follows.
-    ensures again { (more : List ℕ) → spec_at (spec_octets spec.now ++ more) ≡ Some (spec.now, length (spec_octets spec.now)) }
+    ensures again { (more : List ℕ) → spec_at (spec_octets spec.now ++ more)
+        ≡ Some (spec.now, length (spec_octets spec.now)) }
     ensures err { OnErr result (out.new.items ≡ out.old.items) }
 {
     let Spec { element, width } = *spec;

@@ -4,7 +4,7 @@ use super::*;
 use std::alloc::AllocError;
 use std::test::Fail;
 
-// the header of a message of 68 octets in domain 1
+// The header of a message of 68 octets in domain 1.
 const HEADER: [u8; 16] = [
     0x00, 0x0a, 0x00, 0x44, 0x65, 0x53, 0xf1, 0x00, 0, 0, 0, 0, 0, 0, 0, 1,
 ];
@@ -80,7 +80,7 @@ fn written_specifier(rt: HostRuntime) -> Result<(), Fail> {
 
 #[test]
 fn read_specifiers(rt: HostRuntime) {
-    // an enterprise bit with enterprise number 0 is read as no bit
+    // An enterprise bit with enterprise number 0 is read as no bit.
     let iana = Spec {
         element: ElementId::iana(1),
         width: 4,

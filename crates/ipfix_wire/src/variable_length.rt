@@ -12,9 +12,11 @@ use std::alloc::AllocError;
 /// length.
 pub fn read_length(rest: &[u8]) -> Option<(usize, usize)>
     // What is read is spelled so.
-    ensures found { IfSome result (λ r. (r.1 ≤ length rest.now) × SpellsLength r.0 (take r.1 rest.now)) }
+    ensures found { IfSome result (λ r. (r.1 ≤ length rest.now)
+        × SpellsLength r.0 (take r.1 rest.now)) }
     // What is spelled so is read, whatever follows.
-    ensures only { (n : ℕ) (w more : List ℕ) → SpellsLength n w → rest.now ≡ w ++ more → result ≡ Some (n, length w) }
+    ensures only { (n : ℕ) (w more : List ℕ) → SpellsLength n w → rest.now ≡ w ++ more
+        → result ≡ Some (n, length w) }
     ensures exact { result ≡ length_at rest.now }
 {
     match rest {
@@ -34,7 +36,8 @@ pub fn write_length(length: u16, out: &mut Vec<u8>) -> Result<(), AllocError>
     ensures ok { OnOk result (out.new.items ≡ out.old.items ++ length_octets length) }
     ensures spelled { SpellsLength length (length_octets length) }
     // It is read again, whatever follows.
-    ensures again { (more : List ℕ) → length_at (length_octets length ++ more) ≡ Some (length, list_length (length_octets length)) }
+    ensures again { (more : List ℕ) → length_at (length_octets length ++ more)
+        ≡ Some (length, list_length (length_octets length)) }
     ensures err { OnErr result (out.new.items ≡ out.old.items) }
 {
     if length < 255 {

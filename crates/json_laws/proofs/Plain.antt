@@ -14,7 +14,7 @@ use Rattle.ipfix_wire.proofs.Choices.{different}
 use Rattle.json.specs.Print.{escape, escape_byte}
 use Rattle.hex.specs.Hex.{lower_digits, encode_with, encode_lower}
 use Rattle.ipfix_wire.specs.declared.specifier.ElementId.{ElementId}
-use Rattle.ipfix_elements.specs.Elements.{Row, elements, row_of}
+use Rattle.ipfix_elements.specs.Elements.{Entry, elements, entry_of}
 use Rattle.ipfix_elements.specs.Names.{numbered_text, name_text}
 use Rattle.ipfix_elements.proofs.Numbered.{numbered_parts}
 use Rattle.ipfix_elements.specs.Texts.{pairs, octet_text, cell_text, hex_mark, value_text}
@@ -201,7 +201,7 @@ cell_plain (cells.Mac a) all = mac_plain a all
 
 -- ---- names
 
-abbrev has_plain_name : Row → Bool
+abbrev has_plain_name : Entry → Bool
 has_plain_name r = bytes_eq (escape r.name) r.name
 
 names_plain : list_all has_plain_name elements ≡ true
@@ -217,11 +217,11 @@ numbered_plain e =
     subst IsPlain (sym (numbered_parts e))
     (IsPlain-cons 101 _ letter_stays (IsPlain-append (decimal e.pen) (46 ∷ decimal e.number) (decimal_plain e.pen) (IsPlain-cons 46 _ dot_stays (decimal_plain e.number))))
 
-found_plain : (e : ElementId) (o : Option Row) → ((r : Row) → o ≡ Some r → has_plain_name r ≡ true) → IsPlain (unwrap_or (option_map (λ r. r.name) o) (numbered_text e))
+found_plain : (e : ElementId) (o : Option Entry) → ((r : Entry) → o ≡ Some r → has_plain_name r ≡ true) → IsPlain (unwrap_or (option_map (λ r. r.name) o) (numbered_text e))
 found_plain e None h = numbered_plain e
 found_plain e (Some r) h = (bytes_eq-Decides (escape r.name) r.name).0 (h r refl)
 
-in_elements : (e : ElementId) (r : Row) → row_of e ≡ Some r → has_plain_name r ≡ true
+in_elements : (e : ElementId) (r : Entry) → entry_of e ≡ Some r → has_plain_name r ≡ true
 in_elements e r h = by (eqb e.pen 0) h
   where
     by : (b : Bool) → cond b (find (λ x. eqb x.number e.number) elements) None ≡ Some r → has_plain_name r ≡ true
@@ -229,7 +229,7 @@ in_elements e r h = by (eqb e.pen 0) h
     by false k = absurd cc
 
 pub name_plain : (e : ElementId) → IsPlain (name_text e)
-name_plain e = found_plain e (row_of e) (in_elements e)
+name_plain e = found_plain e (entry_of e) (in_elements e)
 
 slash_stays : escape_byte 47 ≡ 47 ∷ []
 unfolding escape_byte

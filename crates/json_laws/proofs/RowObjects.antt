@@ -16,7 +16,7 @@ use Rattle.flow_table.specs.Plans.{PlanValue}
 use Rattle.flow_table.specs.SameTables.{RowValue}
 use Rattle.flow_export.specs.CsvText.{first_of, heading, key_text, last_of}
 use Rattle.flow_export.specs.JsonText.{member, object_line, row_object, row_values}
-use Rattle.flow_export.specs.JsonValues.{in_quotes, json_cell, json_number}
+use Rattle.ipfix_elements.specs.JsonValues.{in_quotes, json_cell, json_number}
 use Rattle.flow_export.proofs.Lines.{behind_commas, next}
 use Rattle.json_laws.specs.RowObjects.{address_of, cell_data, HasAddresses, members_of, number_data, object_of_row, row_data}
 use Rattle.json_laws.proofs.Objects.{of_cell, quoted_plain}

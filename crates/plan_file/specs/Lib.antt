@@ -1,4 +1,6 @@
+-- What public contracts cite.
 pub mod Faults
 pub mod PlanTexts
 pub mod Places
+-- What only inner functions and proofs need.
 pub mod Shown

@@ -1,7 +1,7 @@
 -- Where a text is no plan.
 use Rattle.std.specs.Prelude.{◌≡◌, ℕ, ◌+◌, ◌==◌, not, List, [], ◌∷◌, take, codes, count_by, find, Option, Some, None, is_none, Ok, is_err, if◌then◌else◌, string_bytes}
 use Rattle.std.specs.Str.{IsValidUpTo}
-use Rattle.toml.specs.Data.{Members, no_members, member, get_member}
+use Rattle.toml.specs.Data.{Data, Members, no_members, member, get_member}
 use Rattle.toml.specs.Parse.{parse_document}
 use Rattle.toml.specs.Errors.{IsMemory, IsWithin, span_start}
 use Rattle.ipfix_elements.specs.Names.{element_named}
@@ -42,6 +42,10 @@ line_at octets place = count_by (λ b. b == newline) (take place octets) + 1
 
 -- ---- keys
 
+-- the value at a key of a document
+abbrev pub value_of : PlanKey → Members → Option Data
+value_of key d = get_member (key_name key) d
+
 -- the keys of a document, which ascend
 abbrev pub names : Members → List (List ℕ)
 names no_members = []
@@ -62,11 +66,19 @@ refused_key d =
 
 -- ---- texts that name no element
 
+-- the first text that names no key
+abbrev pub no_key_in : List (List ℕ) → Option (List ℕ)
+no_key_in texts = find (λ text. is_none (key_named text)) texts
+
+-- the first text that names no counter
+abbrev pub no_counter_in : List (List ℕ) → Option (List ℕ)
+no_counter_in texts = find (λ text. is_none (element_named text)) texts
+
 abbrev pub unknown_key : Fields → Option (List ℕ)
-unknown_key f = find (λ text. is_none (key_named text)) f.keys
+unknown_key f = no_key_in f.keys
 
 abbrev pub unknown_counter : Fields → Option (List ℕ)
-unknown_counter f = find (λ text. is_none (element_named text)) f.counters
+unknown_counter f = no_counter_in f.counters
 
 -- the first text that names no element, of the keys and then of the counters
 abbrev pub IsUnknown : Fields → PlanKey → List ℕ → Type 0

@@ -96,6 +96,14 @@ abbrev pub all_of : {A X : Type 0} → (A → Option X) → List A → Option (L
 all_of f [] = Some []
 all_of f (y ∷ ys) = option_and_then (λ x. option_map (λ xs. x ∷ xs) (all_of f ys)) (f y)
 
+-- the keys that texts name
+abbrev pub keys_in : List (List ℕ) → Read (List Key)
+keys_in texts = ok_or (all_of key_named texts) faults.UnknownElement
+
+-- the counters that texts name
+abbrev pub counters_in : List (List ℕ) → Read (List ElementId)
+counters_in texts = ok_or (all_of element_named texts) faults.UnknownElement
+
 -- ---- the plan
 
 -- what stands at the keys of a document
@@ -126,8 +134,8 @@ checked plan (Some fault) = Err (faults.Plan fault)
 
 abbrev pub plan_of_fields : Fields → Read PlanValue
 plan_of_fields f =
-    ok_or (all_of key_named f.keys) faults.UnknownElement >>= λ keys.
-    ok_or (all_of element_named f.counters) faults.UnknownElement >>= λ counters.
+    keys_in f.keys >>= λ keys.
+    counters_in f.counters >>= λ counters.
     let plan = plan_of f.length f.method keys counters f.max_spread in checked plan (first_fault_of plan)
 
 abbrev pub plan_of_document : Members → Read PlanValue

@@ -10,8 +10,11 @@ use Rattle.plan_file.specs.Faults.{Read, Fails}
 use Rattle.plan_file.specs.Places.{fault_of, IsUnknown}
 use Rattle.plan_file.specs.PlanTexts as plan
 
+abbrev pub shown_all : List (Bor (List ℕ)) → List (List ℕ)
+shown_all texts = map (λ t. t.now) texts
+
 abbrev pub texts_of : Vec (Bor (List ℕ)) Global → List (List ℕ)
-texts_of texts = map (λ t. t.now) texts.items
+texts_of texts = shown_all texts.items
 
 abbrev pub shown : Fields → plan.Fields
 shown f = plan.fields f.length f.method f.max_spread (texts_of f.keys) (texts_of f.counters)

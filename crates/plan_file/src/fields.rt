@@ -2,10 +2,9 @@
 
 ghost use Rattle.std.specs.Prelude.{◌≡◌, string_bytes, IfOk};
 ghost use Rattle.std.specs.Option.{option_map};
-ghost use Rattle.toml.specs.Data.{get_member};
 ghost use Rattle.toml.specs.View.{table_view, view};
 ghost use Rattle.plan_file.specs.PlanTexts.{is_field as is_field_name, fields_of, required, optional, small_number, method, texts};
-ghost use Rattle.plan_file.specs.Places.{key_name, refused_key, unknown_field as unknown_field_of};
+ghost use Rattle.plan_file.specs.Places.{refused_key, unknown_field as unknown_field_of, value_of};
 ghost use Rattle.plan_file.specs.Shown.{shown, texts_of, GivesOr, IsOfKey};
 
 use crate::error::{PlanKey, PlanTextError};
@@ -25,7 +24,8 @@ pub struct Fields<'a> {
 
 /// The first key of a document that plans don't have.
 pub fn unknown_field(table: &Table) -> Option<&String>
-    ensures { option_map (λ name. string_bytes name.now) result ≡ unknown_field_of (table_view table.now) }
+    ensures { option_map (λ name. string_bytes name.now) result
+        ≡ unknown_field_of (table_view table.now) }
 {
     table.keys().find(|name| !is_field(name.as_str()))
 }
@@ -42,7 +42,8 @@ fn is_field(name: &str) -> bool
 /// The values of a document's keys, or the first fault: for each key, in their order, `Missing` and
 /// `WrongKind`.
 pub fn read_fields(alloc: Global, table: &Table) -> Result<Fields<'_>, PlanTextError>
-    ensures { GivesOr shown (IsOfKey (refused_key (table_view table.now))) result (fields_of (table_view table.now)) }
+    ensures { GivesOr shown (IsOfKey (refused_key (table_view table.now))) result
+        (fields_of (table_view table.now)) }
 {
     let length = number_at(table, PlanKey::IntervalMs)?;
     let method = method_at(table)?;
@@ -58,16 +59,16 @@ pub fn read_fields(alloc: Global, table: &Table) -> Result<Fields<'_>, PlanTextE
     })
 }
 
-// the value at a key
 fn value_at(table: &Table, key: PlanKey) -> Option<&Value>
-    ensures { option_map (λ value. view value.now) result ≡ get_member (key_name key) (table_view table.now) }
+    ensures { option_map (λ value. view value.now) result ≡ value_of key (table_view table.now) }
 {
     table.get(key.name())
 }
 
-// the number at a key that has to be there
+// The number at a key that has to be there.
 fn number_at(table: &Table, key: PlanKey) -> Result<u32, PlanTextError>
-    ensures { GivesOr (λ number. number) (IsOfKey key) result (required small_number (get_member (key_name key) (table_view table.now))) }
+    ensures { GivesOr (λ number. number) (IsOfKey key) result
+        (required small_number (value_of key (table_view table.now))) }
 {
     match value_at(table, key) {
         Some(value) => small_number_in(value).ok_or(PlanTextError::WrongKind { key }),
@@ -75,9 +76,10 @@ fn number_at(table: &Table, key: PlanKey) -> Result<u32, PlanTextError>
     }
 }
 
-// the most intervals that a flow may cover: a value that may be missing
+// The most intervals that a flow may cover: a value that may be missing.
 fn max_spread(table: &Table) -> Result<u32, PlanTextError>
-    ensures { GivesOr (λ number. number) (IsOfKey PlanKey.MaxSpread) result (optional 4096 small_number (get_member (key_name PlanKey.MaxSpread) (table_view table.now))) }
+    ensures { GivesOr (λ number. number) (IsOfKey PlanKey.MaxSpread) result
+        (optional 4096 small_number (value_of PlanKey.MaxSpread (table_view table.now))) }
 {
     let key = PlanKey::MaxSpread;
     match value_at(table, key) {
@@ -87,7 +89,8 @@ fn max_spread(table: &Table) -> Result<u32, PlanTextError>
 }
 
 fn method_at(table: &Table) -> Result<Method, PlanTextError>
-    ensures { GivesOr (λ method. method) (IsOfKey PlanKey.Method) result (required method (get_member (key_name PlanKey.Method) (table_view table.now))) }
+    ensures { GivesOr (λ method. method) (IsOfKey PlanKey.Method) result
+        (required method (value_of PlanKey.Method (table_view table.now))) }
 {
     let key = PlanKey::Method;
     match value_at(table, key) {
@@ -97,7 +100,8 @@ fn method_at(table: &Table) -> Result<Method, PlanTextError>
 }
 
 fn texts_at(alloc: Global, table: &Table, key: PlanKey) -> Result<Vec<&str>, PlanTextError>
-    ensures { GivesOr texts_of (IsOfKey key) result (required texts (get_member (key_name key) (table_view table.now))) }
+    ensures { GivesOr texts_of (IsOfKey key) result
+        (required texts (value_of key (table_view table.now))) }
 {
     match value_at(table, key) {
         Some(value) => texts_in(alloc, value)?.ok_or(PlanTextError::WrongKind { key }),
@@ -105,7 +109,7 @@ fn texts_at(alloc: Global, table: &Table, key: PlanKey) -> Result<Vec<&str>, Pla
     }
 }
 
-// an integer from 0 to 2^32 - 1
+// An integer from 0 to 2^32 - 1.
 fn small_number_in(value: &Value) -> Option<u32>
     ensures { result ≡ small_number (view value.now) }
 {
@@ -125,7 +129,7 @@ fn method_in(value: &Value) -> Option<Method>
     }
 }
 
-// an array of texts alone
+// An array of texts alone.
 fn texts_in(alloc: Global, value: &Value) -> Result<Option<Vec<&str>>, AllocError>
     ensures { IfOk result (λ found. option_map texts_of found ≡ texts (view value.now)) }
 {

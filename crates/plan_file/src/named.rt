@@ -1,11 +1,9 @@
 //! The elements that texts name.
 
-ghost use Rattle.std.specs.Prelude.{◌≡◌, map, find, is_none};
-ghost use Rattle.std.specs.Option.{ok_or};
-ghost use Rattle.ipfix_elements.specs.Names.{element_named};
-ghost use Rattle.plan_file.specs.declared.fault.PlanTextFault.TheVariants.{UnknownElement};
-ghost use Rattle.plan_file.specs.PlanTexts.{all_of, bits_in, key_named as key_named_by};
-ghost use Rattle.plan_file.specs.Shown.{GivesOr, IsOfText};
+ghost use Rattle.std.specs.Prelude.{◌≡◌};
+ghost use Rattle.plan_file.specs.Places.{no_key_in, no_counter_in};
+ghost use Rattle.plan_file.specs.PlanTexts.{bits_in, counters_in, key_named as key_named_by, keys_in};
+ghost use Rattle.plan_file.specs.Shown.{shown_all, GivesOr, IsOfText};
 
 use crate::error::{PlanKey, PlanTextError};
 use flow_table::Key;
@@ -16,7 +14,8 @@ use std::alloc::Global;
 
 /// The keys that texts name.
 pub fn keys_named(alloc: Global, texts: &[&str]) -> Result<Vec<Key>, PlanTextError>
-    ensures { GivesOr (λ keys. keys.items) (IsOfText PlanKey.Keys (find (λ t. is_none (key_named_by t)) (map (λ t. t.now) texts.now))) result (ok_or (all_of key_named_by (map (λ t. t.now) texts.now)) UnknownElement) }
+    ensures { GivesOr (λ keys. keys.items) (IsOfText PlanKey.Keys (no_key_in (shown_all texts.now)))
+        result (keys_in (shown_all texts.now)) }
 {
     let mut keys = Vec::new(alloc);
     for text in texts {
@@ -35,7 +34,9 @@ pub fn keys_named(alloc: Global, texts: &[&str]) -> Result<Vec<Key>, PlanTextErr
 
 /// The counters that texts name.
 pub fn counters_named(alloc: Global, texts: &[&str]) -> Result<Vec<ElementId>, PlanTextError>
-    ensures { GivesOr (λ counters. counters.items) (IsOfText PlanKey.Counters (find (λ t. is_none (element_named t)) (map (λ t. t.now) texts.now))) result (ok_or (all_of element_named (map (λ t. t.now) texts.now)) UnknownElement) }
+    ensures { GivesOr (λ counters. counters.items)
+        (IsOfText PlanKey.Counters (no_counter_in (shown_all texts.now)))
+        result (counters_in (shown_all texts.now)) }
 {
     let mut counters = Vec::new(alloc);
     for text in texts {
@@ -52,7 +53,7 @@ pub fn counters_named(alloc: Global, texts: &[&str]) -> Result<Vec<ElementId>, P
     Ok(counters)
 }
 
-// the key that a text names: NAME, or NAME/BITS
+// A key is NAME, or NAME/BITS.
 fn key_named(text: &str) -> Option<Key>
     ensures { result ≡ key_named_by text.now }
 {
@@ -68,7 +69,7 @@ fn key_named(text: &str) -> Option<Key>
     }
 }
 
-// a decimal number from 0 to 255, without a sign or leading zeros
+// A decimal number from 0 to 255, without a sign or leading zeros.
 fn prefix_bits(text: &str) -> Option<u8>
     ensures { result ≡ bits_in text.now }
 {

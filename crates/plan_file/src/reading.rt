@@ -32,7 +32,8 @@ use toml::Table;
 /// | `counters` | an array of names of elements |
 pub fn read_plan(alloc: Global, text: &str) -> Result<Plan, PlanTextFault>
     ensures ok { IfOk result (λ plan. plan_of_text text.now ≡ Ok plan) }
-    ensures fault { IfErr result (λ fault. fault ≢ PlanTextFault.OutOfMemory → plan_of_text text.now ≡ Err fault) }
+    ensures fault { IfErr result (λ fault. fault ≢ PlanTextFault.OutOfMemory
+        → plan_of_text text.now ≡ Err fault) }
     // No fault fits a plan that was read.
     ensures sound { IfOk result IsPlan }
 {
@@ -47,8 +48,10 @@ pub fn read_plan(alloc: Global, text: &str) -> Result<Plan, PlanTextFault>
 /// that plans don't have it is the one that comes first in the order of octets.
 pub fn read_plan_octets(alloc: Global, octets: &[u8]) -> Result<Plan, PlanTextError>
     ensures ok { IfOk result (λ plan. IsUtf8 octets.now × (plan_of_text octets.now ≡ Ok plan)) }
-    ensures fault { IfErr result (λ error. fault_of error ≢ PlanTextFault.OutOfMemory → IsUtf8 octets.now → plan_of_text octets.now ≡ Err (fault_of error)) }
-    ensures not_utf8 { IfErr result (λ error. ¬ (IsUtf8 octets.now) → fault_of error ≡ PlanTextFault.NotToml) }
+    ensures fault { IfErr result (λ error. fault_of error ≢ PlanTextFault.OutOfMemory
+        → IsUtf8 octets.now → plan_of_text octets.now ≡ Err (fault_of error)) }
+    ensures not_utf8 { IfErr result (λ error. ¬ (IsUtf8 octets.now)
+        → fault_of error ≡ PlanTextFault.NotToml) }
     ensures place { IfErr result (Tells octets.now) }
     // No fault fits a plan that was read.
     ensures sound { IfOk result IsPlan }
@@ -61,7 +64,6 @@ pub fn read_plan_octets(alloc: Global, octets: &[u8]) -> Result<Plan, PlanTextEr
     }
 }
 
-// the plan of a text
 fn read_text(alloc: Global, text: &str) -> Result<Plan, PlanTextError>
     ensures { GivesOr (λ plan. plan) (Tells text.now) result (plan_of_text text.now) }
 {
@@ -78,9 +80,9 @@ fn read_text(alloc: Global, text: &str) -> Result<Plan, PlanTextError>
     }
 }
 
-// the plan of a document
 fn read_document(alloc: Global, table: &Table) -> Result<Plan, PlanTextError>
-    ensures { GivesOr (λ plan. plan) (TellsKey (table_view table.now)) result (plan_of_document (table_view table.now)) }
+    ensures { GivesOr (λ plan. plan) (TellsKey (table_view table.now)) result
+        (plan_of_document (table_view table.now)) }
 {
     if let Some(key) = unknown_field(table) {
         return Err(PlanTextError::UnknownField { key: key.clone()? });
@@ -89,9 +91,9 @@ fn read_document(alloc: Global, table: &Table) -> Result<Plan, PlanTextError>
     make_plan(alloc, &fields)
 }
 
-// the plan that the values of a document make
 fn make_plan(alloc: Global, fields: &Fields) -> Result<Plan, PlanTextError>
-    ensures { GivesOr (λ plan. plan) (IsOfValues (shown fields.now)) result (plan_of_fields (shown fields.now)) }
+    ensures { GivesOr (λ plan. plan) (IsOfValues (shown fields.now)) result
+        (plan_of_fields (shown fields.now)) }
 {
     let keys = keys_named(alloc, &fields.keys)?;
     let counters = counters_named(alloc, &fields.counters)?;

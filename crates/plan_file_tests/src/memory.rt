@@ -1,5 +1,5 @@
-//! What is answered where memory runs out: `tests/refusals` refuses each allocation of this call in
-//! turn.
+//! What is answered where memory runs out: `tests/gate/refusals` refuses each allocation of
+//! this call in turn.
 
 use crate::tests::{BY_NETWORK, assert_by_network};
 use plan_file::{PlanTextFault, read_plan};

@@ -9,9 +9,9 @@ use super::Parts;
 use super::gathering::gather;
 use super::pairing::settle_all;
 use crate::collected::Collected;
-use crate::run_fault::RunFault;
-use crate::threads::Joined;
-use crate::worker::Worked;
+use crate::session_thread::EndedSession;
+use crate::shortage::Shortage;
+use crate::worker::Lot;
 use flow_table::TableFault;
 use std::alloc::Global;
 use std::collections::VecDeque;
@@ -21,21 +21,22 @@ use std::thread::Threads;
 pub fn finish_all<S: Drop, R: Threads + Sync>(
     rt: &R,
     alloc: Global,
-    joined: Joined<S>,
-) -> Result<Option<Collected<S>>, RunFault>
-    requires taken { (plan : PlanValue) × All (HasTaken plan) joined.worked.items }
-    requires paired { All (IsPaired (map ended_link joined.sessions.items)) (lanes_of joined.worked.items) }
-    ensures { (plan : PlanValue) → All (HasTaken plan) joined.worked.items
-        → IfOk result (λ answer. MatchOption answer (IsOverfull plan joined.sessions.items) (λ c. FinishedAs plan joined.sessions.items c)) }
+    ended: VecDeque<EndedSession<S>>,
+    worked: VecDeque<Lot>,
+) -> Result<Option<Collected<S>>, Shortage>
+    requires taken { (plan : PlanValue) × All (HasTaken plan) worked.items }
+    requires paired { All (IsPaired (map ended_link ended.items)) (lanes_of worked.items) }
+    ensures { (plan : PlanValue) → All (HasTaken plan) worked.items
+        → IfOk result (λ answer. MatchOption answer
+        (IsOverfull plan ended.items) (λ c. FinishedAs plan ended.items c)) }
 {
-    let Joined { sessions, worked } = joined;
     let all = gather(rt, worked)?;
-    let Worked { lanes, partial } = all;
-    let parts = settle_all(alloc, sessions, VecDeque::from_vec(lanes))?;
+    let Lot { lanes, partial, .. } = all;
+    let parts = settle_all(alloc, ended, VecDeque::from_vec(lanes))?;
     let table = match partial.finish() {
         Ok(table) => table,
         Err(TableFault::SumTooLarge) => return Ok(None),
-        Err(TableFault::OutOfMemory) => return Err(RunFault::OutOfMemory),
+        Err(TableFault::OutOfMemory) => return Err(Shortage::OutOfMemory),
     };
     let Parts {
         sessions,

@@ -5,8 +5,8 @@ ghost use Rattle.flow_collect.specs.Dealt.{IsPaired};
 ghost use Rattle.flow_collect.specs.Finished.{ended_link, SettledAll, SettlesOne};
 
 use super::Parts;
-use crate::run_fault::RunFault;
 use crate::session_thread::EndedSession;
+use crate::shortage::Shortage;
 use crate::worker::Lane;
 use flow_link::{Settled, settle};
 use ipfix_session::SessionReport;
@@ -18,33 +18,35 @@ pub fn settle_all<S: Drop>(
     alloc: Global,
     sessions: VecDeque<EndedSession<S>>,
     lanes: VecDeque<Lane>,
-) -> Result<Parts<S>, RunFault>
+) -> Result<Parts<S>, Shortage>
     requires { All (IsPaired (map ended_link sessions.items)) lanes.items }
-    ensures { IfOk result (λ p. SettledAll sessions.items lanes.items p.sessions.items p.links.items p.sources.items) }
+    ensures { IfOk result (λ p. SettledAll sessions.items lanes.items
+        p.sessions.items p.links.items p.sources.items) }
 {
     let mut sessions = sessions;
     let mut lanes = lanes;
     let mut parts = new_parts(alloc);
     for number in 0..sessions.len() {
         let Some(session) = sessions.pop_front() else {
-            return Err(RunFault::NoThread);
+            return Err(Shortage::NoThread);
         };
         let Some(lane) = lanes.pop_front() else {
-            return Err(RunFault::NoThread);
+            return Err(Shortage::NoThread);
         };
         if lane.session != number {
-            return Err(RunFault::NoThread);
+            return Err(Shortage::NoThread);
         }
         settle_one(alloc, &mut parts, session, lane)?;
     }
     if !sessions.is_empty() || !lanes.is_empty() {
-        return Err(RunFault::NoThread);
+        return Err(Shortage::NoThread);
     }
     Ok(parts)
 }
 
 fn new_parts<S>(alloc: Global) -> Parts<S>
-    ensures { (result.sessions.items ≡ []) × (result.links.items ≡ []) × (result.sources.items ≡ []) }
+    ensures { (result.sessions.items ≡ []) × (result.links.items ≡ [])
+        × (result.sources.items ≡ []) }
 {
     Parts {
         sessions: Vec::new(alloc),
@@ -58,19 +60,20 @@ fn settle_one<S: Drop>(
     parts: &mut Parts<S>,
     session: EndedSession<S>,
     lane: Lane,
-) -> Result<(), RunFault>
+) -> Result<(), Shortage>
     requires { ended_link session ≡ lane.receiver.link }
-    ensures { OnOk result (SettlesOne session lane parts.old.sessions.items parts.old.links.items parts.old.sources.items parts.new.sessions.items parts.new.links.items parts.new.sources.items) }
+    ensures { OnOk result (SettlesOne session lane
+        parts.old.sessions.items parts.old.links.items parts.old.sources.items
+        parts.new.sessions.items parts.new.links.items parts.new.sources.items) }
 {
     let EndedSession {
         report,
         source,
         sender,
-        ..
     } = session;
     let Lane { receiver, .. } = lane;
     let Ok(link) = settle(alloc, sender, receiver) else {
-        return Err(RunFault::OutOfMemory);
+        return Err(Shortage::OutOfMemory);
     };
     push_all(parts, report, link, source)?;
     Ok(())
@@ -82,9 +85,11 @@ fn push_all<S: Drop>(
     link: Settled,
     source: S,
 ) -> Result<(), AllocError>
-    ensures sessions { OnOk result (parts.new.sessions.items ≡ parts.old.sessions.items ++ report ∷ []) }
+    ensures sessions { OnOk result (parts.new.sessions.items
+        ≡ parts.old.sessions.items ++ report ∷ []) }
     ensures links { OnOk result (parts.new.links.items ≡ parts.old.links.items ++ link ∷ []) }
-    ensures sources { OnOk result (parts.new.sources.items ≡ parts.old.sources.items ++ source ∷ []) }
+    ensures sources { OnOk result (parts.new.sources.items
+        ≡ parts.old.sources.items ++ source ∷ []) }
 {
     parts.sessions.push(report)?;
     parts.links.push(link)?;

@@ -1,9 +1,9 @@
-//! Starting and joining the threads of the sessions.
+//! Starting the threads of the sessions.
 
-ghost use Rattle.std.specs.Prelude.{◌≡◌, ◌≤◌, [], All, IsTrue};
+ghost use Rattle.std.specs.Prelude.{◌≡◌, ◌≤◌, [], All, IsTrue, IfSome};
 ghost use Rattle.std.specs.List.{AllZip};
 ghost use Rattle.std.specs.VecDeque.{deque_len, deque_capacity};
-ghost use Rattle.flow_collect.specs.Sessions.{SessionRan, WholeSession};
+ghost use Rattle.flow_collect.specs.Sessions.{SessionRan};
 
 use crate::gate::Gate;
 use crate::session_thread::{EndedSession, Start, run_session};
@@ -20,8 +20,8 @@ pub struct SessionOf<S> {
     pub start: Snapshot<Start<S>>,
 }
 
-impl<S: Source> Promise<EndedSession<S>> for SessionOf<S> {
-    ghost kept_by = { λ p r. SessionRan S.seen p.start.value r };
+impl<S: Source> Promise<Option<EndedSession<S>>> for SessionOf<S> {
+    ghost kept_by = { λ p r. IfSome r (SessionRan S.seen p.start.value) };
 }
 
 /// Starts a thread for each session. The second part says whether all could be started: if one
@@ -38,15 +38,17 @@ pub fn start_sessions<
     alloc: Global,
     gate: &'s G,
     starts: VecDeque<Start<S>>,
-    room: VecDeque<PromisedHandle<EndedSession<S>, SessionOf<S>>>,
+    room: VecDeque<PromisedHandle<Option<EndedSession<S>>, SessionOf<S>>>,
 ) -> (
-    VecDeque<PromisedHandle<EndedSession<S>, SessionOf<S>>>,
+    VecDeque<PromisedHandle<Option<EndedSession<S>>, SessionOf<S>>>,
     bool,
 )
     requires unused { All (λ start. start.sender.sent ≡ []) starts.items }
-    requires room { (room.items ≡ []) × (deque_len room ≡ 0) × (deque_len starts ≤ deque_capacity room) }
+    requires room { (room.items ≡ []) × (deque_len room ≡ 0)
+        × (deque_len starts ≤ deque_capacity room) }
     ensures count { deque_len result.0 ≤ deque_len starts }
-    ensures started { IsTrue result.1 → AllZip (λ start h. h.promise.start.value ≡ start) starts.items result.0.items }
+    ensures started { IsTrue result.1
+        → AllZip (λ start h. h.promise.start.value ≡ start) starts.items result.0.items }
 {
     let mut starts = starts;
     let mut handles = room;
@@ -61,26 +63,4 @@ pub fn start_sessions<
         }
     }
     (handles, true)
-}
-
-/// Joins the threads of the sessions, in order. The second part says whether each is whole.
-pub fn join_sessions<S: Source + Drop, R: Threads>(
-    rt: &R,
-    handles: VecDeque<PromisedHandle<EndedSession<S>, SessionOf<S>>>,
-    room: VecDeque<EndedSession<S>>,
-) -> (VecDeque<EndedSession<S>>, bool)
-    requires { (room.items ≡ []) × (deque_len room ≡ 0) × (deque_len handles ≤ deque_capacity room) }
-    ensures { IsTrue result.1 → AllZip (λ h r. WholeSession S.seen h.promise.start.value r) handles.items result.0.items }
-{
-    let mut handles = handles;
-    let mut sessions = room;
-    let mut whole = true;
-    while let Some(handle) = handles.pop_front() {
-        let session = handle.join(rt);
-        if !session.whole {
-            whole = false;
-        }
-        sessions.push_back_reserved(session);
-    }
-    (sessions, whole)
 }

@@ -1,4 +1,4 @@
-//! Starting and joining the threads of the workers.
+//! Starting the threads of the workers.
 
 ghost use Rattle.std.specs.Prelude.{◌≡◌, ◌≤◌, [], All, IsTrue, IfSome};
 ghost use Rattle.std.specs.List.{AllZip};
@@ -6,7 +6,7 @@ ghost use Rattle.std.specs.VecDeque.{deque_len, deque_capacity};
 ghost use Rattle.flow_collect.specs.Lanes.{WorkerRan, IsUnused};
 
 use crate::gate::Gate;
-use crate::worker::{Lot, Worked, run_worker};
+use crate::worker::{Lot, run_worker};
 use std::collections::VecDeque;
 use std::snapshot::Snapshot;
 use std::sync::Wait;
@@ -18,8 +18,8 @@ pub struct WorkerOf {
     pub lot: Snapshot<Lot>,
 }
 
-impl Promise<Option<Worked>> for WorkerOf {
-    ghost kept_by = { λ p r. IfSome r (λ worked. WorkerRan p.lot.value worked) };
+impl Promise<Option<Lot>> for WorkerOf {
+    ghost kept_by = { λ p r. IfSome r (WorkerRan p.lot.value) };
 }
 
 /// Starts a thread for each worker. The second part says whether all could be started: if one
@@ -29,12 +29,14 @@ pub fn start_workers<'s, 'e, G: Gate + Sync, R: Threads + Wait + Sync>(
     rt: &'s R,
     gate: &'s G,
     lots: VecDeque<Lot>,
-    room: VecDeque<PromisedHandle<Option<Worked>, WorkerOf>>,
-) -> (VecDeque<PromisedHandle<Option<Worked>, WorkerOf>>, bool)
+    room: VecDeque<PromisedHandle<Option<Lot>, WorkerOf>>,
+) -> (VecDeque<PromisedHandle<Option<Lot>, WorkerOf>>, bool)
     requires unused { All IsUnused lots.items }
-    requires room { (room.items ≡ []) × (deque_len room ≡ 0) × (deque_len lots ≤ deque_capacity room) }
+    requires room { (room.items ≡ []) × (deque_len room ≡ 0)
+        × (deque_len lots ≤ deque_capacity room) }
     ensures count { deque_len result.0 ≤ deque_len lots }
-    ensures started { IsTrue result.1 → AllZip (λ lot h. h.promise.lot.value ≡ lot) lots.items result.0.items }
+    ensures started { IsTrue result.1
+        → AllZip (λ lot h. h.promise.lot.value ≡ lot) lots.items result.0.items }
 {
     let mut lots = lots;
     let mut handles = room;
@@ -49,26 +51,4 @@ pub fn start_workers<'s, 'e, G: Gate + Sync, R: Threads + Wait + Sync>(
         }
     }
     (handles, true)
-}
-
-/// Joins the threads of the workers, in order. The second part says whether each took all that was
-/// sent.
-pub fn join_workers<R: Threads>(
-    rt: &R,
-    handles: VecDeque<PromisedHandle<Option<Worked>, WorkerOf>>,
-    room: VecDeque<Worked>,
-) -> (VecDeque<Worked>, bool)
-    requires { (room.items ≡ []) × (deque_len room ≡ 0) × (deque_len handles ≤ deque_capacity room) }
-    ensures { IsTrue result.1 → AllZip (λ h worked. WorkerRan h.promise.lot.value worked) handles.items result.0.items }
-{
-    let mut handles = handles;
-    let mut all = room;
-    let mut whole = true;
-    while let Some(handle) = handles.pop_front() {
-        match handle.join(rt) {
-            Some(worked) => all.push_back_reserved(worked),
-            None => whole = false,
-        }
-    }
-    (all, whole)
 }

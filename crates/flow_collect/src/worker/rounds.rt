@@ -5,16 +5,16 @@ ghost use Rattle.flow_link.specs.Parcels.{is_last, records_in};
 ghost use Rattle.flow_collect.specs.Adds.{AddsAll};
 ghost use Rattle.flow_collect.specs.Lanes.{TakesInto, RoundsInto, IsEnded, IsUnused, WorkerRan};
 
-use super::{Lane, Lot, Worked};
+use super::{Lane, Lot};
 use crate::gate::Gate;
 use flow_link::{Parcel, Patience, Taken};
 use flow_table::Partial;
 use std::sync::Wait;
 
 /// Takes by turns until each link gave Last. `None` if a sender was gone before that.
-pub fn run_worker<G: Gate, R: Wait>(rt: &R, gate: &G, lot: Lot) -> Option<Worked>
+pub fn run_worker<G: Gate, R: Wait>(rt: &R, gate: &G, lot: Lot) -> Option<Lot>
     requires { IsUnused lot }
-    ensures { IfSome result (λ worked. WorkerRan lot worked) }
+    ensures { IfSome result (WorkerRan lot) }
 {
     let Lot {
         worker,
@@ -31,7 +31,11 @@ pub fn run_worker<G: Gate, R: Wait>(rt: &R, gate: &G, lot: Lot) -> Option<Worked
             return None;
         }
         if all_ended(&lanes) {
-            return Some(Worked { lanes, partial });
+            return Some(Lot {
+                worker,
+                lanes,
+                partial,
+            });
         }
         rest(rt, &mut patience, round.taken.saturating_sub(taken));
         taken = round.taken;

@@ -17,7 +17,7 @@ use worked_examples::text_of;
 /// A wait gives up after so many turns.
 const TURNS: u32 = 1_000_000;
 
-/// Waits until the number is at least so large. False if that didn't come.
+// Waits until the number is at least so large. False if that didn't come.
 fn wait_for(number: &AtomicU64, least: u64) -> bool {
     for _ in 0..TURNS {
         if number.load(Ordering::SeqCst) >= least {
@@ -28,7 +28,7 @@ fn wait_for(number: &AtomicU64, least: u64) -> bool {
     false
 }
 
-/// Raises a number.
+// Raises a number.
 fn raise(number: &AtomicU64, to: u64) {
     for _ in 0..TURNS {
         let now = number.load(Ordering::SeqCst);
@@ -42,7 +42,7 @@ fn raise(number: &AtomicU64, to: u64) {
     }
 }
 
-/// What was collected by source address, with so many workers and room for so many parcels in a link.
+// What was collected by source address, with so many workers and room for so many parcels in a link.
 fn collected<S: Source + Send + Drop, G: Gate + Sync, R: Threads + Wait + Sync>(
     rt: &R,
     alloc: Global,
@@ -91,9 +91,9 @@ impl Gate for Meeting {
     }
 }
 
-/// Both sessions and both workers run at the same time.
+// Both sessions and both workers run at the same time.
 #[test]
-fn all_threads_at_once(rt: HostRuntime) -> Result<(), Fail> {
+fn all_threads_run_at_once(rt: HostRuntime) -> Result<(), Fail> {
     let alloc: Global = rt.alloc();
     let sources = sources_of(alloc, &[&[FIVE_FLOWS], &[FIVE_FLOWS]])?;
     let gate = Meeting {
@@ -133,8 +133,8 @@ impl Gate for Holding {
     }
 }
 
-/// A full link holds its session back: with room for two parcels the third isn't sent before one is
-/// taken.
+// A full link holds its session back: with room for two parcels the third isn't sent before one is
+// taken.
 #[test]
 fn full_link_holds_its_session_back(rt: HostRuntime) -> Result<(), Fail> {
     let alloc: Global = rt.alloc();
@@ -164,7 +164,7 @@ fn new_noting() -> Noting {
 }
 
 impl Noting {
-    /// Waits until both workers took a parcel. False if they didn't.
+    // Waits until both workers took a parcel. False if they didn't.
     fn both_took(&self) -> bool {
         wait_for(&self.taken[0], 1) && wait_for(&self.taken[1], 1)
     }
@@ -206,8 +206,8 @@ impl<'a> Read for WaitingReader<'a> {
     }
 }
 
-/// Both sessions decode while their workers collect: the second message of each is read only once
-/// the records of the first were taken.
+// Both sessions decode while their workers collect: the second message of each is read only once
+// the records of the first were taken.
 #[test]
 fn decoding_goes_on_while_records_are_collected(rt: HostRuntime) -> Result<(), Fail> {
     let alloc: Global = rt.alloc();
@@ -228,9 +228,9 @@ fn decoding_goes_on_while_records_are_collected(rt: HostRuntime) -> Result<(), F
     Ok(())
 }
 
-/// Sessions go to the workers by turns: the first and the third, of two records each, to the first
-/// worker, and the second, of one, to the other. The last call of a worker comes before it takes its
-/// last parcel.
+// Sessions go to the workers by turns: the first and the third, of two records each, to the first
+// worker, and the second, of one, to the other. The last call of a worker comes before it takes its
+// last parcel.
 #[test]
 fn sessions_go_to_workers_by_turns(rt: HostRuntime) -> Result<(), Fail> {
     let alloc: Global = rt.alloc();

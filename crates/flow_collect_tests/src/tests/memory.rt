@@ -1,5 +1,5 @@
-//! What is answered where memory runs out, on one thread and in threads: `tests/refusals` refuses each
-//! allocation of these calls in turn.
+//! What is answered where memory runs out, on one thread and in threads: `tests/gate/refusals`
+//! refuses each allocation of these calls in turn.
 
 use super::texts::{by_source, told};
 use flow_collect::{CollectFault, OpenGate, Pool, collect, collect_serial};
@@ -13,7 +13,7 @@ use worked_examples::flows::FIVE_FLOWS;
 /// The number of a session's fault where memory ran out in it.
 const OUT_OF_MEMORY: u8 = 12;
 
-/// A plan, and two sources of five flows each, unless memory runs out.
+// A plan, and two sources of five flows each, unless memory runs out.
 fn prepared(alloc: Global) -> Option<(Plan, Vec<FromReader<&'static [u8]>>)> {
     let plan = by_source(alloc).ok()?;
     let mut sources = Vec::new(alloc);
@@ -23,9 +23,9 @@ fn prepared(alloc: Global) -> Option<(Plan, Vec<FromReader<&'static [u8]>>)> {
     Some((plan, sources))
 }
 
-/// That the reports are whole, or that memory ran out in a session and nothing of its message came,
-/// and that the table has what was received: three octets a record on the average. Answers `right` if all
-/// came, and else `less`.
+// That the reports are whole, or that memory ran out in a session and nothing of its message came,
+// and that the table has what was received: three octets a record on the average. Answers `right` if all
+// came, and else `less`.
 fn assert_holds(rt: &impl Abort, sessions: &[SessionReport], table: &Table) -> &'static str {
     let mut delivered = 0u64;
     for report in sessions {

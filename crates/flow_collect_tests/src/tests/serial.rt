@@ -10,7 +10,7 @@ use worked_examples::faults::VERSION_9;
 use worked_examples::flows::*;
 use worked_examples::text_of;
 
-/// What was collected of sources, by source address.
+// What was collected of sources, by source address.
 fn collected(
     alloc: Global,
     sources: Vec<ScriptSource>,
@@ -18,14 +18,14 @@ fn collected(
     Ok(collect_serial(alloc, sources, &by_source(alloc)?))
 }
 
-/// That each session tells these messages, records and fault, and each source came back.
+// That each session tells these messages, records and fault, and each source came back.
 fn assert_tells<S>(rt: &impl Abort, run: &Serial<S>, reports: &[(u64, u64, Option<u8>)]) {
     assert_eq!(rt; run.sources.len(), reports.len());
     assert_told(rt, &run.sessions, reports);
 }
 
 #[test]
-fn examples(rt: HostRuntime) -> Result<(), Fail> {
+fn collects_examples_on_one_thread(rt: HostRuntime) -> Result<(), Fail> {
     let alloc: Global = rt.alloc();
     for example in [
         TWO_SESSIONS_OF_FIVE,
@@ -42,7 +42,7 @@ fn examples(rt: HostRuntime) -> Result<(), Fail> {
 }
 
 #[test]
-fn a_read_that_fails(rt: HostRuntime) -> Result<(), Fail> {
+fn a_failed_read_ends_its_session(rt: HostRuntime) -> Result<(), Fail> {
     let alloc: Global = rt.alloc();
     for (interrupt_at, fail_at, failed, lines) in [
         (None, 80, (1, 1, Some(15)), "0,59999,192.0.2.1,7500,5;"),
@@ -63,7 +63,7 @@ fn a_read_that_fails(rt: HostRuntime) -> Result<(), Fail> {
 }
 
 #[test]
-fn sum_too_large(rt: HostRuntime) -> Result<(), Fail> {
+fn refuses_a_sum_too_large(rt: HostRuntime) -> Result<(), Fail> {
     let alloc: Global = rt.alloc();
     let fault = collected(alloc, sources_of(alloc, SUM_TOO_LARGE)?)?.err();
     assert_eq!(rt; fault, Some(CollectFault::SumTooLarge));
@@ -71,7 +71,7 @@ fn sum_too_large(rt: HostRuntime) -> Result<(), Fail> {
 }
 
 #[test]
-fn how_many_sources(rt: HostRuntime) -> Result<(), Fail> {
+fn takes_1_to_64_sources(rt: HostRuntime) -> Result<(), Fail> {
     let alloc: Global = rt.alloc();
     for (count, fault) in [
         (0, Some(CollectFault::Sessions)),
@@ -96,7 +96,7 @@ fn how_many_sources(rt: HostRuntime) -> Result<(), Fail> {
     Ok(())
 }
 
-/// How many octets a source still gives, in nine reads of 16 octets.
+// How many octets a source still gives, in nine reads of 16 octets.
 fn left_in(source: &mut ScriptSource) -> usize {
     let mut buffer = [0; 16];
     let mut count = 0usize;
@@ -106,7 +106,7 @@ fn left_in(source: &mut ScriptSource) -> usize {
     count
 }
 
-/// The sources come back in order, each with what it still holds.
+// The sources come back in order, each with what it still holds.
 #[test]
 fn sources_come_back(rt: HostRuntime) -> Result<(), Fail> {
     let alloc: Global = rt.alloc();
@@ -122,9 +122,9 @@ fn sources_come_back(rt: HostRuntime) -> Result<(), Fail> {
     Ok(())
 }
 
-/// A reader over memory is a source, too.
+// A reader over memory is a source, too.
 #[test]
-fn over_readers(rt: HostRuntime) -> Result<(), Fail> {
+fn collects_from_readers(rt: HostRuntime) -> Result<(), Fail> {
     let alloc: Global = rt.alloc();
     let mut sources = Vec::new(alloc);
     sources.push(FromReader::new(FIVE_FLOWS))?;
@@ -136,7 +136,7 @@ fn over_readers(rt: HostRuntime) -> Result<(), Fail> {
 }
 
 #[test]
-fn numbers_and_names(rt: HostRuntime) {
+fn faults_have_numbers_and_names(rt: HostRuntime) {
     for (fault, number, name) in [
         (CollectFault::Workers, 1, "Workers"),
         (CollectFault::Sessions, 2, "Sessions"),

@@ -18,7 +18,7 @@ const FLOW_OF_ONE: [u8; 28] = [
     0, 0, 0, 0, 0, 0, 3, 232, 0, 0, 0, 0, 0, 0, 7, 208, 192, 0, 2, 1, 0, 0, 0, 0, 0, 0, 0, 1,
 ];
 
-/// So many sources of five flows each.
+// So many sources of five flows each.
 fn fives(alloc: Global, count: usize) -> Result<Vec<ScriptSource>, Fail> {
     let mut sources = Vec::new(alloc);
     for _ in 0..count {
@@ -27,7 +27,7 @@ fn fives(alloc: Global, count: usize) -> Result<Vec<ScriptSource>, Fail> {
     Ok(sources)
 }
 
-/// What was collected of sources, by source address.
+// What was collected of sources, by source address.
 fn collected<R: Threads + Wait + Sync>(
     rt: &R,
     alloc: Global,
@@ -40,7 +40,7 @@ fn collected<R: Threads + Wait + Sync>(
     Ok(collect(rt, alloc, sources, &plan, pool, &OpenGate))
 }
 
-/// That each session tells these messages, records and fault, and that nothing is left in its link.
+// That each session tells these messages, records and fault, and that nothing is left in its link.
 fn assert_tells<S>(rt: &impl Abort, run: &Collected<S>, reports: &[(u64, u64, Option<u8>)]) {
     assert_eq!(rt;
         (run.sources.len(), run.links.len()),
@@ -53,7 +53,7 @@ fn assert_tells<S>(rt: &impl Abort, run: &Collected<S>, reports: &[(u64, u64, Op
 }
 
 #[test]
-fn examples(rt: HostRuntime) -> Result<(), Fail> {
+fn collects_examples_in_threads(rt: HostRuntime) -> Result<(), Fail> {
     let alloc: Global = rt.alloc();
     for (example, workers, capacity) in [
         (TWO_SESSIONS_OF_FIVE, 2, 1),
@@ -72,7 +72,7 @@ fn examples(rt: HostRuntime) -> Result<(), Fail> {
 }
 
 #[test]
-fn sum_too_large(rt: HostRuntime) -> Result<(), Fail> {
+fn refuses_a_sum_too_large(rt: HostRuntime) -> Result<(), Fail> {
     let alloc: Global = rt.alloc();
     for workers in [1, 2, 4] {
         let sources = sources_of(alloc, SUM_TOO_LARGE)?;
@@ -82,9 +82,9 @@ fn sum_too_large(rt: HostRuntime) -> Result<(), Fail> {
     Ok(())
 }
 
-/// A worker whose table has failed goes on taking, so that its session isn't stuck at a full link.
+// A worker whose table has failed goes on taking, so that its session isn't stuck at a full link.
 #[test]
-fn records_after_a_sum_too_large(rt: HostRuntime) -> Result<(), Fail> {
+fn takes_records_after_a_sum_too_large(rt: HostRuntime) -> Result<(), Fail> {
     let alloc: Global = rt.alloc();
     let mut text = text_of(alloc, &[LARGEST_FLOW, &header(300, 1, 1), &[1, 0, 1, 28]])?;
     for _ in 0..10 {
@@ -100,7 +100,7 @@ fn records_after_a_sum_too_large(rt: HostRuntime) -> Result<(), Fail> {
 }
 
 #[test]
-fn any_capacity_and_any_workers(rt: HostRuntime) -> Result<(), Fail> {
+fn any_capacity_and_any_workers_give_one_table(rt: HostRuntime) -> Result<(), Fail> {
     let alloc: Global = rt.alloc();
     for capacity in [1, 2, 5, 6, 65_536] {
         for workers in [1, 2, 16] {
@@ -113,7 +113,7 @@ fn any_capacity_and_any_workers(rt: HostRuntime) -> Result<(), Fail> {
 }
 
 #[test]
-fn most_sessions_on_most_workers(rt: HostRuntime) -> Result<(), Fail> {
+fn collects_most_sessions_on_most_workers(rt: HostRuntime) -> Result<(), Fail> {
     let alloc: Global = rt.alloc();
     let run = collected(&rt, alloc, fives(alloc, 64)?, 16, 1)??;
     assert_lines(&rt, alloc, &run.table, "0,59999,192.0.2.1,960,320;")?;
@@ -123,7 +123,7 @@ fn most_sessions_on_most_workers(rt: HostRuntime) -> Result<(), Fail> {
 }
 
 #[test]
-fn a_source_that_fails_at_its_first_read(rt: HostRuntime) -> Result<(), Fail> {
+fn a_source_may_fail_at_its_first_read(rt: HostRuntime) -> Result<(), Fail> {
     let alloc: Global = rt.alloc();
     let text = text_of(alloc, &[FIVE_FLOWS])?;
     let mut sources = fives(alloc, 1)?;
@@ -147,7 +147,7 @@ impl<'a> Read for Counting<'a> {
     }
 }
 
-/// The fault of these arguments, with so many sources that count their reads.
+// The fault of these arguments, with so many sources that count their reads.
 fn fault_of<R: Threads + Wait + Sync>(
     rt: &R,
     alloc: Global,
@@ -165,7 +165,7 @@ fn fault_of<R: Threads + Wait + Sync>(
 }
 
 #[test]
-fn faults_of_arguments(rt: HostRuntime) -> Result<(), Fail> {
+fn refuses_arguments_before_it_reads(rt: HostRuntime) -> Result<(), Fail> {
     let alloc: Global = rt.alloc();
     let reads = AtomicU64::new(0);
     for (arguments, fault) in [

@@ -1,5 +1,5 @@
-//! What is answered where memory runs out: `tests/refusals` refuses each allocation of these calls in
-//! turn.
+//! What is answered where memory runs out: `tests/gate/refusals` refuses each allocation of
+//! these calls in turn.
 
 use super::tables::{TIME, by_source, table_of_flows};
 use flow_export::{ExportFault, ipfix_bytes, write_csv, write_ipfix, write_json};
@@ -44,7 +44,7 @@ impl Write for Expecting {
     }
 }
 
-/// That an export is right, or that memory ran out, as a word.
+// That an export is right, or that memory ran out, as a word.
 fn judged(rt: &impl Abort, fault: Option<ExportFault>, is_right: bool) -> &'static str {
     match fault {
         None => {

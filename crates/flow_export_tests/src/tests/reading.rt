@@ -3,7 +3,7 @@
 use super::tables::{TIME, by_source, table_of, table_of_flows, table_of_minutes};
 use flow_export::{ipfix_bytes, write_csv};
 use flow_table::Method;
-use ipfix_session::{FromReader, Stop, VecSink, decode_text, drive};
+use ipfix_session::{FromReader, VecSink, drive};
 use std::test::Fail;
 
 #[test]
@@ -11,10 +11,12 @@ fn one_flow_again(rt: HostRuntime) -> Result<(), Fail> {
     let plan = by_source(rt.alloc(), Method::Start, None)?;
     let table = table_of_flows(rt.alloc(), &plan, &[(1000, 2000, 1, 1500)])?;
     let bytes = ipfix_bytes(rt.alloc(), &plan, &table, TIME)?;
-    let decoded = decode_text(rt.alloc(), &bytes)?;
-    assert_eq!(rt; decoded.messages, 2);
-    assert_eq!(rt; decoded.stop, Stop::Clean);
-    let again = table_of(rt.alloc(), &plan, &decoded.records)?;
+    let mut source = FromReader::new(bytes.as_slice());
+    let mut sink = VecSink::new(rt.alloc());
+    let report = drive(rt.alloc(), &mut source, &mut sink, 1_000);
+    assert!(rt; report.fault.is_none());
+    assert_eq!(rt; report.messages, 2);
+    let again = table_of(rt.alloc(), &plan, &sink.records)?;
     let mut out = Vec::new(rt.alloc());
     write_csv(rt.alloc(), &plan, &again, &mut out)?;
     let text = "start,end,sourceIPv4Address,octetDeltaCount,flows\n0,59999,192.0.2.1,1500,1\n";

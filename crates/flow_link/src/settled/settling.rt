@@ -36,7 +36,8 @@ fn drain(consumer: &mut Consumer<Parcel>, left: &mut Vec<Parcel>, count: usize)
     requires count { length (ring.known_items consumer.old) ≡ count }
     requires room { (vec_len left.old ≡ 0) × (count ≤ vec_capacity left.old) }
     ensures left { left.new.items ≡ ring.known_items consumer.old }
-    ensures taken { ring.received consumer.new ≡ ring.received consumer.old ++ ring.known_items consumer.old }
+    ensures taken { ring.received consumer.new
+        ≡ ring.received consumer.old ++ ring.known_items consumer.old }
 {
     for _ in 0..count {
         left.push_reserved(consumer.pop_known());

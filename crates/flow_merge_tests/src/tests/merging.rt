@@ -5,7 +5,8 @@ ghost use Rattle.flow_table.specs.Fitting.{FitsPlan};
 
 use super::exports::{Line, TEMPLATE, export_of, plan_of, push_rows};
 use flow_export::{ipfix_bytes, write_csv};
-use flow_merge::{MergeFault, RowFault, merge};
+use flow_merge::{MergeFault, RowFault};
+use flow_merge_laws::merge;
 use flow_table::{Plan, Table};
 use ipfix_session::{ScriptSource, SessionFault};
 use std::alloc::Global;
@@ -15,12 +16,12 @@ use worked_examples::flows::ONE_FLOW;
 /// The most reads of an export.
 const READS: u64 = 1_000;
 
-/// The plan of the tests: by source address, in minutes.
+// The plan of the tests: by source address, in minutes.
 fn by_source(alloc: Global) -> Result<Plan, Fail> {
     plan_of(alloc, 60_000, None)
 }
 
-/// Merges exports, each read seven octets at a time.
+// Merges exports, each read seven octets at a time.
 fn merged(alloc: Global, plan: &Plan, exports: &[&[u8]]) -> Result<Result<Table, MergeFault>, Fail>
     ensures fits { IfOk result (λ merging. IfOk merging (λ table. FitsPlan plan.now table)) }
 {
@@ -31,19 +32,19 @@ fn merged(alloc: Global, plan: &Plan, exports: &[&[u8]]) -> Result<Result<Table,
     Ok(merge(alloc, plan, sources, READS))
 }
 
-/// The fault of merging exports.
+// The fault of merging exports.
 fn fault_of(alloc: Global, plan: &Plan, exports: &[&[u8]]) -> Result<Option<MergeFault>, Fail> {
     Ok(merged(alloc, plan, exports)?.err())
 }
 
-/// The export of the table of merged exports.
+// The export of the table of merged exports.
 fn exported(alloc: Global, exports: &[&[u8]]) -> Result<Vec<u8>, Fail> {
     let plan = by_source(alloc)?;
     let table = merged(alloc, &plan, exports)??;
     Ok(ipfix_bytes(alloc, &plan, &table, 1_700_000_000)?)
 }
 
-/// The table of merged exports of these rows, as CSV.
+// The table of merged exports of these rows, as CSV.
 fn csv_of(alloc: Global, exports: &[&[Line]]) -> Result<Vec<u8>, Fail> {
     let plan = by_source(alloc)?;
     let mut sources = Vec::new(alloc);
@@ -143,7 +144,7 @@ fn sums_past_the_limit(rt: HostRuntime) -> Result<(), Fail> {
     Ok(())
 }
 
-/// An export of one row, and a message with this sequence number and another row behind it.
+// An export of one row, and a message with this sequence number and another row behind it.
 fn with_more(alloc: Global, sequence: u32, row: Line) -> Result<Vec<u8>, Fail> {
     let mut text = export_of(alloc, &[(0, 1, 1500, 1)])?;
     push_rows(&mut text, sequence, &[row])?;

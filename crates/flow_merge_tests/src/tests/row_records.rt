@@ -5,7 +5,7 @@ use super::rows::{key, record_of};
 use flow_merge::read_row;
 use flow_table::{Method, Plan, Row};
 use ipfix_elements::Cell;
-use ipfix_session::{Stop, decode_text};
+use ipfix_session::{FromReader, VecSink, drive};
 use ipfix_wire::ElementId;
 use std::test::Fail;
 use worked_examples::values::{EXPORT_ROW, EXPORT_TEMPLATE};
@@ -14,11 +14,13 @@ use worked_examples::values::{EXPORT_ROW, EXPORT_TEMPLATE};
 fn export_of_one_flow(rt: HostRuntime) -> Result<(), Fail> {
     let mut octets = EXPORT_TEMPLATE.to_vec(rt.alloc())?;
     octets.extend_from_slice(EXPORT_ROW)?;
-    let decoded = decode_text(rt.alloc(), &octets)?;
-    assert_eq!(rt; decoded.stop, Stop::Clean);
-    assert_eq!(rt; decoded.records.len(), 1);
+    let mut source = FromReader::new(octets.as_slice());
+    let mut sink = VecSink::new(rt.alloc());
+    let report = drive(rt.alloc(), &mut source, &mut sink, 1_000);
+    assert!(rt; report.fault.is_none());
+    assert_eq!(rt; sink.records.len(), 1);
     let plan = plan_of(rt.alloc(), 60_000, None)?;
-    for data_record in &decoded.records {
+    for data_record in &sink.records {
         let row = read_row(rt.alloc(), &plan, data_record)?;
         assert_eq!(rt; (row.interval, row.flows), (0, 1));
         assert_eq!(rt;

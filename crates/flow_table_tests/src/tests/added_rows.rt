@@ -5,7 +5,7 @@ use flow_table::{Method, Plan, Row, RowTotals, TableFault};
 use std::alloc::Global;
 use std::test::Fail;
 
-/// The totals of the rows of these lists' tables, or why there are none.
+// The totals of the rows of these lists' tables, or why there are none.
 fn totals_of(
     alloc: Global,
     plan: &Plan,
@@ -28,13 +28,13 @@ fn add_all(totals: &mut RowTotals, rows: Vec<Row>) -> Result<(), TableFault> {
     Ok(())
 }
 
-/// The added rows of these lists' tables, as text.
+// The added rows of these lists' tables, as text.
 fn sums_of(alloc: Global, plan: &Plan, lists: &[&[Flow]]) -> Result<String, Fail> {
     text_of(alloc, &totals_of(alloc, plan, lists)??.finish()?)
 }
 
 #[test]
-fn rows_of_two_tables(rt: HostRuntime) -> Result<(), Fail> {
+fn adds_up_rows_of_two_tables(rt: HostRuntime) -> Result<(), Fail> {
     let plan = by_source(rt.alloc(), Method::Uniform, None, 4096)?;
     let all = [
         (1000, 2000, 1, 5),
@@ -51,7 +51,7 @@ fn rows_of_two_tables(rt: HostRuntime) -> Result<(), Fail> {
 }
 
 #[test]
-fn sums_at_and_past_the_limit(rt: HostRuntime) -> Result<(), Fail> {
+fn adds_up_to_the_limit_and_refuses_more(rt: HostRuntime) -> Result<(), Fail> {
     let plan = by_source(rt.alloc(), Method::Start, None, 4096)?;
     let largest = [(1000, 2000, 1, u64::MAX)];
     let later = [(61_000, 62_000, 1, 1)];
@@ -67,7 +67,7 @@ fn sums_at_and_past_the_limit(rt: HostRuntime) -> Result<(), Fail> {
 }
 
 #[test]
-fn no_rows(rt: HostRuntime) -> Result<(), Fail> {
+fn no_rows_add_up_to_none(rt: HostRuntime) -> Result<(), Fail> {
     let totals = RowTotals::new(rt.alloc());
     assert_eq!(rt; totals.finish()?.len(), 0);
     Ok(())

@@ -1,5 +1,5 @@
-//! What is answered where memory runs out: `tests/refusals` refuses each allocation of these calls in
-//! turn.
+//! What is answered where memory runs out: `tests/gate/refusals` refuses each allocation of
+//! these calls in turn.
 
 use super::records::flow;
 use flow_table::{Key, Method, Partial, Plan, PlanFault, Table, TableFault};
@@ -25,7 +25,7 @@ fn by_source(alloc: Global) -> Result<Plan, PlanFault> {
     )
 }
 
-/// The table of two records, merged with that of two others. Where a call is refused, all after it are.
+// The table of two records, merged with that of two others. Where a call is refused, all after it are.
 fn table_of_four(
     rt: &impl Abort,
     alloc: Global,
@@ -46,7 +46,7 @@ fn table_of_four(
     table
 }
 
-/// That a row is of 192.0.2.1, with this sum and number of flows.
+// That a row is of 192.0.2.1, with this sum and number of flows.
 fn assert_row(rt: &impl Abort, table: &Table, at: usize, sum: u64, flows: u64) {
     let Some(row) = table.rows.get(at) else {
         panic!(rt; "there is no row {at}");

@@ -64,7 +64,7 @@ fn compares_by_value(rt: HostRuntime) -> Result<(), Fail> {
 }
 
 #[test]
-fn lengths_and_spreads(rt: HostRuntime) {
+fn refuses_lengths_and_spreads(rt: HostRuntime) {
     for (length, max_spread, want) in [
         (0, 4096, Some(PlanFault::Length)),
         (60_000, 0, Some(PlanFault::Spread)),
@@ -95,7 +95,7 @@ fn enterprise_key(number: u16) -> Key {
 }
 
 #[test]
-fn key_faults(rt: HostRuntime) {
+fn refuses_keys(rt: HostRuntime) {
     let nine = [4, 5, 6, 7, 8, 9, 10, 11, 12].map(key);
     let cases: [(&[Key], Option<PlanFault>); 9] = [
         (&nine, Some(PlanFault::KeyCount)),
@@ -114,7 +114,7 @@ fn key_faults(rt: HostRuntime) {
 }
 
 #[test]
-fn counter_faults(rt: HostRuntime) {
+fn refuses_counters(rt: HostRuntime) {
     let five = [1, 2, 3, 23, 24].map(ElementId::iana);
     let cases: [(&[ElementId], Option<PlanFault>); 6] = [
         (&[], Some(PlanFault::CounterCount)),
@@ -141,7 +141,7 @@ fn counter_faults(rt: HostRuntime) {
 
 // A prefix comes after all kinds, and before the counters.
 #[test]
-fn prefix_faults(rt: HostRuntime) {
+fn refuses_prefixes(rt: HostRuntime) {
     let cases: [(&[Key], Option<PlanFault>); 11] = [
         (&[prefix_key(8, 33)], Some(PlanFault::Prefix)),
         (&[prefix_key(7, 8)], Some(PlanFault::Prefix)),
@@ -166,7 +166,7 @@ fn prefix_faults(rt: HostRuntime) {
 }
 
 #[test]
-fn exported_elements(rt: HostRuntime) {
+fn a_prefix_is_exported_as_its_own_element(rt: HostRuntime) {
     assert_eq!(rt; prefix_key(8, 24).exported_element(), ElementId::iana(44));
     assert_eq!(rt; prefix_key(12, 24).exported_element(), ElementId::iana(45));
     assert_eq!(rt; key(8).exported_element(), ElementId::iana(8));
@@ -175,7 +175,7 @@ fn exported_elements(rt: HostRuntime) {
 /// A flow's start and how long it lasts, in milliseconds, and its value.
 type Flow = (u32, u32, u64);
 
-/// The shares that the first four intervals and the last one have of a flow's value.
+// The shares that the first four intervals and the last one have of a flow's value.
 fn shares_of(alloc: Global, method: Method, flow: Flow) -> Result<[u64; 5], Fail> {
     let plan = by_source(alloc, method)?;
     let (start, length, value) = flow;
@@ -191,7 +191,7 @@ fn shares_of(alloc: Global, method: Method, flow: Flow) -> Result<[u64; 5], Fail
 }
 
 #[test]
-fn shares(rt: HostRuntime) -> Result<(), Fail> {
+fn shares_follow_the_method(rt: HostRuntime) -> Result<(), Fail> {
     let two = (59_000, 2000, 7);
     let three = (0, 120_000, 1);
     let most = (0, 119_999, u64::MAX);
@@ -214,7 +214,7 @@ fn shares(rt: HostRuntime) -> Result<(), Fail> {
 }
 
 #[test]
-fn numbers_and_names(rt: HostRuntime) {
+fn plan_faults_have_numbers_and_names(rt: HostRuntime) {
     for (fault, number, name) in [
         (PlanFault::Length, 1, "Length"),
         (PlanFault::Spread, 2, "Spread"),

@@ -32,7 +32,7 @@ const BEFORE_MINUTE: &[u8] = &[0, 0, 0, 0, 0, 0, 230, 120];
 const AFTER_MINUTE: &[u8] = &[0, 0, 0, 0, 0, 0, 238, 72];
 
 #[test]
-fn record_classes(rt: HostRuntime) -> Result<(), Fail> {
+fn sorts_records_into_classes(rt: HostRuntime) -> Result<(), Fail> {
     let plan = by_source(rt.alloc(), Method::Start, None, 4096)?;
     let cases: [(&str, u16, &[(u16, &[u8])], Class); 9] = [
         (
@@ -103,7 +103,7 @@ fn record_classes(rt: HostRuntime) -> Result<(), Fail> {
 }
 
 #[test]
-fn too_long(rt: HostRuntime) -> Result<(), Fail> {
+fn a_flow_is_too_long_past_the_spread(rt: HostRuntime) -> Result<(), Fail> {
     let flow = record_of(
         rt.alloc(),
         0,
@@ -130,14 +130,14 @@ fn too_long(rt: HostRuntime) -> Result<(), Fail> {
 }
 
 #[test]
-fn unkeyed_before_too_long(rt: HostRuntime) -> Result<(), Fail> {
+fn unkeyed_comes_before_too_long(rt: HostRuntime) -> Result<(), Fail> {
     let plan = by_source(rt.alloc(), Method::Uniform, None, 2)?;
     let unkeyed = record_of(rt.alloc(), 0, &[(152, ZERO), (153, TWO_MINUTES)])?;
     assert_eq!(rt; class_of(rt.alloc(), &plan, &unkeyed)?, Class::Unkeyed);
     Ok(())
 }
 
-/// The start, or the end, in milliseconds: the interval of a table whose intervals have one.
+// The start, or the end, in milliseconds: the interval of a table whose intervals have one.
 fn time_of(alloc: Global, method: Method, data_record: &DataRecord) -> Result<Option<u64>, Fail> {
     let plan = Plan::new(alloc, 1, method, &[], &[ElementId::iana(1)], 4096)?;
     let table = table_of_one(alloc, &plan, data_record)?;
@@ -145,7 +145,7 @@ fn time_of(alloc: Global, method: Method, data_record: &DataRecord) -> Result<Op
 }
 
 #[test]
-fn times(rt: HostRuntime) -> Result<(), Fail> {
+fn reads_times(rt: HostRuntime) -> Result<(), Fail> {
     let cases: [(&str, &[(u16, &[u8])], Option<u64>, Option<u64>); 6] = [
         (
             "milliseconds before seconds",
@@ -210,7 +210,7 @@ fn times(rt: HostRuntime) -> Result<(), Fail> {
     Ok(())
 }
 
-/// The interval and the key of the one row of a record's table.
+// The interval and the key of the one row of a record's table.
 fn row_of(alloc: Global, plan: &Plan, flow: &DataRecord) -> Result<Option<(u64, Cell)>, Fail> {
     let table = table_of_one(alloc, plan, flow)?;
     let [row] = table.rows.as_slice() else {
@@ -223,7 +223,7 @@ fn row_of(alloc: Global, plan: &Plan, flow: &DataRecord) -> Result<Option<(u64, 
 }
 
 #[test]
-fn keys(rt: HostRuntime) -> Result<(), Fail> {
+fn reads_keys(rt: HostRuntime) -> Result<(), Fail> {
     let flow = record_of(
         rt.alloc(),
         0,
@@ -251,7 +251,7 @@ fn keys(rt: HostRuntime) -> Result<(), Fail> {
     Ok(())
 }
 
-/// The sum of the octets of one record.
+// The sum of the octets of one record.
 fn sum_of(alloc: Global, data_record: &DataRecord) -> Result<Option<u64>, Fail> {
     let plan = Plan::new(
         alloc,
@@ -266,7 +266,7 @@ fn sum_of(alloc: Global, data_record: &DataRecord) -> Result<Option<u64>, Fail> 
 }
 
 #[test]
-fn counters(rt: HostRuntime) -> Result<(), Fail> {
+fn reads_counters(rt: HostRuntime) -> Result<(), Fail> {
     let cases: [(&[(u16, &[u8])], u64); 5] = [
         (&[(152, ZERO), (153, ZERO), (1, &[0, 0, 5, 220])], 1500),
         (&[(152, ZERO), (153, ZERO), (1, &[9]), (1, &[7])], 9),

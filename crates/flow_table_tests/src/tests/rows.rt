@@ -17,7 +17,7 @@ const FIVE: [Flow; 5] = [
 ];
 
 #[test]
-fn five_and_five_records(rt: HostRuntime) -> Result<(), Fail> {
+fn merging_adds_five_and_five_records(rt: HostRuntime) -> Result<(), Fail> {
     let plan = by_source(rt.alloc(), Method::Start, None, 4096)?;
     let (rows, used) = merged(rt.alloc(), &plan, &FIVE, &FIVE)?;
     assert_eq!(rt; (rows.as_str(), used), ("0:192.0.2.1=30,10;", 10));
@@ -25,7 +25,7 @@ fn five_and_five_records(rt: HostRuntime) -> Result<(), Fail> {
 }
 
 #[test]
-fn times_in_seconds(rt: HostRuntime) -> Result<(), Fail> {
+fn reads_times_in_seconds(rt: HostRuntime) -> Result<(), Fail> {
     let plan = by_source(rt.alloc(), Method::Start, None, 4096)?;
     let data_record = record_of(
         rt.alloc(),
@@ -46,7 +46,7 @@ fn times_in_seconds(rt: HostRuntime) -> Result<(), Fail> {
 }
 
 #[test]
-fn one_record_under_a_prefix(rt: HostRuntime) -> Result<(), Fail> {
+fn a_prefix_cuts_the_key(rt: HostRuntime) -> Result<(), Fail> {
     let plan = by_source(rt.alloc(), Method::Start, Some(24), 4096)?;
     assert_eq!(rt;
         table_of(rt.alloc(), &plan, &[(1000, 2000, 1, 1500)])?.as_str(),
@@ -56,7 +56,7 @@ fn one_record_under_a_prefix(rt: HostRuntime) -> Result<(), Fail> {
 }
 
 #[test]
-fn too_long_to_be_spread(rt: HostRuntime) -> Result<(), Fail> {
+fn counts_flows_too_long_to_be_spread(rt: HostRuntime) -> Result<(), Fail> {
     for method in [Method::Uniform, Method::Proportional] {
         let plan = by_source(rt.alloc(), method, None, 2)?;
         let counts = counts_of(rt.alloc(), &plan, &[(0, 120_000, 1, 1)])?;

@@ -3,7 +3,7 @@
 use flow_table::TableFault;
 
 #[test]
-fn numbers_and_names(rt: HostRuntime) {
+fn table_faults_have_numbers_and_names(rt: HostRuntime) {
     for (fault, number, name) in [
         (TableFault::OutOfMemory, 1, "OutOfMemory"),
         (TableFault::SumTooLarge, 2, "SumTooLarge"),

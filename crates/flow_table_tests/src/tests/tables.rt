@@ -9,7 +9,7 @@ use std::alloc::Global;
 use std::test::Fail;
 
 #[test]
-fn one_flow_over_two_intervals(rt: HostRuntime) -> Result<(), Fail> {
+fn shares_one_flow_over_two_intervals(rt: HostRuntime) -> Result<(), Fail> {
     let flows = [(59_000, 61_000, 1, 7)];
     let cases = [
         (Method::Start, "0:192.0.2.1=7,1;"),
@@ -26,7 +26,7 @@ fn one_flow_over_two_intervals(rt: HostRuntime) -> Result<(), Fail> {
 }
 
 #[test]
-fn ends_and_zero_shares(rt: HostRuntime) -> Result<(), Fail> {
+fn keeps_intervals_with_a_share_of_0(rt: HostRuntime) -> Result<(), Fail> {
     let cases = [
         (Method::End, (0, 60_000, 1, 5), "1:192.0.2.1=5,1;"),
         (
@@ -53,7 +53,7 @@ fn ends_and_zero_shares(rt: HostRuntime) -> Result<(), Fail> {
 }
 
 #[test]
-fn backward_flow(rt: HostRuntime) -> Result<(), Fail> {
+fn counts_a_backward_flow(rt: HostRuntime) -> Result<(), Fail> {
     let plan = by_source(rt.alloc(), Method::End, None, 4096)?;
     let counts = counts_of(rt.alloc(), &plan, &[(2000, 1000, 1, 5)])?;
     assert_eq!(rt; counts, (0, 0, 1, 0));
@@ -70,7 +70,7 @@ const A_MINUTE_LATER: Flow = (61_000, 62_000, 1, 1);
 const TOO_LARGE: Option<TableFault> = Some(TableFault::SumTooLarge);
 
 #[test]
-fn sum_past_the_limit_by_merging(rt: HostRuntime) -> Result<(), Fail> {
+fn merging_refuses_a_sum_past_the_limit(rt: HostRuntime) -> Result<(), Fail> {
     let plan = by_source(rt.alloc(), Method::Start, None, 4096)?;
     let other = flow(rt.alloc(), 1000, 2000, 2, 1)?;
     let mut left = partial_of(rt.alloc(), &plan, &[LARGEST])?;
@@ -81,7 +81,7 @@ fn sum_past_the_limit_by_merging(rt: HostRuntime) -> Result<(), Fail> {
 }
 
 #[test]
-fn sum_past_the_limit_by_adding(rt: HostRuntime) -> Result<(), Fail> {
+fn adding_refuses_a_sum_past_the_limit(rt: HostRuntime) -> Result<(), Fail> {
     let plan = by_source(rt.alloc(), Method::Start, None, 4096)?;
     let same_key = flow(rt.alloc(), 1000, 2000, 1, 1)?;
     let other_key = flow(rt.alloc(), 1000, 2000, 2, 1)?;
@@ -95,7 +95,7 @@ fn sum_past_the_limit_by_adding(rt: HostRuntime) -> Result<(), Fail> {
 }
 
 #[test]
-fn sum_at_the_limit(rt: HostRuntime) -> Result<(), Fail> {
+fn takes_a_sum_at_the_limit(rt: HostRuntime) -> Result<(), Fail> {
     let plan = by_source(rt.alloc(), Method::Start, None, 4096)?;
     let (rows, _) = merged(rt.alloc(), &plan, &[LARGEST], &[A_MINUTE_LATER])?;
     let text = "0:192.0.2.1=18446744073709551615,1;1:192.0.2.1=1,1;";
@@ -104,7 +104,7 @@ fn sum_at_the_limit(rt: HostRuntime) -> Result<(), Fail> {
 }
 
 #[test]
-fn one_flow_twice(rt: HostRuntime) -> Result<(), Fail> {
+fn counts_one_flow_twice(rt: HostRuntime) -> Result<(), Fail> {
     let plan = by_source(rt.alloc(), Method::Start, None, 4096)?;
     let flows = [(1000, 2000, 1, 1500)];
     let (rows, used) = merged(rt.alloc(), &plan, &flows, &flows)?;
@@ -113,7 +113,7 @@ fn one_flow_twice(rt: HostRuntime) -> Result<(), Fail> {
 }
 
 #[test]
-fn prefix_keys(rt: HostRuntime) -> Result<(), Fail> {
+fn prefixes_join_addresses(rt: HostRuntime) -> Result<(), Fail> {
     let flows = [(1000, 2000, 1, 1500), (1000, 2000, 200, 500)];
     let cases = [
         (Some(24), "0:192.0.2.0=2000,2;"),
@@ -145,8 +145,8 @@ fn rows_ascend(rt: HostRuntime) -> Result<(), Fail> {
     Ok(())
 }
 
-/// A flow of one millisecond with these octets as sourceIPv4Address, sourceTransportPort and
-/// protocolIdentifier.
+// A flow of one millisecond with these octets as sourceIPv4Address, sourceTransportPort and
+// protocolIdentifier.
 fn keyed(alloc: Global, address: [u8; 4], port: u16, protocol: u8) -> Result<DataRecord, Fail> {
     let start = 1000u64.to_be_bytes();
     record_of(
@@ -162,7 +162,7 @@ fn keyed(alloc: Global, address: [u8; 4], port: u16, protocol: u8) -> Result<Dat
     )
 }
 
-/// A plan with intervals of a minute and these elements as keys.
+// A plan with intervals of a minute and these elements as keys.
 fn plan_by(alloc: Global, keys: &[u16]) -> Result<Plan, Fail> {
     let mut elements = Vec::new(alloc);
     for number in keys {
@@ -175,7 +175,7 @@ fn plan_by(alloc: Global, keys: &[u16]) -> Result<Plan, Fail> {
     Ok(Plan::new(alloc, 60_000, Method::Start, &elements, &counters, 4096)?)
 }
 
-/// The table of flows under these keys. The last octet of a flow's address is its protocol.
+// The table of flows under these keys. The last octet of a flow's address is its protocol.
 fn keyed_table(alloc: Global, keys: &[u16], flows: &[([u8; 4], u16)]) -> Result<Table, Fail> {
     let plan = plan_by(alloc, keys)?;
     let mut partial = Partial::new(alloc, &plan)?;
@@ -185,7 +185,7 @@ fn keyed_table(alloc: Global, keys: &[u16], flows: &[([u8; 4], u16)]) -> Result<
     Ok(partial.finish()?)
 }
 
-/// The order of these flows in the table under these keys, by the last of them.
+// The order of these flows in the table under these keys, by the last of them.
 fn order_of(alloc: Global, keys: &[u16], flows: &[([u8; 4], u16)]) -> Result<Vec<Cell>, Fail> {
     let mut order = Vec::new(alloc);
     for row in &keyed_table(alloc, keys, flows)?.rows {

@@ -11,7 +11,7 @@ use worked_examples::flows::ONE_FLOW;
 use worked_examples::templates::VARIABLE_LENGTHS;
 use worked_examples::text_of;
 
-/// That the front of a message is refused.
+// That the front of a message is refused.
 fn assert_cut(rt: &impl Abort, alloc: Global, message: &[u8]) {
     for kept in 0..message.len() {
         assert_front(rt, alloc, &message[..kept]);
@@ -28,14 +28,14 @@ fn assert_front(rt: &impl Abort, alloc: Global, front: &[u8]) {
     assert_eq!(rt; run.records().len(), 0);
 }
 
-/// That the fronts of these messages are refused.
+// That the fronts of these messages are refused.
 fn assert_all_cut(rt: &impl Abort, alloc: Global, messages: &[&[u8]]) {
     for message in messages {
         assert_cut(rt, alloc, message);
     }
 }
 
-/// Each message cut at every octet.
+// Each message cut at every octet.
 #[test]
 fn cut_messages(rt: HostRuntime) {
     for example in examples() {
@@ -47,7 +47,7 @@ fn cut_messages(rt: HostRuntime) {
     assert_eq!(rt; refused, Some(MessageFault::Version));
 }
 
-/// Puts a number of two octets into a text; false where it ends before.
+// Puts a number of two octets into a text; false where it ends before.
 fn put_number(text: &mut [u8], at: usize, number: u16) -> bool {
     let [high, low] = number.to_be_bytes();
     if at < text.len() && 1 < text.len() - at {
@@ -58,7 +58,7 @@ fn put_number(text: &mut [u8], at: usize, number: u16) -> bool {
     false
 }
 
-/// Each length with a wrong number.
+// Each length with a wrong number.
 #[test]
 fn wrong_lengths(rt: HostRuntime) -> Result<(), Fail> {
     let alloc = rt.alloc();
@@ -84,7 +84,7 @@ fn wrong_lengths(rt: HostRuntime) -> Result<(), Fail> {
     Ok(())
 }
 
-/// What a message gives, fed and driven, with another number of two octets.
+// What a message gives, fed and driven, with another number of two octets.
 fn with_number(
     rt: &impl Abort,
     alloc: Global,
@@ -94,13 +94,13 @@ fn with_number(
 ) -> Result<Run, Fail> {
     let mut text = Vec::from_slice(alloc, message)?;
     assert!(rt; put_number(&mut text, at, number));
-    let run = assert_one_meaning(rt, alloc, &text)?;
+    let run = assert_one_meaning(rt, alloc, &text);
     let read = driven(alloc, &text);
     assert_eq!(rt; run.report, read.report);
     Ok(run)
 }
 
-/// What stood in the template set is read as sets then.
+// What stood in the template set is read as sets then.
 #[test]
 fn template_set_cut_short(rt: HostRuntime) -> Result<(), Fail> {
     let run = with_number(&rt, rt.alloc(), ONE_FLOW, 18, 4)?;
@@ -110,7 +110,7 @@ fn template_set_cut_short(rt: HostRuntime) -> Result<(), Fail> {
     Ok(())
 }
 
-/// Each two octets at the front of a text, its lengths among them, with other numbers: it has one meaning.
+// Each two octets at the front of a text, its lengths among them, with other numbers: it has one meaning.
 #[test]
 fn other_numbers(rt: HostRuntime) -> Result<(), Fail> {
     let alloc = rt.alloc();
@@ -120,7 +120,7 @@ fn other_numbers(rt: HostRuntime) -> Result<(), Fail> {
             for number in [0, 3, 4, 65_535] {
                 let mut text = Vec::from_slice(alloc, &whole)?;
                 if put_number(&mut text, at, number) {
-                    let _ = assert_one_meaning(&rt, alloc, &text)?;
+                    let _ = assert_one_meaning(&rt, alloc, &text);
                 }
             }
         }

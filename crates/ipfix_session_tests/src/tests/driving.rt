@@ -22,7 +22,7 @@ fn a_sink_that_takes_nothing(rt: HostRuntime) -> Result<(), Fail> {
     Ok(())
 }
 
-/// The first read is the last that is allowed: it fails, is interrupted, or gives octets or the end.
+// The first read is the last that is allowed: it fails, is interrupted, or gives octets or the end.
 #[test]
 fn one_read(rt: HostRuntime) -> Result<(), Fail> {
     let alloc: Global = rt.alloc();
@@ -77,7 +77,7 @@ fn errors_of_readers(rt: HostRuntime) {
     }
 }
 
-/// A source whose first read meets an error of this kind.
+// A source whose first read meets an error of this kind.
 fn source_with_error(text: &[u8], kind: ErrorKind) -> FromReader<Faltering<'_>> {
     FromReader::new(Faltering {
         text,

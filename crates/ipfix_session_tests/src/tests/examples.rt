@@ -17,7 +17,7 @@ pub struct Example {
     pub fault: Option<u8>,
 }
 
-/// A message that is refused.
+// A message that is refused.
 const fn refused(name: &'static str, messages: &'static [&'static [u8]], fault: u8) -> Example {
     Example {
         name,
@@ -28,7 +28,7 @@ const fn refused(name: &'static str, messages: &'static [&'static [u8]], fault: 
     }
 }
 
-/// A text without a fault.
+// A text without a fault.
 const fn accepted(
     name: &'static str,
     messages: &'static [&'static [u8]],

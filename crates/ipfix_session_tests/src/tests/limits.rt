@@ -42,14 +42,14 @@ fn failing_reads(rt: HostRuntime) -> Result<(), Fail> {
     Ok(())
 }
 
-/// What a source gives in so many reads.
+// What a source gives in so many reads.
 fn driven_from(alloc: Global, source: &mut ScriptSource, limit: u64) -> Run {
     let mut sink = VecSink::new(alloc);
     let report = drive(alloc, source, &mut sink, limit);
     Run { sink, report }
 }
 
-/// A fault ends the reading.
+// A fault ends the reading.
 #[test]
 fn no_read_too_many(rt: HostRuntime) -> Result<(), Fail> {
     let alloc: Global = rt.alloc();
@@ -83,7 +83,7 @@ fn faults_stay(rt: HostRuntime) -> Result<(), Fail> {
     Ok(())
 }
 
-/// The report of a session that is fed a text with this fault, and then more of it to a sink with room.
+// The report of a session that is fed a text with this fault, and then more of it to a sink with room.
 fn fed_after_fault(
     rt: &impl Abort,
     alloc: Global,
@@ -95,11 +95,11 @@ fn fed_after_fault(
     assert_eq!(rt; session.feed(alloc, text, sink), Err(fault));
     sink.room = 9;
     assert_eq!(rt; session.feed(alloc, more, sink), Err(fault));
-    assert_eq!(rt; session.feed_all(alloc, &[], sink), Err(fault));
+    assert_eq!(rt; session.feed(alloc, &[], sink), Err(fault));
     session.finish()
 }
 
-/// Appends a header alone, or a header and a set whose length is below that of its header.
+// Appends a header alone, or a header and a set whose length is below that of its header.
 fn push_message(text: &mut Vec<u8>, domain: u32, alone: bool) -> Result<(), Fail> {
     if alone {
         text.extend_from_slice(&header(16, 0, domain))?;
@@ -128,7 +128,7 @@ fn many_domains(rt: HostRuntime) -> Result<(), Fail> {
     Ok(())
 }
 
-/// A message for each of 1,024 domains, and one more for the last.
+// A message for each of 1,024 domains, and one more for the last.
 fn text_of_domains(alloc: Global, last: u32, alone: bool) -> Result<Vec<u8>, Fail> {
     let mut text = Vec::new(alloc);
     for domain in 0..1024 {
@@ -138,7 +138,7 @@ fn text_of_domains(alloc: Global, last: u32, alone: bool) -> Result<Vec<u8>, Fai
     Ok(text)
 }
 
-/// That these are 1,024 domains, counted from 0, without records or losses.
+// That these are 1,024 domains, counted from 0, without records or losses.
 fn assert_empty_domains(rt: &impl Abort, domains: &[DomainReport]) {
     assert_eq!(rt; domains.len(), 1024);
     for (domain, index) in domains.iter().zip(0..1024) {

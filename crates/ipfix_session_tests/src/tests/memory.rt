@@ -1,17 +1,17 @@
-//! What is answered where memory runs out: `tests/refusals` refuses each allocation of these calls in
-//! turn. Before them nothing is allocated here.
+//! What is answered where memory runs out: `tests/gate/refusals` refuses each allocation of
+//! these calls in turn. Before them nothing is allocated here.
 
 ghost use Rattle.std.specs.Prelude.{◌<◌};
 
 use super::runs::{Run, driven};
 use ipfix_message::MessageFault;
-use ipfix_session::{DomainReport, Session, SessionFault, Stop, VecSink, decode_text};
+use ipfix_session::{DomainReport, Session, SessionFault, VecSink};
 use std::alloc::Global;
 use std::process::Abort;
 use std::test::*;
 
-/// Four messages: template 256 in domain 1, a record of it, the same record in domain 2, where that
-/// template is unknown, and another record in domain 1.
+// Four messages: template 256 in domain 1, a record of it, the same record in domain 2, where that
+// template is unknown, and another record in domain 1.
 const TEXT: [u8; 172] = [
     // header: 40 octets, sequence 0, domain 1
     0x00, 0x0a, 0x00, 0x28, 0x65, 0x53, 0xf1, 0x00, 0x00, 0x00, 0x00, 0x00, 0x00, 0x00, 0x00, 0x01,
@@ -35,8 +35,8 @@ const TEXT: [u8; 172] = [
     0x00, 0x00, 0x07, 0xd0, 0xc0, 0x00, 0x02, 0x01, 0x00, 0x00, 0x05, 0xdc,
 ];
 
-/// The text that is fed in pieces of this size. After a fault each call has to answer it again, and to
-/// put nothing.
+// The text that is fed in pieces of this size. After a fault each call has to answer it again, and to
+// put nothing.
 fn fed_on(rt: &impl Abort, alloc: Global, size: usize) -> Run
     requires { 0 < size }
 {
@@ -57,7 +57,7 @@ fn fed_on(rt: &impl Abort, alloc: Global, size: usize) -> Run
     Run { sink, report }
 }
 
-/// That a run gave what the whole messages give that its report counts, and why it gave no more.
+// That a run gave what the whole messages give that its report counts, and why it gave no more.
 fn answer_of(rt: &impl Abort, run: &Run) -> &'static str {
     let report = &run.report;
     let counts = (report.messages, report.delivered);
@@ -84,7 +84,7 @@ fn answer_of(rt: &impl Abort, run: &Run) -> &'static str {
     }
 }
 
-/// A domain of which nothing was lost.
+// A domain of which nothing was lost.
 fn of_domain(domain: u32, count: u64) -> DomainReport {
     DomainReport {
         domain,
@@ -108,17 +108,4 @@ fn drive_with_refused_memory(rt: HostRuntime) {
     let run = driven(rt.alloc(), &TEXT);
     let answer = answer_of(&rt, &run);
     let _ = eprintln!(rt; "drive: {answer}");
-}
-
-#[test]
-fn decode_text_with_refused_memory(rt: HostRuntime) {
-    let answer = match decode_text(rt.alloc(), &TEXT) {
-        Ok(decoded) => {
-            assert_eq!(rt; (decoded.messages, decoded.records.len()), (4, 2));
-            assert_eq!(rt; decoded.stop, Stop::Clean);
-            "right"
-        }
-        Err(_) => "OutOfMemory",
-    };
-    let _ = eprintln!(rt; "decode_text: {answer}");
 }

@@ -1,13 +1,13 @@
 //! What the worked examples give, however they are cut.
 
 use super::examples::{Example, are_same, examples};
-use super::runs::{Run, assert_one_meaning, driven, fed, fed_all, trickled};
+use super::runs::{Run, assert_one_meaning, driven, fed, fed_parts, trickled};
 use std::alloc::Global;
 use std::process::Abort;
 use std::test::*;
 use worked_examples::text_of;
 
-/// That a run gave what an example says.
+// That a run gave what an example says.
 fn assert_gives(rt: &impl Abort, run: &Run, example: &Example) {
     let report = &run.report;
     let counts = [
@@ -32,7 +32,7 @@ fn worked_examples(rt: HostRuntime) -> Result<(), Fail> {
     let alloc: Global = rt.alloc();
     for example in examples() {
         let text = text_of(alloc, example.messages)?;
-        let run = assert_one_meaning(&rt, alloc, &text)?;
+        let run = assert_one_meaning(&rt, alloc, &text);
         assert_gives(&rt, &run, &example);
         assert_same_in_pieces(&rt, alloc, &text, &run, &example);
         for read in [driven(alloc, &text), trickled(alloc, &text)?] {
@@ -43,7 +43,7 @@ fn worked_examples(rt: HostRuntime) -> Result<(), Fail> {
     Ok(())
 }
 
-/// That a text gives the same in pieces.
+// That a text gives the same in pieces.
 fn assert_same_in_pieces(
     rt: &impl Abort,
     alloc: Global,
@@ -55,7 +55,7 @@ fn assert_same_in_pieces(
         let pieces = fed(alloc, text, size);
         assert_gives(rt, &pieces, example);
         assert!(rt; are_same(run.records(), pieces.records()));
-        let parts = fed_all(alloc, text, size);
+        let parts = fed_parts(alloc, text, size);
         assert_gives(rt, &parts, example);
     }
 }

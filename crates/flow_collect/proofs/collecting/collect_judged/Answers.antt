@@ -11,22 +11,22 @@ use Rattle.flow_collect.proofs.collecting.collect_judged.Goals as goal
 
 pub in_threads-requires-clause-unused : goal.in_threads-requires-clause-unused
 in_threads-requires-clause-unused g c κs within =
-    All-weaker (IsNewStart c.args.pool.capacity) (λ (start : Start g.row.S.Denot). start.sender.sent ≡ []) (λ start new. new.0) _ c.in_ok-dealt.ensures.dealt.new_starts
+    All-weaker (IsNewStart c.args.pool.capacity) (λ (start : Start g.row.S.Denot). start.sender.sent ≡ []) (λ start new. new.0) _ c.in_ok-starts.ensures.dealt.new_starts
 
 pub in_threads-requires-clause-lots : goal.in_threads-requires-clause-lots
 in_threads-requires-clause-lots g c κs within =
-    All-weaker (IsNewLot c.args.plan.now (map start_link c.in_ok-dealt.dealt.starts.items)) IsUnused (λ lot new. new.unused) _ c.in_ok-dealt.ensures.dealt.new_lots
+    All-weaker (IsNewLot c.args.plan.now (map start_link c.in_ok-starts.starts.items)) IsUnused (λ lot new. new.unused) _ c.in_ok-starts.ensures.dealt.new_lots
 
 pub finish_all-requires-clause-taken : goal.finish_all-requires-clause-taken
-finish_all-requires-clause-taken g c κs within = (c.args.plan.now, all_taken _ _ _ _ c.in_ok-joined.ensures.workers c.in_ok-dealt.ensures.dealt.new_lots)
+finish_all-requires-clause-taken g c κs within = (c.args.plan.now, all_taken _ _ _ _ c.in_ok-ended.ensures.workers c.in_ok-starts.ensures.dealt.new_lots)
 
 pub finish_all-requires-clause-paired : goal.finish_all-requires-clause-paired
 finish_all-requires-clause-paired g c κs within =
-    subst (λ (links : List LinkName). All (IsPaired links) (lanes_of c.in_ok-joined.joined.worked.items))
-    (sym (links_same g.S.Source.seen _ _ c.in_ok-joined.ensures.sessions))
-    (all_paired _ _ _ _ c.in_ok-joined.ensures.workers c.in_ok-dealt.ensures.dealt.new_lots)
+    subst (λ (links : List LinkName). All (IsPaired links) (lanes_of c.in_ok-ended.worked.items))
+    (sym (links_same g.S.Source.seen _ _ c.in_ok-ended.ensures.sessions))
+    (all_paired _ _ _ _ c.in_ok-ended.ensures.workers c.in_ok-starts.ensures.dealt.new_lots)
 
 pub returns : goal.returns
 returns g c =
-    answered g.S.Source.seen _ _ _ _ _ _ _ c.in_ok-dealt.ensures.dealt c.in_ok-joined.ensures.sessions
-    (c.in_ok-answer.ensures c.args.plan.now (all_taken _ _ _ _ c.in_ok-joined.ensures.workers c.in_ok-dealt.ensures.dealt.new_lots))
+    answered g.S.Source.seen _ _ _ _ _ _ _ c.in_ok-starts.ensures.dealt c.in_ok-ended.ensures.sessions
+    (c.in_ok-answer.ensures c.args.plan.now (all_taken _ _ _ _ c.in_ok-ended.ensures.workers c.in_ok-starts.ensures.dealt.new_lots))

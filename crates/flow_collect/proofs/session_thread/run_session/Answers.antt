@@ -1,28 +1,22 @@
-use Rattle.std.proofs.Common.{◌≡◌, ◌∷◌, ◌++◌, [], sym, ap, ◌∙◌, arith}
+use Rattle.std.proofs.Common.{◌≡◌, ◌∷◌, ◌++◌, [], ap, ◌∙◌, arith}
 use Rattle.std.proofs.lemmas.Bool.Decides.{nat_tests}
 use Rattle.ipfix_session.proofs.Driven.{driven_took_all}
 use Rattle.flow_link.specs.Parcels.{items}
 use Rattle.flow_link.specs.declared.parcel.Parcel.TheVariants.{Last}
 use Rattle.flow_collect.proofs.SendLists.{chain_sent}
 use Rattle.flow_collect.proofs.session_thread.run_session.Goals as goal
-use Rattle.flow_collect.proofs.session_thread.run_session.Goals.{then-sent, else-sent}
 
 pub returns : goal.returns
-returns g c = λ whole.
-    elim c.if-sent.branch [
-      | then-sent w ↦
-          (let took_all = sym w.whole-is ∙ whole in
-          let none : c.drive-report.new.sink.refused ≡ 0 = grind (arith, nat_tests) in
-          let put = driven_took_all _ _ _ _ _ _ _ _ _ c.drive-report.ensures none in
-          let chain = chain_sent (λ k. k.sender) (λ k. k.sent) _ put.records c.drive-report.new.sink put.takes.chain in
-          let last = rw w.if-sent.true at c.send_last-sent.ensures.sent in
-          let new = c.new-sink.ensures.0 in
-          record {
-            records = put.records;
-            given = put.given;
-            sent_is = last ∙ ap (λ x. x ++ Last ∷ []) (chain.0 ∙ ap (λ x. x ++ items put.records) (ap (λ s. s.sent) new ∙ c.requires));
-            link_is = c.send_last-sent.ensures.link.0 ∙ (chain.1 ∙ ap (λ s. s.link) new);
-            capacity_is = c.send_last-sent.ensures.link.1 ∙ (chain.2 ∙ ap (λ s. s.capacity) new);
-          })
-      | else-sent w ↦ cc (w.whole-is, whole)
-    ]
+returns g c =
+    let none : c.drive-report.new.sink.refused ≡ 0 = grind (arith, nat_tests) in
+    let put = driven_took_all _ _ _ _ _ _ _ _ _ c.drive-report.ensures none in
+    let chain = chain_sent (λ k. k.sender) (λ k. k.sent) _ put.records c.drive-report.new.sink put.takes.chain in
+    let last = rw c.if-not-sent.false at c.send_last-sent.ensures.sent in
+    let new = c.new-sink.ensures.0 in
+    record {
+      records = put.records;
+      given = put.given;
+      sent_is = last ∙ ap (λ x. x ++ Last ∷ []) (chain.0 ∙ ap (λ x. x ++ items put.records) (ap (λ s. s.sent) new ∙ c.requires));
+      link_is = c.send_last-sent.ensures.link.0 ∙ (chain.1 ∙ ap (λ s. s.link) new);
+      capacity_is = c.send_last-sent.ensures.link.1 ∙ (chain.2 ∙ ap (λ s. s.capacity) new);
+    }

@@ -5,7 +5,8 @@ use Rattle.std.specs.Iterator.Adapters.{zip_first, zip_second}
 use Rattle.ipfix_elements.specs.declared.cell.Cell.{Cell}
 use Rattle.ipfix_message.specs.Fields.{Field}
 use Rattle.flow_table.specs.declared.key.Key.{Key}
-use Rattle.flow_export.specs.IpfixText.{iana, key_field}
+use Rattle.ipfix_elements.specs.Elements.{iana}
+use Rattle.flow_export.specs.IpfixText.{key_field}
 use Rattle.flow_merge.specs.InnerReading.{Begin, FitsKey}
 use Rattle.flow_merge.proofs.Beginnings.{one_more, one_less, none_left}
 use Rattle.flow_merge.proofs.field_reading.next_cells.Goals as goal

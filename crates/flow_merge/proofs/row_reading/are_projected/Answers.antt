@@ -6,7 +6,7 @@ use Rattle.ipfix_elements.specs.declared.cell.Cell.{Cell}
 use Rattle.ipfix_elements.specs.declared.cell.Cell.TheVariants.{Number}
 use Rattle.flow_table.specs.declared.key.Key.{Key}
 use Rattle.flow_table.specs.Reading.{projected}
-use Rattle.flow_export.specs.IpfixText.{iana}
+use Rattle.ipfix_elements.specs.Elements.{iana}
 use Rattle.flow_merge.proofs.Pairs.{AllZip-at, AllZip-more}
 use Rattle.flow_merge.proofs.row_reading.are_projected.Goals as goal
 

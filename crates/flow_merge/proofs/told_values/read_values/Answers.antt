@@ -2,23 +2,24 @@ use Rattle.std.proofs.Common.{◌≡◌, List, [], sym, subst, rules}
 use Rattle.ipfix_message.specs.Fields.{Field}
 use Rattle.ipfix_wire.specs.declared.specifier.ElementId.{ElementId}
 use Rattle.flow_table.specs.declared.key.Key.{Key}
-use Rattle.flow_export.specs.IpfixText.{iana, key_field}
-use Rattle.flow_merge.specs.InnerReading.{BeginEach, FitsKey, Refuses}
+use Rattle.ipfix_elements.specs.Elements.{iana}
+use Rattle.flow_export.specs.IpfixText.{key_field}
+use Rattle.flow_merge.specs.InnerReading.{BeginEach, FitsKey, Refuses, TellsCells, TellsNumber, TellsNumbers}
 use Rattle.flow_merge.specs.RowFaults.{FieldValues, Tell}
-use Rattle.flow_merge.proofs.Telling.{IsNumber, AreCells, AreNumbers, refuse, same_after, flows_on, sums_follow, flows_follow, values_read}
+use Rattle.flow_merge.proofs.Telling.{refuse, same_after, flows_on, sums_follow, flows_follow, values_read}
 use Rattle.flow_merge.proofs.told_values.read_values.Goals as goal
 
 pub returns-in_err-sums-clause-fault : goal.returns-in_err-sums-clause-fault
 returns-in_err-sums-clause-fault c =
     let plan = c.args.plan.now in
-    let keys : AreCells plan c.read_number-2.new.fields c.in_ok-key.key.items c.next_cells.new.fields =
+    let keys : TellsCells plan.keys c.read_number-2.new.fields c.in_ok-key.key.items c.next_cells.new.fields =
     subst (λ (ks : List Key). BeginEach key_field FitsKey ks c.read_number-2.new.fields c.in_ok-key.key.items c.next_cells.new.fields) c.keys.ensures.value c.in_ok-key.ensures.ok in
     let moved : Refuses ((v : FieldValues) × Tell plan c.args.fields v) c.in_err-sums.field-0.0 =
     refuse
     (λ t. (
       t.0.sums,
       flows_on t.0,
-      subst (λ (es : List ElementId). AreNumbers es c.next_cells.new.fields t.0.sums (flows_on t.0)) (sym c.counters.ensures.value)
+      subst (λ (es : List ElementId). TellsNumbers es c.next_cells.new.fields t.0.sums (flows_on t.0)) (sym c.counters.ensures.value)
           (sums_follow plan c.args.fields c.read_number.new.fields c.read_number-2.new.fields c.next_cells.new.fields c.in_ok-start.start c.in_ok-end.end c.in_ok-key.key.items t.0 t.1 c.in_ok-start.ensures.ok c.in_ok-end.ensures.ok keys),
     ))
     c.in_err-sums.field-0.0 c.in_err-sums.ensures.fault in
@@ -27,10 +28,10 @@ returns-in_err-sums-clause-fault c =
 pub returns-in_err-flows-clause-fault : goal.returns-in_err-flows-clause-fault
 returns-in_err-flows-clause-fault c =
     let plan = c.args.plan.now in
-    let keys : AreCells plan c.read_number-2.new.fields c.in_ok-key.key.items c.next_cells.new.fields =
+    let keys : TellsCells plan.keys c.read_number-2.new.fields c.in_ok-key.key.items c.next_cells.new.fields =
     subst (λ (ks : List Key). BeginEach key_field FitsKey ks c.read_number-2.new.fields c.in_ok-key.key.items c.next_cells.new.fields) c.keys.ensures.value c.in_ok-key.ensures.ok in
-    let counters : AreNumbers plan.counters c.next_cells.new.fields c.in_ok-sums.sums.items c.next_numbers.new.fields =
-    subst (λ (es : List ElementId). AreNumbers es c.next_cells.new.fields c.in_ok-sums.sums.items c.next_numbers.new.fields) c.counters.ensures.value c.in_ok-sums.ensures.ok in
+    let counters : TellsNumbers plan.counters c.next_cells.new.fields c.in_ok-sums.sums.items c.next_numbers.new.fields =
+    subst (λ (es : List ElementId). TellsNumbers es c.next_cells.new.fields c.in_ok-sums.sums.items c.next_numbers.new.fields) c.counters.ensures.value c.in_ok-sums.ensures.ok in
     let moved : Refuses ((v : FieldValues) × Tell plan c.args.fields v) c.in_err-flows.field-0.0 =
     refuse
     (λ t. (
@@ -45,10 +46,10 @@ returns-in_err-flows-clause-fault c =
 pub returns-then-is_some-clause-fault : goal.returns-then-is_some-clause-fault
 returns-then-is_some-clause-fault c t =
     let plan = c.args.plan.now in
-    let keys : AreCells plan c.read_number-2.new.fields c.in_ok-key.key.items c.next_cells.new.fields =
+    let keys : TellsCells plan.keys c.read_number-2.new.fields c.in_ok-key.key.items c.next_cells.new.fields =
     subst (λ (ks : List Key). BeginEach key_field FitsKey ks c.read_number-2.new.fields c.in_ok-key.key.items c.next_cells.new.fields) c.keys.ensures.value c.in_ok-key.ensures.ok in
-    let counters : AreNumbers plan.counters c.next_cells.new.fields c.in_ok-sums.sums.items c.next_numbers.new.fields =
-    subst (λ (es : List ElementId). AreNumbers es c.next_cells.new.fields c.in_ok-sums.sums.items c.next_numbers.new.fields) c.counters.ensures.value c.in_ok-sums.ensures.ok in
+    let counters : TellsNumbers plan.counters c.next_cells.new.fields c.in_ok-sums.sums.items c.next_numbers.new.fields =
+    subst (λ (es : List ElementId). TellsNumbers es c.next_cells.new.fields c.in_ok-sums.sums.items c.next_numbers.new.fields) c.counters.ensures.value c.in_ok-sums.ensures.ok in
     let last =
     flows_follow plan c.args.fields c.read_number.new.fields c.read_number-2.new.fields c.next_cells.new.fields c.next_numbers.new.fields c.in_ok-start.start c.in_ok-end.end c.in_ok-key.key.items c.in_ok-sums.sums.items t.0 t.1
     c.in_ok-start.ensures.ok c.in_ok-end.ensures.ok keys counters in
@@ -58,11 +59,11 @@ returns-then-is_some-clause-fault c t =
 pub returns-clause-ok : goal.returns-clause-ok
 returns-clause-ok c =
     let plan = c.args.plan.now in
-    let keys : AreCells plan c.read_number-2.new.fields c.in_ok-key.key.items c.next_cells.new.fields =
+    let keys : TellsCells plan.keys c.read_number-2.new.fields c.in_ok-key.key.items c.next_cells.new.fields =
     subst (λ (ks : List Key). BeginEach key_field FitsKey ks c.read_number-2.new.fields c.in_ok-key.key.items c.next_cells.new.fields) c.keys.ensures.value c.in_ok-key.ensures.ok in
-    let counters : AreNumbers plan.counters c.next_cells.new.fields c.in_ok-sums.sums.items c.next_numbers.new.fields =
-    subst (λ (es : List ElementId). AreNumbers es c.next_cells.new.fields c.in_ok-sums.sums.items c.next_numbers.new.fields) c.counters.ensures.value c.in_ok-sums.ensures.ok in
+    let counters : TellsNumbers plan.counters c.next_cells.new.fields c.in_ok-sums.sums.items c.next_numbers.new.fields =
+    subst (λ (es : List ElementId). TellsNumbers es c.next_cells.new.fields c.in_ok-sums.sums.items c.next_numbers.new.fields) c.counters.ensures.value c.in_ok-sums.ensures.ok in
     let none : c.read_number-3.new.fields ≡ [] = search rules in
-    let last : IsNumber (iana 375) c.next_numbers.new.fields c.in_ok-flows.flows [] = subst (λ (rest : List Field). IsNumber (iana 375) c.next_numbers.new.fields c.in_ok-flows.flows rest) none c.in_ok-flows.ensures.ok in
+    let last : TellsNumber (iana 375) c.next_numbers.new.fields c.in_ok-flows.flows [] = subst (λ (rest : List Field). TellsNumber (iana 375) c.next_numbers.new.fields c.in_ok-flows.flows rest) none c.in_ok-flows.ensures.ok in
     values_read plan c.args.fields c.read_number.new.fields c.read_number-2.new.fields c.next_cells.new.fields c.next_numbers.new.fields c.in_ok-start.start c.in_ok-end.end c.in_ok-flows.flows c.in_ok-key.key.items c.in_ok-sums.sums.items
     c.in_ok-start.ensures.ok c.in_ok-end.ensures.ok keys counters last

@@ -1,7 +1,7 @@
 use Rattle.std.proofs.Common.{◌≡◌, length, map}
 use Rattle.std.specs.Prelude.{find}
 use Rattle.std.specs.Str.{bytes_eq}
-use Rattle.ipfix_elements.specs.Rows.{shown}
+use Rattle.ipfix_elements.specs.Entries.{shown}
 use Rattle.ipfix_elements.proofs.element.find_by_name.Given as goal
 
 abbrev pub invariant-loop-table : goal.invariant-loop-table

@@ -15,7 +15,7 @@ returns-in_err-take_message-in-Ok-clause-takes g c = λ old text before is_rest 
     let fills = c.in_ok-left.ensures.fills is_rest in
     let whole = c.fill.new.buffer.items ++ c.in_ok-left.left.now in
     let r = reaches_from g.K.Sink.seen old text before c.args.sink.now (counts_of c.args.intake.now.tally) c.args.intake.now.domains _ whole (refilled _ _ _ _ fills.moves) first in
-    let begins = begins_whole c.fill.new.buffer.items c.in_ok-left.left.now c.in-Ok.message.now c.in-Ok.field-0-1.now (ap next_message (sym c.deref.ensures.value) ∙ c.in-Ok.ensures.found) fills.filled in
+    let begins = begins_whole c.fill.new.buffer.items c.in_ok-left.left.now c.in-Ok.first.octets.now c.in-Ok.first.rest.now (ap next_message (sym c.deref.ensures.value) ∙ c.in-Ok.ensures.found) fills.filled in
     let p = err_from_is_err_and c.from_residual-in_err-take_message-in-Ok.result c.from_residual-in_err-take_message-in-Ok.ensures.1 in
     rw (p.1, p.2) (c.in_err-take_message-in-Ok.ensures old text whole c.in_ok-left.left.now before r begins)
 
@@ -35,5 +35,5 @@ returns-clause-takes g c = λ old text before is_rest first.
     let fills = c.in_ok-left.ensures.fills is_rest in
     let whole = c.fill.new.buffer.items ++ c.in_ok-left.left.now in
     let r = reaches_from g.K.Sink.seen old text before c.args.sink.now (counts_of c.args.intake.now.tally) c.args.intake.now.domains _ whole (refilled _ _ _ _ fills.moves) first in
-    let begins = begins_whole c.fill.new.buffer.items c.in_ok-left.left.now c.in-Ok.message.now c.in-Ok.field-0-1.now (ap next_message (sym c.deref.ensures.value) ∙ c.in-Ok.ensures.found) fills.filled in
+    let begins = begins_whole c.fill.new.buffer.items c.in_ok-left.left.now c.in-Ok.first.octets.now c.in-Ok.first.rest.now (ap next_message (sym c.deref.ensures.value) ∙ c.in-Ok.ensures.found) fills.filled in
     c.in_ok-take_message-in-Ok.ensures old text whole c.in_ok-left.left.now before r begins

@@ -12,7 +12,7 @@ use Rattle.flow_collect.proofs.settling.finishing.finish_all.Goals as goal
 
 pub settle_all-requires : goal.settle_all-requires
 settle_all-requires g c =
-    let P = IsPaired (map ended_link c.args.joined.sessions.items) in
+    let P = IsPaired (map ended_link c.args.ended.items) in
     subst (All P) (sym c.from_vec.ensures.items) (All-permutation P _ _ c.in_ok-all.ensures.lanes c.requires.paired)
 
 pub returns-in-Err-SumTooLarge : goal.returns-in-Err-SumTooLarge

@@ -4,12 +4,12 @@ use Rattle.std.specs.VecDeque.{deque_len}
 use Rattle.flow_table.specs.Partials.{plan_of}
 use Rattle.flow_collect.specs.Finished.{HasTaken, lanes_of}
 use Rattle.flow_collect.specs.Lanes.{StandsForLanes}
-use Rattle.flow_collect.specs.declared.worker.Worked.{Worked}
+use Rattle.flow_collect.specs.declared.worker.Lot.{Lot}
 use Rattle.flow_collect.proofs.settling.gathering.merge_in_turn.Given as goal
 
 abbrev pub invariant-loop-other : goal.invariant-loop-other
 invariant-loop-other l =
-    (ws : List Worked)
+    (ws : List Lot)
     × (l.fn.worked.items ≡ ws ++ l.worked.items)
     × (l.all.lanes.items ≡ lanes_of ws)
     × All (HasTaken (plan_of l.all.partial)) l.worked.items

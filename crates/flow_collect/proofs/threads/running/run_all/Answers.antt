@@ -1,14 +1,14 @@
 use Rattle.flow_collect.specs.Lanes.{WorkerRan}
-use Rattle.flow_collect.specs.Sessions.{WholeSession}
+use Rattle.flow_collect.specs.Sessions.{SessionRan}
 use Rattle.flow_collect.proofs.ZipLists.{zip_join}
 use Rattle.flow_collect.proofs.threads.running.run_all.Goals as goal
 
 pub returns-clause-sessions : goal.returns-clause-sessions
 returns-clause-sessions g c =
-    zip_join (λ h. h.promise.start.value) (WholeSession g.S.Source.seen) _ _ _
-    (c.start_sessions-handles.ensures.started c.if-not-all_run.false) (c.join_sessions-sessions.ensures c.if-not-all_sent.false)
+    zip_join (λ h. h.promise.start.value) (SessionRan g.S.Source.seen) _ _ _
+    (c.start_sessions-sessions.ensures.started c.if-not-all_run.false) (c.join_all-ended.ensures c.if-not-all_sent.false)
 
 pub returns-clause-workers : goal.returns-clause-workers
 returns-clause-workers g c =
     zip_join (λ h. h.promise.lot.value) WorkerRan _ _ _
-    (c.start_workers-workers.ensures.started c.if-not-all_work.false) (c.join_workers-worked.ensures c.if-not-all_taken.false)
+    (c.start_workers-workers.ensures.started c.if-not-all_work.false) (c.join_all-worked.ensures c.if-not-all_taken.false)

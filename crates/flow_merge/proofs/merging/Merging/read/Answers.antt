@@ -1,8 +1,4 @@
-use Rattle.std.proofs.lemmas.Result.{IfErr-weaker}
-use Rattle.std.proofs.Common.{refl}
-use Rattle.flow_merge.specs.Merging.{plan_of}
-use Rattle.flow_merge.proofs.ExportsRead.{adds_export, due_report, due_row, err_match, same_plan}
-use Rattle.flow_merge.proofs.HeldExports.{adds_own, own_fault}
+use Rattle.flow_merge.proofs.ExportsRead.{adds_export, due_report, due_row, same_plan}
 use Rattle.flow_merge.proofs.merging.Merging.read.Goals as goal
 
 pub returns-in_err-judge-clause-fault : goal.returns-in_err-judge-clause-fault
@@ -10,21 +6,10 @@ returns-in_err-judge-clause-fault g c = λ rows stands.
     due_report g.S.Source.seen c.args.limit c.args.source.now c.drive-report.new.source c.drive-report.result c.args.self c.drive-report.new.sink c.drive-report.ensures
     rows stands c.from_residual.result c.in_err-judge.field-0.0 c.in_err-judge.ensures.fault c.from_residual.ensures.1
 
-pub returns-in_err-judge-clause-export : goal.returns-in_err-judge-clause-export
-returns-in_err-judge-clause-export g c = λ rows rs holds stands.
-    let due = due_report g.S.Source.seen c.args.limit c.args.source.now c.drive-report.new.source c.drive-report.result c.args.self c.drive-report.new.sink c.drive-report.ensures
-    rows stands c.from_residual.result c.in_err-judge.field-0.0 c.in_err-judge.ensures.fault c.from_residual.ensures.1 in
-    err_match c.from_residual.result c.in_err-judge.field-0.0 _ _ c.from_residual.ensures.1 (IfErr-weaker c.from_residual.result _ _ (own_fault g.S.Source.seen c.args.limit c.args.source.now c.drive-report.new.source (g.met.S.Source.ended_is_end c.drive-report.new.source) (plan_of c.args.self) rs holds rows) due)
-
 pub returns-in-Some-clause-fault : goal.returns-in-Some-clause-fault
 returns-in-Some-clause-fault g c = λ rows stands.
     due_row g.S.Source.seen c.args.limit c.args.source.now c.drive-report.new.source c.drive-report.result c.args.self c.drive-report.new.sink c.drive-report.ensures
     rows stands c.in-Some.fault c.in_ok-judge.ensures.ok c.in-Some.is
-
-pub returns-in-Some-clause-export : goal.returns-in-Some-clause-export
-returns-in-Some-clause-export g c = λ rows rs holds stands.
-    own_fault g.S.Source.seen c.args.limit c.args.source.now c.drive-report.new.source (g.met.S.Source.ended_is_end c.drive-report.new.source) (plan_of c.args.self) rs holds rows c.in-Some.fault
-    (due_row g.S.Source.seen c.args.limit c.args.source.now c.drive-report.new.source c.drive-report.result c.args.self c.drive-report.new.sink c.drive-report.ensures rows stands c.in-Some.fault c.in_ok-judge.ensures.ok c.in-Some.is)
 
 pub returns-in-None-clause-plan : goal.returns-in-None-clause-plan
 returns-in-None-clause-plan g c =
@@ -34,8 +19,3 @@ pub returns-in-None-clause-ok : goal.returns-in-None-clause-ok
 returns-in-None-clause-ok g c = λ rows stands.
     adds_export g.S.Source.seen c.args.limit c.args.source.now c.drive-report.new.source c.drive-report.result c.args.self c.drive-report.new.sink c.drive-report.ensures
     rows stands c.in_ok-judge.ensures.ok c.in-None.is
-
-pub returns-in-None-clause-export : goal.returns-in-None-clause-export
-returns-in-None-clause-export g c = λ rows rs holds stands.
-    adds_own g.S.Source.seen c.args.limit c.args.source.now c.drive-report.new.source (g.met.S.Source.ended_is_end c.drive-report.new.source) (plan_of c.args.self) rs holds c.args.self c.drive-report.new.sink.merging rows refl
-    (adds_export g.S.Source.seen c.args.limit c.args.source.now c.drive-report.new.source c.drive-report.result c.args.self c.drive-report.new.sink c.drive-report.ensures rows stands c.in_ok-judge.ensures.ok c.in-None.is)

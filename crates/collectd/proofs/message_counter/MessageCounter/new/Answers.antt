@@ -1,6 +1,0 @@
-use Rattle.std.proofs.Common.{refl}
-use Rattle.collectd.proofs.Counting.{none_begun, reads_nothing}
-use Rattle.collectd.proofs.message_counter.MessageCounter.new.Goals as goal
-
-pub returns : goal.returns
-returns c = reads_nothing _ refl (none_begun _ c.new.ensures)

@@ -1,7 +1,0 @@
-use Rattle.std.proofs.KnownBytes.{Appends-trans}
-use Rattle.collectd.proofs.reports.write_session.Goals as goal
-
-pub returns-in_ok-write_session_fault : goal.returns-in_ok-write_session_fault
-returns-in_ok-write_session_fault g c =
-    let both = Appends-trans _ _ _ _ _ c.in_ok-write_domains.ensures c.in_ok-write_session_fault.ensures in
-    rw c.in-Some.is (rw (c.number.ensures, c.name.ensures, c.deref.ensures.value) at both)

@@ -1,0 +1,21 @@
+-- The lines that a merge of files writes to standard error.
+use Rattle.std.specs.Prelude.{ℕ, List, ◌++◌, codes, decimal}
+use Rattle.ipfix_session.specs.Faults.{number_of, name_of}
+use Rattle.flow_merge.specs.MergeFaults as merging
+use Rattle.flow_merge.specs.RowFaults as rows
+use Rattle.flow_merge.specs.declared.merge_fault.MergeFault.{MergeFault}
+use Rattle.flow_merge.specs.declared.merge_fault.MergeFault.TheVariants.{Session, Row}
+use Rattle.run_reports.specs.ReportLines.{fault_text}
+
+-- how many files were merged, and how many rows their table has
+unfoldable pub merged_line : ℕ → ℕ → List ℕ
+merged_line files rows = codes "collectd: merged: files " ++ (decimal files ++ (codes " rows " ++ (decimal rows ++ codes "\n")))
+
+-- the fault of a file, and behind it that of its session or of its record
+abbrev pub merge_fault_text : MergeFault → List ℕ
+merge_fault_text (Session fault) = codes ": fault 3 Session" ++ fault_text (number_of fault) (name_of fault)
+merge_fault_text (Row fault) = codes ": fault 6 Row" ++ fault_text (rows.number_of fault) (rows.name_of fault)
+merge_fault_text fault = fault_text (merging.number_of fault) (merging.name_of fault)
+
+abbrev pub file_fault_line : ℕ → MergeFault → List ℕ
+file_fault_line file fault = codes "collectd: merge: file " ++ (decimal file ++ merge_fault_text fault)

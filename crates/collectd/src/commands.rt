@@ -1,0 +1,6 @@
+//! What each command does with what it is given.
+
+pub mod dump;
+pub mod files;
+pub mod merge;
+pub mod tcp;

@@ -1,0 +1,144 @@
+//! Merging the exports in files.
+
+ghost use Rattle.std.specs.Prelude.{◌≡◌, ◌⊎◌, [], List, IfErr, IfOk};
+ghost use Rattle.std.specs.List.{AllZip};
+ghost use Rattle.exit_status.specs.Statuses.{number_of};
+ghost use Rattle.flow_table.specs.AddedUp.{rows_in, AreAddedUp};
+ghost use Rattle.flow_table.specs.Fitting.{FitsPlan};
+ghost use Rattle.flow_table.specs.SameTables.{RowValue};
+ghost use Rattle.flow_table.specs.declared.table.Table.{Table as TableValue};
+ghost use Rattle.flow_merge.specs.Merging.{plan_of, StandsFor};
+ghost use Rattle.collectd.specs.Merges.{AddsFile, IsMerged, IsNotMerged, WritesMerged};
+
+use crate::merge_reports::{write_file_fault, write_merge_fault, write_merged};
+use crate::sources::opening::OpenSource;
+use crate::table::{Output, export};
+use exit_status::Status;
+use flow_merge::Merging;
+use flow_table::{Plan, Table};
+use ipfix_session::{READ_LIMIT, Source};
+use run_reports::write_export_fault;
+use std::alloc::Global;
+use std::io::Write;
+
+/// Opens the files of exports one after another, and writes the table of all of them to `out`: rows of
+/// the same interval and key are added up. Answers the exit status: 0 if all was well; 2 if a file can't
+/// be opened; 3 if a file is no whole export under the plan, a sum is too large, memory runs out, or the
+/// table can't be written.
+///
+/// To `err` it writes how many files and rows there were, or else a line for the first file that was not
+/// opened or not merged, and what is wrong with it. A fault of `err` is passed over. Nothing is written
+/// to `out` unless all files were merged.
+pub fn run_merge<S: Source + Drop, O: OpenSource<S>, W: Write, E: Write>(
+    files: &O,
+    alloc: Global,
+    paths: &[&str],
+    plan: &Plan,
+    output: Output,
+    out: &mut W,
+    err: &mut E,
+) -> u8
+    ensures statuses { (result ≡ number_of Status.Well) ⊎ (result ≡ number_of Status.NotOpened)
+        ⊎ (result ≡ number_of Status.Failed) }
+    // The source of each path, in their order, gave an export; the rows of all of them, added up, were
+    // written, and nothing else.
+    ensures table { result ≡ number_of Status.Well
+        → WritesMerged S.seen (AllZip (λ path. O.opens files.now path.now) paths.now)
+        plan.now output (W.contents out.old) (W.contents out.new) }
+    // Nothing was written unless all were opened,
+    ensures not_opened { result ≡ number_of Status.NotOpened → out.new ≡ out.old }
+    // and merged.
+    ensures untouched { result ≡ number_of Status.Failed
+        → (out.new ≡ out.old) ⊎ ((table : TableValue)
+        × IsMerged S.seen (AllZip (λ path. O.opens files.now path.now) paths.now) plan.now table) }
+{
+    let table = match merge_files(files, alloc, paths, plan, err) {
+        Ok(table) => table,
+        Err(status) => return status.number(),
+    };
+    if let Err(fault) = export(alloc, plan, &table, output, out) {
+        let _ = write_export_fault(fault, err);
+        return Status::Failed.number();
+    }
+    let _ = write_merged(paths.len(), table.rows.len(), err);
+    Status::Well.number()
+}
+
+// The table of the exports in files; or the status, if one can't be opened or merged, which is told.
+fn merge_files<S: Source + Drop, O: OpenSource<S>, E: Write>(
+    files: &O,
+    alloc: Global,
+    paths: &[&str],
+    plan: &Plan,
+    err: &mut E,
+) -> Result<Table, Status>
+    ensures merged { IfOk result
+        (IsMerged S.seen (AllZip (λ path. O.opens files.now path.now) paths.now) plan.now) }
+    ensures fits { IfOk result (FitsPlan plan.now) }
+    ensures status { IfErr result IsNotMerged }
+{
+    let mut merging = begin(alloc, plan, err)?;
+    let mut file = 0_usize;
+    for path in paths {
+        file = file.saturating_add(1);
+        merging = add_file(files, merging, file, *path, err)?;
+    }
+    end(merging, err)
+}
+
+// Nothing merged.
+fn begin<E: Write>(alloc: Global, plan: &Plan, err: &mut E) -> Result<Merging, Status>
+    ensures plan { IfOk result (λ m. plan_of m ≡ plan.now) }
+    ensures empty { IfOk result (λ m. StandsFor m []) }
+    ensures status { IfErr result (λ status. status ≡ Status.Failed) }
+{
+    match Merging::new(alloc, plan) {
+        Ok(merging) => Ok(merging),
+        Err(fault) => {
+            let _ = write_merge_fault(fault, err);
+            Err(Status::Failed)
+        }
+    }
+}
+
+// Adds the file of this number, counted from 1.
+fn add_file<S: Source + Drop, O: OpenSource<S>, E: Write>(
+    files: &O,
+    merging: Merging,
+    file: usize,
+    path: &str,
+    err: &mut E,
+) -> Result<Merging, Status>
+    ensures added { IfOk result (AddsFile S.seen (O.opens files.now path.now) merging) }
+    ensures status { IfErr result IsNotMerged }
+{
+    let Some(opened) = files.open_source(path) else {
+        let _ = writeln!(err, "collectd: open: {path}");
+        return Err(Status::NotOpened);
+    };
+    let mut source = opened.source;
+    match merging.read(&mut source, READ_LIMIT) {
+        Ok(merging) => Ok(merging),
+        Err(fault) => {
+            let _ = write_file_fault(file, fault, err);
+            Err(Status::Failed)
+        }
+    }
+}
+
+// The table of all that was added.
+fn end<E: Write>(merging: Merging, err: &mut E) -> Result<Table, Status>
+    ensures rows { (rows : List RowValue)
+        → StandsFor merging rows → IfOk result (λ table. AreAddedUp rows (rows_in table)) }
+    ensures fits { (rows : List RowValue)
+        → StandsFor merging rows → IfOk result (FitsPlan (plan_of merging)) }
+    ensures status { IfErr result (λ status. status ≡ Status.Failed) }
+{
+    match merging.finish() {
+        Ok(table) => Ok(table),
+        Err(fault) => {
+            let _ = write_merge_fault(fault, err);
+            Err(Status::Failed)
+        }
+    }
+}

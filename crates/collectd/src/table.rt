@@ -1,0 +1,172 @@
+//! Collecting and writing the table.
+
+ghost use Rattle.std.specs.Prelude.{◌≡◌, ◌≢◌, ◌⊎◌, ◌↔◌, List, ◌++◌, Err, IfOk, IfErr, IfSome, OnOk, All, vec_len};
+ghost use Rattle.std.specs.Io.KnownBytes.{Appends};
+ghost use Rattle.flow_table.specs.Fitting.{FitsPlan};
+ghost use Rattle.flow_table.specs.Plans.{PlanValue};
+ghost use Rattle.flow_collect.specs.Headline.{Headline};
+ghost use Rattle.flow_collect.specs.Refusals.{fault_of_arguments};
+ghost use Rattle.flow_collect.specs.Texts.{HasNoFault};
+ghost use Rattle.exit_status.specs.Statuses.{number_of};
+ghost use Rattle.run_reports.specs.ReportLines.{report_lines, tally_line};
+ghost use Rattle.collectd.specs.RunLines.{run_fault_line};
+ghost use Rattle.collectd.specs.Runs.{export_text, AddsUpWhole, MatchRunFault, WasCollected, WritesTable, WritesWholeTable};
+
+use crate::run_fault::RunFault;
+use exit_status::Status;
+use flow_collect::{Collected, OpenGate, Pool, collect};
+use flow_export::{ExportFault, Format, write_csv, write_ipfix, write_json};
+use flow_table::{Plan, Table};
+use ipfix_session::{SessionReport, Source};
+use run_reports::{write_collect_fault, write_export_fault, write_reports, write_tally};
+use std::alloc::Global;
+use std::io::{self, Write};
+use std::sync::Wait;
+use std::thread::Threads;
+
+/// How a table is written.
+#[derive(Clone, Copy, Debug, PartialEq, Eq)]
+pub struct Output {
+    pub format: Format,
+    /// The export time of messages of IPFIX, in seconds since 1970-01-01 UTC. CSV and JSON have none.
+    pub time: u32,
+}
+
+/// Runs each source as a session, writes the table of all their records to `out`, and answers the exit
+/// status: 0 if all was well; 1 if some session ended with a fault, and the table is written; 3 if
+/// nothing was collected, or the table couldn't be written.
+///
+/// To `err` it writes what there is to tell of the sessions, and then how many records of each class
+/// there were; at status 3 the line of the fault alone. A fault of `err` is passed over. Before a
+/// fault of collecting nothing is written to `out`.
+pub fn run<S: Source + Send + Drop, W: Write, E: Write, R: Threads + Wait + Sync>(
+    rt: &R,
+    alloc: Global,
+    sources: Vec<S>,
+    plan: &Plan,
+    pool: Pool,
+    output: Output,
+    out: &mut W,
+    err: &mut E,
+) -> u8
+    ensures statuses { (result ≡ number_of Status.Well) ⊎ (result ≡ number_of Status.SessionFault)
+        ⊎ (result ≡ number_of Status.Failed) }
+    // The table of what was received of each session was written, and nothing else; all was well exactly
+    // if no session had a fault.
+    ensures table { result ≢ number_of Status.Failed
+        → WritesTable S.seen sources.items plan.now pool output result
+        (W.contents out.old) (W.contents out.new) }
+    // The table of all whole texts was written, and each of them ends with a whole message.
+    ensures all { result ≡ number_of Status.Well
+        → WritesWholeTable S.seen sources.items plan.now output
+        (W.contents out.old) (W.contents out.new) }
+    // Nothing was written unless all was collected.
+    ensures untouched { result ≡ number_of Status.Failed
+        → (out.new ≡ out.old) ⊎ WasCollected S.seen sources.items plan.now pool }
+    // Nothing was collected if the arguments have a fault.
+    ensures refused { IfSome (fault_of_arguments pool (vec_len sources))
+        (λ fault. (result ≡ number_of Status.Failed) × (out.new ≡ out.old)) }
+{
+    match collect_and_write(rt, alloc, sources, plan, pool, output, out) {
+        Ok(collected) => {
+            let _ = tell(&collected, err);
+            status_of(&collected).number()
+        }
+        Err(fault) => {
+            let _ = tell_fault(fault, err);
+            Status::Failed.number()
+        }
+    }
+}
+
+// Collects, and writes the table.
+fn collect_and_write<S: Source + Send + Drop, W: Write, R: Threads + Wait + Sync>(
+    rt: &R,
+    alloc: Global,
+    sources: Vec<S>,
+    plan: &Plan,
+    pool: Pool,
+    output: Output,
+    out: &mut W,
+) -> Result<Collected<S>, RunFault>
+    ensures ok { IfOk result (λ c. Headline S.seen sources.items plan.now pool c
+        × Appends (W.contents out.old) (W.contents out.new) (export_text output plan.now c.table)) }
+    ensures err { IfErr result (λ fault.
+        MatchRunFault fault (out.new ≡ out.old) (WasCollected S.seen sources.items plan.now pool)) }
+    ensures refused { IfSome (fault_of_arguments pool (vec_len sources))
+        (λ fault. (result ≡ Err (RunFault.Collect fault)) × (out.new ≡ out.old)) }
+{
+    let collected = match collect(rt, alloc, sources, plan, pool, &OpenGate) {
+        Ok(collected) => collected,
+        Err(fault) => return Err(RunFault::Collect(fault)),
+    };
+    match export(alloc, plan, &collected.table, output, out) {
+        Ok(()) => Ok(collected),
+        Err(fault) => Err(RunFault::Export(fault)),
+    }
+}
+
+/// Writes a table, and sees to it that nothing is left in the writer's buffer.
+pub fn export<W: Write>(
+    alloc: Global,
+    plan: &Plan,
+    table: &Table,
+    output: Output,
+    out: &mut W,
+) -> Result<(), ExportFault>
+    requires { FitsPlan plan.now table.now }
+    ensures { OnOk result (Appends (W.contents out.old) (W.contents out.new)
+        (export_text output plan.now table.now)) }
+{
+    match output.format {
+        Format::Csv => write_csv(alloc, plan, table, out)?,
+        Format::Json => write_json(alloc, plan, table, out)?,
+        Format::Ipfix => write_ipfix(alloc, plan, table, output.time, out)?,
+    }
+    out.flush()?;
+    Ok(())
+}
+
+// How a run ended whose table is written.
+fn status_of<S: Source>(collected: &Collected<S>) -> Status
+    ensures ends { (result ≡ Status.Well) ⊎ (result ≡ Status.SessionFault) }
+    ensures well { (result ≡ Status.Well) ↔ All HasNoFault collected.now.sessions.items }
+    ensures whole { (sources : List S) (plan : PlanValue) (pool : Pool)
+        → Headline S.seen sources plan pool collected.now
+        → All HasNoFault collected.now.sessions.items → AddsUpWhole S.seen sources plan collected.now.table }
+{
+    ends_of(&collected.sessions)
+}
+
+// How sessions ended.
+fn ends_of(reports: &[SessionReport]) -> Status
+    ensures ends { (result ≡ Status.Well) ⊎ (result ≡ Status.SessionFault) }
+    ensures well { (result ≡ Status.Well) ↔ All HasNoFault reports.now }
+{
+    for report in reports {
+        if report.fault.is_some() {
+            return Status::SessionFault;
+        }
+    }
+    Status::Well
+}
+
+// What there is to tell of sessions and their records.
+fn tell<S, E: Write>(collected: &Collected<S>, err: &mut E) -> io::Result<()>
+    ensures { OnOk result (Appends (E.contents err.old) (E.contents err.new)
+        (report_lines collected.now.sessions.items ++ tally_line collected.now.table.tally)) }
+{
+    write_reports(&collected.sessions, err)?;
+    write_tally(&collected.table.tally, err)
+}
+
+// The line of what ended a run.
+fn tell_fault<E: Write>(fault: RunFault, err: &mut E) -> io::Result<()>
+    ensures { OnOk result (Appends (E.contents err.old) (E.contents err.new)
+        (run_fault_line fault)) }
+{
+    match fault {
+        RunFault::Collect(fault) => write_collect_fault(fault, err),
+        RunFault::Export(fault) => write_export_fault(fault, err),
+    }
+}

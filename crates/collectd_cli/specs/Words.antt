@@ -1,0 +1,11 @@
+-- The words of the command line that name a command.
+use Rattle.std.specs.Prelude.{ℕ, List, codes}
+use Rattle.collectd_cli.specs.declared.subcommands.Subcommand.{Subcommand}
+use Rattle.collectd_cli.specs.declared.subcommands.Subcommand.TheVariants.{Dump, Files, Tcp, Merge, Explain}
+
+abbrev pub word_of : Subcommand → List ℕ
+word_of Dump = codes "dump"
+word_of Files = codes "files"
+word_of Tcp = codes "tcp"
+word_of Merge = codes "merge"
+word_of Explain = codes "explain"

@@ -1,0 +1,43 @@
+//! The commands, and the words that name them.
+
+ghost use Rattle.std.specs.Prelude.{◌≡◌, Some};
+ghost use Rattle.collectd_cli.specs.Words.{word_of};
+
+/// A command of the program.
+#[derive(Clone, Copy, Debug, PartialEq, Eq)]
+pub enum Subcommand {
+    Dump,
+    Files,
+    Tcp,
+    Merge,
+    Explain,
+}
+
+impl Subcommand {
+    /// The word that names it.
+    pub fn word<'a>(self) -> &'a str
+        ensures { result.now ≡ word_of self }
+    {
+        match self {
+            Subcommand::Dump => "dump",
+            Subcommand::Files => "files",
+            Subcommand::Tcp => "tcp",
+            Subcommand::Merge => "merge",
+            Subcommand::Explain => "explain",
+        }
+    }
+
+    /// The one that a word names.
+    pub fn named(word: &str) -> Option<Subcommand>
+        ensures each { (command : Subcommand) → word.now ≡ word_of command → result ≡ Some command }
+    {
+        match word {
+            "dump" => Some(Subcommand::Dump),
+            "files" => Some(Subcommand::Files),
+            "tcp" => Some(Subcommand::Tcp),
+            "merge" => Some(Subcommand::Merge),
+            "explain" => Some(Subcommand::Explain),
+            _ => None,
+        }
+    }
+}

@@ -1,6 +1,0 @@
-use Rattle.std.proofs.Common.{◌≡◌, ◌++◌, take}
-use Rattle.flow_export.specs.SpecOctets.{keys_octets}
-use Rattle.flow_export.proofs.ipfix_template.append_key_specs.Given as goal
-
-abbrev pub invariant-loop-key : goal.invariant-loop-key
-invariant-loop-key l = l.out.items ≡ l.fn.out.items ++ keys_octets (take l.key-index l.keys)

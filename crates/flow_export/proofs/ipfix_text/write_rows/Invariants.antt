@@ -1,0 +1,13 @@
+use Rattle.std.proofs.Common.{◌≡◌, length, map}
+use Rattle.std.specs.Io.KnownBytes.{Appends}
+use Rattle.std.specs.List.{flat_map, range_with_len}
+use Rattle.flow_table.specs.SameTables.{value_of}
+use Rattle.flow_export.specs.declared.ipfix_text.messages.TheConstants.{MOST_OCTETS}
+use Rattle.flow_export.specs.IpfixText.{message_of_rows}
+use Rattle.flow_export.proofs.ipfix_text.write_rows.Given as goal
+
+abbrev pub invariant-loop-index : goal.invariant-loop-index
+invariant-loop-index g l = record {
+  written : Appends (g.W.Write.contents l.fn.out) (g.W.Write.contents l.out) (flat_map (message_of_rows l.plan l.export_time (map value_of l.rows)) (range_with_len 0 l.index));
+  room : length l.message ≡ MOST_OCTETS;
+}

@@ -1,7 +1,0 @@
-use Rattle.std.proofs.Common.{◌≡◌, map, take}
-use Rattle.ipfix_elements.specs.Names.{name_text}
-use Rattle.flow_export.specs.JsonParts.{label, text_of}
-use Rattle.flow_export.proofs.json_labels.counter_labels.Given as goal
-
-abbrev pub invariant-loop-counter : goal.invariant-loop-counter
-invariant-loop-counter l = map text_of l.labels.items ≡ map label (map name_text (take l.counter-index l.counters))

@@ -1,0 +1,8 @@
+use Rattle.std.proofs.Common.{◌≡◌, ◌++◌, take}
+use Rattle.std.specs.List.{flat_map, zip}
+use Rattle.flow_export.specs.JsonParts.{labelled}
+use Rattle.ipfix_elements.specs.JsonValues.{json_number}
+use Rattle.flow_export.proofs.json_text.rows.append_sums.Given as goal
+
+abbrev pub invariant-loop-index : goal.invariant-loop-index
+invariant-loop-index l = l.out.items ≡ l.fn.out.items ++ flat_map (labelled json_number) (take l.index (zip l.labels l.sums))

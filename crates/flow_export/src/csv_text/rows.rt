@@ -1,0 +1,91 @@
+//! Rows as lines of CSV. No text of a row needs quotes (`nothing_is_quoted`), so a line is its fields, with commas
+//! between them.
+
+ghost use Rattle.std.specs.Prelude.{◌≡◌, ◌++◌, OnOk, flat_map};
+ghost use Rattle.std.specs.Fmt.{decimal};
+ghost use Rattle.flow_table.specs.Fitting.{FitsRow};
+ghost use Rattle.flow_table.specs.SameTables.{value_of};
+ghost use Rattle.flow_export.specs.CsvText.{row_line};
+ghost use Rattle.flow_export.specs.Written.{next_cell, next_number, written_row};
+
+use crate::row_lines::RowLines;
+use flow_table::{Plan, Row};
+use ipfix_elements::{Cell, write_cell};
+use itoa::Buffer;
+use std::alloc::AllocError;
+
+/// Makes lines of CSV, for any plan.
+pub struct CsvLines;
+
+impl RowLines for CsvLines {
+    ghost is_for = { λ _ _. Unit {0} };
+
+    ghost line_of = { written_row };
+
+    fn append(&self, plan: &Plan, rows: &[Row], out: &mut Vec<u8>) -> Result<(), AllocError> {
+        for row in rows {
+            append_line(plan, row, out)?;
+        }
+        Ok(())
+    }
+}
+
+// Appends the line of a row: its interval, its key, its sums and the number of its flows.
+fn append_line(plan: &Plan, row: &Row, out: &mut Vec<u8>) -> Result<(), AllocError>
+    requires { FitsRow plan.now row.now }
+    ensures { OnOk result (out.new.items ≡ out.old.items ++ row_line plan.now (value_of row.now)) }
+{
+    let length = u64::from(plan.length());
+    let first = row.interval * length;
+    append_number(first, out)?;
+    append_next_number(first + length - 1, out)?;
+    append_cells(&row.key, out)?;
+    append_numbers(&row.sums, out)?;
+    append_next_number(row.flows, out)?;
+    out.push(b'\n')?;
+    Ok(())
+}
+
+// Appends a comma and a cell for each.
+fn append_cells(cells: &[Cell], out: &mut Vec<u8>) -> Result<(), AllocError>
+    ensures { OnOk result (out.new.items ≡ out.old.items ++ flat_map next_cell cells.now) }
+{
+    for cell in cells {
+        append_next_cell(cell, out)?;
+    }
+    Ok(())
+}
+
+// Appends a cell that stands behind another field.
+fn append_next_cell(cell: &Cell, out: &mut Vec<u8>) -> Result<(), AllocError>
+    ensures { OnOk result (out.new.items ≡ out.old.items ++ next_cell cell.now) }
+{
+    out.push(b',')?;
+    // A vector fails only if memory runs out.
+    write_cell(cell, out).map_err(|_| AllocError)
+}
+
+// Appends a comma and a number for each.
+fn append_numbers(numbers: &[u64], out: &mut Vec<u8>) -> Result<(), AllocError>
+    ensures { OnOk result (out.new.items ≡ out.old.items ++ flat_map next_number numbers.now) }
+{
+    for number in numbers {
+        append_next_number(*number, out)?;
+    }
+    Ok(())
+}
+
+// Appends a number that stands behind another field.
+fn append_next_number(number: u64, out: &mut Vec<u8>) -> Result<(), AllocError>
+    ensures { OnOk result (out.new.items ≡ out.old.items ++ next_number number) }
+{
+    out.push(b',')?;
+    append_number(number, out)
+}
+
+// Appends the digits of a number.
+fn append_number(number: u64, out: &mut Vec<u8>) -> Result<(), AllocError>
+    ensures { OnOk result (out.new.items ≡ out.old.items ++ decimal number) }
+{
+    out.extend_from_slice(Buffer::new().format(number).as_bytes())
+}

@@ -1,0 +1,138 @@
+//! Tables as messages of IPFIX.
+
+ghost use Rattle.std.specs.Prelude.{◌≡◌, ◌≢◌, ◌<◌, ◌≤◌, ◌^◌, ◌↔◌, All, length, IfOk, IfErr, IsErrOf, OnOk};
+ghost use Rattle.ipfix_elements.specs.Writers.{Writes};
+ghost use Rattle.flow_table.specs.AddedUp.{rows_in};
+ghost use Rattle.flow_table.specs.Fitting.{FitsPlan, FitsRow};
+ghost use Rattle.flow_export.specs.IpfixText.{ipfix_text, template_message};
+ghost use Rattle.flow_export.specs.RowOctets.{messages_of_rows};
+
+use crate::fault::ExportFault;
+use flow_table::{Plan, Row, Table};
+use ipfix_wire::TEMPLATE_SET_ID;
+use messages::{MOST_OCTETS, place_message, set_message};
+use std::alloc::Global;
+use std::io::Write;
+use template::append_template;
+
+mod messages;
+mod placing;
+mod rows;
+mod template;
+mod widths;
+
+pub use rows::ROWS_A_MESSAGE;
+
+/// A table of so many rows has no export: the sequence numbers of its messages would not have room in
+/// 32 bits (RFC 7011, section 3.1).
+const ROW_LIMIT: usize = 1 << 32;
+
+/// Writes a table as messages of IPFIX in domain 0 (RFC 7011): a template, and then the rows as its
+/// data records, in the order of the table, [`ROWS_A_MESSAGE`] in a message. A record has the first
+/// and the last millisecond of the row's interval, the cells of the key, each as wide as its element's
+/// kind, the sums, and the number of flows (RFC 7015, section 7). Sequence numbers count the rows
+/// before a message.
+///
+/// A message is made in memory and then written. `TooManyRows` is a table of 2^32 rows or more; then
+/// nothing is written. `OutOfMemory` is an allocation that was refused, and `WriteFailed` a writer that
+/// failed; how much was written then is open.
+pub fn write_ipfix<W: Write>(
+    alloc: Global,
+    plan: &Plan,
+    table: &Table,
+    export_time: u32,
+    out: &mut W,
+) -> Result<(), ExportFault>
+    requires { FitsPlan plan.now table.now }
+    ensures ok { OnOk result
+        (Writes W.contents out.old out.new (ipfix_text plan.now export_time (rows_in table.now))) }
+    ensures many { IsErrOf result ExportFault.TooManyRows ↔ (2 ^ 32 ≤ length table.now.rows.items) }
+    ensures untouched { IsErrOf result ExportFault.TooManyRows → out.new ≡ out.old }
+{
+    if table.rows.len() >= ROW_LIMIT {
+        return Err(ExportFault::TooManyRows);
+    }
+    write_template(alloc, plan, export_time, out)?;
+    write_rows(alloc, plan, &table.rows, export_time, out)
+}
+
+/// What `write_ipfix` writes, as a vector. An `Err` is `TooManyRows`, for a table of 2^32 rows or more,
+/// or `OutOfMemory`.
+pub fn ipfix_bytes(
+    alloc: Global,
+    plan: &Plan,
+    table: &Table,
+    export_time: u32,
+) -> Result<Vec<u8>, ExportFault>
+    requires { FitsPlan plan.now table.now }
+    ensures ok { IfOk result
+        (λ made. made.items ≡ ipfix_text plan.now export_time (rows_in table.now)) }
+    ensures many { IsErrOf result ExportFault.TooManyRows ↔ (2 ^ 32 ≤ length table.now.rows.items) }
+    ensures fault { IfErr result (λ fault. fault ≢ ExportFault.WriteFailed) }
+{
+    let mut bytes = Vec::new(alloc);
+    match write_ipfix(alloc, plan, table, export_time, &mut bytes) {
+        Ok(()) => Ok(bytes),
+        // A vector fails only if memory runs out.
+        Err(ExportFault::OutOfMemory | ExportFault::WriteFailed) => Err(ExportFault::OutOfMemory),
+        Err(ExportFault::TooManyRows) => Err(ExportFault::TooManyRows),
+    }
+}
+
+fn write_template<W: Write>(
+    alloc: Global,
+    plan: &Plan,
+    export_time: u32,
+    out: &mut W,
+) -> Result<(), ExportFault>
+    ensures ok { OnOk result
+        (Writes W.contents out.old out.new (template_message plan.now export_time)) }
+    ensures fault { IfErr result (λ fault. fault ≢ ExportFault.TooManyRows) }
+{
+    let mut template = Vec::new(alloc);
+    append_template(plan, &mut template)?;
+    let mut message = Vec::new(alloc);
+    set_message(
+        TEMPLATE_SET_ID,
+        template.as_slice(),
+        0,
+        export_time,
+        &mut message,
+    )?;
+    out.write_all(message.as_slice())?;
+    Ok(())
+}
+
+// Writes the rows, a hundred in each message but the last.
+fn write_rows<W: Write>(
+    alloc: Global,
+    plan: &Plan,
+    rows: &[Row],
+    export_time: u32,
+    out: &mut W,
+) -> Result<(), ExportFault>
+    requires fit { All (FitsRow plan.now) rows.now }
+    requires few { length rows.now < 2 ^ 32 }
+    ensures ok { OnOk result
+        (Writes W.contents out.old out.new (messages_of_rows plan.now export_time rows.now)) }
+    ensures fault { IfErr result (λ fault. fault ≢ ExportFault.TooManyRows) }
+{
+    let mut headers = Vec::new(alloc);
+    let mut room = Vec::new(alloc);
+    room.resize(MOST_OCTETS, 0)?;
+    let message = room.as_mut_slice();
+    for index in 0..rows.len().div_ceil(ROWS_A_MESSAGE) {
+        let first = ROWS_A_MESSAGE * index;
+        let last = rows.len().min(first + ROWS_A_MESSAGE);
+        let end = place_message(
+            plan,
+            &rows[first..last],
+            first as u32,
+            export_time,
+            &mut headers,
+            message,
+        )?;
+        out.write_all(&message[..end])?;
+    }
+    Ok(())
+}

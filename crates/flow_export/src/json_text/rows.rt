@@ -1,0 +1,86 @@
+//! Rows as lines of JSON: an object for each. No name and no value needs an escape (`rows_are_objects` of
+//! `json_laws`), so what an object has is appended as it is.
+
+ghost use Rattle.std.specs.Prelude.{◌≡◌, ◌++◌, OnOk, length};
+ghost use Rattle.flow_table.specs.Fitting.{FitsRow};
+ghost use Rattle.flow_export.specs.JsonParts.{AreLabels, labelled_cell, labelled_cells, labelled_numbers, object_of};
+ghost use Rattle.ipfix_elements.specs.JsonValues.{json_number};
+
+use crate::json_text::labels::{MemberLabel, RowLabels};
+use crate::row_lines::RowLines;
+use flow_table::{Plan, Row};
+use ipfix_elements::{Cell, append_json_cell, append_json_number};
+use std::alloc::AllocError;
+
+impl RowLines for RowLabels {
+    ghost is_for = { λ labels plan. AreLabels plan labels };
+
+    ghost line_of = { object_of };
+
+    fn append(&self, plan: &Plan, rows: &[Row], out: &mut Vec<u8>) -> Result<(), AllocError> {
+        for row in rows {
+            append_object(plan, self, row, out)?;
+        }
+        Ok(())
+    }
+}
+
+// Appends the object of a row: its interval, its key, its sums and the number of its flows.
+fn append_object(
+    plan: &Plan,
+    labels: &RowLabels,
+    row: &Row,
+    out: &mut Vec<u8>,
+) -> Result<(), AllocError>
+    requires made { AreLabels plan.now labels.now }
+    requires fits { FitsRow plan.now row.now }
+    ensures { OnOk result (out.new.items ≡ out.old.items ++ object_of plan.now row.now) }
+{
+    let length = u64::from(plan.length());
+    let first = row.interval * length;
+    append_member(b"{\"start\":", first, out)?;
+    append_member(b",\"end\":", first + length - 1, out)?;
+    append_cells(&labels.keys, &row.key, out)?;
+    append_sums(&labels.counters, &row.sums, out)?;
+    append_member(b",\"flows\":", row.flows, out)?;
+    out.extend_from_slice(b"}\n")?;
+    Ok(())
+}
+
+// Appends what stands before a number, and the number.
+fn append_member(label: &[u8], number: u64, out: &mut Vec<u8>) -> Result<(), AllocError>
+    ensures { OnOk result (out.new.items ≡ out.old.items ++ (label.now ++ json_number number)) }
+{
+    out.extend_from_slice(label)?;
+    append_json_number(number, out)
+}
+
+// Appends cells, each behind its label.
+fn append_cells(labels: &[MemberLabel], cells: &[Cell], out: &mut Vec<u8>) -> Result<(), AllocError>
+    requires { length labels.now ≡ length cells.now }
+    ensures { OnOk result (out.new.items ≡ out.old.items ++ labelled_cells labels.now cells.now) }
+{
+    for index in 0..cells.len() {
+        append_cell(&labels[index], &cells[index], out)?;
+    }
+    Ok(())
+}
+
+// Appends a cell behind its label.
+fn append_cell(label: &MemberLabel, cell: &Cell, out: &mut Vec<u8>) -> Result<(), AllocError>
+    ensures { OnOk result (out.new.items ≡ out.old.items ++ labelled_cell label.now cell.now) }
+{
+    out.extend_from_slice(label.text.as_slice())?;
+    append_json_cell(cell, out)
+}
+
+// Appends sums, each behind its label.
+fn append_sums(labels: &[MemberLabel], sums: &[u64], out: &mut Vec<u8>) -> Result<(), AllocError>
+    requires { length labels.now ≡ length sums.now }
+    ensures { OnOk result (out.new.items ≡ out.old.items ++ labelled_numbers labels.now sums.now) }
+{
+    for index in 0..sums.len() {
+        append_member(labels[index].text.as_slice(), sums[index], out)?;
+    }
+    Ok(())
+}

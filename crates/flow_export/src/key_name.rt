@@ -1,0 +1,21 @@
+//! The names of keys, which the heading of CSV and the objects of JSON share.
+
+ghost use Rattle.std.specs.Prelude.{◌≡◌, ◌++◌, OnOk};
+ghost use Rattle.flow_export.specs.CsvText.{key_text};
+
+use flow_table::Key;
+use ipfix_elements::append_name;
+use itoa::Buffer;
+use std::alloc::AllocError;
+
+/// Appends a key's name: that of its element, and its prefix if it has one.
+pub fn append_key(key: Key, text: &mut Vec<u8>) -> Result<(), AllocError>
+    ensures { OnOk result (text.new.items ≡ text.old.items ++ key_text key) }
+{
+    append_name(key.element, text)?;
+    if let Some(bits) = key.prefix {
+        text.extend_from_slice("/".as_bytes())?;
+        text.extend_from_slice(Buffer::new().format(bits).as_bytes())?;
+    }
+    Ok(())
+}

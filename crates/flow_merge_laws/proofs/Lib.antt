@@ -1,0 +1,5 @@
+pub mod OneRow
+pub mod PrefixBits
+pub mod ExportedTables
+pub mod HeldExports
+pub mod MergesOn

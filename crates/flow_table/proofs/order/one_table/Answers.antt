@@ -1,5 +1,0 @@
-use Rattle.flow_table.proofs.OneTable.{same_table}
-use Rattle.flow_table.proofs.order.one_table.Goals as goal
-
-pub returns : goal.returns
-returns c = same_table

@@ -1,5 +1,0 @@
-use Rattle.flow_table.proofs.Bags.{permuted}
-use Rattle.flow_table.proofs.order.permutation_is_same_bag.Goals as goal
-
-pub returns : goal.returns
-returns c = permuted

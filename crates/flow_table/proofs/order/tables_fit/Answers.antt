@@ -1,5 +1,0 @@
-use Rattle.flow_table.proofs.Fits.{tables_fit_of}
-use Rattle.flow_table.proofs.order.tables_fit.Goals as goal
-
-pub returns : goal.returns
-returns c = tables_fit_of

@@ -1,5 +1,0 @@
-use Rattle.flow_table.proofs.Bags.{too_large_more}
-use Rattle.flow_table.proofs.order.too_large_stays.Goals as goal
-
-pub returns : goal.returns
-returns c = too_large_more

@@ -1,0 +1,40 @@
+-- What a dump of a source wrote, and what its report says.
+use Rattle.std.specs.Prelude.{◌≡◌, ℕ, List, Option, Some, None}
+use Rattle.std.specs.List.{flat_map}
+use Rattle.std.specs.Io.KnownBytes.{Appends}
+use Rattle.ipfix_message.specs.declared.record.DataRecord.{DataRecord}
+use Rattle.ipfix_session.specs.declared.report.SessionReport.{SessionReport}
+use Rattle.ipfix_session.specs.declared.stop.Stop.TheVariants.{Clean}
+use Rattle.ipfix_session.specs.Given.{records_of, stop_of}
+use Rattle.ipfix_session.specs.Sources.{SourceView}
+use Rattle.ipfix_session.specs.Drives.{IsGiven}
+use Rattle.ipfix_session.specs.declared.driver.TheConstants.{READ_LIMIT, READ_SIZE}
+use Rattle.ipfix_dump.specs.DumpLines.{dump_line}
+use Rattle.ipfix_dump.specs.JsonLines.{json_line}
+
+-- with the line of a record
+module _ (line_of : DataRecord → List ℕ) where
+  -- a source gave octets that have these records, as the report tells, and their lines were written
+  pub record DumpsBy {S : Type 0} (seen : S → SourceView) (before after : S) (old new : Option (List ℕ)) (report : SessionReport) : Type 0 where
+    pub records : List DataRecord
+    pub given : IsGiven seen READ_LIMIT READ_SIZE before after report records
+    pub written : Appends old new (flat_map line_of records)
+
+  -- if a source tells its octets, the lines of all of them were written, and no fault was met
+  abbrev pub DumpsAllBy : Option (List ℕ) → Option (List ℕ) → Option (List ℕ) → Type 0
+  DumpsAllBy None old new = Unit {0}
+  DumpsAllBy (Some whole) old new = (stop_of whole ≡ Clean) × Appends old new (flat_map line_of (records_of whole))
+
+-- by lines of text
+abbrev pub Dumps : {S : Type 0} → (S → SourceView) → S → S → Option (List ℕ) → Option (List ℕ) → SessionReport → Type 0
+Dumps = DumpsBy dump_line
+
+abbrev pub DumpsAll : Option (List ℕ) → Option (List ℕ) → Option (List ℕ) → Type 0
+DumpsAll = DumpsAllBy dump_line
+
+-- by lines of JSON
+abbrev pub DumpsJson : {S : Type 0} → (S → SourceView) → S → S → Option (List ℕ) → Option (List ℕ) → SessionReport → Type 0
+DumpsJson = DumpsBy json_line
+
+abbrev pub DumpsAllJson : Option (List ℕ) → Option (List ℕ) → Option (List ℕ) → Type 0
+DumpsAllJson = DumpsAllBy json_line

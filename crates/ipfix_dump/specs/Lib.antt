@@ -1,0 +1,7 @@
+-- What public contracts cite.
+pub mod DumpLines
+pub mod JsonLines
+pub mod Dumped
+pub mod Faults
+-- What only inner functions and proofs need.
+pub mod LineParts

@@ -1,0 +1,60 @@
+//! Dumping a source: a line for each data record.
+
+ghost use Rattle.std.specs.Prelude.{IfOk};
+ghost use Rattle.ipfix_dump.specs.Dumped.{Dumps, DumpsBy, DumpsJson};
+
+use crate::fault::DumpFault;
+use crate::json_line::JsonLine;
+use crate::line::Line;
+use crate::line_sink::LineSink;
+use crate::record_line::RecordLine;
+use ipfix_session::{READ_LIMIT, SessionReport, Source, drive};
+use std::alloc::Global;
+use std::io::Write;
+
+/// Reads a source to its end and writes a line for each data record of its octets, up to the end or
+/// the first fault. The lines of a message are written as soon as it is whole.
+///
+/// The report says what the messages gave, and the fault that ended them; `OutOfMemory` for the
+/// input is one. An `Err` is a line that couldn't be made or written; how much was written then is
+/// open.
+pub fn dump<S: Source, W: Write>(
+    alloc: Global,
+    source: &mut S,
+    out: &mut W,
+) -> Result<SessionReport, DumpFault>
+    ensures { IfOk result (λ report.
+        Dumps S.seen source.old source.new (W.contents out.old) (W.contents out.new) report) }
+{
+    dump_by(alloc, &mut Line::new(alloc), source, out)
+}
+
+/// Does the same with an object of JSON (RFC 8259) for each data record, on a line of its own.
+pub fn dump_json<S: Source, W: Write>(
+    alloc: Global,
+    source: &mut S,
+    out: &mut W,
+) -> Result<SessionReport, DumpFault>
+    ensures { IfOk result (λ report.
+        DumpsJson S.seen source.old source.new (W.contents out.old) (W.contents out.new) report) }
+{
+    dump_by(alloc, &mut JsonLine::new(alloc), source, out)
+}
+
+/// Does the same with lines that `line` makes.
+pub fn dump_by<L: RecordLine, S: Source, W: Write>(
+    alloc: Global,
+    line: &mut L,
+    source: &mut S,
+    out: &mut W,
+) -> Result<SessionReport, DumpFault>
+    ensures { IfOk result (λ report. DumpsBy L.line_of S.seen source.old source.new
+        (W.contents out.old) (W.contents out.new) report) }
+{
+    let mut sink = LineSink::new(line, out);
+    let report = drive(alloc, source, &mut sink, READ_LIMIT);
+    match sink.fault {
+        None => Ok(report),
+        Some(fault) => Err(fault),
+    }
+}

@@ -1,0 +1,19 @@
+//! Dumping sessions of IPFIX (RFC 7011): a line for each data record, as text or as an object of JSON.
+#![tactic(auto)]
+
+mod dumping;
+mod fault;
+mod front;
+mod json_line;
+mod labels;
+mod line;
+mod line_octets;
+mod line_sink;
+mod record_line;
+mod text;
+
+pub use dumping::{dump, dump_by, dump_json};
+pub use fault::DumpFault;
+pub use json_line::JsonLine;
+pub use line::Line;
+pub use record_line::RecordLine;

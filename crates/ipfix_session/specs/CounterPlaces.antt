@@ -1,0 +1,18 @@
+-- How a counter of messages keeps its place, and a text that it has read up to what is left.
+use Rattle.std.specs.Prelude.{◌≡◌, List, ℕ, ◌++◌}
+use Rattle.std.specs.Int.NonZero.{non_zero_u16_get}
+use Rattle.ipfix_session.specs.MessageCounts.{PlaceView, within_header, within_message, at_fault, CounterView, HasRead}
+use Rattle.ipfix_session.specs.declared.message_counter.CounterPlace.{CounterPlace}
+use Rattle.ipfix_session.specs.declared.message_counter.CounterPlace.TheVariants as places
+
+-- what contracts see of a place
+abbrev pub place_of : CounterPlace → PlaceView
+place_of (places.Header begun) = within_header begun.items
+place_of (places.Message due) = within_message (non_zero_u16_get due)
+place_of places.Fault = at_fault
+
+-- this text was read up to what is left
+pub record IsReading (c : CounterView) (left text : List ℕ) : Type 0 where
+  pub front : List ℕ
+  pub has_read : HasRead c front
+  pub whole : front ++ left ≡ text

@@ -1,0 +1,135 @@
+//! Counting the messages of a text that is read in pieces (RFC 7011, section 3.1).
+
+ghost use Rattle.std.specs.Prelude.{◌≡◌, ◌+◌, ◌<◌, ◌++◌, ℕ, List, [], length};
+ghost use Rattle.ipfix_session.specs.MessageStream.{cut};
+ghost use Rattle.ipfix_session.specs.Ledger.{capped};
+ghost use Rattle.ipfix_session.specs.MessageCounts.{whole_messages, HasRead, IsWithinMessage};
+ghost use Rattle.ipfix_session.specs.CounterPlaces.{IsReading};
+
+use arrayvec::ArrayVec;
+use ipfix_wire::{HEADER_LENGTH, read_header};
+use std::marker::Model;
+use std::num::NonZeroU16;
+
+// The most octets of a header that isn't whole.
+const MOST_BEGUN: usize = HEADER_LENGTH - 1;
+
+/// Where what was read of a text ends.
+#[derive(Drop)]
+enum CounterPlace {
+    /// After these octets of a header; before it, if there are none.
+    Header(ArrayVec<u8, MOST_BEGUN>),
+    /// Within a message of which this many octets are to come.
+    Message(NonZeroU16),
+    /// After a header that no message has: none is found from there on.
+    Fault,
+}
+
+/// Counts the messages of a text that is read in pieces. It goes from header to header by their lengths,
+/// and looks at nothing between them.
+#[derive(Drop)]
+pub struct MessageCounter {
+    messages: u64,
+    place: CounterPlace,
+}
+
+impl Model for MessageCounter {
+    ghost use Rattle.ipfix_session.specs.MessageCounts.{CounterView};
+    ghost use Rattle.ipfix_session.specs.CounterPlaces.{place_of};
+
+    ghost Value = { CounterView };
+
+    ghost view = { λ c. record { messages = c.messages; place = place_of c.place } };
+}
+
+impl MessageCounter {
+    /// Of a text of which nothing was read.
+    pub fn new() -> Self
+        ensures { HasRead result [] }
+    {
+        MessageCounter {
+            messages: 0,
+            place: CounterPlace::Header(ArrayVec::new()),
+        }
+    }
+
+    /// How many messages were read to their end. It stops at `u64::MAX`.
+    pub fn count(&self) -> u64
+        ensures { result ≡ self.now.messages }
+    {
+        self.messages
+    }
+
+    /// Reads on in the text.
+    pub fn read(&mut self, piece: &[u8])
+        ensures { (text : List ℕ) → HasRead self.old text → HasRead self.new (text ++ piece.now) }
+    {
+        let mut left = piece;
+        while !left.is_empty() {
+            left = self.read_part(left);
+        }
+    }
+
+    // Reads up to the end of the header or of the message that it is in, and gives what is left.
+    fn read_part<'a>(&mut self, piece: &'a [u8]) -> &'a [u8]
+        requires { 0 < length piece.now }
+        ensures reads { (text : List ℕ) → IsReading self.old piece.now text
+            → IsReading self.new result.now text }
+        ensures less { length result.now < length piece.now }
+    {
+        match &mut self.place {
+            CounterPlace::Header(begun) => {
+                if begun.try_extend_from_slice(piece).is_ok() {
+                    return &[];
+                }
+                let (end, left) = piece.split_at(HEADER_LENGTH - begun.len());
+                let header = whole_header(begun.as_slice(), end);
+                self.begin_message(&header);
+                left
+            }
+            CounterPlace::Message(due) => {
+                let due = due.get();
+                let (part, left) = piece.split_at(usize::from(due).min(piece.len()));
+                self.go_on(due - part.len() as u16);
+                left
+            }
+            CounterPlace::Fault => &[],
+        }
+    }
+
+    // Goes on after a whole header.
+    fn begin_message(&mut self, header: &[u8; HEADER_LENGTH])
+        ensures { (text part : List ℕ) → self.old.messages ≡ capped (whole_messages text)
+            → (cut text).rest ++ part ≡ header.now → HasRead self.new (text ++ part) }
+    {
+        match read_header(header) {
+            Ok(header) => self.go_on(header.length - HEADER_LENGTH as u16),
+            Err(_) => self.place = CounterPlace::Fault,
+        }
+    }
+
+    // Goes on in a message of which so many octets are to come.
+    fn go_on(&mut self, due: u16)
+        ensures { (text part : List ℕ) → self.old.messages ≡ capped (whole_messages text)
+            → IsWithinMessage due ((cut text).rest ++ part) → HasRead self.new (text ++ part) }
+    {
+        match NonZeroU16::new(due) {
+            Some(due) => self.place = CounterPlace::Message(due),
+            None => {
+                self.messages = self.messages.saturating_add(1);
+                self.place = CounterPlace::Header(ArrayVec::new());
+            }
+        }
+    }
+}
+
+// A header that was read in two parts.
+fn whole_header(begun: &[u8], end: &[u8]) -> [u8; HEADER_LENGTH]
+    requires { length begun.now + length end.now ≡ HEADER_LENGTH }
+    ensures { result ≡ begun.now ++ end.now }
+{
+    let mut header = [0; HEADER_LENGTH];
+    header[..begun.len()].copy_from_slice(begun);
+    header[begun.len()..].copy_from_slice(end);
+    header
+}

@@ -1,0 +1,8 @@
+use Rattle.std.proofs.Common.{take}
+use Rattle.std.specs.List.{flat_map}
+use Rattle.std.specs.Io.KnownBytes.{Appends}
+use Rattle.run_reports.specs.ReportLines.{domain_lines}
+use Rattle.run_reports.proofs.reports.write_domains.Given as goal
+
+abbrev pub invariant-loop-domain : goal.invariant-loop-domain
+invariant-loop-domain g l = Appends (g.W.Write.contents l.initial.out) (g.W.Write.contents l.out) (flat_map (domain_lines l.session) (take l.domain-index l.domains))
