@@ -67,10 +67,10 @@ fn write_session(path: String, mut numbers: Numbers, messages: &[Message], end: 
     Ok(counts)
 }
 
-/// The table of messages that were written so often.
+/// The table of messages that were written so often. Those that never were give no row.
 fn csv(messages: &[Message], counts: &[u64]) -> String {
     let mut rows: BTreeMap<(u64, u32), (u64, u64)> = BTreeMap::new();
-    for (message, count) in messages.iter().zip(counts) {
+    for (message, count) in messages.iter().zip(counts).filter(|(_, count)| **count > 0) {
         for (time, address, octets) in &message.flows {
             let row = rows.entry((time / MINUTE * MINUTE, *address)).or_default();
             *row = (row.0 + count * u64::from(*octets), row.1 + count);

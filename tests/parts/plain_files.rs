@@ -2,15 +2,15 @@
 //! sessions in files as CSV, the texts of their reports to standard error, and ends with the same status.
 //!
 //! The octets are read by the plain program of bench/dump, and the records are added up from its lines, by the rules of
-//! docs/PROFILE.md. Of a plan it knows the form that tests/random_plans.rs writes, and which values make none.
+//! docs/PROFILE.md. Of a plan it knows the form that tests/parts/random_plans.rs writes, and which values make none.
 
-#[path = "../bench/dump/plain/element.rs"]
+#[path = "../../bench/dump/plain/element.rs"]
 mod element;
-#[path = "../bench/dump/plain/session.rs"]
+#[path = "../../bench/dump/plain/session.rs"]
 mod session;
-#[path = "../bench/dump/plain/template.rs"]
+#[path = "../../bench/dump/plain/template.rs"]
 mod template;
-#[path = "../bench/dump/plain/text.rs"]
+#[path = "../../bench/dump/plain/text.rs"]
 mod text;
 
 use element::{Element, Kind};
