@@ -2,26 +2,29 @@
 PREFIX = /usr/local
 
 bin/collectd: crates.txt HANDLES $(shell find crates \( -name out -o -name must-fail \) -prune -o -type f -print)
-	cd crates/collectd_cli && rt run -- dump < /dev/null && install -D out/collectd_cli ../../bin/collectd
+	@build/program
 
-.PHONY: test edits bench compare interop refusals hostile soak scale install dist deb packages clean
-test: ; @tests/gate
+# README's first example, run without any proof.
+try: ; @cd crates/collectd_cli && rt try -- dump < ../../examples/one-flow.ipfix
 
-edits: ; @tests/try_edits
+.PHONY: try test edits bench compare interop refusals hostile soak scale install dist deb packages clean
+test: ; @tests/gate/run
+
+edits: ; @tests/more/try_edits
 
 bench: bin/collectd ; @for run in bench/*/run; do $$run || exit 1; done
 
 interop: bin/collectd ; @tests/interoperability/run
 
-refusals: bin/collectd ; @tests/refusals
+refusals: bin/collectd ; @tests/gate/refusals
 
-compare: bin/collectd ; @tests/compare && tests/stress && tests/examples
+compare: bin/collectd ; @tests/more/compare && tests/more/stress && tests/more/examples
 
-hostile: bin/collectd ; @tests/peers
+hostile: bin/collectd ; @tests/more/peers
 
-soak: bin/collectd ; @tests/soak
+soak: bin/collectd ; @tests/more/soak
 
-scale: bin/collectd ; @tests/scale
+scale: bin/collectd ; @tests/more/scale
 
 install: bin/collectd
 	install -D bin/collectd $(DESTDIR)$(PREFIX)/bin/collectd
@@ -31,6 +34,6 @@ dist: bin/collectd ; @packaging/dist
 
 deb: bin/collectd ; @packaging/deb
 
-packages: dist deb ; @tests/packages
+packages: dist deb ; @tests/more/packages
 
 clean: ; rm -rf bin dist tests/out crates/*/out
