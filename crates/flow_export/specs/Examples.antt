@@ -2,15 +2,15 @@
 use Rattle.std.specs.Prelude.{ℕ, List, [], ◌∷◌, replicate, Some, None}
 use Rattle.ipfix_elements.specs.declared.cell.Cell.TheVariants.{Ipv4}
 use Rattle.flow_table.specs.declared.method.Method.TheVariants.{Start}
-use Rattle.flow_table.specs.Plans.{PlanValue, plan_of}
+use Rattle.flow_table.specs.Plans.{PlanValue, plan_value}
 use Rattle.flow_table.specs.SameTables.{RowValue, row_value}
 use Rattle.ipfix_elements.specs.Elements.{iana}
 
 abbrev pub by_address : PlanValue
-by_address = plan_of 60000 Start (record { element = iana 8; prefix = None } ∷ []) (iana 1 ∷ []) 4096
+by_address = plan_value 60000 Start (record { element = iana 8; prefix = None } ∷ []) (iana 1 ∷ []) 4096
 
 abbrev pub by_prefix : PlanValue
-by_prefix = plan_of 60000 Start (record { element = iana 8; prefix = Some 24 } ∷ []) (iana 1 ∷ []) 4096
+by_prefix = plan_value 60000 Start (record { element = iana 8; prefix = Some 24 } ∷ []) (iana 1 ∷ []) 4096
 
 abbrev pub one_flow : List RowValue
 one_flow = row_value 0 (Ipv4 (192 ∷ 0 ∷ 2 ∷ 1 ∷ []) ∷ []) (1500 ∷ []) 1 ∷ []

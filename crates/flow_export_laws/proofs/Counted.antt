@@ -24,7 +24,7 @@ use Rattle.flow_table.proofs.Places.{keys_tell}
 use Rattle.flow_table.proofs.Sums.{totals_at-append, totals_at-used, flows_at-append}
 use Rattle.flow_table.proofs.AddedUp.{among_map, not_later}
 use Rattle.flow_table.proofs.OneTable.{Among, among, same_sorted, places_asymmetric, some_flow, row_at, rows_by_place}
-use Rattle.flow_export_laws.specs.ReadBack.{by_start, one_flow}
+use Rattle.flow_export_laws.specs.ReadBack.{by_start, with_one_flow}
 
 -- a record that is used as this row's one flow
 pub record IsFlowOf (plan : PlanValue) (row : RowValue) (r : DataRecord) : Type 0 where
@@ -146,14 +146,14 @@ module _ (plan : PlanValue) (positive : 0 < plan.length) (rec : RowValue → Dat
   row_of (x ∷ xs) z (inl here) = (x, inl refl, here)
   row_of (x ∷ xs) z (inr later) = let more = row_of xs z later in (more.0, inr more.1, more.2)
 
-  same_rows : (rs : List DataRecord) (rows : List RowValue) → ((row : RowValue) → Among rows row → row_at p rs (place row) ≡ one_flow row) → map (row_at p rs) (map place rows) ≡ map one_flow rows
+  same_rows : (rs : List DataRecord) (rows : List RowValue) → ((row : RowValue) → Among rows row → row_at p rs (place row) ≡ with_one_flow row) → map (row_at p rs) (map place rows) ≡ map with_one_flow rows
   same_rows rs [] same = refl
   same_rows rs (x ∷ xs) same = rw (same x (inl refl), same_rows rs xs (λ row h. same row (inr h))) refl
 
-  value_at : (rs : List DataRecord) (row : RowValue) → (flows_at p rs row.interval row.key ≡ 1) × (map (sum_at p rs row.interval row.key) plan.counters ≡ row.sums) → row_at p rs (place row) ≡ one_flow row
+  value_at : (rs : List DataRecord) (row : RowValue) → (flows_at p rs row.interval row.key ≡ 1) × (map (sum_at p rs row.interval row.key) plan.counters ≡ row.sums) → row_at p rs (place row) ≡ with_one_flow row
   value_at rs row has = rw (has.0, has.1) refl
 
-  pub counted : (rows : List RowValue) (table : Table) → Flows rows → IsStrictlySortedBy place_cmp (map place rows) → IsTable p (map rec rows) table → map value_of table.rows.items ≡ map one_flow rows
+  pub counted : (rows : List RowValue) (table : Table) → Flows rows → IsStrictlySortedBy place_cmp (map place rows) → IsTable p (map rec rows) table → map value_of table.rows.items ≡ map with_one_flow rows
   counted rows table flows sorted is =
       let rs = map rec rows in
       let all : (row : RowValue) → Among rows row → (flows_at p rs row.interval row.key ≡ 1) × (map (sum_at p rs row.interval row.key) plan.counters ≡ row.sums) =

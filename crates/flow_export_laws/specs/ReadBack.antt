@@ -59,9 +59,9 @@ abbrev pub EndInTime : PlanValue → List Row → Type 0
 EndInTime plan rows = All (λ row. last_of plan (value_of row) < 2 ^ 50) rows
 
 -- a row of one flow
-abbrev pub one_flow : RowValue → RowValue
-one_flow row = row_value row.interval row.key row.sums 1
+abbrev pub with_one_flow : RowValue → RowValue
+with_one_flow row = row_value row.interval row.key row.sums 1
 
 -- the aggregate of the records by method start has the rows, each with one flow
 abbrev pub CountsAgain : PlanValue → ℕ → List RowValue → Type 0
-CountsAgain plan time rows = (table : Table) → IsTable (by_start plan) (map (row_record plan time) rows) table → map value_of table.rows.items ≡ map one_flow rows
+CountsAgain plan time rows = (table : Table) → IsTable (by_start plan) (map (row_record plan time) rows) table → map value_of table.rows.items ≡ map with_one_flow rows

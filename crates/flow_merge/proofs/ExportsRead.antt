@@ -10,7 +10,7 @@ use Rattle.ipfix_session.proofs.Driven.{driven_took_all}
 use Rattle.flow_table.specs.Plans.{PlanValue}
 use Rattle.flow_table.specs.SameTables.{RowValue}
 use Rattle.flow_merge.specs.Judged.{IsWell, IsBadBy}
-use Rattle.flow_merge.specs.Merging.{AddsExport, AreRowRecords, StandsFor, IsDue, plan_of}
+use Rattle.flow_merge.specs.Merging.{AddsExport, AreRowRecords, StandsFor, IsDue, merging_plan}
 use Rattle.flow_merge.specs.RowSink.{HoldsAfter, TakesRecord}
 use Rattle.flow_merge.specs.declared.merge_fault.MergeFault.{MergeFault}
 use Rattle.flow_merge.specs.declared.merging.Merging.{Merging}
@@ -28,7 +28,7 @@ module _ {S : Type 0} (seen : S → SourceView) (limit : ℕ) (before after : S)
   taken : TakesGiven seen sink_view limit READ_SIZE before after (new_sink old) last r
   taken = driven_took_all seen sink_view limit READ_SIZE before after (new_sink old) last r driven refl
 
-  pub same_plan : plan_of last.merging ≡ plan_of old
+  pub same_plan : merging_plan last.merging ≡ merging_plan old
   same_plan = (takes_all (new_sink old) last taken.records taken.takes.chain).plan
 
   module _ (rows : List RowValue) (stands : StandsFor old rows) where
@@ -43,14 +43,14 @@ module _ {S : Type 0} (seen : S → SourceView) (limit : ℕ) (before after : S)
         let h = held_with None none in
         record {
           more = h.0;
-          gives_export = gives_export seen limit before after r taken.records taken.given (plan_of old) h.0 well (subst (λ (p : PlanValue). AreRowRecords p taken.records h.0) same_plan h.1);
+          gives_export = gives_export seen limit before after r taken.records taken.given (merging_plan old) h.0 well (subst (λ (p : PlanValue). AreRowRecords p taken.records h.0) same_plan h.1);
           stands = h.2;
         }
 
-    pub due_row : (fault : MergeFault) → IsWell r → last.fault ≡ Some fault → IsDue seen limit (plan_of old) rows before after fault
-    due_row fault well is = due_by_sink seen limit before after r taken.records taken.given last.merging (plan_of old) rows well same_plan fault (held_with (Some fault) is)
+    pub due_row : (fault : MergeFault) → IsWell r → last.fault ≡ Some fault → IsDue seen limit (merging_plan old) rows before after fault
+    due_row fault well is = due_by_sink seen limit before after r taken.records taken.given last.merging (merging_plan old) rows well same_plan fault (held_with (Some fault) is)
 
-    pub due_report : (answer : Result Merging MergeFault) (fault : MergeFault) → IsBadBy r fault → IsErrAnd answer (λ e. e ≡ fault) → IfErr answer (IsDue seen limit (plan_of old) rows before after)
+    pub due_report : (answer : Result Merging MergeFault) (fault : MergeFault) → IsBadBy r fault → IsErrAnd answer (λ e. e ≡ fault) → IfErr answer (IsDue seen limit (merging_plan old) rows before after)
     due_report (Ok m) fault bad is = tt
     due_report (Err e) fault bad is =
-        subst (IsDue seen limit (plan_of old) rows before after) (sym is) (due_by_report seen limit before after r taken.records taken.given (plan_of old) rows fault bad)
+        subst (IsDue seen limit (merging_plan old) rows before after) (sym is) (due_by_report seen limit before after r taken.records taken.given (merging_plan old) rows fault bad)

@@ -17,7 +17,7 @@ use Rattle.ipfix_session.specs.declared.report.SessionReport.{SessionReport}
 use Rattle.flow_table.specs.Plans.{PlanValue}
 use Rattle.flow_table.specs.SameTables.{RowValue}
 use Rattle.flow_merge.specs.Judged.{ReportsExport, ReportsNoLoss, IsWell, IsBadBy}
-use Rattle.flow_merge.specs.Merging.{AreOfExport, AreRowRecords, FirstOther, FirstTooLarge, GivesExport, LosesNone, NoneLost, nothing, plan_of}
+use Rattle.flow_merge.specs.Merging.{AreOfExport, AreRowRecords, FirstOther, FirstTooLarge, GivesExport, LosesNone, NoneLost, nothing, merging_plan}
 use Rattle.flow_merge.specs.Merging.{IsDue as IsMergeDue}
 use Rattle.flow_merge.specs.RowSink.{HoldsAfter}
 use Rattle.flow_merge.specs.declared.merge_fault.MergeFault.{MergeFault}
@@ -110,7 +110,7 @@ module _ {S : Type 0} (seen : S → SourceView) (limit : ℕ) (before after : S)
   due_by_report plan rows (Row fault) bad = absurd bad
 
   -- what its sink has against them
-  module _ (m : Merging) (plan : PlanValue) (rows : List RowValue) (well : IsWell r) (same : plan_of m ≡ plan) where
+  module _ (m : Merging) (plan : PlanValue) (rows : List RowValue) (well : IsWell r) (same : merging_plan m ≡ plan) where
     whole : AreOfExport (gives given.gave).messages
     whole = are_of_export r _ _ (reports_all well.no_fault) well.export
 

@@ -20,7 +20,7 @@ use Rattle.flow_merge.specs.declared.merge_fault.MergeFault.{MergeFault}
 use Rattle.flow_merge.specs.declared.merge_fault.MergeFault.TheVariants.{OutOfMemory, SumTooLarge, Session, NotAnExport, Lost, Row}
 use Rattle.flow_merge.specs.declared.merging.Merging.{Merging}
 use Rattle.flow_merge.specs.declared.row_sink.RowSink.{RowSink}
-use Rattle.flow_merge.specs.Merging.{AreRowRecords, FirstOther, FirstTooLarge, plan_of}
+use Rattle.flow_merge.specs.Merging.{AreRowRecords, FirstOther, FirstTooLarge, merging_plan}
 use Rattle.flow_merge.specs.MergeFaults.{fault_of_row, fault_of_table}
 use Rattle.flow_merge.specs.RowSink.{HoldsAfter, TakesRecord}
 
@@ -53,12 +53,12 @@ module _ (plan : PlanValue) (rows : List RowValue) (rs : List DataRecord) (r : D
         ),
       )
 
-  other_of : (totals : RowTotals) (m : Merging) (fault : RowFault) → fault ≢ faults.OutOfMemory → plan_of m ≡ plan → Behind plan totals rows rs → IsRowFault plan r fault → FirstOther (plan_of m) rows (rs ++ r ∷ []) fault
+  other_of : (totals : RowTotals) (m : Merging) (fault : RowFault) → fault ≢ faults.OutOfMemory → merging_plan m ≡ plan → Behind plan totals rows rs → IsRowFault plan r fault → FirstOther (merging_plan m) rows (rs ++ r ∷ []) fault
   other_of totals m fault named same h is =
       subst (λ (p : PlanValue). FirstOther p rows (rs ++ r ∷ []) fault) (sym same) (record { first = rs; next = r; others = []; are = refl; rows = h.0; records = h.1; small = none_too_large totals (rows ++ h.0) h.2.0; other = is; not_memory = named })
 
   -- by the fault of a record that is no row's
-  pub other_holds : (totals : RowTotals) (m : Merging) (fault : RowFault) → plan_of m ≡ plan → Behind plan totals rows rs → IsRowFault plan r fault → HoldsAfter (Some (fault_of_row fault)) m rows (rs ++ r ∷ [])
+  pub other_holds : (totals : RowTotals) (m : Merging) (fault : RowFault) → merging_plan m ≡ plan → Behind plan totals rows rs → IsRowFault plan r fault → HoldsAfter (Some (fault_of_row fault)) m rows (rs ++ r ∷ [])
   other_holds totals m faults.OutOfMemory same h is = tt
   other_holds totals m faults.Template same h is = other_of totals m faults.Template (λ e. cc e) same h is
   other_holds totals m faults.Fields same h is = other_of totals m faults.Fields (λ e. cc e) same h is
@@ -67,7 +67,7 @@ module _ (plan : PlanValue) (rows : List RowValue) (rs : List DataRecord) (r : D
   other_holds totals m faults.Flows same h is = other_of totals m faults.Flows (λ e. cc e) same h is
 
   -- by the fault of totals to which its row was to be added
-  pub large_holds : (totals : RowTotals) (m : Merging) (row : RowValue) (fault : TableFault) → plan_of m ≡ plan → Behind plan totals rows rs → IsRowRecord plan r row
+  pub large_holds : (totals : RowTotals) (m : Merging) (row : RowValue) (fault : TableFault) → merging_plan m ≡ plan → Behind plan totals rows rs → IsRowRecord plan r row
       → ((l : List RowValue) → AreOf totals l → fault ≡ tables.SumTooLarge → AddUpTooLarge (l ++ row ∷ [])) → HoldsAfter (Some (fault_of_table fault)) m rows (rs ++ r ∷ [])
   large_holds totals m row tables.OutOfMemory same h is large = tt
   large_holds totals m row tables.SumTooLarge same h is large =
@@ -122,7 +122,7 @@ none_is (Some fault) none = absurd cc
 pub takes_still : (before : RowSink) (r : DataRecord) → is_some before.fault ≡ true → TakesRecord before r before
 takes_still before r some = record { plan = refl; holds = λ rows rs h. still_some before.fault before.merging rows rs r some h }
 
-pub takes_more : (before : RowSink) (r : DataRecord) (m : Merging) (fault : Option MergeFault) (answer : Result (Unit {0}) MergeFault) → is_some before.fault ≡ false → fault ≡ result_err answer → plan_of m ≡ plan_of before.merging
+pub takes_more : (before : RowSink) (r : DataRecord) (m : Merging) (fault : Option MergeFault) (answer : Result (Unit {0}) MergeFault) → is_some before.fault ≡ false → fault ≡ result_err answer → merging_plan m ≡ merging_plan before.merging
     → ((rows : List RowValue) (rs : List DataRecord) → HoldsAfter None before.merging rows rs → HoldsAfter (result_err answer) m rows (rs ++ r ∷ [])) → TakesRecord before r (record { merging = m; fault = fault })
 takes_more before r m fault answer none is same adds =
     record {
@@ -139,7 +139,7 @@ err_is (Err e) fault P is p = subst (λ (f : MergeFault). P (Some f)) (sym is) p
 
 -- what it holds after more records
 pub record TakesRecords (before : RowSink) (items : List DataRecord) (after : RowSink) : Type 0 where
-  pub plan : plan_of after.merging ≡ plan_of before.merging
+  pub plan : merging_plan after.merging ≡ merging_plan before.merging
   pub holds : (rows : List RowValue) (rs : List DataRecord) → HoldsAfter before.fault before.merging rows rs → HoldsAfter after.fault after.merging rows (rs ++ items)
 
 pub takes_all : (first last : RowSink) (items : List DataRecord) → FoldsTo TakesRecord first items last → TakesRecords first items last

@@ -120,8 +120,8 @@ module _ {S : Type 0} (seen : S → SourceView) where
 -- ---- what is merged
 
 -- the plan of the exports
-unfoldable pub plan_of : Merging → PlanValue
-plan_of m = m.plan
+unfoldable pub merging_plan : Merging → PlanValue
+merging_plan m = m.plan
 
 -- it stands for these rows, each of them one under the plan
 unfoldable pub StandsFor : Merging → List RowValue → Type 0
@@ -130,7 +130,7 @@ StandsFor m rows = AreOf m.totals rows × All (IsRowOf m.plan) rows
 -- an export's rows are added to those before
 pub record AddsExport {S : Type 0} (seen : S → SourceView) (limit : ℕ) (old : Merging) (before after : S) (rows : List RowValue) (new : Merging) : Type 0 where
   pub more : List RowValue
-  pub gives_export : GivesExport seen limit (plan_of old) before after more
+  pub gives_export : GivesExport seen limit (merging_plan old) before after more
   pub stands : StandsFor new (rows ++ more)
 
 -- ---- the tables of records

@@ -9,7 +9,7 @@ ghost use Rattle.flow_table.specs.Fitting.{FitsPlan};
 ghost use Rattle.flow_table.specs.SameTables.{RowValue};
 ghost use Rattle.flow_table.specs.Tables.{IsTable};
 ghost use Rattle.flow_table.specs.declared.table.Table.{Table as TableValue};
-ghost use Rattle.flow_merge.specs.Merging.{all_of, plan_of, AddsExport, HasRowsOf, IsDue, StandsFor, no_records};
+ghost use Rattle.flow_merge.specs.Merging.{all_of, merging_plan, AddsExport, HasRowsOf, IsDue, StandsFor, no_records};
 ghost use Rattle.flow_merge.specs.RowSink.{HoldsAfter};
 ghost use Rattle.flow_merge.specs.declared.merge_fault.MergeFault.TheVariants.{OutOfMemory};
 
@@ -36,7 +36,7 @@ impl Merging {
     ///
     /// The fault is `OutOfMemory`: an allocation was refused.
     pub fn new(alloc: Global, plan: &Plan) -> Result<Merging, MergeFault>
-        ensures plan { IfOk result (λ m. plan_of m ≡ plan.now) }
+        ensures plan { IfOk result (λ m. merging_plan m ≡ plan.now) }
         ensures empty { IfOk result (λ m. StandsFor m []) }
         ensures err { IfErr result (λ e. e ≡ OutOfMemory) }
     {
@@ -49,7 +49,7 @@ impl Merging {
 
     /// Adds the row of a record.
     pub(crate) fn add(&mut self, data_record: &DataRecord) -> Result<(), MergeFault>
-        ensures plan { plan_of self.new ≡ plan_of self.old }
+        ensures plan { merging_plan self.new ≡ merging_plan self.old }
         ensures holds { (rows : List RowValue) (rs : List DataRecord)
             → HoldsAfter None self.old rows rs
             → HoldsAfter (result_err result) self.new rows (rs ++ data_record.now ∷ []) }
@@ -68,11 +68,11 @@ impl Merging {
     /// flows would be 2^64 or more with its row. `OutOfMemory` may come in place of the last two, or
     /// of success.
     pub fn read<S: Source>(self, source: &mut S, limit: u64) -> Result<Merging, MergeFault>
-        ensures plan { IfOk result (λ m. plan_of m ≡ plan_of self) }
+        ensures plan { IfOk result (λ m. merging_plan m ≡ merging_plan self) }
         ensures ok { (rows : List RowValue) → StandsFor self rows
             → IfOk result (AddsExport S.seen limit self source.old source.new rows) }
         ensures fault { (rows : List RowValue) → StandsFor self rows
-            → IfErr result (IsDue S.seen limit (plan_of self) rows source.old source.new) }
+            → IfErr result (IsDue S.seen limit (merging_plan self) rows source.old source.new) }
     {
         let alloc = self.alloc;
         let mut sink = RowSink {
@@ -95,13 +95,13 @@ impl Merging {
             → IfOk result (λ table. AreAddedUp rows (rows_in table)) }
         // The table fits the plan, as an export asks.
         ensures fits { (rows : List RowValue) → StandsFor self rows
-            → IfOk result (FitsPlan (plan_of self)) }
+            → IfOk result (FitsPlan (merging_plan self)) }
         ensures small { (rows : List RowValue) → StandsFor self rows → AddUpTooLarge rows → ⊥ }
         // The rows of tables are merged into those of the table of all their records.
         ensures tables { (lists : List (List DataRecord)) (tables : List TableValue)
             → StandsFor self (flat_map rows_in tables)
-            → AllZip (IsTable (plan_of self)) lists tables
-            → IfOk result (HasRowsOf (plan_of self) (all_of lists)) }
+            → AllZip (IsTable (merging_plan self)) lists tables
+            → IfOk result (HasRowsOf (merging_plan self) (all_of lists)) }
         ensures tally { IfOk result (λ table. table.tally ≡ no_records) }
         ensures err { IfErr result (λ e. e ≡ OutOfMemory) }
     {

@@ -17,7 +17,7 @@ use Rattle.flow_table.specs.AddedUp.{rows_in, AddUpTooLarge}
 use Rattle.flow_table.specs.Plans.{PlanValue, IsPlan}
 use Rattle.flow_table.specs.SameTables.{RowValue}
 use Rattle.flow_table.proofs.AddedUp.{too_large_more}
-use Rattle.flow_merge.specs.Merging.{AddsExport, AreOfExport, AreRowRecords, FirstOther, FirstTooLarge, IsExport, NoneLost, StandsFor, plan_of}
+use Rattle.flow_merge.specs.Merging.{AddsExport, AreOfExport, AreRowRecords, FirstOther, FirstTooLarge, IsExport, NoneLost, StandsFor, merging_plan}
 use Rattle.flow_merge_laws.specs.Exports.{HoldsExport, IsExportFault}
 use Rattle.flow_merge.specs.Merging.{IsDue as IsMergeDue}
 use Rattle.flow_merge.specs.RowRecords.{IsRowRecord}
@@ -92,7 +92,7 @@ module _ {S : Type 0} (seen : S → SourceView) (limit : ℕ) (before after : S)
   whole gave given = gave_all (seen before) (seen after) holds.text gave holds.held given.octets at_end given.fault_is_due.1
 
   -- its rows were added
-  pub adds_own : (old new : Merging) (rows : List RowValue) → plan_of old ≡ plan → AddsExport seen limit old before after rows new → StandsFor new (rows ++ own)
+  pub adds_own : (old new : Merging) (rows : List RowValue) → merging_plan old ≡ plan → AddsExport seen limit old before after rows new → StandsFor new (rows ++ own)
   adds_own old new rows same adds =
       let read = adds.gives_export in
       let export = subst (λ (w : List ℕ). IsExport plan w adds.more) (whole read.gave read.given) (subst (λ (p : PlanValue). IsExport p read.gave adds.more) same read.export) in

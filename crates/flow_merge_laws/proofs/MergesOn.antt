@@ -13,7 +13,8 @@ use Rattle.flow_table.specs.Tables.{IsTable}
 use Rattle.flow_table.specs.declared.table.Table.{Table}
 use Rattle.flow_table.proofs.AddedUp.{too_large_more}
 use Rattle.flow_table.proofs.TablesAdded.{too_large_both}
-use Rattle.flow_merge.specs.Merging.{all_of, AddsExport, GiveExports, GivesExport, IsDue, StandsFor, plan_of}
+use Rattle.flow_export.proofs.RowFields.{AllZip-append}
+use Rattle.flow_merge.specs.Merging.{all_of, AddsExport, GiveExports, GivesExport, IsDue, StandsFor, merging_plan}
 use Rattle.flow_merge_laws.specs.Exports.{AreExportsOf, HoldsExport, IsExportFault, StopsAt}
 use Rattle.flow_merge.proofs.RowsRead.{zip_more}
 use Rattle.flow_merge.specs.declared.merge_fault.MergeFault.{MergeFault}
@@ -46,12 +47,6 @@ flat_more : (exports : List (List RowValue)) (rows : List RowValue) → flat_map
 flat_more [] rows = append-nil rows
 flat_more (x ∷ exports) rows = ap (λ (l : List RowValue). x ++ l) (flat_more exports rows) ∙ sym (append_assoc x (flat_map (λ r. r) exports) rows)
 
-zip_both : {A B : Type 0} (R : A → B → Type 0) (xs us : List A) (ys vs : List B) → AllZip R xs ys → AllZip R us vs → AllZip R (xs ++ us) (ys ++ vs)
-zip_both R [] us [] vs h i = i
-zip_both R [] us (y ∷ ys) vs h i = absurd h
-zip_both R (x ∷ xs) us [] vs h i = absurd h
-zip_both R (x ∷ xs) us (y ∷ ys) vs h i = (h.0, zip_both R xs us ys vs h.1 i)
-
 module _ {S : Type 0} (seen : S → SourceView) (plan : PlanValue) where
   -- the tables whose exports sources hold
   held_tables : (sources : List S) (lists : List (List DataRecord)) → AreExportsOf seen plan sources lists → (tables : List Table) × AllZip (IsTable plan) lists tables
@@ -82,11 +77,11 @@ module _ {S : Type 0} (seen : S → SourceView) (plan : PlanValue) where
 
   -- what holds while sources are merged
   pub record MergesOn (limit : ℕ) (sources waiting : List S) (m : Merging) : Type 0 where
-    pub same_plan : plan_of m ≡ plan
+    pub same_plan : merging_plan m ≡ plan
     pub read : HasRead limit sources waiting m
     pub merged : (lists : List (List DataRecord)) → AreExportsOf seen plan sources lists → Merged lists waiting m
 
-  pub none_merged : (limit : ℕ) (sources : List S) (m : Merging) → plan_of m ≡ plan → StandsFor m [] → MergesOn limit sources sources m
+  pub none_merged : (limit : ℕ) (sources : List S) (m : Merging) → merging_plan m ≡ plan → StandsFor m [] → MergesOn limit sources sources m
   none_merged limit sources m same stands =
       record {
         same_plan = same;
@@ -112,7 +107,7 @@ module _ {S : Type 0} (seen : S → SourceView) (plan : PlanValue) where
       record {
         first = now.first ++ next.0 ∷ [];
         tables = now.tables ++ next.2.table ∷ [];
-        are_tables = zip_both (IsTable plan) now.first (next.0 ∷ []) now.tables (next.2.table ∷ []) now.are_tables (next.2.export.is_table, tt);
+        are_tables = AllZip-append (IsTable plan) now.first now.tables (next.0 ∷ []) (next.2.table ∷ []) now.are_tables (next.2.export.is_table, tt);
         stands = subst (StandsFor new) (sym (rows_of_more now.tables next.2.table)) (adds next.0 next.2);
         others = next.1;
         wait = next.3;
@@ -126,7 +121,7 @@ module _ {S : Type 0} (seen : S → SourceView) (plan : PlanValue) where
   too_large_all lists s waiting m now next large =
       let later = held_tables waiting next.1 next.3 in
       let tables = now.tables ++ next.2.table ∷ later.0 in
-      let are = zip_both (IsTable plan) now.first (next.0 ∷ next.1) now.tables (next.2.table ∷ later.0) now.are_tables (next.2.export.is_table, later.1) in
+      let are = AllZip-append (IsTable plan) now.first now.tables (next.0 ∷ next.1) (next.2.table ∷ later.0) now.are_tables (next.2.export.is_table, later.1) in
       let rows : flat_map rows_in tables ≡ (flat_map rows_in now.tables ++ rows_in next.2.table) ++ flat_map rows_in later.0 =
       rows_of_both now.tables (next.2.table ∷ later.0) ∙ sym (append_assoc (flat_map rows_in now.tables) (rows_in next.2.table) (flat_map rows_in later.0)) in
       let whole = subst AddUpTooLarge (sym rows) (too_large_more (flat_map rows_in now.tables ++ rows_in next.2.table) (flat_map rows_in later.0) large) in
@@ -144,7 +139,7 @@ module _ {S : Type 0} (seen : S → SourceView) (plan : PlanValue) where
   -- ---- a step, and the end
 
   -- a source was read
-  more_read : (limit : ℕ) (sources : List S) (s : S) (waiting : List S) (old new : Merging) (after : S) (read : HasRead limit sources (s ∷ waiting) old) → plan_of old ≡ plan
+  more_read : (limit : ℕ) (sources : List S) (s : S) (waiting : List S) (old new : Merging) (after : S) (read : HasRead limit sources (s ∷ waiting) old) → merging_plan old ≡ plan
       → AddsExport seen limit old s after (flat_map (λ rows. rows) read.exports) new → HasRead limit sources waiting new
   more_read limit sources s waiting old new after read same adds =
       record {
@@ -156,9 +151,9 @@ module _ {S : Type 0} (seen : S → SourceView) (plan : PlanValue) where
         stands = subst (StandsFor new) (sym (flat_more read.exports adds.more)) adds.stands;
       }
 
-  pub merged_on : (limit : ℕ) (sources before : List S) (s : S) (waiting : List S) (old new : Merging) (after : S) → before ≡ s ∷ waiting → MergesOn limit sources before old → plan_of new ≡ plan_of old
+  pub merged_on : (limit : ℕ) (sources before : List S) (s : S) (waiting : List S) (old new : Merging) (after : S) → before ≡ s ∷ waiting → MergesOn limit sources before old → merging_plan new ≡ merging_plan old
       → ((rows : List RowValue) → StandsFor old rows → AddsExport seen limit old s after rows new)
-      → ((rows : List RowValue) (rs : List DataRecord) (holds : HoldsExport (plan_of old) (seen s) rs) → StandsFor old rows → StandsFor new (rows ++ rows_in holds.table)) → MergesOn limit sources waiting new
+      → ((rows : List RowValue) (rs : List DataRecord) (holds : HoldsExport (merging_plan old) (seen s) rs) → StandsFor old rows → StandsFor new (rows ++ rows_in holds.table)) → MergesOn limit sources waiting new
   merged_on limit sources before s waiting old new after is on same adds exports =
       let read = subst (λ (l : List S). HasRead limit sources l old) is on.read in
       record {
@@ -173,7 +168,7 @@ module _ {S : Type 0} (seen : S → SourceView) (plan : PlanValue) where
 
   -- a source was refused
   pub refused_on : (limit : ℕ) (sources before : List S) (s : S) (waiting : List S) (old : Merging) (fault : MergeFault) → before ≡ s ∷ waiting → MergesOn limit sources before old
-      → ((rows : List RowValue) (rs : List DataRecord) (holds : HoldsExport (plan_of old) (seen s) rs) → StandsFor old rows → IsExportFault (AddUpTooLarge (rows ++ rows_in holds.table)) fault)
+      → ((rows : List RowValue) (rs : List DataRecord) (holds : HoldsExport (merging_plan old) (seen s) rs) → StandsFor old rows → IsExportFault (AddUpTooLarge (rows ++ rows_in holds.table)) fault)
       → (lists : List (List DataRecord)) → AreExportsOf seen plan sources lists → IsExportFault (HasTooLargeRow plan (all_of lists)) fault
   refused_on limit sources before s waiting old fault is on refuses lists h =
       let now = subst (λ (l : List S). Merged lists l old) is (on.merged lists h) in
@@ -183,7 +178,7 @@ module _ {S : Type 0} (seen : S → SourceView) (plan : PlanValue) where
       (λ holds. refuses (flat_map rows_in now.tables) next.0 holds now.stands) next.2)
 
   pub stopped_on : (limit : ℕ) (sources before : List S) (s : S) (waiting : List S) (old : Merging) (after : S) (fault : MergeFault) → before ≡ s ∷ waiting → MergesOn limit sources before old
-      → ((rows : List RowValue) → StandsFor old rows → IsDue seen limit (plan_of old) rows s after fault) → StopsAt seen limit plan sources fault
+      → ((rows : List RowValue) → StandsFor old rows → IsDue seen limit (merging_plan old) rows s after fault) → StopsAt seen limit plan sources fault
   stopped_on limit sources before s waiting old after fault is on due =
       let read = subst (λ (l : List S). HasRead limit sources l old) is on.read in
       let rows = flat_map (λ r. r) read.exports in

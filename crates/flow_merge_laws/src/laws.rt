@@ -9,7 +9,7 @@ ghost use Rattle.flow_table.specs.SameTables.{RowValue};
 ghost use Rattle.flow_table.specs.declared.table.Table.{Table};
 ghost use Rattle.flow_export.specs.IpfixText.{ipfix_text};
 ghost use Rattle.flow_export_laws.specs.ReadBack.{row_record};
-ghost use Rattle.flow_merge.specs.Merging.{plan_of, AddsExport, HasRowsOf, IsDue, IsExport, StandsFor};
+ghost use Rattle.flow_merge.specs.Merging.{merging_plan, AddsExport, HasRowsOf, IsDue, IsExport, StandsFor};
 ghost use Rattle.flow_merge.specs.RowFaults.{IsRowFault};
 ghost use Rattle.flow_merge.specs.RowRecords.{IsRowOf, IsRowRecord};
 ghost use Rattle.flow_merge.specs.declared.merge_fault.MergeFault.{MergeFault};
@@ -50,12 +50,12 @@ pub fn exports_have_their_rows()
 /// added, or else the fault is none of its own, but that sums are too large.
 pub fn exports_are_added_whole<S: Source>()
     ensures added { (limit : ℕ) (before after : S) (old new : Merging) (rows : List RowValue)
-        → (rs : List DataRecord) (holds : HoldsExport (plan_of old) (S.seen before) rs)
+        → (rs : List DataRecord) (holds : HoldsExport (merging_plan old) (S.seen before) rs)
         → AddsExport S.seen limit old before after rows new
         → StandsFor new (rows ++ rows_in holds.table) }
     ensures fault { (limit : ℕ) (before after : S) (old : Merging) (rows : List RowValue)
-        → (rs : List DataRecord) (holds : HoldsExport (plan_of old) (S.seen before) rs)
-        → (fault : MergeFault) → IsDue S.seen limit (plan_of old) rows before after fault
+        → (rs : List DataRecord) (holds : HoldsExport (merging_plan old) (S.seen before) rs)
+        → (fault : MergeFault) → IsDue S.seen limit (merging_plan old) rows before after fault
         → IsExportFault (AddUpTooLarge (rows ++ rows_in holds.table)) fault }
 {}
 

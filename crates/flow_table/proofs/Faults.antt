@@ -7,7 +7,7 @@ use Rattle.flow_table.specs.declared.key.Key.{Key}
 use Rattle.flow_table.specs.declared.key.Side.{Side}
 use Rattle.flow_table.specs.declared.plan_fault.PlanFault.{PlanFault}
 use Rattle.flow_table.specs.declared.plan_fault.PlanFault.TheVariants.{Length, Spread, KeyCount, KeyKind, Prefix, CounterCount, CounterKind, Repeated, OutOfMemory}
-use Rattle.flow_table.specs.Plans.{PlanValue, same_element, element_in, elements_in, unless, or_else, first_fault_of}
+use Rattle.flow_table.specs.Plans.{PlanValue, same_element, element_in, elements_in, fault_unless, or_else, first_fault_of}
 
 any-map : {X Y : Type 0} (p : Y → Bool) (f : X → Y) (xs : List X) → list_any p (map f xs) ≡ list_any (λ x. p (f x)) xs
 any-map p f [] = refl
@@ -49,7 +49,7 @@ IsNoWant (Some Repeated) = Unit {0}
 record NoWant (fault : Option PlanFault) : Type 0 where
   pub is : IsNoWant fault
 
-unless_no_want : (holds : Bool) (fault : PlanFault) → IsNoWant (Some fault) → NoWant (unless holds fault)
+unless_no_want : (holds : Bool) (fault : PlanFault) → IsNoWant (Some fault) → NoWant (fault_unless holds fault)
 unless_no_want true fault no_want = record { is = tt }
 unless_no_want false fault no_want = record { is = no_want }
 

@@ -15,7 +15,8 @@ use Rattle.flow_table.specs.Flows.{flow_part}
 use Rattle.flow_table.specs.Plans.{PlanValue}
 use Rattle.flow_table.specs.Reading.{class_of, counter_of, IsUsed}
 use Rattle.flow_table.specs.Rows.{IntervalEntries, kept_at}
-use Rattle.flow_table.specs.Partials.{totals_at, HoldsTable, StandsBy, unless, tally_sum, one_of, count_in, tally}
+use Rattle.ipfix_message.specs.Outcome.{unless}
+use Rattle.flow_table.specs.Partials.{totals_at, HoldsTable, StandsBy, tally_sum, one_of, count_in, tally}
 use Rattle.flow_table.specs.Tables.{count_of, flows_at, tally_of, IsTooLarge}
 use Rattle.flow_table.specs.Totals.{Total, joined, IsLargeAt}
 use Rattle.flow_table.proofs.Fits.{no_keys_fit, read_keys_fit, both_keys_fit}

@@ -10,7 +10,7 @@ use Rattle.std.proofs.lemmas.List.Sums.{AllPass-from_list_all}
 use Rattle.std.proofs.lemmas.Bool.{and_parts, leb-true}
 use Rattle.std.proofs.lemmas.List.Elements.{All-nil, All-cons}
 use Rattle.flow_table.specs.declared.key.Key.{Key}
-use Rattle.flow_table.specs.Plans.{PlanValue, IsPlan, HasPrefix, is_prefix_of, is_key_kind, is_counter, is_between, has_twice, elements_in, exported_element, kinds_of, unless, or_else, length_fault, spread_fault, key_fault, counter_fault, repeat_fault}
+use Rattle.flow_table.specs.Plans.{PlanValue, IsPlan, HasPrefix, is_prefix_of, is_key_kind, is_counter, is_between, has_twice, elements_in, exported_element, kinds_of, fault_unless, or_else, length_fault, spread_fault, key_fault, counter_fault, repeat_fault}
 
 has_prefix : (k : Key) → is_prefix_of k.element k.prefix ≡ true → HasPrefix k
 has_prefix k h bits e =
@@ -27,7 +27,7 @@ passed_first : (first second : Option PlanFault) → or_else first second ≡ No
 passed_first None second h = (refl, h)
 passed_first (Some fault) second h = absurd cc
 
-passed_test : (holds : Bool) (fault : PlanFault) → unless holds fault ≡ None → holds ≡ true
+passed_test : (holds : Bool) (fault : PlanFault) → fault_unless holds fault ≡ None → holds ≡ true
 passed_test true fault h = refl
 passed_test false fault h = absurd cc
 
@@ -43,16 +43,16 @@ pub record PassedTests (p : PlanValue) : Type 0 where
 
 pub passed_tests : (p : PlanValue) → IsPlan p → PassedTests p
 passed_tests p h =
-    let kind = unless (list_all (λ k. is_key_kind (kind_of k.element)) p.keys) KeyKind in
-    let prefix = unless (list_all (λ k. is_prefix_of k.element k.prefix) p.keys) Prefix in
+    let kind = fault_unless (list_all (λ k. is_key_kind (kind_of k.element)) p.keys) KeyKind in
+    let prefix = fault_unless (list_all (λ k. is_prefix_of k.element k.prefix) p.keys) Prefix in
     let rest = repeat_fault p.keys p.counters in
     let spread = passed_first (length_fault p.length) (or_else (spread_fault p.max_spread) (or_else (key_fault p.keys) (or_else (counter_fault p.counters) rest))) h in
     let keys = passed_first (spread_fault p.max_spread) (or_else (key_fault p.keys) (or_else (counter_fault p.counters) rest)) spread.1 in
     let counters = passed_first (key_fault p.keys) (or_else (counter_fault p.counters) rest) keys.1 in
-    let after_count = passed_first (unless (nat_le (length p.keys) 8) KeyCount) (or_else kind prefix) counters.0 in
+    let after_count = passed_first (fault_unless (nat_le (length p.keys) 8) KeyCount) (or_else kind prefix) counters.0 in
     let after_kind = passed_first kind prefix after_count.1 in
     let last = passed_first (counter_fault p.counters) rest counters.1 in
-    let of_counters = passed_first (unless (is_between 1 4 (length p.counters)) CounterCount) (unless (list_all is_counter p.counters) CounterKind) last.0 in
+    let of_counters = passed_first (fault_unless (is_between 1 4 (length p.counters)) CounterCount) (fault_unless (list_all is_counter p.counters) CounterKind) last.0 in
     record {
       positive = passed_test _ Length spread.0;
       few = passed_test _ KeyCount after_count.0;

@@ -58,11 +58,6 @@ IsLargeIfSumTooLarge before more result =
     (rs : List DataRecord) → StandsFor before rs
     → IfErr result (λ e. e ≡ SumTooLarge → IsTooLarge (plan_of before) (rs ++ more))
 
--- x, unless there is a fault
-abbrev pub unless : {X : Type 0} → Option TableFault → X → Result X TableFault
-unless None x = Ok x
-unless (Some fault) x = Err fault
-
 -- ---- tallies
 
 abbrev pub tally_sum : Tally → Tally → Tally

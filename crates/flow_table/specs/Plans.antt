@@ -24,8 +24,8 @@ pub record PlanValue : Type 0 where
   pub counters : List ElementId
   pub max_spread : ℕ
 
-abbrev pub plan_of : ℕ → Method → List Key → List ElementId → ℕ → PlanValue
-plan_of length method keys counters max_spread = record { length = length; method = method; keys = keys; counters = counters; max_spread = max_spread }
+abbrev pub plan_value : ℕ → Method → List Key → List ElementId → ℕ → PlanValue
+plan_value length method keys counters max_spread = record { length = length; method = method; keys = keys; counters = counters; max_spread = max_spread }
 
 -- the kinds that the fields of keys are read by
 abbrev pub kinds_of : List Key → List Kind
@@ -94,29 +94,29 @@ or_else None second = second
 or_else (Some fault) second = Some fault
 
 -- a fault that fits if a test fails
-abbrev pub unless : Bool → PlanFault → Option PlanFault
-unless holds fault = if holds then None else Some fault
+abbrev pub fault_unless : Bool → PlanFault → Option PlanFault
+fault_unless holds fault = if holds then None else Some fault
 
 abbrev pub length_fault : ℕ → Option PlanFault
-length_fault length = unless (nat_lt 0 length) Length
+length_fault length = fault_unless (nat_lt 0 length) Length
 
 abbrev pub spread_fault : ℕ → Option PlanFault
-spread_fault max_spread = unless (is_between 1 MAX_SPREAD max_spread) Spread
+spread_fault max_spread = fault_unless (is_between 1 MAX_SPREAD max_spread) Spread
 
 abbrev pub key_fault : List Key → Option PlanFault
 key_fault keys =
-    or_else (unless (nat_le (length keys) MAX_KEYS) KeyCount)
-    (or_else (unless (list_all (λ k. is_key_kind (kind_of k.element)) keys) KeyKind)
-    (unless (list_all (λ k. is_prefix_of k.element k.prefix) keys) Prefix))
+    or_else (fault_unless (nat_le (length keys) MAX_KEYS) KeyCount)
+    (or_else (fault_unless (list_all (λ k. is_key_kind (kind_of k.element)) keys) KeyKind)
+    (fault_unless (list_all (λ k. is_prefix_of k.element k.prefix) keys) Prefix))
 
 abbrev pub counter_fault : List ElementId → Option PlanFault
 counter_fault counters =
-    or_else (unless (is_between 1 MAX_COUNTERS (length counters)) CounterCount)
-    (unless (list_all is_counter counters) CounterKind)
+    or_else (fault_unless (is_between 1 MAX_COUNTERS (length counters)) CounterCount)
+    (fault_unless (list_all is_counter counters) CounterKind)
 
 -- no element may stand twice, neither in the records that are read nor in those that are exported
 abbrev pub repeat_fault : List Key → List ElementId → Option PlanFault
-repeat_fault keys counters = unless (not (has_twice (elements_in Read keys counters) || has_twice (elements_in Exported keys counters))) Repeated
+repeat_fault keys counters = fault_unless (not (has_twice (elements_in Read keys counters) || has_twice (elements_in Exported keys counters))) Repeated
 
 -- the first fault that fits arguments
 abbrev pub first_fault : ℕ → List Key → List ElementId → ℕ → Option PlanFault

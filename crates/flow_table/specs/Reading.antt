@@ -5,7 +5,7 @@ use Rattle.ipfix_wire.specs.declared.specifier.ElementId.{ElementId}
 use Rattle.ipfix_elements.specs.declared.cell.Cell.{Cell}
 use Rattle.ipfix_elements.specs.declared.cell.Cell.TheVariants.{Number, Ipv4, Ipv6, Mac}
 use Rattle.ipfix_elements.specs.declared.iana.TheConstants.{FLOW_START_SECONDS, FLOW_END_SECONDS, FLOW_START_MILLISECONDS, FLOW_END_MILLISECONDS}
-use Rattle.ipfix_elements.specs.Elements.{kind_of}
+use Rattle.ipfix_elements.specs.Elements.{iana, kind_of}
 use Rattle.ipfix_elements.specs.Prefixes.{masked}
 use Rattle.ipfix_elements.specs.Values.{number_in, cell_in}
 use Rattle.ipfix_message.specs.Fields.{octets_of}
@@ -30,10 +30,6 @@ counter_of element r = unwrap_or (number_of element r) 0
 
 -- ---- times
 
--- an element of IANA's registry
-abbrev pub registered : ℕ → ElementId
-registered number = record { pen = 0; number = number }
-
 -- a time of 2^50 ms or more counts as absent
 abbrev pub time_in : ℕ → Option ℕ
 time_in t = if nat_lt t (2 ^ 50) then Some t else None
@@ -44,11 +40,11 @@ time_of element unit r = option_and_then (λ n. time_in (n * unit)) (number_of e
 
 -- the start: in milliseconds, or else in seconds
 unfoldable pub start_of : DataRecord → Option ℕ
-start_of r = option_or (time_of (registered FLOW_START_MILLISECONDS) 1 r) (time_of (registered FLOW_START_SECONDS) 1000 r)
+start_of r = option_or (time_of (iana FLOW_START_MILLISECONDS) 1 r) (time_of (iana FLOW_START_SECONDS) 1000 r)
 
 -- the end: in milliseconds, or else in seconds
 unfoldable pub end_of : DataRecord → Option ℕ
-end_of r = option_or (time_of (registered FLOW_END_MILLISECONDS) 1 r) (time_of (registered FLOW_END_SECONDS) 1000 r)
+end_of r = option_or (time_of (iana FLOW_END_MILLISECONDS) 1 r) (time_of (iana FLOW_END_SECONDS) 1000 r)
 
 -- ---- keys (RFC 7015, section 5.2)
 

@@ -12,15 +12,15 @@ use Rattle.flow_table.specs.declared.key.Key.{Key}
 use Rattle.flow_table.specs.Plans.{PlanValue, same_element}
 
 -- the place of a method among the five
-abbrev pub place_of : Method → ℕ
-place_of Start = 0
-place_of End = 1
-place_of Mid = 2
-place_of Uniform = 3
-place_of Proportional = 4
+abbrev pub method_number : Method → ℕ
+method_number Start = 0
+method_number End = 1
+method_number Mid = 2
+method_number Uniform = 3
+method_number Proportional = 4
 
 abbrev pub same_method : Method → Method → Bool
-same_method a b = place_of a == place_of b
+same_method a b = method_number a == method_number b
 
 abbrev pub same_key : Key → Key → Bool
 same_key a b = same_element a.element b.element && option_eq ◌==◌ a.prefix b.prefix
@@ -100,7 +100,7 @@ method_at (suc (suc zero)) = Mid
 method_at (suc (suc (suc zero))) = Uniform
 method_at (suc (suc (suc (suc n)))) = Proportional
 
-method_there : (m : Method) → method_at (place_of m) ≡ m
+method_there : (m : Method) → method_at (method_number m) ≡ m
 method_there Start = refl
 method_there End = refl
 method_there Mid = refl
@@ -109,7 +109,7 @@ method_there Proportional = refl
 
 methods_tell : Tells same_method
 methods_tell = record {
-  found = λ x. numbers_tell.found (place_of x);
+  found = λ x. numbers_tell.found (method_number x);
   same = λ x y h. sym (method_there x) ∙ ap method_at (numbers_tell.same _ _ h) ∙ method_there y;
 }
 

@@ -3,7 +3,8 @@
 ghost use Rattle.std.specs.Prelude.{◌≡◌, ◌++◌, ◌∷◌, [], List, None, Err, IfOk, IfErr, OnOk, IfSome, IsSome};
 ghost use Rattle.ipfix_message.specs.declared.record.DataRecord.{DataRecord};
 ghost use Rattle.flow_table.specs.Fitting.{FitsPlan};
-ghost use Rattle.flow_table.specs.Partials.{StandsFor, Adds, IsSmallIfOk, IsLargeIfSumTooLarge, fault_of, plan_of, unless};
+ghost use Rattle.ipfix_message.specs.Outcome.{unless};
+ghost use Rattle.flow_table.specs.Partials.{StandsFor, Adds, IsSmallIfOk, IsLargeIfSumTooLarge, fault_of, plan_of};
 ghost use Rattle.flow_table.specs.Reading.{class_of};
 ghost use Rattle.flow_table.specs.Tables.{IsTable, IsTooLarge};
 ghost use Rattle.flow_table.specs.declared.table_fault.TableFault.TheVariants.{OutOfMemory, SumTooLarge};

@@ -35,20 +35,20 @@ pub struct Plan {
 }
 
 impl Model for Plan {
-    ghost use Rattle.flow_table.specs.Plans.{PlanValue, plan_of, kinds_of, IsPlan};
+    ghost use Rattle.flow_table.specs.Plans.{PlanValue, plan_value, kinds_of, IsPlan};
     ghost use Rattle.std.specs.Prelude.{◌≡◌};
 
     ghost Value = { PlanValue };
 
-    ghost view = { λ p. plan_of p.length p.method p.keys.items p.counters.items p.max_spread };
+    ghost view = { λ p. plan_value p.length p.method p.keys.items p.counters.items p.max_spread };
 
-    ghost invariant = { λ p. IsPlan (plan_of p.length p.method p.keys.items p.counters.items p.max_spread) × (p.kinds.items ≡ kinds_of p.keys.items) };
+    ghost invariant = { λ p. IsPlan (plan_value p.length p.method p.keys.items p.counters.items p.max_spread) × (p.kinds.items ≡ kinds_of p.keys.items) };
 }
 
 impl Plan {
     ghost use Rattle.std.specs.Prelude.{◌≡◌, ◌≢◌, ◌≤◌, ◌<◌, Some, length, All, IfOk, IfErr, OnOk, IsErrOf};
     ghost use Rattle.std.specs.List.{AllPass};
-    ghost use Rattle.flow_table.specs.Plans.{IsPlan, HasPrefix, is_counter, is_key_kind, plan_of, kinds_of, first_fault_of};
+    ghost use Rattle.flow_table.specs.Plans.{IsPlan, HasPrefix, is_counter, is_key_kind, plan_value, kinds_of, first_fault_of};
 
     /// The plan of the arguments, or the first fault that fits them, in this order: `Length`,
     /// `Spread`, `KeyCount`, `KeyKind`, `Prefix`, `CounterCount`, `CounterKind`, `Repeated`.
@@ -62,14 +62,14 @@ impl Plan {
         max_spread: u32,
     ) -> Result<Plan, PlanFault>
         ensures ok { IfOk result (λ plan. plan
-            ≡ plan_of length method keys.now counters.now max_spread) }
+            ≡ plan_value length method keys.now counters.now max_spread) }
         ensures sound { OnOk result
-            (IsPlan (plan_of length method keys.now counters.now max_spread)) }
+            (IsPlan (plan_value length method keys.now counters.now max_spread)) }
         ensures fault { IfErr result (λ fault. fault ≢ PlanFault.OutOfMemory
-            → first_fault_of (plan_of length method keys.now counters.now max_spread)
+            → first_fault_of (plan_value length method keys.now counters.now max_spread)
             ≡ Some fault) }
         ensures memory { IsErrOf result PlanFault.OutOfMemory
-            → IsPlan (plan_of length method keys.now counters.now max_spread) }
+            → IsPlan (plan_value length method keys.now counters.now max_spread) }
     {
         if let Some(fault) = first_fault(length, keys, counters, max_spread) {
             return Err(fault);

@@ -1,8 +1,8 @@
 //! Start and end of a flow (RFC 7011, sections 6.1.7 and 6.1.8).
 
 ghost use Rattle.std.specs.Prelude.{◌≡◌, ◌<◌, ◌*◌, ◌^◌, IfSome};
-ghost use Rattle.ipfix_elements.specs.Elements.{kind_of};
-ghost use Rattle.flow_table.specs.Reading.{registered, time_of as time_in_record, start_of as start_in, end_of as end_in};
+ghost use Rattle.ipfix_elements.specs.Elements.{iana, kind_of};
+ghost use Rattle.flow_table.specs.Reading.{time_of as time_in_record, start_of as start_in, end_of as end_in};
 
 use ipfix_elements::{Kind, iana, read_number};
 use ipfix_message::DataRecord;
@@ -13,8 +13,8 @@ pub const TIME_LIMIT: u64 = 1 << 50;
 
 /// The time in the first field of an element, whose unit is so many milliseconds.
 fn time_of(data_record: &DataRecord, number: u16, kind: Kind, unit: u64) -> Option<u64>
-    requires { kind_of (registered number) ≡ kind }
-    ensures value { result ≡ time_in_record (registered number) unit data_record.now }
+    requires { kind_of (iana number) ≡ kind }
+    ensures value { result ≡ time_in_record (iana number) unit data_record.now }
     ensures small { IfSome result (λ t. t < 2 ^ 50) }
 {
     let octets = data_record.fields.find(ElementId::iana(number))?;

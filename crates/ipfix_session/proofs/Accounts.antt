@@ -4,44 +4,74 @@ use Rattle.std.specs.Prelude.{◌≢◌, ◌⊎◌, sum_by}
 use Rattle.std.proofs.lemmas.Bool.Decides.{eqb_tells}
 use Rattle.std.proofs.lemmas.List.Elements.{filter-append}
 use Rattle.std.proofs.lemmas.List.{append-nil, map-append}
-use Rattle.std.proofs.lemmas.List.Sums.{sum_by-append}
+use Rattle.std.proofs.lemmas.List.Sums.{sum_by_push}
 use Rattle.std.specs.Map.{lookup}
 use Rattle.std.specs.Option.{unwrap_or}
 use Rattle.indexmap.specs.IndexMap.{insert_entry}
 use Rattle.ipfix_message.specs.Domains.{Message}
+use Rattle.ipfix_message.specs.declared.passed_over.PassedOver.{PassedOver}
 use Rattle.ipfix_session.specs.declared.report.DomainReport.{DomainReport}
-use Rattle.ipfix_session.specs.declared.ledger.Account.{Account}
-use Rattle.ipfix_session.specs.Ledger.{capped, count_in, due_after, lost_at, backward_at, lost_between, backward_between, sum_neighbours, messages_of, first_appearances, domains_of, due_of, account_of, accounts_of, account_after, domain_report, report_of}
+use Rattle.ipfix_session.specs.declared.account.Account.{Account}
+use Rattle.ipfix_session.specs.declared.report.DomainBalance.{DomainBalance}
+use Rattle.ipfix_session.specs.Ledger.{capped, count_in, sequence_behind, due_after, gap, lost_at, backward_at, lost_between, backward_between, sum_neighbours, messages_of, first_appearances, domains_of, domain_report}
+use Rattle.ipfix_session.specs.Accounts.{unsure_after, unaccounted_at, of_last, account_of, accounts_of, account_after, report_of, balance_of}
+use Rattle.ipfix_session.specs.Balances.{unaccounted_between, domain_balance}
+use Rattle.ipfix_session.specs.Reports.{passed_over_in}
+use Rattle.ipfix_session.specs.Tallies.{added_up}
 
 -- ---- one more message of a domain
 
-neighbours-push : (f : Message → Message → ℕ) (g : Option ℕ → ℕ → ℕ) → ((n : ℕ) → g None n ≡ 0) → ((m n : Message) → f m n ≡ g (due_after m) n.header.sequence)
-    → (xs : List Message) (m : Message) → sum_neighbours f (xs ++ m ∷ []) ≡ sum_neighbours f xs + g (due_of xs) m.header.sequence
-neighbours-push f g none is [] m = omega (arith, none m.header.sequence)
-neighbours-push f g none is (x ∷ []) m = omega (arith, is x m)
-neighbours-push f g none is (x ∷ y ∷ ys) m = omega (arith, neighbours-push f g none is (y ∷ ys) m)
+neighbours-push : (f : Message → Message → ℕ) (after : Message → Option ℕ) (g : Option ℕ → ℕ → ℕ) → ((n : ℕ) → g None n ≡ 0) → ((m n : Message) → f m n ≡ g (after m) n.header.sequence)
+    → (xs : List Message) (m : Message) → sum_neighbours f (xs ++ m ∷ []) ≡ sum_neighbours f xs + g (of_last after xs) m.header.sequence
+neighbours-push f after g none is [] m = omega (arith, none m.header.sequence)
+neighbours-push f after g none is (x ∷ []) m = omega (arith, is x m)
+neighbours-push f after g none is (x ∷ y ∷ ys) m = omega (arith, neighbours-push f after g none is (y ∷ ys) m)
 
-due_of-push : (xs : List Message) (m : Message) → due_of (xs ++ m ∷ []) ≡ due_after m
-due_of-push [] m = refl
-due_of-push (x ∷ []) m = refl
-due_of-push (x ∷ y ∷ ys) m = due_of-push (y ∷ ys) m
+of_last-push : (after : Message → Option ℕ) (xs : List Message) (m : Message) → of_last after (xs ++ m ∷ []) ≡ after m
+of_last-push after [] m = refl
+of_last-push after (x ∷ []) m = refl
+of_last-push after (x ∷ y ∷ ys) m = of_last-push after (y ∷ ys) m
 
-abbrev account : ℕ → ℕ → ℕ → Option ℕ → Account
-account count lost backward due = record { count = count; lost = lost; backward = backward; due = due }
+unaccounted-is : (m n : Message) → unaccounted_between m n ≡ unaccounted_at (unsure_after m) n.header.sequence
+unaccounted-is m n = by_test (eqb m.decoding.passed_over.unknown_sets 0)
+  where
+    by_test : (b : Bool) → cond b 0 (gap (sequence_behind m) n.header.sequence) ≡ unaccounted_at (cond b None (Some (sequence_behind m))) n.header.sequence
+    by_test true = refl
+    by_test false = refl
 
-account-same : (a b c d e f : ℕ) (p q : Option ℕ) → a ≡ d → b ≡ e → c ≡ f → p ≡ q → account a b c p ≡ account d e f q
-account-same a b c d e f p q h i j k = rw (h, i, j, k) refl
+abbrev account : ℕ → ℕ → ℕ → PassedOver → ℕ → Option ℕ → Option ℕ → Account
+account count lost backward passed_over unaccounted due unsure =
+    record { count = count; lost = lost; backward = backward; passed_over = passed_over; unaccounted = unaccounted; due = due; unsure = unsure }
+
+account-same : (a b c d e f g h : ℕ) (x y : PassedOver) (p q r s : Option ℕ) → a ≡ e → b ≡ f → c ≡ g → x ≡ y → d ≡ h → p ≡ q → r ≡ s → account a b c x d p r ≡ account e f g y h q s
+account-same a b c d e f g h x y p q r s i j k l m n o = rw (i, j, k, l, m, n, o) refl
 
 capped-capped : (a b c : ℕ) → c ≡ a + b → capped c ≡ capped (capped a + b)
 capped-capped a b c e = omega arith
 
-pub account_of-push : (xs : List Message) (m : Message) → account_of (xs ++ m ∷ []) ≡ account_after (account_of xs) m.header.sequence (count_in m) (due_after m)
+abbrev passed : ℕ → ℕ → ℕ → PassedOver
+passed skipped unknown ignored = record { skipped_sets = skipped; unknown_sets = unknown; ignored_withdrawals = ignored }
+
+passed-same : (a b c d e f : ℕ) → a ≡ d → b ≡ e → c ≡ f → passed a b c ≡ passed d e f
+passed-same a b c d e f h i j = rw (h, i, j) refl
+
+passed-push : (xs : List Message) (m : Message) → passed_over_in (xs ++ m ∷ []) ≡ added_up (passed_over_in xs) m.decoding.passed_over
+passed-push xs m =
+    passed-same _ _ _ _ _ _ (one_more (λ n. n.decoding.passed_over.skipped_sets)) (one_more (λ n. n.decoding.passed_over.unknown_sets)) (one_more (λ n. n.decoding.passed_over.ignored_withdrawals))
+  where
+    one_more : (f : Message → ℕ) → capped (sum_by f (xs ++ m ∷ [])) ≡ capped (capped (sum_by f xs) + f m)
+    one_more f = capped-capped (sum_by f xs) (f m) (sum_by f (xs ++ m ∷ [])) (sum_by_push f xs m)
+
+pub account_of-push : (xs : List Message) (m : Message) → account_of (xs ++ m ∷ []) ≡ account_after (account_of xs) m.header.sequence (count_in m) m.decoding.passed_over (due_after m) (unsure_after m)
 account_of-push xs m =
-    account-same _ _ _ _ _ _ _ _
-    (capped-capped (sum_by count_in xs) (count_in m) (sum_by count_in (xs ++ m ∷ [])) (omega (arith, sum_by-append count_in xs (m ∷ []))))
-    (capped-capped (sum_neighbours lost_between xs) (lost_at (due_of xs) m.header.sequence) (sum_neighbours lost_between (xs ++ m ∷ [])) (neighbours-push lost_between lost_at (λ n. refl) (λ a b. refl) xs m))
-    (capped-capped (sum_neighbours backward_between xs) (backward_at (due_of xs) m.header.sequence) (sum_neighbours backward_between (xs ++ m ∷ [])) (neighbours-push backward_between backward_at (λ n. refl) (λ a b. refl) xs m))
-    (due_of-push xs m)
+    account-same _ _ _ _ _ _ _ _ _ _ _ _ _ _
+    (capped-capped (sum_by count_in xs) (count_in m) (sum_by count_in (xs ++ m ∷ [])) (sum_by_push count_in xs m))
+    (capped-capped (sum_neighbours lost_between xs) (lost_at (of_last due_after xs) m.header.sequence) (sum_neighbours lost_between (xs ++ m ∷ [])) (neighbours-push lost_between due_after lost_at (λ n. refl) (λ a b. refl) xs m))
+    (capped-capped (sum_neighbours backward_between xs) (backward_at (of_last due_after xs) m.header.sequence) (sum_neighbours backward_between (xs ++ m ∷ [])) (neighbours-push backward_between due_after backward_at (λ n. refl) (λ a b. refl) xs m))
+    (passed-push xs m)
+    (capped-capped (sum_neighbours unaccounted_between xs) (unaccounted_at (of_last unsure_after xs) m.header.sequence) (sum_neighbours unaccounted_between (xs ++ m ∷ [])) (neighbours-push unaccounted_between unsure_after unaccounted_at (λ n. refl) unaccounted-is xs m))
+    (of_last-push due_after xs m)
+    (of_last-push unsure_after xs m)
 
 -- ---- the accounts of all domains
 
@@ -169,13 +199,13 @@ apart a b ne = elim (eqb_tells a b) [ inl y ↦ absurd (ne y.1) | inr n ↦ n.0 
 
 -- the accounts after one more message: its domain's account goes on, and the others stay
 pub accounts_of-push : (ms : List Message) (m : Message)
-    → insert_entry eqb (accounts_of ms) m.header.domain (account_after (account_of (messages_of m.header.domain ms)) m.header.sequence (count_in m) (due_after m)) ≡ accounts_of (ms ++ m ∷ [])
+    → insert_entry eqb (accounts_of ms) m.header.domain (account_after (account_of (messages_of m.header.domain ms)) m.header.sequence (count_in m) m.decoding.passed_over (due_after m) (unsure_after m)) ≡ accounts_of (ms ++ m ∷ [])
 accounts_of-push ms m =
     let d = m.header.domain in
     let old : ℕ → Account = λ k. account_of (messages_of k ms) in
     let new : ℕ → Account = λ k. account_of (messages_of k (ms ++ m ∷ [])) in
     let here : messages_of d (ms ++ m ∷ []) ≡ messages_of d ms ++ m ∷ [] = messages_of-push d ms m ∙ ap (λ (b : Bool). messages_of d ms ++ cond b (m ∷ []) []) (itself d) in
-    let at : account_after (account_of (messages_of d ms)) m.header.sequence (count_in m) (due_after m) ≡ new d = sym (account_of-push (messages_of d ms) m) ∙ ap account_of (sym here) in
+    let at : account_after (account_of (messages_of d ms)) m.header.sequence (count_in m) m.decoding.passed_over (due_after m) (unsure_after m) ≡ new d = sym (account_of-push (messages_of d ms) m) ∙ ap account_of (sym here) in
     let others : (k : ℕ) → k ≢ d → old k ≡ new k = λ k ne. ap account_of (sym (append-nil (messages_of k ms)) ∙ ap (λ (b : Bool). messages_of k ms ++ cond b (m ∷ []) []) (sym (apart d k (λ e. ne (sym e)))) ∙ sym (messages_of-push k ms m)) in
     ap (λ (a : Account). insert_entry eqb (accounts_of ms) d a) at
     ∙ table-insert old new d (domains_of ms) (first_appearances_distinct (map (λ (n : Message). n.header.domain) ms)) others
@@ -222,23 +252,23 @@ account_at ms d =
     ]
 
 -- what an insertion leaves, in the words of the code
-pub taken : (entries news : List (ℕ × Account)) (domain sequence count : ℕ) (due : Option ℕ) (before after : Account) (ms : List Message) (m : Message)
-    → entries ≡ accounts_of ms → domain ≡ m.header.domain → sequence ≡ m.header.sequence → count ≡ count_in m → due ≡ due_after m
-    → before ≡ unwrap_or (lookup (eqb domain) entries) (account_of []) → after ≡ account_after before sequence count due
+pub taken : (entries news : List (ℕ × Account)) (domain sequence count : ℕ) (over : PassedOver) (due unsure : Option ℕ) (before after : Account) (ms : List Message) (m : Message)
+    → entries ≡ accounts_of ms → domain ≡ m.header.domain → sequence ≡ m.header.sequence → count ≡ count_in m → over ≡ m.decoding.passed_over → due ≡ due_after m → unsure ≡ unsure_after m
+    → before ≡ unwrap_or (lookup (eqb domain) entries) (account_of []) → after ≡ account_after before sequence count over due unsure
     → news ≡ insert_entry eqb entries domain after → news ≡ accounts_of (ms ++ m ∷ [])
-taken entries news domain sequence count due before after ms m are is_domain is_sequence is_count is_due is_before is_after is_news =
+taken entries news domain sequence count over due unsure before after ms m are is_domain is_sequence is_count is_over is_due is_unsure is_before is_after is_news =
     let found : before ≡ account_of (messages_of m.header.domain ms) =
     is_before ∙ ap (λ (es : List (ℕ × Account)). unwrap_or (lookup (eqb domain) es) (account_of [])) are
     ∙ ap (λ (d : ℕ). unwrap_or (lookup (eqb d) (accounts_of ms)) (account_of [])) is_domain ∙ account_at ms m.header.domain in
-    let goes_on : after ≡ account_after (account_of (messages_of m.header.domain ms)) m.header.sequence (count_in m) (due_after m) =
-    is_after ∙ ap (λ (a : Account). account_after a sequence count due) found
-    ∙ ap (λ (n : ℕ). account_after (account_of (messages_of m.header.domain ms)) n count due) is_sequence
-    ∙ ap (λ (n : ℕ). account_after (account_of (messages_of m.header.domain ms)) m.header.sequence n due) is_count
-    ∙ ap (λ (o : Option ℕ). account_after (account_of (messages_of m.header.domain ms)) m.header.sequence (count_in m) o) is_due in
+    let goes_on : after ≡ account_after (account_of (messages_of m.header.domain ms)) m.header.sequence (count_in m) m.decoding.passed_over (due_after m) (unsure_after m) =
+    is_after ∙ after-same before (account_of (messages_of m.header.domain ms)) sequence m.header.sequence count (count_in m) over m.decoding.passed_over due (due_after m) unsure (unsure_after m) found is_sequence is_count is_over is_due is_unsure in
     is_news ∙ ap (λ (es : List (ℕ × Account)). insert_entry eqb es domain after) are
     ∙ ap (λ (d : ℕ). insert_entry eqb (accounts_of ms) d after) is_domain
     ∙ ap (λ (a : Account). insert_entry eqb (accounts_of ms) m.header.domain a) goes_on
     ∙ accounts_of-push ms m
+  where
+    after-same : (a b : Account) (c d e f : ℕ) (x y : PassedOver) (p q r s : Option ℕ) → a ≡ b → c ≡ d → e ≡ f → x ≡ y → p ≡ q → r ≡ s → account_after a c e x p r ≡ account_after b d f y q s
+    after-same a b c d e f x y p q r s i j k l m n = rw (i, j, k, l, m, n) refl
 
 -- ---- reports
 
@@ -249,3 +279,11 @@ reports_of-table ms (k ∷ ks) = ap (λ (rs : List DomainReport). domain_report 
 -- the accounts make the reports of the domains
 pub reports_of-accounts : (ms : List Message) → map report_of (accounts_of ms) ≡ map (domain_report ms) (domains_of ms)
 reports_of-accounts ms = reports_of-table ms (domains_of ms)
+
+balances_of-table : (ms : List Message) (ks : List ℕ) → map balance_of (table (λ domain. account_of (messages_of domain ms)) ks) ≡ map (domain_balance ms) ks
+balances_of-table ms [] = refl
+balances_of-table ms (k ∷ ks) = ap (λ (bs : List DomainBalance). domain_balance ms k ∷ bs) (balances_of-table ms ks)
+
+-- and their balances
+pub balances_of-accounts : (ms : List Message) → map balance_of (accounts_of ms) ≡ map (domain_balance ms) (domains_of ms)
+balances_of-accounts ms = balances_of-table ms (domains_of ms)

@@ -11,8 +11,7 @@ use Rattle.ipfix_message.specs.declared.fault.MessageFault.TheVariants.{OutOfMem
 use Rattle.ipfix_message.specs.declared.record.DataRecord.{DataRecord}
 use Rattle.ipfix_session.specs.declared.stop.Stop.{Stop}
 use Rattle.ipfix_session.specs.declared.stop.Stop.TheVariants.{Clean, Short, Fault}
-use Rattle.ipfix_session.specs.Faults.{fault_at_end}
-use Rattle.ipfix_session.specs.declared.report.SessionReport.{SessionReport}
+use Rattle.ipfix_session.specs.Faults.{fault_at_end, end_of}
 use Rattle.ipfix_session.specs.declared.fault.SessionFault.{SessionFault}
 use Rattle.ipfix_session.specs.declared.fault.SessionFault.TheVariants as faults
 use Rattle.ipfix_session.specs.declared.source.ReadError.TheVariants.{Interrupted, Failed}
@@ -20,8 +19,7 @@ use Rattle.ipfix_session.specs.Given.{Given, gives, records_in, records_of, stop
 use Rattle.ipfix_session.specs.Sources.{SourceView, IsRead, one_more, tells_end}
 use Rattle.ipfix_session.specs.Sinks.{SinkView, Takes}
 use Rattle.ipfix_session.specs.Feeding.{State, Tells, fault_at, StandsForText, PutsWhole, PutsAll, RunsOut, Feeds}
-use Rattle.ipfix_session.specs.Reports.{Reports, IsReport}
-use Rattle.ipfix_session.specs.Drives.{IsDue, StopsAtFault, PutsUpTo, Drives}
+use Rattle.ipfix_session.specs.Drives.{IsDue, StopsAtFault, PutsUpTo, DrivesTo}
 use Rattle.ipfix_session.proofs.Reaching.{takes-append, takes-none, gives_first, may_go_on}
 
 -- after this many reads the session stands for what the source gave, and its records were put
@@ -126,6 +124,47 @@ stops_at seen view most n before now after first last s d gave piece few is fits
 read_fits : (most n : ℕ) (buffer : List ℕ) → n ≤ length buffer → length buffer ≤ most → length (take n buffer) ≤ most
 read_fits most n buffer fits room = let taken = length-take-le n buffer fits in omega (arith, taken, fits, room)
 
+-- ---- what is told
+
+-- what is told of the messages that count may be told otherwise
+puts_told : {K : Type 0} (view : SinkView K) (fault : Option SessionFault) (old all : List Message) (before after : K) (told other : List Message → ℕ → Type 0) → ((ms : List Message) (d : ℕ) → told ms d → other ms d)
+    → PutsUpTo view fault old all before after told → PutsUpTo view fault old all before after other
+puts_told view fault old all before after told other tell = by_fault fault
+  where
+    whole : (whole : List Message) → PutsWhole view old whole before after told → PutsWhole view old whole before after other
+    whole ms p = record { put = p.put; takes = p.takes; records = p.records; tells = tell _ _ p.tells }
+
+    by_fault : (fault : Option SessionFault) → PutsUpTo view fault old all before after told → PutsUpTo view fault old all before after other
+    by_fault None p = whole all p
+    by_fault (Some faults.Truncated) p = whole all p
+    by_fault (Some faults.ReadFailed) p = whole all p
+    by_fault (Some faults.TooManyReads) p = whole all p
+    by_fault (Some (faults.Message OutOfMemory)) p = record { whole = p.whole; from = p.from; up_to = p.up_to; puts = whole p.whole p.puts }
+    by_fault (Some (faults.Message e)) p = whole all p
+    by_fault (Some faults.SinkClosed) b =
+        record {
+          whole = b.whole;
+          next = b.next;
+          more = b.more;
+          from = b.from;
+          are = b.are;
+          first = b.first;
+          item = b.item;
+          others = b.others;
+          cut_off = b.cut_off;
+          put = b.put;
+          last = b.last;
+          takes = b.takes;
+          records = b.records;
+          back = b.back;
+          tells = tell b.whole _ b.tells;
+        }
+
+pub drives_told : {S K : Type 0} (seen : S → SourceView) (view : SinkView K) (limit most : ℕ) (before after : S) (first last : K) (fault : Option SessionFault) (told other : List Message → ℕ → Type 0)
+    → ((ms : List Message) (d : ℕ) → told ms d → other ms d) → DrivesTo seen view limit most before after first last fault told → DrivesTo seen view limit most before after first last fault other
+drives_told seen view limit most before after first last fault told other tell d =
+    record { gave = d.gave; given = d.given; middle = d.middle; earlier = d.earlier; puts = puts_told view fault _ _ d.middle last told other tell d.puts }
+
 -- ---- a piece after which the session has a fault
 
 -- what a session that was fed has put by its fault, and why that is due
@@ -140,38 +179,22 @@ due_by view limit before after last more s gave piece faults.TooManyReads fed = 
 
 put_by : {K : Type 0} (view : SinkView K) (last more : K) (s : State) (gave piece : List ℕ) (told : List Message → ℕ → Type 0) (f : SessionFault) → ((ms : List Message) (d : ℕ) → Tells s.counts ms d → told ms d)
     → Feeds view (Err f) gave piece last more s → PutsUpTo view (Some f) (gives gave).messages (gives (gave ++ piece)).messages last more told
-put_by view last more s gave piece told (faults.Message OutOfMemory) tell out =
-    record { whole = out.whole; from = out.from; up_to = out.up_to; puts = record { put = out.puts.put; takes = out.puts.takes; records = out.puts.records; tells = tell _ _ out.puts.tells } }
-put_by view last more s gave piece told (faults.Message e) tell fed =
-    record { put = fed.1.put; takes = fed.1.takes; records = fed.1.records; tells = tell _ _ fed.1.stands.tells }
-put_by view last more s gave piece told faults.SinkClosed tell b =
-    record {
-      whole = b.whole;
-      next = b.next;
-      more = b.more;
-      from = b.from;
-      are = b.are;
-      first = b.first;
-      item = b.item;
-      others = b.others;
-      cut_off = b.cut_off;
-      put = b.put;
-      last = b.last;
-      takes = b.takes;
-      records = b.records;
-      back = b.back;
-      tells = tell b.whole _ b.tells;
-    }
-put_by view last more s gave piece told faults.Truncated tell fed = absurd fed
-put_by view last more s gave piece told faults.ReadFailed tell fed = absurd fed
-put_by view last more s gave piece told faults.TooManyReads tell fed = absurd fed
+put_by view last more s gave piece told f tell fed = puts_told view (Some f) _ _ last more (Tells s.counts) told tell (by_fault f fed)
+  where
+    by_fault : (f : SessionFault) → Feeds view (Err f) gave piece last more s → PutsUpTo view (Some f) (gives gave).messages (gives (gave ++ piece)).messages last more (Tells s.counts)
+    by_fault (faults.Message OutOfMemory) out = out
+    by_fault (faults.Message e) fed = record { put = fed.1.put; takes = fed.1.takes; records = fed.1.records; tells = fed.1.stands.tells }
+    by_fault faults.SinkClosed b = b
+    by_fault faults.Truncated fed = absurd fed
+    by_fault faults.ReadFailed fed = absurd fed
+    by_fault faults.TooManyReads fed = absurd fed
 
-pub drives_fault : {S K : Type 0} (seen : S → SourceView) (view : SinkView K) (limit most n count : ℕ) (before now after : S) (first last more : K) (s t : State) (buffer : List ℕ) (r : SessionReport) (f : SessionFault)
+pub drives_fault : {S K : Type 0} (seen : S → SourceView) (view : SinkView K) (limit most n count : ℕ) (before now after : S) (first last more : K) (s t : State) (buffer : List ℕ) (o : Option SessionFault) (told : List Message → ℕ → Type 0) (f : SessionFault)
     → (d : Driving view n (seen before) (seen now) first last s) → n < limit → length buffer ≤ most → IsRead (seen now) (Ok count) (seen after) buffer → Feeds view (Err f) d.gave (take count buffer) last more t
-    → ((ms : List Message) (delivered : ℕ) → Tells t.counts ms delivered → Reports r ms delivered) → r.fault ≡ Some f
-    → Drives seen view limit most before after first more r
+    → ((ms : List Message) (delivered : ℕ) → Tells t.counts ms delivered → told ms delivered) → o ≡ Some f
+    → DrivesTo seen view limit most before after first more o told
 unfolding stops_at
-drives_fault seen view limit most n count before now after first last more s t buffer r f d less room read fed tell fault =
+drives_fault seen view limit most n count before now after first last more s t buffer o told f d less room read fed tell fault =
     let piece = take count buffer in
     record {
       gave = d.gave ++ piece;
@@ -179,12 +202,12 @@ drives_fault seen view limit most n count before now after first last more s t b
         octets = Consumes-trans (seen before).text (seen now).text (seen after).text d.gave piece d.octets read.moved;
         within = omega (arith, d.within, read.counted, less);
         stops = stops_at seen view most n before now after first last s d (d.gave ++ piece) piece (omega (arith, read.counted)) refl (read_fits most count buffer read.fits room);
-        fault_is_due = subst (λ (o : Option SessionFault). IsDue o limit (d.gave ++ piece) (seen before) (seen after)) (sym fault) (due_by view limit (seen before) (seen after) last more t d.gave piece f fed);
+        fault_is_due = subst (λ (f : Option SessionFault). IsDue f limit (d.gave ++ piece) (seen before) (seen after)) (sym fault) (due_by view limit (seen before) (seen after) last more t d.gave piece f fed);
       };
       middle = last;
       earlier = d.takes;
-      puts = subst (λ (o : Option SessionFault). PutsUpTo view o (gives d.gave).messages (gives (d.gave ++ piece)).messages last more (Reports r)) (sym fault)
-          (put_by view last more t d.gave piece (Reports r) f tell fed);
+      puts = subst (λ (f : Option SessionFault). PutsUpTo view f (gives d.gave).messages (gives (d.gave ++ piece)).messages last more told) (sym fault)
+          (put_by view last more t d.gave piece told f tell fed);
     }
 
 -- ---- the last read gave nothing
@@ -194,13 +217,13 @@ puts_none : {K : Type 0} (view : SinkView K) (k : K) (gave : List ℕ) (told : L
 puts_none view k gave told tells = record { put = []; takes = takes-none view k; records = sym (append-nil (records_of gave)); tells = tells }
 
 -- a source that gave nothing more, and why that was the last read
-drives_still : {S K : Type 0} (seen : S → SourceView) (view : SinkView K) (limit most n : ℕ) (before now after : S) (first last : K) (s : State) (r : SessionReport)
+drives_still : {S K : Type 0} (seen : S → SourceView) (view : SinkView K) (limit most n : ℕ) (before now after : S) (first last : K) (s : State) (o : Option SessionFault) (told : List Message → ℕ → Type 0)
     → (d : Driving view n (seen before) (seen now) first last s) → Consumes (seen before).text (seen after).text d.gave → (seen after).reads ≤ (seen before).reads + limit → (seen after).reads ≤ (seen now).reads + 1
-    → IsDue r.fault limit d.gave (seen before) (seen after)
-    → PutsUpTo view r.fault (gives d.gave).messages (gives d.gave).messages last last (Reports r)
-    → Drives seen view limit most before after first last r
+    → IsDue o limit d.gave (seen before) (seen after)
+    → PutsUpTo view o (gives d.gave).messages (gives d.gave).messages last last told
+    → DrivesTo seen view limit most before after first last o told
 unfolding stops_at
-drives_still seen view limit most n before now after first last s r d octets within few due puts =
+drives_still seen view limit most n before now after first last s o told d octets within few due puts =
     record {
       gave = d.gave;
       given = record {
@@ -230,55 +253,55 @@ put_at view first last old all told Clean is_open puts = puts
 put_at view first last old all told Short is_open puts = puts
 put_at view first last old all told (Fault e) is_open puts = absurd is_open
 
-pub drives_ended : {S K : Type 0} (seen : S → SourceView) (view : SinkView K) (limit most n count : ℕ) (before now after : S) (first last : K) (s : State) (buffer : List ℕ) (r : SessionReport)
-    → (d : Driving view n (seen before) (seen now) first last s) → n < limit → IsRead (seen now) (Ok count) (seen after) buffer → count ≡ 0 → 0 < length buffer → IsReport r d.gave
-    → Drives seen view limit most before after first last r
-drives_ended seen view limit most n count before now after first last s buffer r d less read none room report =
+pub drives_ended : {S K : Type 0} (seen : S → SourceView) (view : SinkView K) (limit most n count : ℕ) (before now after : S) (first last : K) (s : State) (buffer : List ℕ) (o : Option SessionFault) (told : List Message → ℕ → Type 0)
+    → (d : Driving view n (seen before) (seen now) first last s) → n < limit → IsRead (seen now) (Ok count) (seen after) buffer → count ≡ 0 → 0 < length buffer → told (gives d.gave).messages (length (records_of d.gave)) → o ≡ end_of d.gave
+    → DrivesTo seen view limit most before after first last o told
+drives_ended seen view limit most n count before now after first last s buffer o told d less read none room tells is_fault =
     let is_open = may_go_on s d.gave d.stands d.no_fault in
     let same : List ℕ → Type 0 = λ gave. Consumes (seen before).text (seen after).text gave in
     let moved = subst (λ k. Consumes (seen now).text (seen after).text (take k buffer)) none read.moved in
-    drives_still seen view limit most n before now after first last s r d
+    drives_still seen view limit most n before now after first last s o told d
     (subst same (append-nil d.gave) (Consumes-trans (seen before).text (seen now).text (seen after).text d.gave [] d.octets moved)) (omega (arith, d.within, read.counted, less)) (omega (arith, read.counted))
-    (subst (λ (o : Option SessionFault). IsDue o limit d.gave (seen before) (seen after)) (sym report.fault)
+    (subst (λ (f : Option SessionFault). IsDue f limit d.gave (seen before) (seen after)) (sym is_fault)
     (due_at limit (seen before) (seen after) d.gave (stop_of d.gave) refl is_open (told_end (seen now).ended (seen after).ended count buffer read.end none room) (read.failures ∙ d.none_failed)))
-    (subst (λ (o : Option SessionFault). PutsUpTo view o (gives d.gave).messages (gives d.gave).messages last last (Reports r)) (sym report.fault)
-    (put_at view last last (gives d.gave).messages (gives d.gave).messages (Reports r) (stop_of d.gave) is_open (puts_none view last d.gave (Reports r) report.reports)))
+    (subst (λ (f : Option SessionFault). PutsUpTo view f (gives d.gave).messages (gives d.gave).messages last last told) (sym is_fault)
+    (put_at view last last (gives d.gave).messages (gives d.gave).messages told (stop_of d.gave) is_open (puts_none view last d.gave told tells)))
 
 -- ---- a read that failed
 
-pub drives_failed : {S K : Type 0} (seen : S → SourceView) (view : SinkView K) (limit most n : ℕ) (before now after : S) (first last : K) (s : State) (buffer : List ℕ) (r : SessionReport)
+pub drives_failed : {S K : Type 0} (seen : S → SourceView) (view : SinkView K) (limit most n : ℕ) (before now after : S) (first last : K) (s : State) (buffer : List ℕ) (o : Option SessionFault) (told : List Message → ℕ → Type 0)
     → (d : Driving view n (seen before) (seen now) first last s) → n < limit → IsRead (seen now) (Err Failed) (seen after) buffer
-    → ((ms : List Message) (delivered : ℕ) → Tells s.counts ms delivered → Reports r ms delivered) → r.fault ≡ Some faults.ReadFailed
-    → Drives seen view limit most before after first last r
-drives_failed seen view limit most n before now after first last s buffer r d less read tell fault =
-    drives_still seen view limit most n before now after first last s r d
+    → ((ms : List Message) (delivered : ℕ) → Tells s.counts ms delivered → told ms delivered) → o ≡ Some faults.ReadFailed
+    → DrivesTo seen view limit most before after first last o told
+drives_failed seen view limit most n before now after first last s buffer o told d less read tell fault =
+    drives_still seen view limit most n before now after first last s o told d
     (Consumes-kept (seen before).text (seen now).text (seen after).text d.gave d.octets read.moved) (omega (arith, d.within, read.counted, less)) (omega (arith, read.counted))
-    (subst (λ (o : Option SessionFault). IsDue o limit d.gave (seen before) (seen after)) (sym fault) (may_go_on s d.gave d.stands d.no_fault, read.failures ∙ ap one_more d.none_failed))
-    (subst (λ (o : Option SessionFault). PutsUpTo view o (gives d.gave).messages (gives d.gave).messages last last (Reports r)) (sym fault) (puts_none view last d.gave (Reports r) (tell _ _ d.stands.tells)))
+    (subst (λ (f : Option SessionFault). IsDue f limit d.gave (seen before) (seen after)) (sym fault) (may_go_on s d.gave d.stands d.no_fault, read.failures ∙ ap one_more d.none_failed))
+    (subst (λ (f : Option SessionFault). PutsUpTo view f (gives d.gave).messages (gives d.gave).messages last last told) (sym fault) (puts_none view last d.gave told (tell _ _ d.stands.tells)))
 
 -- ---- no more reads
 
-pub drives_limit : {S K : Type 0} (seen : S → SourceView) (view : SinkView K) (limit most n : ℕ) (before now : S) (first last : K) (s : State) (r : SessionReport)
+pub drives_limit : {S K : Type 0} (seen : S → SourceView) (view : SinkView K) (limit most n : ℕ) (before now : S) (first last : K) (s : State) (o : Option SessionFault) (told : List Message → ℕ → Type 0)
     → (d : Driving view n (seen before) (seen now) first last s) → n ≡ limit
-    → ((ms : List Message) (delivered : ℕ) → Tells s.counts ms delivered → Reports r ms delivered) → r.fault ≡ Some faults.TooManyReads
-    → Drives seen view limit most before now first last r
-drives_limit seen view limit most n before now first last s r d all tell fault =
-    drives_still seen view limit most n before now now first last s r d d.octets (omega (arith, d.within, all)) (omega arith)
-    (subst (λ (o : Option SessionFault). IsDue o limit d.gave (seen before) (seen now)) (sym fault)
+    → ((ms : List Message) (delivered : ℕ) → Tells s.counts ms delivered → told ms delivered) → o ≡ Some faults.TooManyReads
+    → DrivesTo seen view limit most before now first last o told
+drives_limit seen view limit most n before now first last s o told d all tell fault =
+    drives_still seen view limit most n before now now first last s o told d d.octets (omega (arith, d.within, all)) (omega arith)
+    (subst (λ (f : Option SessionFault). IsDue f limit d.gave (seen before) (seen now)) (sym fault)
     (may_go_on s d.gave d.stands d.no_fault, subst (λ (k : ℕ). ((seen now).reads ≡ (seen before).reads + k) ⊎ ((seen now).reads ≡ 2 ^ 64 - 1)) all d.counted, d.none_failed, d.not_ended))
-    (subst (λ (o : Option SessionFault). PutsUpTo view o (gives d.gave).messages (gives d.gave).messages last last (Reports r)) (sym fault) (puts_none view last d.gave (Reports r) (tell _ _ d.stands.tells)))
+    (subst (λ (f : Option SessionFault). PutsUpTo view f (gives d.gave).messages (gives d.gave).messages last last told) (sym fault) (puts_none view last d.gave told (tell _ _ d.stands.tells)))
 
 -- ---- no memory for a buffer
 
-pub drives_nowhere : {S K : Type 0} (seen : S → SourceView) (view : SinkView K) (limit most : ℕ) (source : S) (sink : K) (s : State) (r : SessionReport) → StandsForText s []
-    → ((ms : List Message) (delivered : ℕ) → Tells s.counts ms delivered → Reports r ms delivered) → r.fault ≡ Some (faults.Message OutOfMemory)
-    → Drives seen view limit most source source sink sink r
+pub drives_nowhere : {S K : Type 0} (seen : S → SourceView) (view : SinkView K) (limit most : ℕ) (source : S) (sink : K) (s : State) (o : Option SessionFault) (told : List Message → ℕ → Type 0) → StandsForText s []
+    → ((ms : List Message) (delivered : ℕ) → Tells s.counts ms delivered → told ms delivered) → o ≡ Some (faults.Message OutOfMemory)
+    → DrivesTo seen view limit most source source sink sink o told
 unfolding driving_first
-drives_nowhere seen view limit most source sink s r stands tell fault =
+drives_nowhere seen view limit most source sink s o told stands tell fault =
     let d = driving_first view (seen source) sink s stands in
     let ms = (gives []).messages in
-    let out : RunsOut view ms ms sink sink (Reports r) =
-    record { whole = ms; from = ([], sym (append-nil ms)); up_to = ([], sym (append-nil ms)); puts = puts_none view sink [] (Reports r) (tell _ _ stands.tells) } in
-    drives_still seen view limit most 0 source source source sink sink s r d d.octets (omega arith) (omega arith)
-    (subst (λ (o : Option SessionFault). IsDue o limit [] (seen source) (seen source)) (sym fault) tt)
-    (subst (λ (o : Option SessionFault). PutsUpTo view o ms ms sink sink (Reports r)) (sym fault) out)
+    let out : RunsOut view ms ms sink sink told =
+    record { whole = ms; from = ([], sym (append-nil ms)); up_to = ([], sym (append-nil ms)); puts = puts_none view sink [] told (tell _ _ stands.tells) } in
+    drives_still seen view limit most 0 source source source sink sink s o told d d.octets (omega arith) (omega arith)
+    (subst (λ (f : Option SessionFault). IsDue f limit [] (seen source) (seen source)) (sym fault) tt)
+    (subst (λ (f : Option SessionFault). PutsUpTo view f ms ms sink sink told) (sym fault) out)

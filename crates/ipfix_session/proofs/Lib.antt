@@ -3,6 +3,8 @@ mod Counting
 pub mod Giving
 pub mod Moves
 pub mod Accounts
+pub mod Places
+pub mod Balances
 pub mod Reaching
 pub mod Filling
 pub mod Putting

@@ -13,7 +13,7 @@ use Rattle.ipfix_message.specs.Outcome.{Fails}
 use Rattle.ipfix_message.specs.declared.fault.MessageFault.{MessageFault}
 use Rattle.ipfix_message.specs.declared.fault.MessageFault.TheVariants.{OutOfMemory}
 use Rattle.ipfix_message.specs.declared.record.DataRecord.{DataRecord}
-use Rattle.ipfix_session.specs.declared.ledger.Account.{Account}
+use Rattle.ipfix_session.specs.declared.account.Account.{Account}
 use Rattle.ipfix_session.specs.declared.stop.Stop.{Stop}
 use Rattle.ipfix_session.specs.declared.stop.Stop.TheVariants.{Clean, Short, Fault}
 use Rattle.ipfix_session.specs.declared.fault.SessionFault.{SessionFault}
@@ -51,11 +51,11 @@ takes-none view k = record { chain = refl; none_refused = refl }
 
 pub tells_accounts : (c : Counts) (accounts : List (ℕ × Account)) (ms : List Message) (d : ℕ) → Tells c ms d → accounts ≡ c.accounts → Tells (record c { accounts = accounts }) ms d
 tells_accounts c accounts ms d t e =
-    record { messages = t.messages; delivered_is = t.delivered_is; passed_over = t.passed_over; accounts = e ∙ t.accounts }
+    record { messages = t.messages; octets = t.octets; delivered_is = t.delivered_is; passed_over = t.passed_over; accounts = e ∙ t.accounts }
 
 pub tells_delivered : (c : Counts) (delivered more : ℕ) (ms : List Message) (d : ℕ) → Tells c ms d → CountsOn c.delivered more delivered → Tells (record c { delivered = delivered }) ms (d + more)
 tells_delivered c delivered more ms d t on =
-    record { messages = t.messages; delivered_is = on d t.delivered_is; passed_over = t.passed_over; accounts = t.accounts }
+    record { messages = t.messages; octets = t.octets; delivered_is = on d t.delivered_is; passed_over = t.passed_over; accounts = t.accounts }
 
 -- ---- one more message
 

@@ -6,10 +6,10 @@ use Rattle.ipfix_session.specs.declared.message_counter.CounterPlace.{CounterPla
 use Rattle.ipfix_session.specs.declared.message_counter.CounterPlace.TheVariants as places
 
 -- what contracts see of a place
-abbrev pub place_of : CounterPlace → PlaceView
-place_of (places.Header begun) = within_header begun.items
-place_of (places.Message due) = within_message (non_zero_u16_get due)
-place_of places.Fault = at_fault
+abbrev pub place_view : CounterPlace → PlaceView
+place_view (places.Header begun) = within_header begun.items
+place_view (places.Message due) = within_message (non_zero_u16_get due)
+place_view places.Fault = at_fault
 
 -- this text was read up to what is left
 pub record IsReading (c : CounterView) (left text : List ℕ) : Type 0 where

@@ -5,6 +5,7 @@ use Rattle.ipfix_message.specs.Domains.{Message}
 use Rattle.ipfix_message.specs.declared.fault.MessageFault.TheVariants.{OutOfMemory}
 use Rattle.ipfix_message.specs.declared.record.DataRecord.{DataRecord}
 use Rattle.ipfix_session.specs.declared.report.SessionReport.{SessionReport}
+use Rattle.ipfix_session.specs.declared.report.FullReport.{FullReport}
 use Rattle.ipfix_session.specs.declared.stop.Stop.TheVariants.{Clean, Short, Fault}
 use Rattle.ipfix_session.specs.declared.fault.SessionFault.{SessionFault}
 use Rattle.ipfix_session.specs.declared.fault.SessionFault.TheVariants as faults
@@ -13,6 +14,7 @@ use Rattle.ipfix_session.specs.Sources.{SourceView, one_more}
 use Rattle.ipfix_session.specs.Sinks.{SinkView, Takes}
 use Rattle.ipfix_session.specs.Feeding.{PutsWhole, RunsOut, IsRefused}
 use Rattle.ipfix_session.specs.Reports.{Reports}
+use Rattle.ipfix_session.specs.Places.{ReportsInFull}
 
 -- ---- what a source and its octets say
 
@@ -87,14 +89,22 @@ module _ {K : Type 0} (view : SinkView K) where
   PutsUpTo fault old all before after told = PutsWhole view old all before after told
 
 module _ {S K : Type 0} (seen : S → SourceView) (view : SinkView K) where
-  -- a source gave octets, and a sink took their records
-  pub record Drives (limit most : ℕ) (before after : S) (first last : K) (report : SessionReport) : Type 0 where
+  -- a source gave octets until this fault, a sink took their records, and this is told of the messages that count
+  pub record DrivesTo (limit most : ℕ) (before after : S) (first last : K) (fault : Option SessionFault) (told : List Message → ℕ → Type 0) : Type 0 where
     pub gave : List ℕ
-    pub given : Gave seen limit most before gave after report.fault
+    pub given : Gave seen limit most before gave after fault
     -- the first records that the sink took are those of what was given before the last read, and it gave none of them back
     pub middle : K
     pub earlier : Takes view first (records_of given.stops.earlier) middle
-    pub puts : PutsUpTo view report.fault (gives given.stops.earlier).messages (gives gave).messages middle last (Reports report)
+    pub puts : PutsUpTo view fault (gives given.stops.earlier).messages (gives gave).messages middle last told
+
+  -- and the report tells it
+  abbrev pub Drives : ℕ → ℕ → S → S → K → K → SessionReport → Type 0
+  Drives limit most before after first last report = DrivesTo limit most before after first last report.fault (Reports report)
+
+  -- and the full report tells it
+  abbrev pub DrivesInFull : ℕ → ℕ → S → S → K → K → FullReport → Type 0
+  DrivesInFull limit most before after first last full = DrivesTo limit most before after first last full.report.fault (ReportsInFull full)
 
   -- the sink took, one after another, the records that a source gave
   pub record TakesGiven (limit most : ℕ) (before after : S) (first last : K) (report : SessionReport) : Type 0 where

@@ -1,5 +1,5 @@
 -- What a session stands for, and what feeding it a piece of its text does.
-use Rattle.std.specs.Prelude.{◌≡◌, ℕ, false, List, [], ◌∷◌, ◌++◌, ◌+◌, length, Option, Some, None, Result, Ok, Err}
+use Rattle.std.specs.Prelude.{◌≡◌, ℕ, false, List, [], ◌∷◌, ◌++◌, ◌+◌, length, sum_by, Option, Some, None, Result, Ok, Err}
 use Rattle.ipfix_message.specs.Domains.{DomainsView, Message, StandsFor}
 use Rattle.ipfix_message.specs.declared.fault.MessageFault.TheVariants.{OutOfMemory}
 use Rattle.ipfix_message.specs.declared.passed_over.PassedOver.{PassedOver}
@@ -8,17 +8,20 @@ use Rattle.ipfix_session.specs.declared.stop.Stop.{Stop}
 use Rattle.ipfix_session.specs.declared.stop.Stop.TheVariants.{Clean, Short, Fault}
 use Rattle.ipfix_session.specs.declared.fault.SessionFault.{SessionFault}
 use Rattle.ipfix_session.specs.declared.fault.SessionFault.TheVariants as faults
-use Rattle.ipfix_session.specs.declared.ledger.Account.{Account}
+use Rattle.ipfix_session.specs.declared.account.Account.{Account}
 use Rattle.ipfix_session.specs.MessageStream.{cut}
 use Rattle.ipfix_session.specs.Given.{gives, known_after, records_in, records_of, stop_of, IsOpen, IsPrefix}
-use Rattle.ipfix_session.specs.Ledger.{capped, accounts_of}
+use Rattle.ipfix_session.specs.Ledger.{capped}
+use Rattle.ipfix_session.specs.Accounts.{accounts_of}
 use Rattle.ipfix_session.specs.Reports.{passed_over_in}
+use Rattle.ipfix_session.specs.Places.{length_of}
 use Rattle.ipfix_session.specs.Sources.{one_more}
 use Rattle.ipfix_session.specs.Sinks.{SinkView, Takes}
 
 -- the counts of a session, and the accounts of its domains
 pub record Counts : Type 0 where
   pub messages : ℕ
+  pub octets : ℕ
   pub delivered : ℕ
   pub passed_over : PassedOver
   pub accounts : List (ℕ × Account)
@@ -33,6 +36,7 @@ pub record State : Type 0 where
 -- the counts are of these messages, and of that many records that were taken
 pub record Tells (c : Counts) (ms : List Message) (delivered : ℕ) : Type 0 where
   pub messages : c.messages ≡ capped (length ms)
+  pub octets : c.octets ≡ capped (sum_by length_of ms)
   pub delivered_is : c.delivered ≡ capped delivered
   pub passed_over : c.passed_over ≡ passed_over_in ms
   pub accounts : c.accounts ≡ accounts_of ms

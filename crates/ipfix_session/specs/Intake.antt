@@ -15,7 +15,7 @@ use Rattle.ipfix_session.specs.Feeding.{Counts, Tells, PutsWhole, RunsOut, IsRef
 
 -- the counts that a tally keeps
 abbrev pub counts_of : Tally → Counts
-counts_of t = record { messages = t.messages; delivered = t.delivered; passed_over = t.passed_over; accounts = t.ledger.accounts.entries }
+counts_of t = record { messages = t.messages; octets = t.octets; delivered = t.delivered; passed_over = t.passed_over; accounts = t.ledger.accounts.entries }
 
 -- a text that begins with no message, but may when it goes on
 pub record IsRest (w : List ℕ) : Type 0 where

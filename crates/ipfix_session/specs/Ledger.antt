@@ -2,7 +2,6 @@
 use Rattle.std.specs.Prelude.{ℕ, ◌+◌, ◌-◌, ◌^◌, ◌%◌, min, not, nat_lt, ◌==◌, if◌then◌else◌, Option, Some, None, List, [], ◌∷◌, length, map, filter, sum_by}
 use Rattle.ipfix_message.specs.Domains.{Message}
 use Rattle.ipfix_session.specs.declared.report.DomainReport.{DomainReport}
-use Rattle.ipfix_session.specs.declared.ledger.Account.{Account}
 
 -- a count that stops at the greatest number of 64 bits
 abbrev pub capped : ℕ → ℕ
@@ -12,10 +11,14 @@ capped n = min n (2 ^ 64 - 1)
 abbrev pub count_in : Message → ℕ
 count_in m = length m.decoding.records
 
+-- the sequence number behind a message: its own, and one more for each of its records
+abbrev pub sequence_behind : Message → ℕ
+sequence_behind m = (m.header.sequence + count_in m) % 2 ^ 32
+
 -- the sequence number that is due in the domain after a message; unknown, if a data set's records
 -- couldn't be counted
 abbrev pub due_after : Message → Option ℕ
-due_after m = if m.decoding.passed_over.unknown_sets == 0 then Some ((m.header.sequence + count_in m) % 2 ^ 32) else None
+due_after m = if m.decoding.passed_over.unknown_sets == 0 then Some (sequence_behind m) else None
 
 -- how far a sequence number is above the one that was due, modulo 2^32
 abbrev pub gap : ℕ → ℕ → ℕ
@@ -61,27 +64,3 @@ abbrev pub domain_report : List Message → ℕ → DomainReport
 domain_report ms domain =
     let own = messages_of domain ms in
     record { domain = domain; count = capped (sum_by count_in own); lost = capped (sum_neighbours lost_between own); backward = capped (sum_neighbours backward_between own) }
-
--- ---- what is kept of a domain
-
--- the sequence number that is due after a domain's messages; unknown before the first
-abbrev pub due_of : List Message → Option ℕ
-due_of [] = None
-due_of (m ∷ []) = due_after m
-due_of (m ∷ n ∷ ms) = due_of (n ∷ ms)
-
--- the account of a domain's messages
-abbrev pub account_of : List Message → Account
-account_of own = record { count = capped (sum_by count_in own); lost = capped (sum_neighbours lost_between own); backward = capped (sum_neighbours backward_between own); due = due_of own }
-
--- the account after one more message, with this sequence number and count
-abbrev pub account_after : Account → ℕ → ℕ → Option ℕ → Account
-account_after a sequence count due = record { count = capped (a.count + count); lost = capped (a.lost + lost_at a.due sequence); backward = capped (a.backward + backward_at a.due sequence); due = due }
-
--- the accounts of all domains, in order of first appearance
-abbrev pub accounts_of : List Message → List (ℕ × Account)
-accounts_of ms = map (λ domain. (domain, account_of (messages_of domain ms))) (domains_of ms)
-
--- the report that an account makes
-abbrev pub report_of : ℕ × Account → DomainReport
-report_of entry = record { domain = entry.0; count = entry.1.count; lost = entry.1.lost; backward = entry.1.backward }

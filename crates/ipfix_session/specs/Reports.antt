@@ -18,14 +18,14 @@ passed_over_in ms = record {
 }
 
 -- what a report says was passed over
-abbrev pub passed_over_of : SessionReport → PassedOver
-passed_over_of r = record { skipped_sets = r.skipped_sets; unknown_sets = r.unknown_sets; ignored_withdrawals = r.ignored_withdrawals }
+abbrev pub passed_over_reported : SessionReport → PassedOver
+passed_over_reported r = record { skipped_sets = r.skipped_sets; unknown_sets = r.unknown_sets; ignored_withdrawals = r.ignored_withdrawals }
 
 -- a report is of these messages, and of that many records that were taken
 pub record Reports (r : SessionReport) (ms : List Message) (delivered : ℕ) : Type 0 where
   pub messages : r.messages ≡ capped (length ms)
   pub delivered_is : r.delivered ≡ capped delivered
-  pub passed_over : passed_over_of r ≡ passed_over_in ms
+  pub passed_over : passed_over_reported r ≡ passed_over_in ms
   pub domains : r.domains.items ≡ map (domain_report ms) (domains_of ms)
 
 -- the report of a whole text: its messages before the first with a fault, all their records, and the fault that it

@@ -1,11 +1,11 @@
 //! Driving a session: a source is read piece by piece, and its octets are fed.
 
 ghost use Rattle.std.specs.Prelude.{ℕ, ◌<◌, ◌≤◌, length};
-ghost use Rattle.ipfix_session.specs.Drives.{Drives};
+ghost use Rattle.ipfix_session.specs.Drives.{Drives, DrivesInFull};
 ghost use Rattle.ipfix_session.specs.declared.driver.TheConstants.{READ_SIZE};
 
 use crate::fault::SessionFault;
-use crate::report::SessionReport;
+use crate::report::{FullReport, SessionReport};
 use crate::session::Session;
 use crate::sink::Sink;
 use crate::source::{ReadError, Source};
@@ -34,6 +34,20 @@ pub fn drive<S: Source, K: Sink>(
 ) -> SessionReport
     ensures { Drives S.seen K.seen limit READ_SIZE source.old source.new sink.old sink.new result }
 {
+    drive_in_full(alloc, source, sink, limit).report
+}
+
+/// Does what [`drive`] does, and reports in full: with the balances of the domains, and the place of the
+/// message that ended the session.
+pub fn drive_in_full<S: Source, K: Sink>(
+    alloc: Global,
+    source: &mut S,
+    sink: &mut K,
+    limit: u64,
+) -> FullReport
+    ensures { DrivesInFull S.seen K.seen limit READ_SIZE source.old source.new sink.old sink.new
+        result }
+{
     match vec![in alloc; 0; READ_SIZE] {
         Ok(mut buffer) => drive_through(alloc, source, sink, limit, &mut buffer),
         Err(_) => {
@@ -49,15 +63,15 @@ fn drive_through<S: Source, K: Sink>(
     sink: &mut K,
     limit: u64,
     buffer: &mut [u8],
-) -> SessionReport
+) -> FullReport
     requires { 0 < length buffer.old }
     ensures { (most : ℕ) → length buffer.old ≤ most
-        → Drives S.seen K.seen limit most source.old source.new sink.old sink.new result }
+        → DrivesInFull S.seen K.seen limit most source.old source.new sink.old sink.new result }
 {
     let mut session = Session::new(alloc);
     for _ in 0..limit {
         match source.read(buffer) {
-            Ok(0) => return session.finish(),
+            Ok(0) => return session.finish_in_full(),
             Ok(count) => {
                 if let Err(fault) = session.feed(alloc, &buffer[..count], sink) {
                     return session.finish_after(fault);

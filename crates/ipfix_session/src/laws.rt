@@ -1,12 +1,16 @@
 //! Laws of the definitions. Each is a function that does nothing, and its contract is the theorem: a
 //! call brings that to the proof of its caller.
 
-ghost use Rattle.std.specs.Prelude.{◌≡◌, ◌≢◌, ◌++◌, [], ℕ, List, Some, None, Result, Ok, Err};
+ghost use Rattle.std.specs.Prelude.{◌≡◌, ◌≢◌, ◌+◌, ◌-◌, ◌%◌, ◌^◌, ◌<◌, ◌++◌, ◌∷◌, [], ℕ, List, length, drop, sum_by, Some, None, Result, Ok, Err};
 ghost use Rattle.ipfix_wire.specs.Numbers.{IsOctets};
 ghost use Rattle.ipfix_wire.specs.InTurn.{IsLongest};
 ghost use Rattle.ipfix_message.specs.declared.fault.MessageFault.{MessageFault};
+ghost use Rattle.ipfix_message.specs.Domains.{Message};
 ghost use Rattle.ipfix_message.specs.declared.record.DataRecord.{DataRecord};
 ghost use Rattle.ipfix_session.specs.MessageStream.{SpellsMessage, cut};
+ghost use Rattle.ipfix_session.specs.Ledger.{domain_report, messages_of};
+ghost use Rattle.ipfix_session.specs.Balances.{domain_balance, sequence_at_end};
+ghost use Rattle.ipfix_session.specs.Places.{messages_before_fault, place_after, place_of_fault};
 ghost use Rattle.ipfix_session.specs.Given.{gives, gives_after, behind, known_after, records_of, stop_of, IsOpen, IsPrefix};
 ghost use Rattle.ipfix_session.specs.Feeding.{State, Feeds};
 ghost use Rattle.ipfix_session.specs.Drives.{Drives, IsGiven, TakesGiven};
@@ -75,4 +79,35 @@ pub fn no_fault_is_all<S: Source>()
         → IsGiven S.seen limit most before after r records → r.fault ≡ None
         → (S.seen before).text ≡ Some text
         → (stop_of text ≡ Clean) × (records ≡ records_of text) }
+{}
+
+/// The ledger of a domain balances: from before its first message to behind its last, the exporter's
+/// sequence number advanced, modulo 2^32, by the records that came (`count`), those that were lost
+/// (`lost`) and those that are unaccounted for (`unaccounted`), if it never stepped backward and no count
+/// has stopped at `u64::MAX`. Before the first message is its sequence number; behind the last is the
+/// last's sequence number and one more for each of its records.
+///
+/// So no record vanished between these two places without a number for it. What was sent before the
+/// first message, or behind the last, no sequence number shows; nor do those of an unknown set in the
+/// last message, or a loss of 2^32 records at once.
+pub fn ledger_balances()
+    ensures { (ms : List Message) (domain : ℕ) (first : Message) (more : List Message)
+        → messages_of domain ms ≡ first ∷ more
+        → (domain_report ms domain).backward ≡ 0
+        → (domain_report ms domain).count < 2 ^ 64 - 1
+        → (domain_report ms domain).lost < 2 ^ 64 - 1
+        → (domain_balance ms domain).unaccounted < 2 ^ 64 - 1
+        → (first.header.sequence + (domain_report ms domain).count + (domain_report ms domain).lost
+        + (domain_balance ms domain).unaccounted) % 2 ^ 32 ≡ sequence_at_end first more }
+{}
+
+/// The place behind the messages that count is that of the first message with a fault, by the cutting of
+/// the text into messages.
+pub fn place_is_of_fault()
+    ensures place { (text : List ℕ) → place_after (gives text).messages ≡ place_of_fault text }
+    // What begins there, read after the messages before it, gives no message, and stops as the text
+    // does: with the fault, if there is one.
+    ensures begins { (text : List ℕ) → gives_after (known_after [] (gives text).messages)
+        (drop (sum_by length (messages_before_fault text)) text)
+        ≡ record { messages = []; stop = stop_of text } }
 {}

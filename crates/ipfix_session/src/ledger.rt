@@ -4,75 +4,27 @@ ghost use Rattle.std.specs.Prelude.{◌≡◌, ◌<◌, ◌≤◌, ◌++◌, ◌
 ghost use Rattle.std.specs.Vec.{vec_capacity};
 ghost use Rattle.indexmap.specs.IndexMap.{get, spare, index_map_len};
 ghost use Rattle.ipfix_message.specs.Domains.{Message};
-ghost use Rattle.ipfix_session.specs.Ledger.{account_after, account_of, report_of, accounts_of, count_in, due_after};
+ghost use Rattle.ipfix_session.specs.Ledger.{count_in};
+ghost use Rattle.ipfix_session.specs.Accounts.{account_of, accounts_of, balance_of, report_of};
 
-use crate::report::DomainReport;
+use crate::account::{Account, next_after};
+use crate::report::{DomainBalance, DomainReport};
 use indexmap::IndexMap;
+use ipfix_message::PassedOver;
 use ipfix_wire::Header;
 use std::alloc::{AllocError, Global};
-
-/// What is kept of a domain's messages.
-#[derive(Clone, Copy)]
-pub struct Account {
-    pub count: u64,
-    pub lost: u64,
-    pub backward: u64,
-    /// The sequence number that is due next, if the last message tells it.
-    pub due: Option<u32>,
-}
-
-impl Account {
-    const EMPTY: Account = Account {
-        count: 0,
-        lost: 0,
-        backward: 0,
-        due: None,
-    };
-
-    // The account after one more message.
-    fn after(&self, sequence: u32, count: u64, due: Option<u32>) -> Account
-        ensures { result ≡ account_after self.now sequence count due }
-    {
-        let (lost, backward) = match self.due {
-            None => (0, 0),
-            Some(due) => {
-                let gap = sequence.wrapping_sub(due);
-                if gap < 1 << 31 {
-                    (u64::from(gap), 0)
-                } else {
-                    (0, 1)
-                }
-            }
-        };
-        Account {
-            count: self.count.saturating_add(count),
-            lost: self.lost.saturating_add(lost),
-            backward: self.backward.saturating_add(backward),
-            due,
-        }
-    }
-}
-
-// The sequence number that is due after a message, unless records of it couldn't be counted.
-fn due_next(sequence: u32, records: u64, unknown_sets: u64) -> Option<u32>
-    ensures { (m : Message) → m.header.sequence ≡ sequence → count_in m ≡ records
-        → m.decoding.passed_over.unknown_sets ≡ unknown_sets → result ≡ due_after m }
-{
-    if unknown_sets == 0 {
-        Some(sequence.wrapping_add((records % (1 << 32)) as u32))
-    } else {
-        None
-    }
-}
 
 /// The accounts of a session's domains, in order of first appearance.
 #[derive(Drop)]
 pub struct Ledger {
     pub accounts: IndexMap<u32, Account>,
-    // Room for the reports of all domains.
+    // Room for the reports and balances of all domains.
     reports: Vec<DomainReport>,
-    ghost empty: { reports.items ≡ [] },
-    ghost room: { index_map_len accounts ≤ vec_capacity reports },
+    balances: Vec<DomainBalance>,
+    ghost no_reports: { reports.items ≡ [] },
+    ghost no_balances: { balances.items ≡ [] },
+    ghost report_room: { index_map_len accounts ≤ vec_capacity reports },
+    ghost balance_room: { index_map_len accounts ≤ vec_capacity balances },
 }
 
 impl Ledger {
@@ -82,6 +34,7 @@ impl Ledger {
         Ledger {
             accounts: IndexMap::new(alloc),
             reports: Vec::new(alloc),
+            balances: Vec::new(alloc),
         }
     }
 
@@ -89,10 +42,12 @@ impl Ledger {
     pub fn make_room(&mut self) -> Result<(), AllocError>
         ensures same { self.new.accounts.entries ≡ self.old.accounts.entries }
         ensures ok { OnOk result ((0 < spare self.new.accounts)
-            × (index_map_len self.new.accounts < vec_capacity self.new.reports)) }
+            × (index_map_len self.new.accounts < vec_capacity self.new.reports)
+            × (index_map_len self.new.accounts < vec_capacity self.new.balances)) }
     {
         self.accounts.reserve(1)?;
-        self.reports.reserve(self.accounts.len() + 1)
+        self.reports.reserve(self.accounts.len() + 1)?;
+        self.balances.reserve(self.accounts.len() + 1)
     }
 
     // The account of a domain, or an empty one.
@@ -105,32 +60,35 @@ impl Ledger {
             .unwrap_or(Account::EMPTY)
     }
 
-    /// Takes a message into account: so many records, and so many data sets whose records couldn't be
-    /// counted.
-    pub fn take(&mut self, header: &Header, records: u64, unknown_sets: u64)
+    /// Takes a message into account: so many records, and what it passed over.
+    pub fn take(&mut self, header: &Header, records: u64, passed_over: PassedOver)
         requires account { 0 < spare self.old.accounts }
         requires report { index_map_len self.old.accounts < vec_capacity self.old.reports }
+        requires balance { index_map_len self.old.accounts < vec_capacity self.old.balances }
         ensures { (ms : List Message) (m : Message) → self.old.accounts.entries ≡ accounts_of ms
             → m.header ≡ header.now → count_in m ≡ records
-            → m.decoding.passed_over.unknown_sets ≡ unknown_sets
+            → m.decoding.passed_over ≡ passed_over
             → self.new.accounts.entries ≡ accounts_of (ms ++ m ∷ []) }
     {
         let before = self.account(header.domain);
-        let due = due_next(header.sequence, records, unknown_sets);
-        let after = before.after(header.sequence, records, due);
+        let next = next_after(header.sequence, records, passed_over.unknown_sets);
+        let after = before.after(header.sequence, records, passed_over, next);
         let _ = self.accounts.insert(header.domain, after).unwrap();
     }
 
-    /// The reports of the domains. This takes no memory, since there is room.
-    pub fn into_reports(self) -> Vec<DomainReport>
-        ensures { result.items ≡ map report_of self.accounts.entries }
+    /// The reports and the balances of the domains. This takes no memory, since there is room.
+    pub fn into_reports(self) -> (Vec<DomainReport>, Vec<DomainBalance>)
+        ensures reports { result.0.items ≡ map report_of self.accounts.entries }
+        ensures balances { result.1.items ≡ map balance_of self.accounts.entries }
     {
         let Ledger {
             accounts,
             mut reports,
+            mut balances,
         } = self;
         push_reports(&accounts, &mut reports);
-        reports
+        push_balances(&accounts, &mut balances);
+        (reports, balances)
     }
 }
 
@@ -148,5 +106,21 @@ fn push_reports(accounts: &IndexMap<u32, Account>, reports: &mut Vec<DomainRepor
             backward: account.backward,
         };
         reports.push(report).unwrap();
+    }
+}
+
+// The balances of accounts, for which there is room.
+fn push_balances(accounts: &IndexMap<u32, Account>, balances: &mut Vec<DomainBalance>)
+    requires empty { balances.old.items ≡ [] }
+    requires room { index_map_len accounts.now ≤ vec_capacity balances.old }
+    ensures { balances.new.items ≡ map balance_of accounts.now.entries }
+{
+    for (domain, account) in accounts.iter() {
+        let balance = DomainBalance {
+            domain: *domain,
+            passed_over: account.passed_over,
+            unaccounted: account.unaccounted,
+        };
+        balances.push(balance).unwrap();
     }
 }

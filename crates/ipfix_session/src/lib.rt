@@ -2,6 +2,7 @@
 //! another, and what they give up to the end or the first fault.
 #![tactic(auto)]
 
+mod account;
 mod buffer;
 mod driver;
 mod fault;
@@ -19,12 +20,12 @@ mod source;
 mod stop;
 mod tally;
 
-pub use driver::{READ_LIMIT, READ_SIZE, drive};
+pub use driver::{READ_LIMIT, READ_SIZE, drive, drive_in_full};
 pub use fault::SessionFault;
 pub use message_counter::MessageCounter;
 pub use message_stream::LONGEST_MESSAGE;
 pub use reader::FromReader;
-pub use report::{DomainReport, SessionReport};
+pub use report::{DomainBalance, DomainReport, FullReport, MessagePlace, SessionReport};
 pub use script::ScriptSource;
 pub use session::Session;
 pub use sink::{Sink, VecSink};

@@ -35,11 +35,11 @@ pub struct MessageCounter {
 
 impl Model for MessageCounter {
     ghost use Rattle.ipfix_session.specs.MessageCounts.{CounterView};
-    ghost use Rattle.ipfix_session.specs.CounterPlaces.{place_of};
+    ghost use Rattle.ipfix_session.specs.CounterPlaces.{place_view};
 
     ghost Value = { CounterView };
 
-    ghost view = { λ c. record { messages = c.messages; place = place_of c.place } };
+    ghost view = { λ c. record { messages = c.messages; place = place_view c.place } };
 }
 
 impl MessageCounter {

@@ -1,6 +1,7 @@
 //! What a session tells of itself.
 
 use crate::fault::SessionFault;
+use ipfix_message::PassedOver;
 
 /// What the messages of an observation domain say. The numbers stop at `u64::MAX`.
 #[derive(Clone, Copy, Debug, PartialEq, Eq)]
@@ -31,4 +32,38 @@ pub struct SessionReport {
     pub domains: Vec<DomainReport>,
     /// Why the session ended before the end of its octets.
     pub fault: Option<SessionFault>,
+}
+
+/// What balances the ledger of an observation domain: `count`, `lost` and `unaccounted` together are
+/// what its sequence number advanced by, if nothing stepped backward
+/// ([`ledger_balances`](crate::laws::ledger_balances)). The numbers stop at `u64::MAX`.
+#[derive(Clone, Copy, Debug, PartialEq, Eq)]
+pub struct DomainBalance {
+    pub domain: u32,
+    /// The sets and withdrawals of its messages that gave nothing.
+    pub passed_over: PassedOver,
+    /// Data records by which the sequence number advanced behind messages that had an unknown set:
+    /// those of that set, and what was lost before the next message. They are not among `lost`. Each
+    /// step counts modulo 2^32, so a step backward shows as almost 2^32.
+    pub unaccounted: u64,
+}
+
+/// Where a message begins in its session. The numbers stop at `u64::MAX`.
+#[derive(Clone, Copy, Debug, PartialEq, Eq)]
+pub struct MessagePlace {
+    /// Its number in the session, from 1.
+    pub message: u64,
+    /// The place of its first octet in the session, from 0.
+    pub octet: u64,
+}
+
+/// A report, and beside it what balances its ledger and where the session stopped.
+#[derive(Debug, PartialEq, Eq, Drop)]
+pub struct FullReport {
+    pub report: SessionReport,
+    /// The balances of the domains, in the order of their reports.
+    pub balances: Vec<DomainBalance>,
+    /// Where the first message begins that isn't counted in the report. If a message was malformed or
+    /// cut off, it is this one; if all octets are whole messages, they end there.
+    pub stopped_at: MessagePlace,
 }

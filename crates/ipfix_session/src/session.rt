@@ -5,11 +5,12 @@ ghost use Rattle.ipfix_message.specs.Domains.{Message};
 ghost use Rattle.ipfix_session.specs.declared.message_stream.TheConstants.{LONGEST_MESSAGE};
 ghost use Rattle.ipfix_session.specs.Feeding.{Tells, StandsForText, Feeds};
 ghost use Rattle.ipfix_session.specs.Reports.{IsReport, Reports, ended_by};
+ghost use Rattle.ipfix_session.specs.Places.{IsFullReport, ReportsInFull};
 
 use crate::buffer::read_on;
 use crate::fault::SessionFault;
 use crate::intake::Intake;
-use crate::report::SessionReport;
+use crate::report::{FullReport, SessionReport};
 use crate::sink::Sink;
 use std::alloc::Global;
 use std::marker::Model;
@@ -89,6 +90,18 @@ impl Session {
         ensures fault { (fault : SessionFault) → self.fault ≡ Some fault
             → result.fault ≡ Some fault }
     {
+        self.finish_in_full().report
+    }
+
+    /// The same report, with the balances of the domains and the place of the message that ended the
+    /// session. This takes no memory.
+    pub fn finish_in_full(self) -> FullReport
+        ensures text { (text : List ℕ) → StandsForText self text → IsFullReport result text }
+        ensures so_far { (ms : List Message) (delivered : ℕ) → Tells self.counts ms delivered
+            → ReportsInFull result ms delivered }
+        ensures fault { (fault : SessionFault) → self.fault ≡ Some fault
+            → result.report.fault ≡ Some fault }
+    {
         let Session {
             intake,
             buffer,
@@ -98,10 +111,10 @@ impl Session {
     }
 
     // What the session gave, which this fault ended.
-    pub(crate) fn finish_after(self, fault: SessionFault) -> SessionReport
+    pub(crate) fn finish_after(self, fault: SessionFault) -> FullReport
         ensures so_far { (ms : List Message) (delivered : ℕ) → Tells self.counts ms delivered
-            → Reports result ms delivered }
-        ensures fault { result.fault ≡ Some fault }
+            → ReportsInFull result ms delivered }
+        ensures fault { result.report.fault ≡ Some fault }
     {
         let Session {
             intake,

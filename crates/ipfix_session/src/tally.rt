@@ -7,12 +7,12 @@ ghost use Rattle.ipfix_message.specs.Domains.{Message};
 ghost use Rattle.ipfix_session.specs.Feeding.{Tells};
 ghost use Rattle.ipfix_session.specs.Intake.{counts_of};
 ghost use Rattle.ipfix_session.specs.Ledger.{count_in};
-ghost use Rattle.ipfix_session.specs.Tallies.{added_up};
-ghost use Rattle.ipfix_session.specs.Reports.{Reports};
+ghost use Rattle.ipfix_session.specs.Places.{ReportsInFull};
 
+use crate::account::{NOTHING, add_up};
 use crate::fault::SessionFault;
 use crate::ledger::Ledger;
-use crate::report::SessionReport;
+use crate::report::{FullReport, MessagePlace, SessionReport};
 use ipfix_message::PassedOver;
 use ipfix_wire::Header;
 use std::alloc::Global;
@@ -21,22 +21,11 @@ use std::alloc::Global;
 #[derive(Drop)]
 pub struct Tally {
     pub messages: u64,
+    /// The octets of these messages.
+    pub octets: u64,
     pub delivered: u64,
     pub passed_over: PassedOver,
     pub ledger: Ledger,
-}
-
-// What was passed over before a message and in it.
-fn add_up(before: PassedOver, more: PassedOver) -> PassedOver
-    ensures { result ≡ added_up before more }
-{
-    PassedOver {
-        skipped_sets: before.skipped_sets.saturating_add(more.skipped_sets),
-        unknown_sets: before.unknown_sets.saturating_add(more.unknown_sets),
-        ignored_withdrawals: before
-            .ignored_withdrawals
-            .saturating_add(more.ignored_withdrawals),
-    }
 }
 
 impl Tally {
@@ -45,12 +34,9 @@ impl Tally {
     {
         Tally {
             messages: 0,
+            octets: 0,
             delivered: 0,
-            passed_over: PassedOver {
-                skipped_sets: 0,
-                unknown_sets: 0,
-                ignored_withdrawals: 0,
-            },
+            passed_over: NOTHING,
             ledger: Ledger::new(alloc),
         }
     }
@@ -60,36 +46,49 @@ impl Tally {
         requires account { 0 < spare self.old.ledger.accounts }
         requires report { index_map_len self.old.ledger.accounts
             < vec_capacity self.old.ledger.reports }
+        requires balance { index_map_len self.old.ledger.accounts
+            < vec_capacity self.old.ledger.balances }
         ensures { (ms : List Message) (m : Message) (delivered : ℕ)
             → Tells (counts_of self.old) ms delivered
             → m.header ≡ header.now → count_in m ≡ records → m.decoding.passed_over ≡ passed_over
             → Tells (counts_of self.new) (ms ++ m ∷ []) delivered }
     {
-        self.ledger.take(header, records, passed_over.unknown_sets);
+        self.ledger.take(header, records, passed_over);
         self.messages = self.messages.saturating_add(1);
+        self.octets = self.octets.saturating_add(u64::from(header.length));
         self.passed_over = add_up(self.passed_over, passed_over);
     }
 
-    /// The report of the session, which ended with this fault. This takes no memory.
-    pub fn into_report(self, fault: Option<SessionFault>) -> SessionReport
+    /// The full report of the session, which ended with this fault. This takes no memory.
+    pub fn into_report(self, fault: Option<SessionFault>) -> FullReport
         ensures reports { (ms : List Message) (delivered : ℕ) → Tells (counts_of self) ms delivered
-            → Reports result ms delivered }
-        ensures fault { result.fault ≡ fault }
+            → ReportsInFull result ms delivered }
+        ensures fault { result.report.fault ≡ fault }
     {
         let Tally {
             messages,
+            octets,
             delivered,
             passed_over,
             ledger,
         } = self;
-        SessionReport {
+        let (domains, balances) = ledger.into_reports();
+        let report = SessionReport {
             messages,
             delivered,
             skipped_sets: passed_over.skipped_sets,
             unknown_sets: passed_over.unknown_sets,
             ignored_withdrawals: passed_over.ignored_withdrawals,
-            domains: ledger.into_reports(),
+            domains,
             fault,
+        };
+        FullReport {
+            report,
+            balances,
+            stopped_at: MessagePlace {
+                message: messages.saturating_add(1),
+                octet: octets,
+            },
         }
     }
 }

@@ -43,13 +43,10 @@ value_is f all = of_cell (cell_in (kind_of f.element) f.octets) _ (value_plain (
 
 -- ---- fields
 
-name_key : quoted (codes "name") ≡ codes "\"name\""
+-- the keys between quotation marks
+keys : (quoted (codes "name") ≡ codes "\"name\"") × (quoted (codes "value") ≡ codes "\"value\"") × (quoted (codes "domain") ≡ codes "\"domain\"") × (quoted (codes "template") ≡ codes "\"template\"") × (quoted (codes "export_time") ≡ codes "\"export_time\"") × (quoted (codes "scope") ≡ codes "\"scope\"") × (quoted (codes "fields") ≡ codes "\"fields\"")
 unfolding escape_byte
-name_key = refl
-
-value_key : quoted (codes "value") ≡ codes "\"value\""
-unfolding escape_byte
-value_key = refl
+keys = (refl, refl, refl, refl, refl, refl, refl)
 
 field_parts : (name_quoted value_quoted name_given name value_given value : List ℕ) → name_quoted ≡ codes "\"name\"" → value_quoted ≡ codes "\"value\"" → name_given ≡ 34 ∷ (name ++ 34 ∷ []) → value_given ≡ value
     → 123 ∷ (name_quoted ++ 58 ∷ (name_given ++ 44 ∷ (value_quoted ++ 58 ∷ (value_given ++ 125 ∷ [])))) ≡ codes "{\"name\":\"" ++ (name ++ (codes "\",\"value\":" ++ (value ++ codes "}")))
@@ -62,7 +59,7 @@ has_octets f = All (λ b. b < 256) f.octets
 field_is : (f : Field) → has_octets f → compact_text (field_object f) ≡ json_field f
 unfolding json_field
 field_is f all =
-    field_parts _ _ _ (name_text f.element) _ (json_value (kind_of f.element) f.octets) name_key value_key (quoted_plain (name_text f.element) (name_plain f.element)) (value_is f all)
+    field_parts _ _ _ (name_text f.element) _ (json_value (kind_of f.element) f.octets) keys.0 keys.1 (quoted_plain (name_text f.element) (name_plain f.element)) (value_is f all)
 
 comma_is : (later : Bool) → comma_before later ≡ comma_if later
 comma_is true = refl
@@ -77,26 +74,6 @@ fields_are later (f ∷ fs) all =
     one_more _ (comma_if later) _ (json_field f) _ (json_fields true fs) (comma_is later) (field_is f (All-head has_octets f fs all)) (fields_are true fs (All-tail has_octets f fs all))
 
 -- ---- records
-
-domain_key : quoted (codes "domain") ≡ codes "\"domain\""
-unfolding escape_byte
-domain_key = refl
-
-template_key : quoted (codes "template") ≡ codes "\"template\""
-unfolding escape_byte
-template_key = refl
-
-time_key : quoted (codes "export_time") ≡ codes "\"export_time\""
-unfolding escape_byte
-time_key = refl
-
-scope_key : quoted (codes "scope") ≡ codes "\"scope\""
-unfolding escape_byte
-scope_key = refl
-
-fields_key : quoted (codes "fields") ≡ codes "\"fields\""
-unfolding escape_byte
-fields_key = refl
 
 object_is : (k l m n o domain template time scope fields_given fields : List ℕ)
     → k ≡ codes "\"domain\"" → l ≡ codes "\"template\"" → m ≡ codes "\"export_time\"" → n ≡ codes "\"scope\"" → o ≡ codes "\"fields\"" → fields_given ≡ fields ++ codes "]"
@@ -121,7 +98,7 @@ line_is r all =
     let time = decimal r.export_time in
     let scope = decimal r.scope in
     let fields = json_fields false r.fields in
-    let object = object_is _ _ _ _ _ domain template time scope _ fields domain_key template_key time_key scope_key fields_key (fields_are false r.fields all) in
+    let object = object_is _ _ _ _ _ domain template time scope _ fields keys.2 keys.3 keys.4 keys.5 keys.6 (fields_are false r.fields all) in
     parts_are (codes "{\"domain\":") domain (codes ",\"template\":") template (codes ",\"export_time\":") time (codes ",\"scope\":") scope (codes ",\"fields\":[") fields (codes "]}\n")
     ∙ sym (end_is (codes "{\"domain\":") domain (codes ",\"template\":") template (codes ",\"export_time\":") time (codes ",\"scope\":") scope (codes ",\"fields\":[") fields (codes "]}") (codes "\n"))
     ∙ ap (λ (t : List ℕ). t ++ codes "\n") (sym object)

@@ -12,7 +12,7 @@ use Rattle.flow_table.proofs.TablesAdded.{too_large_both}
 use Rattle.flow_merge.specs.Merging.{all_of, AddsAllUp, GiveExports, HasRowsOf}
 use Rattle.flow_merge_laws.specs.Exports.{AreExportsOf, StopsAt}
 use Rattle.flow_merge.specs.declared.merge_fault.MergeFault.{MergeFault}
-use Rattle.flow_merge.specs.Merging.{plan_of}
+use Rattle.flow_merge.specs.Merging.{merging_plan}
 use Rattle.flow_merge_laws.proofs.HeldExports.{adds_own, own_fault}
 use Rattle.flow_merge_laws.proofs.MergesOn.{merged_all, merged_on, none_merged, read_all, refused_on, stopped_on}
 use Rattle.flow_merge_laws.proofs.merges.merge.Goals as goal
@@ -24,7 +24,7 @@ pub loop-source-preserved : goal.loop-source-preserved
 loop-source-preserved g c =
     merged_on g.S.Source.seen c.args.plan.now c.args.limit c.from_vec-waiting.result.items c.loop-source.waiting.items c.in-Some.source c.pop_front.new.self.items c.loop-source.merging c.in_ok-merging-2.merging c.read.new.source
     c.in-Some.ensures.items c.loop-source.invariant c.in_ok-merging-2.ensures.plan c.in_ok-merging-2.ensures.ok
-    (λ rows rs holds stands. adds_own g.S.Source.seen c.args.limit c.in-Some.source c.read.new.source (g.met.S.Source.ended_is_end c.read.new.source) (plan_of c.loop-source.merging) rs holds c.loop-source.merging c.in_ok-merging-2.merging rows
+    (λ rows rs holds stands. adds_own g.S.Source.seen c.args.limit c.in-Some.source c.read.new.source (g.met.S.Source.ended_is_end c.read.new.source) (merging_plan c.loop-source.merging) rs holds c.loop-source.merging c.in_ok-merging-2.merging rows
     refl (c.in_ok-merging-2.ensures.ok rows stands))
 
 err_due : (answer : Result Table MergeFault) (fault : MergeFault) (P : MergeFault → Type 0) → IsErrAnd answer (λ e. e ≡ fault) → P fault → IfErr answer P
@@ -36,7 +36,7 @@ returns-in_err-merging-2-clause-fault g c = λ lists h.
     err_due c.from_residual-in_err-merging-2.result c.in_err-merging-2.field-0.0 _ c.from_residual-in_err-merging-2.ensures.1
     (refused_on g.S.Source.seen c.args.plan.now c.args.limit c.from_vec-waiting.result.items c.loop-source.waiting.items c.in-Some.source c.pop_front.new.self.items c.loop-source.merging c.in_err-merging-2.field-0.0
     c.in-Some.ensures.items c.loop-source.invariant
-    (λ rows rs holds stands. own_fault g.S.Source.seen c.args.limit c.in-Some.source c.read.new.source (g.met.S.Source.ended_is_end c.read.new.source) (plan_of c.loop-source.merging) rs holds rows c.in_err-merging-2.field-0.0
+    (λ rows rs holds stands. own_fault g.S.Source.seen c.args.limit c.in-Some.source c.read.new.source (g.met.S.Source.ended_is_end c.read.new.source) (merging_plan c.loop-source.merging) rs holds rows c.in_err-merging-2.field-0.0
     (c.in_err-merging-2.ensures.fault rows stands))
     lists (subst (λ (l : List g.row.S.Denot). AreExportsOf g.S.Source.seen c.args.plan.now l lists) (sym c.from_vec-waiting.ensures.items) h))
 

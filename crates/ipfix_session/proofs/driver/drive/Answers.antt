@@ -1,7 +1,5 @@
-use Rattle.ipfix_session.proofs.Driving.{drives_nowhere}
+use Rattle.ipfix_session.proofs.Driving.{drives_told}
 use Rattle.ipfix_session.proofs.driver.drive.Goals as goal
 
-pub returns-in-Err : goal.returns-in-Err
-returns-in-Err g c =
-    drives_nowhere g.S.Source.seen g.K.Sink.seen c.args.limit _ c.args.source.now c.args.sink.now c.new.result c.finish_after.result
-    c.new.ensures c.finish_after.ensures.so_far c.finish_after.ensures.fault
+pub returns : goal.returns
+returns g c = drives_told g.S.Source.seen g.K.Sink.seen c.args.limit _ _ _ _ _ _ _ _ (λ ms delivered full. full.reports) c.drive_in_full.ensures

@@ -1,6 +1,6 @@
 use Rattle.std.proofs.Common.{◌≡◌, ◌≤◌, ◌+◌, ◌++◌, length, map}
 use Rattle.std.specs.Vec.{vec_capacity, vec_len}
-use Rattle.ipfix_session.specs.Ledger.{report_of}
+use Rattle.ipfix_session.specs.Accounts.{report_of}
 use Rattle.ipfix_session.proofs.ledger.push_reports.Given as goal
 
 -- the reports of the first accounts, and room for the others

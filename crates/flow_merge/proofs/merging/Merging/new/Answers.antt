@@ -1,10 +1,10 @@
 use Rattle.std.proofs.lemmas.List.Elements.{All-nil}
-use Rattle.flow_merge.specs.Merging.{StandsFor, plan_of}
+use Rattle.flow_merge.specs.Merging.{StandsFor, merging_plan}
 use Rattle.flow_merge.specs.RowRecords.{IsRowOf}
 use Rattle.flow_merge.proofs.merging.Merging.new.Goals as goal
 
 pub returns-clause-plan : goal.returns-clause-plan
-unfolding plan_of
+unfolding merging_plan
 returns-clause-plan c = c.in_ok-copy.ensures
 
 pub returns-clause-empty : goal.returns-clause-empty

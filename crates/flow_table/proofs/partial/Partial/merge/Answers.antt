@@ -1,6 +1,7 @@
 use Rattle.std.proofs.Common.{◌++◌, Option, Some, refl, sym, ap, subst}
 use Rattle.flow_table.specs.declared.table_fault.TableFault.{TableFault}
-use Rattle.flow_table.specs.Partials.{plan_of, fault_of, StandsFor, StandsBy, unless}
+use Rattle.ipfix_message.specs.Outcome.{unless}
+use Rattle.flow_table.specs.Partials.{plan_of, fault_of, StandsFor, StandsBy}
 use Rattle.flow_table.proofs.Bags.{too_large_more}
 use Rattle.flow_table.proofs.Holding.{large_of, small_on_ok, large_if_err, stands_on, stands_taken, holds_of, no_fault, one_fault, answers_unit}
 use Rattle.flow_table.proofs.partial.Partial.merge.Goals as goal

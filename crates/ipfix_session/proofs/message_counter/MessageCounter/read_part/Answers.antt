@@ -5,7 +5,7 @@ use Rattle.std.proofs.lemmas.List.{append-nil}
 use Rattle.arrayvec.specs.ArrayVec.{ArrayVec}
 use Rattle.ipfix_session.specs.MessageStream.{cut}
 use Rattle.ipfix_session.specs.MessageCounts.{PlaceView, EndsAt, CounterView, HasRead}
-use Rattle.ipfix_session.specs.CounterPlaces.{place_of}
+use Rattle.ipfix_session.specs.CounterPlaces.{place_view}
 use Rattle.ipfix_session.proofs.Counting.{reading_on, goes_on_header, goes_on_within, goes_on_faulty}
 use Rattle.ipfix_session.proofs.message_counter.MessageCounter.read_part.Goals as goal
 
@@ -27,7 +27,7 @@ returns-then-is_ok-clause-reads c = λ text reading.
     reading_on c.args.self.now _ c.args.piece.now c.args.piece.now [] text (sym (append-nil c.args.piece.now))
     (λ t has.
     let inside = subst (λ (v : CounterView). HasRead v t) (sym c.self.view_is) has in
-    goes_on_header _ c.in-Header.begun.items kept.new.self.items t c.args.piece.now (ap place_of c.in-Header.is) (on_ok kept.result fits kept.ensures.ok) (omega (arith, room, grown)) inside) reading
+    goes_on_header _ c.in-Header.begun.items kept.new.self.items t c.args.piece.now (ap place_view c.in-Header.is) (on_ok kept.result fits kept.ensures.ok) (omega (arith, room, grown)) inside) reading
 
 pub returns-else-is_ok-clause-reads : goal.returns-else-is_ok-clause-reads
 returns-else-is_ok-clause-reads c = λ text reading.
@@ -37,7 +37,7 @@ returns-else-is_ok-clause-reads c = λ text reading.
     reading_on c.args.self.now c.begin_message.new.self c.args.piece.now c.split_at.result.0.now c.split_at.result.1.now text c.split_at.ensures.by_index.0
     (λ t has.
     let inside = subst (λ (v : CounterView). HasRead v t) (sym c.self.view_is) has in
-    let begins = subst (λ (p : PlaceView). EndsAt p (cut t).rest) (ap place_of c.in-Header.is) inside.place in
+    let begins = subst (λ (p : PlaceView). EndsAt p (cut t).rest) (ap place_view c.in-Header.is) inside.place in
     c.begin_message.ensures t c.split_at.result.0.now inside.count
     (ap (λ (w : List ℕ). w ++ c.split_at.result.0.now) (begins.octets ∙ ap (λ (v : ArrayVec ℕ). v.items) (sym same) ∙ sym c.as_slice.ensures.value) ∙ sym c.whole_header-header.ensures)) reading
 
@@ -47,11 +47,11 @@ returns-in-Message-clause-reads c = λ text reading.
     (λ t has.
     let inside = subst (λ (v : CounterView). HasRead v t) (sym c.self.view_is) has in
     c.go_on.ensures t c.split_at-in-Message.result.0.now inside.count
-    (goes_on_within _ (non_zero_u16_get c.in-Message.due) _ t c.split_at-in-Message.result.0.now (ap place_of c.in-Message.is) (omega arith) inside)) reading
+    (goes_on_within _ (non_zero_u16_get c.in-Message.due) _ t c.split_at-in-Message.result.0.now (ap place_view c.in-Message.is) (omega arith) inside)) reading
 
 pub returns-in-Fault-clause-reads : goal.returns-in-Fault-clause-reads
 returns-in-Fault-clause-reads c = λ text reading.
     reading_on c.args.self.now _ c.args.piece.now c.args.piece.now [] text (sym (append-nil c.args.piece.now))
     (λ t has.
     let inside = subst (λ (v : CounterView). HasRead v t) (sym c.self.view_is) has in
-    goes_on_faulty _ t c.args.piece.now (ap place_of c.in-Fault.is) inside) reading
+    goes_on_faulty _ t c.args.piece.now (ap place_view c.in-Fault.is) inside) reading

@@ -1,13 +1,9 @@
-use Rattle.std.proofs.Common.{sym, subst, ap, ◌∙◌}
-use Rattle.ipfix_session.specs.Feeding.{State, StandsForText}
-use Rattle.ipfix_session.specs.Reports.{ended_by}
-use Rattle.ipfix_session.proofs.Reaching.{ended}
 use Rattle.ipfix_session.proofs.session.Session.finish.Goals as goal
 
 pub returns-clause-text : goal.returns-clause-text
 returns-clause-text c = λ text stands.
-    let inside = subst (λ (s : State). StandsForText s text) (sym c.self.view_is) stands in
-    record {
-      reports = c.into_report.ensures.reports _ _ inside.tells;
-      fault = c.into_report.ensures.fault ∙ c.fault_at_end.ensures ∙ ap (ended_by c.self.inside.fault) c.deref.ensures.value ∙ ended _ text inside;
-    }
+    let full = c.finish_in_full.ensures.text text stands in
+    record { reports = full.reports.reports; fault = full.fault }
+
+pub returns-clause-so_far : goal.returns-clause-so_far
+returns-clause-so_far c = λ ms delivered tells. (c.finish_in_full.ensures.so_far ms delivered tells).reports

@@ -1,0 +1,21 @@
+-- What balances the ledger of a domain: the sets that were passed over, and the gaps that they leave unexplained.
+use Rattle.std.specs.Prelude.{ℕ, ◌==◌, if◌then◌else◌, List, [], ◌∷◌}
+use Rattle.ipfix_message.specs.Domains.{Message}
+use Rattle.ipfix_session.specs.declared.report.DomainBalance.{DomainBalance}
+use Rattle.ipfix_session.specs.Ledger.{capped, gap, sequence_behind, messages_of, sum_neighbours}
+use Rattle.ipfix_session.specs.Reports.{passed_over_in}
+
+-- the gap between two neighbouring messages of a domain, if the earlier one had an unknown set
+abbrev pub unaccounted_between : Message → Message → ℕ
+unaccounted_between m n = if m.decoding.passed_over.unknown_sets == 0 then 0 else gap (sequence_behind m) n.header.sequence
+
+-- what a domain's messages passed over, and the sum of the gaps behind those that had an unknown set
+abbrev pub domain_balance : List Message → ℕ → DomainBalance
+domain_balance ms domain =
+    let own = messages_of domain ms in
+    record { domain = domain; passed_over = passed_over_in own; unaccounted = capped (sum_neighbours unaccounted_between own) }
+
+-- the sequence number behind the last of these messages
+abbrev pub sequence_at_end : Message → List Message → ℕ
+sequence_at_end m [] = sequence_behind m
+sequence_at_end m (n ∷ ms) = sequence_at_end n ms

@@ -1,0 +1,43 @@
+-- Where a message begins in its session, and the full report, which says where the session stopped.
+use Rattle.std.specs.Prelude.{◌≡◌, ℕ, ◌+◌, List, length, map, take, sum_by}
+use Rattle.ipfix_message.specs.Domains.{Message}
+use Rattle.ipfix_session.specs.declared.report.MessagePlace.{MessagePlace}
+use Rattle.ipfix_session.specs.declared.report.FullReport.{FullReport}
+use Rattle.ipfix_session.specs.MessageStream.{cut}
+use Rattle.ipfix_session.specs.Given.{gives, records_of}
+use Rattle.ipfix_session.specs.Ledger.{capped, domains_of}
+use Rattle.ipfix_session.specs.Balances.{domain_balance}
+use Rattle.ipfix_session.specs.Reports.{Reports}
+use Rattle.ipfix_session.specs.Faults.{end_of}
+
+-- a message's own length (RFC 7011, section 3.1)
+abbrev pub length_of : Message → ℕ
+length_of m = m.header.length
+
+-- the place behind so many messages, which have so many octets
+abbrev pub place_behind : ℕ → ℕ → MessagePlace
+place_behind messages octets = record { message = capped (messages + 1); octet = capped octets }
+
+-- the place behind messages that were read
+abbrev pub place_after : List Message → MessagePlace
+place_after ms = place_behind (length ms) (sum_by length_of ms)
+
+-- the messages of a text, as octets, that stand before the first with a fault
+abbrev pub messages_before_fault : List ℕ → List (List ℕ)
+messages_before_fault text = take (length (gives text).messages) (cut text).items
+
+-- where the first message of a text with a fault begins; without one, where its whole messages end
+abbrev pub place_of_fault : List ℕ → MessagePlace
+place_of_fault text = let ms = messages_before_fault text in place_behind (length ms) (sum_by length ms)
+
+-- a full report is of these messages, and of that many records that were taken
+pub record ReportsInFull (r : FullReport) (ms : List Message) (delivered : ℕ) : Type 0 where
+  pub reports : Reports r.report ms delivered
+  pub balances : r.balances.items ≡ map (domain_balance ms) (domains_of ms)
+  pub stopped_at : r.stopped_at ≡ place_after ms
+
+-- the full report of a whole text
+pub record IsFullReport (r : FullReport) (text : List ℕ) : Type 0 where
+  pub reports : ReportsInFull r (gives text).messages (length (records_of text))
+  pub fault : r.report.fault ≡ end_of text
+  pub stopped_at : r.stopped_at ≡ place_of_fault text
