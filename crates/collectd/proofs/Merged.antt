@@ -9,7 +9,7 @@ use Rattle.flow_table.specs.AddedUp.{rows_in, AreAddedUp}
 use Rattle.flow_table.specs.Plans.{PlanValue}
 use Rattle.flow_table.specs.SameTables.{RowValue}
 use Rattle.flow_table.specs.declared.table.Table.{Table}
-use Rattle.flow_merge.specs.Merging.{AddsExport, GiveExports, GivesExport, StandsFor, plan_of}
+use Rattle.flow_merge.specs.Merging.{AddsExport, GiveExports, GivesExport, StandsFor, merging_plan}
 use Rattle.flow_merge.specs.declared.merging.Merging.{Merging}
 use Rattle.flow_merge.proofs.RowsRead.{zip_more}
 use Rattle.collectd.specs.Merges.{AddsFile, IsMerged}
@@ -27,7 +27,7 @@ all_rows-more (x ∷ exports) rows = ap (λ (l : List RowValue). x ++ l) (all_ro
 module _ {S X : Type 0} (seen : S → SourceView) (opens : X → S → Type 0) (plan : PlanValue) where
   -- the sources of these paths were read, and it stands for all of their rows
   pub record Stands (paths : List X) (m : Merging) : Type 0 where
-    pub same_plan : plan_of m ≡ plan
+    pub same_plan : merging_plan m ≡ plan
     pub sources : List S
     pub opened : AllZip opens paths sources
     pub unread : All (IsUnread seen) sources
@@ -35,7 +35,7 @@ module _ {S X : Type 0} (seen : S → SourceView) (opens : X → S → Type 0) (
     pub given : GiveExports seen READ_LIMIT plan sources exports
     pub stands : StandsFor m (all_rows exports)
 
-  pub none_read : (m : Merging) → plan_of m ≡ plan → StandsFor m [] → Stands [] m
+  pub none_read : (m : Merging) → merging_plan m ≡ plan → StandsFor m [] → Stands [] m
   none_read m same stands = record { same_plan = same; sources = []; opened = tt; unread = All-nil (IsUnread seen); exports = []; given = tt; stands = stands }
 
   one_read : (paths : List X) (path : X) (old new : Merging) → AddsFile seen (opens path) old new → Stands paths old → Stands (paths ++ path ∷ []) new
@@ -68,6 +68,6 @@ module _ {S X : Type 0} (seen : S → SourceView) (opens : X → S → Type 0) (
       → IfOk answer (IsMerged seen (AllZip opens paths) plan)
   all_paths paths i m answer all so_far added = subst (λ (ps : List X). IfOk answer (IsMerged seen (AllZip opens ps) plan)) (take_all i paths all) (all_read (take i paths) m answer so_far added)
 
-pub adds_file : {S : Type 0} (seen : S → SourceView) (IsHad : S → Type 0) (old new : Merging) (before after : S) → IsHad before → IsUnread seen before → plan_of new ≡ plan_of old
+pub adds_file : {S : Type 0} (seen : S → SourceView) (IsHad : S → Type 0) (old new : Merging) (before after : S) → IsHad before → IsUnread seen before → merging_plan new ≡ merging_plan old
     → ((rows : List RowValue) → StandsFor old rows → AddsExport seen READ_LIMIT old before after rows new) → AddsFile seen IsHad old new
 adds_file seen IsHad old new before after had unread same adds = record { before = before; after = after; had = had; unread = unread; same_plan = same; adds = adds }

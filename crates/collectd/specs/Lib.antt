@@ -2,5 +2,4 @@
 pub mod Runs
 pub mod Merges
 -- What only inner functions and proofs need.
-pub mod RunLines
 pub mod MergeLines

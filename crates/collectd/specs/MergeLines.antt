@@ -17,5 +17,9 @@ merge_fault_text (Session fault) = codes ": fault 3 Session" ++ fault_text (numb
 merge_fault_text (Row fault) = codes ": fault 6 Row" ++ fault_text (rows.number_of fault) (rows.name_of fault)
 merge_fault_text fault = fault_text (merging.number_of fault) (merging.name_of fault)
 
+-- the line of a file, with what is said of it
+abbrev pub file_line : ℕ → List ℕ → List ℕ
+file_line file text = codes "collectd: merge: file " ++ (decimal file ++ text)
+
 abbrev pub file_fault_line : ℕ → MergeFault → List ℕ
-file_fault_line file fault = codes "collectd: merge: file " ++ (decimal file ++ merge_fault_text fault)
+file_fault_line file fault = file_line file (merge_fault_text fault)

@@ -5,7 +5,7 @@ use Rattle.ipfix_session.specs.Sources.{SourceView}
 use Rattle.flow_table.specs.Plans.{PlanValue}
 use Rattle.flow_table.specs.SameTables.{RowValue}
 use Rattle.flow_table.specs.declared.table.Table.{Table}
-use Rattle.flow_merge.specs.Merging.{plan_of, AddsAllUp, AddsExport, StandsFor}
+use Rattle.flow_merge.specs.Merging.{merging_plan, AddsAllUp, AddsExport, StandsFor}
 use Rattle.flow_merge.specs.declared.merging.Merging.{Merging}
 use Rattle.collectd.specs.Runs.{export_text, IsUnread}
 use Rattle.ipfix_session.specs.declared.driver.TheConstants.{READ_LIMIT}
@@ -34,7 +34,7 @@ module _ {S : Type 0} (seen : S → SourceView) where
     pub after : S
     pub had : IsHad before
     pub unread : IsUnread seen before
-    pub same_plan : plan_of new ≡ plan_of old
+    pub same_plan : merging_plan new ≡ merging_plan old
     pub adds : (rows : List RowValue) → StandsFor old rows → AddsExport seen READ_LIMIT old before after rows new
 
 -- the status if a file can't be opened or merged

@@ -20,8 +20,6 @@ use Rattle.flow_collect.specs.Texts.{AreTexts, HasNoFault}
 use Rattle.flow_collect.specs.declared.collected.Collected.{Collected}
 use Rattle.flow_collect.specs.declared.collected.Pool.{Pool}
 use Rattle.collectd.specs.declared.table.Output.{Output}
-use Rattle.collectd.specs.declared.run_fault.RunFault.{RunFault}
-use Rattle.collectd.specs.declared.run_fault.RunFault.TheVariants.{Collect, Export}
 
 -- a table as it is written
 abbrev pub text_by : Format → ℕ → PlanValue → Table → List ℕ
@@ -76,8 +74,3 @@ module _ {S : Type 0} (seen : S → SourceView) where
     pub table : status ≢ number_of Failed → WritesTable sources plan pool output status old new
     pub all : status ≡ number_of Well → WritesWholeTable sources plan output old new
     pub untouched : status ≡ number_of Failed → Untouched ⊎ WasCollected sources plan pool
-
--- a fact for a fault of collecting, and one for a fault of the export
-abbrev pub MatchRunFault : RunFault → Type 0 → Type 0 → Type 0
-MatchRunFault (Collect fault) P Q = P
-MatchRunFault (Export fault) P Q = Q

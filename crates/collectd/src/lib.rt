@@ -4,7 +4,6 @@
 mod commands;
 mod merge_reports;
 mod plan;
-mod run_fault;
 mod sources;
 mod table;
 
@@ -17,8 +16,8 @@ pub use ipfix_dump::{DumpFault, dump, dump_json};
 pub use ipfix_session::MessageCounter;
 pub use plan::{ReadText, load_plan};
 pub use run_reports::{
-    write_collect_fault, write_dump_fault, write_export_fault, write_plan_fault, write_reports,
-    write_tally,
+    write_collect_fault, write_dump_fault, write_export_fault, write_not_had, write_plan_fault,
+    write_reports, write_tally,
 };
 pub use sources::opening::{OpenSource, Opened};
 pub use table::{Output, run};

@@ -1,10 +1,10 @@
 //! The lines that tell of merging.
 
-ghost use Rattle.std.specs.Prelude.{◌++◌, codes, decimal, OnOk};
+ghost use Rattle.std.specs.Prelude.{◌++◌, codes, OnOk};
 ghost use Rattle.std.specs.Io.KnownBytes.{Appends};
 ghost use Rattle.flow_merge.specs.MergeFaults.{number_of, name_of};
 ghost use Rattle.run_reports.specs.ReportLines.{fault_text};
-ghost use Rattle.collectd.specs.MergeLines.{file_fault_line, merged_line};
+ghost use Rattle.collectd.specs.MergeLines.{file_fault_line, file_line, merged_line};
 
 use flow_merge::MergeFault;
 use run_reports::write_fault;
@@ -58,7 +58,7 @@ fn write_inner<W: Write>(
     out: &mut W,
 ) -> io::Result<()>
     ensures { OnOk result (Appends (W.contents out.old) (W.contents out.new)
-        (codes "collectd: merge: file " ++ (decimal file ++ (what.now ++ fault_text number name.now)))) }
+        (file_line file (what.now ++ fault_text number name.now))) }
 {
     writeln!(
         out,

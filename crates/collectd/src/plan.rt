@@ -2,12 +2,13 @@
 
 ghost use Rattle.std.specs.Prelude.{◌≡◌, ℕ, List, Ok, IfSome};
 ghost use Rattle.std.specs.Option.{ForSome};
+ghost use Rattle.std.specs.Str.{IsUtf8};
 ghost use Rattle.flow_table.specs.Plans.{IsPlan};
 ghost use Rattle.plan_file.specs.PlanTexts.{plan_of_text};
 
 use flow_table::Plan;
 use plan_file::read_plan_octets;
-use run_reports::write_plan_fault;
+use run_reports::{write_not_had, write_plan_fault};
 use std::alloc::Global;
 use std::fs;
 use std::io::{Read, Write};
@@ -45,16 +46,16 @@ pub fn load_plan<T: ReadText, E: Write>(
     path: &str,
     err: &mut E,
 ) -> Option<Plan>
-    // The plan is that of the text that the path has.
+    // The plan is that of the text that the path has, which is UTF-8.
     ensures text { ForSome result (λ plan. (octets : List ℕ)
-        × T.has files.now path.now octets × (plan_of_text octets ≡ Ok plan)) }
+        × T.has files.now path.now octets × IsUtf8 octets × (plan_of_text octets ≡ Ok plan)) }
     // No fault fits a plan that was read.
     ensures sound { ForSome result IsPlan }
     // Nothing is told if a plan was read.
     ensures silent { IfSome result (λ _. err.new ≡ err.old) }
 {
     let Some(octets) = files.read_text(alloc, path) else {
-        let _ = writeln!(err, "collectd: open: {path}");
+        let _ = write_not_had("open", path, err);
         return None;
     };
     match read_plan_octets(alloc, &octets) {

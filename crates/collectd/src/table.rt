@@ -9,10 +9,8 @@ ghost use Rattle.flow_collect.specs.Refusals.{fault_of_arguments};
 ghost use Rattle.flow_collect.specs.Texts.{HasNoFault};
 ghost use Rattle.exit_status.specs.Statuses.{number_of};
 ghost use Rattle.run_reports.specs.ReportLines.{report_lines, tally_line};
-ghost use Rattle.collectd.specs.RunLines.{run_fault_line};
-ghost use Rattle.collectd.specs.Runs.{export_text, AddsUpWhole, MatchRunFault, WasCollected, WritesTable, WritesWholeTable};
+ghost use Rattle.collectd.specs.Runs.{export_text, AddsUpWhole, WasCollected, WritesTable, WritesWholeTable};
 
-use crate::run_fault::RunFault;
 use exit_status::Status;
 use flow_collect::{Collected, OpenGate, Pool, collect};
 use flow_export::{ExportFault, Format, write_csv, write_ipfix, write_json};
@@ -67,43 +65,19 @@ pub fn run<S: Source + Send + Drop, W: Write, E: Write, R: Threads + Wait + Sync
     ensures refused { IfSome (fault_of_arguments pool (vec_len sources))
         (λ fault. (result ≡ number_of Status.Failed) × (out.new ≡ out.old)) }
 {
-    match collect_and_write(rt, alloc, sources, plan, pool, output, out) {
-        Ok(collected) => {
-            let _ = tell(&collected, err);
-            status_of(&collected).number()
-        }
-        Err(fault) => {
-            let _ = tell_fault(fault, err);
-            Status::Failed.number()
-        }
-    }
-}
-
-// Collects, and writes the table.
-fn collect_and_write<S: Source + Send + Drop, W: Write, R: Threads + Wait + Sync>(
-    rt: &R,
-    alloc: Global,
-    sources: Vec<S>,
-    plan: &Plan,
-    pool: Pool,
-    output: Output,
-    out: &mut W,
-) -> Result<Collected<S>, RunFault>
-    ensures ok { IfOk result (λ c. Headline S.seen sources.items plan.now pool c
-        × Appends (W.contents out.old) (W.contents out.new) (export_text output plan.now c.table)) }
-    ensures err { IfErr result (λ fault.
-        MatchRunFault fault (out.new ≡ out.old) (WasCollected S.seen sources.items plan.now pool)) }
-    ensures refused { IfSome (fault_of_arguments pool (vec_len sources))
-        (λ fault. (result ≡ Err (RunFault.Collect fault)) × (out.new ≡ out.old)) }
-{
     let collected = match collect(rt, alloc, sources, plan, pool, &OpenGate) {
         Ok(collected) => collected,
-        Err(fault) => return Err(RunFault::Collect(fault)),
+        Err(fault) => {
+            let _ = write_collect_fault(fault, err);
+            return Status::Failed.number();
+        }
     };
-    match export(alloc, plan, &collected.table, output, out) {
-        Ok(()) => Ok(collected),
-        Err(fault) => Err(RunFault::Export(fault)),
+    if let Err(fault) = export(alloc, plan, &collected.table, output, out) {
+        let _ = write_export_fault(fault, err);
+        return Status::Failed.number();
     }
+    let _ = tell(&collected, err);
+    status_of(&collected).number()
 }
 
 /// Writes a table, and sees to it that nothing is left in the writer's buffer.
@@ -133,7 +107,8 @@ fn status_of<S: Source>(collected: &Collected<S>) -> Status
     ensures well { (result ≡ Status.Well) ↔ All HasNoFault collected.now.sessions.items }
     ensures whole { (sources : List S) (plan : PlanValue) (pool : Pool)
         → Headline S.seen sources plan pool collected.now
-        → All HasNoFault collected.now.sessions.items → AddsUpWhole S.seen sources plan collected.now.table }
+        → All HasNoFault collected.now.sessions.items
+        → AddsUpWhole S.seen sources plan collected.now.table }
 {
     ends_of(&collected.sessions)
 }
@@ -158,15 +133,4 @@ fn tell<S, E: Write>(collected: &Collected<S>, err: &mut E) -> io::Result<()>
 {
     write_reports(&collected.sessions, err)?;
     write_tally(&collected.table.tally, err)
-}
-
-// The line of what ended a run.
-fn tell_fault<E: Write>(fault: RunFault, err: &mut E) -> io::Result<()>
-    ensures { OnOk result (Appends (E.contents err.old) (E.contents err.new)
-        (run_fault_line fault)) }
-{
-    match fault {
-        RunFault::Collect(fault) => write_collect_fault(fault, err),
-        RunFault::Export(fault) => write_export_fault(fault, err),
-    }
 }

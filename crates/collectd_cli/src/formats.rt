@@ -1,7 +1,7 @@
-//! The words of `--format`, and the formats that they name.
+//! The formats that the words of `--format` name.
 
 ghost use Rattle.std.specs.Prelude.{◌≡◌, All, IsSome};
-ghost use Rattle.collectd_cli.specs.declared.formats.TheConstants.{DUMP_FORMATS, TABLE_FORMATS};
+ghost use Rattle.command_words.specs.declared.format_words.TheConstants.{DUMP_FORMATS, TABLE_FORMATS};
 
 use flow_export::Format;
 
@@ -11,12 +11,6 @@ pub enum DumpFormat {
     Text,
     Json,
 }
-
-/// The words for how a data record is dumped, the default first.
-pub const DUMP_FORMATS: [&str; 2] = ["text", "json"];
-
-/// The words for how a table is written, the default first.
-pub const TABLE_FORMATS: [&str; 3] = ["csv", "ipfix", "json"];
 
 /// The format of a dump that a word names.
 pub fn dump_format(word: &str) -> Option<DumpFormat>

@@ -84,7 +84,8 @@ fn append_field(field: FieldRef, out: &mut LineOctets) -> Result<(), AllocError>
     append_name(field.element, &mut out.octets)?;
     out.octets.extend_from_slice(b"\",\"value\":")?;
     append_json_value(kind_of(field.element), field.octets, out)?;
-    out.octets.extend_from_slice(b"}")
+    out.octets.extend_from_slice(b"}")?;
+    Ok(())
 }
 
 fn append_json_value(kind: Kind, octets: &[u8], out: &mut LineOctets) -> Result<(), AllocError>

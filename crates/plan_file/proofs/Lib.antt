@@ -1,4 +1,6 @@
+mod Again
 mod Bits
+mod Blaming
 mod Listed
 mod Slashes
 mod Told

@@ -1,5 +1,6 @@
 -- Where a text is no plan.
-use Rattle.std.specs.Prelude.{◌≡◌, ℕ, ◌+◌, ◌==◌, not, List, [], ◌∷◌, take, codes, count_by, find, Option, Some, None, is_none, Ok, is_err, if◌then◌else◌, string_bytes}
+use Rattle.std.specs.Prelude.{◌≡◌, ℕ, ◌+◌, ◌==◌, ◌||◌, nat_lt, nat_le, Bool, not, List, [], ◌∷◌, take, codes, count_by, find, Option, Some, None, is_none, Ok, is_err, if◌then◌else◌, string_bytes}
+use Rattle.std.specs.List.{after_last}
 use Rattle.std.specs.Str.{IsValidUpTo}
 use Rattle.toml.specs.Data.{Data, Members, no_members, member, get_member}
 use Rattle.toml.specs.Parse.{parse_document}
@@ -12,16 +13,17 @@ use Rattle.plan_file.specs.declared.error.PlanKey.TheVariants.{IntervalMs, Metho
 use Rattle.plan_file.specs.declared.error.PlanTextError.{PlanTextError}
 use Rattle.plan_file.specs.declared.error.PlanTextError.TheVariants.{NotUtf8, NotToml, UnknownField, Missing, WrongKind, UnknownElement, Plan, OutOfMemory}
 use Rattle.plan_file.specs.PlanTexts.{Fields, fields_of, is_field, required, optional, small_number, method, texts, key_named}
+use Rattle.plan_file.specs.Blames.{IsPlace}
 
 -- the fault, without its place
 abbrev pub fault_of : PlanTextError → PlanTextFault
 fault_of (NotUtf8 line) = faults.NotToml
-fault_of (NotToml error line) = faults.NotToml
+fault_of (NotToml error line column message) = faults.NotToml
 fault_of (UnknownField key) = faults.UnknownField
 fault_of (Missing key) = faults.Missing
 fault_of (WrongKind key) = faults.WrongKind
 fault_of (UnknownElement key text) = faults.UnknownElement
-fault_of (Plan fault) = faults.Plan fault
+fault_of (Plan fault place) = faults.Plan fault
 fault_of OutOfMemory = faults.OutOfMemory
 
 abbrev pub key_name : PlanKey → List ℕ
@@ -31,7 +33,7 @@ key_name MaxSpread = codes "max_spread"
 key_name Keys = codes "keys"
 key_name Counters = codes "counters"
 
--- ---- lines
+-- ---- lines and columns
 
 abbrev pub newline : ℕ
 newline = 10
@@ -39,6 +41,18 @@ newline = 10
 -- the line of a place: 1, and 1 more for each newline before it
 abbrev pub line_at : List ℕ → ℕ → ℕ
 line_at octets place = count_by (λ b. b == newline) (take place octets) + 1
+
+-- an octet of UTF-8 that is the first of a character
+abbrev pub begins_character : ℕ → Bool
+begins_character b = nat_lt b 128 || nat_le 192 b
+
+-- the column after octets: 1, and 1 more for each character of their last line
+abbrev pub column_after : List ℕ → ℕ
+column_after octets = count_by begins_character (after_last (λ b. b == newline) octets) + 1
+
+-- the column of a place
+abbrev pub column_at : List ℕ → ℕ → ℕ
+column_at octets place = column_after (take place octets)
 
 -- ---- keys
 
@@ -88,17 +102,21 @@ IsUnknown f _ text = ⊥
 
 -- ---- what an error tells
 
--- the key of a document, and the text, at which it is no plan
+-- the key of a document, and the text, at which it is no plan, or what gives its values the fault
 abbrev pub TellsKey : Members → PlanTextError → Type 0
 TellsKey d (UnknownField key) = unknown_field d ≡ Some (string_bytes key)
 TellsKey d (Missing key) = refused_key d ≡ key
 TellsKey d (WrongKind key) = refused_key d ≡ key
 TellsKey d (UnknownElement key text) = (f : Fields) × (fields_of d ≡ Ok f) × IsUnknown f key (string_bytes text)
-TellsKey d _ = Unit {0}
+TellsKey d (Plan fault place) = (f : Fields) × (fields_of d ≡ Ok f) × IsPlace f fault place
+TellsKey d OutOfMemory = Unit {0}
+TellsKey d _ = ⊥
 
--- the line at which octets are no UTF-8, or at which the parser of TOML says that they are no document; or the key
+-- the line at which octets are no UTF-8; the line and the column at which the parser of TOML says that they are no
+-- document; or the key
 abbrev pub Tells : List ℕ → PlanTextError → Type 0
 Tells octets (NotUtf8 line) = (place : ℕ) × IsValidUpTo octets place × (line ≡ line_at octets place)
-Tells octets (NotToml error line) = (¬ (IsMemory error)) × IsWithin octets error × (line ≡ line_at octets (span_start error))
+Tells octets (NotToml error line column message) =
+    (¬ (IsMemory error)) × IsWithin octets error × (line ≡ line_at octets (span_start error)) × (column ≡ column_at octets (span_start error))
 Tells octets OutOfMemory = Unit {0}
 Tells octets error = (d : Members) × (parse_document octets ≡ Some d) × TellsKey d error

@@ -1,12 +1,15 @@
 -- The values of a document's keys as the code keeps them, and what a part of reading says of an error.
-use Rattle.std.specs.Prelude.{◌≡◌, ℕ, List, map, Vec, Option, Some, Result, Ok, Err, string_bytes}
+use Rattle.std.specs.Prelude.{◌≡◌, ℕ, List, map, Vec, Option, Some, Result, Ok, Err, slice_get, string_bytes}
 use denote.Bor.{Bor}
 use Rattle.std.specs.declared.alloc.Global.{Global}
 use Rattle.plan_file.specs.declared.error.PlanKey.{PlanKey}
+use Rattle.plan_file.specs.declared.error.PlanPlace.{PlanPlace}
+use Rattle.plan_file.specs.declared.error.PlanPlace.TheVariants.{Text}
 use Rattle.plan_file.specs.declared.error.PlanTextError.{PlanTextError}
 use Rattle.plan_file.specs.declared.error.PlanTextError.TheVariants.{Missing, WrongKind, UnknownElement, Plan, OutOfMemory}
 use Rattle.plan_file.specs.declared.fields.Fields.{Fields}
 use Rattle.plan_file.specs.Faults.{Read, Fails}
+use Rattle.plan_file.specs.Blames.{IsPlace}
 use Rattle.plan_file.specs.Places.{fault_of, IsUnknown}
 use Rattle.plan_file.specs.PlanTexts as plan
 
@@ -40,6 +43,11 @@ IsOfText k unknown _ = ⊥
 -- the values of a document make no plan
 abbrev pub IsOfValues : plan.Fields → PlanTextError → Type 0
 IsOfValues f (UnknownElement key text) = IsUnknown f key (string_bytes text)
-IsOfValues f (Plan fault) = Unit {0}
+IsOfValues f (Plan fault place) = IsPlace f fault place
 IsOfValues f OutOfMemory = Unit {0}
 IsOfValues f _ = ⊥
+
+-- the text at this place among those of this key
+abbrev pub IsTextAt : PlanKey → List (List ℕ) → ℕ → PlanPlace → Type 0
+IsTextAt k texts n (Text key text) = (k ≡ key) × (slice_get texts n ≡ Some (string_bytes text))
+IsTextAt k texts n _ = ⊥

@@ -39,24 +39,55 @@ impl PlanKey {
     }
 }
 
+/// What makes no plan of the values of a document.
+#[derive(Debug, Drop)]
+pub enum PlanPlace {
+    /// The value of this key is out of its range.
+    Value { key: PlanKey },
+    /// This key has so many elements.
+    Count { key: PlanKey, count: usize },
+    /// This text of this key: the first that has the fault, as it stands in the document.
+    Text { key: PlanKey, text: String },
+}
+
 /// Why octets are no plan, and where: a fault with the line or the key that it is about. Lines are
 /// counted from 1.
 #[derive(Debug, Drop)]
 pub enum PlanTextError {
     /// The octets are UTF-8 up to some place in this line, and no further.
-    NotUtf8 { line: usize },
-    /// The text is no TOML document. The parser's error begins in this line.
-    NotToml { error: de::Error, line: usize },
+    NotUtf8 {
+        line: usize,
+    },
+    /// The text is no TOML document. The parser's error begins in this line, at this column, which counts
+    /// characters from 1, and this is its message.
+    NotToml {
+        error: de::Error,
+        line: usize,
+        column: usize,
+        message: String,
+    },
     /// The document has this key, which plans don't have.
-    UnknownField { key: String },
+    UnknownField {
+        key: String,
+    },
     /// This key, which each plan has, is missing.
-    Missing { key: PlanKey },
+    Missing {
+        key: PlanKey,
+    },
     /// The value of this key is of another type or out of its range.
-    WrongKind { key: PlanKey },
+    WrongKind {
+        key: PlanKey,
+    },
     /// This text of this key names no element.
-    UnknownElement { key: PlanKey, text: String },
-    /// The values make no plan.
-    Plan { fault: PlanFault },
+    UnknownElement {
+        key: PlanKey,
+        text: String,
+    },
+    /// The values make no plan, because of what stands there.
+    Plan {
+        fault: PlanFault,
+        place: PlanPlace,
+    },
     /// An allocation was refused.
     OutOfMemory,
 }
@@ -72,7 +103,7 @@ impl PlanTextError {
             PlanTextError::Missing { .. } => PlanTextFault::Missing,
             PlanTextError::WrongKind { .. } => PlanTextFault::WrongKind,
             PlanTextError::UnknownElement { .. } => PlanTextFault::UnknownElement,
-            PlanTextError::Plan { fault } => PlanTextFault::Plan(*fault),
+            PlanTextError::Plan { fault, .. } => PlanTextFault::Plan(*fault),
             PlanTextError::OutOfMemory => PlanTextFault::OutOfMemory,
         }
     }

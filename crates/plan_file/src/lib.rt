@@ -1,13 +1,15 @@
 //! The plan of an aggregation (RFC 7015, section 5) as a text that people write: a TOML document.
 #![tactic(auto)]
 
+mod blame;
 mod error;
 mod fault;
 mod fields;
 mod lines;
 mod named;
 mod reading;
+mod repeats;
 
-pub use error::{PlanKey, PlanTextError};
+pub use error::{PlanKey, PlanPlace, PlanTextError};
 pub use fault::PlanTextFault;
 pub use reading::{read_plan, read_plan_octets};

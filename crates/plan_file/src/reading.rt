@@ -8,12 +8,13 @@ ghost use Rattle.plan_file.specs.PlanTexts.{plan_of_text, plan_of_document, plan
 ghost use Rattle.plan_file.specs.Places.{Tells, TellsKey, fault_of};
 ghost use Rattle.plan_file.specs.Shown.{shown, GivesOr, IsOfValues};
 
+use crate::blame::place_of;
 use crate::error::PlanTextError;
 use crate::fault::PlanTextFault;
 use crate::fields::{Fields, read_fields, unknown_field};
-use crate::lines::line_at;
+use crate::lines::{column_at, line_at};
 use crate::named::{counters_named, keys_named};
-use flow_table::{Plan, PlanFault};
+use flow_table::Plan;
 use std::alloc::Global;
 use std::str;
 use toml::Table;
@@ -44,8 +45,10 @@ pub fn read_plan(alloc: Global, text: &str) -> Result<Plan, PlanTextFault>
 }
 
 /// As [`read_plan`], of octets that are to be UTF-8, and with the place of the fault: the line at
-/// which they are no UTF-8 or no TOML; or the key, and for `UnknownElement` the text. Of several keys
-/// that plans don't have it is the one that comes first in the order of octets.
+/// which they are no UTF-8; the line and the column at which they are no TOML; or the key, and for
+/// `UnknownElement` the text. For `Plan` it is the key whose value is out of its range, the number of
+/// elements, or the first text that has the fault. Of several keys that plans don't have it is the one
+/// that comes first in the order of octets.
 pub fn read_plan_octets(alloc: Global, octets: &[u8]) -> Result<Plan, PlanTextError>
     ensures ok { IfOk result (λ plan. IsUtf8 octets.now × (plan_of_text octets.now ≡ Ok plan)) }
     ensures fault { IfErr result (λ error. fault_of error ≢ PlanTextFault.OutOfMemory
@@ -73,8 +76,10 @@ fn read_text(alloc: Global, text: &str) -> Result<Plan, PlanTextError>
     };
     match error.span() {
         Some(span) => Err(PlanTextError::NotToml {
-            error,
+            message: String::from_str(alloc, error.message())?,
             line: line_at(text.as_bytes(), span.start),
+            column: column_at(text.as_bytes(), span.start),
+            error,
         }),
         None => Err(PlanTextError::OutOfMemory),
     }
@@ -106,7 +111,9 @@ fn make_plan(alloc: Global, fields: &Fields) -> Result<Plan, PlanTextError>
         fields.max_spread,
     ) {
         Ok(plan) => Ok(plan),
-        Err(PlanFault::OutOfMemory) => Err(PlanTextError::OutOfMemory),
-        Err(fault) => Err(PlanTextError::Plan { fault }),
+        Err(fault) => Err(PlanTextError::Plan {
+            fault,
+            place: place_of(alloc, fields, &keys, &counters, fault)?,
+        }),
     }
 }

@@ -1,11 +1,13 @@
 -- The line that tells where a plan has its fault.
-use Rattle.std.specs.Prelude.{ℕ, false, ◌/◌, ◌%◌, ◌==◌, ◌&&◌, nat_lt, nat_le, not, Bool, List, [], ◌∷◌, ◌++◌, length, take, codes, decimal, if◌then◌else◌, string_bytes, Option, Some, None}
+use Rattle.std.specs.Prelude.{ℕ, false, ◌/◌, ◌%◌, ◌==◌, ◌&&◌, nat_lt, nat_le, not, Bool, List, [], ◌∷◌, ◌++◌, length, take, codes, decimal, if◌then◌else◌, string_bytes}
 use Rattle.std.specs.List.{flat_map}
 use Rattle.std.specs.Fmt.{digit_glyph}
 use Rattle.flow_table.specs.declared.plan_fault.PlanFault.{PlanFault}
 use Rattle.flow_table.specs.declared.plan_fault.PlanFault.TheVariants.{Length, Spread, KeyCount, KeyKind, Prefix, CounterCount, CounterKind, Repeated, OutOfMemory}
 use Rattle.plan_file.specs.declared.error.PlanKey.{PlanKey}
 use Rattle.plan_file.specs.declared.error.PlanKey.TheVariants.{IntervalMs, Method, MaxSpread, Keys, Counters}
+use Rattle.plan_file.specs.declared.error.PlanPlace.{PlanPlace}
+use Rattle.plan_file.specs.declared.error.PlanPlace.TheVariants.{Value, Count, Text}
 use Rattle.plan_file.specs.declared.error.PlanTextError.{PlanTextError}
 use Rattle.plan_file.specs.declared.error.PlanTextError.TheVariants as errors
 use Rattle.plan_file.specs.Places.{fault_of, key_name}
@@ -35,39 +37,37 @@ quoted text = codes "\"" ++ (text_shown text ++ codes "\"")
 
 -- with the value of a key
 abbrev pub kind_words : PlanKey → List ℕ
-kind_words IntervalMs = codes "not an integer from 0 to 4294967295"
+kind_words IntervalMs = codes "not an integer from 1 to 4294967295"
 kind_words Method = codes "not \"start\", \"end\", \"mid\", \"uniform\" or \"proportional\""
-kind_words MaxSpread = codes "not an integer from 0 to 4294967295"
+kind_words MaxSpread = codes "not an integer from 1 to 4096"
 kind_words Keys = codes "not an array of texts"
 kind_words Counters = codes "not an array of texts"
 
--- the key that has what makes no plan
-abbrev pub key_at_fault : PlanFault → Option PlanKey
-key_at_fault Length = Some IntervalMs
-key_at_fault Spread = Some MaxSpread
-key_at_fault KeyCount = Some Keys
-key_at_fault KeyKind = Some Keys
-key_at_fault Prefix = Some Keys
-key_at_fault CounterCount = Some Counters
-key_at_fault CounterKind = Some Counters
-key_at_fault Repeated = Some Counters
-key_at_fault OutOfMemory = None
-
-abbrev pub fault_words : PlanFault → List ℕ
-fault_words Length = codes "0"
-fault_words Spread = codes "not from 1 to 4096"
-fault_words KeyCount = codes "more than 8"
-fault_words KeyKind = codes "an element is neither a number nor an address"
-fault_words Prefix = codes "an element cannot have its prefix"
-fault_words CounterCount = codes "not 1 to 4 of them"
-fault_words CounterKind = codes "an element is no delta counter"
-fault_words Repeated = codes "an element stands twice among keys and counters"
-fault_words OutOfMemory = codes "out of memory"
+-- what a plan allows, where it has this fault
+abbrev pub rule_words : PlanFault → List ℕ
+rule_words Length = codes "must be 1 to 4294967295"
+rule_words Spread = codes "must be 1 to 4096"
+rule_words KeyCount = codes "at most 8"
+rule_words KeyKind = codes ": only unsigned numbers and addresses (IPv4, IPv6, MAC) may be keys"
+rule_words Prefix = codes ": only IPv4 addresses take a prefix, 0 to 32"
+rule_words CounterCount = codes "must be 1 to 4"
+rule_words CounterKind =
+    codes ": only octetDeltaCount, packetDeltaCount, deltaFlowCount, postOctetDeltaCount, postPacketDeltaCount, droppedOctetDeltaCount and droppedPacketDeltaCount may be counters"
+rule_words Repeated = codes " stands twice"
+rule_words OutOfMemory = codes ": out of memory"
 
 -- ---- the line
 
 unfoldable pub line_line : ℕ → List ℕ → List ℕ
 line_line line words = codes "collectd: plan: line " ++ (decimal line ++ (codes ": " ++ (words ++ codes "\n")))
+
+-- a place in a line
+unfoldable pub column_start : ℕ → ℕ → List ℕ
+column_start line column = codes "collectd: plan: line " ++ (decimal line ++ (codes ", column " ++ (decimal column ++ codes ": ")))
+
+-- what the parser of TOML says of a place
+abbrev pub toml_line : ℕ → ℕ → List ℕ → List ℕ
+toml_line line column message = column_start line column ++ (flat_map octet_shown message ++ codes "\n")
 
 abbrev pub key_start : List ℕ → List ℕ
 key_start key = codes "collectd: plan: key " ++ quoted key
@@ -81,19 +81,27 @@ name_end text = codes ": no element is named " ++ (quoted text ++ codes "\n")
 abbrev pub key_line : List ℕ → List ℕ → List ℕ
 key_line key words = key_start key ++ words_end words
 
-abbrev pub fault_line : Option PlanKey → PlanFault → List ℕ
-fault_line (Some key) fault = key_line (key_name key) (fault_words fault)
-fault_line None fault = []
+unfoldable pub count_end : ℕ → List ℕ → List ℕ
+count_end count words = codes ": " ++ (decimal count ++ (codes " elements, " ++ (words ++ codes "\n")))
 
--- the line, or the key and what is wrong with it; nothing for want of memory
+abbrev pub text_end : List ℕ → List ℕ → List ℕ
+text_end text words = codes ": " ++ (quoted text ++ (words ++ codes "\n"))
+
+-- the key, the number of elements or the text that gives a plan the fault, and what is allowed
+abbrev pub rule_line : PlanFault → PlanPlace → List ℕ
+rule_line fault (Value key) = key_line (key_name key) (rule_words fault)
+rule_line fault (Count key count) = key_start (key_name key) ++ count_end count (rule_words fault)
+rule_line fault (Text key text) = key_start (key_name key) ++ text_end (string_bytes text) (rule_words fault)
+
+-- the line, or the key and what is wrong with it, or what a plan allows there; nothing for want of memory
 abbrev pub place_line : PlanTextError → List ℕ
 place_line (errors.NotUtf8 line) = line_line line (codes "not UTF-8")
-place_line (errors.NotToml error line) = line_line line (codes "not TOML")
+place_line (errors.NotToml error line column message) = toml_line line column (string_bytes message)
 place_line (errors.UnknownField key) = key_line (string_bytes key) (codes "unknown")
 place_line (errors.Missing key) = key_line (key_name key) (codes "missing")
 place_line (errors.WrongKind key) = key_line (key_name key) (kind_words key)
 place_line (errors.UnknownElement key text) = key_start (key_name key) ++ name_end (string_bytes text)
-place_line (errors.Plan fault) = fault_line (key_at_fault fault) fault
+place_line (errors.Plan fault place) = rule_line fault place
 place_line errors.OutOfMemory = []
 
 -- the fault of a plan's text, and its place

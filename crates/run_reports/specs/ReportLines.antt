@@ -19,6 +19,10 @@ use Rattle.plan_file.specs.declared.fault.PlanTextFault.TheVariants.{Plan}
 unfoldable pub fault_text : ℕ → List ℕ → List ℕ
 fault_text number name = codes ": fault " ++ (decimal number ++ (codes " " ++ (name ++ codes "\n")))
 
+-- a file that can't be opened, or an address that can't be listened on
+unfoldable pub not_had_line : List ℕ → List ℕ → List ℕ
+not_had_line what name = codes "collectd: " ++ (what ++ (codes ": " ++ (name ++ codes "\n")))
+
 -- what the sequence numbers of a domain say
 unfoldable pub loss_line : ℕ → DomainReport → List ℕ
 loss_line session d =

@@ -2,9 +2,10 @@
 #![tactic(auto)]
 
 mod places;
+mod quoting;
 mod reports;
 
 pub use reports::{
-    write_collect_fault, write_dump_fault, write_export_fault, write_fault, write_plan_fault,
-    write_reports, write_tally,
+    write_collect_fault, write_dump_fault, write_export_fault, write_fault, write_not_had,
+    write_plan_fault, write_reports, write_tally,
 };

@@ -1,26 +1,28 @@
-//! The line that tells where a plan has its fault.
+//! The line that says where a plan has its fault.
 
-ghost use Rattle.std.specs.Prelude.{◌≡◌, OnOk};
-ghost use Rattle.std.specs.List.{flat_map};
+ghost use Rattle.std.specs.Prelude.{◌≡◌, ◌++◌, codes, OnOk};
 ghost use Rattle.std.specs.Io.KnownBytes.{Appends};
-ghost use Rattle.run_reports.specs.PlaceLines.{fault_line, fault_words as words_of_fault, is_plain as is_plain_octet, key_at_fault as key_of_fault, key_line, key_start, kind_words as words_of_kind, line_line, name_end, octet_shown, place_line, quoted, text_shown, words_end};
+ghost use Rattle.run_reports.specs.PlaceLines.{column_start, count_end, key_line, key_start, kind_words as words_of_kind, line_line, name_end, place_line, rule_line, rule_words as words_of_rule, text_end, toml_line, words_end};
 
+use crate::quoting::{write_octets, write_quoted};
 use flow_table::PlanFault;
-use plan_file::{PlanKey, PlanTextError};
+use plan_file::{PlanKey, PlanPlace, PlanTextError};
 use std::io::{self, Write};
 
-/// The most octets that are shown of a name that a file gives.
-const MOST_SHOWN: usize = 64;
-
-/// Writes the line that tells where a plan has its fault: the line of the file, or the key and what is
-/// wrong with it. For want of memory there is none.
+/// Writes the line that says where a plan has its fault: the line of the file, or the key and what is
+/// wrong with it, or what a plan allows there. For want of memory there is none.
 pub fn write_place<W: Write>(error: &PlanTextError, out: &mut W) -> io::Result<()>
     ensures { OnOk result (Appends (W.contents out.old) (W.contents out.new)
         (place_line error.now)) }
 {
     match error {
         PlanTextError::NotUtf8 { line } => write_line(*line, "not UTF-8", out),
-        PlanTextError::NotToml { line, .. } => write_line(*line, "not TOML", out),
+        PlanTextError::NotToml {
+            line,
+            column,
+            message,
+            ..
+        } => write_toml_line(*line, *column, message.as_str(), out),
         PlanTextError::UnknownField { key } => write_key_line(key.as_str(), "unknown", out),
         PlanTextError::Missing { key } => write_key_line(key.name(), "missing", out),
         PlanTextError::WrongKind { key } => write_key_line(key.name(), kind_words(*key), out),
@@ -28,7 +30,7 @@ pub fn write_place<W: Write>(error: &PlanTextError, out: &mut W) -> io::Result<(
             write_key(key.name(), out)?;
             write_name_end(text.as_str(), out)
         }
-        PlanTextError::Plan { fault } => write_rule(*fault, out),
+        PlanTextError::Plan { fault, place } => write_rule(*fault, place, out),
         PlanTextError::OutOfMemory => Ok(()),
     }
 }
@@ -39,6 +41,29 @@ fn write_line<W: Write>(line: usize, words: &str, out: &mut W) -> io::Result<()>
         (line_line line words.now)) }
 {
     writeln!(out, "collectd: plan: line {line}: {words}")
+}
+
+// The place in a file, and what the parser of TOML says of it.
+fn write_toml_line<W: Write>(
+    line: usize,
+    column: usize,
+    message: &str,
+    out: &mut W,
+) -> io::Result<()>
+    ensures { OnOk result (Appends (W.contents out.old) (W.contents out.new)
+        (toml_line line column message.now)) }
+{
+    write_column_start(line, column, out)?;
+    write_octets(message.as_bytes(), out)?;
+    writeln!(out)
+}
+
+#[tactic(auto, unfolding(crate::specs::PlaceLines::column_start))]
+fn write_column_start<W: Write>(line: usize, column: usize, out: &mut W) -> io::Result<()>
+    ensures { OnOk result (Appends (W.contents out.old) (W.contents out.new)
+        (column_start line column)) }
+{
+    write!(out, "collectd: plan: line {line}, column {column}: ")
 }
 
 fn write_key_line<W: Write>(key: &str, words: &str, out: &mut W) -> io::Result<()>
@@ -73,44 +98,67 @@ fn write_name_end<W: Write>(text: &str, out: &mut W) -> io::Result<()>
     writeln!(out)
 }
 
-// The key whose value breaks a rule of plans, and the rule.
-fn write_rule<W: Write>(fault: PlanFault, out: &mut W) -> io::Result<()>
+// What gives a plan the fault, and what is allowed.
+fn write_rule<W: Write>(fault: PlanFault, place: &PlanPlace, out: &mut W) -> io::Result<()>
     ensures { OnOk result (Appends (W.contents out.old) (W.contents out.new)
-        (fault_line (key_of_fault fault) fault)) }
+        (rule_line fault place.now)) }
 {
-    match key_at_fault(fault) {
-        Some(key) => write_key_line(key.name(), fault_words(fault), out),
-        None => Ok(()),
-    }
-}
-
-fn key_at_fault(fault: PlanFault) -> Option<PlanKey>
-    ensures { result ≡ key_of_fault fault }
-{
-    match fault {
-        PlanFault::Length => Some(PlanKey::IntervalMs),
-        PlanFault::Spread => Some(PlanKey::MaxSpread),
-        PlanFault::KeyCount | PlanFault::KeyKind | PlanFault::Prefix => Some(PlanKey::Keys),
-        PlanFault::CounterCount | PlanFault::CounterKind | PlanFault::Repeated => {
-            Some(PlanKey::Counters)
+    let words = rule_words(fault);
+    match place {
+        PlanPlace::Value { key } => write_key_line(key.name(), words, out),
+        PlanPlace::Count { key, count } => {
+            write_key(key.name(), out)?;
+            write_count_end(*count, words, out)
         }
-        PlanFault::OutOfMemory => None,
+        PlanPlace::Text { key, text } => {
+            write_key(key.name(), out)?;
+            write_text_end(text.as_str(), words, out)
+        }
     }
 }
 
-fn fault_words(fault: PlanFault) -> &'static str
-    ensures { result.now ≡ words_of_fault fault }
+#[tactic(auto, unfolding(crate::specs::PlaceLines::count_end))]
+fn write_count_end<W: Write>(count: usize, words: &str, out: &mut W) -> io::Result<()>
+    ensures { OnOk result (Appends (W.contents out.old) (W.contents out.new)
+        (count_end count words.now)) }
+{
+    writeln!(out, ": {count} elements, {words}")
+}
+
+fn write_text_end<W: Write>(text: &str, words: &str, out: &mut W) -> io::Result<()>
+    ensures { OnOk result (Appends (W.contents out.old) (W.contents out.new)
+        (text_end text.now words.now)) }
+{
+    write!(out, ": ")?;
+    write_quoted(text, out)?;
+    write_end(words, out)
+}
+
+fn write_end<W: Write>(words: &str, out: &mut W) -> io::Result<()>
+    ensures { OnOk result (Appends (W.contents out.old) (W.contents out.new)
+        (words.now ++ codes "\n")) }
+{
+    writeln!(out, "{words}")
+}
+
+// What a plan allows where it has the fault.
+fn rule_words(fault: PlanFault) -> &'static str
+    ensures { result.now ≡ words_of_rule fault }
 {
     match fault {
-        PlanFault::Length => "0",
-        PlanFault::Spread => "not from 1 to 4096",
-        PlanFault::KeyCount => "more than 8",
-        PlanFault::KeyKind => "an element is neither a number nor an address",
-        PlanFault::Prefix => "an element cannot have its prefix",
-        PlanFault::CounterCount => "not 1 to 4 of them",
-        PlanFault::CounterKind => "an element is no delta counter",
-        PlanFault::Repeated => "an element stands twice among keys and counters",
-        PlanFault::OutOfMemory => "out of memory",
+        PlanFault::Length => "must be 1 to 4294967295",
+        PlanFault::Spread => "must be 1 to 4096",
+        PlanFault::KeyCount => "at most 8",
+        PlanFault::KeyKind => {
+            ": only unsigned numbers and addresses (IPv4, IPv6, MAC) may be keys"
+        }
+        PlanFault::Prefix => ": only IPv4 addresses take a prefix, 0 to 32",
+        PlanFault::CounterCount => "must be 1 to 4",
+        PlanFault::CounterKind => {
+            ": only octetDeltaCount, packetDeltaCount, deltaFlowCount, postOctetDeltaCount, postPacketDeltaCount, droppedOctetDeltaCount and droppedPacketDeltaCount may be counters"
+        }
+        PlanFault::Repeated => " stands twice",
+        PlanFault::OutOfMemory => ": out of memory",
     }
 }
 
@@ -118,56 +166,9 @@ fn kind_words(key: PlanKey) -> &'static str
     ensures { result.now ≡ words_of_kind key }
 {
     match key {
-        PlanKey::IntervalMs | PlanKey::MaxSpread => "not an integer from 0 to 4294967295",
+        PlanKey::IntervalMs => "not an integer from 1 to 4294967295",
+        PlanKey::MaxSpread => "not an integer from 1 to 4096",
         PlanKey::Method => "not \"start\", \"end\", \"mid\", \"uniform\" or \"proportional\"",
         PlanKey::Keys | PlanKey::Counters => "not an array of texts",
     }
-}
-
-// A text that a file gives, between quotation marks, so that a terminal is safe.
-fn write_quoted<W: Write>(text: &str, out: &mut W) -> io::Result<()>
-    ensures { OnOk result (Appends (W.contents out.old) (W.contents out.new) (quoted text.now)) }
-{
-    write!(out, "\"")?;
-    write_shown(text.as_bytes(), out)?;
-    write!(out, "\"")
-}
-
-fn write_shown<W: Write>(text: &[u8], out: &mut W) -> io::Result<()>
-    ensures { OnOk result (Appends (W.contents out.old) (W.contents out.new)
-        (text_shown text.now)) }
-{
-    if text.len() > MOST_SHOWN {
-        write_octets(&text[..MOST_SHOWN], out)?;
-        write!(out, "..")
-    } else {
-        write_octets(text, out)
-    }
-}
-
-fn write_octets<W: Write>(octets: &[u8], out: &mut W) -> io::Result<()>
-    ensures { OnOk result (Appends (W.contents out.old) (W.contents out.new)
-        (flat_map octet_shown octets.now)) }
-{
-    for octet in octets {
-        write_octet(*octet, out)?;
-    }
-    Ok(())
-}
-
-#[tactic(auto, using(std::proofs::lemmas::Fmt::hex_byte))]
-fn write_octet<W: Write>(octet: u8, out: &mut W) -> io::Result<()>
-    ensures { OnOk result (Appends (W.contents out.old) (W.contents out.new) (octet_shown octet)) }
-{
-    if is_plain(octet) {
-        out.write_all(&[octet])
-    } else {
-        write!(out, "\\x{octet:02x}")
-    }
-}
-
-fn is_plain(octet: u8) -> bool
-    ensures { result ≡ is_plain_octet octet }
-{
-    octet >= 32 && octet < 127 && octet != b'"' && octet != b'\\'
 }

@@ -7,7 +7,7 @@ ghost use Rattle.ipfix_dump.specs.Faults.{number_of, name_of};
 ghost use Rattle.flow_table.specs.PlanFaults as plan;
 ghost use Rattle.plan_file.specs.Faults as text;
 ghost use Rattle.run_reports.specs.PlaceLines.{plan_lines};
-ghost use Rattle.run_reports.specs.ReportLines.{collect_fault_line, domain_lines, export_fault_line, fault_text, first_counts, last_counts, loss_line, plan_fault_text, report_lines, session_lines, tally_line};
+ghost use Rattle.run_reports.specs.ReportLines.{collect_fault_line, domain_lines, export_fault_line, fault_text, first_counts, last_counts, loss_line, not_had_line, plan_fault_text, report_lines, session_lines, tally_line};
 
 use crate::places::write_place;
 use flow_collect::CollectFault;
@@ -129,6 +129,16 @@ pub fn write_fault<W: Write>(what: &str, number: u8, name: &str, out: &mut W) ->
     writeln!(out, "collectd: {what}: fault {number} {name}")
 }
 
+/// Writes the line of what the system did not give: `what` is "open" with the path of a file, or
+/// "listen" with an address.
+#[tactic(auto, unfolding(crate::specs::ReportLines::not_had_line))]
+pub fn write_not_had<W: Write>(what: &str, name: &str, out: &mut W) -> io::Result<()>
+    ensures { OnOk result (Appends (W.contents out.old) (W.contents out.new)
+        (not_had_line what.now name.now)) }
+{
+    writeln!(out, "collectd: {what}: {name}")
+}
+
 /// Writes the line of a fault of the dump.
 pub fn write_dump_fault<W: Write>(fault: DumpFault, out: &mut W) -> io::Result<()>
     ensures { OnOk result (Appends (W.contents out.old) (W.contents out.new)
@@ -182,7 +192,8 @@ fn write_text_fault<W: Write>(fault: PlanTextFault, out: &mut W) -> io::Result<(
 
 fn write_inner_fault<W: Write>(fault: PlanFault, out: &mut W) -> io::Result<()>
     ensures { OnOk result (Appends (W.contents out.old) (W.contents out.new)
-        (codes "collectd: plan: fault 6 Plan" ++ fault_text (plan.number_of fault) (plan.name_of fault))) }
+        (codes "collectd: plan: fault 6 Plan"
+        ++ fault_text (plan.number_of fault) (plan.name_of fault))) }
 {
     write_fault("plan: fault 6 Plan", fault.number(), fault.name(), out)
 }

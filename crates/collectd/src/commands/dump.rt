@@ -66,7 +66,8 @@ fn run_dump_by<L: RecordLine, S: Source, W: Write, E: Write>(
         → DumpsAllBy L.line_of (S.seen source.old).text (W.contents out.old) (W.contents out.new) }
     ensures fault { result ≡ number_of Status.SessionFault
         → (report : SessionReport) × (fault : SessionFault) × (report.fault ≡ Some fault)
-        × DumpsBy L.line_of S.seen source.old source.new (W.contents out.old) (W.contents out.new) report }
+        × DumpsBy L.line_of S.seen source.old source.new
+        (W.contents out.old) (W.contents out.new) report }
 {
     match dump_whole(alloc, line, source, out) {
         Ok(report) => {
@@ -94,6 +95,8 @@ fn dump_whole<L: RecordLine, S: Source, W: Write>(
         (W.contents out.old) (W.contents out.new) report) }
 {
     let report = dump_by(alloc, line, source, out)?;
-    out.flush()?;
-    Ok(report)
+    match out.flush() {
+        Ok(()) => Ok(report),
+        Err(error) => Err(DumpFault::from(error)),
+    }
 }

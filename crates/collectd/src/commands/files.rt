@@ -13,6 +13,7 @@ use exit_status::Status;
 use flow_collect::Pool;
 use flow_table::Plan;
 use ipfix_session::Source;
+use run_reports::write_not_had;
 use session_progress::Watched;
 use std::alloc::Global;
 use std::io::Write;
@@ -71,7 +72,7 @@ pub fn run_files<
             err,
         ),
         Err(path) => {
-            let _ = writeln!(err, "collectd: open: {path}");
+            let _ = write_not_had("open", path, err);
             Status::NotOpened.number()
         }
     }

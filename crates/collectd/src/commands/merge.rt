@@ -7,7 +7,7 @@ ghost use Rattle.flow_table.specs.AddedUp.{rows_in, AreAddedUp};
 ghost use Rattle.flow_table.specs.Fitting.{FitsPlan};
 ghost use Rattle.flow_table.specs.SameTables.{RowValue};
 ghost use Rattle.flow_table.specs.declared.table.Table.{Table as TableValue};
-ghost use Rattle.flow_merge.specs.Merging.{plan_of, StandsFor};
+ghost use Rattle.flow_merge.specs.Merging.{merging_plan, StandsFor};
 ghost use Rattle.collectd.specs.Merges.{AddsFile, IsMerged, IsNotMerged, WritesMerged};
 
 use crate::merge_reports::{write_file_fault, write_merge_fault, write_merged};
@@ -17,7 +17,7 @@ use exit_status::Status;
 use flow_merge::Merging;
 use flow_table::{Plan, Table};
 use ipfix_session::{READ_LIMIT, Source};
-use run_reports::write_export_fault;
+use run_reports::{write_export_fault, write_not_had};
 use std::alloc::Global;
 use std::io::Write;
 
@@ -88,7 +88,7 @@ fn merge_files<S: Source + Drop, O: OpenSource<S>, E: Write>(
 
 // Nothing merged.
 fn begin<E: Write>(alloc: Global, plan: &Plan, err: &mut E) -> Result<Merging, Status>
-    ensures plan { IfOk result (λ m. plan_of m ≡ plan.now) }
+    ensures plan { IfOk result (λ m. merging_plan m ≡ plan.now) }
     ensures empty { IfOk result (λ m. StandsFor m []) }
     ensures status { IfErr result (λ status. status ≡ Status.Failed) }
 {
@@ -113,7 +113,7 @@ fn add_file<S: Source + Drop, O: OpenSource<S>, E: Write>(
     ensures status { IfErr result IsNotMerged }
 {
     let Some(opened) = files.open_source(path) else {
-        let _ = writeln!(err, "collectd: open: {path}");
+        let _ = write_not_had("open", path, err);
         return Err(Status::NotOpened);
     };
     let mut source = opened.source;
@@ -131,7 +131,7 @@ fn end<E: Write>(merging: Merging, err: &mut E) -> Result<Table, Status>
     ensures rows { (rows : List RowValue)
         → StandsFor merging rows → IfOk result (λ table. AreAddedUp rows (rows_in table)) }
     ensures fits { (rows : List RowValue)
-        → StandsFor merging rows → IfOk result (FitsPlan (plan_of merging)) }
+        → StandsFor merging rows → IfOk result (FitsPlan (merging_plan merging)) }
     ensures status { IfErr result (λ status. status ≡ Status.Failed) }
 {
     match merging.finish() {

@@ -12,6 +12,7 @@ use exit_status::Status;
 use flow_collect::Pool;
 use flow_table::Plan;
 use ipfix_session::{FromReader, Source};
+use run_reports::write_not_had;
 use session_progress::Watched;
 use std::alloc::Global;
 use std::io::Write;
@@ -54,12 +55,15 @@ impl Listener<FromReader<TcpStream>> for TcpListener {
 /// long as it takes. If a connection can't be accepted, or can't have that limit, the status is 2, and a
 /// line with `addr` is written to `err`.
 ///
+/// The listener is dropped, and so closed, before the first connection is read: a peer that comes later is
+/// refused, and knows that nobody takes what it sends.
+///
 /// Each session writes to `progress`, if it is there, what it has read: a line at most once a second,
 /// after a read. A fault of `progress` is passed over.
 #[tactic(auto, using(crate::proofs::Ran::runs_sources))]
 pub fn run_tcp<
     S: Source + Send + Drop,
-    L: Listener<S>,
+    L: Listener<S> + Drop,
     P: Write + Copy + Drop + Send,
     W: Write,
     E: Write,
@@ -67,7 +71,7 @@ pub fn run_tcp<
 >(
     rt: &R,
     alloc: Global,
-    listener: &L,
+    listener: L,
     addr: &str,
     count: usize,
     idle: Option<Duration>,
@@ -82,7 +86,8 @@ pub fn run_tcp<
         ⊎ (result ≡ number_of Status.NotOpened) ⊎ (result ≡ number_of Status.Failed) }
     // So many connections with this limit were run, as `run` says it.
     ensures accepted { result ≢ number_of Status.NotOpened
-        → RunsSources S.seen (λ sources. (length sources ≡ count) × All (L.gives listener.now idle) sources)
+        → RunsSources S.seen
+        (λ sources. (length sources ≡ count) × All (L.gives listener idle) sources)
         plan.now pool output result
         (W.contents out.old) (W.contents out.new) (out.new ≡ out.old) }
     // Nothing was written unless all were accepted.
@@ -107,23 +112,23 @@ pub fn run_tcp<
             err,
         ),
         None => {
-            let _ = writeln!(err, "collectd: listen: {addr}");
+            let _ = write_not_had("listen", addr, err);
             Status::NotOpened.number()
         }
     }
 }
 
-// So many connections as sources, each with this limit of a read's time.
-fn accept_all<'r, S: Source + Drop, L: Listener<S>, P: Write + Copy + Drop, R: Clock>(
+// So many connections as sources, each with this limit of a read's time. Behind the last the listener is closed.
+fn accept_all<'r, S: Source + Drop, L: Listener<S> + Drop, P: Write + Copy + Drop, R: Clock>(
     rt: &'r R,
     alloc: Global,
-    listener: &L,
+    listener: L,
     count: usize,
     idle: Option<Duration>,
     progress: Option<P>,
 ) -> Option<Unread<Watched<'r, S, R, P>>>
     ensures one_each { IfSome result (λ sources. length sources ≡ count) }
-    ensures given { IfSome result (λ sources. All (L.gives listener.now idle) sources) }
+    ensures given { IfSome result (λ sources. All (L.gives listener idle) sources) }
     ensures no_time { IfSome idle (λ limit. as_nanos limit ≡ 0 → 0 < count → result ≡ None) }
 {
     let mut sources = Unread::new(alloc);

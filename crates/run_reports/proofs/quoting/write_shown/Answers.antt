@@ -6,7 +6,7 @@ use Rattle.std.proofs.lemmas.Bool.{lt-ltb}
 use Rattle.std.proofs.lemmas.List.{length-take-le}
 use Rattle.std.proofs.lemmas.Result.{on_ok_weaker}
 use Rattle.run_reports.specs.PlaceLines.{octet_shown}
-use Rattle.run_reports.proofs.places.write_shown.Goals as goal
+use Rattle.run_reports.proofs.quoting.write_shown.Goals as goal
 
 pub slice_bounds-write_octets-end : goal.slice_bounds-write_octets-end
 slice_bounds-write_octets-end g c = sym (length-take-le 64 c.args.text.now (omega (arith, c.if-text-gt-MOST_SHOWN.true)))

@@ -2,7 +2,7 @@ use Rattle.std.specs.Prelude.{codes}
 use Rattle.std.proofs.KnownBytes.{Appends-trans}
 use Rattle.std.proofs.lemmas.Result.{on_ok_weaker}
 use Rattle.run_reports.specs.PlaceLines.{text_shown}
-use Rattle.run_reports.proofs.places.write_quoted.Goals as goal
+use Rattle.run_reports.proofs.quoting.write_quoted.Goals as goal
 
 pub returns : goal.returns
 returns g c =

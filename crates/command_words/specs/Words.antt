@@ -1,7 +1,7 @@
 -- The words of the command line that name a command.
 use Rattle.std.specs.Prelude.{ℕ, List, codes}
-use Rattle.collectd_cli.specs.declared.subcommands.Subcommand.{Subcommand}
-use Rattle.collectd_cli.specs.declared.subcommands.Subcommand.TheVariants.{Dump, Files, Tcp, Merge, Explain}
+use Rattle.command_words.specs.declared.subcommands.Subcommand.{Subcommand}
+use Rattle.command_words.specs.declared.subcommands.Subcommand.TheVariants.{Dump, Files, Tcp, Merge, Explain}
 
 abbrev pub word_of : Subcommand → List ℕ
 word_of Dump = codes "dump"

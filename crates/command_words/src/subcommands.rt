@@ -1,7 +1,7 @@
 //! The commands, and the words that name them.
 
 ghost use Rattle.std.specs.Prelude.{◌≡◌, Some};
-ghost use Rattle.collectd_cli.specs.Words.{word_of};
+ghost use Rattle.command_words.specs.Words.{word_of};
 
 /// A command of the program.
 #[derive(Clone, Copy, Debug, PartialEq, Eq)]

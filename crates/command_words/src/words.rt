@@ -1,6 +1,6 @@
 //! The words that the program takes.
 
-use crate::formats::{DUMP_FORMATS, TABLE_FORMATS};
+use crate::format_words::{DUMP_FORMATS, TABLE_FORMATS};
 use crate::subcommands::Subcommand;
 use clap::{Arg, ArgAction, ArgMatches, Command, Error, value_parser};
 use std::alloc::{AllocError, Global};
@@ -16,7 +16,7 @@ pub fn matches_of<'a>(alloc: Global, words: &'a [String]) -> Result<ArgMatches<'
 fn command<'a>(alloc: Global) -> Result<Command<'a>, AllocError> {
     Command::new(alloc, "collectd")
         .version(VERSION)
-        .about("An IPFIX collecting process")
+        .about("Collects flow records sent as IPFIX and adds them up")
         .subcommand_required(true)
         .arg_required_else_help(true)
         .subcommand(subcommand(alloc, Subcommand::Dump)?)?
@@ -50,7 +50,7 @@ fn with_dump<'a>(alloc: Global, command: Command<'a>) -> Result<Command<'a>, All
 fn with_files<'a>(alloc: Global, command: Command<'a>) -> Result<Command<'a>, AllocError> {
     let file = files(
         alloc,
-        "A file of IPFIX messages, each file a session; '-' is standard input",
+        "A file of IPFIX messages; each file is a session, and '-' is standard input",
     );
     let files = command
         .about("Aggregates the flows in files and writes their table")
@@ -66,7 +66,9 @@ fn with_tcp<'a>(alloc: Global, command: Command<'a>) -> Result<Command<'a>, Allo
             "Accepts connections, aggregates their flows and writes their table when all have ended",
         )
         .after_help(
-            "Example:\n  collectd tcp --plan plan.toml --listen 0.0.0.0:4739 --sessions 2 > table.csv",
+            "If a signal stops the program before all sessions have ended, no table is written and the\n\
+             flows are lost.\n\n\
+             Example:\n  collectd tcp --plan plan.toml --listen 0.0.0.0:4739 --sessions 2 > table.csv",
         );
     with_connections(alloc, with_options(alloc, tcp)?)
 }
@@ -83,11 +85,11 @@ fn with_merge<'a>(alloc: Global, command: Command<'a>) -> Result<Command<'a>, Al
 }
 
 fn with_explain<'a>(alloc: Global, command: Command<'a>) -> Result<Command<'a>, AllocError> {
-    let fault = Arg::new(alloc, "fault")
-        .value_name("FAULT")
-        .help("The number or the name of a session's fault");
+    let fault = Arg::new(alloc, "fault").value_name("FAULT").help(
+        "The number of a session's fault, or the name of any fault",
+    );
     command
-        .about("Tells what a session's fault is and what to do about it, or lists all of them")
+        .about("Explains a fault and says what to do about it, or lists all of them")
         .after_help("Example:\n  collectd explain TemplateChanged")
         .arg(fault)
 }
@@ -105,7 +107,7 @@ fn with_progress<'a>(alloc: Global, command: Command<'a>) -> Result<Command<'a>,
         .long("progress")
         .action(ArgAction::Count)
         .help(
-            "Tell on the terminal, once a second, what each session has read; twice: on standard error",
+            "Show on the terminal how much each session has read; given twice, on standard error",
         );
     command.arg(progress)
 }
@@ -126,14 +128,14 @@ fn with_pool<'a>(alloc: Global, command: Command<'a>) -> Result<Command<'a>, All
         "workers",
         "N",
         "1",
-        "Threads that aggregate, 1 to 16; more than sessions or processors are of no use",
+        "How many threads aggregate, 1 to 16; more than sessions or processors are of no use",
     );
     let ring = number(
         alloc,
         "ring",
         "C",
         "64",
-        "Records that may wait between a session and its worker, 1 to 65536",
+        "How many records may wait between a session and its worker, 1 to 65536",
     );
     command.arg(workers)?.arg(ring)
 }
@@ -147,7 +149,7 @@ fn with_output<'a>(alloc: Global, command: Command<'a>) -> Result<Command<'a>, A
         "time",
         "T",
         "0",
-        "The export time of messages of IPFIX, in seconds since 1970-01-01 UTC",
+        "The export time in the messages of --format ipfix, in seconds since 1970-01-01 UTC",
     );
     command.arg(format)?.arg(time)
 }
@@ -166,7 +168,7 @@ fn with_connections<'a>(alloc: Global, command: Command<'a>) -> Result<Command<'
         alloc,
         "idle",
         "SECONDS",
-        "How long a connection may send nothing, from 1; then its session ends with a fault",
+        "How long a connection may send nothing, from 1; then its session ends with fault 15",
     )
     .value_parser(value_parser!(u32).range(1..));
     command

@@ -1,0 +1,127 @@
+//! The commands. Each answers the exit status. An error is the status if the library was not called.
+
+use crate::formats::{DumpFormat, dump_format};
+use crate::inputs::{
+    Collecting, buffered_output, read_collecting, read_idle, read_job, read_paths, read_progress,
+    table_output,
+};
+use clap::ArgMatches;
+use collectd::{
+    DumpFault, run_dump, run_dump_json, run_files, run_merge, run_tcp, write_dump_fault,
+    write_not_had,
+};
+use exit_status::Status;
+use fault_guide::run_explain;
+use ipfix_session::FromReader;
+use std::io::Stderr;
+use std::net::TcpListener;
+use std::rt::Clock;
+use std::sync::Wait;
+use std::thread::Threads;
+
+/// `collectd dump`: standard input to standard output.
+pub fn dump(rt: &HostRuntime, chosen: &ArgMatches) -> Result<u8, Status> {
+    let mut err = rt.stderr();
+    let Some(mut out) = buffered_output(rt) else {
+        let _ = write_dump_fault(DumpFault::OutOfMemory, &mut err);
+        return Err(Status::Failed);
+    };
+    let mut source = FromReader::new(rt.stdin());
+    match chosen.get_str("format").and_then(dump_format) {
+        Some(DumpFormat::Text) => Ok(run_dump(rt.alloc(), &mut source, &mut out, &mut err)),
+        Some(DumpFormat::Json) => Ok(run_dump_json(rt.alloc(), &mut source, &mut out, &mut err)),
+        // (the parser lets no other word through)
+        None => Err(Status::NotOpened),
+    }
+}
+
+/// `collectd files`: the table of the sessions in files to standard output.
+pub fn files<R: Clock + Threads + Wait + Sync>(
+    threads: &R,
+    rt: &HostRuntime,
+    chosen: &ArgMatches,
+) -> Result<u8, Status> {
+    let mut err = rt.stderr();
+    let paths = read_paths(chosen, &mut err)?;
+    let Collecting {
+        job,
+        pool,
+        mut out,
+        terminal,
+    } = read_collecting(rt, chosen, &mut err)?;
+    Ok(run_files(
+        threads,
+        rt.alloc(),
+        rt,
+        paths,
+        &job.plan,
+        pool,
+        job.output,
+        read_progress(&terminal, rt, chosen),
+        &mut out,
+        &mut err,
+    ))
+}
+
+/// `collectd tcp`: the table of the sessions that come over connections to standard output.
+pub fn tcp<R: Clock + Threads + Wait + Sync>(
+    threads: &R,
+    rt: &HostRuntime,
+    chosen: &ArgMatches,
+) -> Result<u8, Status> {
+    let mut err = rt.stderr();
+    let addr = chosen.get_str("listen").ok_or(Status::NotOpened)?;
+    let sessions = chosen.get_one::<u32>("sessions").ok_or(Status::NotOpened)?;
+    let Collecting {
+        job,
+        pool,
+        mut out,
+        terminal,
+    } = read_collecting(rt, chosen, &mut err)?;
+    let listener = listen(rt, addr, &mut err)?;
+    Ok(run_tcp(
+        threads,
+        rt.alloc(),
+        listener,
+        addr,
+        sessions as usize,
+        read_idle(chosen),
+        &job.plan,
+        pool,
+        job.output,
+        read_progress(&terminal, rt, chosen),
+        &mut out,
+        &mut err,
+    ))
+}
+
+// A listener on an address. If it can't be had, `err` has a line.
+fn listen(rt: &HostRuntime, addr: &str, err: &mut Stderr) -> Result<TcpListener, Status> {
+    let Ok(listener) = TcpListener::bind(rt, addr) else {
+        let _ = write_not_had("listen", addr, err);
+        return Err(Status::NotOpened);
+    };
+    Ok(listener)
+}
+
+/// `collectd merge`: the table of the exports in files to standard output.
+pub fn merge(rt: &HostRuntime, chosen: &ArgMatches) -> Result<u8, Status> {
+    let mut err = rt.stderr();
+    let paths = read_paths(chosen, &mut err)?;
+    let job = read_job(rt, chosen).ok_or(Status::NotOpened)?;
+    let mut out = table_output(rt, &mut err)?;
+    Ok(run_merge(
+        rt,
+        rt.alloc(),
+        paths,
+        &job.plan,
+        job.output,
+        &mut out,
+        &mut err,
+    ))
+}
+
+/// `collectd explain`: what is told of a fault, or the list of all, to standard output.
+pub fn explain(rt: &HostRuntime, chosen: &ArgMatches) -> u8 {
+    run_explain(chosen.get_str("fault"), &mut rt.stdout(), &mut rt.stderr()).number()
+}
