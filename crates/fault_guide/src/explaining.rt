@@ -1,4 +1,4 @@
-//! Finding and writing what is told of a fault.
+//! Finding a fault and writing its explanation.
 
 ghost use Rattle.std.specs.Prelude.{◌≡◌, ◌⊎◌, ◌↔◌, find, None, Some, IsOk, IsSomeAnd, OnOk};
 ghost use Rattle.std.specs.List.{flat_map};
@@ -9,12 +9,14 @@ ghost use Rattle.fault_guide.specs.Explained.{IsWordOf, answer, explanation_text
 
 use crate::faults::FAULTS;
 use crate::guide::Explanation;
+use crate::run_explaining::{explain_run_fault, run_fault_named, write_run_fault_lines};
+use crate::run_faults::RUN_FAULTS;
 use exit_status::Status;
 use ipfix_session::SessionFault;
 use itoa::Buffer;
 use std::io::{self, Write};
 
-/// The fault that a word names: by its number in decimal, or by its name.
+/// The session's fault that a word names: by its number in decimal, or by its name in any letter case.
 pub fn fault_named(word: &str) -> Option<SessionFault>
     // Each fault is found by both.
     ensures each { (fault : SessionFault) → IsWordOf word.now fault → result ≡ Some fault }
@@ -46,10 +48,11 @@ fn is_named(fault: SessionFault, word: &str) -> bool
     ensures { result ≡ names word.now fault }
 {
     let mut digits = Buffer::new();
-    word == digits.format(fault.number()) || word == fault.name()
+    word.eq_ignore_ascii_case(digits.format(fault.number()))
+        || word.eq_ignore_ascii_case(fault.name())
 }
 
-/// Writes what is told of a fault, and sees to it that nothing is left in the writer's buffer.
+/// Writes the explanation of a fault, and flushes the writer.
 pub fn explain<W: Write>(fault: SessionFault, out: &mut W) -> io::Result<()>
     ensures { OnOk result (Appends (W.contents out.old) (W.contents out.new)
         (explanation_text fault)) }
@@ -73,17 +76,17 @@ fn write_fault_line<W: Write>(fault: SessionFault, out: &mut W) -> io::Result<()
 fn write_rule_lines<W: Write>(fault: SessionFault, out: &mut W) -> io::Result<()>
     ensures { OnOk result (Appends (W.contents out.old) (W.contents out.new) (rule_lines fault)) }
 {
-    let told = Explanation::of(fault);
-    let (rule, advice) = (told.rule, told.advice);
+    let Explanation { rule, advice, .. } = Explanation::of(fault);
     writeln!(out, "rule: {rule}\n{advice}")
 }
 
-/// Writes a line for each fault, in the order of their numbers, and sees to it that nothing is left in
-/// the writer's buffer.
+/// Writes a line for each fault of a session, in the order of their numbers, and then for each that
+/// ends a run, and flushes the writer.
 pub fn list_faults<W: Write>(out: &mut W) -> io::Result<()>
     ensures { OnOk result (Appends (W.contents out.old) (W.contents out.new) list_text) }
 {
     write_fault_lines(&FAULTS, out)?;
+    write_run_fault_lines(&RUN_FAULTS, out)?;
     out.flush()
 }
 
@@ -97,14 +100,14 @@ fn write_fault_lines<W: Write>(faults: &[SessionFault], out: &mut W) -> io::Resu
     Ok(())
 }
 
-/// Writes to `out` what is told of the fault that a word names, or without a word the list of all, and
-/// says how that ended: `Well` if it was written; `NotOpened` if the word names no fault, and then
-/// nothing was written; `Failed` if it couldn't be written. Unless all was well it writes a line to
-/// `err`, whose own faults are passed over.
+/// Writes to `out` the explanation of the fault that a word names, or without a word the list of all.
+/// Answers `Well` if it was written; `NotOpened` if the word names no fault, and then nothing was
+/// written; `Failed` if it couldn't be written. Unless all was well it writes a line to `err`, whose
+/// own faults are passed over.
 pub fn run_explain<W: Write, E: Write>(word: Option<&str>, out: &mut W, err: &mut E) -> Status
     ensures statuses { (result ≡ Status.Well) ⊎ (result ≡ Status.NotOpened)
         ⊎ (result ≡ Status.Failed) }
-    ensures told { result ≡ Status.Well
+    ensures written { result ≡ Status.Well
         → IsSomeAnd (answer (option_map (λ w. w.now) word.entry))
         (Appends (W.contents out.old) (W.contents out.new)) }
     ensures unknown { (result ≡ Status.NotOpened) ↔ (answer (option_map (λ w. w.now) word.entry) ≡ None) }
@@ -112,9 +115,10 @@ pub fn run_explain<W: Write, E: Write>(word: Option<&str>, out: &mut W, err: &mu
 {
     match word {
         None => status_of(list_faults(out), err),
-        Some(word) => match fault_named(word) {
-            Some(fault) => status_of(explain(fault, out), err),
-            None => {
+        Some(word) => match (fault_named(word), run_fault_named(word)) {
+            (Some(fault), _) => status_of(explain(fault, out), err),
+            (None, Some(fault)) => status_of(explain_run_fault(fault, out), err),
+            (None, None) => {
                 let _ = writeln!(
                     err,
                     "error: no fault has this number or name; 'collectd explain' lists them"
