@@ -1,4 +1,3 @@
-mod failing;
 mod inputs;
 mod plans;
 mod sessions;

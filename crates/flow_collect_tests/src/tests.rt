@@ -3,6 +3,5 @@
 mod calling;
 mod gates;
 mod memory;
-mod serial;
+mod runs;
 mod texts;
-mod threaded;

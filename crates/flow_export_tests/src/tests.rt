@@ -1,7 +1,4 @@
-mod csv_texts;
 mod failing;
-mod ipfix_texts;
-mod json_texts;
 mod memory;
-mod reading;
+mod messages;
 mod tables;

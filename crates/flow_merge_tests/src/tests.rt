@@ -1,5 +1,3 @@
-mod exports;
 mod merging;
-mod row_faults;
-mod row_records;
+mod plans;
 mod rows;

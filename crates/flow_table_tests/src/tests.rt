@@ -1,9 +1,5 @@
-mod added_rows;
 mod calling;
 mod memory;
 mod plans;
-mod readings;
 mod records;
-mod rows;
-mod table_faults;
 mod tables;

@@ -1,5 +1,6 @@
 //! Worked examples of the profile, read, fed and driven.
 
+mod balances;
 mod damage;
 mod driving;
 mod examples;

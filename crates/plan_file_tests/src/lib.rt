@@ -6,3 +6,5 @@
 mod memory;
 #[cfg(test)]
 mod tests;
+#[cfg(test)]
+mod values;

@@ -3,9 +3,8 @@
 ghost use Rattle.std.specs.Prelude.{⊤, IfSome};
 ghost use Rattle.collectd.specs.Runs.{IsUnread};
 
-use super::sessions::{BY_SOURCE, CSV};
+use super::sessions::{BY_SOURCE, CSV, POOL};
 use collectd::{Listener, OpenSource, Opened, run_files, run_merge, run_tcp};
-use flow_collect::Pool;
 use ipfix_session::{ScriptSource, Source};
 use plan_file::read_plan;
 use std::alloc::Global;
@@ -17,11 +16,6 @@ use std::thread::Threads;
 use std::time::Duration;
 use worked_examples::flows::{NEXT_FLOW, ONE_FLOW};
 use worked_examples::values::{EXPORT_ROW, EXPORT_TEMPLATE};
-
-const POOL: Pool = Pool {
-    workers: 2,
-    capacity: 64,
-};
 
 const NO_PROGRESS: Option<Sink> = None;
 
@@ -82,13 +76,13 @@ impl Listener<ScriptSource> for Inputs {
     }
 }
 
-// The status and the texts of a run of these files.
+// What is written by a run of these files, what is told of it, and the status, one behind the other.
 fn run_paths<R: Clock + Threads + Wait + Sync>(
     rt: &R,
     alloc: Global,
     paths: &[&str],
-) -> Result<(u8, Vec<u8>, Vec<u8>), Fail> {
-    let inputs = Inputs { alloc: alloc };
+) -> Result<Vec<u8>, Fail> {
+    let inputs = Inputs { alloc };
     let plan = read_plan(alloc, BY_SOURCE)?;
     let (mut out, mut err) = (Vec::new(alloc), Vec::new(alloc));
     let status = run_files(
@@ -103,63 +97,62 @@ fn run_paths<R: Clock + Threads + Wait + Sync>(
         &mut out,
         &mut err,
     );
-    Ok((status, out, err))
+    joined_with(status, out, &err)
+}
+
+fn joined_with(status: u8, out: Vec<u8>, err: &[u8]) -> Result<Vec<u8>, Fail> {
+    let mut text = out;
+    text.extend_from_slice(err)?;
+    text.push(status.saturating_add(b'0'))?;
+    Ok(text)
 }
 
 #[test]
-fn files_in_memory(rt: HostRuntime) -> Result<(), Fail> {
-    let (status, out, err) = run_paths(&rt, rt.alloc(), &["flows", "cut", "flows"])?;
-    assert_eq!(rt; status, 1);
-    assert_eq!(rt;
-        out.as_slice(),
-        b"start,end,sourceIPv4Address,octetDeltaCount,flows\n0,59999,192.0.2.1,7500,5\n".as_slice()
-    );
-    assert!(rt; err.starts_with(b"collectd: session 2: fault 15 ReadFailed\n"));
+fn collects_files_in_memory(rt: HostRuntime) -> Result<(), Fail> {
+    let text = run_paths(&rt, rt.alloc(), &["flows", "cut", "flows"])?;
+    let want = b"start,end,sourceIPv4Address,octetDeltaCount,flows
+0,59999,192.0.2.1,7500,5
+collectd: session 2: fault 15 ReadFailed
+collectd: records: used 5 options 0 untimed 0 backward 0 unkeyed 0 too_long 0
+1";
+    assert_eq!(rt; text.as_slice(), want.as_slice());
     Ok(())
 }
 
-#[test]
-fn file_that_is_not_there(rt: HostRuntime) -> Result<(), Fail> {
-    let (status, out, err) = run_paths(&rt, rt.alloc(), &["flows", "none", "flows"])?;
-    assert_eq!(rt; status, 2);
-    assert_eq!(rt; out.as_slice(), b"".as_slice());
-    assert_eq!(rt; err.as_slice(), b"collectd: open: none\n".as_slice());
-    Ok(())
-}
-
-/// Two files with the same row.
-#[test]
-fn merged_in_memory(rt: HostRuntime) -> Result<(), Fail> {
-    let inputs = Inputs { alloc: rt.alloc() };
-    let plan = read_plan(rt.alloc(), BY_SOURCE)?;
-    let (mut out, mut err) = (Vec::new(rt.alloc()), Vec::new(rt.alloc()));
+// The same of the merge of two files with the same row.
+fn merged(alloc: Global) -> Result<Vec<u8>, Fail> {
+    let inputs = Inputs { alloc };
+    let plan = read_plan(alloc, BY_SOURCE)?;
+    let (mut out, mut err) = (Vec::new(alloc), Vec::new(alloc));
     let paths = ["export", "export"];
-    let status = run_merge(&inputs, rt.alloc(), &paths, &plan, CSV, &mut out, &mut err);
-    assert_eq!(rt; status, 0);
-    assert_eq!(rt;
-        out.as_slice(),
-        b"start,end,sourceIPv4Address,octetDeltaCount,flows\n0,59999,192.0.2.1,3000,2\n".as_slice()
-    );
-    assert_eq!(rt;
-        err.as_slice(),
-        b"collectd: merged: files 2 rows 1\n".as_slice()
-    );
+    let status = run_merge(&inputs, alloc, &paths, &plan, CSV, &mut out, &mut err);
+    joined_with(status, out, &err)
+}
+
+#[test]
+fn merges_files_in_memory(rt: HostRuntime) -> Result<(), Fail> {
+    let text = merged(rt.alloc())?;
+    let want = b"start,end,sourceIPv4Address,octetDeltaCount,flows
+0,59999,192.0.2.1,3000,2
+collectd: merged: files 2 rows 1
+0";
+    assert_eq!(rt; text.as_slice(), want.as_slice());
     Ok(())
 }
 
-// The status and the texts of three connections with this limit.
+// The same of three connections with this limit.
 fn run_peers<R: Clock + Threads + Wait + Sync>(
     rt: &R,
     alloc: Global,
     idle: Option<Duration>,
-) -> Result<(u8, Vec<u8>, Vec<u8>), Fail> {
-    let inputs = Inputs { alloc: alloc };
+) -> Result<Vec<u8>, Fail> {
+    let inputs = Inputs { alloc };
     let plan = read_plan(alloc, BY_SOURCE)?;
     let (mut out, mut err) = (Vec::new(alloc), Vec::new(alloc));
     let status = run_tcp(
         rt,
         alloc,
-        &inputs,
+        inputs,
         "peers",
         3,
         idle,
@@ -170,25 +163,16 @@ fn run_peers<R: Clock + Threads + Wait + Sync>(
         &mut out,
         &mut err,
     );
-    Ok((status, out, err))
+    joined_with(status, out, &err)
 }
 
 #[test]
-fn connections_in_memory(rt: HostRuntime) -> Result<(), Fail> {
-    let (status, out, _) = run_peers(&rt, rt.alloc(), Some(Duration::from_secs(1)))?;
-    assert_eq!(rt; status, 0);
-    assert_eq!(rt;
-        out.as_slice(),
-        b"start,end,sourceIPv4Address,octetDeltaCount,flows\n0,59999,192.0.2.1,9000,6\n".as_slice()
-    );
-    Ok(())
-}
-
-#[test]
-fn connections_with_no_time(rt: HostRuntime) -> Result<(), Fail> {
-    let (status, out, err) = run_peers(&rt, rt.alloc(), Some(Duration::from_secs(0)))?;
-    assert_eq!(rt; status, 2);
-    assert_eq!(rt; out.as_slice(), b"".as_slice());
-    assert_eq!(rt; err.as_slice(), b"collectd: listen: peers\n".as_slice());
+fn collects_connections_in_memory(rt: HostRuntime) -> Result<(), Fail> {
+    let text = run_peers(&rt, rt.alloc(), Some(Duration::from_secs(1)))?;
+    let want = b"start,end,sourceIPv4Address,octetDeltaCount,flows
+0,59999,192.0.2.1,9000,6
+collectd: records: used 6 options 0 untimed 0 backward 0 unkeyed 0 too_long 0
+0";
+    assert_eq!(rt; text.as_slice(), want.as_slice());
     Ok(())
 }

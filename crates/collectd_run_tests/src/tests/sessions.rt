@@ -1,18 +1,17 @@
-//! Runs of sessions that end well, are cut short, or fail.
-
-ghost use Rattle.std.specs.Prelude.{◌<◌};
+//! Runs of sessions that are in memory: each read of one fails, and each write.
 
 use collectd::{Output, run};
 use flow_collect::Pool;
 use flow_export::Format;
 use ipfix_session::ScriptSource;
 use plan_file::read_plan;
-use std::alloc::Global;
+use std::alloc::{AllocError, Global};
 use std::io::Write;
 use std::sync::Wait;
 use std::test::Fail;
 use std::thread::Threads;
 use worked_examples::flows::{NEXT_FLOW, ONE_FLOW};
+use worked_examples::{FailingWriter, text_of};
 
 pub const BY_SOURCE: &str = "interval_ms = 60000
 method = \"start\"
@@ -25,97 +24,99 @@ pub const CSV: Output = Output {
     time: 0,
 };
 
-// A source of one flow in a message with its template, and the same flow again in a second one.
-pub fn two_flows(
-    alloc: Global,
-    piece: usize,
-    interrupt_at: Option<u64>,
-    fail_at: Option<usize>,
-) -> Result<ScriptSource, Fail>
-    requires { 0 < piece }
-{
-    let mut text = Vec::from_slice(alloc, ONE_FLOW)?;
-    text.extend_from_slice(NEXT_FLOW)?;
-    Ok(ScriptSource::new(text, piece, interrupt_at, fail_at))
-}
+pub const POOL: Pool = Pool {
+    workers: 2,
+    capacity: 64,
+};
 
-// Three sources, of which the second fails after so many octets.
-fn three_sources(
-    alloc: Global,
-    interrupt_at: Option<u64>,
-    fail_at: usize,
-) -> Result<Vec<ScriptSource>, Fail> {
+// Three sources of a flow in each of two messages. The second is interrupted, and then fails after so many
+// octets.
+fn three_sources(alloc: Global, fail_at: usize) -> Result<Vec<ScriptSource>, AllocError> {
+    let interrupt_at = Some((fail_at as u64 / 16).saturating_add(1));
+    let fails = [(None, None), (interrupt_at, Some(fail_at)), (None, None)];
     let mut sources = Vec::new(alloc);
-    sources.push(two_flows(alloc, 7, None, None)?)?;
-    sources.push(two_flows(alloc, 16, interrupt_at, Some(fail_at))?)?;
-    sources.push(two_flows(alloc, 1000, None, None)?)?;
+    for (interrupt_at, fail_at) in fails {
+        let text = text_of(alloc, &[ONE_FLOW, NEXT_FLOW])?;
+        sources.push(ScriptSource::new(text, 16, interrupt_at, fail_at))?;
+    }
     Ok(sources)
 }
 
-// The status and the texts of a run of these sessions by source address, on so many workers and with room
-// for so many parcels in a link.
-pub fn run_by_source<W: Write, R: Threads + Wait + Sync>(
+// What is told of a run of these sessions, and behind it the status.
+fn run_by_source<W: Write, R: Threads + Wait + Sync>(
     rt: &R,
     alloc: Global,
-    sources: Vec<ScriptSource>,
-    (workers, capacity): (usize, usize),
+    fail_at: usize,
     out: &mut W,
-) -> Result<(u8, Vec<u8>), Fail> {
+) -> Result<Vec<u8>, Fail> {
     let plan = read_plan(alloc, BY_SOURCE)?;
-    let pool = Pool { workers, capacity };
+    let sources = three_sources(alloc, fail_at)?;
     let mut err = Vec::new(alloc);
-    let status = run(rt, alloc, sources, &plan, pool, CSV, out, &mut err);
-    Ok((status, err))
+    let status = run(rt, alloc, sources, &plan, POOL, CSV, out, &mut err);
+    err.push(status.saturating_add(b'0'))?;
+    Ok(err)
 }
 
-// What is told of a session that fails, and of so many records.
-fn texts_of(alloc: Global, used: u64) -> Result<String, Fail> {
-    Ok(format!(in alloc;
-        "collectd: session 2: fault 15 ReadFailed
-collectd: records: used {used} options 0 untimed 0 backward 0 unkeyed 0 too_long 0
-"
-    )?)
+// The table and all the rest of such a run.
+fn run_whole<R: Threads + Wait + Sync>(
+    rt: &R,
+    alloc: Global,
+    fail_at: usize,
+) -> Result<Vec<u8>, Fail> {
+    let mut out = Vec::new(alloc);
+    let told = run_by_source(rt, alloc, fail_at, &mut out)?;
+    out.extend_from_slice(&told)?;
+    Ok(out)
 }
 
-fn table_of(alloc: Global, used: u64) -> Result<String, Fail> {
+// What is due if so many records are used.
+fn text_of_run(alloc: Global, used: u64) -> Result<String, AllocError> {
     let sum = used.saturating_mul(1500);
-    Ok(format!(in alloc;
+    format!(in alloc;
         "start,end,sourceIPv4Address,octetDeltaCount,flows
 0,59999,192.0.2.1,{sum},{used}
-"
-    )?)
+collectd: session 2: fault 15 ReadFailed
+collectd: records: used {used} options 0 untimed 0 backward 0 unkeyed 0 too_long 0
+1"
+    )
 }
 
 /// The messages of the session that fails end at 68 and at 112 octets.
 #[test]
 fn each_read_fails(rt: HostRuntime) -> Result<(), Fail> {
     for fail_at in 0..113 {
-        let interrupt_at = Some(1 + fail_at as u64 / 16);
-        let sources = three_sources(rt.alloc(), interrupt_at, fail_at)?;
-        let mut out = Vec::new(rt.alloc());
-        let (status, err) = run_by_source(&rt, rt.alloc(), sources, (2, 64), &mut out)?;
         let used = match fail_at {
             0..68 => 4,
             68..112 => 5,
             _ => 6,
         };
-        assert_eq!(rt; status, 1, "{fail_at}");
-        assert_eq!(rt; out.as_slice(), table_of(rt.alloc(), used)?.as_bytes());
-        assert_eq!(rt; err.as_slice(), texts_of(rt.alloc(), used)?.as_bytes());
+        let text = run_whole(&rt, rt.alloc(), fail_at)?;
+        let want = text_of_run(rt.alloc(), used)?;
+        assert_eq!(rt; text.as_slice(), want.as_bytes(), "{fail_at}");
     }
     Ok(())
 }
 
+const TABLE: &[u8] = b"start,end,sourceIPv4Address,octetDeltaCount,flows
+0,59999,192.0.2.1,9000,6
+";
+
+const WELL: &[u8] = b"collectd: records: used 6 options 0 untimed 0 backward 0 unkeyed 0 too_long 0
+0";
+
+/// Eight writes for the heading and four for the row, of at most seven octets each, and a flush.
 #[test]
-fn no_sources(rt: HostRuntime) -> Result<(), Fail> {
-    let mut out = Vec::from_slice(rt.alloc(), b"before")?;
-    let none = Vec::new(rt.alloc());
-    let (status, err) = run_by_source(&rt, rt.alloc(), none, (1, 1), &mut out)?;
-    assert_eq!(rt; status, 3);
-    assert_eq!(rt; out.as_slice(), b"before".as_slice());
-    assert_eq!(rt;
-        err.as_slice(),
-        b"collectd: collect: fault 2 Sessions\n".as_slice()
-    );
+fn each_write_fails(rt: HostRuntime) -> Result<(), Fail> {
+    for calls in 0..14 {
+        let mut out = FailingWriter::new(rt.alloc(), 7, calls);
+        let told = run_by_source(&rt, rt.alloc(), 1000, &mut out)?;
+        let want = if calls < 13 {
+            b"collectd: export: fault 2 WriteFailed\n3".as_slice()
+        } else {
+            WELL
+        };
+        assert_eq!(rt; told.as_slice(), want, "{calls}");
+        assert!(rt; TABLE.starts_with(out.taken.as_slice()));
+    }
     Ok(())
 }

@@ -56,9 +56,9 @@ fn gives_the_aggregate_of_whole_texts_alone(rt: HostRuntime) -> Result<(), Fail>
     let alloc: Global = rt.alloc();
     let plan = by_source(alloc)?;
     let whole = sources_of(alloc, &[&[FIVE_FLOWS], &[FIVE_FLOWS]])?;
-    let cut = sources_of(alloc, &[&[FIVE_FLOWS], &[VERSION_9]])?;
     let table = whole_aggregate(&rt, alloc, whole, &plan)?.ok_or("a table")?;
-    assert_lines(&rt, alloc, &table, "0,59999,192.0.2.1,30,10;")?;
+    assert_eq!(rt; lines_of(alloc, &table)?.as_str(), "0:192.0.2.1=30,10;");
+    let cut = sources_of(alloc, &[&[FIVE_FLOWS], &[VERSION_9]])?;
     assert!(rt; whole_aggregate(&rt, alloc, cut, &plan)?.is_none());
     Ok(())
 }

@@ -1,76 +1,52 @@
-//! Exports to a writer that fails at each of its calls in turn, and the texts of faults.
+//! Exports to a writer that fails at each of its calls in turn.
+
+ghost use Rattle.flow_table.specs.Fitting.{FitsPlan};
 
 use super::tables::{TIME, by_source, table_of_minutes};
-use flow_export::{ExportFault, write_csv, write_ipfix, write_json};
-use flow_table::Method;
+use flow_export::{ExportFault, Format, write_csv, write_ipfix, write_json};
+use flow_table::{Plan, Table};
+use std::alloc::Global;
 use std::test::Fail;
 use worked_examples::FailingWriter;
 
-#[test]
-fn each_write_of_csv_fails(rt: HostRuntime) -> Result<(), Fail> {
-    let plan = by_source(rt.alloc(), Method::Start, None)?;
-    let table = table_of_minutes(rt.alloc(), &plan, 600)?;
-    let mut text = Vec::new(rt.alloc());
-    write_csv(rt.alloc(), &plan, &table, &mut text)?;
-    for calls in 0..100 {
-        let mut out = FailingWriter::new(rt.alloc(), 1000, calls);
-        let result = write_csv(rt.alloc(), &plan, &table, &mut out);
-        assert!(rt; text.starts_with(out.taken.as_slice()));
-        if out.taken.len() == text.len() {
-            assert!(rt; result.is_ok());
-            return Ok(());
-        }
-        assert_eq!(rt; result.err(), Some(ExportFault::WriteFailed));
-    }
-    panic!(rt; "it doesn't end");
+// What a writer took that fails after so many calls, and the number of the fault, or 0.
+fn written(alloc: Global, plan: &Plan, table: &Table, format: Format, calls: u64) -> (Vec<u8>, u8)
+    requires { FitsPlan plan.now table.now }
+{
+    let mut out = FailingWriter::new(alloc, 1000, calls);
+    let result = match format {
+        Format::Csv => write_csv(alloc, plan, table, &mut out),
+        Format::Json => write_json(alloc, plan, table, &mut out),
+        Format::Ipfix => write_ipfix(alloc, plan, table, TIME, &mut out),
+    };
+    let FailingWriter { taken, .. } = out;
+    (taken, result.err().map_or(0, |fault| fault.number()))
 }
 
-#[test]
-fn each_write_of_ipfix_fails(rt: HostRuntime) -> Result<(), Fail> {
-    let plan = by_source(rt.alloc(), Method::Start, None)?;
-    let table = table_of_minutes(rt.alloc(), &plan, 600)?;
-    let mut octets = Vec::new(rt.alloc());
-    write_ipfix(rt.alloc(), &plan, &table, TIME, &mut octets)?;
-    for calls in 0..100 {
-        let mut out = FailingWriter::new(rt.alloc(), 1000, calls);
-        let result = write_ipfix(rt.alloc(), &plan, &table, TIME, &mut out);
-        assert!(rt; octets.starts_with(out.taken.as_slice()));
-        if out.taken.len() == octets.len() {
-            assert!(rt; result.is_ok());
-            return Ok(());
-        }
-        assert_eq!(rt; result.err(), Some(ExportFault::WriteFailed));
-    }
-    panic!(rt; "it doesn't end");
-}
-
-#[test]
-fn each_write_of_json_fails(rt: HostRuntime) -> Result<(), Fail> {
-    let plan = by_source(rt.alloc(), Method::Start, None)?;
-    let table = table_of_minutes(rt.alloc(), &plan, 600)?;
-    let mut text = Vec::new(rt.alloc());
-    write_json(rt.alloc(), &plan, &table, &mut text)?;
+// How many calls fail one by one, each after the beginning of the text, before the text is whole. 0 if
+// one of them does something else.
+fn count_failing_calls(alloc: Global, format: Format) -> Result<u64, Fail> {
+    let plan = by_source(alloc)?;
+    let table = table_of_minutes(alloc, &plan, 600)?;
+    let (whole, _) = written(alloc, &plan, &table, format, u64::MAX);
     for calls in 0..200 {
-        let mut out = FailingWriter::new(rt.alloc(), 1000, calls);
-        let result = write_json(rt.alloc(), &plan, &table, &mut out);
-        assert!(rt; text.starts_with(out.taken.as_slice()));
-        if out.taken.len() == text.len() {
-            assert!(rt; result.is_ok());
-            return Ok(());
+        let (taken, fault) = written(alloc, &plan, &table, format, calls);
+        if fault == 0 && taken.len() == whole.len() {
+            return Ok(calls);
         }
-        assert_eq!(rt; result.err(), Some(ExportFault::WriteFailed));
+        if fault != 2 || !whole.starts_with(taken.as_slice()) {
+            break;
+        }
     }
-    panic!(rt; "it doesn't end");
+    Ok(0)
 }
 
+// At most a thousand octets a call: the texts have more than twenty thousand.
 #[test]
-fn faults(rt: HostRuntime) {
-    for (fault, number, name) in [
-        (ExportFault::OutOfMemory, 1, "OutOfMemory"),
-        (ExportFault::WriteFailed, 2, "WriteFailed"),
-        (ExportFault::TooManyRows, 3, "TooManyRows"),
-    ] {
-        assert_eq!(rt; fault.number(), number);
-        assert_eq!(rt; fault.name(), name);
+fn each_write_of_an_export_fails(rt: HostRuntime) -> Result<(), Fail> {
+    for format in [Format::Csv, Format::Json, Format::Ipfix] {
+        assert!(rt; count_failing_calls(rt.alloc(), format)? > 20);
     }
+    assert_eq!(rt; ExportFault::TooManyRows.name(), "TooManyRows");
+    Ok(())
 }

@@ -1,11 +1,13 @@
 //! What is answered where memory runs out: `tests/gate/refusals` refuses each allocation of
 //! these calls in turn.
 
-use super::tables::{TIME, by_source, table_of_flows};
-use flow_export::{ExportFault, ipfix_bytes, write_csv, write_ipfix, write_json};
-use flow_table::Method;
+ghost use Rattle.flow_table.specs.Fitting.{FitsPlan};
+
+use super::tables::{TIME, by_source, table_of_minutes};
+use flow_export::{Format, ipfix_bytes, write_csv, write_ipfix, write_json};
+use flow_table::{Plan, Table};
+use std::alloc::Global;
 use std::io::{self, ErrorKind, Write};
-use std::process::Abort;
 use std::test::*;
 
 const CSV: &[u8] = b"start,end,sourceIPv4Address,octetDeltaCount,flows
@@ -44,41 +46,61 @@ impl Write for Expecting {
     }
 }
 
-// That an export is right, or that memory ran out, as a word.
-fn judged(rt: &impl Abort, fault: Option<ExportFault>, is_right: bool) -> &'static str {
-    match fault {
-        None => {
-            assert!(rt; is_right);
-            "right"
+// `right` if an export wrote what it should, `OutOfMemory` if it answers so, and else `wrong`.
+fn written(
+    alloc: Global,
+    plan: &Plan,
+    table: &Table,
+    format: Format,
+    rest: &'static [u8],
+) -> &'static str
+    requires { FitsPlan plan.now table.now }
+{
+    let mut out = Expecting { rest };
+    let result = match format {
+        Format::Csv => write_csv(alloc, plan, table, &mut out),
+        Format::Json => write_json(alloc, plan, table, &mut out),
+        Format::Ipfix => write_ipfix(alloc, plan, table, TIME, &mut out),
+    };
+    match result {
+        Ok(()) if out.rest.is_empty() => "right",
+        Ok(()) => "wrong",
+        Err(fault) => fault.name(),
+    }
+}
+
+// The same of the octets of an export.
+fn made(alloc: Global, plan: &Plan, table: &Table) -> &'static str
+    requires { FitsPlan plan.now table.now }
+{
+    match ipfix_bytes(alloc, plan, table, TIME) {
+        Ok(octets) => {
+            if octets.as_slice() == IPFIX {
+                "right"
+            } else {
+                "wrong"
+            }
         }
-        Some(fault) => {
-            assert_eq!(rt; fault, ExportFault::OutOfMemory);
-            "OutOfMemory"
-        }
+        Err(fault) => fault.name(),
     }
 }
 
 #[test]
 fn exports_with_refused_memory(rt: HostRuntime) -> Result<(), Fail> {
     let alloc = rt.alloc();
-    let plan = by_source(alloc, Method::Start, None)?;
-    let table = table_of_flows(alloc, &plan, &[(1000, 2000, 1, 1500)])?;
-    let mut out = Expecting { rest: CSV };
-    let fault = write_csv(alloc, &plan, &table, &mut out).err();
-    let word = judged(&rt, fault, out.rest.is_empty());
-    let _ = eprintln!(rt; "write_csv: {word}");
-    let mut out = Expecting { rest: JSON };
-    let fault = write_json(alloc, &plan, &table, &mut out).err();
-    let word = judged(&rt, fault, out.rest.is_empty());
-    let _ = eprintln!(rt; "write_json: {word}");
-    let mut out = Expecting { rest: IPFIX };
-    let fault = write_ipfix(alloc, &plan, &table, TIME, &mut out).err();
-    let word = judged(&rt, fault, out.rest.is_empty());
-    let _ = eprintln!(rt; "write_ipfix: {word}");
-    let word = match ipfix_bytes(alloc, &plan, &table, TIME) {
-        Ok(octets) => judged(&rt, None, octets.as_slice() == IPFIX),
-        Err(fault) => judged(&rt, Some(fault), false),
-    };
-    let _ = eprintln!(rt; "ipfix_bytes: {word}");
+    let plan = by_source(alloc)?;
+    let table = table_of_minutes(alloc, &plan, 1)?;
+    let csv = written(alloc, &plan, &table, Format::Csv, CSV);
+    let json = written(alloc, &plan, &table, Format::Json, JSON);
+    let ipfix = written(alloc, &plan, &table, Format::Ipfix, IPFIX);
+    for (name, word) in [
+        ("write_csv", csv),
+        ("write_json", json),
+        ("write_ipfix", ipfix),
+        ("ipfix_bytes", made(alloc, &plan, &table)),
+    ] {
+        assert!(rt; matches!(word, "right" | "OutOfMemory"), "{name}: {word}");
+        let _ = eprintln!(rt; "{name}: {word}");
+    }
     Ok(())
 }

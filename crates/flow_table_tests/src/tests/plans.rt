@@ -1,231 +1,191 @@
+//! Plans: what they keep, what makes none, and the shares of a flow.
+
+use super::records::by_source;
 use flow_table::{Key, Method, Plan, PlanFault, share};
 use ipfix_wire::ElementId;
-use std::alloc::Global;
+use std::alloc::{AllocError, Global};
 use std::test::Fail;
 
-fn key(number: u16) -> Key {
-    Key {
-        element: ElementId::iana(number),
-        prefix: None,
+/// The number of a key's element, and its prefix.
+type KeyPair = (u16, Option<u8>);
+
+/// 192.0.2.0/24 in place of an address.
+const NETWORK: KeyPair = (8, Some(24));
+
+fn keys_of(alloc: Global, pairs: &[KeyPair]) -> Result<Vec<Key>, AllocError> {
+    let mut keys = Vec::new(alloc);
+    for (number, prefix) in pairs {
+        keys.push(Key {
+            element: ElementId::iana(*number),
+            prefix: *prefix,
+        })?;
     }
+    Ok(keys)
 }
 
-fn prefix_key(number: u16, bits: u8) -> Key {
-    Key {
-        element: ElementId::iana(number),
-        prefix: Some(bits),
+fn elements_of(alloc: Global, numbers: &[u16]) -> Result<Vec<ElementId>, AllocError> {
+    let mut elements = Vec::new(alloc);
+    for number in numbers {
+        elements.push(ElementId::iana(*number))?;
     }
+    Ok(elements)
 }
 
-// Why keys and counters make no plan of a minute's intervals.
-fn fault(alloc: Global, keys: &[Key], counters: &[ElementId]) -> Option<PlanFault> {
-    Plan::new(alloc, 60_000, Method::Start, keys, counters, 4096).err()
+fn plan_of(
+    alloc: Global,
+    length: u32,
+    keys: &[KeyPair],
+    counters: &[u16],
+    max_spread: u32,
+) -> Result<Plan, PlanFault> {
+    let keys = keys_of(alloc, keys)?;
+    let counters = elements_of(alloc, counters)?;
+    Plan::new(alloc, length, Method::Mid, &keys, &counters, max_spread)
 }
 
-// The octets of each source address, minute by minute.
-fn by_source(alloc: Global, method: Method) -> Result<Plan, PlanFault> {
-    Plan::new(
-        alloc,
-        60_000,
-        method,
-        &[key(8)],
-        &[ElementId::iana(1)],
-        4096,
-    )
-}
-
-#[test]
-fn keeps_its_arguments(rt: HostRuntime) -> Result<(), Fail> {
-    let plan = by_source(rt.alloc(), Method::Mid)?;
-    assert_eq!(rt;
-        (plan.length(), plan.method(), plan.max_spread()),
-        (60_000, Method::Mid, 4096)
-    );
-    assert_eq!(rt;
-        (plan.keys(), plan.counters()),
-        ([key(8)].as_slice(), [ElementId::iana(1)].as_slice())
-    );
-    Ok(())
-}
-
-#[test]
-fn compares_by_value(rt: HostRuntime) -> Result<(), Fail> {
-    let one = by_source(rt.alloc(), Method::Start)?;
-    let same = one.copy(rt.alloc())?;
-    let other = by_source(rt.alloc(), Method::End)?;
-    let keys = [prefix_key(8, 32)];
-    let counters = [ElementId::iana(1)];
-    let prefixed = Plan::new(rt.alloc(), 60_000, Method::Start, &keys, &counters, 4096)?;
-    assert_eq!(rt;
-        [one == same, one == other, one == prefixed],
-        [true, false, false]
-    );
-    Ok(())
+// The name of the fault of these arguments.
+fn fault_of(
+    alloc: Global,
+    length: u32,
+    keys: &[KeyPair],
+    counters: &[u16],
+    max_spread: u32,
+) -> &'static str {
+    match plan_of(alloc, length, keys, counters, max_spread) {
+        Ok(_) => "none",
+        Err(fault) => fault.name(),
+    }
 }
 
 #[test]
 fn refuses_lengths_and_spreads(rt: HostRuntime) {
     for (length, max_spread, want) in [
-        (0, 4096, Some(PlanFault::Length)),
-        (60_000, 0, Some(PlanFault::Spread)),
-        (60_000, 4097, Some(PlanFault::Spread)),
-        (0, 0, Some(PlanFault::Length)),
-        (1, 1, None),
-        (u32::MAX, 4096, None),
+        (0, 4096, "Length"),
+        (60_000, 0, "Spread"),
+        (60_000, 4097, "Spread"),
+        (0, 0, "Length"),
+        (1, 1, "none"),
+        (u32::MAX, 4096, "none"),
     ] {
-        let keys = [key(8)];
-        let plan = Plan::new(
-            rt.alloc(),
-            length,
-            Method::Start,
-            &keys,
-            &[ElementId::iana(1)],
-            max_spread,
-        );
-        assert_eq!(rt; plan.err(), want, "at {length} and {max_spread}");
+        let fault = fault_of(rt.alloc(), length, &[NETWORK], &[1], max_spread);
+        assert_eq!(rt; fault, want, "at {length} and {max_spread}");
     }
+    assert_eq!(rt; PlanFault::Spread.number(), 2);
 }
 
-// A key of this number of an enterprise.
-fn enterprise_key(number: u16) -> Key {
-    Key {
-        element: ElementId { pen: 32473, number },
-        prefix: None,
-    }
-}
+const EIGHT: [KeyPair; 8] = [
+    (4, None),
+    (5, None),
+    (6, None),
+    (7, None),
+    (8, None),
+    (9, None),
+    (10, None),
+    (11, None),
+];
 
+// A prefix comes after all kinds, and before the counters.
 #[test]
 fn refuses_keys(rt: HostRuntime) {
-    let nine = [4, 5, 6, 7, 8, 9, 10, 11, 12].map(key);
-    let cases: [(&[Key], Option<PlanFault>); 9] = [
-        (&nine, Some(PlanFault::KeyCount)),
-        (&nine[..8], None),
-        (&[key(152)], Some(PlanFault::KeyKind)),
-        (&[enterprise_key(8)], Some(PlanFault::KeyKind)),
-        (&[key(1)], Some(PlanFault::Repeated)),
-        (&[key(8), key(8)], Some(PlanFault::Repeated)),
-        (&[key(8), key(44)], None),
-        (&[key(27), key(56)], None),
-        (&[], None),
+    let cases: [(&[KeyPair], &[u16], &str); 14] = [
+        (&EIGHT, &[1], "none"),
+        (&[], &[1], "none"),
+        (&[(152, None)], &[1], "KeyKind"),
+        (&[(8, Some(33)), (152, None)], &[1], "KeyKind"),
+        (&[(8, Some(33))], &[], "Prefix"),
+        (&[(7, Some(8))], &[1], "Prefix"),
+        (&[NETWORK, (8, Some(16))], &[1], "Repeated"),
+        (&[NETWORK, (44, None)], &[1], "Repeated"),
+        (&[(12, Some(24)), (45, None)], &[1], "Repeated"),
+        (&[NETWORK, (45, None)], &[1], "none"),
+        (&[(8, Some(32)), (12, Some(0))], &[1], "none"),
+        (&[(8, None), (8, None)], &[1], "Repeated"),
+        (&[(1, None)], &[1], "Repeated"),
+        (&[(27, None), (56, None)], &[1], "none"),
     ];
-    for (keys, want) in cases {
-        assert_eq!(rt; fault(rt.alloc(), keys, &[ElementId::iana(1)]), want);
+    for (keys, counters, want) in cases {
+        let fault = fault_of(rt.alloc(), 60_000, keys, counters, 4096);
+        assert_eq!(rt; fault, want);
     }
 }
 
 #[test]
 fn refuses_counters(rt: HostRuntime) {
-    let five = [1, 2, 3, 23, 24].map(ElementId::iana);
-    let cases: [(&[ElementId], Option<PlanFault>); 6] = [
-        (&[], Some(PlanFault::CounterCount)),
-        (&five, Some(PlanFault::CounterCount)),
-        (&five[..4], None),
-        (&[ElementId::iana(4)], Some(PlanFault::CounterKind)),
-        (
-            &[ElementId::iana(1), ElementId::iana(1)],
-            Some(PlanFault::Repeated),
-        ),
-        (
-            &[
-                ElementId::iana(24),
-                ElementId::iana(132),
-                ElementId::iana(133),
-            ],
-            None,
-        ),
+    let cases: [(&[u16], &str); 6] = [
+        (&[], "CounterCount"),
+        (&[1, 2, 3, 23, 24], "CounterCount"),
+        (&[1, 2, 3, 23], "none"),
+        (&[4], "CounterKind"),
+        (&[1, 1], "Repeated"),
+        (&[24, 132, 133], "none"),
     ];
     for (counters, want) in cases {
-        assert_eq!(rt; fault(rt.alloc(), &[key(8)], counters), want);
+        let fault = fault_of(rt.alloc(), 60_000, &[NETWORK], counters, 4096);
+        assert_eq!(rt; fault, want);
     }
 }
 
-// A prefix comes after all kinds, and before the counters.
 #[test]
-fn refuses_prefixes(rt: HostRuntime) {
-    let cases: [(&[Key], Option<PlanFault>); 11] = [
-        (&[prefix_key(8, 33)], Some(PlanFault::Prefix)),
-        (&[prefix_key(7, 8)], Some(PlanFault::Prefix)),
-        (&[prefix_key(8, 33), key(152)], Some(PlanFault::KeyKind)),
-        (
-            &[prefix_key(8, 24), prefix_key(8, 16)],
-            Some(PlanFault::Repeated),
-        ),
-        (&[prefix_key(8, 24), key(44)], Some(PlanFault::Repeated)),
-        (&[prefix_key(12, 24), key(45)], Some(PlanFault::Repeated)),
-        (&[prefix_key(8, 24), key(45)], None),
-        (&[prefix_key(8, 0), prefix_key(12, 0)], None),
-        (&[prefix_key(8, 24), prefix_key(12, 24)], None),
-        (&[prefix_key(8, 25), prefix_key(12, 25)], None),
-        (&[prefix_key(8, 32), prefix_key(12, 32)], None),
-    ];
-    for (keys, want) in cases {
-        assert_eq!(rt; fault(rt.alloc(), keys, &[ElementId::iana(1)]), want);
-    }
-    let prefix = Some(PlanFault::Prefix);
-    assert_eq!(rt; fault(rt.alloc(), &[prefix_key(8, 33)], &[]), prefix);
-}
-
-#[test]
-fn a_prefix_is_exported_as_its_own_element(rt: HostRuntime) {
-    assert_eq!(rt; prefix_key(8, 24).exported_element(), ElementId::iana(44));
-    assert_eq!(rt; prefix_key(12, 24).exported_element(), ElementId::iana(45));
-    assert_eq!(rt; key(8).exported_element(), ElementId::iana(8));
-}
-
-/// A flow's start and how long it lasts, in milliseconds, and its value.
-type Flow = (u32, u32, u64);
-
-// The shares that the first four intervals and the last one have of a flow's value.
-fn shares_of(alloc: Global, method: Method, flow: Flow) -> Result<[u64; 5], Fail> {
-    let plan = by_source(alloc, method)?;
-    let (start, length, value) = flow;
-    let start = u64::from(start);
-    let end = start + u64::from(length);
-    Ok([
-        share(&plan, start, end, value, 0),
-        share(&plan, start, end, value, 1),
-        share(&plan, start, end, value, 2),
-        share(&plan, start, end, value, 3),
-        share(&plan, start, end, value, u64::MAX),
-    ])
-}
-
-#[test]
-fn shares_follow_the_method(rt: HostRuntime) -> Result<(), Fail> {
-    let two = (59_000, 2000, 7);
-    let three = (0, 120_000, 1);
-    let most = (0, 119_999, u64::MAX);
-    let half = 9_223_372_036_854_775_807;
-    for (method, flow, want) in [
-        (Method::Start, two, [7, 0, 0, 0, 0]),
-        (Method::End, two, [0, 7, 0, 0, 0]),
-        (Method::Mid, two, [0, 7, 0, 0, 0]),
-        (Method::Uniform, two, [4, 3, 0, 0, 0]),
-        (Method::Proportional, two, [3, 4, 0, 0, 0]),
-        (Method::End, (0, 60_000, 5), [0, 5, 0, 0, 0]),
-        (Method::Uniform, three, [1, 0, 0, 0, 0]),
-        (Method::Proportional, three, [0, 0, 1, 0, 0]),
-        (Method::Proportional, most, [half, half + 1, 0, 0, 0]),
-        (Method::Proportional, (59_999, 0, 5), [5, 0, 0, 0, 0]),
-    ] {
-        assert_eq!(rt; shares_of(rt.alloc(), method, flow)?, want);
-    }
+fn a_plan_keeps_its_arguments(rt: HostRuntime) -> Result<(), Fail> {
+    let plan = plan_of(rt.alloc(), 1000, &[NETWORK], &[2, 1], 7)?;
+    let copy = plan.copy(rt.alloc())?;
+    let other = by_source(rt.alloc(), Method::Mid)?;
+    assert_eq!(rt; [plan == copy, plan == other], [true, false]);
+    assert_eq!(rt;
+        (copy.length(), copy.method(), copy.max_spread()),
+        (1000, Method::Mid, 7)
+    );
+    assert_eq!(rt;
+        (copy.keys().len(), copy.kinds().len(), copy.counters().len()),
+        (1, 1, 2)
+    );
     Ok(())
 }
 
 #[test]
-fn plan_faults_have_numbers_and_names(rt: HostRuntime) {
-    for (fault, number, name) in [
-        (PlanFault::Length, 1, "Length"),
-        (PlanFault::Spread, 2, "Spread"),
-        (PlanFault::KeyCount, 3, "KeyCount"),
-        (PlanFault::KeyKind, 4, "KeyKind"),
-        (PlanFault::CounterCount, 5, "CounterCount"),
-        (PlanFault::CounterKind, 6, "CounterKind"),
-        (PlanFault::Repeated, 7, "Repeated"),
-        (PlanFault::OutOfMemory, 8, "OutOfMemory"),
-        (PlanFault::Prefix, 9, "Prefix"),
-    ] {
-        assert_eq!(rt; (fault.number(), fault.name()), (number, name));
+fn a_prefix_is_exported_as_its_own_element(rt: HostRuntime) -> Result<(), Fail> {
+    let pairs = [(8, None), NETWORK, (12, Some(24))];
+    let keys = keys_of(rt.alloc(), &pairs)?;
+    for (key, number) in keys.iter().zip([8, 44, 45]) {
+        assert_eq!(rt; key.exported_element().number, number);
     }
+    Ok(())
+}
+
+// The shares that the first three intervals have of a flow's value.
+fn shares_of(plan: &Plan, start: u32, length: u32, value: u64) -> [u64; 3] {
+    let start = u64::from(start);
+    let end = start + u64::from(length);
+    [
+        share(plan, start, end, value, 0),
+        share(plan, start, end, value, 1),
+        share(plan, start, end, value, 2),
+    ]
+}
+
+#[test]
+fn shares_follow_the_method(rt: HostRuntime) -> Result<(), Fail> {
+    let half = 9_223_372_036_854_775_807;
+    for (method, start, length, value, want) in [
+        (Method::Start, 59_000, 2000, 7, [7, 0, 0]),
+        (Method::End, 59_000, 2000, 7, [0, 7, 0]),
+        (Method::Mid, 59_000, 2000, 7, [0, 7, 0]),
+        (Method::Uniform, 59_000, 2000, 7, [4, 3, 0]),
+        (Method::Proportional, 59_000, 2000, 7, [3, 4, 0]),
+        (Method::End, 0, 60_000, 5, [0, 5, 0]),
+        (Method::Uniform, 0, 120_000, 1, [1, 0, 0]),
+        (Method::Proportional, 0, 120_000, 1, [0, 0, 1]),
+        (
+            Method::Proportional,
+            0,
+            119_999,
+            u64::MAX,
+            [half, half + 1, 0],
+        ),
+        (Method::Proportional, 59_999, 0, 5, [5, 0, 0]),
+    ] {
+        let plan = by_source(rt.alloc(), method)?;
+        assert_eq!(rt; shares_of(&plan, start, length, value), want);
+    }
+    Ok(())
 }
