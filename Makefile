@@ -1,5 +1,7 @@
 # The proved program, its gate, its cost. `rt`, the toolchain's command, is on the PATH.
 PREFIX = /usr/local
+# (the folder of zsh's completions: Debian has one of its own for what has PREFIX=/usr)
+ZSH = $(if $(and $(filter /usr,$(PREFIX)),$(wildcard /etc/debian_version)),vendor-completions,site-functions)
 
 bin/collectd: crates.txt HANDLES $(shell find crates \( -name out -o -name must-fail \) -prune -o -type f -print)
 	@build/program
@@ -28,7 +30,10 @@ scale: bin/collectd ; @tests/more/scale
 
 install: bin/collectd
 	install -D bin/collectd $(DESTDIR)$(PREFIX)/bin/collectd
-	cd share && find . -type f -exec install -D -m 644 {} $(abspath $(DESTDIR)$(PREFIX))/share/{} ';'
+	cd share && find . -type f ! -path './zsh/*' -exec install -D -m 644 {} $(abspath $(DESTDIR)$(PREFIX))/share/{} ';'
+	install -D -m 644 -t $(DESTDIR)$(PREFIX)/share/zsh/$(ZSH) share/zsh/site-functions/_collectd
+	install -D -t $(DESTDIR)$(PREFIX)/lib/collectd examples/collect_rounds
+	install -D -t $(DESTDIR)$(PREFIX)/lib/collectd/scale scale/*
 
 dist: bin/collectd ; @packaging/dist
 
