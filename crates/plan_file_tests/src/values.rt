@@ -43,12 +43,7 @@ fn tells_what_makes_no_plan(rt: HostRuntime) -> Result<(), Fail> {
             octets,
             "sourceIPv4Address/8 of keys",
         ),
-        (
-            "",
-            "'e0.2', 'e0.1'",
-            octets,
-            "octetDeltaCount of counters",
-        ),
+        ("", "'e0.2', 'e0.1'", octets, "octetDeltaCount of counters"),
     ] {
         let text = plan_with(rt.alloc(), more, keys, counters)?;
         assert_eq!(rt; place(rt.alloc(), text.as_str())?.as_str(), want);
