@@ -2,6 +2,7 @@
 
 mod calling;
 mod gates;
+mod meeting;
 mod memory;
 mod runs;
 mod texts;

@@ -16,8 +16,8 @@ use worked_examples::text_of;
 /// A wait gives up after so many turns.
 const TURNS: u32 = 1_000_000;
 
-// Waits until the number is at least so large. False if that didn't come.
-fn wait_for(number: &AtomicU64, least: u64) -> bool {
+/// Waits until the number is at least so large. False if that didn't come.
+pub fn wait_for(number: &AtomicU64, least: u64) -> bool {
     for _ in 0..TURNS {
         if number.load(Ordering::SeqCst) >= least {
             return true;
@@ -27,9 +27,9 @@ fn wait_for(number: &AtomicU64, least: u64) -> bool {
     false
 }
 
-// The rows of what was collected by source address, with so many workers and room for so many parcels in
-// a link, and how many sessions had a fault.
-fn collected<S: Source + Send + Drop, G: Gate + Sync, R: Threads + Wait + Sync>(
+/// The rows of what was collected by source address, with so many workers and room for so many parcels
+/// in a link, and how many sessions had a fault.
+pub fn collected<S: Source + Send + Drop, G: Gate + Sync, R: Threads + Wait + Sync>(
     rt: &R,
     alloc: Global,
     sources: Vec<S>,
