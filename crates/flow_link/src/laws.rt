@@ -5,6 +5,7 @@ ghost use Rattle.ipfix_message.specs.declared.record.DataRecord.{DataRecord};
 ghost use Rattle.flow_link.specs.declared.parcel.Parcel.{Parcel};
 ghost use Rattle.flow_link.specs.declared.parcel.Parcel.TheVariants.{Last};
 ghost use Rattle.flow_link.specs.Parcels.{has_last, items, records_in, LastEnds};
+ghost use Rattle.flow_link.specs.declared.making.TheConstants.{MAX_CAPACITY};
 
 /// A session that was sent whole is its records as items, and then Last.
 pub fn whole_sessions()
@@ -16,4 +17,9 @@ pub fn whole_sessions()
     // Any list in which Last stands, at the end alone, is such a session.
     ensures only { (parcels : List Parcel) → LastEnds parcels → has_last parcels ≡ true
         → parcels ≡ items (records_in parcels) ++ Last ∷ [] }
+{}
+
+/// A link has room for at most 65,536 parcels.
+pub fn limits()
+    ensures { MAX_CAPACITY ≡ 65536 }
 {}

@@ -1,5 +1,5 @@
 -- The information elements that are known by name (IANA, "IPFIX Information Elements"; RFC 7012, section 5).
-use Rattle.std.specs.Prelude.{ℕ, ◌==◌, List, [], ◌∷◌, find, codes, Option, None, option_map, if◌then◌else◌}
+use Rattle.std.specs.Prelude.{◌≡◌, ℕ, ◌==◌, List, [], ◌∷◌, find, codes, Option, Some, None, option_map, if◌then◌else◌}
 use Rattle.std.specs.Option.{option_map_or}
 use Rattle.ipfix_wire.specs.declared.specifier.ElementId.{ElementId}
 use Rattle.ipfix_elements.specs.declared.kind.Width.TheVariants.{One, Two, Four, Eight}
@@ -84,3 +84,7 @@ kind_of e = option_map_or (λ r. r.kind) (entry_of e) Octets
 -- the element of an entry
 abbrev pub listed : Entry → ElementId
 listed r = iana r.number
+
+-- a constant is the number of an element of IANA's registry that has this name and kind
+abbrev pub IsKnownAs : ℕ → ℕ → List ℕ → Kind → Type 0
+IsKnownAs constant number name kind = (constant ≡ number) × (entry_of (iana number) ≡ Some (element number name kind))

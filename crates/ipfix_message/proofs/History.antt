@@ -6,13 +6,16 @@ use Rattle.std.proofs.lemmas.Bool.Decides.{eqb_tells}
 use Rattle.std.specs.BTreeMap.{BTreeMap}
 use Rattle.std.proofs.lemmas.Map.Made.{lookup-map_values}
 use Rattle.std.proofs.lemmas.Map.Entries.{length-keys_of}
-use Rattle.std.proofs.lemmas.Bool.{ltb-false, le-ltb, lt-ltb}
+use Rattle.std.proofs.lemmas.Bool.{ltb-false, le-ltb, lt-ltb, eqb-true}
 use Rattle.std.proofs.lemmas.List.{map-append}
 use Rattle.ipfix_message.specs.declared.fault.MessageFault.{MessageFault}
 use Rattle.ipfix_message.specs.declared.fault.MessageFault.TheVariants.{MessageLength, TooManyDomains}
 use Rattle.ipfix_message.specs.declared.record.Template.{Template}
 use Rattle.ipfix_message.specs.declared.template_record.Event.{Event}
 use Rattle.ipfix_wire.specs.declared.header.Header.{Header}
+use Rattle.ipfix_wire.specs.declared.fault.WireFault.{WireFault}
+use Rattle.ipfix_wire.proofs.Headers.{read}
+use Rattle.ipfix_message.specs.Faults.{fault_of}
 use Rattle.ipfix_wire.specs.MessageHeader.{header_at}
 use Rattle.ipfix_message.specs.declared.message.Decoded.{Decoded}
 use Rattle.ipfix_message.specs.Outcome.{◌>>=◌, Fails}
@@ -112,7 +115,7 @@ admit-full es ds domain stands new full =
     rw (is_some-history es ds domain stands ∙ new, long) refl
 
 -- a look-up in joined entries
-lookup-append : {X : Type 0} (test : ℕ → Bool) (xs ys : List (ℕ × X)) → lookup test xs ≡ None → lookup test (xs ++ ys) ≡ lookup test ys
+pub lookup-append : {X : Type 0} (test : ℕ → Bool) (xs ys : List (ℕ × X)) → lookup test xs ≡ None → lookup test (xs ++ ys) ≡ lookup test ys
 lookup-append test [] ys h = refl
 lookup-append test (x ∷ xs) ys h = by_test (test x.0) h (λ g. lookup-append test xs ys g)
   where
@@ -120,7 +123,7 @@ lookup-append test (x ∷ xs) ys h = by_test (test x.0) h (λ g. lookup-append t
     by_test true g rest = absurd cc
     by_test false g rest = rest g
 
-lookup-front : {X : Type 0} (test : ℕ → Bool) (xs ys : List (ℕ × X)) (v : X) → lookup test xs ≡ Some v → lookup test (xs ++ ys) ≡ Some v
+pub lookup-front : {X : Type 0} (test : ℕ → Bool) (xs ys : List (ℕ × X)) (v : X) → lookup test xs ≡ Some v → lookup test (xs ++ ys) ≡ Some v
 lookup-front test [] ys v h = absurd cc
 lookup-front test (x ∷ xs) ys v h = by_test (test x.0) h (λ g. lookup-front test xs ys v g)
   where
@@ -128,7 +131,7 @@ lookup-front test (x ∷ xs) ys v h = by_test (test x.0) h (λ g. lookup-front t
     by_test true g rest = g
     by_test false g rest = rest g
 
-keys_of-append : {X : Type 0} (xs ys : List (ℕ × X)) → keys_of (xs ++ ys) ≡ keys_of xs ++ keys_of ys
+pub keys_of-append : {X : Type 0} (xs ys : List (ℕ × X)) → keys_of (xs ++ ys) ≡ keys_of xs ++ keys_of ys
 keys_of-append [] ys = refl
 keys_of-append (x ∷ xs) ys = ap (λ (ks : List ℕ). x.0 ∷ ks) (keys_of-append xs ys)
 
@@ -178,7 +181,7 @@ none_is (Some x) h = absurd cc
 
 -- ---- a domain's entries after a message
 
-keys_of-set_value : {X : Type 0} (test : ℕ → Bool) (xs : List (ℕ × X)) (w : X) → keys_of (set_value test xs w) ≡ keys_of xs
+pub keys_of-set_value : {X : Type 0} (test : ℕ → Bool) (xs : List (ℕ × X)) (w : X) → keys_of (set_value test xs w) ≡ keys_of xs
 keys_of-set_value test [] w = refl
 keys_of-set_value test (x ∷ xs) w = by_test (test x.0) (keys_of-set_value test xs w)
   where
@@ -195,10 +198,10 @@ kept-set_value test (e ∷ es) m = by_test (test e.0) (kept-set_value test es m)
     by_test false rest = ap (λ (xs : List (ℕ × List (ℕ × Template))). (e.0, e.1.entries) ∷ xs) rest
 
 -- the new value at the domain, and each other domain's as it was
-abbrev put : {X : Type 0} → X → Bool → Option X → Option X
+abbrev pub put : {X : Type 0} → X → Bool → Option X → Option X
 put w b o = cond b (option_map (λ _. w) o) o
 
-lookup-set_value : {X : Type 0} (q domain : ℕ) (xs : List (ℕ × X)) (w : X) → lookup (eqb q) (set_value (eqb domain) xs w) ≡ put w (eqb q domain) (lookup (eqb q) xs)
+pub lookup-set_value : {X : Type 0} (q domain : ℕ) (xs : List (ℕ × X)) (w : X) → lookup (eqb q) (set_value (eqb domain) xs w) ≡ put w (eqb q domain) (lookup (eqb q) xs)
 lookup-set_value q domain [] w = by_test (eqb q domain)
   where
     by_test : (b : Bool) → None ≡ put w b None
@@ -273,13 +276,30 @@ gives_sets ds m h known es read is admitted are sets =
 pub was_admitted : (ds : History) (m : List ℕ) (h : Header) (es : List (ℕ × List (ℕ × Template))) → message_header m ≡ Ok h → Admits (Ok tt) es (admit ds h.domain) → IsAdmitted ds m
 was_admitted ds m h es is admitted = record { header = h; good = is; domain = rw admitted.1 refl }
 
-pub header_is_whole : (m : List ℕ) (h : Header) → message_header m ≡ Ok h → 16 ≤ length m
-unfolding message_header
-header_is_whole m h is =
-    elim (chosen (ltb (length m) 16) (Err MessageLength) (of_wire (header_at m) >>= λ k. cond (eqb k.length (length m)) (Ok k) (Err MessageLength)) (Ok h) is) [
-      | inl t ↦ absurd cc
-      | inr f ↦ ltb-false (length m) 16 f.0
+-- a message's header is the one that is read, and its length is that of the message
+header_was : (m : List ℕ) (o : Result Header WireFault) (h : Header) → header_at m ≡ o → (of_wire o >>= λ k. cond (eqb k.length (length m)) (Ok k) (Err MessageLength)) ≡ Ok h → (header_at m ≡ read h) × (h.length ≡ length m)
+header_was m (Ok k) h is e =
+    elim (chosen (eqb k.length (length m)) (Ok k) (Err MessageLength) (Ok h) e) [
+      | inl t ↦
+          let same = ok_is k h t.1 in
+          (is ∙ ap (λ (y : Header). read y) same, ap (λ (y : Header). y.length) (sym same) ∙ eqb-true k.length (length m) t.0)
+      | inr f ↦ absurd (not_both h MessageLength (sym f.1))
     ]
+header_was m (Err w) h is e = absurd (not_both h (fault_of w) (sym e))
+
+pub header_is : (m : List ℕ) (h : Header) → message_header m ≡ Ok h → (16 ≤ length m) × (header_at m ≡ read h) × (h.length ≡ length m)
+unfolding message_header
+header_is m h good =
+    elim (chosen (ltb (length m) 16) (Err MessageLength) (of_wire (header_at m) >>= λ k. cond (eqb k.length (length m)) (Ok k) (Err MessageLength)) (Ok h) good) [
+      | inl t ↦ absurd (not_both h MessageLength (sym t.1))
+      | inr f ↦ let was = header_was m (header_at m) h refl f.1 in (ltb-false (length m) 16 f.0, was.0, was.1)
+    ]
+
+pub header_is_whole : (m : List ℕ) (h : Header) → message_header m ≡ Ok h → 16 ≤ length m
+header_is_whole m h good = (header_is m h good).0
+
+pub header_has_length : (m : List ℕ) (h : Header) → message_header m ≡ Ok h → h.length ≡ length m
+header_has_length m h good = (header_is m h good).2
 
 pub bad_header : (e : MessageFault) (ds : History) (m : List ℕ) → Fails e (message_header m) → Fails e (message_gives ds m)
 bad_header e ds m fails = Fails-of e (message_header m) (message_gives ds m) (λ f is. gives_header ds m (Err f) is) fails
@@ -323,6 +343,12 @@ pub template_for-some : (xs : List (ℕ × BTreeMap ℕ Template)) (ds : History
 template_for-some xs ds domain id m stands some =
     sym (stands.templates domain id)
     ∙ ap (λ (o : Option (List (ℕ × Template))). option_and_then (λ entries. template_in entries id) o) (lookup-kept domain xs ∙ ap (option_map (λ (x : BTreeMap ℕ Template). x.entries)) some)
+
+-- the templates of a domain, where it is kept
+pub templates_for : (xs : List (ℕ × BTreeMap ℕ Template)) (ds : History) (domain id : ℕ) (o : Option (BTreeMap ℕ Template)) → StandsFor (kept xs) ds → lookup (eqb domain) xs ≡ o
+    → option_and_then (λ (m : BTreeMap ℕ Template). template_in m.entries id) o ≡ template_for ds domain id
+templates_for xs ds domain id None stands e = sym (template_for-none xs ds domain id stands e)
+templates_for xs ds domain id (Some m) stands e = sym (template_for-some xs ds domain id m stands e)
 
 -- no domains stand for none
 pub stands-none : StandsFor [] []

@@ -3,6 +3,7 @@ pub mod FieldValues
 pub mod RecordFields
 pub mod Bodies
 pub mod SpecReading
+pub mod WritableTemplates
 pub mod Same
 pub mod FieldSpecifiers
 pub mod TemplateRecords
@@ -15,3 +16,5 @@ pub mod RecordOctets
 pub mod SpelledFields
 pub mod LayingOut
 pub mod Layouts
+pub mod Alikes
+pub mod PartsOf

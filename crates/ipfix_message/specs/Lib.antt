@@ -5,11 +5,13 @@ pub mod Fields
 pub mod SpelledFields
 pub mod FieldViews
 pub mod DataRecords
+pub mod WrittenTemplates
 pub mod TemplateRecords
 pub mod TemplatesInForce
 pub mod Sets
 pub mod Messages
 pub mod Domains
+pub mod Alike
 -- What only inner functions and proofs need.
 pub mod Layouts
 pub mod SetRecords

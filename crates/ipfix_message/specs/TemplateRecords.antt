@@ -1,4 +1,5 @@
 -- Template records and options template records (RFC 7011, sections 3.4.1, 3.4.2 and 8.1).
+pub use Rattle.ipfix_message.specs.WrittenTemplates.{set_id_of, IsScope, scope_octets}
 use Rattle.std.specs.Prelude.{◌≡◌, ℕ, zero, suc, ◌^◌, ◌<◌, ◌≤◌, ◌⊎◌, Bool, ◌||◌, nat_lt, ◌==◌, if◌then◌else◌, List, [], ◌∷◌, ◌++◌, length, drop, Option, Some, None, Ok, Err}
 use Rattle.std.specs.List.{All, list_all}
 use Rattle.std.specs.Result.{result_err}
@@ -6,7 +7,7 @@ use Rattle.byteorder.specs.Endian.{big_bytes, big_number}
 use Rattle.ipfix_wire.specs.Numbers.{number_at}
 use Rattle.ipfix_wire.specs.FieldSpecifier.{SpellsSpec, spec_at}
 use Rattle.ipfix_wire.specs.InTurn.{InTurn, Parts, parts_of}
-use Rattle.ipfix_wire.specs.declared.set.TheConstants.{TEMPLATE_SET_ID, OPTIONS_TEMPLATE_SET_ID, FIRST_TEMPLATE_ID}
+use Rattle.ipfix_wire.specs.declared.set.TheConstants.{FIRST_TEMPLATE_ID}
 use Rattle.ipfix_wire.specs.declared.specifier.Spec.{Spec}
 use Rattle.ipfix_message.specs.declared.fault.MessageFault.{MessageFault}
 use Rattle.ipfix_message.specs.declared.fault.MessageFault.TheVariants.{TemplateId, TemplateCut, Scope, ZeroLength}
@@ -19,22 +20,7 @@ use Rattle.ipfix_message.specs.declared.template_record.Event.TheVariants.{Defin
 use Rattle.ipfix_message.specs.Outcome.{Read, ◌>>=◌}
 use Rattle.ipfix_message.specs.DataRecords.{least}
 
--- the id of the sets that bring templates of a kind
-abbrev pub set_id_of : TemplateKind → ℕ
-set_id_of Plain = TEMPLATE_SET_ID
-set_id_of Options = OPTIONS_TEMPLATE_SET_ID
-
 -- ---- what spells a template record
-
--- the count of scope fields: at least one and at most all; a plain template has none
-abbrev pub IsScope : TemplateKind → ℕ → ℕ → Type 0
-IsScope Plain scope count = scope ≡ 0
-IsScope Options scope count = (1 ≤ scope) × (scope ≤ count)
-
--- an options template record writes that count, a plain one does not
-abbrev pub scope_octets : TemplateKind → ℕ → List ℕ
-scope_octets Plain scope = []
-scope_octets Options scope = big_bytes 2 scope
 
 -- w spells the definition of a template: its id, the count of its fields, that of its scope fields, and one field
 -- specifier after another, by which a record has at least one octet

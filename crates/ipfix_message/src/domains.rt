@@ -1,6 +1,8 @@
 //! The domains of a transport session, which decode its messages (RFC 7011, sections 3.1 and 8).
 
-ghost use Rattle.std.specs.Prelude.{[], ◌≡◌, false, true, IsTrue, IsErrOf, OnOk, OnErr, Ok, Err, None, option_copied};
+ghost use Rattle.std.specs.Prelude.{[], ◌≡◌, false, true, IsTrue, ℕ, IsErrOf, OnOk, OnErr, Ok, Err, None, option_copied, option_and_then};
+ghost use Rattle.std.specs.Ordering.{nat_cmp};
+ghost use Rattle.std.specs.BTreeMap.{get};
 ghost use Rattle.ipfix_message.specs.Domains.{History, StandsFor, Decodes, IsAdmitted, message_header, message_gives, template_for};
 ghost use Rattle.ipfix_message.specs.declared.fault.MessageFault.TheVariants.{OutOfMemory, Spent};
 
@@ -108,5 +110,20 @@ impl Domains {
         let templates = self.known.get(&domain)?;
         let known = templates.get(&id)?;
         Some(known.template())
+    }
+
+    /// The templates that are in force in a domain, by their ids. `None` for a domain that has not
+    /// appeared, and after a fault. Each can be written again
+    /// ([`TemplateInForce::to_write`](crate::TemplateInForce::to_write)).
+    pub fn templates(&self, domain: u32) -> Option<&Templates>
+        ensures spent { IsTrue self.now.spent → result ≡ None }
+        ensures found { self.now.spent ≡ false → (ds : History) → StandsFor self.now.domains ds
+            → (id : ℕ) → option_and_then (λ t. get nat_cmp t id) (option_copied result)
+            ≡ template_for ds domain id }
+    {
+        if self.spent {
+            return None;
+        }
+        self.known.get(&domain)
     }
 }

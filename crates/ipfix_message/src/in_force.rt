@@ -7,6 +7,7 @@ ghost use Rattle.ipfix_message.specs.Outcome.{Gives};
 ghost use Rattle.ipfix_message.specs.TemplatesInForce.{is_none_of, unless_of, event_gives, template_set_gives};
 ghost use Rattle.ipfix_message.specs.Held.{Agrees, defining, Updates};
 ghost use Rattle.ipfix_message.specs.declared.template_record.Event.{Event};
+ghost use Rattle.ipfix_message.specs.declared.template_record.TheConstants.{LONGEST_BODY};
 
 use crate::fault::MessageFault;
 use crate::template_in_force::{Definition, TemplateInForce};
@@ -85,6 +86,7 @@ pub fn take_templates(
     body: &[u8],
     templates: &mut Templates,
 ) -> Result<u64, MessageFault>
+    requires { length body.now ≤ LONGEST_BODY }
     ensures few { IfOk result (λ n. n ≤ length body.now) }
     ensures gives { (es : List Event) → Agrees templates.old.entries es
         → Updates result templates.new.entries (template_set_gives kind es body.now) }

@@ -4,6 +4,7 @@
 ghost use Rattle.std.specs.Prelude.{◌≡◌, ◌<◌, ◌↔◌, ℕ, List, Some, None, Ok, Err, All, length};
 ghost use Rattle.ipfix_wire.specs.Numbers.{IsOctets};
 ghost use Rattle.ipfix_wire.specs.declared.specifier.Spec.{Spec};
+ghost use Rattle.ipfix_message.specs.Alike.{SameMessage, IsPartOf, knows};
 ghost use Rattle.ipfix_message.specs.Fields.{Field};
 ghost use Rattle.ipfix_message.specs.DataRecords;
 ghost use Rattle.ipfix_message.specs.DataRecords.{IsBody, HasOctets, records_of_body};
@@ -16,6 +17,7 @@ ghost use Rattle.ipfix_message.specs.TemplatesInForce.{IsInForce, in_force};
 ghost use Rattle.ipfix_message.specs.declared.record.Template.{Template};
 ghost use Rattle.ipfix_message.specs.Sets.{Set, SpellsSet, next_set, sets_of, fault_after_sets};
 ghost use Rattle.ipfix_message.specs.declared.fault.MessageFault.{MessageFault};
+ghost use Rattle.ipfix_message.specs.declared.message.TheConstants.{MAX_DOMAINS};
 
 /// A body is read as the one list of records that it is the spelling of, up to padding.
 pub fn one_body()
@@ -66,4 +68,19 @@ pub fn last_definition()
 pub fn records_of_octets()
     ensures { (ds : History) (m : List ℕ) (x : Message) → IsOctets m
         → message_gives ds m ≡ Ok x → All HasOctets x.decoding.records }
+{}
+
+/// A session has at most 1,024 observation domains.
+pub fn limits()
+    ensures { MAX_DOMAINS ≡ 1024 }
+{}
+
+/// What a message gives depends on the messages before it only through the templates in force: if the
+/// domains of one history are some of another's, with the same templates in force in each, then a
+/// message of a domain that both know, or neither, gives the same after both, and so do those after it.
+pub fn templates_are_enough()
+    ensures { (fs ds : History) (m : List ℕ) (x : Message) → IsPartOf fs ds
+        → message_gives ds m ≡ Ok x → knows fs x.header.domain ≡ knows ds x.header.domain
+        → (y : Message) × (message_gives fs m ≡ Ok y) × SameMessage x y
+        × IsPartOf y.domains x.domains }
 {}

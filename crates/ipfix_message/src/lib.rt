@@ -20,11 +20,15 @@ mod set_body;
 mod sets;
 mod template_in_force;
 mod template_record;
+mod written_template;
 
 pub use domains::Domains;
 pub use fault::MessageFault;
 pub use field_block::Fields;
 pub use field_iter::{FieldIter, FieldRef};
+pub use in_force::Templates;
 pub use message::Decoded;
 pub use passed_over::PassedOver;
 pub use record::{DataRecord, Specs, Template};
+pub use template_in_force::TemplateInForce;
+pub use written_template::append_template;

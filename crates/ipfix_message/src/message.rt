@@ -1,6 +1,6 @@
 //! A message: its header, its domain and its sets (RFC 7011, section 3.1).
 
-ghost use Rattle.std.specs.Prelude.{◌≡◌, nat_eq, List, Ok, IsOk, IsErrOf, OnOk, IsSome};
+ghost use Rattle.std.specs.Prelude.{◌≡◌, ◌≤◌, ◌+◌, nat_eq, List, length, drop, Ok, IsOk, IsErrOf, OnOk, IsSome};
 ghost use Rattle.indexmap.specs.IndexMap.{get};
 ghost use Rattle.ipfix_message.specs.Domains;
 ghost use Rattle.ipfix_message.specs.Domains.{History, StandsFor, Decodes, IsAdmitted, message_gives, passed_over_of};
@@ -8,6 +8,8 @@ ghost use Rattle.ipfix_message.specs.Held.{Admits};
 ghost use Rattle.ipfix_message.specs.Outcome.{Gives};
 ghost use Rattle.ipfix_message.specs.declared.fault.MessageFault.TheVariants.{OutOfMemory};
 ghost use Rattle.ipfix_message.specs.Kept.{kept};
+ghost use Rattle.ipfix_message.specs.declared.template_record.TheConstants.{LONGEST_BODY};
+ghost use Rattle.ipfix_wire.specs.declared.set.TheConstants.{SET_HEADER_LENGTH};
 
 use crate::fault::MessageFault;
 use crate::in_force::Templates;
@@ -89,6 +91,17 @@ impl Decoded {
     }
 }
 
+// The octets behind a message's header, which gives the message's length in 16 bits.
+#[tactic(auto, using(crate::proofs::History::header_is_whole, crate::proofs::History::header_has_length))]
+fn behind_header<'a>(header: &Header, message: &'a [u8]) -> &'a [u8]
+    requires { Domains.message_header message.now ≡ Ok header.now }
+    ensures octets { result.now ≡ drop HEADER_LENGTH message.now }
+    ensures room { length result.now ≤ SET_HEADER_LENGTH + LONGEST_BODY }
+{
+    let length = usize::from(header.length);
+    &message[HEADER_LENGTH..length]
+}
+
 /// Reads a message that has this header, in a session that has these domains.
 #[tactic(auto, using(crate::proofs::History::header_is_whole))]
 pub fn read_message(
@@ -112,6 +125,11 @@ pub fn read_message(
         ignored_withdrawals: 0,
     };
     let templates = known.get_mut(&header.domain).unwrap();
-    take_sets(alloc, &message[HEADER_LENGTH..], templates, &mut decoded)?;
+    take_sets(
+        alloc,
+        behind_header(header, message),
+        templates,
+        &mut decoded,
+    )?;
     Ok(decoded)
 }

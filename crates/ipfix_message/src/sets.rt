@@ -1,6 +1,7 @@
 //! The sets of a message in turn (RFC 7011, section 3.3).
 
-ghost use Rattle.std.specs.Prelude.{◌≡◌, ◌+◌, ◌<◌, ◌≤◌, ◌^◌, length, OnOk};
+ghost use Rattle.std.specs.Prelude.{◌≡◌, ◌+◌, ◌<◌, ◌≤◌, ◌^◌, length, IfOk, OnOk};
+ghost use Rattle.ipfix_message.specs.declared.template_record.TheConstants.{LONGEST_BODY};
 ghost use Rattle.ipfix_message.specs.Outcome.{Gives};
 ghost use Rattle.ipfix_message.specs.Sets;
 ghost use Rattle.ipfix_message.specs.Messages;
@@ -22,8 +23,10 @@ use std::alloc::Global;
 #[tactic(auto, unfolding(crate::specs::Sets::next_set))]
 fn next_set(rest: &[u8]) -> Result<((u16, &[u8]), &[u8]), MessageFault>
     requires { 0 < length rest.now }
-    ensures { Gives (λ x. (record { id = x.0.0; body = x.0.1.now }, x.1.now)) result
+    ensures exact { Gives (λ x. (record { id = x.0.0; body = x.0.1.now }, x.1.now)) result
         (Sets.next_set rest.now) }
+    ensures room { IfOk result (λ x.
+        SET_HEADER_LENGTH + length x.0.1.now + length x.1.now ≡ length rest.now) }
 {
     let span = read_set(rest)?;
     let (_, rest) = rest.split_at(SET_HEADER_LENGTH);
@@ -39,7 +42,8 @@ fn take_template_set(
     templates: &mut Templates,
     decoded: &mut Decoded,
 ) -> Result<(), MessageFault>
-    requires { counted decoded.old + length body.now < 2 ^ 64 }
+    requires few { counted decoded.old + length body.now < 2 ^ 64 }
+    requires room { length body.now ≤ LONGEST_BODY }
     ensures few { OnOk result (counted decoded.new ≤ counted decoded.old + length body.now) }
     ensures header { decoded.new.header ≡ decoded.old.header }
     ensures gives { (d : Decoding) → Holds templates.old.entries decoded.old d
@@ -84,7 +88,8 @@ fn take_set(
     templates: &mut Templates,
     decoded: &mut Decoded,
 ) -> Result<(), MessageFault>
-    requires { counted decoded.old + length body.now + 1 < 2 ^ 64 }
+    requires few { counted decoded.old + length body.now + 1 < 2 ^ 64 }
+    requires room { length body.now ≤ LONGEST_BODY }
     ensures few { OnOk result (counted decoded.new ≤ counted decoded.old + length body.now + 1) }
     ensures header { decoded.new.header ≡ decoded.old.header }
     ensures gives { (d : Decoding) → Holds templates.old.entries decoded.old d
@@ -110,7 +115,8 @@ pub fn take_sets(
     templates: &mut Templates,
     decoded: &mut Decoded,
 ) -> Result<(), MessageFault>
-    requires { counted decoded.old + length octets.now < 2 ^ 64 }
+    requires few { counted decoded.old + length octets.now < 2 ^ 64 }
+    requires room { length octets.now ≤ SET_HEADER_LENGTH + LONGEST_BODY }
     ensures header { decoded.new.header ≡ decoded.old.header }
     ensures gives { (d : Decoding) → Holds templates.old.entries decoded.old d
         → Reaches result templates.new.entries decoded.new

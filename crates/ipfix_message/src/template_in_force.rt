@@ -1,8 +1,9 @@
 //! Templates as they are defined, and in force (RFC 7011, section 8).
 
-ghost use Rattle.std.specs.Prelude.{◌≡◌, ◌<◌, ◌^◌, ◌↔◌, length, IsTrue, IfOk};
+ghost use Rattle.std.specs.Prelude.{◌≡◌, ◌<◌, ◌↔◌, IsTrue, IfOk};
 ghost use Rattle.std.specs.Arc.{arc_value};
 ghost use Rattle.ipfix_message.specs.DataRecords;
+ghost use Rattle.ipfix_message.specs.WrittenTemplates.{IsTemplate};
 ghost use Rattle.ipfix_message.specs.TemplatesInForce;
 
 use crate::laid_out::LaidOut;
@@ -22,23 +23,24 @@ pub struct Definition {
 }
 
 impl Model for Definition {
-    ghost use Rattle.std.specs.Prelude.{◌≡◌, ◌<◌, ◌^◌, length};
+    ghost use Rattle.std.specs.Prelude.{◌≡◌, ◌<◌};
     ghost use Rattle.ipfix_message.specs.declared.record.Template.{Template};
     ghost use Rattle.ipfix_message.specs.DataRecords;
+    ghost use Rattle.ipfix_message.specs.WrittenTemplates.{IsTemplate};
 
     ghost Value = { Template };
 
     ghost view = { λ d. d.template };
 
     ghost invariant = { λ d. (d.least ≡ DataRecords.least d.template.specs) × (0 < d.least)
-        × (length d.template.specs < 2 ^ 16) };
+        × IsTemplate d.template };
 }
 
 impl Definition {
     pub fn new(template: Template, least: usize) -> Self
         requires sum { least ≡ DataRecords.least template.specs }
         requires positive { 0 < least }
-        requires few { length template.specs < 2 ^ 16 }
+        requires writable { IsTemplate template }
         ensures { result ≡ template }
     {
         Definition { template, least }
@@ -75,13 +77,15 @@ impl Model for TemplateInForce {
     ghost use Rattle.std.specs.Arc.{arc_value};
     ghost use Rattle.ipfix_message.specs.declared.record.Template.{Template};
     ghost use Rattle.ipfix_message.specs.DataRecords;
+    ghost use Rattle.ipfix_message.specs.WrittenTemplates.{IsTemplate};
 
     ghost Value = { Template };
 
     ghost view = { λ k. arc_value k.template };
 
     ghost invariant = { λ k. (k.least ≡ DataRecords.least (arc_value k.template).specs)
-        × (0 < k.least) };
+        × (0 < k.least)
+        × IsTemplate (arc_value k.template) };
 }
 
 impl TemplateInForce {
@@ -94,9 +98,21 @@ impl TemplateInForce {
         Ok(TemplateInForce { template, least })
     }
 
+    /// The template.
     pub fn template(&self) -> &Template
         ensures { result.now ≡ self.now }
     {
+        self.laid_out().template()
+    }
+
+    /// The template, which can be written again: [`append_template`](crate::append_template) takes it,
+    /// and a message has room for it.
+    pub fn to_write(&self) -> &Template
+        ensures same { result.now ≡ self.now }
+        ensures writable { IsTemplate self.now }
+    {
+        // A proof knows the invariant once a field is read.
+        let _least = self.least;
         self.laid_out().template()
     }
 
@@ -122,6 +138,7 @@ impl TemplateInForce {
         self.least
     }
 
+    /// Whether it is a template of this kind: an options template has scope fields.
     pub fn is_of(&self, kind: TemplateKind) -> bool
         ensures { result ≡ TemplatesInForce.is_of kind self.now }
     {

@@ -1,10 +1,12 @@
 //! Template records: definitions and withdrawals (RFC 7011, sections 3.4.1, 3.4.2 and 8.1).
 
-ghost use Rattle.std.specs.Prelude.{◌≡◌, ◌==◌, ◌≤◌, ◌<◌, ◌^◌, length, vec_len, IfOk};
+ghost use Rattle.std.specs.Prelude.{◌≡◌, ◌==◌, ◌+◌, ◌≤◌, ◌<◌, ◌^◌, length, vec_len, flat_map, All, IfOk};
 ghost use Rattle.std.specs.List.{list_all};
 ghost use Rattle.ipfix_message.specs.Outcome.{Gives};
 ghost use Rattle.ipfix_message.specs.DataRecords;
 ghost use Rattle.ipfix_message.specs.TemplateRecords;
+ghost use Rattle.ipfix_wire.specs.FieldSpecifier.{spec_octets};
+ghost use Rattle.ipfix_message.specs.WrittenTemplates.{IsScope, IsSpec, scope_octets};
 ghost use Rattle.ipfix_message.specs.TemplateRecords.{set_id_of, scope_at, specs_at, event_at};
 
 use crate::fault::MessageFault;
@@ -19,6 +21,10 @@ use std::alloc::Global;
 // Octets of the id and the field count, with which each template record begins (RFC 7011, section
 // 3.4.1).
 const TEMPLATE_HEADER_LENGTH: usize = 4;
+
+/// The most octets of a set's body: a message has at most 65,535, of which 16 are its header and 4 the
+/// set's.
+pub const LONGEST_BODY: usize = 65515;
 
 /// The two kinds of template.
 #[derive(Clone, Copy, Debug, PartialEq, Eq)]
@@ -81,7 +87,11 @@ pub fn is_padding(rest: &[u8]) -> bool
 
 // The scope field count, which only an options template record has, and what follows it.
 fn scope_of(kind: TemplateKind, count: u16, rest: &[u8]) -> Result<(u16, &[u8]), MessageFault>
-    ensures { Gives (λ x. (x.0, x.1.now)) result (scope_at kind count rest.now) }
+    ensures exact { Gives (λ x. (x.0, x.1.now)) result (scope_at kind count rest.now) }
+    ensures scoped { IfOk result (λ x. IsScope kind x.0 count) }
+    // it is written again in no more octets
+    ensures room { IfOk result (λ x.
+        length (scope_octets kind x.0) + length x.1.now ≤ length rest.now) }
 {
     match kind {
         TemplateKind::Plain => Ok((0, rest)),
@@ -103,6 +113,9 @@ fn scope_of(kind: TemplateKind, count: u16, rest: &[u8]) -> Result<(u16, &[u8]),
 fn specs_of(alloc: Global, count: u16, octets: &[u8]) -> Result<(Vec<Spec>, &[u8]), MessageFault>
     ensures exact { Gives (λ x. (x.0.items, x.1.now)) result (specs_at count octets.now) }
     ensures count { IfOk result (λ x. vec_len x.0 ≡ count) }
+    ensures each { IfOk result (λ x. All IsSpec x.0.items) }
+    // they are written again in no more octets
+    ensures room { IfOk result (λ x. length (flat_map spec_octets x.0.items) + length x.1.now ≤ length octets.now) }
 {
     let mut specs = Vec::new(alloc);
     let mut rest = octets;
@@ -118,13 +131,14 @@ fn specs_of(alloc: Global, count: u16, octets: &[u8]) -> Result<(Vec<Spec>, &[u8
 }
 
 /// The template record that `octets` begins with, and what follows it.
-#[tactic(auto, unfolding(crate::specs::TemplateRecords::event_at), using(std::proofs::lemmas::List::take_rest))]
+#[tactic(auto, unfolding(crate::specs::TemplateRecords::event_at), using(std::proofs::lemmas::List::take_rest, crate::proofs::WritableTemplates::is_template))]
 pub fn event_of(
     alloc: Global,
     kind: TemplateKind,
     octets: &[u8],
 ) -> Result<(Event, &[u8]), MessageFault>
-    requires { TEMPLATE_HEADER_LENGTH ≤ length octets.now }
+    requires long { TEMPLATE_HEADER_LENGTH ≤ length octets.now }
+    requires room { length octets.now ≤ LONGEST_BODY }
     ensures { Gives (λ x. (x.0, x.1.now)) result (event_at kind octets.now) }
 {
     let id = BigEndian::read_u16(octets);

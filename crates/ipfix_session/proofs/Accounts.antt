@@ -13,8 +13,8 @@ use Rattle.ipfix_message.specs.declared.passed_over.PassedOver.{PassedOver}
 use Rattle.ipfix_session.specs.declared.report.DomainReport.{DomainReport}
 use Rattle.ipfix_session.specs.declared.account.Account.{Account}
 use Rattle.ipfix_session.specs.declared.report.DomainBalance.{DomainBalance}
-use Rattle.ipfix_session.specs.Ledger.{capped, count_in, sequence_behind, due_after, gap, lost_at, backward_at, lost_between, backward_between, sum_neighbours, messages_of, first_appearances, domains_of, domain_report}
-use Rattle.ipfix_session.specs.Accounts.{unsure_after, unaccounted_at, of_last, account_of, accounts_of, account_after, report_of, balance_of}
+use Rattle.ipfix_session.specs.Ledger.{capped, count_in, sequence_behind, due_after, gap, lost_at, backward_at, lost_between, backward_between, sum_neighbours, of_last, messages_of, first_appearances, domains_of, domain_report}
+use Rattle.ipfix_session.specs.Accounts.{unsure_after, unaccounted_at, account_of, accounts_of, account_after, report_of, balance_of}
 use Rattle.ipfix_session.specs.Balances.{unaccounted_between, domain_balance}
 use Rattle.ipfix_session.specs.Reports.{passed_over_in}
 use Rattle.ipfix_session.specs.Tallies.{added_up}
@@ -27,7 +27,7 @@ neighbours-push f after g none is [] m = omega (arith, none m.header.sequence)
 neighbours-push f after g none is (x ∷ []) m = omega (arith, is x m)
 neighbours-push f after g none is (x ∷ y ∷ ys) m = omega (arith, neighbours-push f after g none is (y ∷ ys) m)
 
-of_last-push : (after : Message → Option ℕ) (xs : List Message) (m : Message) → of_last after (xs ++ m ∷ []) ≡ after m
+pub of_last-push : (after : Message → Option ℕ) (xs : List Message) (m : Message) → of_last after (xs ++ m ∷ []) ≡ after m
 of_last-push after [] m = refl
 of_last-push after (x ∷ []) m = refl
 of_last-push after (x ∷ y ∷ ys) m = of_last-push after (y ∷ ys) m

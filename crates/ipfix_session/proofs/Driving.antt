@@ -57,14 +57,14 @@ one_counted : (old was now n : ℕ) (b : Bool) → ltb was (2 ^ 64 - 1) ≡ b �
 one_counted old was now n true e is h = let less = ltb-true was (2 ^ 64 - 1) e in inl (omega arith)
 one_counted old was now n false e is h = let most = ltb-false was (2 ^ 64 - 1) e in inr (omega arith)
 
-counted_on : (old was now n : ℕ) → now ≡ one_more was → (was ≡ old + n) ⊎ (was ≡ 2 ^ 64 - 1) → (now ≡ old + (n + 1)) ⊎ (now ≡ 2 ^ 64 - 1)
+pub counted_on : (old was now n : ℕ) → now ≡ one_more was → (was ≡ old + n) ⊎ (was ≡ 2 ^ 64 - 1) → (now ≡ old + (n + 1)) ⊎ (now ≡ 2 ^ 64 - 1)
 counted_on old was now n is h =
     elim h [
       | inl e ↦ one_counted old was now n (ltb was (2 ^ 64 - 1)) refl is e
       | inr e ↦ inr (omega arith)
     ]
 
-tells_none : (n : ℕ) (buffer : List ℕ) (b : Bool) → eqb n 0 ≡ b → (n ≡ 0 → ⊥) → tells_end (Ok n) buffer ≡ false
+pub tells_none : (n : ℕ) (buffer : List ℕ) (b : Bool) → eqb n 0 ≡ b → (n ≡ 0 → ⊥) → tells_end (Ok n) buffer ≡ false
 tells_none n buffer true e some = absurd (some (eqb-true n 0 e))
 tells_none n buffer false e some = ap (λ b. b && nat_lt 0 (length buffer)) e
 
@@ -121,7 +121,7 @@ stops_at seen view most n before now after first last s d gave piece few is fits
       size = fits;
     }
 
-read_fits : (most n : ℕ) (buffer : List ℕ) → n ≤ length buffer → length buffer ≤ most → length (take n buffer) ≤ most
+pub read_fits : (most n : ℕ) (buffer : List ℕ) → n ≤ length buffer → length buffer ≤ most → length (take n buffer) ≤ most
 read_fits most n buffer fits room = let taken = length-take-le n buffer fits in omega (arith, taken, fits, room)
 
 -- ---- what is told
@@ -239,11 +239,11 @@ drives_still seen view limit most n before now after first last s o told d octet
 
 -- ---- the end of the source
 
-told_end : (was now : Bool) (n : ℕ) (buffer : List ℕ) → now ≡ (was || tells_end (Ok n) buffer) → n ≡ 0 → 0 < length buffer → now ≡ true
+pub told_end : (was now : Bool) (n : ℕ) (buffer : List ℕ) → now ≡ (was || tells_end (Ok n) buffer) → n ≡ 0 → 0 < length buffer → now ≡ true
 told_end true now n buffer is zero room = is
 told_end false now n buffer is zero room = is ∙ ap (λ m. (m == 0) && nat_lt 0 (length buffer)) zero ∙ lt-ltb 0 (length buffer) room
 
-due_at : (limit : ℕ) (before after : SourceView) (gave : List ℕ) (s : Stop) → stop_of gave ≡ s → IsOpen s → after.ended ≡ true → after.failed ≡ before.failed → IsDue (fault_at_end s) limit gave before after
+pub due_at : (limit : ℕ) (before after : SourceView) (gave : List ℕ) (s : Stop) → stop_of gave ≡ s → IsOpen s → after.ended ≡ true → after.failed ≡ before.failed → IsDue (fault_at_end s) limit gave before after
 due_at limit before after gave Clean is is_open end same = (is, end, same)
 due_at limit before after gave Short is is_open end same = (is, end, same)
 due_at limit before after gave (Fault e) is is_open end same = absurd is_open

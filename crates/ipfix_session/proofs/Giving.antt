@@ -89,7 +89,7 @@ one_before x xs (Some e) ds ms = refl
 abbrev with_one : Message → List Message × Option MessageFault → List Message × Option MessageFault
 with_one x r = (x ∷ r.0, r.1)
 
-give-append : (ds : History) (ms ns : List (List ℕ)) → messages_give ds (ms ++ ns) ≡ read_then (messages_give ds ms).0 (messages_give ds ms).1 ds ns
+pub give-append : (ds : History) (ms ns : List (List ℕ)) → messages_give ds (ms ++ ns) ≡ read_then (messages_give ds ms).0 (messages_give ds ms).1 ds ns
 give-append ds [] ns = sym (ap (λ (r : List Message × Option MessageFault). read_then r.0 r.1 ds ns) (give-none ds))
 give-append ds (m ∷ ms) ns =
     elim (cases_read (message_gives ds m)) [

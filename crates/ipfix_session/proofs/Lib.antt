@@ -1,8 +1,11 @@
 pub mod Cut
 mod Counting
 pub mod Giving
+pub mod Chains
+pub mod Texts
 pub mod Moves
 pub mod Accounts
+pub mod Ledgers
 pub mod Places
 pub mod Balances
 pub mod Reaching

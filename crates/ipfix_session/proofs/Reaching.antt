@@ -59,7 +59,7 @@ tells_delivered c delivered more ms d t on =
 
 -- ---- one more message
 
-known_after-push : (ds : History) (ms : List Message) (x : Message) → known_after ds (ms ++ x ∷ []) ≡ x.domains
+pub known_after-push : (ds : History) (ms : List Message) (x : Message) → known_after ds (ms ++ x ∷ []) ≡ x.domains
 known_after-push ds [] x = refl
 known_after-push ds (m ∷ ms) x = known_after-push m.domains ms x
 
@@ -111,7 +111,7 @@ ends_out view old text left before now c news domains r tells =
     }
 
 -- the text stops behind the messages that were put
-stops_there : (text left : List ℕ) (whole : List Message) (s : Stop) → gives text ≡ behind whole (gives_after (known_after [] whole) left) → gives_after (known_after [] whole) left ≡ stops s
+pub stops_there : (text left : List ℕ) (whole : List Message) (s : Stop) → gives text ≡ behind whole (gives_after (known_after [] whole) left) → gives_after (known_after [] whole) left ≡ stops s
     → gives text ≡ record { messages = whole; stop = s }
 stops_there text left whole s is e = is ∙ ap (behind whole) e ∙ ap (λ (ms : List Message). record { messages = ms; stop = s }) (append-nil whole)
 
@@ -358,7 +358,7 @@ not_clean : (h : Result Header WireFault) → header_stop h ≡ Clean → ⊥
 not_clean (Ok h) e = cc
 not_clean (Err e) h = cc
 
-never_clean : (b : ℕ) (w : List ℕ) → rest_stop (b ∷ w) ≡ Clean → ⊥
+pub never_clean : (b : ℕ) (w : List ℕ) → rest_stop (b ∷ w) ≡ Clean → ⊥
 never_clean b w e =
     elim (chosen (ltb (length (b ∷ w)) 16) Short (header_stop (header_at (b ∷ w))) Clean e) [
       | inl t ↦ absurd cc

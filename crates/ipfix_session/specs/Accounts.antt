@@ -1,11 +1,11 @@
 -- What is kept of a domain.
-use Rattle.std.specs.Prelude.{ℕ, ◌+◌, ◌==◌, if◌then◌else◌, Option, Some, None, List, [], ◌∷◌, map, sum_by}
+use Rattle.std.specs.Prelude.{ℕ, ◌+◌, ◌==◌, if◌then◌else◌, Option, Some, None, List, map, sum_by}
 use Rattle.ipfix_message.specs.Domains.{Message}
 use Rattle.ipfix_message.specs.declared.passed_over.PassedOver.{PassedOver}
 use Rattle.ipfix_session.specs.declared.account.Account.{Account}
 use Rattle.ipfix_session.specs.declared.report.DomainReport.{DomainReport}
 use Rattle.ipfix_session.specs.declared.report.DomainBalance.{DomainBalance}
-use Rattle.ipfix_session.specs.Ledger.{capped, count_in, sequence_behind, due_after, gap, lost_at, backward_at, lost_between, backward_between, sum_neighbours, messages_of, domains_of}
+use Rattle.ipfix_session.specs.Ledger.{capped, count_in, sequence_behind, gap, lost_at, backward_at, lost_between, backward_between, sum_neighbours, of_last, due_of, messages_of, domains_of}
 use Rattle.ipfix_session.specs.Reports.{passed_over_in}
 use Rattle.ipfix_session.specs.Balances.{unaccounted_between}
 use Rattle.ipfix_session.specs.Tallies.{added_up}
@@ -19,12 +19,6 @@ abbrev pub unaccounted_at : Option ℕ → ℕ → ℕ
 unaccounted_at None sequence = 0
 unaccounted_at (Some unsure) sequence = gap unsure sequence
 
--- what the last of a domain's messages says; nothing before the first
-abbrev pub of_last : (Message → Option ℕ) → List Message → Option ℕ
-of_last after [] = None
-of_last after (m ∷ []) = after m
-of_last after (m ∷ n ∷ ms) = of_last after (n ∷ ms)
-
 -- the account of a domain's messages
 abbrev pub account_of : List Message → Account
 account_of own = record {
@@ -33,7 +27,7 @@ account_of own = record {
   backward = capped (sum_neighbours backward_between own);
   passed_over = passed_over_in own;
   unaccounted = capped (sum_neighbours unaccounted_between own);
-  due = of_last due_after own;
+  due = due_of own;
   unsure = of_last unsure_after own;
 }
 

@@ -58,6 +58,12 @@ IsOpen (Fault e) = ⊥
 abbrev pub IsPrefix : {X : Type 0} → List X → List X → Type 0
 IsPrefix {X} xs ys = (more : List X) × (ys ≡ xs ++ more)
 
+-- ---- messages as they came
+
+-- the octets of messages, one after another
+abbrev pub octets_of : List (List ℕ) → List ℕ
+octets_of ms = flat_map (λ m. m) ms
+
 -- ---- its records
 
 -- all data records of messages, in order

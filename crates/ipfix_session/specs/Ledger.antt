@@ -46,6 +46,16 @@ sum_neighbours f [] = 0
 sum_neighbours f (x ∷ []) = 0
 sum_neighbours f (x ∷ y ∷ xs) = f x y + sum_neighbours f (y ∷ xs)
 
+-- what the last of a domain's messages says; nothing before the first
+abbrev pub of_last : (Message → Option ℕ) → List Message → Option ℕ
+of_last after [] = None
+of_last after (m ∷ []) = after m
+of_last after (m ∷ n ∷ ms) = of_last after (n ∷ ms)
+
+-- the sequence number that is due after a domain's messages; unknown before the first
+abbrev pub due_of : List Message → Option ℕ
+due_of own = of_last due_after own
+
 -- ---- the domains of a session
 
 -- the messages of a domain

@@ -30,9 +30,9 @@ fn move_up_to<'a>(
     Ok(left)
 }
 
-// Moves octets from the front of a piece until the buffer is a whole message, or begins with a header
-// that is refused, and gives what is left.
-fn fill<'a>(buffer: &mut Vec<u8>, piece: &'a [u8]) -> Result<&'a [u8], AllocError>
+/// Moves octets from the front of a piece until the buffer is a whole message, or begins with a header
+/// that is refused, and gives what is left.
+pub fn fill<'a>(buffer: &mut Vec<u8>, piece: &'a [u8]) -> Result<&'a [u8], AllocError>
     ensures fills { IsRest buffer.old.items → IfOk result (λ left.
         Fills buffer.old.items buffer.new.items piece.now left.now) }
     ensures at_most { length buffer.new.items ≤ max LONGEST_MESSAGE (length buffer.old.items) }

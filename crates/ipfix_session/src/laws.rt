@@ -18,6 +18,8 @@ ghost use Rattle.ipfix_session.specs.declared.stop.Stop.TheVariants.{Clean, Faul
 ghost use Rattle.ipfix_session.specs.declared.fault.SessionFault.{SessionFault};
 ghost use Rattle.ipfix_session.specs.declared.fault.SessionFault.TheVariants.{SinkClosed};
 ghost use Rattle.ipfix_session.specs.declared.report.SessionReport.{SessionReport};
+ghost use Rattle.ipfix_session.specs.declared.driver.TheConstants.{READ_LIMIT, READ_SIZE};
+ghost use Rattle.ipfix_session.specs.declared.message_stream.TheConstants.{LONGEST_MESSAGE};
 
 use crate::sink::Sink;
 use crate::source::Source;
@@ -110,4 +112,12 @@ pub fn place_is_of_fault()
     ensures begins { (text : List ℕ) → gives_after (known_after [] (gives text).messages)
         (drop (sum_by length (messages_before_fault text)) text)
         ≡ record { messages = []; stop = stop_of text } }
+{}
+
+/// A session makes at most 2^40 reads, and asks for 65,536 octets with each of them. A message has at most
+/// 65,535 octets, as its length has 16 bits (RFC 7011, section 3.1).
+pub fn limits()
+    ensures reads { READ_LIMIT ≡ 1099511627776 }
+    ensures octets { READ_SIZE ≡ 65536 }
+    ensures message { LONGEST_MESSAGE ≡ 65535 }
 {}

@@ -20,10 +20,11 @@ mod source;
 mod stop;
 mod tally;
 
+pub use buffer::fill;
 pub use driver::{READ_LIMIT, READ_SIZE, drive, drive_in_full};
 pub use fault::SessionFault;
 pub use message_counter::MessageCounter;
-pub use message_stream::LONGEST_MESSAGE;
+pub use message_stream::{FirstMessage, LONGEST_MESSAGE, next_message};
 pub use reader::FromReader;
 pub use report::{DomainBalance, DomainReport, FullReport, MessagePlace, SessionReport};
 pub use script::ScriptSource;

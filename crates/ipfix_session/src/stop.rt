@@ -17,8 +17,8 @@ pub enum Stop {
 }
 
 impl Stop {
-    // A text that stops for a fault goes no further.
-    pub(crate) fn check_open(self) -> Result<(), MessageFault>
+    /// A text that stops for a fault goes no further.
+    pub fn check_open(self) -> Result<(), MessageFault>
         ensures { MatchResult result (λ _. IsOpen self) (λ fault. self ≡ Stop.Fault fault) }
     {
         match self {

@@ -8,6 +8,7 @@ abbrev pub invariant-loop-rest : goal.invariant-loop-rest
 invariant-loop-rest l = record {
   going : (d : Decoding) → Holds l.fn.templates.entries l.fn.decoded d → Going l.fn.decoded.header l.templates.entries l.decoded l.rest (sets_from l.fn.decoded.header d l.octets);
   header : l.decoded.header ≡ l.fn.decoded.header;
+  room : length l.rest ≤ length l.octets;
   few : counted l.decoded + length l.rest ≤ counted l.fn.decoded + length l.octets;
 }
 

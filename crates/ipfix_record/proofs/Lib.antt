@@ -1,0 +1,11 @@
+pub mod PreamblesRead
+pub mod FilesRead
+pub mod Ledgers
+pub mod Together
+pub mod PreamblesAre
+pub mod Leading
+pub mod Keeping
+pub mod Growing
+pub mod Going
+pub mod ReadOn
+pub mod FilesGive

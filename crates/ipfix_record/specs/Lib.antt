@@ -1,0 +1,10 @@
+-- What public contracts cite.
+pub mod Preambles
+pub mod Recordings
+pub mod Faithful
+pub mod Recorders
+pub mod Files
+pub mod Periods
+pub mod Sessions
+-- What only inner functions and proofs need.
+pub mod Between

@@ -1,0 +1,27 @@
+//! Where the files of a session are.
+
+use thiserror::Error;
+
+/// A file was not written, or not finished.
+#[derive(Clone, Copy, Debug, PartialEq, Eq, Error)]
+#[error("a file could not be written")]
+pub struct NotWritten;
+
+/// The files of a session, one after another (RFC 5655). All but the last are finished. Its count stops
+/// at `u64::MAX`.
+pub trait FileSeries {
+    ghost use Rattle.ipfix_record.specs.Files.{FilesView, Appends, Turns};
+
+    /// What contracts see of it: the octets of the finished files in order and those of the file that
+    /// isn't finished, if it tells them, and how many calls failed.
+    ghost seen: { Self → FilesView };
+
+    /// Appends octets to the file that isn't finished; they are written when the call returns. After an
+    /// `Err` the first of them may stand there.
+    fn append(&mut self, octets: &[u8]) -> Result<(), NotWritten>
+        ensures { Appends result octets.now (seen self.old) (seen self.new) };
+
+    /// Finishes that file, and begins the next. After an `Err` this may have been done or not.
+    fn turn(&mut self) -> Result<(), NotWritten>
+        ensures { Turns result (seen self.old) (seen self.new) };
+}

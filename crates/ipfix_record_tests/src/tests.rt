@@ -1,0 +1,7 @@
+//! A session in files: how it is cut, what each file gives, and how it ends.
+
+mod endings;
+mod files;
+mod preambles;
+mod running;
+mod session;
