@@ -1,5 +1,5 @@
 -- What a merging stands for after one record more, and after all that a sink took.
-use Rattle.std.proofs.Common.{◌≡◌, List, [], ◌∷◌, ◌++◌, All, true, false, is_some, Option, Some, None, Result, Ok, Err, refl, sym, ap, ◌∙◌, subst, append-nil, append_assoc}
+use Rattle.std.proofs.Common.{◌≡◌, ◌<◌, List, [], ◌∷◌, ◌++◌, All, true, false, is_some, Option, Some, None, Result, Ok, Err, refl, sym, ap, ◌∙◌, subst, append-nil, append_assoc}
 use Rattle.std.specs.Prelude.{◌≢◌, IsErrAnd}
 use Rattle.std.specs.Result.{result_err}
 use Rattle.std.specs.List.{AllZip, FoldsTo}
@@ -8,7 +8,9 @@ use Rattle.ipfix_message.specs.declared.record.DataRecord.{DataRecord}
 use Rattle.flow_table.specs.AddedUp.{AddUpTooLarge}
 use Rattle.flow_table.specs.Plans.{PlanValue}
 use Rattle.flow_table.specs.RowTotals.{AreOf}
-use Rattle.flow_table.specs.SameTables.{RowValue}
+use Rattle.flow_table.specs.Fitting.{FitsRow}
+use Rattle.flow_table.specs.SameTables.{RowValue, value_of}
+use Rattle.flow_table.specs.declared.table.Row.{Row as TableRow}
 use Rattle.flow_table.specs.declared.row_totals.RowTotals.{RowTotals}
 use Rattle.flow_table.specs.declared.table_fault.TableFault.{TableFault}
 use Rattle.flow_table.specs.declared.table_fault.TableFault.TheVariants as tables
@@ -39,6 +41,16 @@ zip_more R (a ∷ xs) (b ∷ ys) x y all one = (all.0, zip_more R xs ys x y all.
 -- rows of these records, behind those before
 abbrev pub Behind : PlanValue → RowTotals → List RowValue → List DataRecord → Type 0
 Behind plan totals rows rs = (more : List RowValue) × AreRowRecords plan rs more × (AreOf totals (rows ++ more) × All (IsRowOf plan) (rows ++ more))
+
+-- under the same plan
+pub same_behind : (plan other : PlanValue) (totals : RowTotals) (rows : List RowValue) (rs : List DataRecord) → other ≡ plan → Behind plan totals rows rs → Behind other totals rows rs
+same_behind plan other totals rows rs same h = subst (λ (p : PlanValue). Behind p totals rows rs) (sym same) h
+
+-- the row of a record fits the plan, and some flow contributes to it
+pub row_of_plan : (plan : PlanValue) (r : DataRecord) (row : TableRow) → IsRowRecord plan r (value_of row) → FitsRow plan row × (0 < row.flows)
+row_of_plan plan r row is =
+    let of = is.of_plan in
+    (record { interval = of.interval; key = of.fits.key; sums = of.fits.sums; small = of.small; few = of.few }, of.some)
 
 module _ (plan : PlanValue) (rows : List RowValue) (rs : List DataRecord) (r : DataRecord) where
   pub behind_more : (old new : RowTotals) (row : RowValue) → Behind plan old rows rs → IsRowRecord plan r row → ((l : List RowValue) → AreOf old l → AreOf new (l ++ row ∷ []))

@@ -15,7 +15,7 @@ use Rattle.ipfix_session.specs.Reports.{passed_over_in}
 use Rattle.ipfix_session.specs.Sources.{SourceView}
 use Rattle.flow_table.specs.AddedUp.{rows_in, AddUpTooLarge, AreAddedUp}
 use Rattle.flow_table.specs.Plans.{PlanValue}
-use Rattle.flow_table.specs.RowTotals.{AreOf}
+use Rattle.flow_table.specs.RowTotals.{AreOf, totals_plan}
 use Rattle.flow_table.specs.SameTables.{RowValue}
 use Rattle.flow_table.specs.Tables.{tally_of, IsTable}
 use Rattle.flow_table.specs.declared.table.Table.{Table}
@@ -121,11 +121,11 @@ module _ {S : Type 0} (seen : S → SourceView) where
 
 -- the plan of the exports
 unfoldable pub merging_plan : Merging → PlanValue
-merging_plan m = m.plan
+merging_plan m = totals_plan m.totals
 
 -- it stands for these rows, each of them one under the plan
 unfoldable pub StandsFor : Merging → List RowValue → Type 0
-StandsFor m rows = AreOf m.totals rows × All (IsRowOf m.plan) rows
+StandsFor m rows = AreOf m.totals rows × All (IsRowOf (totals_plan m.totals)) rows
 
 -- an export's rows are added to those before
 pub record AddsExport {S : Type 0} (seen : S → SourceView) (limit : ℕ) (old : Merging) (before after : S) (rows : List RowValue) (new : Merging) : Type 0 where

@@ -27,7 +27,6 @@ use std::alloc::Global;
 #[derive(Drop)]
 pub struct Merging {
     alloc: Global,
-    plan: Plan,
     totals: RowTotals,
 }
 
@@ -42,8 +41,7 @@ impl Merging {
     {
         Ok(Merging {
             alloc,
-            plan: plan.copy(alloc)?,
-            totals: RowTotals::new(alloc),
+            totals: RowTotals::new(alloc, plan)?,
         })
     }
 
@@ -54,8 +52,8 @@ impl Merging {
             → HoldsAfter None self.old rows rs
             → HoldsAfter (result_err result) self.new rows (rs ++ data_record.now ∷ []) }
     {
-        let row = read_row(self.alloc, &self.plan, data_record)?;
-        self.totals.add(row)?;
+        let row = read_row(self.alloc, self.totals.plan(), data_record)?;
+        self.totals.add(&row)?;
         Ok(())
     }
 

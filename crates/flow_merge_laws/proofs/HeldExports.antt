@@ -17,7 +17,7 @@ use Rattle.flow_table.specs.AddedUp.{rows_in, AddUpTooLarge}
 use Rattle.flow_table.specs.Plans.{PlanValue, IsPlan}
 use Rattle.flow_table.specs.SameTables.{RowValue}
 use Rattle.flow_table.proofs.AddedUp.{too_large_more}
-use Rattle.flow_merge.specs.Merging.{AddsExport, AreOfExport, AreRowRecords, FirstOther, FirstTooLarge, IsExport, NoneLost, StandsFor, merging_plan}
+use Rattle.flow_merge.specs.Merging.{AddsExport, GivesExport, AreOfExport, AreRowRecords, FirstOther, FirstTooLarge, IsExport, NoneLost, StandsFor, merging_plan}
 use Rattle.flow_merge_laws.specs.Exports.{HoldsExport, IsExportFault}
 use Rattle.flow_merge.specs.Merging.{IsDue as IsMergeDue}
 use Rattle.flow_merge.specs.RowRecords.{IsRowRecord}
@@ -91,13 +91,17 @@ module _ {S : Type 0} (seen : S → SourceView) (limit : ℕ) (before after : S)
   whole : (gave : List ℕ) → Gave seen limit READ_SIZE before gave after None → gave ≡ holds.text
   whole gave given = gave_all (seen before) (seen after) holds.text gave holds.held given.octets at_end given.fault_is_due.1
 
+  -- it gave its rows
+  pub given_own : (rows : List RowValue) → GivesExport seen limit plan before after rows → rows ≡ own
+  given_own rows read =
+      let export = subst (λ (w : List ℕ). IsExport plan w rows) (whole read.gave read.given) read.export in
+      same_rows plan holds.export.is_plan (records_of holds.text) rows own export.records is_export.records
+
   -- its rows were added
   pub adds_own : (old new : Merging) (rows : List RowValue) → merging_plan old ≡ plan → AddsExport seen limit old before after rows new → StandsFor new (rows ++ own)
   adds_own old new rows same adds =
-      let read = adds.gives_export in
-      let export = subst (λ (w : List ℕ). IsExport plan w adds.more) (whole read.gave read.given) (subst (λ (p : PlanValue). IsExport p read.gave adds.more) same read.export) in
-      let is = same_rows plan holds.export.is_plan (records_of holds.text) adds.more own export.records is_export.records in
-      subst (λ (l : List RowValue). StandsFor new (rows ++ l)) is adds.stands
+      let read = subst (λ (p : PlanValue). GivesExport seen limit p before after adds.more) same adds.gives_export in
+      subst (λ (l : List RowValue). StandsFor new (rows ++ l)) (given_own adds.more read) adds.stands
 
   -- a text without a fault doesn't begin with one that has one
   no_message_fault : (gave : List ℕ) (e : MessageFault) → Consumes (seen before).text (seen after).text gave → stop_of gave ≡ Fault e → ⊥

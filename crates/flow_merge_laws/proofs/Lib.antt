@@ -3,3 +3,4 @@ pub mod PrefixBits
 pub mod ExportedTables
 pub mod HeldExports
 pub mod MergesOn
+pub mod AddedExports

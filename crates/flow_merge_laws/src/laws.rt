@@ -9,14 +9,14 @@ ghost use Rattle.flow_table.specs.SameTables.{RowValue};
 ghost use Rattle.flow_table.specs.declared.table.Table.{Table};
 ghost use Rattle.flow_export.specs.IpfixText.{ipfix_text};
 ghost use Rattle.flow_export_laws.specs.ReadBack.{row_record};
-ghost use Rattle.flow_merge.specs.Merging.{merging_plan, AddsExport, HasRowsOf, IsDue, IsExport, StandsFor};
+ghost use Rattle.flow_merge.specs.Merging.{all_of, merging_plan, AddsAllUp, AddsExport, HasRowsOf, IsDue, IsExport, StandsFor};
 ghost use Rattle.flow_merge.specs.RowFaults.{IsRowFault};
 ghost use Rattle.flow_merge.specs.RowRecords.{IsRowOf, IsRowRecord};
 ghost use Rattle.flow_merge.specs.declared.merge_fault.MergeFault.{MergeFault};
 ghost use Rattle.flow_merge.specs.declared.merging.Merging.{Merging};
 ghost use Rattle.flow_merge.specs.declared.row_fault.RowFault.{RowFault};
 ghost use Rattle.flow_merge.specs.declared.row_fault.RowFault.TheVariants.{OutOfMemory};
-ghost use Rattle.flow_merge_laws.specs.Exports.{HoldsExport, IsExportable, IsExportFault, IsExportOf, with_tally};
+ghost use Rattle.flow_merge_laws.specs.Exports.{AreExportsOf, HoldsExport, IsExportable, IsExportFault, IsExportOf, with_tally};
 
 use ipfix_session::Source;
 
@@ -57,6 +57,15 @@ pub fn exports_are_added_whole<S: Source>()
         → (rs : List DataRecord) (holds : HoldsExport (merging_plan old) (S.seen before) rs)
         → (fault : MergeFault) → IsDue S.seen limit (merging_plan old) rows before after fault
         → IsExportFault (AddUpTooLarge (rows ++ rows_in holds.table)) fault }
+{}
+
+/// What `collectd merge` promises of its table, that the rows of the sources' exports are added up in it,
+/// makes it the theorem's: if the sources hold the exports of the tables of lists of records, one each,
+/// the rows are those of the table of all these records (RFC 7015, section 5).
+pub fn exports_add_up_to_all_records<S: Source>()
+    ensures { (limit : ℕ) (plan : PlanValue) (sources : List S) (lists : List (List DataRecord))
+        (table : Table) → AreExportsOf S.seen plan sources lists
+        → AddsAllUp S.seen limit plan sources table → HasRowsOf plan (all_of lists) table }
 {}
 
 /// What is exported of merged rows is the export of the table of all their records. So merged exports

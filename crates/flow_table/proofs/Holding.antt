@@ -14,13 +14,16 @@ use Rattle.flow_table.specs.Fitting.{KeysFit}
 use Rattle.flow_table.specs.Flows.{flow_part}
 use Rattle.flow_table.specs.Plans.{PlanValue}
 use Rattle.flow_table.specs.Reading.{class_of, counter_of, IsUsed}
-use Rattle.flow_table.specs.Rows.{IntervalEntries, kept_at}
+use Rattle.flat_rows.specs.Rows.{Small, SomeTotalTooLarge}
+use Rattle.flow_table.specs.Rows.{AreAlike, AreRowsOf, kept_at, number_at, width_of}
+use Rattle.flow_table.specs.declared.rows.Rows.{Rows}
 use Rattle.ipfix_message.specs.Outcome.{unless}
 use Rattle.flow_table.specs.Partials.{totals_at, HoldsTable, StandsBy, tally_sum, one_of, count_in, tally}
 use Rattle.flow_table.specs.Tables.{count_of, flows_at, tally_of, IsTooLarge}
 use Rattle.flow_table.specs.Totals.{Total, joined, IsLargeAt}
 use Rattle.flow_table.proofs.Fits.{no_keys_fit, read_keys_fit, both_keys_fit}
 use Rattle.flow_table.proofs.Bags.{turned, too_large_bag, too_large_more as too_large_stay}
+use Rattle.flow_table.proofs.Kept.{kept_small, merge_joins, merge_keeps, merge_large}
 use Rattle.flow_table.proofs.Sums.{same_tally, totals_at-append, totals_at-left, totals_at-used, tally_of-append, tally_of-one, count_of-append, too_large_at, small_from}
 
 -- ---- tallies
@@ -44,12 +47,13 @@ counts_fit a b c d e f p q r s t u Used = u
 
 -- ---- more records
 
-pub holds_more : (plan : PlanValue) (old new : IntervalEntries) (before after : Tally) (rs qs : List DataRecord) → HoldsTable plan old before rs → KeysFit plan qs
-    → ((k : ℕ) (q : List Cell) → kept_at new k q ≡ joined (kept_at old k q) (totals_at plan qs k q))
-    → ((k : ℕ) (q : List Cell) → (IsLargeAt (kept_at old k q) → ⊥) → IsLargeAt (kept_at new k q) → ⊥)
+pub holds_more : (plan : PlanValue) (old new : Rows) (before after : Tally) (rs qs : List DataRecord) → HoldsTable plan old before rs → KeysFit plan qs → AreRowsOf plan new
+    → ((k : ℕ) (q : List Cell) → kept_at plan new k q ≡ joined (kept_at plan old k q) (totals_at plan qs k q))
+    → ((k : ℕ) (q : List Cell) → (IsLargeAt (kept_at plan old k q) → ⊥) → IsLargeAt (kept_at plan new k q) → ⊥)
     → after ≡ tally_sum before (tally_of plan qs) → ((class : Class) → count_in after class < 2 ^ 64) → HoldsTable plan new after (rs ++ qs)
-holds_more plan old new before after rs qs holds keys step fits sum counts =
+holds_more plan old new before after rs qs holds keys of_plan step fits sum counts =
     record {
+      of_plan = of_plan;
       totals_are = totals;
       tally_is = tallies;
       small = small_from plan (rs ++ qs) (λ k q big. fits k q (λ b. holds.small (too_large_at plan rs k q (subst IsLargeAt (holds.totals_are k q) b))) (subst IsLargeAt (sym (totals k q)) big))
@@ -57,21 +61,21 @@ holds_more plan old new before after rs qs holds keys step fits sum counts =
       keys_fit = both_keys_fit plan rs qs holds.keys_fit keys;
     }
   where
-    totals : (k : ℕ) (q : List Cell) → kept_at new k q ≡ totals_at plan (rs ++ qs) k q
+    totals : (k : ℕ) (q : List Cell) → kept_at plan new k q ≡ totals_at plan (rs ++ qs) k q
     totals k q = step k q ∙ ap (λ (o : Option Total). joined o (totals_at plan qs k q)) (holds.totals_are k q) ∙ sym (totals_at-append plan rs qs k q)
 
     tallies : after ≡ tally_of plan (rs ++ qs)
     tallies = sum ∙ ap (λ (t : Tally). tally_sum t (tally_of plan qs)) holds.tally_is ∙ sym (tally_of-append plan rs qs)
 
-pub too_large_sum : (plan : PlanValue) (old : IntervalEntries) (before : Tally) (rs qs : List DataRecord) → HoldsTable plan old before rs
-    → (k : ℕ) × (q : List Cell) × IsLargeAt (joined (kept_at old k q) (totals_at plan qs k q)) → IsTooLarge plan (rs ++ qs)
+pub too_large_sum : (plan : PlanValue) (old : Rows) (before : Tally) (rs qs : List DataRecord) → HoldsTable plan old before rs
+    → (k : ℕ) × (q : List Cell) × IsLargeAt (joined (kept_at plan old k q) (totals_at plan qs k q)) → IsTooLarge plan (rs ++ qs)
 too_large_sum plan old before rs qs holds large =
     let k = large.0 in
     let q = large.1 in
     too_large_at plan (rs ++ qs) k q
     (subst IsLargeAt (ap (λ (o : Option Total). joined o (totals_at plan qs k q)) (holds.totals_are k q) ∙ sym (totals_at-append plan rs qs k q)) large.2)
 
-pub count_too_large : (plan : PlanValue) (old : IntervalEntries) (before more : Tally) (rs qs : List DataRecord) → HoldsTable plan old before rs → more ≡ tally_of plan qs
+pub count_too_large : (plan : PlanValue) (old : Rows) (before more : Tally) (rs qs : List DataRecord) → HoldsTable plan old before rs → more ≡ tally_of plan qs
     → (class : Class) × (2 ^ 64 ≤ count_in before class + count_in more class) → IsTooLarge plan (rs ++ qs)
 count_too_large plan old before more rs qs holds is large =
     let class = large.0 in
@@ -87,8 +91,8 @@ one_is_tally : (plan : PlanValue) (r : DataRecord) (class : Class) → class_of 
 one_is_tally plan r class is = ap one_of (sym is) ∙ sym (tally_of-one plan r)
 
 -- a record that is left out adds nothing
-left_out : (plan : PlanValue) (intervals : IntervalEntries) (r : DataRecord) → class_of plan r ≢ Used → (k : ℕ) (q : List Cell) → kept_at intervals k q ≡ joined (kept_at intervals k q) (totals_at plan (r ∷ []) k q)
-left_out plan intervals r other k q = ap (λ (o : Option Total). joined (kept_at intervals k q) o) (sym (totals_at-left plan r k q other))
+left_out : (plan : PlanValue) (rows : Rows) (r : DataRecord) → class_of plan r ≢ Used → (k : ℕ) (q : List Cell) → kept_at plan rows k q ≡ joined (kept_at plan rows k q) (totals_at plan (r ∷ []) k q)
+left_out plan rows r other k q = ap (λ (o : Option Total). joined (kept_at plan rows k q) o) (sym (totals_at-left plan r k q other))
 
 -- ---- nothing yet
 
@@ -100,10 +104,11 @@ no_count : (plan : PlanValue) (class : Class) → 0 ≡ count_of plan [] class
 unfolding count_of
 no_count plan class = refl
 
-pub holds_none : (plan : PlanValue) (intervals : IntervalEntries) → intervals ≡ [] → HoldsTable plan intervals (tally 0 0 0 0 0 0) []
-holds_none plan intervals empty =
+pub holds_none : (plan : PlanValue) (rows : Rows) → AreRowsOf plan rows → ((k : ℕ) (q : List Cell) → kept_at plan rows k q ≡ None) → HoldsTable plan rows (tally 0 0 0 0 0 0) []
+holds_none plan rows of_plan empty =
     record {
-      totals_are = λ k q. ap (λ (es : IntervalEntries). kept_at es k q) empty ∙ no_totals plan k q;
+      of_plan = of_plan;
+      totals_are = λ k q. empty k q ∙ no_totals plan k q;
       tally_is = same_tally _ _ _ _ _ _ _ _ _ _ _ _ (no_count plan Options) (no_count plan Untimed) (no_count plan Backward) (no_count plan Unkeyed) (no_count plan TooLong) (no_count plan Used);
       small = small_from plan [] (λ k q big. subst IsLargeAt (sym (no_totals plan k q)) big) (λ class. omega (arith, no_count plan class));
       keys_fit = no_keys_fit plan;
@@ -111,18 +116,18 @@ holds_none plan intervals empty =
 
 -- ---- faults
 
-pub stands_fault : (plan : PlanValue) (intervals : IntervalEntries) (t : Tally) (rs : List DataRecord) (e : TableFault) → (e ≡ SumTooLarge → IsTooLarge plan rs) → StandsBy (Some e) plan intervals t rs
-stands_fault plan intervals t rs OutOfMemory h = tt
-stands_fault plan intervals t rs SumTooLarge h = h refl
+pub stands_fault : (plan : PlanValue) (rows : Rows) (t : Tally) (rs : List DataRecord) (e : TableFault) → (e ≡ SumTooLarge → IsTooLarge plan rs) → StandsBy (Some e) plan rows t rs
+stands_fault plan rows t rs OutOfMemory h = tt
+stands_fault plan rows t rs SumTooLarge h = h refl
 
-pub stands_err : {X : Type 0} (plan : PlanValue) (intervals : IntervalEntries) (t : Tally) (rs : List DataRecord) (r : Result X TableFault) (e : TableFault) → r ≡ Err e → (e ≡ SumTooLarge → IsTooLarge plan rs) → StandsBy (result_err r) plan intervals t rs
-stands_err {X} plan intervals t rs r e is h = subst (λ (a : Result X TableFault). StandsBy (result_err a) plan intervals t rs) (sym is) (stands_fault plan intervals t rs e h)
+pub stands_err : {X : Type 0} (plan : PlanValue) (rows : Rows) (t : Tally) (rs : List DataRecord) (r : Result X TableFault) (e : TableFault) → r ≡ Err e → (e ≡ SumTooLarge → IsTooLarge plan rs) → StandsBy (result_err r) plan rows t rs
+stands_err {X} plan rows t rs r e is h = subst (λ (a : Result X TableFault). StandsBy (result_err a) plan rows t rs) (sym is) (stands_fault plan rows t rs e h)
 
 -- what failed stays so with more records
-pub stands_on : (plan : PlanValue) (intervals : IntervalEntries) (t : Tally) (rs qs : List DataRecord) (o : Option TableFault) (e : TableFault) → o ≡ Some e → StandsBy o plan intervals t rs → StandsBy o plan intervals t (rs ++ qs)
-stands_on plan intervals t rs qs o e is stands =
-    subst (λ (p : Option TableFault). StandsBy p plan intervals t (rs ++ qs)) (sym is)
-    (stands_fault plan intervals t (rs ++ qs) e (λ large. too_large_stay plan rs qs (subst (λ (f : TableFault). StandsBy (Some f) plan intervals t rs) large (subst (λ (p : Option TableFault). StandsBy p plan intervals t rs) is stands))))
+pub stands_on : (plan : PlanValue) (rows : Rows) (t : Tally) (rs qs : List DataRecord) (o : Option TableFault) (e : TableFault) → o ≡ Some e → StandsBy o plan rows t rs → StandsBy o plan rows t (rs ++ qs)
+stands_on plan rows t rs qs o e is stands =
+    subst (λ (p : Option TableFault). StandsBy p plan rows t (rs ++ qs)) (sym is)
+    (stands_fault plan rows t (rs ++ qs) e (λ large. too_large_stay plan rs qs (subst (λ (f : TableFault). StandsBy (Some f) plan rows t rs) large (subst (λ (p : Option TableFault). StandsBy p plan rows t rs) is stands))))
 
 -- an answer, by the fault that is kept
 pub answers : {X : Type 0} (r : Result X TableFault) (o : Option TableFault) (x : X) → o ≡ result_err r → IfOk r (λ y. y ≡ x) → r ≡ unless o x
@@ -153,19 +158,19 @@ flow_large plan r s e key lent counters old (Err x) used k_is c_is large = λ sa
 
 -- ---- one record taken
 
-pub left_taken : (plan : PlanValue) (intervals : IntervalEntries) (before after : Tally) (rs : List DataRecord) (r : DataRecord) (class : Class) → class_of plan r ≡ class → class ≢ Used → after ≡ tally_sum before (one_of class)
-    → ((d : Class) → count_in after d < 2 ^ 64) → HoldsTable plan intervals before rs → HoldsTable plan intervals after (rs ++ r ∷ [])
-left_taken plan intervals before after rs r class is other sum counts holds =
-    holds_more plan intervals intervals before after rs (r ∷ []) holds (read_keys_fit plan r [] (Left class) (is, other)) (left_out plan intervals r (λ u. other (sym is ∙ u))) (λ k q small. small)
+pub left_taken : (plan : PlanValue) (rows : Rows) (before after : Tally) (rs : List DataRecord) (r : DataRecord) (class : Class) → class_of plan r ≡ class → class ≢ Used → after ≡ tally_sum before (one_of class)
+    → ((d : Class) → count_in after d < 2 ^ 64) → HoldsTable plan rows before rs → HoldsTable plan rows after (rs ++ r ∷ [])
+left_taken plan rows before after rs r class is other sum counts holds =
+    holds_more plan rows rows before after rs (r ∷ []) holds (read_keys_fit plan r [] (Left class) (is, other)) holds.of_plan (left_out plan rows r (λ u. other (sym is ∙ u))) (λ k q small. small)
     (one_more plan r class before after is sum) counts
 
-pub used_taken : (plan : PlanValue) (old new : IntervalEntries) (before after : Tally) (rs : List DataRecord) (r : DataRecord) → KeysFit plan (r ∷ []) → class_of plan r ≡ Used → after ≡ tally_sum before (one_of Used)
-    → ((d : Class) → count_in after d < 2 ^ 64)
-    → ((k : ℕ) (q : List Cell) → kept_at new k q ≡ joined (kept_at old k q) (totals_at plan (r ∷ []) k q))
-    → ((k : ℕ) (q : List Cell) → (IsLargeAt (kept_at old k q) → ⊥) → IsLargeAt (kept_at new k q) → ⊥)
+pub used_taken : (plan : PlanValue) (old new : Rows) (before after : Tally) (rs : List DataRecord) (r : DataRecord) → KeysFit plan (r ∷ []) → class_of plan r ≡ Used → after ≡ tally_sum before (one_of Used)
+    → ((d : Class) → count_in after d < 2 ^ 64) → (AreRowsOf plan old → AreRowsOf plan new)
+    → (AreRowsOf plan old → (k : ℕ) (q : List Cell) → kept_at plan new k q ≡ joined (kept_at plan old k q) (totals_at plan (r ∷ []) k q))
+    → ((k : ℕ) (q : List Cell) → (IsLargeAt (kept_at plan old k q) → ⊥) → IsLargeAt (kept_at plan new k q) → ⊥)
     → HoldsTable plan old before rs → HoldsTable plan new after (rs ++ r ∷ [])
-used_taken plan old new before after rs r keys is sum counts step fits holds =
-    holds_more plan old new before after rs (r ∷ []) holds keys step fits (one_more plan r Used before after is sum) counts
+used_taken plan old new before after rs r keys is sum counts keeps step fits holds =
+    holds_more plan old new before after rs (r ∷ []) holds keys (keeps holds.of_plan) (step holds.of_plan) fits (one_more plan r Used before after is sum) counts
 
 counts_itself : (class : Class) → 1 ≡ count_in (one_of class) class
 counts_itself Options = refl
@@ -175,40 +180,39 @@ counts_itself Unkeyed = refl
 counts_itself TooLong = refl
 counts_itself Used = refl
 
-pub one_too_many : (plan : PlanValue) (intervals : IntervalEntries) (before : Tally) (rs : List DataRecord) (r : DataRecord) (class : Class) → class_of plan r ≡ class → HoldsTable plan intervals before rs
+pub one_too_many : (plan : PlanValue) (rows : Rows) (before : Tally) (rs : List DataRecord) (r : DataRecord) (class : Class) → class_of plan r ≡ class → HoldsTable plan rows before rs
     → 2 ^ 64 ≤ count_in before class + 1 → IsTooLarge plan (rs ++ r ∷ [])
-one_too_many plan intervals before rs r class is holds big =
-    count_too_large plan intervals before (one_of class) rs (r ∷ []) holds (one_is_tally plan r class is) (class, subst (λ n. 2 ^ 64 ≤ count_in before class + n) (counts_itself class) big)
+one_too_many plan rows before rs r class is holds big =
+    count_too_large plan rows before (one_of class) rs (r ∷ []) holds (one_is_tally plan r class is) (class, subst (λ n. 2 ^ 64 ≤ count_in before class + n) (counts_itself class) big)
 
 -- ---- two lists
 
-pub join_stands : (plan : PlanValue) (old new others : IntervalEntries) (before more after : Tally) (rs qs : List DataRecord) (r : Result (Unit {0}) TableFault) → HoldsTable plan old before rs → HoldsTable plan others more qs
-    → after ≡ tally_sum before more → ((class : Class) → count_in after class < 2 ^ 64)
-    → OnOk r ((k : ℕ) (q : List Cell) → kept_at new k q ≡ joined (kept_at old k q) (kept_at others k q))
-    → OnOk r ((k : ℕ) (q : List Cell) → (IsLargeAt (kept_at old k q) → ⊥) → (IsLargeAt (kept_at others k q) → ⊥) → IsLargeAt (kept_at new k q) → ⊥)
-    → IfErr r (λ e. e ≡ SumTooLarge → (k : ℕ) × (q : List Cell) × IsLargeAt (joined (kept_at old k q) (kept_at others k q)))
-    → StandsBy (result_err r) plan new after (rs ++ qs)
-join_stands plan old new others before more after rs qs (Ok x) a b sum counts step fits large =
-    holds_more plan old new before after rs qs a b.keys_fit
-    (λ k q. step k q ∙ ap (λ (o : Option Total). joined (kept_at old k q) o) (b.totals_are k q))
-    (λ k q small. fits k q small (λ big. b.small (too_large_at plan qs k q (subst IsLargeAt (b.totals_are k q) big))))
+pub merged_holds : (plan : PlanValue) (old others new : Rows) (before more after : Tally) (rs qs : List DataRecord) → HoldsTable plan old before rs → HoldsTable plan others more qs → width_of old ≡ width_of others
+    → after ≡ tally_sum before more → ((class : Class) → count_in after class < 2 ^ 64) → AreAlike new old
+    → ((q : List ℕ) (i : ℕ) → number_at new q i ≡ number_at old q i + number_at others q i) → Small (number_at new) → HoldsTable plan new after (rs ++ qs)
+merged_holds plan old others new before more after rs qs a b same sum counts alike numbers small =
+    holds_more plan old new before after rs qs a b.keys_fit (merge_keeps plan old others a.of_plan b.of_plan same new alike numbers)
+    (λ k q. merge_joins plan old others a.of_plan b.of_plan same new alike numbers k q ∙ ap (λ (o : Option Total). joined (kept_at plan old k q) o) (b.totals_are k q))
+    (λ k q fits. kept_small plan new k q small)
     (sum ∙ ap (λ (t : Tally). tally_sum before t) b.tally_is) counts
-join_stands plan old new others before more after rs qs (Err e) a b sum counts step fits large =
-    stands_fault plan new after (rs ++ qs) e (λ same.
-    let at = large same in
-    too_large_sum plan old before rs qs a (at.0, at.1, subst (λ (o : Option Total). IsLargeAt (joined (kept_at old at.0 at.1) o)) (b.totals_are at.0 at.1) at.2))
+
+pub merged_large : (plan : PlanValue) (old others : Rows) (before more : Tally) (rs qs : List DataRecord) → HoldsTable plan old before rs → HoldsTable plan others more qs → width_of old ≡ width_of others
+    → SomeTotalTooLarge (λ q i. number_at old q i + number_at others q i) → IsTooLarge plan (rs ++ qs)
+merged_large plan old others before more rs qs a b same large =
+    let at = merge_large plan old others a.of_plan b.of_plan same large in
+    too_large_sum plan old before rs qs a (at.0, at.1, subst (λ (o : Option Total). IsLargeAt (joined (kept_at plan old at.0 at.1) o)) (b.totals_are at.0 at.1) at.2)
 
 -- more records before those that are too many
 too_large_behind : (plan : PlanValue) (rs qs : List DataRecord) → IsTooLarge plan qs → IsTooLarge plan (rs ++ qs)
 too_large_behind plan rs qs large = too_large_bag plan (qs ++ rs) (rs ++ qs) (turned qs rs) (too_large_stay plan qs rs large)
 
 -- the fault of what is merged in
-pub stands_taken : (plan other : PlanValue) (intervals others : IntervalEntries) (t u : Tally) (rs qs : List DataRecord) (o : Option TableFault) (e : TableFault) → other ≡ plan → o ≡ Some e → StandsBy o other others u qs → StandsBy (Some e) plan intervals t (rs ++ qs)
-stands_taken plan other intervals others t u rs qs o e same is stands =
-    stands_fault plan intervals t (rs ++ qs) e (λ large. too_large_behind plan rs qs
+pub stands_taken : (plan other : PlanValue) (rows others : Rows) (t u : Tally) (rs qs : List DataRecord) (o : Option TableFault) (e : TableFault) → other ≡ plan → o ≡ Some e → StandsBy o other others u qs → StandsBy (Some e) plan rows t (rs ++ qs)
+stands_taken plan other rows others t u rs qs o e same is stands =
+    stands_fault plan rows t (rs ++ qs) e (λ large. too_large_behind plan rs qs
     (subst (λ (p : PlanValue). IsTooLarge p qs) same (subst (λ (f : TableFault). StandsBy (Some f) other others u qs) large (subst (λ (p : Option TableFault). StandsBy p other others u qs) is stands))))
 
-pub holds_of : (plan other : PlanValue) (others : IntervalEntries) (u : Tally) (qs : List DataRecord) (o : Option TableFault) → other ≡ plan → o ≡ None → StandsBy o other others u qs → HoldsTable plan others u qs
+pub holds_of : (plan other : PlanValue) (others : Rows) (u : Tally) (qs : List DataRecord) (o : Option TableFault) → other ≡ plan → o ≡ None → StandsBy o other others u qs → HoldsTable plan others u qs
 holds_of plan other others u qs o same is stands =
     subst (λ (p : PlanValue). HoldsTable p others u qs) same (subst (λ (p : Option TableFault). StandsBy p other others u qs) is stands)
 
@@ -223,9 +227,9 @@ pub answers_unit : (r : Result (Unit {0}) TableFault) (o : Option TableFault) �
 answers_unit (Ok x) o is = rw is refl
 answers_unit (Err e) o is = rw is refl
 
-pub large_of : (plan : PlanValue) (intervals : IntervalEntries) (t : Tally) (rs : List DataRecord) (o : Option TableFault) (e : TableFault) → o ≡ Some e → e ≡ SumTooLarge → StandsBy o plan intervals t rs → IsTooLarge plan rs
-large_of plan intervals t rs o e is large stands =
-    subst (λ (f : TableFault). StandsBy (Some f) plan intervals t rs) large (subst (λ (p : Option TableFault). StandsBy p plan intervals t rs) is stands)
+pub large_of : (plan : PlanValue) (rows : Rows) (t : Tally) (rs : List DataRecord) (o : Option TableFault) (e : TableFault) → o ≡ Some e → e ≡ SumTooLarge → StandsBy o plan rows t rs → IsTooLarge plan rs
+large_of plan rows t rs o e is large stands =
+    subst (λ (f : TableFault). StandsBy (Some f) plan rows t rs) large (subst (λ (p : Option TableFault). StandsBy p plan rows t rs) is stands)
 
 pub if_fault : {X : Type 0} (o : Option TableFault) (e : TableFault) (r : Result X TableFault) → o ≡ Some e → r ≡ Err e → IfSome o (λ f. r ≡ Err f)
 if_fault {X} o e r is answer = subst (λ (p : Option TableFault). IfSome p (λ f. r ≡ Err f)) (sym is) answer
@@ -238,10 +242,10 @@ on_ok (Ok x) a = a
 on_ok (Err e) a = tt
 
 -- an answer with the fault that is kept, and the list that is then stood for
-pub small_on_ok : {X : Type 0} (r : Result X TableFault) (plan : PlanValue) (intervals : IntervalEntries) (t : Tally) (rs : List DataRecord) → StandsBy (result_err r) plan intervals t rs → OnOk r (IsTooLarge plan rs → ⊥)
-small_on_ok (Ok x) plan intervals t rs stands = stands.small
-small_on_ok (Err e) plan intervals t rs stands = tt
+pub small_on_ok : {X : Type 0} (r : Result X TableFault) (plan : PlanValue) (rows : Rows) (t : Tally) (rs : List DataRecord) → StandsBy (result_err r) plan rows t rs → OnOk r (IsTooLarge plan rs → ⊥)
+small_on_ok (Ok x) plan rows t rs stands = stands.small
+small_on_ok (Err e) plan rows t rs stands = tt
 
-pub large_if_err : {X : Type 0} (r : Result X TableFault) (plan : PlanValue) (intervals : IntervalEntries) (t : Tally) (rs : List DataRecord) → StandsBy (result_err r) plan intervals t rs → IfErr r (λ e. e ≡ SumTooLarge → IsTooLarge plan rs)
-large_if_err (Ok x) plan intervals t rs stands = tt
-large_if_err (Err e) plan intervals t rs stands = λ large. subst (λ (f : TableFault). StandsBy (Some f) plan intervals t rs) large stands
+pub large_if_err : {X : Type 0} (r : Result X TableFault) (plan : PlanValue) (rows : Rows) (t : Tally) (rs : List DataRecord) → StandsBy (result_err r) plan rows t rs → IfErr r (λ e. e ≡ SumTooLarge → IsTooLarge plan rs)
+large_if_err (Ok x) plan rows t rs stands = tt
+large_if_err (Err e) plan rows t rs stands = λ large. subst (λ (f : TableFault). StandsBy (Some f) plan rows t rs) large stands

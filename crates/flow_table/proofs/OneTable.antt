@@ -16,7 +16,7 @@ use Rattle.flow_table.specs.declared.table.Table.{Table}
 use Rattle.flow_table.specs.Plans.{PlanValue}
 use Rattle.flow_table.specs.SameTables.{RowValue, row_value, value_of, IsSameTable}
 use Rattle.flow_table.specs.Tables.{sum_at, flows_at, place_of, place_cmp, key_cmp, IsRow, IsTable}
-use Rattle.flow_table.specs.RowKeys.{keys_total}
+use Rattle.flow_table.proofs.Places.{keys_total}
 
 -- ---- what is among a list
 

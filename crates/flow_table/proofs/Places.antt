@@ -1,6 +1,7 @@
 -- Intervals and keys are told apart by their orders.
 use Rattle.std.proofs.Common.{◌≡◌, ◌≢◌, ◌⊎◌, Bool, true, false, List, [], ◌∷◌, refl, sym, subst, inl, inr}
 use Rattle.std.specs.Cmp.{IsTotalOrder, eq_by_cmp_equiv}
+use Rattle.std.specs.Cmp.Lexicographic.{lists_total}
 use Rattle.std.specs.Ordering.{ordering_then, is_eq}
 use Rattle.std.specs.declared.cmp.Ordering.{Ordering}
 use Rattle.std.specs.declared.cmp.Ordering.TheVariants.{Less, Equal, Greater}
@@ -8,9 +9,8 @@ use Rattle.std.proofs.lemmas.Cmp.{nat_cmp_total}
 use Rattle.std.proofs.lemmas.Map.Lookups.{exact_unsigned}
 use Rattle.ipfix_elements.specs.declared.cell.Cell.{Cell}
 use Rattle.ipfix_elements.specs.Cells.{cell_cmp}
-use Rattle.ipfix_elements.proofs.CellLemmas.{cell_equal}
+use Rattle.ipfix_elements.proofs.CellLemmas.{cell_equal, cell_cmp-total}
 use Rattle.flow_table.specs.Tables.{key_cmp}
-use Rattle.flow_table.specs.RowKeys.{keys_total}
 use Rattle.flow_table.specs.Rows.{is_same_key, is_same_interval}
 use Rattle.flow_table.proofs.Keyed.{Tells}
 
@@ -36,6 +36,9 @@ key_equal [] [] h = refl
 key_equal [] (y ∷ ys) h = cc
 key_equal (x ∷ xs) [] h = cc
 key_equal (x ∷ xs) (y ∷ ys) h = then_equal x y xs ys (cell_cmp x y) refl (key_equal xs ys) h
+
+pub keys_total : IsTotalOrder key_cmp
+keys_total = lists_total cell_cmp-total
 
 pub keys_tell : Tells is_same_key
 keys_tell = tells_by keys_total key_equal

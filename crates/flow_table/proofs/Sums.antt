@@ -67,13 +67,13 @@ same_map : (f g : ElementId → ℕ) → ((c : ElementId) → f c ≡ g c) → (
 same_map f g is [] = refl
 same_map f g is (c ∷ cs) = ap (λ (n : ℕ). n ∷ map f cs) (is c) ∙ ap (λ (ns : List ℕ). g c ∷ ns) (same_map f g is cs)
 
-abbrev totals_of : List ℕ → ℕ → Option Total
+abbrev pub totals_of : List ℕ → ℕ → Option Total
 totals_of sums n = cond (n == 0) None (Some (total sums n))
 
 itself_not : (n : ℕ) → n ≢ 0 → (n == 0) ≡ false
 itself_not n h = elim (eqb_tells n 0) [ inl y ↦ absurd (h y.1) | inr m ↦ m.0 ]
 
-join_totals : (zs xs ys : List ℕ) (s m n : ℕ) → s ≡ m + n → zs ≡ added xs ys → (m ≡ 0 → zs ≡ ys) → (n ≡ 0 → zs ≡ xs) → totals_of zs s ≡ joined (totals_of xs m) (totals_of ys n)
+pub join_totals : (zs xs ys : List ℕ) (s m n : ℕ) → s ≡ m + n → zs ≡ added xs ys → (m ≡ 0 → zs ≡ ys) → (n ≡ 0 → zs ≡ xs) → totals_of zs s ≡ joined (totals_of xs m) (totals_of ys n)
 join_totals zs xs ys s m n is both left right =
     elim (eqb_tells m 0) [
       | inl y ↦

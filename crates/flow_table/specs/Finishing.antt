@@ -1,13 +1,14 @@
--- The rows of a finished table, as the maps of a partial table have them.
-use Rattle.std.specs.Prelude.{ℕ, List, [], ◌∷◌, ◌++◌, map, All}
+-- The rows of a finished table.
+use Rattle.std.specs.Prelude.{◌≡◌, ℕ, suc, List, map, All, Contains, drop, slice_index_or, Option, Some}
 use Rattle.std.specs.List.Sorted.{IsStrictlySortedBy}
-use Rattle.std.specs.BTreeMap.{keys}
-use Rattle.std.specs.Ordering.{nat_cmp}
+use Rattle.std.specs.declared.cmp.Ordering.{Ordering}
+use Rattle.flat_rows.specs.Rows.{Row as FlatRow, IsRun, total_at}
 use Rattle.ipfix_elements.specs.declared.cell.Cell.{Cell}
+use Rattle.ipfix_elements.specs.declared.kind.Kind.{Kind}
 use Rattle.flow_table.specs.declared.table.Row.{Row}
-use Rattle.flow_table.specs.Rows.{RowEntries, IntervalEntries}
-use Rattle.flow_table.specs.Tables.{place_of, key_cmp}
+use Rattle.flow_table.specs.Tables.{place_of, place_cmp}
 use Rattle.flow_table.specs.Totals.{Total, total}
+use Rattle.flow_table.specs.Words.{first_of, key_from}
 
 -- where a row stands, and its totals
 abbrev pub Line : Type 0
@@ -16,16 +17,23 @@ Line = (ℕ × List Cell) × Total
 abbrev pub line_of : Row → Line
 line_of row = (place_of row, total row.sums.items row.flows)
 
--- the lines of an interval
-abbrev pub lines_at : ℕ → RowEntries → List Line
-lines_at k rows = map (λ e. ((k, e.0), e.1)) rows
+abbrev pub line_cmp : Line → Line → Ordering
+line_cmp a b = place_cmp a.0 b.0
 
--- the lines of all intervals
-abbrev pub lines_in : IntervalEntries → List Line
-lines_in [] = []
-lines_in (e ∷ es) = lines_at e.0 e.1.entries ++ lines_in es
+-- the line of words and numbers under these kinds and so many counters
+abbrev pub line_from : List Kind → ℕ → FlatRow → Line
+line_from kinds n x =
+    ((slice_index_or x.key 0 0, key_from kinds (drop 1 x.key)), total (first_of n (λ i. slice_index_or x.numbers (suc i) 0)) (slice_index_or x.numbers 0 0))
 
--- the intervals ascend, and the keys of each of them
-pub record AreAscending (entries : IntervalEntries) : Type 0 where
-  pub intervals : IsStrictlySortedBy nat_cmp (map (λ e. e.0) entries)
-  pub keys : All (λ e. IsStrictlySortedBy key_cmp (keys e.1)) entries
+-- the lines of a run that has the numbers of rows
+pub record AreRunLines (kinds : List Kind) (n : ℕ) (rows : List FlatRow) (lines : List Line) : Type 0 where
+  pub run : List FlatRow
+  pub ascends : IsRun run
+  pub same : (q : List ℕ) (i : ℕ) → total_at run q i ≡ total_at rows q i
+  pub are : lines ≡ map (line_from kinds n) run
+
+-- the lines of all totals, in order
+pub record AreLinesOf (kept : ℕ → List Cell → Option Total) (lines : List Line) : Type 0 where
+  pub ascend : IsStrictlySortedBy line_cmp lines
+  pub own : All (λ l. kept l.0.0 l.0.1 ≡ Some l.1) lines
+  pub complete : (k : ℕ) (key : List Cell) (t : Total) → kept k key ≡ Some t → Contains (map (λ l. l.0) lines) (k, key)

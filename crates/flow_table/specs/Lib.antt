@@ -15,7 +15,7 @@ pub mod RowTotals
 -- What only inner functions and proofs need.
 pub mod Totals
 pub mod Rows
-pub mod RowKeys
+pub mod Words
 pub mod Readings
 pub mod Flows
 pub mod Finishing

@@ -1,5 +1,5 @@
 -- What a partial table stands for: a list of data records.
-use Rattle.std.specs.Prelude.{◌≡◌, ℕ, ◌+◌, ◌==◌, if◌then◌else◌, List, ◌++◌, map, Option, Some, None, Result, Ok, Err, OnOk, IfErr}
+use Rattle.std.specs.Prelude.{◌≡◌, ℕ, ◌+◌, ◌==◌, if◌then◌else◌, List, ◌++◌, map, Option, Some, None, Result, OnOk, IfErr}
 use Rattle.ipfix_elements.specs.declared.cell.Cell.{Cell}
 use Rattle.ipfix_message.specs.declared.record.DataRecord.{DataRecord}
 use Rattle.flow_table.specs.declared.class.Class.{Class}
@@ -10,7 +10,8 @@ use Rattle.flow_table.specs.declared.tally.Tally.{Tally}
 use Rattle.flow_table.specs.declared.partial.Partial.{Partial}
 use Rattle.flow_table.specs.Fitting.{KeysFit}
 use Rattle.flow_table.specs.Plans.{PlanValue}
-use Rattle.flow_table.specs.Rows.{IntervalEntries, kept_at}
+use Rattle.flow_table.specs.Rows.{AreRowsOf, kept_at}
+use Rattle.flow_table.specs.declared.rows.Rows.{Rows}
 use Rattle.flow_table.specs.Tables.{flows_at, sum_at, tally_of, IsTooLarge}
 use Rattle.flow_table.specs.Totals.{Total, total}
 
@@ -19,17 +20,18 @@ unfoldable pub totals_at : PlanValue → List DataRecord → ℕ → List Cell �
 totals_at plan rs k key = if flows_at plan rs k key == 0 then None else Some (total (map (sum_at plan rs k key) plan.counters) (flows_at plan rs k key))
 
 -- the totals and the tally are those of the table of a list that isn't too large, and whose keys fit
-pub record HoldsTable (plan : PlanValue) (intervals : IntervalEntries) (tally : Tally) (rs : List DataRecord) : Type 0 where
-  pub totals_are : (k : ℕ) (key : List Cell) → kept_at intervals k key ≡ totals_at plan rs k key
+pub record HoldsTable (plan : PlanValue) (rows : Rows) (tally : Tally) (rs : List DataRecord) : Type 0 where
+  pub of_plan : AreRowsOf plan rows
+  pub totals_are : (k : ℕ) (key : List Cell) → kept_at plan rows k key ≡ totals_at plan rs k key
   pub tally_is : tally ≡ tally_of plan rs
   pub small : IsTooLarge plan rs → ⊥
   pub keys_fit : KeysFit plan rs
 
 -- without a fault it holds the table of the list; with SumTooLarge the list is too large; after OutOfMemory it tells nothing of it
-abbrev pub StandsBy : Option TableFault → PlanValue → IntervalEntries → Tally → List DataRecord → Type 0
-StandsBy None plan intervals tally rs = HoldsTable plan intervals tally rs
-StandsBy (Some SumTooLarge) plan intervals tally rs = IsTooLarge plan rs
-StandsBy (Some OutOfMemory) plan intervals tally rs = Unit {0}
+abbrev pub StandsBy : Option TableFault → PlanValue → Rows → Tally → List DataRecord → Type 0
+StandsBy None plan rows tally rs = HoldsTable plan rows tally rs
+StandsBy (Some SumTooLarge) plan rows tally rs = IsTooLarge plan rs
+StandsBy (Some OutOfMemory) plan rows tally rs = Unit {0}
 
 -- the plan of a partial table
 unfoldable pub plan_of : Partial → PlanValue
@@ -41,7 +43,7 @@ fault_of p = p.fault
 
 -- a partial table stands for a list of records
 unfoldable pub StandsFor : Partial → List DataRecord → Type 0
-StandsFor p rs = StandsBy p.fault p.plan p.intervals.entries p.tally rs
+StandsFor p rs = StandsBy p.fault p.plan p.rows p.tally rs
 
 -- whatever it stood for, afterwards it stands for these records more
 abbrev pub Adds : Partial → List DataRecord → Partial → Type 0

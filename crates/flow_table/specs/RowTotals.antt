@@ -2,15 +2,22 @@
 use Rattle.std.specs.Prelude.{◌≡◌, ℕ, List}
 use Rattle.ipfix_elements.specs.declared.cell.Cell.{Cell}
 use Rattle.flow_table.specs.AddedUp.{added_up, AddUpTooLarge}
-use Rattle.flow_table.specs.Rows.{IntervalEntries, kept_at}
+use Rattle.flow_table.specs.Plans.{PlanValue}
+use Rattle.flow_table.specs.Rows.{AreRowsOf, kept_at}
 use Rattle.flow_table.specs.SameTables.{RowValue}
+use Rattle.flow_table.specs.declared.rows.Rows.{Rows}
 use Rattle.flow_table.specs.declared.row_totals.RowTotals.{RowTotals}
 
 -- the totals are what the rows add up to, and none of them is too large
-pub record HoldsRows (intervals : IntervalEntries) (rows : List RowValue) : Type 0 where
-  pub totals_are : (k : ℕ) (key : List Cell) → kept_at intervals k key ≡ added_up rows k key
+pub record HoldsRows (plan : PlanValue) (kept : Rows) (rows : List RowValue) : Type 0 where
+  pub of_plan : AreRowsOf plan kept
+  pub totals_are : (k : ℕ) (key : List Cell) → kept_at plan kept k key ≡ added_up rows k key
   pub small : AddUpTooLarge rows → ⊥
+
+-- the plan of the rows
+unfoldable pub totals_plan : RowTotals → PlanValue
+totals_plan totals = totals.plan
 
 -- totals stand for a list of rows
 unfoldable pub AreOf : RowTotals → List RowValue → Type 0
-AreOf totals rows = HoldsRows totals.intervals.entries rows
+AreOf totals rows = HoldsRows totals.plan totals.rows rows

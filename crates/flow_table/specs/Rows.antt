@@ -1,33 +1,22 @@
--- Totals by interval and key, as the maps of a partial table have them.
-use Rattle.std.specs.Prelude.{ℕ, Bool, List, Option, Some, None, option_and_then, if◌then◌else◌}
-use Rattle.std.specs.Map.{lookup}
-use Rattle.std.specs.BTreeMap.{BTreeMap}
+-- Totals by interval and key, and the rows that they are kept in.
+use Rattle.std.specs.Prelude.{◌≡◌, ℕ, suc, ◌+◌, ◌==◌, ◌<◌, ◌≤◌, Bool, List, length, Option, Some, None, if◌then◌else◌}
 use Rattle.std.specs.Ordering.{nat_cmp, is_eq}
+use Rattle.flat_rows.specs.Rows.{Row, part, row, total_at}
 use Rattle.ipfix_elements.specs.declared.cell.Cell.{Cell}
+use Rattle.flow_table.specs.declared.rows.Rows.{Rows}
+use Rattle.flow_table.specs.declared.rows.Rows.TheVariants.{Two, Six, Nine, Most}
+use Rattle.flow_table.specs.Plans.{PlanValue, kinds_of}
 use Rattle.flow_table.specs.Tables.{key_cmp}
-use Rattle.flow_table.specs.Totals.{Total}
+use Rattle.flow_table.specs.Totals.{Total, total}
+use Rattle.flow_table.specs.Words.{first_of, padded, place_words, word_count}
 
--- totals by key
-abbrev pub RowEntries : Type 0
-RowEntries = List (List Cell × Total)
-
--- totals by interval and key
-abbrev pub IntervalEntries : Type 0
-IntervalEntries = List (ℕ × BTreeMap (List Cell) Total)
+-- ---- one place alone
 
 abbrev pub is_same_key : List Cell → List Cell → Bool
 is_same_key q key = is_eq (key_cmp q key)
 
 abbrev pub is_same_interval : ℕ → ℕ → Bool
 is_same_interval k interval = is_eq (nat_cmp k interval)
-
--- the totals of a key
-abbrev pub row_at : RowEntries → List Cell → Option Total
-row_at rows q = lookup (λ key. is_same_key q key) rows
-
--- the totals of an interval and a key
-abbrev pub kept_at : IntervalEntries → ℕ → List Cell → Option Total
-kept_at intervals k q = option_and_then (λ rows. row_at rows.entries q) (lookup (λ interval. is_same_interval k interval) intervals)
 
 -- totals at one key alone
 abbrev pub part_at : List Cell → Total → List Cell → Option Total
@@ -37,6 +26,71 @@ part_at key t q = if is_same_key q key then Some t else None
 abbrev pub place_part : ℕ → List Cell → Total → ℕ → List Cell → Option Total
 place_part interval key t k q = if is_same_interval k interval then part_at key t q else None
 
--- the totals of all keys at one interval alone
-abbrev pub rows_part : ℕ → RowEntries → ℕ → List Cell → Option Total
-rows_part interval rows k q = if is_same_interval k interval then row_at rows q else None
+-- ---- rows
+
+-- how many words their keys have
+abbrev pub width_of : Rows → ℕ
+width_of (Two rows) = 2
+width_of (Six rows) = 6
+width_of (Nine rows) = 9
+width_of (Most rows) = 17
+
+-- how many numbers they have
+abbrev pub depth_of : Rows → ℕ
+depth_of (Two rows) = 2
+depth_of (Six rows) = 3
+depth_of (Nine rows) = 5
+depth_of (Most rows) = 5
+
+abbrev pub rows_in : Rows → List Row
+rows_in (Two rows) = rows
+rows_in (Six rows) = rows
+rows_in (Nine rows) = rows
+rows_in (Most rows) = rows
+
+-- the number at a place of the words of a key
+abbrev pub number_at : Rows → List ℕ → ℕ → ℕ
+number_at rows q i = total_at (rows_in rows) q i
+
+-- a row of words and numbers, as rows have it
+abbrev pub padded_row : Rows → List ℕ → List ℕ → Row
+padded_row rows words numbers = row (padded (width_of rows) words) (padded (depth_of rows) numbers)
+
+-- the numbers of one row more
+abbrev pub AddsRow : Rows → List ℕ → List ℕ → Rows → Type 0
+AddsRow old words numbers new = (q : List ℕ) (i : ℕ) → number_at new q i ≡ number_at old q i + part q i (padded_row old words numbers)
+
+-- rows of the same width and depth
+abbrev pub AreAlike : Rows → Rows → Type 0
+AreAlike a b = (width_of a ≡ width_of b) × (depth_of a ≡ depth_of b)
+
+-- ---- rows of a plan
+
+-- what numbers say of a place: how many flows, and then their sums
+abbrev pub total_of_numbers : ℕ → (ℕ → ℕ) → Option Total
+total_of_numbers n f = if f 0 == 0 then None else Some (total (first_of n (λ i. f (suc i))) (f 0))
+
+abbrev pub kept_by : PlanValue → Rows → Option (List ℕ) → Option Total
+kept_by plan rows None = None
+kept_by plan rows (Some words) = total_of_numbers (length plan.counters) (number_at rows (padded (width_of rows) words))
+
+-- the totals of an interval and a key
+unfoldable pub kept_at : PlanValue → Rows → ℕ → List Cell → Option Total
+kept_at plan rows k q = kept_by plan rows (place_words plan k q)
+
+-- words of some interval and key
+pub record IsPlace (plan : PlanValue) (rows : Rows) (q : List ℕ) : Type 0 where
+  pub interval : ℕ
+  pub key : List Cell
+  pub words : List ℕ
+  pub are : place_words plan interval key ≡ Some words
+  pub padded_are : q ≡ padded (width_of rows) words
+
+-- rows that have room for what a plan has, and keep nothing else: each key is a place, some flow is counted where there is any
+-- number, and there is none behind those of the counters
+pub record AreRowsOf (plan : PlanValue) (rows : Rows) : Type 0 where
+  pub wide : suc (word_count (kinds_of plan.keys)) ≤ width_of rows
+  pub deep : suc (length plan.counters) ≤ depth_of rows
+  pub places : (q : List ℕ) → 0 < number_at rows q 0 → IsPlace plan rows q
+  pub counted : (q : List ℕ) (i : ℕ) → number_at rows q 0 ≡ 0 → number_at rows q i ≡ 0
+  pub none_behind : (q : List ℕ) (i : ℕ) → length plan.counters < i → number_at rows q i ≡ 0

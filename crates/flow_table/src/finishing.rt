@@ -1,59 +1,110 @@
 //! The rows of a finished table.
 
-ghost use Rattle.std.specs.Prelude.{◌≡◌, ◌++◌, ℕ, List, map, OnOk, IfOk, IfErr};
-ghost use Rattle.std.specs.List.Sorted.{IsStrictlySortedBy};
-ghost use Rattle.std.specs.BTreeMap.{keys};
-ghost use Rattle.flow_table.specs.Finishing.{line_of, lines_at, lines_in, AreAscending};
-ghost use Rattle.ipfix_elements.specs.declared.cell.Cell.{Cell};
+ghost use Rattle.std.specs.Prelude.{◌≡◌, ◌*◌, ◌+◌, ◌^◌, ◌<◌, ℕ, suc, List, map, IfOk, IfErr, slice_index_or};
+ghost use Rattle.flat_rows.specs.Rows.{row as flat_row};
+ghost use Rattle.flow_table.specs.Finishing.{AreRunLines, line_of, line_from};
 ghost use Rattle.ipfix_message.specs.declared.record.DataRecord.{DataRecord};
-ghost use Rattle.flow_table.specs.Plans.{PlanValue};
-ghost use Rattle.flow_table.specs.Rows.{kept_at};
-ghost use Rattle.flow_table.specs.Partials.{totals_at};
-ghost use Rattle.flow_table.specs.Tables.{key_cmp, tally_of, IsTable};
+ghost use Rattle.flow_table.specs.Partials.{HoldsTable};
+ghost use Rattle.flow_table.specs.Rows.{rows_in};
+ghost use Rattle.flow_table.specs.Tables.{IsTable};
+ghost use Rattle.flow_table.specs.Words.{first_of};
 ghost use Rattle.flow_table.specs.declared.table_fault.TableFault.TheVariants.{OutOfMemory};
 
-use crate::rows::{Intervals, Rows};
+use crate::plan::Plan;
+use crate::rows::Rows;
 use crate::table::{Row, Table};
 use crate::table_fault::TableFault;
 use crate::tally::Tally;
-use crate::totals::Totals;
+use crate::words::{key_of_words, word_at, words_after};
+use flat_rows::FlatRows;
+use ipfix_elements::Kind;
 use std::alloc::{AllocError, Global};
 
-// Appends the rows of an interval.
-fn push_rows(interval: u64, rows: Rows, out: &mut Vec<Row>) -> Result<(), AllocError>
-    ensures lines { OnOk result (map line_of out.new.items ≡ map line_of out.old.items ++ lines_at interval rows.entries) }
-    ensures ascending { OnOk result (IsStrictlySortedBy key_cmp (keys rows)) }
+/// The sums that stand behind the number of flows.
+fn sums_of(alloc: Global, numbers: &[u64], counters: usize) -> Result<Vec<u64>, AllocError>
+    requires { counters < 2 ^ 32 }
+    ensures { IfOk result (λ sums. sums.items
+        ≡ first_of counters (λ i. slice_index_or numbers.now (suc i) 0)) }
 {
-    for (key, totals) in rows {
-        let Totals { sums, flows } = totals;
-        out.push(Row {
-            interval,
-            key: key.into_cells(),
-            sums,
-            flows,
-        })?;
+    let mut sums = Vec::with_capacity(alloc, counters)?;
+    for i in 0..counters {
+        sums.push(word_at(numbers, i + 1))?;
     }
-    Ok(())
+    Ok(sums)
 }
 
-/// The rows of all intervals, in order.
-pub fn into_rows(alloc: Global, intervals: Intervals) -> Result<Vec<Row>, AllocError>
-    ensures lines { IfOk result (λ rows. map line_of rows.items ≡ lines_in intervals.entries) }
-    ensures ascending { OnOk result (AreAscending intervals.entries) }
+/// The row of words and numbers.
+fn row_of(
+    alloc: Global,
+    kinds: &[Kind],
+    counters: usize,
+    words: &[u64],
+    numbers: &[u64],
+) -> Result<Row, AllocError>
+    requires { counters < 2 ^ 32 }
+    ensures { IfOk result (λ r. line_of r
+        ≡ line_from kinds.now counters (flat_row words.now numbers.now)) }
 {
-    let mut out = Vec::new(alloc);
-    for (interval, rows) in intervals {
-        push_rows(interval, rows, &mut out)?;
+    Ok(Row {
+        interval: word_at(words, 0),
+        key: key_of_words(alloc, kinds, words_after(words, 1))?,
+        sums: sums_of(alloc, numbers, counters)?,
+        flows: word_at(numbers, 0),
+    })
+}
+
+/// All rows, in order.
+fn finish_rows<const K: usize, const C: usize>(
+    alloc: Global,
+    rows: FlatRows<K, C>,
+    kinds: &[Kind],
+    counters: usize,
+) -> Result<Vec<Row>, AllocError>
+    requires fits { 8 * K + 8 * C < 2 ^ 63 }
+    requires few { counters < 2 ^ 32 }
+    ensures { IfOk result (λ out.
+        AreRunLines kinds.now counters rows.entry (map line_of out.items)) }
+{
+    let run = rows.finish()?;
+    let mut out = Vec::with_capacity(alloc, run.len())?;
+    for i in 0..run.len() {
+        let words = run[i].key();
+        let numbers = run[i].numbers();
+        out.push(row_of(alloc, kinds, counters, &words, &numbers)?)?;
     }
     Ok(out)
 }
 
+/// All rows, in order: by interval, and then by key.
+pub fn into_rows(
+    alloc: Global,
+    rows: Rows,
+    kinds: &[Kind],
+    counters: usize,
+) -> Result<Vec<Row>, AllocError>
+    requires { counters < 2 ^ 32 }
+    ensures { IfOk result (λ out.
+        AreRunLines kinds.now counters (rows_in rows) (map line_of out.items)) }
+{
+    match rows {
+        Rows::Two(rows) => finish_rows(alloc, rows, kinds, counters),
+        Rows::Six(rows) => finish_rows(alloc, rows, kinds, counters),
+        Rows::Nine(rows) => finish_rows(alloc, rows, kinds, counters),
+        Rows::Most(rows) => finish_rows(alloc, rows, kinds, counters),
+    }
+}
+
 /// The table of the records whose totals and tally these are.
-pub fn finish_table(alloc: Global, intervals: Intervals, tally: Tally) -> Result<Table, TableFault>
-    ensures table { IfOk result (λ table. (plan : PlanValue) (rs : List DataRecord)
-        → ((k : ℕ) (key : List Cell) → kept_at intervals.entries k key ≡ totals_at plan rs k key) → tally ≡ tally_of plan rs → IsTable plan rs table) }
+pub fn finish_table(
+    alloc: Global,
+    plan: &Plan,
+    rows: Rows,
+    tally: Tally,
+) -> Result<Table, TableFault>
+    ensures table { IfOk result (λ table. (rs : List DataRecord)
+        → HoldsTable plan.now rows tally rs → IsTable plan.now rs table) }
     ensures err { IfErr result (λ e. e ≡ OutOfMemory) }
 {
-    let rows = into_rows(alloc, intervals)?;
+    let rows = into_rows(alloc, rows, plan.kinds(), plan.counters().len())?;
     Ok(Table { rows, tally })
 }

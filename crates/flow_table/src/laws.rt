@@ -13,6 +13,8 @@ ghost use Rattle.flow_table.specs.Plans.{PlanValue, IsPlan};
 ghost use Rattle.flow_table.specs.SameTables.{IsSameTable};
 ghost use Rattle.flow_table.specs.Tables.{IsTable, IsTooLarge, tally_of};
 ghost use Rattle.flow_table.specs.declared.table.Table.{Table};
+ghost use Rattle.flow_table.specs.declared.plan.TheConstants.{MAX_KEYS, MAX_COUNTERS, MAX_SPREAD};
+ghost use Rattle.flow_table.specs.declared.times.TheConstants.{TIME_LIMIT};
 
 use crate::plan::Plan;
 
@@ -108,4 +110,13 @@ pub fn any_split_adds_up()
         → AreAddedUp (flat_map rows_in tables) (rows_in a)
         → AreAddedUp (flat_map rows_in more) (rows_in b)
         → rows_in a ≡ rows_in b }
+{}
+
+/// A plan has at most 8 keys and 4 counters, and lets a flow cover at most 4,096 intervals. Times are
+/// below 2^50 ms.
+pub fn limits()
+    ensures keys { MAX_KEYS ≡ 8 }
+    ensures counters { MAX_COUNTERS ≡ 4 }
+    ensures spread { MAX_SPREAD ≡ 4096 }
+    ensures times { TIME_LIMIT ≡ 1125899906842624 }
 {}

@@ -14,7 +14,6 @@ mod partial;
 mod plan;
 mod plan_fault;
 mod reading;
-mod row_key;
 mod row_totals;
 mod rows;
 mod sharing;
@@ -24,7 +23,7 @@ mod table_fault;
 mod taking;
 mod tally;
 mod times;
-mod totals;
+mod words;
 
 pub use class::Class;
 pub use key::Key;

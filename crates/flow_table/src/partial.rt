@@ -14,15 +14,13 @@ use crate::class::Class;
 use crate::finishing::finish_table;
 use crate::merging::join;
 use crate::plan::Plan;
-use crate::row_key::RowKey;
-use crate::rows::Intervals;
+use crate::rows::Rows;
 use crate::table::Table;
 use crate::table_fault::TableFault;
 use crate::taking::take;
 use crate::tally::Tally;
 use ipfix_message::DataRecord;
 use std::alloc::Global;
-use std::collections::BTreeMap;
 
 /// The table of some data records under a plan, to which more are added, and which is merged with
 /// that of others. It stands for the list of all these records.
@@ -30,8 +28,9 @@ use std::collections::BTreeMap;
 /// After a fault it answers this fault for ever.
 #[derive(Drop)]
 pub struct Partial {
+    alloc: Global,
     plan: Plan,
-    intervals: Intervals,
+    rows: Rows,
     tally: Tally,
     fault: Option<TableFault>,
     room: Room,
@@ -48,13 +47,14 @@ impl Partial {
         ensures err { IfErr result (λ e. e ≡ OutOfMemory) }
     {
         Ok(Partial {
+            alloc,
             plan: plan.copy(alloc)?,
-            intervals: BTreeMap::new(alloc),
+            rows: Rows::new(alloc, plan),
             tally: Tally::EMPTY,
             fault: None,
             room: Room {
-                alloc,
-                key: RowKey::new(alloc),
+                key: Vec::new(alloc),
+                words: Vec::new(alloc),
                 counters: Vec::new(alloc),
                 shares: Vec::new(alloc),
             },
@@ -80,7 +80,7 @@ impl Partial {
         }
         let result = take(
             &self.plan,
-            &mut self.intervals,
+            &mut self.rows,
             &mut self.tally,
             &mut self.room,
             data_record,
@@ -109,7 +109,7 @@ impl Partial {
             → IfErr result (λ e. e ≡ SumTooLarge → IsTooLarge (plan_of self.old) (rs ++ qs)) }
     {
         let Partial {
-            intervals,
+            rows,
             tally,
             fault,
             ..
@@ -121,7 +121,14 @@ impl Partial {
             self.fault = Some(fault);
             return Err(fault);
         }
-        let result = join(&mut self.intervals, &mut self.tally, intervals, &tally);
+        let result = join(
+            self.alloc,
+            &self.plan,
+            &mut self.rows,
+            &mut self.tally,
+            rows,
+            &tally,
+        );
         self.fault = result.err();
         result
     }
@@ -149,15 +156,16 @@ impl Partial {
             → IfErr result (λ e. e ≡ SumTooLarge → IsTooLarge (plan_of self) rs) }
     {
         let Partial {
-            intervals,
+            alloc,
+            plan,
+            rows,
             tally,
             fault,
-            room,
             ..
         } = self;
         match fault {
             Some(fault) => Err(fault),
-            None => finish_table(room.alloc, intervals, tally),
+            None => finish_table(alloc, &plan, rows, tally),
         }
     }
 }

@@ -13,7 +13,6 @@ use crate::class::Class;
 use crate::key::Key;
 use crate::method::Method;
 use crate::plan::Plan;
-use crate::row_key::RowKey;
 use crate::span::Span;
 use crate::times::{end_of, start_of};
 use ipfix_elements::{Cell, Kind, Width, mask, read_cell, read_number};
@@ -39,9 +38,9 @@ pub(crate) enum Reading {
 pub(crate) fn read(
     plan: &Plan,
     data_record: &DataRecord,
-    key: &mut RowKey,
+    key: &mut Vec<Cell>,
 ) -> Result<Reading, AllocError>
-    ensures { IfOk result (ReadsAs plan.now data_record.now key.new) }
+    ensures { IfOk result (ReadsAs plan.now data_record.now key.new.items) }
 {
     if data_record.scope > 0 {
         return Ok(Reading::Left(Class::Options));
@@ -80,14 +79,14 @@ fn read_key(
     keys: &[Key],
     kinds: &[Kind],
     data_record: &DataRecord,
-    cells: &mut RowKey,
+    cells: &mut Vec<Cell>,
 ) -> Result<bool, AllocError>
     requires prefixes { All HasPrefix keys.now }
     requires kinds { kinds.now ≡ kinds_of keys.now }
     requires comparable { AllPass is_key_kind kinds.now }
     ensures cells { IfOk result (λ whole. cells_of keys.now data_record.now
-        ≡ (if whole then Some cells.new else None)) }
-    ensures fits { IfOk result (λ whole. IsTrue whole → FitsKeys keys.now cells.new) }
+        ≡ (if whole then Some cells.new.items else None)) }
+    ensures fits { IfOk result (λ whole. IsTrue whole → FitsKeys keys.now cells.new.items) }
 {
     cells.clear();
     for (key, kind) in keys.iter().zip(kinds) {

@@ -1,59 +1,70 @@
 //! Rows that are added up.
 
-ghost use Rattle.std.specs.Prelude.{◌≡◌, ◌++◌, ◌∷◌, [], List, map, IfOk, IfErr, OnOk};
+ghost use Rattle.std.specs.Prelude.{◌≡◌, ◌++◌, ◌∷◌, [], ◌<◌, List, map, IfOk, IfErr, OnOk};
 ghost use Rattle.flow_table.specs.AddedUp.{AddUpTooLarge, AreAddedUp};
-ghost use Rattle.flow_table.specs.RowTotals.{AreOf};
+ghost use Rattle.flow_table.specs.Fitting.{FitsRow};
+ghost use Rattle.flow_table.specs.RowTotals.{AreOf, totals_plan};
 ghost use Rattle.flow_table.specs.SameTables.{RowValue, value_of};
 ghost use Rattle.flow_table.specs.declared.table_fault.TableFault.TheVariants.{OutOfMemory, SumTooLarge};
 
 use crate::finishing::into_rows;
-use crate::merging::add_totals;
-use crate::row_key::RowKey;
-use crate::rows::Intervals;
+use crate::plan::Plan;
+use crate::rows::Rows;
 use crate::table::Row;
 use crate::table_fault::TableFault;
-use crate::totals::Totals;
+use crate::words::write_words;
 use std::alloc::Global;
-use std::collections::BTreeMap;
 
-/// The totals of some rows by interval and key, to which more rows are added. They stand for the list
-/// of these rows.
+/// The totals of some rows under a plan by interval and key, to which more rows are added. They stand
+/// for the list of these rows.
 #[derive(Drop)]
 pub struct RowTotals {
     alloc: Global,
-    intervals: Intervals,
+    plan: Plan,
+    rows: Rows,
+    words: Vec<u64>,
 }
 
 impl RowTotals {
-    /// The totals of no rows.
-    pub fn new(alloc: Global) -> RowTotals
-        ensures { AreOf result [] }
+    /// The totals of no rows. They keep a copy of the plan.
+    ///
+    /// The fault is `OutOfMemory`: an allocation was refused.
+    pub fn new(alloc: Global, plan: &Plan) -> Result<RowTotals, TableFault>
+        ensures plan { IfOk result (λ totals. totals_plan totals ≡ plan.now) }
+        ensures empty { IfOk result (λ totals. AreOf totals []) }
+        ensures err { IfErr result (λ e. e ≡ OutOfMemory) }
     {
-        RowTotals {
+        Ok(RowTotals {
             alloc,
-            intervals: BTreeMap::new(alloc),
-        }
+            plan: plan.copy(alloc)?,
+            rows: Rows::new(alloc, plan),
+            words: Vec::new(alloc),
+        })
     }
 
-    /// Adds a row.
+    /// The plan of the rows.
+    pub fn plan(&self) -> &Plan
+        ensures { result.now ≡ totals_plan self.now }
+    {
+        &self.plan
+    }
+
+    /// Adds a row that fits the plan, and that some flow contributes to.
     ///
     /// The fault is `SumTooLarge` if a sum or a number of flows would be 2^64 or more with the row, and
-    /// `OutOfMemory` if an allocation was refused. After a fault the totals stand for no list.
-    pub fn add(&mut self, row: Row) -> Result<(), TableFault>
+    /// `OutOfMemory` if an allocation was refused. A fault leaves the totals as they were.
+    pub fn add(&mut self, row: &Row) -> Result<(), TableFault>
+        requires fits { FitsRow (totals_plan self.old) row.now }
+        requires some { 0 < row.now.flows }
+        ensures plan { totals_plan self.new ≡ totals_plan self.old }
         ensures adds { (rows : List RowValue) → AreOf self.old rows
-            → OnOk result (AreOf self.new (rows ++ value_of row ∷ [])) }
+            → OnOk result (AreOf self.new (rows ++ value_of row.now ∷ [])) }
         ensures large { (rows : List RowValue) → AreOf self.old rows
-            → IfErr result (λ e. e ≡ SumTooLarge → AddUpTooLarge (rows ++ value_of row ∷ [])) }
+            → IfErr result (λ e. e ≡ SumTooLarge → AddUpTooLarge (rows ++ value_of row.now ∷ [])) }
     {
-        let Row {
-            interval,
-            key,
-            sums,
-            flows,
-        } = row;
-        let key = RowKey::of_cells(key);
-        let totals = Totals::new(sums, flows);
-        add_totals(self.alloc, &mut self.intervals, interval, key, totals)
+        write_words(&row.key, &mut self.words)?;
+        self.rows
+            .add(row.interval, &self.words, row.flows, &row.sums)
     }
 
     /// The rows in order: by interval, and then by key.
@@ -65,7 +76,12 @@ impl RowTotals {
         ensures small { (rows : List RowValue) → AreOf self rows → AddUpTooLarge rows → ⊥ }
         ensures err { IfErr result (λ e. e ≡ OutOfMemory) }
     {
-        let RowTotals { alloc, intervals } = self;
-        Ok(into_rows(alloc, intervals)?)
+        let RowTotals {
+            alloc,
+            plan,
+            rows,
+            ..
+        } = self;
+        Ok(into_rows(alloc, rows, plan.kinds(), plan.counters().len())?)
     }
 }

@@ -1,62 +1,142 @@
-//! Totals by key and by interval.
+//! Rows of the totals under a plan, with no block of memory for each.
 
-ghost use Rattle.std.specs.Prelude.{◌≡◌, ℕ, List, Some, OnOk, IfErr};
-ghost use Rattle.ipfix_elements.specs.declared.cell.Cell.{Cell};
-ghost use Rattle.flow_table.specs.Totals.{IsLarge, IsLargeAt, joined, total};
-ghost use Rattle.flow_table.specs.Rows.{row_at, kept_at, part_at, place_part};
+ghost use Rattle.std.specs.Prelude.{◌≡◌, ◌+◌, ◌*◌, ◌^◌, ◌<◌, ◌≤◌, ◌∷◌, ℕ, suc, List, IfOk, IfErr, OnOk, OnErr, length, slice_index_or};
+ghost use Rattle.flat_rows.specs.Rows.{Small, SomeTooLarge, SomeTotalTooLarge, part, row, total_at};
+ghost use Rattle.flow_table.specs.Plans.{kinds_of};
+ghost use Rattle.flow_table.specs.Rows.{AddsRow, AreAlike, AreRowsOf, depth_of, number_at, padded_row, width_of};
+ghost use Rattle.flow_table.specs.Words.{padded};
 ghost use Rattle.flow_table.specs.declared.table_fault.TableFault.TheVariants.{SumTooLarge};
 
-use crate::row_key::RowKey;
+use crate::plan::Plan;
 use crate::table_fault::TableFault;
-use crate::totals::Totals;
+use crate::words::{count_words, padded_words};
+use flat_rows::{AddError, FlatRows, Piece};
 use std::alloc::Global;
-use std::collections::BTreeMap;
-use std::collections::btree_map::Entry;
 
-/// The totals of an interval by key.
-pub type Rows = BTreeMap<RowKey, Totals>;
+/// Rows by the words of an interval and a key, in the smallest of four forms that has room for them.
+/// Their numbers are that of the flows, and then the sums of the counters.
+#[derive(Drop)]
+pub enum Rows {
+    /// Two words, and one counter.
+    Two(FlatRows<2, 2>),
+    /// Up to six words, and two counters.
+    Six(FlatRows<6, 3>),
+    /// Up to nine words, and four counters.
+    Nine(FlatRows<9, 5>),
+    /// As many words and counters as a plan may have.
+    Most(FlatRows<17, 5>),
+}
 
-/// The rows of all intervals.
-pub type Intervals = BTreeMap<u64, Rows>;
-
-/// Adds the shares of a flow to the row of a key, which is made if it is missing.
-pub fn add_to_row(
-    alloc: Global,
-    rows: &mut Rows,
-    key: &RowKey,
-    shares: &[u64],
+/// Adds numbers to a row.
+fn add_row<const K: usize, const C: usize>(
+    rows: &mut FlatRows<K, C>,
+    interval: u64,
+    words: &[u64],
+    flows: u64,
+    sums: &[u64],
 ) -> Result<(), TableFault>
-    ensures ok { OnOk result ((q : List Cell) → row_at rows.new.entries q ≡ joined (row_at rows.old.entries q) (part_at key.now (total shares.now 1) q)) }
-    ensures fits { OnOk result (IsLargeAt (row_at rows.new.entries key.now) → ⊥) }
-    ensures large { IfErr result (λ e. e ≡ SumTooLarge → IsLargeAt (joined (row_at rows.old.entries key.now) (Some (total shares.now 1)))) }
+    requires fits { 8 * K + 8 * C < 2 ^ 63 }
+    requires deep { 0 < C }
+    requires some { 0 < flows }
+    ensures ok { OnOk result ((q : List ℕ) (i : ℕ)
+        → total_at rows.new q i ≡ total_at rows.old q i
+        + part q i (row (padded K (interval ∷ words.now)) (padded C (flows ∷ sums.now)))) }
+    ensures small { Small (total_at rows.new) }
+    ensures err { OnErr result ((q : List ℕ) (i : ℕ)
+        → total_at rows.new q i ≡ total_at rows.old q i) }
+    ensures large { IfErr result (λ e. e ≡ SumTooLarge
+        → SomeTooLarge (λ i. total_at rows.old (padded K (interval ∷ words.now)) i
+        + slice_index_or (padded C (flows ∷ sums.now)) i 0)) }
 {
-    match rows.entry(key.copy(alloc)?)? {
-        Entry::Occupied(row) => row.into_mut().add(shares, 1),
-        Entry::Vacant(place) => {
-            let sums = shares.to_vec(alloc)?;
-            place.insert(Totals { sums, flows: 1 });
-            Ok(())
-        }
+    let piece = Piece::new(padded_words(interval, words), padded_words(flows, sums));
+    match rows.add(&piece) {
+        Ok(()) => Ok(()),
+        Err(AddError::SumTooLarge) => Err(TableFault::SumTooLarge),
+        Err(AddError::OutOfMemory) => Err(TableFault::OutOfMemory),
     }
 }
 
-/// Adds the shares of a flow to the row of an interval and a key.
-pub fn add_to_interval(
-    alloc: Global,
-    intervals: &mut Intervals,
-    interval: u64,
-    key: &RowKey,
-    shares: &[u64],
-) -> Result<(), TableFault>
-    ensures ok { OnOk result ((k : ℕ) (q : List Cell) → kept_at intervals.new.entries k q ≡ joined (kept_at intervals.old.entries k q) (place_part interval key.now (total shares.now 1) k q)) }
-    ensures fits { OnOk result (IsLargeAt (kept_at intervals.new.entries interval key.now) → ⊥) }
-    ensures large { IfErr result (λ e. e ≡ SumTooLarge → IsLargeAt (joined (kept_at intervals.old.entries interval key.now) (Some (total shares.now 1)))) }
+/// The rows of both.
+fn merge_rows<const K: usize, const C: usize>(
+    rows: FlatRows<K, C>,
+    others: FlatRows<K, C>,
+) -> Result<FlatRows<K, C>, TableFault>
+    requires fits { 8 * K + 8 * C < 2 ^ 63 }
+    ensures ok { IfOk result (λ both. (q : List ℕ) (i : ℕ)
+        → total_at both q i ≡ total_at rows.entry q i + total_at others.entry q i) }
+    ensures small { IfOk result (λ both. Small (total_at both)) }
+    ensures large { IfErr result (λ e. e ≡ SumTooLarge
+        → SomeTotalTooLarge (λ q i. total_at rows.entry q i + total_at others.entry q i)) }
 {
-    if let Some(rows) = intervals.get_mut(&interval) {
-        return add_to_row(alloc, rows, key, shares);
+    match rows.merge(others) {
+        Ok(both) => Ok(both),
+        Err(AddError::SumTooLarge) => Err(TableFault::SumTooLarge),
+        Err(AddError::OutOfMemory) => Err(TableFault::OutOfMemory),
     }
-    let mut rows = BTreeMap::new(alloc);
-    add_to_row(alloc, &mut rows, key, shares)?;
-    intervals.insert(interval, rows)?;
-    Ok(())
+}
+
+impl Rows {
+    /// No rows, in the form for a plan.
+    pub fn new(alloc: Global, plan: &Plan) -> Rows
+        ensures rows { AreRowsOf plan.now result }
+        ensures none { (q : List ℕ) (i : ℕ) → number_at result q i ≡ 0 }
+    {
+        let numbers = plan.counters().len() + 1;
+        let words = count_words(plan.kinds()) + 1;
+        if words <= 2 && numbers <= 2 {
+            Rows::Two(FlatRows::new(alloc))
+        } else if words <= 6 && numbers <= 3 {
+            Rows::Six(FlatRows::new(alloc))
+        } else if words <= 9 {
+            Rows::Nine(FlatRows::new(alloc))
+        } else {
+            Rows::Most(FlatRows::new(alloc))
+        }
+    }
+
+    /// Adds flows and sums to the row of an interval and the words of a key. An `Err` changes no number.
+    pub fn add(
+        &mut self,
+        interval: u64,
+        words: &[u64],
+        flows: u64,
+        sums: &[u64],
+    ) -> Result<(), TableFault>
+        requires { 0 < flows }
+        ensures ok { OnOk result
+            (AddsRow self.old (interval ∷ words.now) (flows ∷ sums.now) self.new) }
+        ensures small { Small (number_at self.new) }
+        ensures alike { AreAlike self.new self.old }
+        ensures err { OnErr result ((q : List ℕ) (i : ℕ)
+            → number_at self.new q i ≡ number_at self.old q i) }
+        ensures large { IfErr result (λ e. e ≡ SumTooLarge
+            → SomeTooLarge (λ i. number_at self.old (padded (width_of self.old) (interval ∷ words.now)) i
+            + slice_index_or (padded (depth_of self.old) (flows ∷ sums.now)) i 0)) }
+    {
+        match self {
+            Rows::Two(rows) => add_row(rows, interval, words, flows, sums),
+            Rows::Six(rows) => add_row(rows, interval, words, flows, sums),
+            Rows::Nine(rows) => add_row(rows, interval, words, flows, sums),
+            Rows::Most(rows) => add_row(rows, interval, words, flows, sums),
+        }
+    }
+
+    /// The rows of both, which are to be of one form: where they are not, the fault is `OutOfMemory`. Those
+    /// of one plan are.
+    pub fn merge(self, others: Rows) -> Result<Rows, TableFault>
+        ensures ok { IfOk result (λ both. (q : List ℕ) (i : ℕ)
+            → number_at both q i ≡ number_at self q i + number_at others q i) }
+        ensures small { IfOk result (λ both. Small (number_at both)) }
+        ensures alike { IfOk result (λ both. AreAlike both self × (width_of self ≡ width_of others)) }
+        ensures large { IfErr result (λ e. e ≡ SumTooLarge → (width_of self ≡ width_of others)
+            × SomeTotalTooLarge (λ q i. number_at self q i + number_at others q i)) }
+    {
+        match (self, others) {
+            (Rows::Two(rows), Rows::Two(others)) => Ok(Rows::Two(merge_rows(rows, others)?)),
+            (Rows::Six(rows), Rows::Six(others)) => Ok(Rows::Six(merge_rows(rows, others)?)),
+            (Rows::Nine(rows), Rows::Nine(others)) => Ok(Rows::Nine(merge_rows(rows, others)?)),
+            (Rows::Most(rows), Rows::Most(others)) => Ok(Rows::Most(merge_rows(rows, others)?)),
+            _ => Err(TableFault::OutOfMemory),
+        }
+    }
 }

@@ -4,9 +4,10 @@ ghost use Rattle.std.specs.Prelude.{◌≡◌, ◌++◌, ◌∷◌, [], ℕ, Lis
 ghost use Rattle.std.specs.Result.{result_err};
 ghost use Rattle.ipfix_elements.specs.declared.cell.Cell.{Cell};
 ghost use Rattle.ipfix_message.specs.declared.record.DataRecord.{DataRecord};
+ghost use Rattle.flow_table.specs.Fitting.{FitsKeys};
 ghost use Rattle.flow_table.specs.Partials.{HoldsTable, StandsBy, totals_at};
 ghost use Rattle.flow_table.specs.Reading.{class_of, IsUsed};
-ghost use Rattle.flow_table.specs.Rows.{kept_at};
+ghost use Rattle.flow_table.specs.Rows.{AreRowsOf, kept_at};
 ghost use Rattle.flow_table.specs.Totals.{IsLargeAt, joined};
 ghost use Rattle.flow_table.specs.declared.table_fault.TableFault.TheVariants.{SumTooLarge};
 
@@ -14,40 +15,50 @@ use crate::adding::{Room, add_flow};
 use crate::class::Class;
 use crate::plan::Plan;
 use crate::reading::{Reading, read, read_counters};
-use crate::rows::Intervals;
+use crate::rows::Rows;
 use crate::span::Span;
 use crate::table_fault::TableFault;
 use crate::tally::Tally;
+use crate::words::write_words;
 use ipfix_message::DataRecord;
 
 // Adds the shares of a used record, whose key was read, to the totals.
 fn take_flow(
     plan: &Plan,
-    intervals: &mut Intervals,
+    rows: &mut Rows,
     room: &mut Room,
     data_record: &DataRecord,
     span: Span,
 ) -> Result<(), TableFault>
-    requires { IsUsed plan.now data_record.now span.start span.end room.old.key }
-    ensures ok { OnOk result ((k : ℕ) (q : List Cell) → kept_at intervals.new.entries k q ≡ joined (kept_at intervals.old.entries k q) (totals_at plan.now (data_record.now ∷ []) k q)) }
-    ensures fits { OnOk result ((k : ℕ) (q : List Cell) → (IsLargeAt (kept_at intervals.old.entries k q) → ⊥) → IsLargeAt (kept_at intervals.new.entries k q) → ⊥) }
-    ensures large { IfErr result (λ e. e ≡ SumTooLarge → (k : ℕ) × (q : List Cell) × IsLargeAt (joined (kept_at intervals.old.entries k q) (totals_at plan.now (data_record.now ∷ []) k q))) }
+    requires used { IsUsed plan.now data_record.now span.start span.end room.old.key.items }
+    requires fits { FitsKeys plan.now.keys room.old.key.items }
+    ensures rows { AreRowsOf plan.now rows.old → AreRowsOf plan.now rows.new }
+    ensures ok { AreRowsOf plan.now rows.old → OnOk result ((k : ℕ) (q : List Cell)
+        → kept_at plan.now rows.new k q ≡ joined (kept_at plan.now rows.old k q)
+        (totals_at plan.now (data_record.now ∷ []) k q)) }
+    ensures fits { OnOk result ((k : ℕ) (q : List Cell)
+        → (IsLargeAt (kept_at plan.now rows.old k q) → ⊥)
+        → IsLargeAt (kept_at plan.now rows.new k q) → ⊥) }
+    ensures large { AreRowsOf plan.now rows.old → IfErr result (λ e. e ≡ SumTooLarge
+        → (k : ℕ) × (q : List Cell) × IsLargeAt (joined (kept_at plan.now rows.old k q)
+        (totals_at plan.now (data_record.now ∷ []) k q))) }
 {
+    write_words(&room.key, &mut room.words)?;
     read_counters(plan.counters(), data_record, &mut room.counters)?;
-    add_flow(plan, intervals, span, room)
+    add_flow(plan, rows, span, room)
 }
 
 /// Takes a record into the totals and the tally, and answers its class.
 pub fn take(
     plan: &Plan,
-    intervals: &mut Intervals,
+    rows: &mut Rows,
     tally: &mut Tally,
     room: &mut Room,
     data_record: &DataRecord,
 ) -> Result<Class, TableFault>
     ensures class { IfOk result (λ class. class ≡ class_of plan.now data_record.now) }
-    ensures stands { (rs : List DataRecord) → HoldsTable plan.now intervals.old.entries tally.old rs
-        → StandsBy (result_err result) plan.now intervals.new.entries tally.new (rs ++ data_record.now ∷ []) }
+    ensures stands { (rs : List DataRecord) → HoldsTable plan.now rows.old tally.old rs
+        → StandsBy (result_err result) plan.now rows.new tally.new (rs ++ data_record.now ∷ []) }
 {
     match read(plan, data_record, &mut room.key)? {
         Reading::Left(class) => {
@@ -56,7 +67,7 @@ pub fn take(
         }
         Reading::Used(span) => {
             tally.count(Class::Used)?;
-            take_flow(plan, intervals, room, data_record, span)?;
+            take_flow(plan, rows, room, data_record, span)?;
             Ok(Class::Used)
         }
     }

@@ -1,3 +1,11 @@
 mod Plain
+mod Compact
 mod Objects
 mod RowObjects
+mod Numbers
+mod OneLine
+mod Names
+mod Told
+mod Columns
+mod LinesRead
+mod RowsRead

@@ -1,11 +1,11 @@
 -- The text of a record's object.
-use Rattle.std.proofs.Common.{◌≡◌, ℕ, ◌<◌, Bool, true, false, List, [], ◌∷◌, ◌++◌, Option, Some, None, refl, sym, ap, append_assoc, ◌∙◌, cond}
+use Rattle.std.proofs.Common.{◌≡◌, ℕ, ◌<◌, Bool, true, false, List, [], ◌∷◌, ◌++◌, map, Option, Some, None, refl, sym, ap, append_assoc, ◌∙◌, cond}
 use Rattle.std.specs.Prelude.{codes, decimal, nat_lt, ◌^◌, All}
 use Rattle.std.specs.Option.{option_map_or}
 use Rattle.std.proofs.lemmas.List.Elements.{All-head, All-tail}
 use Rattle.json.specs.Print.{escape_byte, quoted}
-use Rattle.serde_json.specs.Data.{string, number, unsigned}
-use Rattle.serde_json.specs.Written.{compact_text, items_text, comma_if as comma_before}
+use Rattle.json.specs.Json.{string, number}
+use Rattle.json.specs.Value.{items_of}
 use Rattle.ipfix_elements.specs.Elements.{kind_of}
 use Rattle.ipfix_elements.specs.Names.{name_text}
 use Rattle.ipfix_elements.specs.Texts.{cell_text}
@@ -17,7 +17,8 @@ use Rattle.ipfix_message.specs.Fields.{Field}
 use Rattle.ipfix_message.specs.declared.record.DataRecord.{DataRecord}
 use Rattle.ipfix_elements.specs.JsonValues.{in_quotes, json_cell}
 use Rattle.ipfix_dump.specs.JsonLines.{json_value, json_field, json_fields, json_line, comma_if}
-use Rattle.json_laws.specs.Objects.{data_of, value_of, field_object, field_objects, object_of}
+use Rattle.json_laws.specs.Objects.{object_of, object_of_field, value_as, value_of}
+use Rattle.json_laws.proofs.Compact.{compact_text, items_text, comma_if as comma_before}
 use Rattle.json_laws.proofs.Plain.{IsPlain, value_plain, name_plain}
 
 pub quoted_plain : (s : List ℕ) → IsPlain s → quoted s ≡ in_quotes s
@@ -25,12 +26,12 @@ quoted_plain s p = ap (λ (t : List ℕ). 34 ∷ (t ++ 34 ∷ [])) p
 
 -- ---- values
 
-by_size : (b : Bool) (n : ℕ) → IsPlain (decimal n) → compact_text (cond b (number (unsigned n)) (string (decimal n))) ≡ cond b (decimal n) (in_quotes (decimal n))
+by_size : (b : Bool) (n : ℕ) → IsPlain (decimal n) → compact_text (cond b (number (decimal n)) (string (decimal n))) ≡ cond b (decimal n) (in_quotes (decimal n))
 by_size true n p = refl
 by_size false n p = quoted_plain _ p
 
 pub of_cell : (o : Option Cell) (other : List ℕ) → IsPlain (option_map_or cell_text o other)
-    → compact_text (data_of o (option_map_or cell_text o other)) ≡ option_map_or json_cell o (in_quotes (option_map_or cell_text o other))
+    → compact_text (value_as o (option_map_or cell_text o other)) ≡ option_map_or json_cell o (in_quotes (option_map_or cell_text o other))
 unfolding cell_text
 of_cell None other p = quoted_plain other p
 of_cell (Some (Number n)) other p = by_size (nat_lt n (2 ^ 53)) n p
@@ -56,7 +57,7 @@ field_parts name_quoted value_quoted name_given name value_given value is_name_k
 abbrev has_octets : Field → Type 0
 has_octets f = All (λ b. b < 256) f.octets
 
-field_is : (f : Field) → has_octets f → compact_text (field_object f) ≡ json_field f
+field_is : (f : Field) → has_octets f → compact_text (object_of_field f) ≡ json_field f
 unfolding json_field
 field_is f all =
     field_parts _ _ _ (name_text f.element) _ (json_value (kind_of f.element) f.octets) keys.0 keys.1 (quoted_plain (name_text f.element) (name_plain f.element)) (value_is f all)
@@ -68,7 +69,7 @@ comma_is false = refl
 one_more : (comma_given comma field_given field rest_given rest : List ℕ) → comma_given ≡ comma → field_given ≡ field → rest_given ≡ rest ++ codes "]" → comma_given ++ (field_given ++ rest_given) ≡ (comma ++ (field ++ rest)) ++ codes "]"
 one_more comma_given comma field_given field rest_given rest is_comma is_field is_rest = rw (is_comma, is_field, is_rest) (simp append_assoc)
 
-fields_are : (later : Bool) (fs : List Field) → All has_octets fs → items_text later (field_objects fs) ≡ json_fields later fs ++ codes "]"
+fields_are : (later : Bool) (fs : List Field) → All has_octets fs → items_text later (items_of (map object_of_field fs)) ≡ json_fields later fs ++ codes "]"
 fields_are later [] all = refl
 fields_are later (f ∷ fs) all =
     one_more _ (comma_if later) _ (json_field f) _ (json_fields true fs) (comma_is later) (field_is f (All-head has_octets f fs all)) (fields_are true fs (All-tail has_octets f fs all))

@@ -1,3 +1,6 @@
 -- What public contracts cite.
+pub mod Lines
 pub mod Objects
 pub mod RowObjects
+pub mod Told
+pub mod Examples

@@ -1,6 +1,7 @@
 -- The value of JSON that a data record is dumped as.
-use Rattle.std.specs.Prelude.{ℕ, ◌^◌, nat_lt, List, [], ◌∷◌, codes, Option, Some, None, if◌then◌else◌}
-use Rattle.serde_json.specs.Data.{Data, number, string, array, object, unsigned, Items, no_items, item, no_members, member}
+use Rattle.std.specs.Prelude.{ℕ, ◌<◌, ◌^◌, nat_lt, List, [], ◌∷◌, codes, decimal, map, Option, Some, None, if◌then◌else◌}
+use Rattle.json.specs.Json.{Json, number, string, array, object, Members, no_members, member}
+use Rattle.json.specs.Value.{items_of}
 use Rattle.ipfix_elements.specs.Elements.{kind_of}
 use Rattle.ipfix_elements.specs.Names.{name_text}
 use Rattle.ipfix_elements.specs.Texts.{value_text}
@@ -10,28 +11,42 @@ use Rattle.ipfix_elements.specs.declared.cell.Cell.TheVariants.{Number, Ipv4, Ip
 use Rattle.ipfix_message.specs.Fields.{Field}
 use Rattle.ipfix_message.specs.declared.record.DataRecord.{DataRecord}
 
+abbrev pub members_of : List (List ℕ × Json) → Members
+members_of [] = no_members
+members_of (pair ∷ pairs) = member pair.0 pair.1 (members_of pairs)
+
+-- an object with these members, each by its name and value, in this order
+abbrev pub object_with : List (List ℕ × Json) → Json
+object_with pairs = object (members_of pairs)
+
+abbrev pub number_value : ℕ → Json
+number_value n = number (decimal n)
+
 -- a number below 2^53, and every other value as a text
-abbrev pub data_of : Option Cell → List ℕ → Data
-data_of (Some (Number n)) text = if nat_lt n (2 ^ 53) then number (unsigned n) else string text
-data_of (Some (Ipv4 address)) text = string text
-data_of (Some (Ipv6 address)) text = string text
-data_of (Some (Mac address)) text = string text
-data_of None text = string text
+abbrev pub value_as : Option Cell → List ℕ → Json
+value_as (Some (Number n)) text = if nat_lt n (2 ^ 53) then number_value n else string text
+value_as (Some (Ipv4 address)) text = string text
+value_as (Some (Ipv6 address)) text = string text
+value_as (Some (Mac address)) text = string text
+value_as None text = string text
 
-abbrev pub value_of : Field → Data
-value_of f = data_of (cell_in (kind_of f.element) f.octets) (value_text (kind_of f.element) f.octets)
+abbrev pub value_of : Field → Json
+value_of f = value_as (cell_in (kind_of f.element) f.octets) (value_text (kind_of f.element) f.octets)
 
-abbrev pub field_object : Field → Data
-field_object f = object (member (codes "name") (string (name_text f.element)) (member (codes "value") (value_of f) no_members))
+abbrev pub object_of_field : Field → Json
+object_of_field f = object_with ((codes "name", string (name_text f.element)) ∷ (codes "value", value_of f) ∷ [])
 
-abbrev pub field_objects : List Field → Items
-field_objects [] = no_items
-field_objects (f ∷ fs) = item (field_object f) (field_objects fs)
-
-abbrev pub object_of : DataRecord → Data
+abbrev pub object_of : DataRecord → Json
 object_of r =
-    object (member (codes "domain") (number (unsigned r.domain))
-    (member (codes "template") (number (unsigned r.template))
-    (member (codes "export_time") (number (unsigned r.export_time))
-    (member (codes "scope") (number (unsigned r.scope))
-    (member (codes "fields") (array (field_objects r.fields)) no_members)))))
+    object_with ((codes "domain", number_value r.domain)
+    ∷ (codes "template", number_value r.template)
+    ∷ (codes "export_time", number_value r.export_time)
+    ∷ (codes "scope", number_value r.scope)
+    ∷ (codes "fields", array (items_of (map object_of_field r.fields))) ∷ [])
+
+-- numbers that have room in the types of a record: 32 bits, and 16 for a template's id and scope
+pub record FitsTypes (r : DataRecord) : Type 0 where
+  pub domain : r.domain < 2 ^ 32
+  pub template : r.template < 2 ^ 16
+  pub export_time : r.export_time < 2 ^ 32
+  pub scope : r.scope < 2 ^ 16

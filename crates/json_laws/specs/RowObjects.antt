@@ -1,33 +1,27 @@
 -- The value of JSON that a row of a table is written as.
 use Rattle.std.specs.Prelude.{ℕ, ◌<◌, List, [], ◌∷◌, ◌++◌, map, All, Some}
 use Rattle.std.specs.List.{zip}
-use Rattle.serde_json.specs.Data.{Data, object, Members, no_members, member}
+use Rattle.json.specs.Json.{Json}
 use Rattle.ipfix_elements.specs.Texts.{cell_text}
 use Rattle.ipfix_elements.specs.declared.cell.Cell.{Cell}
 use Rattle.ipfix_elements.specs.declared.cell.Cell.TheVariants.{Number, Ipv4, Ipv6, Mac}
 use Rattle.flow_table.specs.Plans.{PlanValue}
 use Rattle.flow_table.specs.SameTables.{RowValue}
 use Rattle.flow_export.specs.CsvText.{first_of, heading, last_of}
-use Rattle.json_laws.specs.Objects.{data_of}
+use Rattle.json_laws.specs.Objects.{object_with, value_as}
 
-abbrev pub cell_data : Cell → Data
-cell_data cell = data_of (Some cell) (cell_text cell)
+-- what the columns of a row hold, in the order of the heading
+abbrev pub columns : PlanValue → RowValue → List Cell
+columns plan row =
+    Number (first_of plan row) ∷ Number (last_of plan row)
+    ∷ (row.key ++ (map (λ n. Number n) row.sums ++ Number row.flows ∷ []))
 
-abbrev pub number_data : ℕ → Data
-number_data n = cell_data (Number n)
+abbrev pub value_of_cell : Cell → Json
+value_of_cell cell = value_as (Some cell) (cell_text cell)
 
--- the values of a row, in the order of the heading
-abbrev pub row_data : PlanValue → RowValue → List Data
-row_data plan row =
-    number_data (first_of plan row) ∷ number_data (last_of plan row) ∷ (map cell_data row.key ++ (map number_data row.sums ++ number_data row.flows ∷ []))
-
-abbrev pub members_of : List (List ℕ × Data) → Members
-members_of [] = no_members
-members_of (pair ∷ pairs) = member pair.0 pair.1 (members_of pairs)
-
--- each name of the heading with the row's value
-abbrev pub object_of_row : PlanValue → RowValue → Data
-object_of_row plan row = object (members_of (zip (heading plan) (row_data plan row)))
+-- each name of the heading with the value of its column, in the order of the heading
+abbrev pub object_of_row : PlanValue → RowValue → Json
+object_of_row plan row = object_with (zip (heading plan) (map value_of_cell (columns plan row)))
 
 -- the octets of an address
 abbrev pub address_of : Cell → List ℕ

@@ -1,32 +1,45 @@
 //! Tables that refuse a sum, and rows of several tables that are added up.
 
+ghost use Rattle.std.specs.Prelude.{◌≡◌, ◌<◌, All, IfOk};
+ghost use Rattle.flow_table.specs.Fitting.{FitsPlan};
+ghost use Rattle.flow_table.specs.RowTotals.{totals_plan};
+ghost use Rattle.flow_table.specs.declared.table.Row.{Row as RowRecord};
+
 use super::records::{by_source, flow, text_of};
-use flow_table::{Method, Partial, RowTotals, Table, TableFault};
+use flow_table::{Method, Partial, Plan, RowTotals, Table, TableFault};
 use std::alloc::Global;
 use std::test::Fail;
 
 // The table of a flow in the first minute and one in the second.
-fn table_of_two(alloc: Global, octets: u64) -> Result<Table, Fail> {
-    let plan = by_source(alloc, Method::Start)?;
-    let mut partial = Partial::new(alloc, &plan)?;
-    for (time, octets) in [(61_000, 1), (1000, octets)] {
-        partial.add(&flow(alloc, time, time, octets)?)?;
-    }
+fn table_of_two(alloc: Global, plan: &Plan, octets: u64) -> Result<Table, Fail>
+    ensures fits { IfOk result (FitsPlan plan.now) }
+    ensures some { IfOk result (λ table. All (λ (row : RowRecord). 0 < row.flows) table.rows.items) }
+{
+    let mut partial = Partial::new(alloc, plan)?;
+    partial.add(&flow(alloc, 61_000, 61_000, 1)?)?;
+    partial.add(&flow(alloc, 1000, 1000, octets)?)?;
     Ok(partial.finish()?)
 }
 
-fn add_all(totals: &mut RowTotals, table: Table) -> Result<(), TableFault> {
-    for row in table.rows {
-        totals.add(row)?;
+fn add_all(totals: &mut RowTotals, table: &Table) -> Result<(), TableFault>
+    requires fits { FitsPlan (totals_plan totals.old) table.now }
+    requires some { All (λ (row : RowRecord). 0 < row.flows) table.now.rows.items }
+    ensures { totals_plan totals.new ≡ totals_plan totals.old }
+{
+    for i in 0..table.rows.len() {
+        totals.add(&table.rows[i])?;
     }
     Ok(())
 }
 
 // The rows of two such tables, added up, or the name of the fault.
 fn added_up(alloc: Global, octets: u64, others: u64) -> Result<String, Fail> {
-    let mut totals = RowTotals::new(alloc);
-    add_all(&mut totals, table_of_two(alloc, octets)?)?;
-    if let Err(fault) = add_all(&mut totals, table_of_two(alloc, others)?) {
+    let plan = by_source(alloc, Method::Start)?;
+    let mut totals = RowTotals::new(alloc, &plan)?;
+    let first = table_of_two(alloc, &plan, octets)?;
+    let second = table_of_two(alloc, &plan, others)?;
+    add_all(&mut totals, &first)?;
+    if let Err(fault) = add_all(&mut totals, &second) {
         return Ok(String::from_str(alloc, fault.name())?);
     }
     Ok(text_of(alloc, &totals.finish()?)?)

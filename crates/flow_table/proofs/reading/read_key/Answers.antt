@@ -20,8 +20,8 @@ loop-key-preserved c =
     let keys = c.args.keys.now in
     let kinds = c.args.kinds.now in
     let r = c.args.data_record.now in
-    let found = c.loop-key.cells in
-    let news = c.push.new.self in
+    let found = c.loop-key.cells.items in
+    let news = c.push.new.self.items in
     let cell = c.in-Some-read_cell_of.cell in
     let i = length c.loop-key.yielded in
     let first : iter_rest (zip_first c.into_iter-key-iterator.result) ≡ keys = search in
@@ -31,6 +31,6 @@ loop-key-preserved c =
     let fits : IsCellOf (get_or kinds i (Unsigned One)) cell = subst (λ (k : Kind). IsCellOf k cell) (turn.3 (Unsigned One)) c.in-Some-read_cell_of.ensures.fits in
     let next : length (c.loop-key.yielded ++ (c.in-Some.key, c.in-Some.kind) ∷ []) ≡ i + 1 = length-append c.loop-key.yielded ((c.in-Some.key, c.in-Some.kind) ∷ []) in
     record {
-      cells = rw next (cells_more keys r found news i no_key cell turn.0 here c.in_ok-push.ensures c.loop-key.invariant.cells);
-      fits = rw next (more_fit keys kinds found news i no_key (Unsigned One) cell turn.0 c.requires.kinds c.loop-key.invariant.fits fits c.in_ok-push.ensures);
+      cells = rw next (cells_more keys r found news i no_key cell turn.0 here c.in_ok-push.ensures.items c.loop-key.invariant.cells);
+      fits = rw next (more_fit keys kinds found news i no_key (Unsigned One) cell turn.0 c.requires.kinds c.loop-key.invariant.fits fits c.in_ok-push.ensures.items);
     }

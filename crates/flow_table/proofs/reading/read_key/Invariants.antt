@@ -7,6 +7,6 @@ use Rattle.flow_table.proofs.reading.read_key.Given as goal
 -- the cells so far and those of the keys that are left
 abbrev pub invariant-loop-key : goal.invariant-loop-key
 invariant-loop-key l = record {
-  cells : cells_of l.keys l.data_record ≡ option_map (λ (rest : List Cell). l.cells ++ rest) (cells_of (drop (length l.yielded) l.keys) l.data_record);
-  fits : FitsKeys (take (length l.yielded) l.keys) l.cells;
+  cells : cells_of l.keys l.data_record ≡ option_map (λ (rest : List Cell). l.cells.items ++ rest) (cells_of (drop (length l.yielded) l.keys) l.data_record);
+  fits : FitsKeys (take (length l.yielded) l.keys) l.cells.items;
 }

@@ -13,37 +13,37 @@ pub returns-in_err-count-in-Left-clause-stands : goal.returns-in_err-count-in-Le
 returns-in_err-count-in-Left-clause-stands c =
     let p = err_from_is_err_and c.from_residual-in_err-count-in-Left.result c.from_residual-in_err-count-in-Left.ensures.1 in
     let r = c.args.data_record.now in
-    let reads = subst (λ (x : Reading). ReadsAs c.args.plan.now r c.read.new.key x) c.in-Left.is c.in_ok-class.ensures in
-    λ rs holds. stands_err c.args.plan.now c.args.intervals.now.entries _ (rs ++ r ∷ []) c.from_residual-in_err-count-in-Left.result p.0 p.1
-    (λ same. one_too_many c.args.plan.now c.args.intervals.now.entries c.args.tally.now rs r c.in-Left.class reads.0 holds c.in_err-count-in-Left.ensures.large.1)
+    let reads = subst (λ (x : Reading). ReadsAs c.args.plan.now r c.read.new.key.items x) c.in-Left.is c.in_ok-class.ensures in
+    λ rs holds. stands_err c.args.plan.now c.args.rows.now _ (rs ++ r ∷ []) c.from_residual-in_err-count-in-Left.result p.0 p.1
+    (λ same. one_too_many c.args.plan.now c.args.rows.now c.args.tally.now rs r c.in-Left.class reads.0 holds c.in_err-count-in-Left.ensures.large.1)
 
 pub returns-in_err-count-in-Used-clause-stands : goal.returns-in_err-count-in-Used-clause-stands
 returns-in_err-count-in-Used-clause-stands c =
     let p = err_from_is_err_and c.from_residual-in_err-count-in-Used.result c.from_residual-in_err-count-in-Used.ensures.1 in
     let r = c.args.data_record.now in
-    let reads = subst (λ (x : Reading). ReadsAs c.args.plan.now r c.read.new.key x) c.in-Used.is c.in_ok-class.ensures in
-    λ rs holds. stands_err c.args.plan.now c.args.intervals.now.entries _ (rs ++ r ∷ []) c.from_residual-in_err-count-in-Used.result p.0 p.1
-    (λ same. one_too_many c.args.plan.now c.args.intervals.now.entries c.args.tally.now rs r Used reads.0.used holds c.in_err-count-in-Used.ensures.large.1)
+    let reads = subst (λ (x : Reading). ReadsAs c.args.plan.now r c.read.new.key.items x) c.in-Used.is c.in_ok-class.ensures in
+    λ rs holds. stands_err c.args.plan.now c.args.rows.now _ (rs ++ r ∷ []) c.from_residual-in_err-count-in-Used.result p.0 p.1
+    (λ same. one_too_many c.args.plan.now c.args.rows.now c.args.tally.now rs r Used reads.0.used holds c.in_err-count-in-Used.ensures.large.1)
 
 pub returns-in_err-take_flow-in-Used-clause-stands : goal.returns-in_err-take_flow-in-Used-clause-stands
 returns-in_err-take_flow-in-Used-clause-stands c =
     let p = err_from_is_err_and c.from_residual-in_err-take_flow-in-Used.result c.from_residual-in_err-take_flow-in-Used.ensures.1 in
     let r = c.args.data_record.now in
-    λ rs holds. stands_err c.args.plan.now c.take_flow.new.intervals.entries _ (rs ++ r ∷ []) c.from_residual-in_err-take_flow-in-Used.result c.in_err-take_flow-in-Used.field-0.0 (p.1 ∙ ap (λ (e : TableFault). Err e) p.2)
-    (λ same. too_large_sum c.args.plan.now c.args.intervals.now.entries c.args.tally.now rs (r ∷ []) holds (c.in_err-take_flow-in-Used.ensures.large same))
+    λ rs holds. stands_err c.args.plan.now c.take_flow.new.rows _ (rs ++ r ∷ []) c.from_residual-in_err-take_flow-in-Used.result c.in_err-take_flow-in-Used.field-0.0 (p.1 ∙ ap (λ (e : TableFault). Err e) p.2)
+    (λ same. too_large_sum c.args.plan.now c.args.rows.now c.args.tally.now rs (r ∷ []) holds (c.in_err-take_flow-in-Used.ensures.large holds.of_plan same))
 
 pub returns-in_ok-count-in-Left-clause-stands : goal.returns-in_ok-count-in-Left-clause-stands
 returns-in_ok-count-in-Left-clause-stands c =
     let r = c.args.data_record.now in
-    let reads = subst (λ (x : Reading). ReadsAs c.args.plan.now r c.read.new.key x) c.in-Left.is c.in_ok-class.ensures in
+    let reads = subst (λ (x : Reading). ReadsAs c.args.plan.now r c.read.new.key.items x) c.in-Left.is c.in_ok-class.ensures in
     let own = c.in_ok-count-in-Left.ensures.ok in
-    λ rs holds. left_taken c.args.plan.now c.args.intervals.now.entries c.args.tally.now c.count.new.self rs r c.in-Left.class reads.0 reads.1 own.0 own.1 holds
+    λ rs holds. left_taken c.args.plan.now c.args.rows.now c.args.tally.now c.count.new.self rs r c.in-Left.class reads.0 reads.1 own.0 own.1 holds
 
 pub returns-in_ok-take_flow-in-Used-clause-stands : goal.returns-in_ok-take_flow-in-Used-clause-stands
 returns-in_ok-take_flow-in-Used-clause-stands c =
     let r = c.args.data_record.now in
-    let reads = subst (λ (x : Reading). ReadsAs c.args.plan.now r c.read.new.key x) c.in-Used.is c.in_ok-class.ensures in
+    let reads = subst (λ (x : Reading). ReadsAs c.args.plan.now r c.read.new.key.items x) c.in-Used.is c.in_ok-class.ensures in
     let own = c.in_ok-count-in-Used.ensures.ok in
-    λ rs holds. used_taken c.args.plan.now c.args.intervals.now.entries c.take_flow.new.intervals.entries c.args.tally.now c.count-in-Used.new.self rs r
-    (read_keys_fit c.args.plan.now r c.read.new.key (readings.Used c.in-Used.span) reads) reads.0.used own.0 own.1
+    λ rs holds. used_taken c.args.plan.now c.args.rows.now c.take_flow.new.rows c.args.tally.now c.count-in-Used.new.self rs r
+    (read_keys_fit c.args.plan.now r c.read.new.key.items (readings.Used c.in-Used.span) reads) reads.0.used own.0 own.1 c.in_ok-take_flow-in-Used.ensures.rows
     c.in_ok-take_flow-in-Used.ensures.ok c.in_ok-take_flow-in-Used.ensures.fits holds

@@ -13,13 +13,13 @@ returns-in-Some-clause-answer c = sym (ap (λ (o : Option TableFault). unless o 
 
 pub returns-in-Some-clause-adds : goal.returns-in-Some-clause-adds
 unfolding StandsFor
-returns-in-Some-clause-adds c = λ rs stands. stands_on c.args.self.now.plan c.args.self.now.intervals.entries c.args.self.now.tally rs (c.args.data_record.now ∷ []) c.args.self.now.fault c.in-Some.fault c.in-Some.is stands
+returns-in-Some-clause-adds c = λ rs stands. stands_on c.args.self.now.plan c.args.self.now.rows c.args.self.now.tally rs (c.args.data_record.now ∷ []) c.args.self.now.fault c.in-Some.fault c.in-Some.is stands
 
 pub returns-in-Some-clause-large : goal.returns-in-Some-clause-large
 unfolding StandsFor plan_of
 returns-in-Some-clause-large c = λ rs stands large.
     too_large_more c.args.self.now.plan rs (c.args.data_record.now ∷ [])
-    (large_of c.args.self.now.plan c.args.self.now.intervals.entries c.args.self.now.tally rs c.args.self.now.fault c.in-Some.fault c.in-Some.is large stands)
+    (large_of c.args.self.now.plan c.args.self.now.rows c.args.self.now.tally rs c.args.self.now.fault c.in-Some.fault c.in-Some.is large stands)
 
 pub returns-clause-plan : goal.returns-clause-plan
 unfolding plan_of
@@ -36,17 +36,17 @@ returns-clause-sticky c = λ some. absurd (no_fault c.args.self.now.fault c.in_d
 pub returns-clause-adds : goal.returns-clause-adds
 unfolding StandsFor
 returns-clause-adds c = λ rs stands.
-    subst (λ (o : Option TableFault). StandsBy o c.args.self.now.plan c.take-result.new.intervals.entries c.take-result.new.tally (rs ++ c.args.data_record.now ∷ [])) (sym c.err-self.ensures.value)
-    (c.take-result.ensures.stands rs (subst (λ (o : Option TableFault). StandsBy o c.args.self.now.plan c.args.self.now.intervals.entries c.args.self.now.tally rs) c.in_default.is stands))
+    subst (λ (o : Option TableFault). StandsBy o c.args.self.now.plan c.take-result.new.rows c.take-result.new.tally (rs ++ c.args.data_record.now ∷ [])) (sym c.err-self.ensures.value)
+    (c.take-result.ensures.stands rs (subst (λ (o : Option TableFault). StandsBy o c.args.self.now.plan c.args.self.now.rows c.args.self.now.tally rs) c.in_default.is stands))
 
 pub returns-clause-small : goal.returns-clause-small
 unfolding StandsFor plan_of
 returns-clause-small c = λ rs stands.
-    small_on_ok c.take-result.result c.args.self.now.plan c.take-result.new.intervals.entries c.take-result.new.tally (rs ++ c.args.data_record.now ∷ [])
-    (c.take-result.ensures.stands rs (subst (λ (o : Option TableFault). StandsBy o c.args.self.now.plan c.args.self.now.intervals.entries c.args.self.now.tally rs) c.in_default.is stands))
+    small_on_ok c.take-result.result c.args.self.now.plan c.take-result.new.rows c.take-result.new.tally (rs ++ c.args.data_record.now ∷ [])
+    (c.take-result.ensures.stands rs (subst (λ (o : Option TableFault). StandsBy o c.args.self.now.plan c.args.self.now.rows c.args.self.now.tally rs) c.in_default.is stands))
 
 pub returns-clause-large : goal.returns-clause-large
 unfolding StandsFor plan_of
 returns-clause-large c = λ rs stands.
-    large_if_err c.take-result.result c.args.self.now.plan c.take-result.new.intervals.entries c.take-result.new.tally (rs ++ c.args.data_record.now ∷ [])
-    (c.take-result.ensures.stands rs (subst (λ (o : Option TableFault). StandsBy o c.args.self.now.plan c.args.self.now.intervals.entries c.args.self.now.tally rs) c.in_default.is stands))
+    large_if_err c.take-result.result c.args.self.now.plan c.take-result.new.rows c.take-result.new.tally (rs ++ c.args.data_record.now ∷ [])
+    (c.take-result.ensures.stands rs (subst (λ (o : Option TableFault). StandsBy o c.args.self.now.plan c.args.self.now.rows c.args.self.now.tally rs) c.in_default.is stands))

@@ -16,13 +16,13 @@ returns-in-Some-clause-takes_over c = λ none some. absurd (one_fault c.args.sel
 
 pub returns-in-Some-clause-merges : goal.returns-in-Some-clause-merges
 unfolding StandsFor
-returns-in-Some-clause-merges c = λ rs qs stands others. stands_on c.args.self.now.plan c.args.self.now.intervals.entries c.args.self.now.tally rs qs c.args.self.now.fault c.in-Some.fault c.in-Some.is stands
+returns-in-Some-clause-merges c = λ rs qs stands others. stands_on c.args.self.now.plan c.args.self.now.rows c.args.self.now.tally rs qs c.args.self.now.fault c.in-Some.fault c.in-Some.is stands
 
 pub returns-in-Some-clause-large : goal.returns-in-Some-clause-large
 unfolding StandsFor plan_of
 returns-in-Some-clause-large c = λ rs qs stands others large.
     too_large_more c.args.self.now.plan rs qs
-    (large_of c.args.self.now.plan c.args.self.now.intervals.entries c.args.self.now.tally rs c.args.self.now.fault c.in-Some.fault c.in-Some.is large stands)
+    (large_of c.args.self.now.plan c.args.self.now.rows c.args.self.now.tally rs c.args.self.now.fault c.in-Some.fault c.in-Some.is large stands)
 
 pub returns-in-Some-fault-clause-plan : goal.returns-in-Some-fault-clause-plan
 unfolding plan_of
@@ -43,13 +43,13 @@ returns-in-Some-fault-clause-takes_over c = λ none some. sym c.in-Some-fault.is
 pub returns-in-Some-fault-clause-merges : goal.returns-in-Some-fault-clause-merges
 unfolding StandsFor plan_of
 returns-in-Some-fault-clause-merges c = λ rs qs stands others.
-    stands_taken c.args.self.now.plan c.args.other.plan c.args.self.now.intervals.entries c.args.other.intervals.entries c.args.self.now.tally c.args.other.tally rs qs c.args.other.fault c.in-Some-fault.fault c.requires c.in-Some-fault.is others
+    stands_taken c.args.self.now.plan c.args.other.plan c.args.self.now.rows c.args.other.rows c.args.self.now.tally c.args.other.tally rs qs c.args.other.fault c.in-Some-fault.fault c.requires c.in-Some-fault.is others
 
 pub returns-in-Some-fault-clause-large : goal.returns-in-Some-fault-clause-large
 unfolding StandsFor plan_of
 returns-in-Some-fault-clause-large c = λ rs qs stands others large.
-    large_of c.args.self.now.plan c.args.self.now.intervals.entries c.args.self.now.tally (rs ++ qs) (Some c.in-Some-fault.fault) c.in-Some-fault.fault refl large
-    (stands_taken c.args.self.now.plan c.args.other.plan c.args.self.now.intervals.entries c.args.other.intervals.entries c.args.self.now.tally c.args.other.tally rs qs c.args.other.fault c.in-Some-fault.fault c.requires c.in-Some-fault.is others)
+    large_of c.args.self.now.plan c.args.self.now.rows c.args.self.now.tally (rs ++ qs) (Some c.in-Some-fault.fault) c.in-Some-fault.fault refl large
+    (stands_taken c.args.self.now.plan c.args.other.plan c.args.self.now.rows c.args.other.rows c.args.self.now.tally c.args.other.tally rs qs c.args.other.fault c.in-Some-fault.fault c.requires c.in-Some-fault.is others)
 
 pub returns-clause-plan : goal.returns-clause-plan
 unfolding plan_of
@@ -70,23 +70,23 @@ returns-clause-takes_over c = λ none some. absurd (no_fault c.args.other.fault 
 pub returns-clause-merges : goal.returns-clause-merges
 unfolding StandsFor plan_of
 returns-clause-merges c = λ rs qs stands others.
-    subst (λ (o : Option TableFault). StandsBy o c.args.self.now.plan c.join-result.new.intervals.entries c.join-result.new.tally (rs ++ qs)) (sym c.err-self.ensures.value)
-    (c.join-result.ensures c.args.self.now.plan rs qs
-    (subst (λ (o : Option TableFault). StandsBy o c.args.self.now.plan c.args.self.now.intervals.entries c.args.self.now.tally rs) c.in_default.is stands)
-    (holds_of c.args.self.now.plan c.args.other.plan c.args.other.intervals.entries c.args.other.tally qs c.args.other.fault c.requires c.in_default-fault.is others))
+    subst (λ (o : Option TableFault). StandsBy o c.args.self.now.plan c.join-result.new.rows c.join-result.new.tally (rs ++ qs)) (sym c.err-self.ensures.value)
+    (c.join-result.ensures rs qs
+    (subst (λ (o : Option TableFault). StandsBy o c.args.self.now.plan c.args.self.now.rows c.args.self.now.tally rs) c.in_default.is stands)
+    (holds_of c.args.self.now.plan c.args.other.plan c.args.other.rows c.args.other.tally qs c.args.other.fault c.requires c.in_default-fault.is others))
 
 pub returns-clause-small : goal.returns-clause-small
 unfolding StandsFor plan_of
 returns-clause-small c = λ rs qs stands others.
-    small_on_ok c.join-result.result c.args.self.now.plan c.join-result.new.intervals.entries c.join-result.new.tally (rs ++ qs)
-    (c.join-result.ensures c.args.self.now.plan rs qs
-    (subst (λ (o : Option TableFault). StandsBy o c.args.self.now.plan c.args.self.now.intervals.entries c.args.self.now.tally rs) c.in_default.is stands)
-    (holds_of c.args.self.now.plan c.args.other.plan c.args.other.intervals.entries c.args.other.tally qs c.args.other.fault c.requires c.in_default-fault.is others))
+    small_on_ok c.join-result.result c.args.self.now.plan c.join-result.new.rows c.join-result.new.tally (rs ++ qs)
+    (c.join-result.ensures rs qs
+    (subst (λ (o : Option TableFault). StandsBy o c.args.self.now.plan c.args.self.now.rows c.args.self.now.tally rs) c.in_default.is stands)
+    (holds_of c.args.self.now.plan c.args.other.plan c.args.other.rows c.args.other.tally qs c.args.other.fault c.requires c.in_default-fault.is others))
 
 pub returns-clause-large : goal.returns-clause-large
 unfolding StandsFor plan_of
 returns-clause-large c = λ rs qs stands others.
-    large_if_err c.join-result.result c.args.self.now.plan c.join-result.new.intervals.entries c.join-result.new.tally (rs ++ qs)
-    (c.join-result.ensures c.args.self.now.plan rs qs
-    (subst (λ (o : Option TableFault). StandsBy o c.args.self.now.plan c.args.self.now.intervals.entries c.args.self.now.tally rs) c.in_default.is stands)
-    (holds_of c.args.self.now.plan c.args.other.plan c.args.other.intervals.entries c.args.other.tally qs c.args.other.fault c.requires c.in_default-fault.is others))
+    large_if_err c.join-result.result c.args.self.now.plan c.join-result.new.rows c.join-result.new.tally (rs ++ qs)
+    (c.join-result.ensures rs qs
+    (subst (λ (o : Option TableFault). StandsBy o c.args.self.now.plan c.args.self.now.rows c.args.self.now.tally rs) c.in_default.is stands)
+    (holds_of c.args.self.now.plan c.args.other.plan c.args.other.rows c.args.other.tally qs c.args.other.fault c.requires c.in_default-fault.is others))

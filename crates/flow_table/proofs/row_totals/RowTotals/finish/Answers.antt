@@ -1,10 +1,15 @@
+use Rattle.std.proofs.Common.{rules}
 use Rattle.flow_table.specs.RowTotals.{AreOf}
+use Rattle.flow_table.specs.Rows.{kept_at}
 use Rattle.flow_table.proofs.RowsHeld.{finished_rows}
+use Rattle.flow_table.proofs.RunLines.{lines_of}
 use Rattle.flow_table.proofs.row_totals.RowTotals.finish.Goals as goal
 
 pub returns-clause-sums : goal.returns-clause-sums
 unfolding AreOf
-returns-clause-sums c = λ rows held. finished_rows c.args.self.intervals.entries rows c.in_ok-into_rows.field-0.items held c.in_ok-into_rows.ensures.lines c.in_ok-into_rows.ensures.ascending
+returns-clause-sums c = λ rows held.
+    finished_rows (kept_at c.args.self.plan c.args.self.rows) rows c.in_ok-into_rows.field-0.items held.totals_are
+    (lines_of c.args.self.plan c.args.self.rows held.of_plan _ (search rules))
 
 pub returns-clause-small : goal.returns-clause-small
 unfolding AreOf

@@ -1,7 +1,17 @@
-use Rattle.flow_table.specs.RowTotals.{AreOf}
+use Rattle.std.proofs.Common.{subst, sym}
+use Rattle.flow_table.specs.Plans.{PlanValue}
+use Rattle.flow_table.specs.Rows.{AreRowsOf}
+use Rattle.flow_table.specs.RowTotals.{AreOf, totals_plan}
+use Rattle.flow_table.proofs.Kept.{none_kept}
 use Rattle.flow_table.proofs.RowsHeld.{holds_none}
 use Rattle.flow_table.proofs.row_totals.RowTotals.new.Goals as goal
 
-pub returns : goal.returns
+pub returns-clause-plan : goal.returns-clause-plan
+unfolding totals_plan
+returns-clause-plan c = c.in_ok-copy.ensures
+
+pub returns-clause-empty : goal.returns-clause-empty
 unfolding AreOf
-returns c = holds_none c.new.result.entries c.new.ensures.empty
+returns-clause-empty c =
+    let of_plan : AreRowsOf c.in_ok-copy.field-0 c.new.result = subst (λ (p : PlanValue). AreRowsOf p c.new.result) (sym c.in_ok-copy.ensures) c.new.ensures.rows in
+    holds_none c.in_ok-copy.field-0 c.new.result of_plan (none_kept c.in_ok-copy.field-0 c.new.result c.new.ensures.none)

@@ -1,0 +1,17 @@
+//! Rows that are added up by key, with no block of memory for each: they wait in a buffer, are sorted
+//! into runs that ascend by key, and runs are merged as they grow.
+#![tactic(auto)]
+
+mod bounds;
+mod folding;
+mod held;
+mod lookup;
+mod merging;
+mod numbers;
+mod piece;
+mod stack;
+mod table;
+mod waiting;
+
+pub use piece::Piece;
+pub use table::{AddError, FlatRows};

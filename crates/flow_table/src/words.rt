@@ -1,0 +1,171 @@
+//! The words of keys, which compare as their cells do.
+
+ghost use Rattle.std.specs.Prelude.{◌≡◌, ◌++◌, ◌∷◌, [], ◌≤◌, ℕ, List, Some, drop, length, slice_index_or, IfOk, OnOk};
+ghost use Rattle.std.specs.List.{AllZip};
+ghost use Rattle.std.specs.Int.{to_be_bytes, w64};
+ghost use Rattle.ipfix_elements.specs.declared.cell.Cell.TheVariants as cells;
+ghost use Rattle.ipfix_elements.specs.declared.kind.Kind.{Kind as KindValue};
+ghost use Rattle.ipfix_elements.specs.declared.kind.Kind.TheVariants as kinds_of_cells;
+ghost use Rattle.flow_table.specs.Fitting.{IsCellOf};
+ghost use Rattle.flow_table.specs.Words.{cell_from as cell_in, cell_words, key_from, key_words, padded, word_count, words_of_kind};
+
+use ipfix_elements::{Cell, Kind};
+use std::alloc::{AllocError, Global};
+
+/// How many words the cells of a kind have.
+fn words_of_kind(kind: Kind) -> usize
+    ensures value { result ≡ words_of_kind kind }
+    ensures few { result ≤ 2 }
+{
+    match kind {
+        Kind::Ipv6 => 2,
+        _ => 1,
+    }
+}
+
+/// How many words the cells of some kinds have.
+pub fn count_words(kinds: &[Kind]) -> usize
+    requires { length kinds.now ≤ 8 }
+    ensures { result ≡ word_count kinds.now }
+{
+    let mut count = 0;
+    for kind in kinds {
+        count += words_of_kind(*kind);
+    }
+    count
+}
+
+fn ipv4_word(address: &[u8; 4]) -> u64
+    ensures { cell_words kinds_of_cells.Ipv4 (cells.Ipv4 address.now) ≡ Some (result ∷ []) }
+{
+    let [a, b, c, d] = *address;
+    u64::from_be_bytes([0, 0, 0, 0, a, b, c, d])
+}
+
+fn mac_word(address: &[u8; 6]) -> u64
+    ensures { cell_words kinds_of_cells.Mac (cells.Mac address.now) ≡ Some (result ∷ []) }
+{
+    let [a, b, c, d, e, f] = *address;
+    u64::from_be_bytes([0, 0, a, b, c, d, e, f])
+}
+
+fn ipv6_words(address: &[u8; 16]) -> (u64, u64)
+    ensures { cell_words kinds_of_cells.Ipv6 (cells.Ipv6 address.now)
+        ≡ Some (result.0 ∷ result.1 ∷ []) }
+{
+    let [a, b, c, d, e, f, g, h, i, j, k, l, m, n, o, p] = *address;
+    (
+        u64::from_be_bytes([a, b, c, d, e, f, g, h]),
+        u64::from_be_bytes([i, j, k, l, m, n, o, p]),
+    )
+}
+
+/// Appends the words of a cell.
+fn push_words(cell: &Cell, words: &mut Vec<u64>) -> Result<(), AllocError>
+    ensures { OnOk result ((kind : KindValue) → IsCellOf kind cell.now → (ws : List ℕ)
+        × (cell_words kind cell.now ≡ Some ws) × (words.new.items ≡ words.old.items ++ ws)) }
+{
+    match cell {
+        Cell::Number(number) => words.push(*number)?,
+        Cell::Ipv4(address) => words.push(ipv4_word(address))?,
+        Cell::Ipv6(address) => {
+            let (high, low) = ipv6_words(address);
+            words.push(high)?;
+            words.push(low)?;
+        }
+        Cell::Mac(address) => words.push(mac_word(address))?,
+    }
+    Ok(())
+}
+
+/// Leaves the words of cells in `words`.
+pub fn write_words(cells: &[Cell], words: &mut Vec<u64>) -> Result<(), AllocError>
+    ensures { OnOk result ((kinds : List KindValue) → AllZip IsCellOf kinds cells.now
+        → key_words kinds cells.now ≡ Some words.new.items) }
+{
+    words.clear();
+    for cell in cells {
+        push_words(cell, words)?;
+    }
+    Ok(())
+}
+
+/// The word at a place, or 0 behind the last.
+pub fn word_at(words: &[u64], place: usize) -> u64
+    ensures { result ≡ slice_index_or words.now place 0 }
+{
+    if place < words.len() { words[place] } else { 0 }
+}
+
+/// The words behind so many.
+pub fn words_after(words: &[u64], count: usize) -> &[u64]
+    ensures { result.now ≡ drop count words.now }
+{
+    if count < words.len() {
+        &words[count..]
+    } else {
+        &[]
+    }
+}
+
+/// One word and others behind it, and then zeros.
+pub fn padded_words<const N: usize>(first: u64, others: &[u64]) -> [u64; N]
+    ensures { result ≡ padded N (first ∷ others.now) }
+{
+    let mut words = [0; N];
+    for i in 0..N {
+        words[i] = if i == 0 {
+            first
+        } else {
+            word_at(others, i - 1)
+        };
+    }
+    words
+}
+
+fn ipv4_from(word: u64) -> [u8; 4]
+    ensures { result ≡ drop 4 (to_be_bytes w64 word) }
+{
+    let [_, _, _, _, a, b, c, d] = word.to_be_bytes();
+    [a, b, c, d]
+}
+
+fn mac_from(word: u64) -> [u8; 6]
+    ensures { result ≡ drop 2 (to_be_bytes w64 word) }
+{
+    let [_, _, a, b, c, d, e, f] = word.to_be_bytes();
+    [a, b, c, d, e, f]
+}
+
+fn ipv6_from(high: u64, low: u64) -> [u8; 16]
+    ensures { result ≡ to_be_bytes w64 high ++ to_be_bytes w64 low }
+{
+    let [a, b, c, d, e, f, g, h] = high.to_be_bytes();
+    let [i, j, k, l, m, n, o, p] = low.to_be_bytes();
+    [a, b, c, d, e, f, g, h, i, j, k, l, m, n, o, p]
+}
+
+/// The cell of a kind that has these words, the second if it has two.
+fn cell_from(kind: Kind, first: u64, second: u64) -> Cell
+    ensures { result ≡ cell_in kind first second }
+{
+    match kind {
+        Kind::Ipv4 => Cell::Ipv4(ipv4_from(first)),
+        Kind::Ipv6 => Cell::Ipv6(ipv6_from(first, second)),
+        Kind::Mac => Cell::Mac(mac_from(first)),
+        Kind::Unsigned(_) | Kind::Seconds | Kind::Millis | Kind::Octets => Cell::Number(first),
+    }
+}
+
+/// The cells of kinds, whose words are one after another.
+pub fn key_of_words(alloc: Global, kinds: &[Kind], words: &[u64]) -> Result<Vec<Cell>, AllocError>
+    ensures { IfOk result (λ cells. cells.items ≡ key_from kinds.now words.now) }
+{
+    let mut cells = Vec::with_capacity(alloc, kinds.len())?;
+    let mut rest = words;
+    for kind in kinds {
+        cells.push(cell_from(*kind, word_at(rest, 0), word_at(rest, 1)))?;
+        rest = words_after(rest, words_of_kind(*kind));
+    }
+    Ok(cells)
+}
