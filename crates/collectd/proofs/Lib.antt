@@ -1,2 +1,4 @@
 mod Ran
+mod FullRan
+mod FullDumped
 pub mod Merged

@@ -9,7 +9,6 @@ use Rattle.std.specs.List.{AllZip}
 use Rattle.ipfix_message.specs.declared.record.DataRecord.{DataRecord}
 use Rattle.ipfix_session.specs.Sources.{SourceView}
 use Rattle.flow_table.specs.Plans.{PlanValue}
-use Rattle.ipfix_session.specs.declared.report.SessionReport.{SessionReport}
 use Rattle.flow_collect.specs.Headline.{Headline, IsAddedUp}
 use Rattle.flow_collect.specs.Refusals.{fault_of_arguments}
 use Rattle.flow_collect.specs.Texts.{HasNoFault}
@@ -108,19 +107,8 @@ zero_if_well NotOpened n P is (inr e) well = absurd cc
 zero_if_well Failed n P is (inl e) well = absurd cc
 zero_if_well Failed n P is (inr e) well = absurd cc
 
--- ---- sessions without a fault
+-- ---- a test of a fault
 
-not_some : {X : Type 0} (o : Option X) → false ≡ is_some o → o ≡ None
+pub not_some : {X : Type 0} (o : Option X) → false ≡ is_some o → o ≡ None
 not_some None h = refl
 not_some (Some x) h = absurd cc
-
--- the first ones, and one more
-pub none_more : (rs : List SessionReport) (i : ℕ) (r : SessionReport) → i < length rs → All HasNoFault (take i rs) → r ≡ get_or rs i r → false ≡ is_some r.fault → All HasNoFault (take (i + 1) rs)
-none_more rs i r less before is none =
-    let here : HasNoFault (get_or rs i r) = subst HasNoFault is (not_some r.fault none) in
-    subst (λ (xs : List SessionReport). All HasNoFault xs) (sym (take_more rs i r less))
-    (All-append HasNoFault (take i rs) (get_or rs i r ∷ []) before (All-cons HasNoFault (get_or rs i r) [] here (All-nil HasNoFault)))
-
--- all of them
-pub none_of_all : (rs : List SessionReport) (i : ℕ) → length rs ≤ i → All HasNoFault (take i rs) → All HasNoFault rs
-none_of_all rs i all none = subst (λ (xs : List SessionReport). All HasNoFault xs) (take_all i rs all) none

@@ -5,6 +5,7 @@ use Rattle.flow_merge.specs.MergeFaults as merging
 use Rattle.flow_merge.specs.RowFaults as rows
 use Rattle.flow_merge.specs.declared.merge_fault.MergeFault.{MergeFault}
 use Rattle.flow_merge.specs.declared.merge_fault.MergeFault.TheVariants.{Session, Row}
+use Rattle.run_reports.specs.Origins.{whole_name}
 use Rattle.run_reports.specs.ReportLines.{fault_text}
 
 -- how many files were merged, and how many rows their table has
@@ -23,3 +24,10 @@ file_line file text = codes "collectd: merge: file " ++ (decimal file ++ text)
 
 abbrev pub file_fault_line : ℕ → MergeFault → List ℕ
 file_fault_line file fault = file_line file (merge_fault_text fault)
+
+-- a file that was opened, by its number and its name
+unfoldable pub file_start : ℕ → List ℕ
+file_start file = codes "collectd: merge: file " ++ decimal file
+
+abbrev pub file_opened_line : ℕ → List ℕ → List ℕ
+file_opened_line file name = file_start file ++ (whole_name name ++ codes ": opened\n")

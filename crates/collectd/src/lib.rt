@@ -2,22 +2,26 @@
 #![tactic(auto)]
 
 mod commands;
+mod early;
+mod full_run;
 mod merge_reports;
 mod plan;
 mod sources;
 mod table;
 
-pub use commands::dump::{run_dump, run_dump_json};
-pub use commands::files::run_files;
-pub use commands::merge::run_merge;
-pub use commands::tcp::{Listener, run_tcp};
+pub use commands::dump::{run_dump, run_dump_in_full, run_dump_json, run_dump_json_in_full};
+pub use commands::files::{run_files, run_files_in_full};
+pub use commands::merge::{run_merge, run_merge_in_full};
+pub use commands::tcp::{run_tcp, run_tcp_in_full};
 pub use exit_status::Status;
+pub use full_run::run_in_full;
 pub use ipfix_dump::{DumpFault, dump, dump_json};
 pub use ipfix_session::MessageCounter;
 pub use plan::{ReadText, load_plan};
 pub use run_reports::{
-    write_collect_fault, write_dump_fault, write_export_fault, write_not_had, write_plan_fault,
-    write_reports, write_tally,
+    Origin, Reason, Telling, write_collect_fault, write_dump_fault, write_export_fault,
+    write_not_had, write_not_had_because, write_plan_fault, write_reports, write_tally,
 };
+pub use sources::accepting::{Accepted, Listener};
 pub use sources::opening::{OpenSource, Opened};
 pub use table::{Output, run};

@@ -3,11 +3,12 @@
 ghost use Rattle.std.specs.Prelude.{◌++◌, codes, OnOk};
 ghost use Rattle.std.specs.Io.KnownBytes.{Appends};
 ghost use Rattle.flow_merge.specs.MergeFaults.{number_of, name_of};
+ghost use Rattle.run_reports.specs.OpeningLines.{if_verbose};
 ghost use Rattle.run_reports.specs.ReportLines.{fault_text};
-ghost use Rattle.collectd.specs.MergeLines.{file_fault_line, file_line, merged_line};
+ghost use Rattle.collectd.specs.MergeLines.{file_fault_line, file_line, file_opened_line, file_start, merged_line};
 
 use flow_merge::MergeFault;
-use run_reports::write_fault;
+use run_reports::{Origin, Telling, write_fault, write_origin};
 use std::io::{self, Write};
 
 /// Writes the line that counts the files that were merged, and the rows of their table.
@@ -64,4 +65,38 @@ fn write_inner<W: Write>(
         out,
         "collectd: merge: file {file}{what}: fault {number} {name}"
     )
+}
+
+/// Writes the line of a file, counted from 1, that was opened, with its name. Nothing is written unless
+/// `telling` is verbose.
+pub fn write_file_opened<W: Write>(
+    telling: Telling,
+    file: usize,
+    name: &str,
+    out: &mut W,
+) -> io::Result<()>
+    ensures { OnOk result (Appends (W.contents out.old) (W.contents out.new)
+        (if_verbose telling (file_opened_line file name.now))) }
+{
+    if telling.verbose {
+        write_opened_line(file, name, out)
+    } else {
+        Ok(())
+    }
+}
+
+fn write_opened_line<W: Write>(file: usize, name: &str, out: &mut W) -> io::Result<()>
+    ensures { OnOk result (Appends (W.contents out.old) (W.contents out.new)
+        (file_opened_line file name.now)) }
+{
+    write_file_start(file, out)?;
+    write_origin(&Origin::File { name, size: None }, out)?;
+    out.write_all(b": opened\n")
+}
+
+#[tactic(auto, unfolding(crate::specs::MergeLines::file_start))]
+fn write_file_start<W: Write>(file: usize, out: &mut W) -> io::Result<()>
+    ensures { OnOk result (Appends (W.contents out.old) (W.contents out.new) (file_start file)) }
+{
+    write!(out, "collectd: merge: file {file}")
 }

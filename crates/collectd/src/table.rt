@@ -1,24 +1,20 @@
 //! Collecting and writing the table.
 
-ghost use Rattle.std.specs.Prelude.{◌≡◌, ◌≢◌, ◌⊎◌, ◌↔◌, List, ◌++◌, Err, IfOk, IfErr, IfSome, OnOk, All, vec_len};
+ghost use Rattle.std.specs.Prelude.{◌≡◌, ◌≢◌, ◌⊎◌, IfSome, OnOk, vec_len};
 ghost use Rattle.std.specs.Io.KnownBytes.{Appends};
 ghost use Rattle.flow_table.specs.Fitting.{FitsPlan};
-ghost use Rattle.flow_table.specs.Plans.{PlanValue};
-ghost use Rattle.flow_collect.specs.Headline.{Headline};
 ghost use Rattle.flow_collect.specs.Refusals.{fault_of_arguments};
-ghost use Rattle.flow_collect.specs.Texts.{HasNoFault};
 ghost use Rattle.exit_status.specs.Statuses.{number_of};
-ghost use Rattle.run_reports.specs.ReportLines.{report_lines, tally_line};
-ghost use Rattle.collectd.specs.Runs.{export_text, AddsUpWhole, WasCollected, WritesTable, WritesWholeTable};
+ghost use Rattle.collectd.specs.Runs.{export_text, WasCollected, WritesTable, WritesWholeTable};
 
+use crate::full_run::{NOTHING_MORE, run_in_full};
 use exit_status::Status;
-use flow_collect::{Collected, OpenGate, Pool, collect};
+use flow_collect::Pool;
 use flow_export::{ExportFault, Format, write_csv, write_ipfix, write_json};
 use flow_table::{Plan, Table};
-use ipfix_session::{SessionReport, Source};
-use run_reports::{write_collect_fault, write_export_fault, write_reports, write_tally};
+use ipfix_session::Source;
 use std::alloc::Global;
-use std::io::{self, Write};
+use std::io::Write;
 use std::sync::Wait;
 use std::thread::Threads;
 
@@ -65,19 +61,18 @@ pub fn run<S: Source + Send + Drop, W: Write, E: Write, R: Threads + Wait + Sync
     ensures refused { IfSome (fault_of_arguments pool (vec_len sources))
         (λ fault. (result ≡ number_of Status.Failed) × (out.new ≡ out.old)) }
 {
-    let collected = match collect(rt, alloc, sources, plan, pool, &OpenGate) {
-        Ok(collected) => collected,
-        Err(fault) => {
-            let _ = write_collect_fault(fault, err);
-            return Status::Failed.number();
-        }
-    };
-    if let Err(fault) = export(alloc, plan, &collected.table, output, out) {
-        let _ = write_export_fault(fault, err);
-        return Status::Failed.number();
-    }
-    let _ = tell(&collected, err);
-    status_of(&collected).number()
+    run_in_full(
+        rt,
+        alloc,
+        sources,
+        &[],
+        plan,
+        pool,
+        output,
+        NOTHING_MORE,
+        out,
+        err,
+    )
 }
 
 /// Writes a table, and sees to it that nothing is left in the writer's buffer.
@@ -99,38 +94,4 @@ pub fn export<W: Write>(
     }
     out.flush()?;
     Ok(())
-}
-
-// How a run ended whose table is written.
-fn status_of<S: Source>(collected: &Collected<S>) -> Status
-    ensures ends { (result ≡ Status.Well) ⊎ (result ≡ Status.SessionFault) }
-    ensures well { (result ≡ Status.Well) ↔ All HasNoFault collected.now.sessions.items }
-    ensures whole { (sources : List S) (plan : PlanValue) (pool : Pool)
-        → Headline S.seen sources plan pool collected.now
-        → All HasNoFault collected.now.sessions.items
-        → AddsUpWhole S.seen sources plan collected.now.table }
-{
-    ends_of(&collected.sessions)
-}
-
-// How sessions ended.
-fn ends_of(reports: &[SessionReport]) -> Status
-    ensures ends { (result ≡ Status.Well) ⊎ (result ≡ Status.SessionFault) }
-    ensures well { (result ≡ Status.Well) ↔ All HasNoFault reports.now }
-{
-    for report in reports {
-        if report.fault.is_some() {
-            return Status::SessionFault;
-        }
-    }
-    Status::Well
-}
-
-// What there is to tell of sessions and their records.
-fn tell<S, E: Write>(collected: &Collected<S>, err: &mut E) -> io::Result<()>
-    ensures { OnOk result (Appends (E.contents err.old) (E.contents err.new)
-        (report_lines collected.now.sessions.items ++ tally_line collected.now.table.tally)) }
-{
-    write_reports(&collected.sessions, err)?;
-    write_tally(&collected.table.tally, err)
 }

@@ -3,12 +3,12 @@
 use crate::formats::{DumpFormat, dump_format};
 use crate::inputs::{
     Collecting, buffered_output, read_collecting, read_idle, read_job, read_paths, read_progress,
-    table_output,
+    read_telling, table_output,
 };
 use clap::ArgMatches;
 use collectd::{
-    DumpFault, run_dump, run_dump_json, run_files, run_merge, run_tcp, write_dump_fault,
-    write_not_had,
+    DumpFault, Origin, Reason, Telling, run_dump_in_full, run_dump_json_in_full, run_files_in_full,
+    run_merge_in_full, run_tcp_in_full, write_dump_fault, write_not_had_because,
 };
 use exit_status::Status;
 use fault_guide::run_explain;
@@ -27,9 +27,24 @@ pub fn dump(rt: &HostRuntime, chosen: &ArgMatches) -> Result<u8, Status> {
         return Err(Status::Failed);
     };
     let mut source = FromReader::new(rt.stdin());
+    let telling = read_telling(chosen);
     match chosen.get_str("format").and_then(dump_format) {
-        Some(DumpFormat::Text) => Ok(run_dump(rt.alloc(), &mut source, &mut out, &mut err)),
-        Some(DumpFormat::Json) => Ok(run_dump_json(rt.alloc(), &mut source, &mut out, &mut err)),
+        Some(DumpFormat::Text) => Ok(run_dump_in_full(
+            rt.alloc(),
+            &mut source,
+            &Origin::Unknown,
+            telling,
+            &mut out,
+            &mut err,
+        )),
+        Some(DumpFormat::Json) => Ok(run_dump_json_in_full(
+            rt.alloc(),
+            &mut source,
+            &Origin::Unknown,
+            telling,
+            &mut out,
+            &mut err,
+        )),
         // (the parser lets no other word through)
         None => Err(Status::NotOpened),
     }
@@ -49,7 +64,7 @@ pub fn files<R: Clock + Threads + Wait + Sync>(
         mut out,
         terminal,
     } = read_collecting(rt, chosen, &mut err)?;
-    Ok(run_files(
+    Ok(run_files_in_full(
         threads,
         rt.alloc(),
         rt,
@@ -58,6 +73,7 @@ pub fn files<R: Clock + Threads + Wait + Sync>(
         pool,
         job.output,
         read_progress(&terminal, rt, chosen),
+        read_telling(chosen),
         &mut out,
         &mut err,
     ))
@@ -78,8 +94,8 @@ pub fn tcp<R: Clock + Threads + Wait + Sync>(
         mut out,
         terminal,
     } = read_collecting(rt, chosen, &mut err)?;
-    let listener = listen(rt, addr, &mut err)?;
-    Ok(run_tcp(
+    let listener = listen(rt, addr, read_telling(chosen), &mut err)?;
+    Ok(run_tcp_in_full(
         threads,
         rt.alloc(),
         listener,
@@ -90,18 +106,27 @@ pub fn tcp<R: Clock + Threads + Wait + Sync>(
         pool,
         job.output,
         read_progress(&terminal, rt, chosen),
+        read_telling(chosen),
         &mut out,
         &mut err,
     ))
 }
 
 // A listener on an address. If it can't be had, `err` has a line.
-fn listen(rt: &HostRuntime, addr: &str, err: &mut Stderr) -> Result<TcpListener, Status> {
-    let Ok(listener) = TcpListener::bind(rt, addr) else {
-        let _ = write_not_had("listen", addr, err);
-        return Err(Status::NotOpened);
-    };
-    Ok(listener)
+fn listen(
+    rt: &HostRuntime,
+    addr: &str,
+    telling: Telling,
+    err: &mut Stderr,
+) -> Result<TcpListener, Status> {
+    match TcpListener::bind(rt, addr) {
+        Ok(listener) => Ok(listener),
+        Err(error) => {
+            let reason = Reason::of(&error);
+            let _ = write_not_had_because(telling, "listen", addr, reason, err);
+            Err(Status::NotOpened)
+        }
+    }
 }
 
 /// `collectd merge`: the table of the exports in files to standard output.
@@ -110,12 +135,13 @@ pub fn merge(rt: &HostRuntime, chosen: &ArgMatches) -> Result<u8, Status> {
     let paths = read_paths(chosen, &mut err)?;
     let job = read_job(rt, chosen).ok_or(Status::NotOpened)?;
     let mut out = table_output(rt, &mut err)?;
-    Ok(run_merge(
+    Ok(run_merge_in_full(
         rt,
         rt.alloc(),
         paths,
         &job.plan,
         job.output,
+        read_telling(chosen),
         &mut out,
         &mut err,
     ))

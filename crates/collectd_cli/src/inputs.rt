@@ -4,7 +4,7 @@ use crate::formats::table_format;
 use crate::progress_output::{ProgressOutput, open_terminal};
 use crate::timers::ask_for_short_sleeps;
 use clap::ArgMatches;
-use collectd::{Output, load_plan, write_export_fault};
+use collectd::{Output, Telling, load_plan, write_export_fault};
 use exit_status::Status;
 use flow_collect::Pool;
 use flow_export::ExportFault;
@@ -104,6 +104,14 @@ pub fn read_progress<'a>(
         0 => None,
         1 => terminal.as_ref().map(ProgressOutput::Terminal),
         _ => Some(ProgressOutput::StandardError(rt.stderr())),
+    }
+}
+
+/// What is told on standard error beside the lines that always stand.
+pub fn read_telling(chosen: &ArgMatches) -> Telling {
+    Telling {
+        verbose: chosen.get_flag("verbose"),
+        strict: chosen.get_flag("strict"),
     }
 }
 

@@ -2,6 +2,7 @@
 #![tactic(auto)]
 
 mod format_words;
+mod options;
 mod showing;
 mod subcommands;
 mod words;

@@ -45,3 +45,7 @@ list_text = flat_map fault_line FAULTS ++ flat_map run_fault_line RUN_FAULTS
 abbrev pub answer : Option (List ℕ) → Option (List ℕ)
 answer None = Some list_text
 answer (Some word) = option_or (option_map explanation_text (named word)) (option_map run_fault_text (run_fault_of word))
+
+-- the line that tells that it couldn't be written: the same fault as that of a dump or of an export
+abbrev pub failed_line : List ℕ
+failed_line = codes "collectd: explain: fault 2 WriteFailed\n"

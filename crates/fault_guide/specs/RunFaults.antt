@@ -66,7 +66,7 @@ run_place Template = codes "merge: fault 6 Row: fault 2"
 run_place Fields = codes "merge: fault 6 Row: fault 3"
 run_place Interval = codes "merge: fault 6 Row: fault 4"
 run_place Flows = codes "merge: fault 6 Row: fault 6"
-run_place WriteFailed = codes "export: fault 2; dump: fault 2; explain: fault 1"
+run_place WriteFailed = codes "export: fault 2; dump: fault 2; explain: fault 2"
 run_place TooManyRows = codes "export: fault 3"
 
 -- what was found

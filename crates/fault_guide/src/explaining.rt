@@ -5,7 +5,7 @@ ghost use Rattle.std.specs.List.{flat_map};
 ghost use Rattle.std.specs.Option.{option_map};
 ghost use Rattle.std.specs.Io.KnownBytes.{Appends};
 ghost use Rattle.ipfix_session.specs.declared.fault.SessionFault.{SessionFault};
-ghost use Rattle.fault_guide.specs.Explained.{IsWordOf, answer, explanation_text, fault_line, list_text, named, names, rule_lines};
+ghost use Rattle.fault_guide.specs.Explained.{IsWordOf, answer, explanation_text, failed_line, fault_line, list_text, named, names, rule_lines};
 
 use crate::faults::FAULTS;
 use crate::guide::Explanation;
@@ -137,8 +137,15 @@ fn status_of<E: Write>(written: io::Result<()>, err: &mut E) -> Status
     match written {
         Ok(()) => Status::Well,
         Err(_) => {
-            let _ = writeln!(err, "collectd: explain: fault 1 WriteFailed");
+            let _ = write_failed(err);
             Status::Failed
         }
     }
+}
+
+// The line of a fault of writing, which has this number and name wherever something is written.
+fn write_failed<E: Write>(err: &mut E) -> io::Result<()>
+    ensures { OnOk result (Appends (E.contents err.old) (E.contents err.new) failed_line) }
+{
+    writeln!(err, "collectd: explain: fault 2 WriteFailed")
 }

@@ -75,7 +75,7 @@ impl RunFault {
             RunFault::Fields => "merge: fault 6 Row: fault 3",
             RunFault::Interval => "merge: fault 6 Row: fault 4",
             RunFault::Flows => "merge: fault 6 Row: fault 6",
-            RunFault::WriteFailed => "export: fault 2; dump: fault 2; explain: fault 1",
+            RunFault::WriteFailed => "export: fault 2; dump: fault 2; explain: fault 2",
             RunFault::TooManyRows => "export: fault 3",
         }
     }

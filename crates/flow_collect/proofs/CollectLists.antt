@@ -5,7 +5,7 @@ use Rattle.std.specs.List.{AllZip}
 use Rattle.std.proofs.lemmas.List.Elements.{All-head, All-tail, All-append, All-cons, All-nil}
 use Rattle.ipfix_message.specs.declared.record.DataRecord.{DataRecord}
 use Rattle.ipfix_session.specs.Sources.{SourceView}
-use Rattle.ipfix_session.specs.declared.report.SessionReport.{SessionReport}
+use Rattle.ipfix_session.specs.declared.report.FullReport.{FullReport}
 use Rattle.flow_link.specs.Ends.{LinkName, ReceiverView}
 use Rattle.flow_link.specs.Parcels.{has_last}
 use Rattle.flow_link.specs.declared.settled.Settled.{Settled}
@@ -14,19 +14,21 @@ use Rattle.flow_table.specs.Fitting.{FitsPlan}
 use Rattle.flow_table.specs.Plans.{PlanValue}
 use Rattle.flow_collect.specs.Dealt.{IsPaired, IsNewLot, IsNewStart, IsDealt, start_link}
 use Rattle.flow_collect.specs.Finished.{HasTaken, lanes_of, ended_link, SettlesEnds, CameOver, FinishedAs, IsOverfull}
-use Rattle.flow_collect.specs.Headline.{Headline, all_of}
+use Rattle.flow_collect.specs.Headline.{all_of}
+use Rattle.flow_collect.specs.InFull.{HeadlineInFull, reports_in}
 use Rattle.flow_collect.specs.Lanes.{IsEnded, WorkerRan, lane_key, receivers_of}
 use Rattle.flow_collect.specs.Places.{Each3, Each4}
 use Rattle.flow_collect.specs.Promises.{IsSettled}
 use Rattle.flow_collect.specs.Refusals.{AreTooLarge}
 use Rattle.flow_collect.specs.Sessions.{SessionRan}
-use Rattle.flow_collect.specs.declared.collected.Collected.{Collected}
+use Rattle.flow_collect.specs.declared.collected.CollectedInFull.{CollectedInFull}
 use Rattle.flow_collect.specs.declared.collected.Pool.{Pool}
 use Rattle.flow_collect.specs.declared.session_thread.EndedSession.{EndedSession}
 use Rattle.flow_collect.specs.declared.session_thread.Start.{Start}
 use Rattle.flow_collect.specs.declared.worker.Lane.{Lane}
 use Rattle.flow_collect.specs.declared.worker.Lot.{Lot}
 use Rattle.flow_collect.proofs.GivenLists.{too_large_due}
+use Rattle.flow_collect.proofs.InFull.{given_short}
 use Rattle.flow_collect.proofs.LaneLists.{taken_weighs}
 use Rattle.flow_collect.proofs.Runs.{told, run_headline}
 
@@ -107,15 +109,15 @@ module _ {S : Type 0} (seen : S → SourceView) where
       )
   sessions_settled capacity starts ts ls ks e n z h = absurd z
 
-  came_settled : (plan : PlanValue) (capacity : ℕ) (sources : List S) (starts : List (Start S)) (lots : List Lot) (ts : List (EndedSession S)) (reports : List SessionReport) (links : List Settled) (afters : List S) (records : List DataRecord)
+  came_settled : (plan : PlanValue) (capacity : ℕ) (sources : List S) (starts : List (Start S)) (lots : List Lot) (ts : List (EndedSession S)) (reports : List FullReport) (links : List Settled) (afters : List S) (records : List DataRecord)
       → IsDealt plan capacity sources starts lots → AllZip (SessionRan seen) starts ts → CameOver ts reports links afters records
       → Each4 (IsSettled seen capacity) sources afters reports links
   came_settled plan capacity sources starts lots ts reports links afters records d e came =
       rw (sym d.sources_are, came.settled.sources_are, came.settled.reports_are) (sessions_settled capacity starts ts came.lanes links e d.new_starts came.settled.links_are came.ended)
 
-  finished : (plan : PlanValue) (pool : Pool) (sources : List S) (starts : List (Start S)) (lots : List Lot) (ts : List (EndedSession S)) (c : Collected S)
+  finished : (plan : PlanValue) (pool : Pool) (sources : List S) (starts : List (Start S)) (lots : List Lot) (ts : List (EndedSession S)) (c : CollectedInFull S)
       → IsDealt plan pool.capacity sources starts lots → AllZip (SessionRan seen) starts ts → FinishedAs plan ts c
-      → Headline seen sources plan pool c × FitsPlan plan c.table
+      → HeadlineInFull seen sources plan pool c × FitsPlan plan c.table
   finished plan pool sources starts lots ts c d e f =
       let each = came_settled plan pool.capacity sources starts lots ts c.sessions.items c.links.items c.sources.items f.records d e f.came in
       (run_headline seen sources plan pool c f.records each f.came.same f.table_is f.small, f.fits)
@@ -126,10 +128,10 @@ module _ {S : Type 0} (seen : S → SourceView) where
       let each = came_settled plan capacity sources starts lots ts f.reports f.links f.sources f.records d e f.came in
       let all = told seen capacity sources f.sources f.reports f.links each in
       let same : IsSameBag f.records (all_of all.records) = subst (λ (x : List DataRecord). IsSameBag f.records x) all.all f.came.same in
-      too_large_due seen plan sources f.sources f.reports all.records f.records all.given same f.large
+      too_large_due seen plan sources f.sources (reports_in f.reports) all.records f.records (given_short seen sources f.sources f.reports all.records all.given) same f.large
 
-  pub answered : (plan : PlanValue) (pool : Pool) (sources : List S) (starts : List (Start S)) (lots : List Lot) (ts : List (EndedSession S)) (answer : Option (Collected S))
+  pub answered : (plan : PlanValue) (pool : Pool) (sources : List S) (starts : List (Start S)) (lots : List Lot) (ts : List (EndedSession S)) (answer : Option (CollectedInFull S))
       → IsDealt plan pool.capacity sources starts lots → AllZip (SessionRan seen) starts ts → MatchOption answer (IsOverfull plan ts) (λ c. FinishedAs plan ts c)
-      → MatchOption answer (AreTooLarge seen plan sources) (λ c. Headline seen sources plan pool c × FitsPlan plan c.table)
+      → MatchOption answer (AreTooLarge seen plan sources) (λ c. HeadlineInFull seen sources plan pool c × FitsPlan plan c.table)
   answered plan pool sources starts lots ts None d e f = overfull plan pool.capacity sources starts lots ts d e f
   answered plan pool sources starts lots ts (Some c) d e f = finished plan pool sources starts lots ts c d e f

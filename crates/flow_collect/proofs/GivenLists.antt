@@ -75,7 +75,7 @@ module _ {S : Type 0} (seen : S → SourceView) where
   given_whole before after r q g memory = g.records_are ∙ ap records_in (g.all memory)
 
   -- the octets that a source gave, if it tells what it holds
-  gave_is : (before after : S) (r : SessionReport) (q : List DataRecord) (b : List ℕ) (g : IsGivenBy seen before after r q) → GaveThese (seen before) (seen after) b → b ≡ g.gave
+  pub gave_is : (before after : S) (r : SessionReport) (q : List DataRecord) (b : List ℕ) (g : IsGivenBy seen before after r q) → GaveThese (seen before) (seen after) b → b ≡ g.gave
   gave_is before after r q b g t = append_cancel_right b g.gave t.left (consumed_known (seen before).text (seen after).text (b ++ t.left) t.left g.gave t.held t.holds g.given.octets)
 
   first_of_text : (before after : S) (r : SessionReport) (q : List DataRecord) (t : List ℕ) → IsGivenBy seen before after r q → (seen before).text ≡ Some t → IsPrefix q (records_of t)
@@ -84,7 +84,7 @@ module _ {S : Type 0} (seen : S → SourceView) where
       let more : IsPrefix (records_of g.gave) (records_of t) = subst (λ (l : List ℕ). IsPrefix (records_of g.gave) (records_of l)) (sym held.1) (records_of-prefix g.gave held.0) in
       prefix_trans q (records_of g.gave) (records_of t) (given_first before after r q g) more
 
-  report_of_octets : (before after : S) (r : SessionReport) (q : List DataRecord) (b : List ℕ) → IsGivenBy seen before after r q → GaveThese (seen before) (seen after) b → WasReadOut r → IsReport r b
+  pub report_of_octets : (before after : S) (r : SessionReport) (q : List DataRecord) (b : List ℕ) → IsGivenBy seen before after r q → GaveThese (seen before) (seen after) b → WasReadOut r → IsReport r b
   report_of_octets before after r q b g t out =
       let all = g.all out.had_memory in
       let told : Reports r (gives g.gave).messages (length (records_of g.gave)) =

@@ -1,5 +1,6 @@
 pub mod PlaceLists
 pub mod GivenLists
+pub mod InFull
 pub mod SameRuns
 pub mod Settled
 pub mod Runs

@@ -7,7 +7,7 @@ use Rattle.std.proofs.lemmas.List.Elements.{All-head, All-tail, All-append, All-
 use Rattle.std.proofs.lemmas.List.Sorted.{sum_by-IsPermutation}
 use Rattle.std.proofs.lemmas.List.Sums.{sum_by-append, sum_by-cons}
 use Rattle.ipfix_message.specs.declared.record.DataRecord.{DataRecord}
-use Rattle.ipfix_session.specs.declared.report.SessionReport.{SessionReport}
+use Rattle.ipfix_session.specs.declared.report.FullReport.{FullReport}
 use Rattle.flow_link.specs.Parcels.{records_in}
 use Rattle.flow_link.specs.Settling.{settled_received}
 use Rattle.flow_link.specs.declared.settled.Settled.{Settled}
@@ -33,7 +33,7 @@ paired_here all ts rest rest' t number lane e f n m p =
     let here : slice_get (map ended_link all) lane.session ≡ Some (ended_link t) = rw (whole, m, n) (at_seam ended_link ts t rest') in
     cc
 
-pub settled_on : {S : Type 0} (ts : List (EndedSession S)) (ls : List Lane) (rs : List SessionReport) (ks : List Settled) (ss : List S) (t : EndedSession S) (lane : Lane) (rs' : List SessionReport) (ks' : List Settled) (ss' : List S)
+pub settled_on : {S : Type 0} (ts : List (EndedSession S)) (ls : List Lane) (rs : List FullReport) (ks : List Settled) (ss : List S) (t : EndedSession S) (lane : Lane) (rs' : List FullReport) (ks' : List Settled) (ss' : List S)
     → SettledAll ts ls rs ks ss → SettlesOne t lane rs ks ss rs' ks' ss' → SettledAll (ts ++ t ∷ []) (ls ++ lane ∷ []) rs' ks' ss'
 settled_on {S} ts ls rs ks ss t lane rs' ks' ss' all one =
     record {
@@ -42,7 +42,7 @@ settled_on {S} ts ls rs ks ss t lane rs' ks' ss' all one =
       links_are = rw one.links_are (each3_more _ ts ls ks t lane one.link all.links_are one.settled);
     }
 
-pub settled_end : {S : Type 0} (ts : List (EndedSession S)) (ls : List Lane) (rs : List SessionReport) (ks : List Settled) (ss : List S) (ts0 : List (EndedSession S)) (ls0 : List Lane)
+pub settled_end : {S : Type 0} (ts : List (EndedSession S)) (ls : List Lane) (rs : List FullReport) (ks : List Settled) (ss : List S) (ts0 : List (EndedSession S)) (ls0 : List Lane)
     → ts0 ≡ ts → ls0 ≡ ls → SettledAll ts ls rs ks ss → SettledAll ts0 ls0 rs ks ss
 settled_end {S} ts ls rs ks ss ts0 ls0 e f all = rw (e, f) all
 
@@ -91,7 +91,7 @@ lanes_ended plan (w ∷ ws) h =
     let first = All-head (HasTaken plan) w ws h in
     All-append IsEnded w.lanes.items (lanes_of ws) first.ended (lanes_ended plan ws (All-tail (HasTaken plan) w ws h))
 
-pub came_over : {S : Type 0} (ts : List (EndedSession S)) (lanes : List Lane) (reports : List SessionReport) (links : List Settled) (sources : List S) (p : Partial)
+pub came_over : {S : Type 0} (ts : List (EndedSession S)) (lanes : List Lane) (reports : List FullReport) (links : List Settled) (sources : List S) (p : Partial)
     → SettledAll ts lanes reports links sources → All IsEnded lanes → (s : StandsForLanes p lanes) → CameOver ts reports links sources s.records
 came_over ts lanes reports links sources p settled ended s =
     record { lanes = lanes; settled = settled; ended = ended; same = λ w. s.weighs w ∙ links_weigh w ts lanes links settled.links_are }

@@ -2,7 +2,7 @@
 use Rattle.std.specs.Prelude.{◌≡◌, List, ◌∷◌, [], ◌++◌, map, All}
 use Rattle.std.specs.List.{flat_map}
 use Rattle.ipfix_message.specs.declared.record.DataRecord.{DataRecord}
-use Rattle.ipfix_session.specs.declared.report.SessionReport.{SessionReport}
+use Rattle.ipfix_session.specs.declared.report.FullReport.{FullReport}
 use Rattle.flow_link.specs.Ends.{LinkName}
 use Rattle.flow_link.specs.Settling.{Settles}
 use Rattle.flow_link.specs.declared.settled.Settled.{Settled}
@@ -14,7 +14,7 @@ use Rattle.flow_table.specs.Tables.{IsTable, IsTooLarge}
 use Rattle.flow_collect.specs.Lanes.{StandsForLanes, IsEnded}
 use Rattle.flow_collect.specs.Places.{Each3}
 use Rattle.flow_collect.specs.Promises.{settled_records}
-use Rattle.flow_collect.specs.declared.collected.Collected.{Collected}
+use Rattle.flow_collect.specs.declared.collected.CollectedInFull.{CollectedInFull}
 use Rattle.flow_collect.specs.declared.session_thread.EndedSession.{EndedSession}
 use Rattle.flow_collect.specs.declared.worker.Lane.{Lane}
 use Rattle.flow_collect.specs.declared.worker.Lot.{Lot}
@@ -43,13 +43,13 @@ module _ {S : Type 0} where
   SettlesEnds t lane link = Settles t.sender lane.receiver link
 
   -- of each session its report, its settled link and its source
-  pub record SettledAll (ts : List (EndedSession S)) (lanes : List Lane) (reports : List SessionReport) (links : List Settled) (sources : List S) : Type 0 where
+  pub record SettledAll (ts : List (EndedSession S)) (lanes : List Lane) (reports : List FullReport) (links : List Settled) (sources : List S) : Type 0 where
     pub reports_are : reports ≡ map (λ (t : EndedSession S). t.report) ts
     pub sources_are : sources ≡ map (λ (t : EndedSession S). t.source) ts
     pub links_are : Each3 SettlesEnds ts lanes links
 
   -- one session more
-  pub record SettlesOne (t : EndedSession S) (lane : Lane) (reports : List SessionReport) (links : List Settled) (sources : List S) (reports' : List SessionReport) (links' : List Settled) (sources' : List S) : Type 0 where
+  pub record SettlesOne (t : EndedSession S) (lane : Lane) (reports : List FullReport) (links : List Settled) (sources : List S) (reports' : List FullReport) (links' : List Settled) (sources' : List S) : Type 0 where
     pub link : Settled
     pub reports_are : reports' ≡ reports ++ t.report ∷ []
     pub links_are : links' ≡ links ++ link ∷ []
@@ -57,14 +57,14 @@ module _ {S : Type 0} where
     pub settled : SettlesEnds t lane link
 
   -- all links were settled once Last had been taken, and these are the records that came over them, in some order
-  pub record CameOver (ts : List (EndedSession S)) (reports : List SessionReport) (links : List Settled) (sources : List S) (records : List DataRecord) : Type 0 where
+  pub record CameOver (ts : List (EndedSession S)) (reports : List FullReport) (links : List Settled) (sources : List S) (records : List DataRecord) : Type 0 where
     pub lanes : List Lane
     pub settled : SettledAll ts lanes reports links sources
     pub ended : All IsEnded lanes
     pub same : IsSameBag records (settled_records links)
 
   -- the table is of these records
-  pub record FinishedAs (plan : PlanValue) (ts : List (EndedSession S)) (c : Collected S) : Type 0 where
+  pub record FinishedAs (plan : PlanValue) (ts : List (EndedSession S)) (c : CollectedInFull S) : Type 0 where
     pub records : List DataRecord
     pub came : CameOver ts c.sessions.items c.links.items c.sources.items records
     pub table_is : IsTable plan records c.table
@@ -73,7 +73,7 @@ module _ {S : Type 0} where
 
   -- or these records are too large
   pub record IsOverfull (plan : PlanValue) (ts : List (EndedSession S)) : Type 0 where
-    pub reports : List SessionReport
+    pub reports : List FullReport
     pub links : List Settled
     pub sources : List S
     pub records : List DataRecord

@@ -1,6 +1,7 @@
 -- What public contracts cite.
 pub mod Places
 pub mod Headline
+pub mod InFull
 pub mod Texts
 pub mod Refusals
 pub mod Faults

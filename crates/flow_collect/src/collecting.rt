@@ -15,16 +15,16 @@
 //!              records;
 //!              makes of each EndedSession and its Lane a place in Parts: the report, the link, with
 //!              both ends settled, and the source;
-//!              makes of Parts and the table what `collect` answers, Collected.
+//!              makes of Parts and the table what `collect_in_full` answers, CollectedInFull.
 //! ```
 
 ghost use Rattle.std.specs.Prelude.{◌≡◌, Err, IfOk, IfErr, IfSome, IfNone, IsErrOf, MatchOption, vec_len};
 ghost use Rattle.flow_table.specs.Fitting.{FitsPlan};
 ghost use Rattle.flow_collect.specs.Dealt.{IsCapacity};
-ghost use Rattle.flow_collect.specs.Headline.{Headline};
+ghost use Rattle.flow_collect.specs.InFull.{HeadlineInFull};
 ghost use Rattle.flow_collect.specs.Refusals.{fault_of_arguments, AreTooLarge, IsLate};
 
-use crate::collected::{Collected, MAX_SESSIONS, MAX_WORKERS, Pool};
+use crate::collected::{CollectedInFull, MAX_SESSIONS, MAX_WORKERS, Pool};
 use crate::dealing::deal;
 use crate::fault::CollectFault;
 use crate::gate::Gate;
@@ -38,27 +38,19 @@ use std::alloc::Global;
 use std::sync::Wait;
 use std::thread::Threads;
 
-/// Runs each source as a session in a thread of its own, and adds up their records in the threads of
-/// the workers. Session i, counted from 0, sends over a link of its own to worker `i mod workers`.
-///
-/// It reads a source at most [`READ_LIMIT`](crate::READ_LIMIT) times. A session's own fault stands in its
-/// report, also if memory ran out in the session. The tables of four and more workers are merged by
-/// halves, side by side in threads; a half for which no thread can be had is merged on this one. Each
-/// thread has ended when it returns.
-///
-/// The fault is the first of `Workers`, `Sessions` and `Link` that the arguments have, and then nothing
-/// was read; else `NoThread` before `OutOfMemory`, and this before `SumTooLarge`. A fault drops the
-/// sources.
-pub fn collect<S: Source + Send + Drop, G: Gate + Sync, R: Threads + Wait + Sync>(
+/// Does what [`collect`](crate::collect) does, and reports each session in full: with what its domains
+/// passed over, the gaps behind their unknown sets, and the place where it stopped. The faults are the
+/// same.
+pub fn collect_in_full<S: Source + Send + Drop, G: Gate + Sync, R: Threads + Wait + Sync>(
     rt: &R,
     alloc: Global,
     sources: Vec<S>,
     plan: &Plan,
     pool: Pool,
     gate: &G,
-) -> Result<Collected<S>, CollectFault>
-    // The headline.
-    ensures ok { IfOk result (λ c. Headline S.seen sources.items plan.now pool c) }
+) -> Result<CollectedInFull<S>, CollectFault>
+    // The headline, and each report in full.
+    ensures ok { IfOk result (λ c. HeadlineInFull S.seen sources.items plan.now pool c) }
     // The table fits the plan, as an export asks.
     ensures fits { IfOk result (λ c. FitsPlan plan.now c.table) }
     // `Workers`, `Sessions` and `Link` exactly for their arguments, in this order.
@@ -78,6 +70,14 @@ pub fn collect<S: Source + Send + Drop, G: Gate + Sync, R: Threads + Wait + Sync
         Err(Shortage::NoThread) => Err(CollectFault::NoThread),
         Err(Shortage::OutOfMemory) => Err(CollectFault::OutOfMemory),
     }
+}
+
+/// The first of `Workers`, `Sessions` and `Link` that a pool and that many sources have, if they have one.
+/// Collecting answers it before anything is read.
+pub fn refusal(pool: Pool, sessions: usize) -> Option<CollectFault>
+    ensures { result ≡ fault_of_arguments pool sessions }
+{
+    judge(pool, sessions)
 }
 
 // The first fault of the arguments.
@@ -105,10 +105,10 @@ fn collect_judged<S: Source + Send + Drop, G: Gate + Sync, R: Threads + Wait + S
     plan: &Plan,
     pool: Pool,
     gate: &G,
-) -> Result<Option<Collected<S>>, Shortage>
+) -> Result<Option<CollectedInFull<S>>, Shortage>
     requires { IsCapacity pool.capacity }
     ensures { IfOk result (λ answer. MatchOption answer (AreTooLarge S.seen plan.now sources.items)
-        (λ c. Headline S.seen sources.items plan.now pool c × FitsPlan plan.now c.table)) }
+        (λ c. HeadlineInFull S.seen sources.items plan.now pool c × FitsPlan plan.now c.table)) }
 {
     let (starts, lots) = deal(alloc, sources, plan, pool)?;
     let (ended, worked) = in_threads(rt, alloc, gate, starts, lots)?;

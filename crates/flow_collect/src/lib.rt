@@ -14,12 +14,14 @@ mod session_thread;
 mod settling;
 mod shortage;
 mod threads;
+mod without_rest;
 mod worker;
 
-pub use collected::{Collected, MAX_SESSIONS, MAX_WORKERS, Pool, Serial};
-pub use collecting::collect;
+pub use collected::{Collected, CollectedInFull, MAX_SESSIONS, MAX_WORKERS, Pool, Serial};
+pub use collecting::{collect_in_full, refusal};
 pub use fault::CollectFault;
 pub use gate::{Gate, OpenGate};
 pub use ipfix_session::READ_LIMIT;
 pub use link_sink::LinkSink;
 pub use serial::collect_serial;
+pub use without_rest::collect;

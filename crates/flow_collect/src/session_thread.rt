@@ -6,7 +6,7 @@ ghost use Rattle.flow_collect.specs.Sessions.{SessionRan};
 use crate::gate::Gate;
 use crate::link_sink::LinkSink;
 use flow_link::Sender;
-use ipfix_session::{READ_LIMIT, SessionReport, Source, drive};
+use ipfix_session::{FullReport, READ_LIMIT, Source, drive_in_full};
 use std::alloc::Global;
 use std::sync::Wait;
 
@@ -22,7 +22,7 @@ pub struct Start<S> {
 /// What a session's thread hands back once all went over its link, and Last after it.
 #[derive(Drop)]
 pub struct EndedSession<S> {
-    pub report: SessionReport,
+    pub report: FullReport,
     pub source: S,
     pub sender: Sender,
 }
@@ -45,7 +45,7 @@ pub fn run_session<S: Source + Drop, G: Gate, R: Wait>(
     } = start;
     let mut source = source;
     let mut sink = LinkSink::new(rt, gate, session, sender);
-    let report = drive(alloc, &mut source, &mut sink, READ_LIMIT);
+    let report = drive_in_full(alloc, &mut source, &mut sink, READ_LIMIT);
     let took_all = sink.refused == 0;
     let sent = sink.send_last();
     if !sent || !took_all {

@@ -1,13 +1,15 @@
 -- What a dump of a source wrote, and what its report says.
-use Rattle.std.specs.Prelude.{◌≡◌, ℕ, List, Option, Some, None}
+use Rattle.std.specs.Prelude.{◌≡◌, ℕ, List, length, Option, Some, None}
 use Rattle.std.specs.List.{flat_map}
 use Rattle.std.specs.Io.KnownBytes.{Appends}
 use Rattle.ipfix_message.specs.declared.record.DataRecord.{DataRecord}
+use Rattle.ipfix_session.specs.declared.report.FullReport.{FullReport}
 use Rattle.ipfix_session.specs.declared.report.SessionReport.{SessionReport}
 use Rattle.ipfix_session.specs.declared.stop.Stop.TheVariants.{Clean}
 use Rattle.ipfix_session.specs.Given.{records_of, stop_of}
 use Rattle.ipfix_session.specs.Sources.{SourceView}
 use Rattle.ipfix_session.specs.Drives.{IsGiven}
+use Rattle.ipfix_session.specs.Places.{ReportsInFull}
 use Rattle.ipfix_session.specs.declared.driver.TheConstants.{READ_LIMIT, READ_SIZE}
 use Rattle.ipfix_dump.specs.DumpLines.{dump_line}
 use Rattle.ipfix_dump.specs.JsonLines.{json_line}
@@ -18,6 +20,14 @@ module _ (line_of : DataRecord → List ℕ) where
   pub record DumpsBy {S : Type 0} (seen : S → SourceView) (before after : S) (old new : Option (List ℕ)) (report : SessionReport) : Type 0 where
     pub records : List DataRecord
     pub given : IsGiven seen READ_LIMIT READ_SIZE before after report records
+    pub written : Appends old new (flat_map line_of records)
+
+  -- the same, and the full report is of these messages: what each domain passed over, what is unaccounted for in it, and
+  -- where the first message begins that doesn't count
+  pub record DumpsInFullBy {S : Type 0} (seen : S → SourceView) (before after : S) (old new : Option (List ℕ)) (full : FullReport) : Type 0 where
+    pub records : List DataRecord
+    pub given : IsGiven seen READ_LIMIT READ_SIZE before after full.report records
+    pub in_full : ReportsInFull full given.counted (length records)
     pub written : Appends old new (flat_map line_of records)
 
   -- if a source tells its octets, the lines of all of them were written, and no fault was met

@@ -1,14 +1,14 @@
 //! Dumping a source: a line for each data record.
 
 ghost use Rattle.std.specs.Prelude.{IfOk};
-ghost use Rattle.ipfix_dump.specs.Dumped.{Dumps, DumpsBy, DumpsJson};
+ghost use Rattle.ipfix_dump.specs.Dumped.{Dumps, DumpsBy, DumpsInFullBy, DumpsJson};
 
 use crate::fault::DumpFault;
 use crate::json_line::JsonLine;
 use crate::line::Line;
 use crate::line_sink::LineSink;
 use crate::record_line::RecordLine;
-use ipfix_session::{READ_LIMIT, SessionReport, Source, drive};
+use ipfix_session::{FullReport, READ_LIMIT, SessionReport, Source, drive_in_full};
 use std::alloc::Global;
 use std::io::Write;
 
@@ -51,10 +51,24 @@ pub fn dump_by<L: RecordLine, S: Source, W: Write>(
     ensures { IfOk result (λ report. DumpsBy L.line_of S.seen source.old source.new
         (W.contents out.old) (W.contents out.new) report) }
 {
+    Ok(dump_in_full_by(alloc, line, source, out)?.report)
+}
+
+/// Does what [`dump_by`] does, and reports in full: with the balances of the domains, and the place of
+/// the message that ended the session.
+pub fn dump_in_full_by<L: RecordLine, S: Source, W: Write>(
+    alloc: Global,
+    line: &mut L,
+    source: &mut S,
+    out: &mut W,
+) -> Result<FullReport, DumpFault>
+    ensures { IfOk result (λ full. DumpsInFullBy L.line_of S.seen source.old source.new
+        (W.contents out.old) (W.contents out.new) full) }
+{
     let mut sink = LineSink::new(line, out);
-    let report = drive(alloc, source, &mut sink, READ_LIMIT);
+    let full = drive_in_full(alloc, source, &mut sink, READ_LIMIT);
     match sink.fault {
-        None => Ok(report),
+        None => Ok(full),
         Some(fault) => Err(fault),
     }
 }

@@ -12,7 +12,7 @@ mod line_sink;
 mod record_line;
 mod text;
 
-pub use dumping::{dump, dump_by, dump_json};
+pub use dumping::{dump, dump_by, dump_in_full_by, dump_json};
 pub use fault::DumpFault;
 pub use json_line::JsonLine;
 pub use line::Line;

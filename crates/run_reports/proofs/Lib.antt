@@ -1,1 +1,3 @@
 mod Numbering
+mod Untold
+mod Stream

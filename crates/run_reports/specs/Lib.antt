@@ -1,3 +1,8 @@
 -- What public contracts cite.
 pub mod ReportLines
 pub mod PlaceLines
+pub mod Origins
+pub mod ToldLines
+pub mod Reasons
+pub mod OpeningLines
+pub mod Spotless

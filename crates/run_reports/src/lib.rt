@@ -1,11 +1,31 @@
-//! The lines on standard error: what sessions lost, how they ended, and the faults of a run.
+//! The lines on standard error: what sessions lost, what wasn't counted, how they ended, and the faults of a
+//! run.
 #![tactic(auto)]
 
+mod balances;
+mod endings;
+mod faults;
+pub mod laws;
+mod opening;
+mod origin;
 mod places;
 mod quoting;
+mod reason;
 mod reports;
+mod spotless;
+mod tally;
+mod telling;
+mod told_reports;
 
-pub use reports::{
+pub use faults::{
     write_collect_fault, write_dump_fault, write_export_fault, write_fault, write_not_had,
-    write_plan_fault, write_reports, write_tally,
+    write_plan_fault,
 };
+pub use opening::{write_listening, write_not_had_because, write_opened};
+pub use origin::{Origin, write_origin};
+pub use reason::Reason;
+pub use reports::write_reports;
+pub use spotless::{are_spotless, is_spotless};
+pub use tally::write_tally;
+pub use telling::Telling;
+pub use told_reports::write_told_reports;

@@ -1,21 +1,11 @@
-//! The lines that tell of sessions and of faults.
+//! The lines that tell what sessions lost, and how they ended.
 
 ghost use Rattle.std.specs.Prelude.{◌++◌, codes, decimal, OnOk};
 ghost use Rattle.std.specs.List.{flat_map};
 ghost use Rattle.std.specs.Io.KnownBytes.{Appends};
-ghost use Rattle.ipfix_dump.specs.Faults.{number_of, name_of};
-ghost use Rattle.flow_table.specs.PlanFaults as plan;
-ghost use Rattle.plan_file.specs.Faults as text;
-ghost use Rattle.run_reports.specs.PlaceLines.{plan_lines};
-ghost use Rattle.run_reports.specs.ReportLines.{collect_fault_line, domain_lines, export_fault_line, fault_text, first_counts, last_counts, loss_line, not_had_line, plan_fault_text, report_lines, session_lines, tally_line};
+ghost use Rattle.run_reports.specs.ReportLines.{domain_lines, fault_text, loss_line, report_lines, session_lines};
 
-use crate::places::write_place;
-use flow_collect::CollectFault;
-use flow_export::ExportFault;
-use flow_table::{PlanFault, Tally};
-use ipfix_dump::DumpFault;
 use ipfix_session::{DomainReport, SessionReport};
-use plan_file::{PlanTextError, PlanTextFault};
 use std::io::{self, Write};
 
 /// Writes what there is to tell of sessions, counted from 1: a line for each domain whose sequence
@@ -30,7 +20,12 @@ pub fn write_reports<W: Write>(reports: &[SessionReport], out: &mut W) -> io::Re
     Ok(())
 }
 
-fn write_session<W: Write>(session: usize, report: &SessionReport, out: &mut W) -> io::Result<()>
+/// Writes what there is to tell of the session of this number.
+pub fn write_session<W: Write>(
+    session: usize,
+    report: &SessionReport,
+    out: &mut W,
+) -> io::Result<()>
     ensures { OnOk result (Appends (W.contents out.old) (W.contents out.new)
         (session_lines session report.now)) }
 {
@@ -81,119 +76,4 @@ fn write_session_fault<W: Write>(
         (codes "collectd: session " ++ (decimal session ++ fault_text number name.now))) }
 {
     writeln!(out, "collectd: session {session}: fault {number} {name}")
-}
-
-/// Writes the line that counts the records of each class.
-pub fn write_tally<W: Write>(tally: &Tally, out: &mut W) -> io::Result<()>
-    ensures { OnOk result (Appends (W.contents out.old) (W.contents out.new)
-        (tally_line tally.now)) }
-{
-    write_first_counts(tally, out)?;
-    write_last_counts(tally, out)
-}
-
-#[tactic(auto, unfolding(crate::specs::ReportLines::first_counts))]
-fn write_first_counts<W: Write>(tally: &Tally, out: &mut W) -> io::Result<()>
-    ensures { OnOk result (Appends (W.contents out.old) (W.contents out.new)
-        (first_counts tally.now)) }
-{
-    let used = tally.used;
-    let options = tally.options;
-    let untimed = tally.untimed;
-    write!(
-        out,
-        "collectd: records: used {used} options {options} untimed {untimed}"
-    )
-}
-
-#[tactic(auto, unfolding(crate::specs::ReportLines::last_counts))]
-fn write_last_counts<W: Write>(tally: &Tally, out: &mut W) -> io::Result<()>
-    ensures { OnOk result (Appends (W.contents out.old) (W.contents out.new)
-        (last_counts tally.now)) }
-{
-    let backward = tally.backward;
-    let unkeyed = tally.unkeyed;
-    let too_long = tally.too_long;
-    writeln!(
-        out,
-        " backward {backward} unkeyed {unkeyed} too_long {too_long}"
-    )
-}
-
-/// The line of a fault, of whatever it is.
-#[tactic(auto, unfolding(crate::specs::ReportLines::fault_text))]
-pub fn write_fault<W: Write>(what: &str, number: u8, name: &str, out: &mut W) -> io::Result<()>
-    ensures { OnOk result (Appends (W.contents out.old) (W.contents out.new)
-        (codes "collectd: " ++ (what.now ++ fault_text number name.now))) }
-{
-    writeln!(out, "collectd: {what}: fault {number} {name}")
-}
-
-/// Writes the line of what the system did not give: `what` is "open" with the path of a file, or
-/// "listen" with an address.
-#[tactic(auto, unfolding(crate::specs::ReportLines::not_had_line))]
-pub fn write_not_had<W: Write>(what: &str, name: &str, out: &mut W) -> io::Result<()>
-    ensures { OnOk result (Appends (W.contents out.old) (W.contents out.new)
-        (not_had_line what.now name.now)) }
-{
-    writeln!(out, "collectd: {what}: {name}")
-}
-
-/// Writes the line of a fault of the dump.
-pub fn write_dump_fault<W: Write>(fault: DumpFault, out: &mut W) -> io::Result<()>
-    ensures { OnOk result (Appends (W.contents out.old) (W.contents out.new)
-        (codes "collectd: dump" ++ fault_text (number_of fault) (name_of fault))) }
-{
-    write_fault("dump", fault.number(), fault.name(), out)
-}
-
-/// Writes the line of a fault of collecting.
-pub fn write_collect_fault<W: Write>(fault: CollectFault, out: &mut W) -> io::Result<()>
-    ensures { OnOk result (Appends (W.contents out.old) (W.contents out.new)
-        (collect_fault_line fault)) }
-{
-    write_fault("collect", fault.number(), fault.name(), out)
-}
-
-/// Writes the line of a fault of the export.
-pub fn write_export_fault<W: Write>(fault: ExportFault, out: &mut W) -> io::Result<()>
-    ensures { OnOk result (Appends (W.contents out.old) (W.contents out.new)
-        (export_fault_line fault)) }
-{
-    write_fault("export", fault.number(), fault.name(), out)
-}
-
-/// Writes the line of a fault of a plan's text, with the plan's own fault if it has one, and then the
-/// line that tells where it is. For want of memory there is no such line.
-pub fn write_plan_fault<W: Write>(error: &PlanTextError, out: &mut W) -> io::Result<()>
-    ensures { OnOk result (Appends (W.contents out.old) (W.contents out.new)
-        (plan_lines error.now)) }
-{
-    write_plan_fault_line(error.fault(), out)?;
-    write_place(error, out)
-}
-
-fn write_plan_fault_line<W: Write>(fault: PlanTextFault, out: &mut W) -> io::Result<()>
-    ensures { OnOk result (Appends (W.contents out.old) (W.contents out.new)
-        (codes "collectd: plan" ++ plan_fault_text fault)) }
-{
-    match fault {
-        PlanTextFault::Plan(inner) => write_inner_fault(inner, out),
-        _ => write_text_fault(fault, out),
-    }
-}
-
-fn write_text_fault<W: Write>(fault: PlanTextFault, out: &mut W) -> io::Result<()>
-    ensures { OnOk result (Appends (W.contents out.old) (W.contents out.new)
-        (codes "collectd: plan" ++ fault_text (text.number_of fault) (text.name_of fault))) }
-{
-    write_fault("plan", fault.number(), fault.name(), out)
-}
-
-fn write_inner_fault<W: Write>(fault: PlanFault, out: &mut W) -> io::Result<()>
-    ensures { OnOk result (Appends (W.contents out.old) (W.contents out.new)
-        (codes "collectd: plan: fault 6 Plan"
-        ++ fault_text (plan.number_of fault) (plan.name_of fault))) }
-{
-    write_fault("plan: fault 6 Plan", fault.number(), fault.name(), out)
 }

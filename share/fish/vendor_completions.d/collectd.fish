@@ -20,6 +20,8 @@ complete -c collectd -n '__fish_seen_subcommand_from files tcp' -l ring -x -d 'H
 complete -c collectd -n '__fish_seen_subcommand_from files tcp merge' -l format -x -a 'csv ipfix json' -d 'How the table is written'
 complete -c collectd -n '__fish_seen_subcommand_from files tcp merge' -l time -x -d 'The export time in the messages of ipfix'
 complete -c collectd -n '__fish_seen_subcommand_from files tcp' -l progress -d 'Show how much each session has read'
+complete -c collectd -n '__fish_seen_subcommand_from dump files tcp merge' -s v -l verbose -d 'Say more on standard error'
+complete -c collectd -n '__fish_seen_subcommand_from dump files tcp merge' -l strict -d 'End with status 1 if anything was lost'
 complete -c collectd -n '__fish_seen_subcommand_from tcp' -l listen -x -d 'The address and port to listen on'
 complete -c collectd -n '__fish_seen_subcommand_from tcp' -l sessions -x -d 'How many connections to accept'
 complete -c collectd -n '__fish_seen_subcommand_from tcp' -l idle -x -d 'How many seconds a connection may send nothing'

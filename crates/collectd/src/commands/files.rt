@@ -1,20 +1,22 @@
 //! Collecting from files.
 
-ghost use Rattle.std.specs.Prelude.{◌≡◌, ◌≢◌, ◌⊎◌, length, IfOk, IfSome};
+ghost use Rattle.std.specs.Prelude.{◌≡◌, ◌≢◌, ◌⊎◌, length, IfNone, IfSome};
 ghost use Rattle.std.specs.List.{AllZip};
 ghost use Rattle.exit_status.specs.Statuses.{number_of};
 ghost use Rattle.flow_collect.specs.Refusals.{fault_of_arguments};
-ghost use Rattle.collectd.specs.Runs.{IsUnread, RunsSources};
+ghost use Rattle.collectd.specs.Runs.{RunsSources};
+ghost use Rattle.collectd.specs.FullRuns.{fault_of_pool, RunsInFull};
 
-use crate::sources::opening::{OpenSource, Opened};
-use crate::sources::unread::Unread;
-use crate::table::{Output, run};
+use crate::early::refused_early;
+use crate::full_run::{NOTHING_MORE, run_in_full};
+use crate::sources::opening::OpenSource;
+use crate::sources::opening_all::{NotOpened, OpenedAll, open_all};
+use crate::table::Output;
 use exit_status::Status;
 use flow_collect::Pool;
 use flow_table::Plan;
 use ipfix_session::Source;
-use run_reports::write_not_had;
-use session_progress::Watched;
+use run_reports::{Telling, write_collect_fault, write_not_had_because};
 use std::alloc::Global;
 use std::io::Write;
 use std::rt::Clock;
@@ -26,7 +28,6 @@ use std::thread::Threads;
 ///
 /// Each session writes to `progress`, if it is there, what it has read, and of how many octets: a line at
 /// most once a second, after a read. A fault of `progress` is passed over.
-#[tactic(auto, using(crate::proofs::Ran::runs_sources))]
 pub fn run_files<
     S: Source + Send + Drop,
     O: OpenSource<S>,
@@ -60,60 +61,120 @@ pub fn run_files<
         (λ fault. ((result ≡ number_of Status.NotOpened) ⊎ (result ≡ number_of Status.Failed))
         × (out.new ≡ out.old)) }
 {
-    match open_all(rt, alloc, files, paths, progress) {
-        Ok(sources) => run(
+    run_paths(
+        rt,
+        alloc,
+        files,
+        paths,
+        plan,
+        pool,
+        output,
+        progress,
+        NOTHING_MORE,
+        out,
+        err,
+    )
+}
+
+/// Does as [`run_files`], and tells more if `telling` asks for it, as [`run_in_full`]: in verbose lines each file
+/// that is opened, and the system's reason behind one that can't be. If the pool has a fault, no file is
+/// opened, and the status is 3.
+#[tactic(auto, using(crate::proofs::FullRan::whatever, crate::proofs::FullRan::even_if_none, crate::proofs::FullRan::not_if_some, crate::proofs::FullRan::not_if_none))]
+pub fn run_files_in_full<
+    S: Source + Send + Drop,
+    O: OpenSource<S>,
+    P: Write + Copy + Drop + Send,
+    W: Write,
+    E: Write,
+    R: Clock + Threads + Wait + Sync,
+>(
+    rt: &R,
+    alloc: Global,
+    files: &O,
+    paths: &[&str],
+    plan: &Plan,
+    pool: Pool,
+    output: Output,
+    progress: Option<P>,
+    telling: Telling,
+    out: &mut W,
+    err: &mut E,
+) -> u8
+    ensures statuses { (result ≡ number_of Status.Well) ⊎ (result ≡ number_of Status.SessionFault)
+        ⊎ (result ≡ number_of Status.NotOpened) ⊎ (result ≡ number_of Status.Failed) }
+    // The sources of the paths, in their order, were run, as `run_in_full` says it.
+    ensures opened { IfNone (fault_of_pool pool) (result ≢ number_of Status.NotOpened
+        → RunsInFull S.seen (AllZip (λ path. O.opens files.now path.now) paths.now)
+        telling.strict plan.now pool output result
+        (W.contents out.old) (W.contents out.new) (out.new ≡ out.old)) }
+    // Nothing was written unless all were opened.
+    ensures not_opened { result ≡ number_of Status.NotOpened → out.new ≡ out.old }
+    // Nothing was collected if the arguments have a fault.
+    ensures refused { IfSome (fault_of_arguments pool (length paths.now))
+        (λ fault. ((result ≡ number_of Status.NotOpened) ⊎ (result ≡ number_of Status.Failed))
+        × (out.new ≡ out.old)) }
+    // No file is opened for a pool that has a fault.
+    ensures pool { IfSome (fault_of_pool pool)
+        (λ fault. (result ≡ number_of Status.Failed) × (out.new ≡ out.old)) }
+{
+    if let Some(fault) = refused_early(pool, paths.len()) {
+        let _ = write_collect_fault(fault, err);
+        return Status::Failed.number();
+    }
+    run_paths(
+        rt, alloc, files, paths, plan, pool, output, progress, telling, out, err,
+    )
+}
+
+// Opens the files and runs them.
+#[tactic(auto, using(crate::proofs::FullRan::runs_in_full))]
+fn run_paths<
+    S: Source + Send + Drop,
+    O: OpenSource<S>,
+    P: Write + Copy + Drop + Send,
+    W: Write,
+    E: Write,
+    R: Clock + Threads + Wait + Sync,
+>(
+    rt: &R,
+    alloc: Global,
+    files: &O,
+    paths: &[&str],
+    plan: &Plan,
+    pool: Pool,
+    output: Output,
+    progress: Option<P>,
+    telling: Telling,
+    out: &mut W,
+    err: &mut E,
+) -> u8
+    ensures statuses { (result ≡ number_of Status.Well) ⊎ (result ≡ number_of Status.SessionFault)
+        ⊎ (result ≡ number_of Status.NotOpened) ⊎ (result ≡ number_of Status.Failed) }
+    ensures opened { result ≢ number_of Status.NotOpened
+        → RunsInFull S.seen (AllZip (λ path. O.opens files.now path.now) paths.now)
+        telling.strict plan.now pool output result
+        (W.contents out.old) (W.contents out.new) (out.new ≡ out.old) }
+    ensures not_opened { result ≡ number_of Status.NotOpened → out.new ≡ out.old }
+    ensures refused { IfSome (fault_of_arguments pool (length paths.now))
+        (λ fault. ((result ≡ number_of Status.NotOpened) ⊎ (result ≡ number_of Status.Failed))
+        × (out.new ≡ out.old)) }
+{
+    match open_all(rt, alloc, files, paths, progress, telling, err) {
+        Ok(OpenedAll { sources, origins }) => run_in_full(
             rt,
             alloc,
             sources.into_sources(),
+            &origins,
             plan,
             pool,
             output,
+            telling,
             out,
             err,
         ),
-        Err(path) => {
-            let _ = write_not_had("open", path, err);
+        Err(NotOpened { path, reason }) => {
+            let _ = write_not_had_because(telling, "open", path, reason, err);
             Status::NotOpened.number()
         }
     }
-}
-
-// The sources of the paths, or the first path that can't be opened.
-fn open_all<'r, 'a, S: Source + Drop, O: OpenSource<S>, P: Write + Copy + Drop, R: Clock>(
-    rt: &'r R,
-    alloc: Global,
-    files: &O,
-    paths: &[&'a str],
-    progress: Option<P>,
-) -> Result<Unread<Watched<'r, S, R, P>>, &'a str>
-    ensures { IfOk result (AllZip (λ path. O.opens files.now path.now) paths.now) }
-{
-    let mut sources = Unread::new(alloc);
-    let mut session = 0_usize;
-    for path in paths {
-        session = session.saturating_add(1);
-        let Some(source) = open_watched(rt, alloc, files, session, *path, progress) else {
-            return Err(*path);
-        };
-        let Ok(()) = sources.push(source) else {
-            return Err(*path);
-        };
-    }
-    Ok(sources)
-}
-
-// The source of a path, for the session of this number, counted from 1.
-fn open_watched<'r, S: Source + Drop, O: OpenSource<S>, P: Write + Copy + Drop, R: Clock>(
-    rt: &'r R,
-    alloc: Global,
-    files: &O,
-    session: usize,
-    path: &str,
-    progress: Option<P>,
-) -> Option<Watched<'r, S, R, P>>
-    ensures named { IfSome result (O.opens files.now path.now) }
-    ensures unread { IfSome result (IsUnread S.seen) }
-{
-    let Opened { source, size } = files.open_source(path)?;
-    Some(Watched::new(alloc, rt, session, source, size, progress))
 }

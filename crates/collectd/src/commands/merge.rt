@@ -9,15 +9,17 @@ ghost use Rattle.flow_table.specs.SameTables.{RowValue};
 ghost use Rattle.flow_table.specs.declared.table.Table.{Table as TableValue};
 ghost use Rattle.flow_merge.specs.Merging.{merging_plan, StandsFor};
 ghost use Rattle.collectd.specs.Merges.{AddsFile, IsMerged, IsNotMerged, WritesMerged};
+ghost use Rattle.collectd.specs.Runs.{IsUnread};
 
-use crate::merge_reports::{write_file_fault, write_merge_fault, write_merged};
+use crate::full_run::NOTHING_MORE;
+use crate::merge_reports::{write_file_fault, write_file_opened, write_merge_fault, write_merged};
 use crate::sources::opening::OpenSource;
 use crate::table::{Output, export};
 use exit_status::Status;
 use flow_merge::Merging;
 use flow_table::{Plan, Table};
 use ipfix_session::{READ_LIMIT, Source};
-use run_reports::{write_export_fault, write_not_had};
+use run_reports::{Telling, write_export_fault, write_not_had_because};
 use std::alloc::Global;
 use std::io::Write;
 
@@ -52,7 +54,33 @@ pub fn run_merge<S: Source + Drop, O: OpenSource<S>, W: Write, E: Write>(
         → (out.new ≡ out.old) ⊎ ((table : TableValue)
         × IsMerged S.seen (AllZip (λ path. O.opens files.now path.now) paths.now) plan.now table) }
 {
-    let table = match merge_files(files, alloc, paths, plan, err) {
+    run_merge_in_full(files, alloc, paths, plan, output, NOTHING_MORE, out, err)
+}
+
+/// Does as [`run_merge`], and tells more if `telling` is verbose: each file that is opened, by its number and
+/// name, and the system's reason behind one that can't be. A strict merge is none other, since nothing is
+/// merged in which anything was lost or passed over.
+pub fn run_merge_in_full<S: Source + Drop, O: OpenSource<S>, W: Write, E: Write>(
+    files: &O,
+    alloc: Global,
+    paths: &[&str],
+    plan: &Plan,
+    output: Output,
+    telling: Telling,
+    out: &mut W,
+    err: &mut E,
+) -> u8
+    ensures statuses { (result ≡ number_of Status.Well) ⊎ (result ≡ number_of Status.NotOpened)
+        ⊎ (result ≡ number_of Status.Failed) }
+    ensures table { result ≡ number_of Status.Well
+        → WritesMerged S.seen (AllZip (λ path. O.opens files.now path.now) paths.now)
+        plan.now output (W.contents out.old) (W.contents out.new) }
+    ensures not_opened { result ≡ number_of Status.NotOpened → out.new ≡ out.old }
+    ensures untouched { result ≡ number_of Status.Failed
+        → (out.new ≡ out.old) ⊎ ((table : TableValue)
+        × IsMerged S.seen (AllZip (λ path. O.opens files.now path.now) paths.now) plan.now table) }
+{
+    let table = match merge_files(files, alloc, paths, plan, telling, err) {
         Ok(table) => table,
         Err(status) => return status.number(),
     };
@@ -70,6 +98,7 @@ fn merge_files<S: Source + Drop, O: OpenSource<S>, E: Write>(
     alloc: Global,
     paths: &[&str],
     plan: &Plan,
+    telling: Telling,
     err: &mut E,
 ) -> Result<Table, Status>
     ensures merged { IfOk result
@@ -81,7 +110,7 @@ fn merge_files<S: Source + Drop, O: OpenSource<S>, E: Write>(
     let mut file = 0_usize;
     for path in paths {
         file = file.saturating_add(1);
-        merging = add_file(files, merging, file, *path, err)?;
+        merging = add_file(files, merging, file, *path, telling, err)?;
     }
     end(merging, err)
 }
@@ -107,21 +136,42 @@ fn add_file<S: Source + Drop, O: OpenSource<S>, E: Write>(
     merging: Merging,
     file: usize,
     path: &str,
+    telling: Telling,
     err: &mut E,
 ) -> Result<Merging, Status>
     ensures added { IfOk result (AddsFile S.seen (O.opens files.now path.now) merging) }
     ensures status { IfErr result IsNotMerged }
 {
-    let Some(opened) = files.open_source(path) else {
-        let _ = write_not_had("open", path, err);
-        return Err(Status::NotOpened);
-    };
-    let mut source = opened.source;
+    let mut source = open_file(files, file, path, telling, err)?;
     match merging.read(&mut source, READ_LIMIT) {
         Ok(merging) => Ok(merging),
         Err(fault) => {
             let _ = write_file_fault(file, fault, err);
             Err(Status::Failed)
+        }
+    }
+}
+
+// The source of the file of this number.
+fn open_file<S: Source, O: OpenSource<S>, E: Write>(
+    files: &O,
+    file: usize,
+    path: &str,
+    telling: Telling,
+    err: &mut E,
+) -> Result<S, Status>
+    ensures opened { IfOk result (O.opens files.now path.now) }
+    ensures unread { IfOk result (IsUnread S.seen) }
+    ensures status { IfErr result (λ status. status ≡ Status.NotOpened) }
+{
+    match files.open_source(path) {
+        Ok(opened) => {
+            let _ = write_file_opened(telling, file, path, err);
+            Ok(opened.source)
+        }
+        Err(reason) => {
+            let _ = write_not_had_because(telling, "open", path, reason, err);
+            Err(Status::NotOpened)
         }
     }
 }

@@ -3,6 +3,7 @@
 ghost use Rattle.std.specs.Prelude.{⊤};
 
 use ipfix_session::{FromReader, Source};
+use run_reports::Reason;
 use std::fs::{self, OpenFile};
 use std::io::Read;
 use std::num::NonZeroU64;
@@ -21,31 +22,34 @@ pub struct Opened<S> {
 
 /// Opens sources by their paths.
 pub trait OpenSource<S: Source> {
-    ghost use Rattle.std.specs.Prelude.{ℕ, List, IfSome};
+    ghost use Rattle.std.specs.Prelude.{ℕ, List, IfOk};
     ghost use Rattle.collectd.specs.Runs.{IsUnread};
 
     /// Whether a source is the one that a path opens, as it is before it is read.
     ghost opens: { Self → List ℕ → S → Type 0 };
 
-    /// The source of a path, of which nothing was read. `None` if it can't be opened.
-    fn open_source(&self, path: &str) -> Option<Opened<S>>
-        ensures named { IfSome result (λ opened. opens self.now path.now opened.source) }
-        ensures unread { IfSome result (λ opened. IsUnread S.seen opened.source) };
+    /// The source of a path, of which nothing was read; or why it can't be opened.
+    fn open_source(&self, path: &str) -> Result<Opened<S>, Reason>
+        ensures named { IfOk result (λ opened. opens self.now path.now opened.source) }
+        ensures unread { IfOk result (λ opened. IsUnread S.seen opened.source) };
 }
 
 /// The files of the system. The path `-` is standard input.
 impl<F: Read + OpenFile + Drop, R: Files<File = F>> OpenSource<FromReader<F>> for R {
     ghost opens = { λ _ _ _. ⊤ };
 
-    fn open_source(&self, path: &str) -> Option<Opened<FromReader<F>>> {
+    fn open_source(&self, path: &str) -> Result<Opened<FromReader<F>>, Reason> {
         let name = if path == STANDARD_INPUT.0 {
             STANDARD_INPUT.1
         } else {
             path
         };
-        let file = fs::open(self, name).ok()?;
+        let file = match fs::open(self, name) {
+            Ok(file) => file,
+            Err(error) => return Err(Reason::of(&error)),
+        };
         let size = size_of(&file);
-        Some(Opened {
+        Ok(Opened {
             source: FromReader::new(file),
             size,
         })

@@ -4,11 +4,16 @@ ghost use Rattle.std.specs.Prelude.{⊤, IfSome};
 ghost use Rattle.collectd.specs.Runs.{IsUnread};
 
 use super::sessions::{BY_SOURCE, CSV, POOL};
-use collectd::{Listener, OpenSource, Opened, run_files, run_merge, run_tcp};
+use collectd::{
+    Accepted, Listener, OpenSource, Opened, Reason, Telling, run_files, run_files_in_full,
+    run_merge, run_tcp, run_tcp_in_full,
+};
+use flow_collect::Pool;
 use ipfix_session::{ScriptSource, Source};
 use plan_file::read_plan;
 use std::alloc::Global;
 use std::io::Sink;
+use std::net::{Ipv4Addr, SocketAddr, SocketAddrV4};
 use std::rt::Clock;
 use std::sync::Wait;
 use std::test::Fail;
@@ -18,6 +23,10 @@ use worked_examples::flows::{NEXT_FLOW, ONE_FLOW};
 use worked_examples::values::{EXPORT_ROW, EXPORT_TEMPLATE};
 
 const NO_PROGRESS: Option<Sink> = None;
+
+fn peer() -> SocketAddr {
+    SocketAddr::V4(SocketAddrV4::new(Ipv4Addr::new(192, 0, 2, 9), 4739))
+}
 
 // Opens `flows`, a session of two flows; `cut`, of which the last octet can't be read; and `export`, the
 // export of a table of one row.
@@ -56,9 +65,11 @@ fn joined(
 impl OpenSource<ScriptSource> for Inputs {
     ghost opens = { λ _ _ _. ⊤ };
 
-    fn open_source(&self, path: &str) -> Option<Opened<ScriptSource>> {
-        let source = self.source(path)?;
-        Some(Opened { source, size: None })
+    fn open_source(&self, path: &str) -> Result<Opened<ScriptSource>, Reason> {
+        match self.source(path) {
+            Some(source) => Ok(Opened { source, size: None }),
+            None => Err(Reason::NoSuchFile),
+        }
     }
 }
 
@@ -66,13 +77,19 @@ impl OpenSource<ScriptSource> for Inputs {
 impl Listener<ScriptSource> for Inputs {
     ghost gives = { λ _ _ _. ⊤ };
 
-    fn next_source(&self, idle: Option<Duration>) -> Option<ScriptSource> {
+    fn next_source(&self, idle: Option<Duration>) -> Result<Accepted<ScriptSource>, Reason> {
         if let Some(limit) = idle
             && limit.is_zero()
         {
-            return None;
+            return Err(Reason::NotValid);
         }
-        self.source("flows")
+        match self.source("flows") {
+            Some(source) => Ok(Accepted {
+                source,
+                peer: peer(),
+            }),
+            None => Err(Reason::NoSuchFile),
+        }
     }
 }
 
@@ -116,6 +133,72 @@ collectd: session 2: fault 15 ReadFailed
 collectd: records: used 5 options 0 untimed 0 backward 0 unkeyed 0 too_long 0
 1";
     assert_eq!(rt; text.as_slice(), want.as_slice());
+    Ok(())
+}
+
+// The same in full.
+fn run_told<R: Clock + Threads + Wait + Sync>(
+    rt: &R,
+    alloc: Global,
+    paths: &[&str],
+    pool: Pool,
+    telling: Telling,
+) -> Result<Vec<u8>, Fail> {
+    let inputs = Inputs { alloc };
+    let plan = read_plan(alloc, BY_SOURCE)?;
+    let (mut out, mut err) = (Vec::new(alloc), Vec::new(alloc));
+    let status = run_files_in_full(
+        rt,
+        alloc,
+        &inputs,
+        paths,
+        &plan,
+        pool,
+        CSV,
+        NO_PROGRESS,
+        telling,
+        &mut out,
+        &mut err,
+    );
+    joined_with(status, out, &err)
+}
+
+#[test]
+fn tells_files_by_their_names(rt: HostRuntime) -> Result<(), Fail> {
+    let telling = Telling {
+        verbose: true,
+        strict: true,
+    };
+    let text = run_told(&rt, rt.alloc(), &["flows", "cut"], POOL, telling)?;
+    let want = b"start,end,sourceIPv4Address,octetDeltaCount,flows
+0,59999,192.0.2.1,4500,3
+collectd: session 1 \"flows\": opened
+collectd: session 2 \"cut\": opened
+collectd: session 1 \"flows\": ended: messages 2 octets 112 records 2
+collectd: session 2: fault 15 ReadFailed
+collectd: session 2 \"cut\": fault 15 ReadFailed: message 2 octet 68
+collectd: session 2 \"cut\": ended: messages 1 octets 68 records 1
+collectd: records: used 3 options 0 untimed 0 backward 0 unkeyed 0 too_long 0
+1";
+    assert_eq!(rt; text.as_slice(), want.as_slice());
+    Ok(())
+}
+
+#[test]
+fn opens_no_file_for_a_pool_without_workers(rt: HostRuntime) -> Result<(), Fail> {
+    let pool = Pool {
+        workers: 0,
+        capacity: 64,
+    };
+    let telling = Telling {
+        verbose: true,
+        strict: false,
+    };
+    let text = run_told(&rt, rt.alloc(), &["flows", "missing"], pool, telling)?;
+    assert_eq!(rt;
+        text.as_slice(),
+        b"collectd: collect: fault 1 Workers\n3".as_slice()
+    );
     Ok(())
 }
 
@@ -174,5 +257,39 @@ fn collects_connections_in_memory(rt: HostRuntime) -> Result<(), Fail> {
 collectd: records: used 6 options 0 untimed 0 backward 0 unkeyed 0 too_long 0
 0";
     assert_eq!(rt; text.as_slice(), want.as_slice());
+    Ok(())
+}
+
+#[test]
+fn tells_connections_by_their_peers(rt: HostRuntime) -> Result<(), Fail> {
+    let inputs = Inputs { alloc: rt.alloc() };
+    let plan = read_plan(rt.alloc(), BY_SOURCE)?;
+    let (mut out, mut err) = (Vec::new(rt.alloc()), Vec::new(rt.alloc()));
+    let telling = Telling {
+        verbose: true,
+        strict: false,
+    };
+    let status = run_tcp_in_full(
+        &rt,
+        rt.alloc(),
+        inputs,
+        "peers",
+        1,
+        None,
+        &plan,
+        POOL,
+        CSV,
+        NO_PROGRESS,
+        telling,
+        &mut out,
+        &mut err,
+    );
+    let want = b"collectd: listening: peers: connections 1
+collectd: session 1 192.0.2.9:4739: accepted
+collectd: session 1 192.0.2.9:4739: ended: messages 2 octets 112 records 2
+collectd: records: used 2 options 0 untimed 0 backward 0 unkeyed 0 too_long 0
+";
+    assert_eq!(rt; err.as_slice(), want.as_slice());
+    assert_eq!(rt; status, 0);
     Ok(())
 }

@@ -8,7 +8,7 @@ ghost use Rattle.flow_collect.specs.Finished.{HasTaken, ended_link, lanes_of, Fi
 use super::Parts;
 use super::gathering::gather;
 use super::pairing::settle_all;
-use crate::collected::Collected;
+use crate::collected::CollectedInFull;
 use crate::session_thread::EndedSession;
 use crate::shortage::Shortage;
 use crate::worker::Lot;
@@ -23,7 +23,7 @@ pub fn finish_all<S: Drop, R: Threads + Sync>(
     alloc: Global,
     ended: VecDeque<EndedSession<S>>,
     worked: VecDeque<Lot>,
-) -> Result<Option<Collected<S>>, Shortage>
+) -> Result<Option<CollectedInFull<S>>, Shortage>
     requires taken { (plan : PlanValue) × All (HasTaken plan) worked.items }
     requires paired { All (IsPaired (map ended_link ended.items)) (lanes_of worked.items) }
     ensures { (plan : PlanValue) → All (HasTaken plan) worked.items
@@ -43,7 +43,7 @@ pub fn finish_all<S: Drop, R: Threads + Sync>(
         links,
         sources,
     } = parts;
-    Ok(Some(Collected {
+    Ok(Some(CollectedInFull {
         sessions,
         links,
         sources,

@@ -9,7 +9,7 @@ use crate::session_thread::EndedSession;
 use crate::shortage::Shortage;
 use crate::worker::Lane;
 use flow_link::{Settled, settle};
-use ipfix_session::SessionReport;
+use ipfix_session::FullReport;
 use std::alloc::{AllocError, Global};
 use std::collections::VecDeque;
 
@@ -81,7 +81,7 @@ fn settle_one<S: Drop>(
 
 fn push_all<S: Drop>(
     parts: &mut Parts<S>,
-    report: SessionReport,
+    report: FullReport,
     link: Settled,
     source: S,
 ) -> Result<(), AllocError>

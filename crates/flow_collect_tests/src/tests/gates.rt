@@ -58,7 +58,7 @@ impl Gate for Holding {
             return;
         }
         wait_for(&self.sent, 2);
-        for _ in 0..10_000 {
+        for _ in 0..100_000 {
             thread::yield_now();
         }
         let sent = self.sent.load(Ordering::SeqCst);
@@ -166,5 +166,23 @@ fn sessions_decode_while_workers_collect_by_turns(rt: HostRuntime) -> Result<(),
     let first = gate.taken[0].load(Ordering::SeqCst);
     let other = gate.taken[1].load(Ordering::SeqCst);
     assert_eq!(rt; (first, other), (4, 2));
+    Ok(())
+}
+
+// The first and the third session, of two records each, go to the first worker, and the second, whose
+// last message is cut short, to the other.
+#[test]
+fn sessions_go_to_workers_by_turns(rt: HostRuntime) -> Result<(), Fail> {
+    let alloc: Global = rt.alloc();
+    let whole: &[&[u8]] = &[ONE_FLOW, NEXT_FLOW];
+    let sources = sources_of(alloc, &[whole, &[ONE_FLOW, CUT_FLOW], whole])?;
+    let gate = Noting {
+        taken: [AtomicU64::new(0), AtomicU64::new(0)],
+    };
+    let text = collected(&rt, alloc, sources, (2, 64), &gate)?;
+    assert_eq!(rt; text.as_str(), "0:192.0.2.1=7500,5;1");
+    let first = gate.taken[0].load(Ordering::SeqCst);
+    let other = gate.taken[1].load(Ordering::SeqCst);
+    assert_eq!(rt; (first, other), (5, 1));
     Ok(())
 }

@@ -39,10 +39,17 @@ fn serial(alloc: Global, texts: &[&[&[u8]]]) -> Result<String, Fail> {
     Ok(text)
 }
 
+/// A text without messages.
+const NOTHING: &[&[u8]] = &[];
+
 // A session that is refused leaves its source as it is: here 68 octets of it.
 #[test]
 fn one_thread_collects(rt: HostRuntime) -> Result<(), Fail> {
-    let cases: [(&[&[&[u8]]], &str); 5] = [
+    let cases: [(&[&[&[u8]]], &str); 7] = [
+        (
+            &[&[FIVE_FLOWS], &[FIVE_FLOWS]],
+            "0:192.0.2.1=30,10;1,5,0;1,5,0;0;0;",
+        ),
         (
             &[&[ONE_FLOW], &[ONE_FLOW, CUT_FLOW]],
             "0:192.0.2.1=3000,2;1,1,0;1,1,14;0;0;",
@@ -54,6 +61,7 @@ fn one_thread_collects(rt: HostRuntime) -> Result<(), Fail> {
         ),
         (&[&[LARGEST_FLOW], &[ONE_OCTET_FLOW]], "SumTooLarge"),
         (&[], "Sessions"),
+        (&[NOTHING; 65], "Sessions"),
     ];
     for (texts, want) in cases {
         assert_eq!(rt; serial(rt.alloc(), texts)?.as_str(), want);
@@ -83,16 +91,20 @@ fn fives<R: Threads + Wait + Sync>(
 
 #[test]
 fn any_capacity_and_any_workers_give_one_table(rt: HostRuntime) -> Result<(), Fail> {
-    for (sessions, workers, capacity, want) in [
-        (3, 1, 1, "0:192.0.2.1=45,15;3,0"),
-        (3, 2, 5, "0:192.0.2.1=45,15;3,0"),
-        (3, 16, 1, "0:192.0.2.1=45,15;3,0"),
-        (3, 1, 65_536, "0:192.0.2.1=45,15;3,0"),
-        (64, 16, 1, "0:192.0.2.1=960,320;64,0"),
-        (64, 3, 6, "0:192.0.2.1=960,320;64,0"),
-    ] {
-        let text = fives(&rt, rt.alloc(), sessions, workers, capacity)?;
-        assert_eq!(rt; text.as_str(), want);
+    for capacity in [1, 2, 5, 6, 65_536] {
+        for workers in [1, 2, 16] {
+            let text = fives(&rt, rt.alloc(), 2, workers, capacity)?;
+            assert_eq!(rt; text.as_str(), "0:192.0.2.1=30,10;2,0");
+        }
+    }
+    Ok(())
+}
+
+#[test]
+fn most_sessions_give_one_table(rt: HostRuntime) -> Result<(), Fail> {
+    for (workers, capacity) in [(16, 1), (3, 6)] {
+        let text = fives(&rt, rt.alloc(), 64, workers, capacity)?;
+        assert_eq!(rt; text.as_str(), "0:192.0.2.1=960,320;64,0");
     }
     Ok(())
 }
@@ -112,11 +124,10 @@ fn fault_of<R: Threads + Wait + Sync>(
     Ok(run.err().map(|fault| fault.number()))
 }
 
-// A worker whose table has failed goes on taking, so that its session isn't stuck at a full link.
+// A worker whose table has failed goes on taking, so that no session is stuck at a full link.
 #[test]
 fn takes_records_after_a_sum_too_large(rt: HostRuntime) -> Result<(), Fail> {
-    let text = [LARGEST_FLOW, ONE_OCTET_FLOW, ONE_OCTET_FLOW, ONE_OCTET_FLOW];
-    let fault = fault_of(&rt, rt.alloc(), &[&text])?;
+    let fault = fault_of(&rt, rt.alloc(), &[&[LARGEST_FLOW], &[ONE_OCTET_FLOW; 10]])?;
     assert_eq!(rt; fault, Some(6));
     Ok(())
 }

@@ -1,16 +1,16 @@
 use Rattle.std.proofs.Common.{◌≡◌, ◌∷◌, ◌++◌, [], ap, ◌∙◌, arith}
 use Rattle.std.proofs.lemmas.Bool.Decides.{nat_tests}
-use Rattle.ipfix_session.proofs.Driven.{driven_took_all}
 use Rattle.flow_link.specs.Parcels.{items}
 use Rattle.flow_link.specs.declared.parcel.Parcel.TheVariants.{Last}
+use Rattle.flow_collect.proofs.InFull.{took_in_full}
 use Rattle.flow_collect.proofs.SendLists.{chain_sent}
 use Rattle.flow_collect.proofs.session_thread.run_session.Goals as goal
 
 pub returns : goal.returns
 returns g c =
-    let none : c.drive-report.new.sink.refused ≡ 0 = grind (arith, nat_tests) in
-    let put = driven_took_all _ _ _ _ _ _ _ _ _ c.drive-report.ensures none in
-    let chain = chain_sent (λ k. k.sender) (λ k. k.sent) _ put.records c.drive-report.new.sink put.takes.chain in
+    let none : c.drive_in_full-report.new.sink.refused ≡ 0 = grind (arith, nat_tests) in
+    let put = took_in_full _ _ _ _ _ _ _ c.drive_in_full-report.ensures none in
+    let chain = chain_sent (λ k. k.sender) (λ k. k.sent) _ put.records c.drive_in_full-report.new.sink put.takes.chain in
     let last = rw c.if-not-sent.false at c.send_last-sent.ensures.sent in
     let new = c.new-sink.ensures.0 in
     record {

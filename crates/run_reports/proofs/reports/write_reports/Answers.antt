@@ -1,13 +1,13 @@
 use Rattle.std.proofs.Common.{take, sym, subst}
 use Rattle.std.specs.Io.KnownBytes.{Appends}
 use Rattle.std.proofs.KnownBytes.{Appends-trans}
-use Rattle.run_reports.specs.ReportLines.{report_lines}
-use Rattle.run_reports.proofs.Numbering.{report_lines-more}
+use Rattle.run_reports.specs.ReportLines.{report_lines, session_lines}
+use Rattle.run_reports.proofs.Numbering.{numbered-more}
 use Rattle.run_reports.proofs.reports.write_reports.Goals as goal
 
 pub loop-index-preserved : goal.loop-index-preserved
 loop-index-preserved g c =
     let held = g.W.Write.contents in
     let rs = c.args.reports.now in
-    let more = report_lines-more rs c.loop-index.index c.index-reports-index.result c.loop-index-test.true c.index-reports-index.is in
+    let more = numbered-more session_lines rs c.loop-index.index c.index-reports-index.result c.loop-index-test.true c.index-reports-index.is in
     subst (λ l. Appends (held c.args.out.now) (held c.write_session.new.out) l) (sym more) (Appends-trans _ _ _ (report_lines (take c.loop-index.index rs)) _ c.loop-index.invariant c.in_ok-write_session.ensures)

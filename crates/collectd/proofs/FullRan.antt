@@ -1,0 +1,176 @@
+-- What a run that reports in full wrote, and what it is without the rest.
+use Rattle.std.proofs.Common.{◌≡◌, ℕ, ◌+◌, ◌<◌, ◌≤◌, Bool, true, false, List, [], ◌∷◌, length, take, get_or, map, All, Option, Some, None, refl, sym, ap, ◌∙◌, subst, inl, inr, arith}
+use Rattle.std.proofs.lemmas.List.{take_more, take_all}
+use Rattle.std.proofs.lemmas.List.Elements.{All-nil, All-cons, All-append, All-head, All-tail, All-map, All-weaker}
+use Rattle.std.specs.Prelude.{◌↔◌, IsTrue, ◌⊎◌, ◌≢◌, ◌||◌, is_some, if◌then◌else◌, ◌==◌, nat_lt, IfSome, IfNone}
+use Rattle.std.specs.Option.{ForSome}
+use Rattle.std.specs.Io.KnownBytes.{Appends}
+use Rattle.ipfix_session.specs.Sources.{SourceView}
+use Rattle.ipfix_session.specs.declared.report.FullReport.{FullReport}
+use Rattle.flow_table.specs.Plans.{PlanValue}
+use Rattle.flow_table.specs.declared.table.Table.{Table}
+use Rattle.flow_table.specs.declared.tally.Tally.{Tally}
+use Rattle.flow_collect.specs.InFull.{HeadlineInFull, reports_in}
+use Rattle.flow_collect.specs.Refusals.{fault_of_arguments}
+use Rattle.flow_collect.specs.Texts.{HasNoFault}
+use Rattle.flow_collect.specs.declared.collected.CollectedInFull.{CollectedInFull}
+use Rattle.flow_collect.specs.declared.collected.Pool.{Pool}
+use Rattle.flow_collect.specs.declared.fault.CollectFault.{CollectFault}
+use Rattle.flow_collect.specs.declared.fault.CollectFault.TheVariants.{Workers, Sessions, Link}
+use Rattle.flow_collect.specs.declared.collected.TheConstants.{MAX_WORKERS, MAX_SESSIONS}
+use Rattle.flow_link.specs.declared.making.TheConstants.{MAX_CAPACITY}
+use Rattle.flow_collect.proofs.GivenLists.{first_each}
+use Rattle.flow_collect.proofs.InFull.{given_short, headline_short, short_run}
+use Rattle.run_reports.specs.Spotless.{IsSpotless, IsSpotlessSession}
+use Rattle.collectd.specs.Runs.{export_text, AddsUpWhole, IsUnread, RunsSources, WasCollected, WritesTable, WritesWholeTable}
+use Rattle.collectd.specs.FullRuns.{RunsInFull, WasCollectedInFull, WentWell, WritesTableInFull}
+use Rattle.collectd.specs.declared.table.Output.{Output}
+use Rattle.collectd.proofs.Ran.{adds_up_whole, not_some, writes_table}
+
+-- ---- sessions without a fault
+
+abbrev pub NoFault : FullReport → Type 0
+NoFault full = HasNoFault full.report
+
+no_fault_from : (fulls : List FullReport) → All HasNoFault (reports_in fulls) → All NoFault fulls
+no_fault_from [] all = All-nil NoFault
+no_fault_from (full ∷ fulls) all =
+    All-cons NoFault full fulls (All-head HasNoFault full.report (reports_in fulls) all) (no_fault_from fulls (All-tail HasNoFault full.report (reports_in fulls) all))
+
+-- the first ones, and one more
+pub none_more : (rs : List FullReport) (i : ℕ) (r : FullReport) → i < length rs → All NoFault (take i rs) → r ≡ get_or rs i r → false ≡ is_some r.report.fault → All NoFault (take (i + 1) rs)
+none_more rs i r less before is none =
+    let here : NoFault (get_or rs i r) = subst NoFault is (not_some r.report.fault none) in
+    subst (λ (xs : List FullReport). All NoFault xs) (sym (take_more rs i r less))
+    (All-append NoFault (take i rs) (get_or rs i r ∷ []) before (All-cons NoFault (get_or rs i r) [] here (All-nil NoFault)))
+
+-- all of them
+pub none_of_all : (rs : List FullReport) (i : ℕ) → length rs ≤ i → All NoFault (take i rs) → All NoFault rs
+none_of_all rs i all none = subst (λ (xs : List FullReport). All NoFault xs) (take_all i rs all) none
+
+-- a run that went well has none
+pub well_no_fault : (strict : Bool) (fulls : List FullReport) (tally : Tally) → WentWell strict fulls tally → All NoFault fulls
+well_no_fault true fulls tally well = All-weaker IsSpotlessSession NoFault (λ full spotless. spotless.no_fault) fulls well.sessions
+well_no_fault false fulls tally well = well
+
+-- the tests of it
+pub tested_strict : (strict : Bool) (fulls : List FullReport) (tally : Tally) (passed : Bool) → strict ≡ true → (IsTrue passed ↔ IsSpotless fulls tally) → (IsTrue passed ↔ WentWell strict fulls tally)
+tested_strict true fulls tally passed is tested = tested
+tested_strict false fulls tally passed is tested = absurd (cc is)
+
+pub tested_plain : (strict : Bool) (fulls : List FullReport) (tally : Tally) (passed : Bool) → strict ≡ false → (IsTrue passed ↔ All NoFault fulls) → (IsTrue passed ↔ WentWell strict fulls tally)
+tested_plain true fulls tally passed is tested = absurd (cc is)
+tested_plain false fulls tally passed is tested = tested
+
+-- ---- a run
+
+module _ {S : Type 0} (seen : S → SourceView) where
+  pub writes_in_full : (strict : Bool) (sources : List S) (plan : PlanValue) (pool : Pool) (output : Output) (status : ℕ) (old new : Option (List ℕ)) (c : CollectedInFull S)
+      → HeadlineInFull seen sources plan pool c → ((status ≡ 0) ↔ WentWell strict c.sessions.items c.table.tally) → Appends old new (export_text output plan c.table) → WritesTableInFull seen strict sources plan pool output status old new
+  writes_in_full strict sources plan pool output status old new c h status_is written =
+      record {
+        collected = c;
+        headline = h;
+        first = λ texts t. first_each seen sources c.sources.items (reports_in c.sessions.items) h.records texts (given_short seen sources c.sources.items c.sessions.items h.records h.given) t;
+        status_is = status_is;
+        written = written;
+      }
+
+  pub adds_up_in_full : ((s : S) → (seen s).ended ≡ true → ForSome (seen s).text (λ xs. xs ≡ [])) → (c : CollectedInFull S) (sources : List S) (plan : PlanValue) (pool : Pool)
+      → HeadlineInFull seen sources plan pool c → All NoFault c.sessions.items → AddsUpWhole seen sources plan c.table
+  adds_up_in_full at_end c sources plan pool h none =
+      let short = short_run c in
+      let whole = headline_short seen sources plan pool c short.0 h short.1 in
+      subst (λ (t : Table). AddsUpWhole seen sources plan t) short.1.table_is
+      (adds_up_whole seen at_end short.0 sources plan pool whole (rw short.1.sessions_are (All-map HasNoFault (λ (full : FullReport). full.report) c.sessions.items none)))
+
+  -- ---- without the rest
+
+  status_short : (status : ℕ) (strict : Bool) (fulls : List FullReport) (tally : Tally) → strict ≡ false → ((status ≡ 0) ↔ WentWell strict fulls tally) → ((status ≡ 0) ↔ All HasNoFault (reports_in fulls))
+  status_short status true fulls tally plain is = absurd (cc plain)
+  status_short status false fulls tally plain is = (λ zero. All-map HasNoFault (λ (full : FullReport). full.report) fulls (is.0 zero), λ none. is.1 (no_fault_from fulls none))
+
+  pub table_short : (strict : Bool) (sources : List S) (plan : PlanValue) (pool : Pool) (output : Output) (status : ℕ) (old new : Option (List ℕ)) → strict ≡ false
+      → WritesTableInFull seen strict sources plan pool output status old new → WritesTable seen sources plan pool output status old new
+  table_short strict sources plan pool output status old new plain w =
+      let short = short_run w.collected in
+      writes_table seen sources plan pool output status old new short.0 (headline_short seen sources plan pool w.collected short.0 w.headline short.1)
+      (rw short.1.sessions_are (status_short status strict w.collected.sessions.items w.collected.table.tally plain w.status_is))
+      (rw short.1.table_is w.written)
+
+  pub was_short : (Untouched : Type 0) (sources : List S) (plan : PlanValue) (pool : Pool) → Untouched ⊎ WasCollectedInFull seen sources plan pool → Untouched ⊎ WasCollected seen sources plan pool
+  was_short Untouched sources plan pool (inl untouched) = inl untouched
+  was_short Untouched sources plan pool (inr was) =
+      let short = short_run was.0 in inr (short.0, headline_short seen sources plan pool was.0 short.0 was.1 short.1)
+
+  -- sources that were had one after another, and then run
+  pub runs_in_full : (AreHad : List S → Type 0) (strict : Bool) (plan : PlanValue) (pool : Pool) (output : Output) (status : ℕ) (old new : Option (List ℕ)) (Untouched : Type 0) (sources had : List S)
+      → sources ≡ had → AreHad had → All (IsUnread seen) had → (status ≢ 3 → WritesTableInFull seen strict sources plan pool output status old new) → (status ≡ 0 → WritesWholeTable seen sources plan output old new)
+      → (status ≡ 3 → Untouched ⊎ WasCollectedInFull seen sources plan pool) → RunsInFull seen AreHad strict plan pool output status old new Untouched
+  runs_in_full AreHad strict plan pool output status old new Untouched sources had same are_had unread table all untouched =
+      record { sources = sources; had = rw same are_had; unread = rw same unread; table = table; all = all; untouched = untouched }
+
+  pub runs_short : (AreHad : List S → Type 0) (strict : Bool) (plan : PlanValue) (pool : Pool) (output : Output) (status : ℕ) (old new : Option (List ℕ)) (Untouched : Type 0) → strict ≡ false
+      → RunsInFull seen AreHad strict plan pool output status old new Untouched → RunsSources seen AreHad plan pool output status old new Untouched
+  runs_short AreHad strict plan pool output status old new Untouched plain r =
+      record {
+        sources = r.sources;
+        had = r.had;
+        unread = r.unread;
+        table = λ ran. table_short strict r.sources plan pool output status old new plain (r.table ran);
+        all = r.all;
+        untouched = λ failed. was_short Untouched r.sources plan pool (r.untouched failed);
+      }
+
+-- ---- a pool that has a fault
+
+faults_too : (workers sessions link : Bool) (w s l : CollectFault) → is_some (if workers then Some w else (if false then Some s else (if link then Some l else None))) ≡ true
+    → is_some (if workers then Some w else (if sessions then Some s else (if link then Some l else None))) ≡ true
+faults_too true sessions link w s l some = refl
+faults_too false true link w s l some = refl
+faults_too false false link w s l some = some
+
+pub still_refused : (pool : Pool) (n : ℕ) → is_some (fault_of_arguments pool 1) ≡ true → is_some (fault_of_arguments pool n) ≡ true
+still_refused pool n some =
+    faults_too ((pool.workers == 0) || nat_lt MAX_WORKERS pool.workers) ((n == 0) || nat_lt MAX_SESSIONS n) ((pool.capacity == 0) || nat_lt MAX_CAPACITY pool.capacity) Workers Sessions Link some
+
+-- the same, of what was answered
+pub early_same : (pool : Pool) (n : ℕ) (first answer : Option CollectFault) (fault : CollectFault) → first ≡ Some fault → first ≡ fault_of_arguments pool 1 → answer ≡ fault_of_arguments pool n → is_some answer ≡ is_some (fault_of_arguments pool 1)
+early_same pool n first answer fault is one other =
+    let refused : is_some (fault_of_arguments pool 1) ≡ true = subst (λ (o : Option CollectFault). is_some o ≡ true) (sym is ∙ one) refl in
+    let still : is_some answer ≡ true = rw other (still_refused pool n refused) in
+    still ∙ sym refused
+
+pub shown : {X : Type 0} (o answer : Option X) → answer ≡ o → IfSome answer (λ x. o ≡ Some x)
+shown o None is = tt
+shown o (Some x) is = sym is
+
+-- what holds whatever the fault
+pub whatever : {X : Type 0} (o : Option X) (P : Type 0) → P → IfSome o (λ x. P)
+whatever None P p = tt
+whatever (Some x) P p = p
+
+pub even_if_none : {X : Type 0} (o : Option X) (P : Type 0) → P → IfNone o P
+even_if_none None P p = p
+even_if_none (Some x) P p = tt
+
+pub not_if_some : {X : Type 0} (o : Option X) (P : Type 0) → is_some o ≡ true → IfNone o P
+not_if_some None P some = absurd (cc some)
+not_if_some (Some x) P some = tt
+
+pub not_if_none : {X : Type 0} (o : Option X) (P : X → Type 0) → is_some o ≡ false → IfSome o P
+not_if_none None P none = tt
+not_if_none (Some x) P none = absurd (cc none)
+
+-- a connection that was had is none with a limit that none can have
+pub has_limit : {X : Type 0} (limit : Option X) (Zero : X → Type 0) (P : Type 0) → IfSome limit (λ x. Zero x → false ≡ true) → IfSome limit (λ x. Zero x → P)
+has_limit None Zero P had = tt
+has_limit (Some x) Zero P had = λ zero. absurd (cc (had zero))
+
+pub is_error : {X : Type 0} (limit : Option X) (Zero : X → Type 0) (some : Type 0) → IfSome limit (λ x. Zero x → some → true ≡ true)
+is_error None Zero some = tt
+is_error (Some x) Zero some = λ zero any. refl
+
+pub none_had : {X : Type 0} (limit : Option X) (Zero : X → Type 0) (number count : ℕ) → count ≤ number → IfSome limit (λ x. Zero x → number ≡ 0) → IfSome limit (λ x. Zero x → 0 < count → false ≡ true)
+none_had None Zero number count all had = tt
+none_had (Some x) Zero number count all had = λ zero some. let none = had zero in absurd (omega (arith, all, some, none))

@@ -1,0 +1,22 @@
+-- How a dump that reports in full ended.
+use Rattle.std.specs.Prelude.{◌≡◌, ◌↔◌, ℕ, Bool, true, false, List, Option}
+use Rattle.ipfix_message.specs.declared.record.DataRecord.{DataRecord}
+use Rattle.ipfix_session.specs.Sources.{SourceView}
+use Rattle.ipfix_session.specs.declared.report.FullReport.{FullReport}
+use Rattle.exit_status.specs.Statuses.{number_of}
+use Rattle.exit_status.specs.declared.status.Status.TheVariants.{Well}
+use Rattle.flow_collect.specs.Texts.{HasNoFault}
+use Rattle.ipfix_dump.specs.Dumped.{DumpsInFullBy}
+use Rattle.run_reports.specs.Spotless.{IsSpotlessSession}
+
+-- a session ended well: it has no fault, and if the dump is strict, nothing shows that anything which was sent wasn't dumped
+abbrev pub EndedWell : Bool → FullReport → Type 0
+EndedWell true full = IsSpotlessSession full
+EndedWell false full = HasNoFault full.report
+
+-- the lines of a source's records were written, by the line of a record, and the status says that all was well exactly if
+-- it was
+pub record DumpsToEnd {S : Type 0} (line_of : DataRecord → List ℕ) (seen : S → SourceView) (strict : Bool) (before after : S) (old new : Option (List ℕ)) (status : ℕ) : Type 0 where
+  pub full : FullReport
+  pub dumps : DumpsInFullBy line_of seen before after old new full
+  pub status_is : (status ≡ number_of Well) ↔ EndedWell strict full

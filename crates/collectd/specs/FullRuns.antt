@@ -1,0 +1,62 @@
+-- What a run of collecting that reports in full wrote, and when its status says that all was well.
+use Rattle.std.specs.Prelude.{◌≡◌, ◌≢◌, ◌↔◌, ◌⊎◌, ℕ, Bool, true, false, List, All, Option}
+use Rattle.std.specs.List.{AllZip}
+use Rattle.std.specs.Io.KnownBytes.{Appends}
+use Rattle.ipfix_session.specs.Given.{records_of, IsPrefix}
+use Rattle.ipfix_session.specs.Sources.{SourceView}
+use Rattle.ipfix_session.specs.declared.report.FullReport.{FullReport}
+use Rattle.exit_status.specs.Statuses.{number_of}
+use Rattle.exit_status.specs.declared.status.Status.TheVariants.{Well, Failed}
+use Rattle.flow_table.specs.Plans.{PlanValue}
+use Rattle.flow_table.specs.declared.tally.Tally.{Tally}
+use Rattle.flow_collect.specs.InFull.{HeadlineInFull}
+use Rattle.flow_collect.specs.Refusals.{fault_of_arguments}
+use Rattle.flow_collect.specs.Texts.{AreTexts, HasNoFault}
+use Rattle.flow_collect.specs.declared.collected.CollectedInFull.{CollectedInFull}
+use Rattle.flow_collect.specs.declared.collected.Pool.{Pool}
+use Rattle.flow_collect.specs.declared.fault.CollectFault.{CollectFault}
+use Rattle.run_reports.specs.declared.origin.Origin.{Origin}
+use Rattle.run_reports.specs.declared.origin.Origin.TheVariants.{File, Peer, Unknown}
+use Rattle.run_reports.specs.Spotless.{IsSpotless}
+use Rattle.collectd.specs.Runs.{export_text, IsUnread, WritesWholeTable}
+use Rattle.collectd.specs.declared.table.Output.{Output}
+
+-- the fault that a pool has with however many sources
+abbrev pub fault_of_pool : Pool → Option CollectFault
+fault_of_pool pool = fault_of_arguments pool 1
+
+-- all was well: no session has a fault, and if the run is strict, nothing shows that anything which was sent isn't in the
+-- table
+abbrev pub WentWell : Bool → List FullReport → Tally → Type 0
+WentWell true fulls tally = IsSpotless fulls tally
+WentWell false fulls tally = All (λ (full : FullReport). HasNoFault full.report) fulls
+
+-- the origin of a session is a file of this name
+abbrev pub IsFileNamed : List ℕ → Origin → Type 0
+IsFileNamed path (File name size) = name.now ≡ path
+IsFileNamed path (Peer address) = ⊥
+IsFileNamed path Unknown = ⊥
+
+module _ {S : Type 0} (seen : S → SourceView) where
+  -- what was collected was written as a table, and nothing else; the status says that all was well exactly if it was
+  pub record WritesTableInFull (strict : Bool) (sources : List S) (plan : PlanValue) (pool : Pool) (output : Output) (status : ℕ) (old new : Option (List ℕ)) : Type 0 where
+    -- what the headline says, with full reports
+    pub collected : CollectedInFull S
+    pub headline : HeadlineInFull seen sources plan pool collected
+    -- the records of each session are the first of those that its source's whole text gives
+    pub first : (texts : List (List ℕ)) → AreTexts seen sources texts → AllZip (λ q t. IsPrefix q (records_of t)) headline.records texts
+    pub status_is : (status ≡ number_of Well) ↔ WentWell strict collected.sessions.items collected.table.tally
+    pub written : Appends old new (export_text output plan collected.table)
+
+  abbrev pub WasCollectedInFull : List S → PlanValue → Pool → Type 0
+  WasCollectedInFull sources plan pool = (c : CollectedInFull S) × HeadlineInFull seen sources plan pool c
+
+  -- sources were had as the first fact says it, none of which was read before, and a run of them ended like this; the last
+  -- fact says that the writer is untouched
+  pub record RunsInFull (AreHad : List S → Type 0) (strict : Bool) (plan : PlanValue) (pool : Pool) (output : Output) (status : ℕ) (old new : Option (List ℕ)) (Untouched : Type 0) : Type 0 where
+    pub sources : List S
+    pub had : AreHad sources
+    pub unread : All (IsUnread seen) sources
+    pub table : status ≢ number_of Failed → WritesTableInFull strict sources plan pool output status old new
+    pub all : status ≡ number_of Well → WritesWholeTable seen sources plan output old new
+    pub untouched : status ≡ number_of Failed → Untouched ⊎ WasCollectedInFull sources plan pool

@@ -1,0 +1,81 @@
+//! Accepting connections, and collecting from them.
+
+ghost use Rattle.std.specs.Prelude.{◌≡◌, ◌≢◌, ◌⊎◌, ◌<◌, length, All, IfSome};
+ghost use Rattle.std.specs.Duration.{as_nanos};
+ghost use Rattle.exit_status.specs.Statuses.{number_of};
+ghost use Rattle.flow_collect.specs.Refusals.{fault_of_arguments};
+ghost use Rattle.collectd.specs.FullRuns.{RunsInFull};
+
+use crate::full_run::run_in_full;
+use crate::sources::accepting::{AcceptedAll, Listener, accept_all};
+use crate::table::Output;
+use exit_status::Status;
+use flow_collect::Pool;
+use flow_table::Plan;
+use ipfix_session::Source;
+use run_reports::{Telling, write_listening, write_not_had_because};
+use std::alloc::Global;
+use std::io::Write;
+use std::rt::Clock;
+use std::sync::Wait;
+use std::thread::Threads;
+use std::time::Duration;
+
+/// Accepts the connections and runs them, whatever the pool.
+#[tactic(auto, using(crate::proofs::FullRan::runs_in_full))]
+pub fn run_connections<
+    S: Source + Send + Drop,
+    L: Listener<S> + Drop,
+    P: Write + Copy + Drop + Send,
+    W: Write,
+    E: Write,
+    R: Clock + Threads + Wait + Sync,
+>(
+    rt: &R,
+    alloc: Global,
+    listener: L,
+    addr: &str,
+    count: usize,
+    idle: Option<Duration>,
+    plan: &Plan,
+    pool: Pool,
+    output: Output,
+    progress: Option<P>,
+    telling: Telling,
+    out: &mut W,
+    err: &mut E,
+) -> u8
+    ensures statuses { (result ≡ number_of Status.Well) ⊎ (result ≡ number_of Status.SessionFault)
+        ⊎ (result ≡ number_of Status.NotOpened) ⊎ (result ≡ number_of Status.Failed) }
+    ensures accepted { result ≢ number_of Status.NotOpened
+        → RunsInFull S.seen
+        (λ sources. (length sources ≡ count) × All (L.gives listener idle) sources)
+        telling.strict plan.now pool output result
+        (W.contents out.old) (W.contents out.new) (out.new ≡ out.old) }
+    ensures not_accepted { result ≡ number_of Status.NotOpened → out.new ≡ out.old }
+    ensures refused { IfSome (fault_of_arguments pool count)
+        (λ fault. ((result ≡ number_of Status.NotOpened) ⊎ (result ≡ number_of Status.Failed))
+        × (out.new ≡ out.old)) }
+    ensures no_time { IfSome idle
+        (λ limit. as_nanos limit ≡ 0 → 0 < count → result ≡ number_of Status.NotOpened) }
+{
+    let _ = write_listening(telling, addr, count, err);
+    match accept_all(rt, alloc, listener, count, idle, progress, telling, err) {
+        Ok(AcceptedAll { sources, origins }) => run_in_full(
+            rt,
+            alloc,
+            sources.into_sources(),
+            &origins,
+            plan,
+            pool,
+            output,
+            telling,
+            out,
+            err,
+        ),
+        Err(reason) => {
+            let _ = write_not_had_because(telling, "listen", addr, reason, err);
+            Status::NotOpened.number()
+        }
+    }
+}

@@ -1,0 +1,144 @@
+//! Collecting and writing the table, with reports in full.
+
+ghost use Rattle.std.specs.Prelude.{List, ◌≡◌, ◌≢◌, ◌⊎◌, ◌↔◌, ◌++◌, All, IfSome, IsTrue, OnOk, vec_len};
+ghost use Rattle.std.specs.Io.KnownBytes.{Appends};
+ghost use Rattle.exit_status.specs.Statuses.{number_of};
+ghost use Rattle.flow_collect.specs.Refusals.{fault_of_arguments};
+ghost use Rattle.flow_collect.specs.Texts.{HasNoFault};
+ghost use Rattle.run_reports.specs.ReportLines.{tally_line};
+ghost use Rattle.run_reports.specs.ToldLines.{told_lines};
+ghost use Rattle.collectd.specs.Runs.{AddsUpWhole, WritesWholeTable};
+ghost use Rattle.flow_collect.specs.InFull.{HeadlineInFull};
+ghost use Rattle.flow_table.specs.Plans.{PlanValue};
+ghost use Rattle.collectd.specs.FullRuns.{WasCollectedInFull, WentWell, WritesTableInFull};
+
+use crate::table::{Output, export};
+use exit_status::Status;
+use flow_collect::{CollectedInFull, OpenGate, Pool, collect_in_full};
+use flow_table::{Plan, Tally};
+use ipfix_session::{FullReport, Source};
+use run_reports::{
+    Origin, Telling, is_spotless, write_collect_fault, write_export_fault, write_tally,
+    write_told_reports,
+};
+use std::alloc::Global;
+use std::io::{self, Write};
+use std::sync::Wait;
+use std::thread::Threads;
+
+/// Nothing is told beside the lines that always stand.
+pub const NOTHING_MORE: Telling = Telling {
+    verbose: false,
+    strict: false,
+};
+
+/// Does as [`run`](crate::run), and tells more if `telling` asks for it: to `err` it writes the lines of the
+/// sessions in full, each with the origin that has the session's place. If `telling` is strict, the status is 1
+/// also if anything shows that something which was sent isn't in the table
+/// ([`is_spotless`](run_reports::is_spotless)).
+pub fn run_in_full<S: Source + Send + Drop, W: Write, E: Write, R: Threads + Wait + Sync>(
+    rt: &R,
+    alloc: Global,
+    sources: Vec<S>,
+    origins: &[Origin],
+    plan: &Plan,
+    pool: Pool,
+    output: Output,
+    telling: Telling,
+    out: &mut W,
+    err: &mut E,
+) -> u8
+    ensures statuses { (result ≡ number_of Status.Well) ⊎ (result ≡ number_of Status.SessionFault)
+        ⊎ (result ≡ number_of Status.Failed) }
+    // The table of what was received of each session was written, and nothing else; all was well exactly
+    // if no session had a fault, and if the run is strict exactly if it was spotless.
+    ensures table { result ≢ number_of Status.Failed
+        → WritesTableInFull S.seen telling.strict sources.items plan.now pool output result
+        (W.contents out.old) (W.contents out.new) }
+    // The table of all whole texts was written, and each of them ends with a whole message.
+    ensures all { result ≡ number_of Status.Well
+        → WritesWholeTable S.seen sources.items plan.now output
+        (W.contents out.old) (W.contents out.new) }
+    // Nothing was written unless all was collected.
+    ensures untouched { result ≡ number_of Status.Failed
+        → (out.new ≡ out.old) ⊎ WasCollectedInFull S.seen sources.items plan.now pool }
+    // Nothing was collected if the arguments have a fault.
+    ensures refused { IfSome (fault_of_arguments pool (vec_len sources))
+        (λ fault. (result ≡ number_of Status.Failed) × (out.new ≡ out.old)) }
+{
+    let collected = match collect_in_full(rt, alloc, sources, plan, pool, &OpenGate) {
+        Ok(collected) => collected,
+        Err(fault) => {
+            let _ = write_collect_fault(fault, err);
+            return Status::Failed.number();
+        }
+    };
+    if let Err(fault) = export(alloc, plan, &collected.table, output, out) {
+        let _ = write_export_fault(fault, err);
+        return Status::Failed.number();
+    }
+    let _ = tell(telling, origins, &collected, err);
+    status_of(telling.strict, &collected).number()
+}
+
+// How a run ended whose table is written.
+fn status_of<S: Source>(strict: bool, collected: &CollectedInFull<S>) -> Status
+    ensures ends { (result ≡ Status.Well) ⊎ (result ≡ Status.SessionFault) }
+    ensures well { (result ≡ Status.Well)
+        ↔ WentWell strict collected.now.sessions.items collected.now.table.tally }
+    ensures whole { (sources : List S) (plan : PlanValue) (pool : Pool)
+        → HeadlineInFull S.seen sources plan pool collected.now
+        → WentWell strict collected.now.sessions.items collected.now.table.tally
+        → AddsUpWhole S.seen sources plan collected.now.table }
+{
+    end_of(strict, &collected.sessions, &collected.table.tally)
+}
+
+// How sessions and their records ended.
+fn end_of(strict: bool, reports: &[FullReport], tally: &Tally) -> Status
+    ensures ends { (result ≡ Status.Well) ⊎ (result ≡ Status.SessionFault) }
+    ensures well { (result ≡ Status.Well) ↔ WentWell strict reports.now tally.now }
+{
+    if went_well(strict, reports, tally) {
+        Status::Well
+    } else {
+        Status::SessionFault
+    }
+}
+
+#[tactic(auto, using(crate::proofs::FullRan::tested_strict, crate::proofs::FullRan::tested_plain))]
+fn went_well(strict: bool, reports: &[FullReport], tally: &Tally) -> bool
+    ensures { IsTrue result ↔ WentWell strict reports.now tally.now }
+{
+    if strict {
+        is_spotless(reports, tally)
+    } else {
+        have_no_fault(reports)
+    }
+}
+
+fn have_no_fault(reports: &[FullReport]) -> bool
+    ensures { IsTrue result ↔ All (λ full. HasNoFault full.report) reports.now }
+{
+    for full in reports {
+        if full.report.fault.is_some() {
+            return false;
+        }
+    }
+    true
+}
+
+// What there is to tell of sessions and their records.
+fn tell<S, E: Write>(
+    telling: Telling,
+    origins: &[Origin],
+    collected: &CollectedInFull<S>,
+    err: &mut E,
+) -> io::Result<()>
+    ensures { OnOk result (Appends (E.contents err.old) (E.contents err.new)
+        (told_lines telling origins.now collected.now.sessions.items
+        ++ tally_line collected.now.table.tally)) }
+{
+    write_told_reports(telling, origins, &collected.sessions, err)?;
+    write_tally(&collected.table.tally, err)
+}

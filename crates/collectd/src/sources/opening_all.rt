@@ -1,0 +1,103 @@
+//! Opening files, one after another.
+
+ghost use Rattle.std.specs.Prelude.{IfOk};
+ghost use Rattle.std.specs.List.{AllZip};
+ghost use Rattle.collectd.specs.Runs.{IsUnread};
+ghost use Rattle.collectd.specs.FullRuns.{IsFileNamed};
+
+use super::opening::{OpenSource, Opened};
+use super::unread::Unread;
+use ipfix_session::Source;
+use run_reports::{Origin, Reason, Telling, write_opened};
+use session_progress::Watched;
+use std::alloc::Global;
+use std::io::Write;
+use std::rt::Clock;
+
+/// Files that were opened, and the origins of their sessions.
+#[derive(Drop)]
+pub struct OpenedAll<'a, S: Source + Drop> {
+    pub sources: Unread<S>,
+    pub origins: Vec<Origin<'a>>,
+}
+
+/// A path that can't be opened.
+#[derive(Clone, Copy)]
+pub struct NotOpened<'a> {
+    pub path: &'a str,
+    pub reason: Reason,
+}
+
+/// The sources of the paths, in order, or the first path that can't be opened. `err` has a line for each
+/// that was opened, if `telling` is verbose; a fault of `err` is passed over.
+pub fn open_all<
+    'r,
+    'a,
+    S: Source + Drop,
+    O: OpenSource<S>,
+    P: Write + Copy + Drop,
+    E: Write,
+    R: Clock,
+>(
+    rt: &'r R,
+    alloc: Global,
+    files: &O,
+    paths: &[&'a str],
+    progress: Option<P>,
+    telling: Telling,
+    err: &mut E,
+) -> Result<OpenedAll<'a, Watched<'r, S, R, P>>, NotOpened<'a>>
+    ensures opened { IfOk result
+        (λ all. AllZip (λ path. O.opens files.now path.now) paths.now all.sources) }
+    ensures named { IfOk result
+        (λ all. AllZip (λ path. IsFileNamed path.now) paths.now all.origins.items) }
+{
+    let mut sources = Unread::new(alloc);
+    let mut origins = Vec::new(alloc);
+    let mut session = 0_usize;
+    for path in paths {
+        session = session.saturating_add(1);
+        let (source, origin) = open_watched(rt, alloc, files, session, *path, progress)?;
+        let _ = write_opened(telling, session, &origin, err);
+        let Ok(()) = sources.push(source) else {
+            return Err(without_memory(*path));
+        };
+        let Ok(()) = origins.push(origin) else {
+            return Err(without_memory(*path));
+        };
+    }
+    Ok(OpenedAll { sources, origins })
+}
+
+fn without_memory<'a>(path: &'a str) -> NotOpened<'a> {
+    NotOpened {
+        path,
+        reason: Reason::OutOfMemory,
+    }
+}
+
+// The source of a path, for the session of this number, counted from 1, and its origin.
+fn open_watched<'r, 'a, S: Source + Drop, O: OpenSource<S>, P: Write + Copy + Drop, R: Clock>(
+    rt: &'r R,
+    alloc: Global,
+    files: &O,
+    session: usize,
+    path: &'a str,
+    progress: Option<P>,
+) -> Result<(Watched<'r, S, R, P>, Origin<'a>), NotOpened<'a>>
+    ensures opened { IfOk result (λ had. O.opens files.now path.now had.0) }
+    ensures unread { IfOk result (λ had. IsUnread S.seen had.0) }
+    ensures named { IfOk result (λ had. IsFileNamed path.now had.1) }
+{
+    match files.open_source(path) {
+        Ok(Opened { source, size }) => {
+            let origin = Origin::File {
+                name: path,
+                size: size.map(|octets| octets.get()),
+            };
+            let watched = Watched::new(alloc, rt, session, source, size, progress);
+            Ok((watched, origin))
+        }
+        Err(reason) => Err(NotOpened { path, reason }),
+    }
+}

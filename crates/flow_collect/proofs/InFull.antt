@@ -1,0 +1,152 @@
+-- Sessions that report in full.
+use Rattle.std.proofs.Common.{◌≡◌, ℕ, List, [], ◌∷◌, ◌++◌, Option, None, Some, length, refl, sym, ◌∙◌, subst, map, append-nil}
+use Rattle.std.specs.Prelude.{◌≢◌}
+use Rattle.std.specs.List.{AllZip}
+use Rattle.std.specs.declared.vec.Vec.{Vec}
+use Rattle.std.proofs.lemmas.List.{length-map}
+use Rattle.ipfix_message.specs.Domains.{Message}
+use Rattle.ipfix_message.specs.declared.fault.MessageFault.TheVariants.{OutOfMemory}
+use Rattle.ipfix_message.specs.declared.record.DataRecord.{DataRecord}
+use Rattle.ipfix_session.specs.Balances.{domain_balance}
+use Rattle.ipfix_session.specs.Drives.{PutsUpTo, DrivesInFull}
+use Rattle.ipfix_session.specs.Feeding.{PutsWhole}
+use Rattle.ipfix_session.specs.Given.{gives, records_in, records_of, IsPrefix}
+use Rattle.ipfix_session.specs.Ledger.{domains_of, domain_report}
+use Rattle.ipfix_session.specs.Places.{ReportsInFull, IsFullReport}
+use Rattle.ipfix_session.specs.Sinks.{SinkView, Takes}
+use Rattle.ipfix_session.specs.Sources.{SourceView}
+use Rattle.ipfix_session.specs.declared.driver.TheConstants.{READ_LIMIT, READ_SIZE}
+use Rattle.ipfix_session.specs.declared.fault.SessionFault.{SessionFault}
+use Rattle.ipfix_session.specs.declared.fault.SessionFault.TheVariants as faults
+use Rattle.ipfix_session.specs.declared.report.DomainBalance.{DomainBalance}
+use Rattle.ipfix_session.specs.declared.report.DomainReport.{DomainReport}
+use Rattle.ipfix_session.specs.declared.report.FullReport.{FullReport}
+use Rattle.ipfix_session.specs.declared.report.SessionReport.{SessionReport}
+use Rattle.ipfix_session.proofs.Balances.{balances}
+use Rattle.ipfix_session.proofs.Driven.{driven_took_all}
+use Rattle.ipfix_session.proofs.Driving.{drives_told}
+use Rattle.ipfix_session.proofs.Giving.{gives-prefix}
+use Rattle.ipfix_session.proofs.Places.{place_is}
+use Rattle.ipfix_session.proofs.Reaching.{takes-append}
+use Rattle.flow_table.specs.Plans.{PlanValue}
+use Rattle.flow_table.specs.declared.table.Table.{Table}
+use Rattle.flow_collect.specs.Headline.{Headline, IsGivenBy, IsAddedUp, all_of}
+use Rattle.flow_collect.specs.InFull.{IsBalanced, IsGivenInFull, HasBalanced, HeadlineInFull, IsWithoutRest, reports_in}
+use Rattle.flow_collect.specs.Places.{Each4}
+use Rattle.flow_collect.specs.Texts.{EachGave, GaveThese, WasReadOut}
+use Rattle.flow_collect.specs.declared.collected.Collected.{Collected}
+use Rattle.flow_collect.specs.declared.collected.CollectedInFull.{CollectedInFull}
+use Rattle.flow_collect.specs.declared.collected.Pool.{Pool}
+use Rattle.flow_collect.proofs.GivenLists.{gave_is, report_of_octets}
+use Rattle.flow_collect.proofs.PlaceLists.{last_two_beside, outer_two}
+
+-- ---- what a driven session gave, if its sink gave no record back
+
+module _ {S K : Type 0} (seen : S → SourceView) (view : SinkView K) (before after : S) (first last : K) (full : FullReport) where
+  -- the sink took the records that the source gave, as the full report tells
+  pub record TookInFull : Type 0 where
+    pub records : List DataRecord
+    pub given : IsGivenInFull seen before after full records
+    pub takes : Takes view first records last
+
+  -- these messages count, and their records were put
+  took_whole : (d : DrivesInFull seen view READ_LIMIT READ_SIZE before after first last full) (whole : List Message) → IsPrefix whole (gives d.gave).messages
+      → (full.report.fault ≢ Some (faults.Message OutOfMemory) → whole ≡ (gives d.gave).messages) → IsPrefix (gives d.given.stops.earlier).messages whole → full.report.fault ≢ Some faults.SinkClosed
+      → PutsWhole view (gives d.given.stops.earlier).messages whole d.middle last (ReportsInFull full) → TookInFull
+  took_whole d whole some all from taken p =
+      record {
+        records = records_in whole;
+        given = record {
+          given = record { gave = d.gave; given = d.given; counted = whole; first = some; all = all; earlier = from; records_are = refl; report_is = p.tells.reports; not_closed = taken };
+          told = p.tells;
+        };
+        takes = subst (λ (rs : List DataRecord). Takes view first rs last) (sym p.records) (takes-append view first d.middle last (records_of d.given.stops.earlier) p.put d.earlier p.takes);
+      }
+
+  -- all messages count
+  took_each : (d : DrivesInFull seen view READ_LIMIT READ_SIZE before after first last full) → full.report.fault ≢ Some faults.SinkClosed
+      → PutsWhole view (gives d.given.stops.earlier).messages (gives d.gave).messages d.middle last (ReportsInFull full) → TookInFull
+  took_each d taken p =
+      let all = (gives d.gave).messages in
+      let stops = d.given.stops in
+      took_whole d all ([], sym (append-nil all)) (λ _. refl) (subst (λ (w : List ℕ). IsPrefix (gives stops.earlier).messages (gives w).messages) (sym stops.is) (gives-prefix stops.earlier stops.last)) taken p
+
+  -- by the fault
+  took_by : (d : DrivesInFull seen view READ_LIMIT READ_SIZE before after first last full) (fault : Option SessionFault) → full.report.fault ≡ fault → full.report.fault ≢ Some faults.SinkClosed
+      → PutsUpTo view fault (gives d.given.stops.earlier).messages (gives d.gave).messages d.middle last (ReportsInFull full) → TookInFull
+  took_by d None is taken p = took_each d taken p
+  took_by d (Some faults.Truncated) is taken p = took_each d taken p
+  took_by d (Some faults.ReadFailed) is taken p = took_each d taken p
+  took_by d (Some faults.TooManyReads) is taken p = took_each d taken p
+  took_by d (Some (faults.Message OutOfMemory)) is taken p = took_whole d p.whole p.up_to (λ (memory : full.report.fault ≢ Some (faults.Message OutOfMemory)). absurd (memory is)) p.from taken p.puts
+  took_by d (Some (faults.Message e)) is taken p = took_each d taken p
+  took_by d (Some faults.SinkClosed) is taken p = absurd (taken is)
+
+  pub took_in_full : DrivesInFull seen view READ_LIMIT READ_SIZE before after first last full → view.refused last ≡ 0 → TookInFull
+  took_in_full d none =
+      let short = driven_took_all seen view READ_LIMIT READ_SIZE before after first last full.report (drives_told seen view READ_LIMIT READ_SIZE before after first last full.report.fault _ _ (λ ms delivered told. told.reports) d) none in
+      took_by d full.report.fault refl short.given.not_closed d.puts
+
+-- ---- the ledgers
+
+balanced_in : (ms : List Message) (domains : List ℕ) → AllZip (IsBalanced ms) (map (domain_report ms) domains) (map (domain_balance ms) domains)
+balanced_in ms [] = tt
+balanced_in ms (domain ∷ domains) = (record { domain_is = refl; balances = balances ms domain }, balanced_in ms domains)
+
+balanced_of : (ms : List Message) (reports : List DomainReport) (of_domains : List DomainBalance) → reports ≡ map (domain_report ms) (domains_of ms) → of_domains ≡ map (domain_balance ms) (domains_of ms)
+    → AllZip (IsBalanced ms) reports of_domains
+balanced_of ms reports of_domains r b = rw (r, b) (balanced_in ms (domains_of ms))
+
+-- ---- a run without the rest
+
+-- as many reports, without the rest
+abbrev short_sessions : {Z : Type 0} → Vec FullReport Z → Vec SessionReport Z
+short_sessions v = record { ptr = v.ptr; len = v.len; cap = v.cap; alloc = v.alloc; items = reports_in v.items; ok = (v.ok.0 ∙ sym (length-map v.items (λ (full : FullReport). full.report)), v.ok.1); small = v.small }
+
+-- each run in full has one
+pub short_run : {S : Type 0} (c : CollectedInFull S) → (short : Collected S) × IsWithoutRest c short
+short_run c =
+    (record { sessions = short_sessions c.sessions; links = c.links; sources = c.sources; table = c.table }, record { sessions_are = refl; links_are = refl; sources_are = refl; table_is = refl })
+
+-- ---- all sessions
+
+module _ {S : Type 0} (seen : S → SourceView) where
+  has_balanced : (before after : S) (full : FullReport) (records : List DataRecord) → IsGivenInFull seen before after full records → HasBalanced seen before after full records
+  has_balanced before after full records g =
+      record { given = g.given; balanced = balanced_of g.given.counted full.report.domains.items full.balances.items g.told.reports.domains g.told.balances }
+
+  pub balanced_each : (befores afters : List S) (fulls : List FullReport) (qs : List (List DataRecord)) → Each4 (IsGivenInFull seen) befores afters fulls qs → Each4 (HasBalanced seen) befores afters fulls qs
+  balanced_each [] [] [] [] e = tt
+  balanced_each (s ∷ befores) (a ∷ afters) (f ∷ fulls) (q ∷ qs) e = (has_balanced s a f q e.0, balanced_each befores afters fulls qs e.1)
+  balanced_each befores afters fulls qs e = absurd e
+
+  -- without the rest
+  pub given_short : (befores afters : List S) (fulls : List FullReport) (qs : List (List DataRecord)) → Each4 (IsGivenInFull seen) befores afters fulls qs → Each4 (IsGivenBy seen) befores afters (reports_in fulls) qs
+  given_short [] [] [] [] e = tt
+  given_short (s ∷ befores) (a ∷ afters) (f ∷ fulls) (q ∷ qs) e = (e.0.given, given_short befores afters fulls qs e.1)
+  given_short befores afters fulls qs e = absurd e
+
+  full_of_octets : (before after : S) (full : FullReport) (q : List DataRecord) (b : List ℕ) → IsGivenInFull seen before after full q → GaveThese (seen before) (seen after) b
+      → WasReadOut full.report → IsFullReport full b
+  full_of_octets before after full q b g t out =
+      let is = gave_is seen before after full.report q b g.given t in
+      let told : ReportsInFull full (gives g.given.gave).messages (length (records_of g.given.gave)) =
+      subst (λ (ms : List Message). ReportsInFull full ms (length (records_in ms))) (g.given.all out.had_memory) (subst (λ (rs : List DataRecord). ReportsInFull full g.given.counted (length rs)) g.given.records_are g.told) in
+      let here : ReportsInFull full (gives b).messages (length (records_of b)) = subst (λ (w : List ℕ). ReportsInFull full (gives w).messages (length (records_of w))) (sym is) told in
+      record { reports = here; fault = (report_of_octets seen before after full.report q b g.given t out).fault; stopped_at = here.stopped_at ∙ place_is b }
+
+  pub full_each : (befores afters : List S) (fulls : List FullReport) (qs : List (List DataRecord)) (bs : List (List ℕ)) → Each4 (IsGivenInFull seen) befores afters fulls qs
+      → EachGave seen befores afters bs → AllZip (λ full b. WasReadOut full.report → IsFullReport full b) fulls bs
+  full_each befores afters fulls qs bs e t =
+      outer_two (λ (full : FullReport) (q : List DataRecord) (b : List ℕ). WasReadOut full.report → IsFullReport full b) (λ (full : FullReport) (b : List ℕ). WasReadOut full.report → IsFullReport full b) (λ full q b is. is) fulls qs bs
+      (last_two_beside (IsGivenInFull seen) (λ s a b. GaveThese (seen s) (seen a) b) (λ full q b. WasReadOut full.report → IsFullReport full b) full_of_octets befores afters fulls qs bs e t)
+
+  pub headline_short : (sources : List S) (plan : PlanValue) (pool : Pool) (c : CollectedInFull S) (short : Collected S) → HeadlineInFull seen sources plan pool c → IsWithoutRest c short
+      → Headline seen sources plan pool short
+  headline_short sources plan pool c short h w =
+      record {
+        records = h.records;
+        received = rw w.links_are h.received;
+        given = rw (w.sources_are, w.sessions_are) (given_short sources c.sources.items c.sessions.items h.records h.given);
+        added_up = subst (λ (t : Table). IsAddedUp plan (all_of h.records) t) (sym w.table_is) h.added_up;
+      }

@@ -1,0 +1,63 @@
+-- The headline of a run that reports in full, and what it is without the rest.
+use Rattle.std.specs.Prelude.{◌≡◌, ℕ, ◌+◌, ◌-◌, ◌%◌, ◌^◌, ◌<◌, List, ◌∷◌, length, map}
+use Rattle.std.specs.List.{AllZip}
+use Rattle.ipfix_message.specs.Domains.{Message}
+use Rattle.ipfix_message.specs.declared.record.DataRecord.{DataRecord}
+use Rattle.ipfix_session.specs.Balances.{sequence_at_end}
+use Rattle.ipfix_session.specs.Ledger.{messages_of}
+use Rattle.ipfix_session.specs.Places.{ReportsInFull}
+use Rattle.ipfix_session.specs.Sources.{SourceView}
+use Rattle.ipfix_session.specs.declared.report.DomainBalance.{DomainBalance}
+use Rattle.ipfix_session.specs.declared.report.DomainReport.{DomainReport}
+use Rattle.ipfix_session.specs.declared.report.FullReport.{FullReport}
+use Rattle.ipfix_session.specs.declared.report.SessionReport.{SessionReport}
+use Rattle.flow_table.specs.Plans.{PlanValue}
+use Rattle.flow_collect.specs.Headline.{IsReceived, IsGivenBy, IsAddedUp, all_of}
+use Rattle.flow_collect.specs.Places.{Each4}
+use Rattle.flow_collect.specs.declared.collected.Collected.{Collected}
+use Rattle.flow_collect.specs.declared.collected.CollectedInFull.{CollectedInFull}
+use Rattle.flow_collect.specs.declared.collected.Pool.{Pool}
+
+-- the reports as they are without the rest
+abbrev pub reports_in : List FullReport → List SessionReport
+reports_in fulls = map (λ (full : FullReport). full.report) fulls
+
+-- the ledger of a domain of these messages balances: from before its first message to behind its last, the exporter's
+-- sequence number advanced, modulo 2^32, by the records that came, those that were lost and those that are unaccounted
+-- for, if it never stepped backward and no count has stopped (RFC 7011, section 3.1)
+pub record IsBalanced (ms : List Message) (report : DomainReport) (balance : DomainBalance) : Type 0 where
+  pub domain_is : balance.domain ≡ report.domain
+  pub balances : (first : Message) (more : List Message) → messages_of report.domain ms ≡ first ∷ more
+      → report.backward ≡ 0 → report.count < 2 ^ 64 - 1 → report.lost < 2 ^ 64 - 1 → balance.unaccounted < 2 ^ 64 - 1
+      → (first.header.sequence + report.count + report.lost + balance.unaccounted) % 2 ^ 32 ≡ sequence_at_end first more
+
+module _ {S : Type 0} (seen : S → SourceView) where
+  -- the records are those of the octets that the source gave, as the report tells; and of the messages that the report
+  -- counts the full report tells the rest: what each domain passed over, the gaps behind its unknown sets, and where the
+  -- session stopped
+  pub record IsGivenInFull (before after : S) (full : FullReport) (records : List DataRecord) : Type 0 where
+    pub given : IsGivenBy seen before after full.report records
+    pub told : ReportsInFull full given.counted (length records)
+
+  -- each domain's ledger balances, of the messages that the report counts
+  pub record HasBalanced (before after : S) (full : FullReport) (records : List DataRecord) : Type 0 where
+    pub given : IsGivenBy seen before after full.report records
+    pub balanced : AllZip (IsBalanced given.counted) full.report.domains.items full.balances.items
+
+  -- of a run in threads: the headline, and each session's report is in full
+  pub record HeadlineInFull (sources : List S) (plan : PlanValue) (pool : Pool) (c : CollectedInFull S) : Type 0 where
+    -- for each session there are records
+    pub records : List (List DataRecord)
+    -- which its worker received over its link, and nothing else
+    pub received : AllZip (IsReceived pool.capacity) c.links.items records
+    -- which are those of the octets that its source gave, as its full report tells
+    pub given : Each4 IsGivenInFull sources c.sources.items c.sessions.items records
+    -- and of which all together the table is the aggregate
+    pub added_up : IsAddedUp plan (all_of records) c.table
+
+-- the same run, with reports that aren't in full
+pub record IsWithoutRest {S : Type 0} (c : CollectedInFull S) (short : Collected S) : Type 0 where
+  pub sessions_are : short.sessions.items ≡ reports_in c.sessions.items
+  pub links_are : short.links ≡ c.links
+  pub sources_are : short.sources ≡ c.sources
+  pub table_is : short.table ≡ c.table

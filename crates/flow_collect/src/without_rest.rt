@@ -1,0 +1,86 @@
+//! Collecting with reports that aren't in full.
+
+ghost use Rattle.std.specs.Prelude.{◌≡◌, Err, IfOk, IfErr, IfSome, IfNone, IsErrOf, vec_len};
+ghost use Rattle.flow_table.specs.Fitting.{FitsPlan};
+ghost use Rattle.flow_collect.specs.Headline.{Headline};
+ghost use Rattle.flow_collect.specs.InFull.{IsWithoutRest, reports_in};
+ghost use Rattle.flow_collect.specs.Refusals.{fault_of_arguments, AreTooLarge, IsLate};
+
+use crate::collected::{Collected, CollectedInFull, Pool};
+use crate::collecting::collect_in_full;
+use crate::fault::CollectFault;
+use crate::gate::Gate;
+use flow_table::Plan;
+use ipfix_session::{FullReport, SessionReport, Source};
+use std::alloc::{AllocError, Global};
+use std::collections::VecDeque;
+use std::sync::Wait;
+use std::thread::Threads;
+
+/// Runs each source as a session in a thread of its own, and adds up their records in the threads of
+/// the workers. Session i, counted from 0, sends over a link of its own to worker `i mod workers`.
+///
+/// It reads a source at most [`READ_LIMIT`](crate::READ_LIMIT) times. A session's own fault stands in its
+/// report, also if memory ran out in the session. The tables of four and more workers are merged by
+/// halves, side by side in threads; a half for which no thread can be had is merged on this one. Each
+/// thread has ended when it returns.
+///
+/// The fault is the first of `Workers`, `Sessions` and `Link` that the arguments have, and then nothing
+/// was read; else `NoThread` before `OutOfMemory`, and this before `SumTooLarge`. A fault drops the
+/// sources.
+pub fn collect<S: Source + Send + Drop, G: Gate + Sync, R: Threads + Wait + Sync>(
+    rt: &R,
+    alloc: Global,
+    sources: Vec<S>,
+    plan: &Plan,
+    pool: Pool,
+    gate: &G,
+) -> Result<Collected<S>, CollectFault>
+    // The headline.
+    ensures ok { IfOk result (λ c. Headline S.seen sources.items plan.now pool c) }
+    // The table fits the plan, as an export asks.
+    ensures fits { IfOk result (λ c. FitsPlan plan.now c.table) }
+    // `Workers`, `Sessions` and `Link` exactly for their arguments, in this order.
+    ensures arguments { IfSome (fault_of_arguments pool (vec_len sources))
+        (λ fault. result ≡ Err fault) }
+    ensures others { IfNone (fault_of_arguments pool (vec_len sources)) (IfErr result IsLate) }
+    // Only if the records of the sources' whole texts are too large.
+    ensures too_large { IsErrOf result CollectFault.SumTooLarge
+        → AreTooLarge S.seen plan.now sources.items }
+{
+    let collected = collect_in_full(rt, alloc, sources, plan, pool, gate)?;
+    let short = without_rest(alloc, collected)?;
+    Ok(short)
+}
+
+fn without_rest<S: Drop>(
+    alloc: Global,
+    collected: CollectedInFull<S>,
+) -> Result<Collected<S>, AllocError>
+    ensures { IfOk result (λ short. IsWithoutRest collected short) }
+{
+    let CollectedInFull {
+        sessions,
+        links,
+        sources,
+        table,
+    } = collected;
+    let sessions = short_reports(alloc, sessions)?;
+    Ok(Collected {
+        sessions,
+        links,
+        sources,
+        table,
+    })
+}
+
+fn short_reports(alloc: Global, sessions: Vec<FullReport>) -> Result<Vec<SessionReport>, AllocError>
+    ensures { IfOk result (λ reports. reports.items ≡ reports_in sessions.items) }
+{
+    let mut waiting = VecDeque::from_vec(sessions);
+    let mut reports = Vec::new(alloc);
+    while let Some(full) = waiting.pop_front() {
+        reports.push(full.report)?;
+    }
+    Ok(reports)
+}

@@ -1,0 +1,15 @@
+use Rattle.std.proofs.Common.{◌∙◌, rules, subst}
+use Rattle.std.specs.List.{flat_map}
+use Rattle.std.specs.Io.KnownBytes.{Appends}
+use Rattle.ipfix_dump.proofs.InFull.{took_in_full}
+use Rattle.ipfix_dump.proofs.Writing.{writes_lines}
+use Rattle.ipfix_dump.proofs.dumping.dump_in_full_by.Goals as goal
+
+pub returns-in-None : goal.returns-in-None
+returns-in-None g c =
+    let held = g.W.Write.contents in
+    let k = took_in_full _ _ _ _ _ _ _ _ _ c.drive_in_full-full.ensures (c.drive_in_full-full.new.sink.kept c.in-None.is) in
+    let (same, written) = writes_lines (g.L.RecordLine.line_of) (λ s. s.out.ghost_name) (λ s. held s.out.now) _ k.records _ k.takes.chain in
+    let name = same ∙ c.new-sink.ensures.same_writer in
+    let bytes = subst (λ w. Appends (held w) (held c.drive_in_full-full.new.sink.out.now) (flat_map (g.L.RecordLine.line_of) k.records)) c.new-sink.ensures.nothing_written written in
+    record { records = k.records; given = k.given; in_full = k.in_full; written = search rules }

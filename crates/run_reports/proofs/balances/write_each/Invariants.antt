@@ -1,0 +1,8 @@
+use Rattle.std.proofs.Common.{take}
+use Rattle.std.specs.List.{flat_map}
+use Rattle.std.specs.Io.KnownBytes.{Appends}
+use Rattle.run_reports.specs.ToldLines.{balance_lines}
+use Rattle.run_reports.proofs.balances.write_each.Given as goal
+
+abbrev pub invariant-loop-balance : goal.invariant-loop-balance
+invariant-loop-balance g l = Appends (g.W.Write.contents l.initial.out) (g.W.Write.contents l.out) (flat_map (balance_lines l.session l.origin) (take l.balance-index l.balances))

@@ -1,4 +1,0 @@
-use Rattle.run_reports.proofs.reports.write_inner_fault.Goals as goal
-
-pub returns : goal.returns
-returns g c = rw (c.number.ensures, c.name.ensures) at c.write_fault.ensures

@@ -1,0 +1,7 @@
+use Rattle.std.proofs.Common.{take}
+use Rattle.std.specs.Io.KnownBytes.{Appends}
+use Rattle.run_reports.specs.ToldLines.{told_lines}
+use Rattle.run_reports.proofs.told_reports.write_told_reports.Given as goal
+
+abbrev pub invariant-loop-index : goal.invariant-loop-index
+invariant-loop-index g l = Appends (g.W.Write.contents l.initial.out) (g.W.Write.contents l.out) (told_lines l.telling l.origins (take l.index l.reports))

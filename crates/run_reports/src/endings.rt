@@ -1,0 +1,121 @@
+//! The lines that tell how a session ended.
+
+ghost use Rattle.std.specs.Prelude.{OnOk};
+ghost use Rattle.std.specs.Io.KnownBytes.{Appends};
+ghost use Rattle.run_reports.specs.ToldLines.{end_lines, end_told, ended_line, ended_text, fault_place_lines, left_text, number_left, place_text};
+
+use crate::origin::{Origin, write_session_start};
+use crate::telling::Telling;
+use ipfix_session::{FullReport, MessagePlace, SessionFault};
+use std::io::{self, Write};
+
+/// Writes how a session ended, if verbose lines are asked for: the place of its fault, and then how much
+/// of it counts.
+pub fn write_end<W: Write>(
+    telling: Telling,
+    session: usize,
+    origin: &Origin,
+    full: &FullReport,
+    out: &mut W,
+) -> io::Result<()>
+    ensures { OnOk result (Appends (W.contents out.old) (W.contents out.new)
+        (end_told telling session origin.now full.now)) }
+{
+    if telling.verbose {
+        write_both(session, origin, full, out)
+    } else {
+        Ok(())
+    }
+}
+
+fn write_both<W: Write>(
+    session: usize,
+    origin: &Origin,
+    full: &FullReport,
+    out: &mut W,
+) -> io::Result<()>
+    ensures { OnOk result (Appends (W.contents out.old) (W.contents out.new)
+        (end_lines session origin.now full.now)) }
+{
+    write_fault_place(session, origin, full.report.fault, full.stopped_at, out)?;
+    write_ended(session, origin, full, out)
+}
+
+// The fault, where the first message begins that doesn't count, and how many octets there are from there on.
+fn write_fault_place<W: Write>(
+    session: usize,
+    origin: &Origin,
+    fault: Option<SessionFault>,
+    place: MessagePlace,
+    out: &mut W,
+) -> io::Result<()>
+    ensures { OnOk result (Appends (W.contents out.old) (W.contents out.new)
+        (fault_place_lines session origin.now fault place)) }
+{
+    match fault {
+        None => Ok(()),
+        Some(fault) => {
+            write_session_start(session, origin, out)?;
+            write_place(fault.number(), fault.name(), place, out)?;
+            write_left(origin.octets_from(place.octet), out)
+        }
+    }
+}
+
+#[tactic(auto, unfolding(crate::specs::ToldLines::place_text))]
+fn write_place<W: Write>(number: u8, name: &str, place: MessagePlace, out: &mut W) -> io::Result<()>
+    ensures { OnOk result (Appends (W.contents out.old) (W.contents out.new)
+        (place_text number name.now place)) }
+{
+    let MessagePlace { message, octet } = place;
+    write!(
+        out,
+        ": fault {number} {name}: message {message} octet {octet}"
+    )
+}
+
+fn write_left<W: Write>(octets: Option<u64>, out: &mut W) -> io::Result<()>
+    ensures { OnOk result (Appends (W.contents out.old) (W.contents out.new) (left_text octets)) }
+{
+    match octets {
+        None => writeln!(out),
+        Some(octets) => write_number_left(octets, out),
+    }
+}
+
+#[tactic(auto, unfolding(crate::specs::ToldLines::number_left))]
+fn write_number_left<W: Write>(octets: u64, out: &mut W) -> io::Result<()>
+    ensures { OnOk result (Appends (W.contents out.old) (W.contents out.new)
+        (number_left octets)) }
+{
+    writeln!(out, " unread {octets}")
+}
+
+fn write_ended<W: Write>(
+    session: usize,
+    origin: &Origin,
+    full: &FullReport,
+    out: &mut W,
+) -> io::Result<()>
+    ensures { OnOk result (Appends (W.contents out.old) (W.contents out.new)
+        (ended_line session origin.now full.now)) }
+{
+    write_session_start(session, origin, out)?;
+    write_counts(
+        full.report.messages,
+        full.stopped_at.octet,
+        full.report.delivered,
+        out,
+    )
+}
+
+#[tactic(auto, unfolding(crate::specs::ToldLines::ended_text))]
+fn write_counts<W: Write>(messages: u64, octets: u64, records: u64, out: &mut W) -> io::Result<()>
+    ensures { OnOk result (Appends (W.contents out.old) (W.contents out.new)
+        (ended_text messages octets records)) }
+{
+    writeln!(
+        out,
+        ": ended: messages {messages} octets {octets} records {records}"
+    )
+}

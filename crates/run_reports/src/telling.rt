@@ -1,0 +1,10 @@
+//! What is told beside the lines that always stand.
+
+/// What is told beside the lines that always stand.
+#[derive(Clone, Copy, Debug, PartialEq, Eq)]
+pub struct Telling {
+    /// What was opened, what wasn't counted, how each session ended, and the reasons of the system.
+    pub verbose: bool,
+    /// What wasn't counted.
+    pub strict: bool,
+}

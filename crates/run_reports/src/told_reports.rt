@@ -1,0 +1,86 @@
+//! The lines of sessions in full.
+
+ghost use Rattle.std.specs.Prelude.{◌≡◌, false, map, OnOk};
+ghost use Rattle.std.specs.Io.KnownBytes.{Appends};
+ghost use Rattle.run_reports.specs.ReportLines.{report_lines};
+ghost use Rattle.run_reports.specs.ToldLines.{added_lines, origin_of, told_lines, told_session};
+
+use crate::balances::write_balances;
+use crate::endings::write_end;
+use crate::origin::Origin;
+use crate::reports::write_session;
+use crate::telling::Telling;
+use ipfix_session::FullReport;
+use std::io::{self, Write};
+
+/// Writes what there is to tell of sessions, counted from 1: for each first what
+/// [`write_reports`](crate::write_reports) writes, and that is all if `telling` asks for nothing.
+///
+/// If it is verbose or strict, a line follows for each domain in which something wasn't counted: unknown
+/// sets, skipped sets, ignored withdrawals, and records that are unaccounted for. If it is verbose, the
+/// place of the session's fault follows, and then how much of it counts. Each of these lines has the
+/// origin that stands at the session's place in `origins` behind the session's number; none if it is
+/// missing there.
+pub fn write_told_reports<W: Write>(
+    telling: Telling,
+    origins: &[Origin],
+    reports: &[FullReport],
+    out: &mut W,
+) -> io::Result<()>
+    ensures told { OnOk result (Appends (W.contents out.old) (W.contents out.new)
+        (told_lines telling origins.now reports.now)) }
+    // Without these options nothing is added.
+    ensures plain { telling.verbose ≡ false → telling.strict ≡ false
+        → OnOk result (Appends (W.contents out.old) (W.contents out.new)
+        (report_lines (map (λ full. full.report) reports.now))) }
+{
+    for (index, full) in reports.iter().enumerate() {
+        write_numbered(telling, index + 1, origins, full, out)?;
+    }
+    Ok(())
+}
+
+// The lines of the session of this number, counted from 1.
+fn write_numbered<W: Write>(
+    telling: Telling,
+    session: usize,
+    origins: &[Origin],
+    full: &FullReport,
+    out: &mut W,
+) -> io::Result<()>
+    ensures { OnOk result (Appends (W.contents out.old) (W.contents out.new)
+        (told_session telling session (origin_of origins.now session) full.now)) }
+{
+    match origins.get(session.saturating_sub(1)) {
+        Some(origin) => write_told_session(telling, session, origin, full, out),
+        None => write_told_session(telling, session, &Origin::Unknown, full, out),
+    }
+}
+
+fn write_told_session<W: Write>(
+    telling: Telling,
+    session: usize,
+    origin: &Origin,
+    full: &FullReport,
+    out: &mut W,
+) -> io::Result<()>
+    ensures { OnOk result (Appends (W.contents out.old) (W.contents out.new)
+        (told_session telling session origin.now full.now)) }
+{
+    write_session(session, &full.report, out)?;
+    write_added(telling, session, origin, full, out)
+}
+
+fn write_added<W: Write>(
+    telling: Telling,
+    session: usize,
+    origin: &Origin,
+    full: &FullReport,
+    out: &mut W,
+) -> io::Result<()>
+    ensures { OnOk result (Appends (W.contents out.old) (W.contents out.new)
+        (added_lines telling session origin.now full.now)) }
+{
+    write_balances(telling, session, origin, &full.balances, out)?;
+    write_end(telling, session, origin, full, out)
+}
