@@ -94,7 +94,7 @@ fn read_plan(text: &str) -> Result<Plan, PlanFault> {
         keys,
         counters: counters.collect::<Result<_, _>>()?,
     };
-    match fault_of(&plan) {
+    match fault_of(&plan, &names_of(value_of(text, "keys")), &names_of(value_of(text, "counters"))) {
         Some(fault) => Err(fault),
         None => Ok(plan),
     }
@@ -110,36 +110,48 @@ fn exported(key: &Key) -> Element {
     Element { pen: key.element.pen, number }
 }
 
-fn stand_twice(elements: &[Element]) -> bool {
-    (1..elements.len()).any(|at| elements[..at].contains(&elements[at]))
+/// The place of the first element that stands before it, too.
+fn repeated(read: &[Element], written: &[Element]) -> Option<usize> {
+    (1..read.len()).find(|&at| read[..at].contains(&read[at]) || written[..at].contains(&written[at]))
 }
 
-fn fault_of(plan: &Plan) -> Option<PlanFault> {
+/// The fault of a plan whose keys and counters have these names.
+fn fault_of(plan: &Plan, keys: &[&str], counters: &[&str]) -> Option<PlanFault> {
     let is_key = |key: &Key| matches!(key.element.kind(), Kind::Unsigned(_) | Kind::Ipv4 | Kind::Ipv6 | Kind::Mac);
     let has_prefix = |key: &Key| key.element.pen == 0 && matches!(key.element.number, 8 | 12);
     let is_counter = |element: &Element| element.pen == 0 && [1, 2, 3, 23, 24, 132, 133].contains(&element.number);
     let read: Vec<Element> = plan.keys.iter().map(|key| key.element).chain(plan.counters.iter().copied()).collect();
     let written: Vec<Element> = plan.keys.iter().map(exported).chain(plan.counters.iter().copied()).collect();
+    let bad_key = plan.keys.iter().position(|key| !is_key(key));
+    let bad_prefix = plan.keys.iter().position(|key| key.prefix.is_some_and(|bits| bits > 32 || !has_prefix(key)));
+    let bad_counter = plan.counters.iter().position(|element| !is_counter(element));
     let (name, key, words) = if plan.length == 0 {
-        ("6 Plan: fault 1 Length", "interval_ms", "0")
+        ("6 Plan: fault 1 Length", "interval_ms", "must be 1 to 4294967295".to_string())
     } else if !(1..=4096).contains(&plan.max_spread) {
-        ("6 Plan: fault 2 Spread", "max_spread", "not from 1 to 4096")
+        ("6 Plan: fault 2 Spread", "max_spread", "must be 1 to 4096".to_string())
     } else if plan.keys.len() > 8 {
-        ("6 Plan: fault 3 KeyCount", "keys", "more than 8")
-    } else if !plan.keys.iter().all(is_key) {
-        ("6 Plan: fault 4 KeyKind", "keys", "an element is neither a number nor an address")
-    } else if plan.keys.iter().any(|key| key.prefix.is_some_and(|bits| bits > 32 || !has_prefix(key))) {
-        ("6 Plan: fault 9 Prefix", "keys", "an element cannot have its prefix")
+        ("6 Plan: fault 3 KeyCount", "keys", format!("{} elements, at most 8", keys.len()))
+    } else if let Some(at) = bad_key {
+        let words = "only unsigned numbers and addresses (IPv4, IPv6, MAC) may be keys";
+        ("6 Plan: fault 4 KeyKind", "keys", format!("\"{}\": {words}", keys[at]))
+    } else if let Some(at) = bad_prefix {
+        ("6 Plan: fault 9 Prefix", "keys", format!("\"{}\": only IPv4 addresses take a prefix, 0 to 32", keys[at]))
     } else if !(1..=4).contains(&plan.counters.len()) {
-        ("6 Plan: fault 5 CounterCount", "counters", "not 1 to 4 of them")
-    } else if !plan.counters.iter().all(is_counter) {
-        ("6 Plan: fault 6 CounterKind", "counters", "an element is no delta counter")
-    } else if stand_twice(&read) || stand_twice(&written) {
-        ("6 Plan: fault 7 Repeated", "counters", "an element stands twice among keys and counters")
+        ("6 Plan: fault 5 CounterCount", "counters", format!("{} elements, must be 1 to 4", counters.len()))
+    } else if let Some(at) = bad_counter {
+        let words = "only octetDeltaCount, packetDeltaCount, deltaFlowCount, postOctetDeltaCount, postPacketDeltaCount, \
+                     droppedOctetDeltaCount and droppedPacketDeltaCount may be counters";
+        ("6 Plan: fault 6 CounterKind", "counters", format!("\"{}\": {words}", counters[at]))
+    } else if let Some(at) = repeated(&read, &written) {
+        let (key, text) = match at.checked_sub(keys.len()) {
+            None => ("keys", keys[at]),
+            Some(at) => ("counters", counters[at]),
+        };
+        ("6 Plan: fault 7 Repeated", key, format!("\"{text}\" stands twice"))
     } else {
         return None;
     };
-    Some(PlanFault::new(name, key, words))
+    Some(PlanFault::new(name, key, &words))
 }
 
 /// A record: whether it has scope fields, and its fields as their names and texts.
