@@ -4,7 +4,6 @@ use Rattle.std.proofs.lemmas.List.{take_more, take_all}
 use Rattle.std.proofs.lemmas.List.Elements.{All-nil, All-cons, All-append, All-head, All-tail, All-map, All-weaker}
 use Rattle.std.specs.Prelude.{◌↔◌, IsTrue, ◌⊎◌, ◌≢◌, ◌||◌, is_some, if◌then◌else◌, ◌==◌, nat_lt, IfSome, IfNone}
 use Rattle.std.specs.Option.{ForSome}
-use Rattle.std.specs.Io.KnownBytes.{Appends}
 use Rattle.ipfix_session.specs.Sources.{SourceView}
 use Rattle.ipfix_session.specs.declared.report.FullReport.{FullReport}
 use Rattle.flow_table.specs.Plans.{PlanValue}
@@ -22,9 +21,8 @@ use Rattle.flow_link.specs.declared.making.TheConstants.{MAX_CAPACITY}
 use Rattle.flow_collect.proofs.GivenLists.{first_each}
 use Rattle.flow_collect.proofs.InFull.{given_short, headline_short, short_run}
 use Rattle.run_reports.specs.Spotless.{IsSpotless, IsSpotlessSession}
-use Rattle.collectd.specs.Runs.{export_text, AddsUpWhole, IsUnread, RunsSources, WasCollected, WritesTable, WritesWholeTable}
-use Rattle.collectd.specs.FullRuns.{RunsInFull, WasCollectedInFull, WentWell, WritesTableInFull}
-use Rattle.collectd.specs.declared.table.Output.{Output}
+use Rattle.collectd.specs.Runs.{AddsUpWhole, IsUnread, RunsSources, WritesTable, WritesWholeTable}
+use Rattle.collectd.specs.FullRuns.{RunsInFull, WentWell, WritesTableInFull}
 use Rattle.collectd.proofs.Ran.{adds_up_whole, not_some, writes_table}
 
 -- ---- sessions without a fault
@@ -65,9 +63,9 @@ tested_plain false fulls tally passed is tested = tested
 -- ---- a run
 
 module _ {S : Type 0} (seen : S → SourceView) where
-  pub writes_in_full : (strict : Bool) (sources : List S) (plan : PlanValue) (pool : Pool) (output : Output) (status : ℕ) (old new : Option (List ℕ)) (c : CollectedInFull S)
-      → HeadlineInFull seen sources plan pool c → ((status ≡ 0) ↔ WentWell strict c.sessions.items c.table.tally) → Appends old new (export_text output plan c.table) → WritesTableInFull seen strict sources plan pool output status old new
-  writes_in_full strict sources plan pool output status old new c h status_is written =
+  pub writes_in_full : (strict : Bool) (sources : List S) (plan : PlanValue) (pool : Pool) (status : ℕ) (IsWritten : Table → Type 0) (c : CollectedInFull S)
+      → HeadlineInFull seen sources plan pool c → ((status ≡ 0) ↔ WentWell strict c.sessions.items c.table.tally) → IsWritten c.table → WritesTableInFull seen strict sources plan pool status IsWritten
+  writes_in_full strict sources plan pool status IsWritten c h status_is written =
       record {
         collected = c;
         headline = h;
@@ -90,36 +88,30 @@ module _ {S : Type 0} (seen : S → SourceView) where
   status_short status true fulls tally plain is = absurd (cc plain)
   status_short status false fulls tally plain is = (λ zero. All-map HasNoFault (λ (full : FullReport). full.report) fulls (is.0 zero), λ none. is.1 (no_fault_from fulls none))
 
-  pub table_short : (strict : Bool) (sources : List S) (plan : PlanValue) (pool : Pool) (output : Output) (status : ℕ) (old new : Option (List ℕ)) → strict ≡ false
-      → WritesTableInFull seen strict sources plan pool output status old new → WritesTable seen sources plan pool output status old new
-  table_short strict sources plan pool output status old new plain w =
+  pub table_short : (strict : Bool) (sources : List S) (plan : PlanValue) (pool : Pool) (status : ℕ) (IsWritten : Table → Type 0) → strict ≡ false
+      → WritesTableInFull seen strict sources plan pool status IsWritten → WritesTable seen sources plan pool status IsWritten
+  table_short strict sources plan pool status IsWritten plain w =
       let short = short_run w.collected in
-      writes_table seen sources plan pool output status old new short.0 (headline_short seen sources plan pool w.collected short.0 w.headline short.1)
+      writes_table seen sources plan pool status IsWritten short.0 (headline_short seen sources plan pool w.collected short.0 w.headline short.1)
       (rw short.1.sessions_are (status_short status strict w.collected.sessions.items w.collected.table.tally plain w.status_is))
-      (rw short.1.table_is w.written)
-
-  pub was_short : (Untouched : Type 0) (sources : List S) (plan : PlanValue) (pool : Pool) → Untouched ⊎ WasCollectedInFull seen sources plan pool → Untouched ⊎ WasCollected seen sources plan pool
-  was_short Untouched sources plan pool (inl untouched) = inl untouched
-  was_short Untouched sources plan pool (inr was) =
-      let short = short_run was.0 in inr (short.0, headline_short seen sources plan pool was.0 short.0 was.1 short.1)
+      (subst IsWritten (sym short.1.table_is) w.written)
 
   -- sources that were had one after another, and then run
-  pub runs_in_full : (AreHad : List S → Type 0) (strict : Bool) (plan : PlanValue) (pool : Pool) (output : Output) (status : ℕ) (old new : Option (List ℕ)) (Untouched : Type 0) (sources had : List S)
-      → sources ≡ had → AreHad had → All (IsUnread seen) had → (status ≢ 3 → WritesTableInFull seen strict sources plan pool output status old new) → (status ≡ 0 → WritesWholeTable seen sources plan output old new)
-      → (status ≡ 3 → Untouched ⊎ WasCollectedInFull seen sources plan pool) → RunsInFull seen AreHad strict plan pool output status old new Untouched
-  runs_in_full AreHad strict plan pool output status old new Untouched sources had same are_had unread table all untouched =
-      record { sources = sources; had = rw same are_had; unread = rw same unread; table = table; all = all; untouched = untouched }
+  pub runs_in_full : (AreHad : List S → Type 0) (strict : Bool) (plan : PlanValue) (pool : Pool) (status : ℕ) (IsWritten : Table → Type 0) (sources had : List S)
+      → sources ≡ had → AreHad had → All (IsUnread seen) had → (status ≢ 3 → WritesTableInFull seen strict sources plan pool status IsWritten) → (status ≡ 0 → WritesWholeTable seen sources plan IsWritten)
+      → RunsInFull seen AreHad strict plan pool status IsWritten
+  runs_in_full AreHad strict plan pool status IsWritten sources had same are_had unread table all =
+      record { sources = sources; had = rw same are_had; unread = rw same unread; table = table; all = all }
 
-  pub runs_short : (AreHad : List S → Type 0) (strict : Bool) (plan : PlanValue) (pool : Pool) (output : Output) (status : ℕ) (old new : Option (List ℕ)) (Untouched : Type 0) → strict ≡ false
-      → RunsInFull seen AreHad strict plan pool output status old new Untouched → RunsSources seen AreHad plan pool output status old new Untouched
-  runs_short AreHad strict plan pool output status old new Untouched plain r =
+  pub runs_short : (AreHad : List S → Type 0) (strict : Bool) (plan : PlanValue) (pool : Pool) (status : ℕ) (IsWritten : Table → Type 0) → strict ≡ false
+      → RunsInFull seen AreHad strict plan pool status IsWritten → RunsSources seen AreHad plan pool status IsWritten
+  runs_short AreHad strict plan pool status IsWritten plain r =
       record {
         sources = r.sources;
         had = r.had;
         unread = r.unread;
-        table = λ ran. table_short strict r.sources plan pool output status old new plain (r.table ran);
+        table = λ ran. table_short strict r.sources plan pool status IsWritten plain (r.table ran);
         all = r.all;
-        untouched = λ failed. was_short Untouched r.sources plan pool (r.untouched failed);
       }
 
 -- ---- a pool that has a fault

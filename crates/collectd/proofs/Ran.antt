@@ -2,13 +2,13 @@
 use Rattle.std.proofs.Common.{◌≡◌, ℕ, ◌+◌, ◌<◌, ◌≤◌, true, false, List, [], ◌∷◌, ◌++◌, length, take, get_or, All, Option, Some, None, refl, sym, subst, inl, inr, arith}
 use Rattle.std.proofs.lemmas.List.{length-append, take_more, take_all}
 use Rattle.std.proofs.lemmas.List.Elements.{All-nil, All-cons, All-append}
-use Rattle.std.specs.Prelude.{◌↔◌, ◌⊎◌, ◌≢◌, is_some, IfSome}
+use Rattle.std.specs.Prelude.{◌↔◌, ◌⊎◌, is_some, IfSome}
 use Rattle.std.specs.Option.{ForSome}
-use Rattle.std.specs.Io.KnownBytes.{Appends}
 use Rattle.std.specs.List.{AllZip}
 use Rattle.ipfix_message.specs.declared.record.DataRecord.{DataRecord}
 use Rattle.ipfix_session.specs.Sources.{SourceView}
 use Rattle.flow_table.specs.Plans.{PlanValue}
+use Rattle.flow_table.specs.declared.table.Table.{Table}
 use Rattle.flow_collect.specs.Headline.{Headline, IsAddedUp}
 use Rattle.flow_collect.specs.Refusals.{fault_of_arguments}
 use Rattle.flow_collect.specs.Texts.{HasNoFault}
@@ -16,16 +16,15 @@ use Rattle.flow_collect.specs.declared.collected.Collected.{Collected}
 use Rattle.flow_collect.specs.declared.collected.Pool.{Pool}
 use Rattle.flow_merge.proofs.RowsRead.{zip_more}
 use Rattle.flow_collect.proofs.GivenLists.{first_each, all_whole, whole_records, whole_clean}
-use Rattle.collectd.specs.Runs.{export_text, AddsUpWhole, IsUnread, RunsSources, WasCollected, WritesTable, WritesWholeTable}
+use Rattle.collectd.specs.Runs.{AddsUpWhole, WritesTable}
 use Rattle.exit_status.specs.Statuses.{number_of}
 use Rattle.exit_status.specs.declared.status.Status.{Status}
 use Rattle.exit_status.specs.declared.status.Status.TheVariants.{Well, SessionFault, NotOpened, Failed}
-use Rattle.collectd.specs.declared.table.Output.{Output}
 
 module _ {S : Type 0} (seen : S → SourceView) where
-  pub writes_table : (sources : List S) (plan : PlanValue) (pool : Pool) (output : Output) (status : ℕ) (old new : Option (List ℕ)) (c : Collected S)
-      → Headline seen sources plan pool c → ((status ≡ 0) ↔ All HasNoFault c.sessions.items) → Appends old new (export_text output plan c.table) → WritesTable seen sources plan pool output status old new
-  writes_table sources plan pool output status old new c h status_is written =
+  pub writes_table : (sources : List S) (plan : PlanValue) (pool : Pool) (status : ℕ) (IsWritten : Table → Type 0) (c : Collected S)
+      → Headline seen sources plan pool c → ((status ≡ 0) ↔ All HasNoFault c.sessions.items) → IsWritten c.table → WritesTable seen sources plan pool status IsWritten
+  writes_table sources plan pool status IsWritten c h status_is written =
       record {
         collected = c;
         headline = h;
@@ -42,13 +41,6 @@ module _ {S : Type 0} (seen : S → SourceView) where
         whole = whole_clean h.records texts whole;
         added_up = subst (λ (rs : List DataRecord). IsAddedUp plan rs c.table) (whole_records h.records texts whole) h.added_up;
       }
-
-  -- sources that were had one after another, and then run
-  pub runs_sources : (AreHad : List S → Type 0) (plan : PlanValue) (pool : Pool) (output : Output) (status : ℕ) (old new : Option (List ℕ)) (Untouched : Type 0) (sources had : List S)
-      → sources ≡ had → AreHad had → All (IsUnread seen) had → (status ≢ 3 → WritesTable seen sources plan pool output status old new) → (status ≡ 0 → WritesWholeTable seen sources plan output old new)
-      → (status ≡ 3 → Untouched ⊎ WasCollected seen sources plan pool) → RunsSources seen AreHad plan pool output status old new Untouched
-  runs_sources AreHad plan pool output status old new Untouched sources had same are_had unread table all untouched =
-      record { sources = sources; had = rw same are_had; unread = rw same unread; table = table; all = all; untouched = untouched }
 
 -- ---- sources that are opened by their paths
 
@@ -92,11 +84,6 @@ one_longer old new x n is count = let both = length-append old (x ∷ []) in rw 
 
 pub one_more : {X : Type 0} (P : X → Type 0) (old new : List X) (x : X) → new ≡ old ++ x ∷ [] → All P old → P x → All P new
 one_more P old new x is all one = rw is (All-append P old (x ∷ []) all (All-cons P x [] one (All-nil P)))
-
--- a connection that was had is none with a limit that none can have
-pub has_no_limit : {X T : Type 0} (limit : Option X) (Zero : X → Type 0) (P : Type 0) (stream : T) → IfSome limit (λ x. Zero x → Some stream ≡ None) → IfSome limit (λ x. Zero x → P)
-has_no_limit None Zero P stream had = tt
-has_no_limit (Some x) Zero P stream had = λ zero. absurd (cc (had zero))
 
 -- the status is 0 exactly if all was well
 pub zero_if_well : (s : Status) (n : ℕ) (P : Type 0) → n ≡ number_of s → (s ≡ Well) ⊎ (s ≡ SessionFault) → ((s ≡ Well) ↔ P) → ((n ≡ 0) ↔ P)

@@ -1,13 +1,13 @@
 -- What a run of collecting that reports in full wrote, and when its status says that all was well.
-use Rattle.std.specs.Prelude.{◌≡◌, ◌≢◌, ◌↔◌, ◌⊎◌, ℕ, Bool, true, false, List, All, Option}
+use Rattle.std.specs.Prelude.{◌≡◌, ◌≢◌, ◌↔◌, ℕ, Bool, true, false, List, All, Option}
 use Rattle.std.specs.List.{AllZip}
-use Rattle.std.specs.Io.KnownBytes.{Appends}
 use Rattle.ipfix_session.specs.Given.{records_of, IsPrefix}
 use Rattle.ipfix_session.specs.Sources.{SourceView}
 use Rattle.ipfix_session.specs.declared.report.FullReport.{FullReport}
 use Rattle.exit_status.specs.Statuses.{number_of}
 use Rattle.exit_status.specs.declared.status.Status.TheVariants.{Well, Failed}
 use Rattle.flow_table.specs.Plans.{PlanValue}
+use Rattle.flow_table.specs.declared.table.Table.{Table}
 use Rattle.flow_table.specs.declared.tally.Tally.{Tally}
 use Rattle.flow_collect.specs.InFull.{HeadlineInFull}
 use Rattle.flow_collect.specs.Refusals.{fault_of_arguments}
@@ -18,8 +18,7 @@ use Rattle.flow_collect.specs.declared.fault.CollectFault.{CollectFault}
 use Rattle.run_reports.specs.declared.origin.Origin.{Origin}
 use Rattle.run_reports.specs.declared.origin.Origin.TheVariants.{File, Peer, Unknown}
 use Rattle.run_reports.specs.Spotless.{IsSpotless}
-use Rattle.collectd.specs.Runs.{export_text, IsUnread, WritesWholeTable}
-use Rattle.collectd.specs.declared.table.Output.{Output}
+use Rattle.collectd.specs.Runs.{IsUnread, WritesWholeTable}
 
 -- the fault that a pool has with however many sources
 abbrev pub fault_of_pool : Pool → Option CollectFault
@@ -38,25 +37,21 @@ IsFileNamed path (Peer address) = ⊥
 IsFileNamed path Unknown = ⊥
 
 module _ {S : Type 0} (seen : S → SourceView) where
-  -- what was collected was written as a table, and nothing else; the status says that all was well exactly if it was
-  pub record WritesTableInFull (strict : Bool) (sources : List S) (plan : PlanValue) (pool : Pool) (output : Output) (status : ℕ) (old new : Option (List ℕ)) : Type 0 where
+  -- the table of what was collected was written; the status says that all was well exactly if it was
+  pub record WritesTableInFull (strict : Bool) (sources : List S) (plan : PlanValue) (pool : Pool) (status : ℕ) (IsWritten : Table → Type 0) : Type 0 where
     -- what the headline says, with full reports
     pub collected : CollectedInFull S
     pub headline : HeadlineInFull seen sources plan pool collected
     -- the records of each session are the first of those that its source's whole text gives
     pub first : (texts : List (List ℕ)) → AreTexts seen sources texts → AllZip (λ q t. IsPrefix q (records_of t)) headline.records texts
     pub status_is : (status ≡ number_of Well) ↔ WentWell strict collected.sessions.items collected.table.tally
-    pub written : Appends old new (export_text output plan collected.table)
-
-  abbrev pub WasCollectedInFull : List S → PlanValue → Pool → Type 0
-  WasCollectedInFull sources plan pool = (c : CollectedInFull S) × HeadlineInFull seen sources plan pool c
+    pub written : IsWritten collected.table
 
   -- sources were had as the first fact says it, none of which was read before, and a run of them ended like this; the last
-  -- fact says that the writer is untouched
-  pub record RunsInFull (AreHad : List S → Type 0) (strict : Bool) (plan : PlanValue) (pool : Pool) (output : Output) (status : ℕ) (old new : Option (List ℕ)) (Untouched : Type 0) : Type 0 where
+  -- fact says that a table was written
+  pub record RunsInFull (AreHad : List S → Type 0) (strict : Bool) (plan : PlanValue) (pool : Pool) (status : ℕ) (IsWritten : Table → Type 0) : Type 0 where
     pub sources : List S
     pub had : AreHad sources
     pub unread : All (IsUnread seen) sources
-    pub table : status ≢ number_of Failed → WritesTableInFull strict sources plan pool output status old new
-    pub all : status ≡ number_of Well → WritesWholeTable seen sources plan output old new
-    pub untouched : status ≡ number_of Failed → Untouched ⊎ WasCollectedInFull sources plan pool
+    pub table : status ≢ number_of Failed → WritesTableInFull strict sources plan pool status IsWritten
+    pub all : status ≡ number_of Well → WritesWholeTable seen sources plan IsWritten

@@ -3,5 +3,6 @@ pub mod Runs
 pub mod FullRuns
 pub mod Dumps
 pub mod Merges
+pub mod CollectLines
 -- What only inner functions and proofs need.
 pub mod MergeLines

@@ -1,5 +1,5 @@
 -- What a run of collecting wrote.
-use Rattle.std.specs.Prelude.{◌≡◌, ◌≢◌, ◌↔◌, ◌⊎◌, ℕ, false, List, map, All, Option}
+use Rattle.std.specs.Prelude.{◌≡◌, ◌≢◌, ◌↔◌, ℕ, false, List, map, All, Option}
 use Rattle.std.specs.List.{AllZip, flat_map}
 use Rattle.std.specs.Io.KnownBytes.{Appends}
 use Rattle.ipfix_session.specs.Given.{records_of, stop_of, IsPrefix}
@@ -30,19 +30,20 @@ text_by Ipfix time plan table = ipfix_text plan time (map value_of table.rows.it
 abbrev pub export_text : Output → PlanValue → Table → List ℕ
 export_text output plan table = text_by output.format output.time plan table
 
+-- a table was written, and nothing else
+abbrev pub Writes : PlanValue → Output → Option (List ℕ) → Option (List ℕ) → Table → Type 0
+Writes plan output old new table = Appends old new (export_text output plan table)
+
 module _ {S : Type 0} (seen : S → SourceView) where
-  -- what was collected was written as a table, and nothing else; the status says that all was well exactly if no session had a fault
-  pub record WritesTable (sources : List S) (plan : PlanValue) (pool : Pool) (output : Output) (status : ℕ) (old new : Option (List ℕ)) : Type 0 where
+  -- the table of what was collected was written; the status says that all was well exactly if no session had a fault
+  pub record WritesTable (sources : List S) (plan : PlanValue) (pool : Pool) (status : ℕ) (IsWritten : Table → Type 0) : Type 0 where
     -- what the headline says
     pub collected : Collected S
     pub headline : Headline seen sources plan pool collected
     -- the records of each session are the first of those that its source's whole text gives
     pub first : (texts : List (List ℕ)) → AreTexts seen sources texts → AllZip (λ q t. IsPrefix q (records_of t)) headline.records texts
     pub status_is : (status ≡ number_of Well) ↔ All HasNoFault collected.sessions.items
-    pub written : Appends old new (export_text output plan collected.table)
-
-  abbrev pub WasCollected : List S → PlanValue → Pool → Type 0
-  WasCollected sources plan pool = (c : Collected S) × Headline seen sources plan pool c
+    pub written : IsWritten collected.table
 
   -- each of these texts ends with a whole message, and the table is that of all their records
   pub record IsOfWhole (plan : PlanValue) (table : Table) (texts : List (List ℕ)) : Type 0 where
@@ -53,11 +54,11 @@ module _ {S : Type 0} (seen : S → SourceView) where
   abbrev pub AddsUpWhole : List S → PlanValue → Table → Type 0
   AddsUpWhole sources plan table = (texts : List (List ℕ)) → AreTexts seen sources texts → IsOfWhole plan table texts
 
-  -- that table was written, and nothing else
-  pub record WritesWholeTable (sources : List S) (plan : PlanValue) (output : Output) (old new : Option (List ℕ)) : Type 0 where
+  -- that table was written
+  pub record WritesWholeTable (sources : List S) (plan : PlanValue) (IsWritten : Table → Type 0) : Type 0 where
     pub table : Table
     pub adds_up : AddsUpWhole sources plan table
-    pub written : Appends old new (export_text output plan table)
+    pub written : IsWritten table
 
   -- nothing was read from it yet
   pub record IsUnread (source : S) : Type 0 where
@@ -66,11 +67,10 @@ module _ {S : Type 0} (seen : S → SourceView) where
     pub ended : (seen source).ended ≡ false
 
   -- sources were had as the first fact says it, none of which was read before, and a run of them ended like this; the last
-  -- fact says that the writer is untouched
-  pub record RunsSources (AreHad : List S → Type 0) (plan : PlanValue) (pool : Pool) (output : Output) (status : ℕ) (old new : Option (List ℕ)) (Untouched : Type 0) : Type 0 where
+  -- fact says that a table was written
+  pub record RunsSources (AreHad : List S → Type 0) (plan : PlanValue) (pool : Pool) (status : ℕ) (IsWritten : Table → Type 0) : Type 0 where
     pub sources : List S
     pub had : AreHad sources
     pub unread : All IsUnread sources
-    pub table : status ≢ number_of Failed → WritesTable sources plan pool output status old new
-    pub all : status ≡ number_of Well → WritesWholeTable sources plan output old new
-    pub untouched : status ≡ number_of Failed → Untouched ⊎ WasCollected sources plan pool
+    pub table : status ≢ number_of Failed → WritesTable sources plan pool status IsWritten
+    pub all : status ≡ number_of Well → WritesWholeTable sources plan IsWritten

@@ -7,19 +7,19 @@ ghost use Rattle.flow_collect.specs.Refusals.{fault_of_arguments};
 ghost use Rattle.flow_collect.specs.Texts.{HasNoFault};
 ghost use Rattle.run_reports.specs.ReportLines.{tally_line};
 ghost use Rattle.run_reports.specs.ToldLines.{told_lines};
-ghost use Rattle.collectd.specs.Runs.{AddsUpWhole, WritesWholeTable};
+ghost use Rattle.collectd.specs.Runs.{AddsUpWhole, Writes, WritesWholeTable};
 ghost use Rattle.flow_collect.specs.InFull.{HeadlineInFull};
 ghost use Rattle.flow_table.specs.Plans.{PlanValue};
-ghost use Rattle.collectd.specs.FullRuns.{WasCollectedInFull, WentWell, WritesTableInFull};
+ghost use Rattle.collectd.specs.FullRuns.{WentWell, WritesTableInFull};
 
+use crate::collect_fault::write_collect_fault;
 use crate::table::{Output, export};
 use exit_status::Status;
 use flow_collect::{CollectedInFull, OpenGate, Pool, collect_in_full};
 use flow_table::{Plan, Tally};
 use ipfix_session::{FullReport, Source};
 use run_reports::{
-    Origin, Telling, is_spotless, write_collect_fault, write_export_fault, write_tally,
-    write_told_reports,
+    Origin, Telling, is_spotless, write_export_fault, write_tally, write_told_reports,
 };
 use std::alloc::Global;
 use std::io::{self, Write};
@@ -53,15 +53,12 @@ pub fn run_in_full<S: Source + Send + Drop, W: Write, E: Write, R: Threads + Wai
     // The table of what was received of each session was written, and nothing else; all was well exactly
     // if no session had a fault, and if the run is strict exactly if it was spotless.
     ensures table { result ≢ number_of Status.Failed
-        → WritesTableInFull S.seen telling.strict sources.items plan.now pool output result
-        (W.contents out.old) (W.contents out.new) }
+        → WritesTableInFull S.seen telling.strict sources.items plan.now pool result
+        (Writes plan.now output (W.contents out.old) (W.contents out.new)) }
     // The table of all whole texts was written, and each of them ends with a whole message.
     ensures all { result ≡ number_of Status.Well
-        → WritesWholeTable S.seen sources.items plan.now output
-        (W.contents out.old) (W.contents out.new) }
-    // Nothing was written unless all was collected.
-    ensures untouched { result ≡ number_of Status.Failed
-        → (out.new ≡ out.old) ⊎ WasCollectedInFull S.seen sources.items plan.now pool }
+        → WritesWholeTable S.seen sources.items plan.now
+        (Writes plan.now output (W.contents out.old) (W.contents out.new)) }
     // Nothing was collected if the arguments have a fault.
     ensures refused { IfSome (fault_of_arguments pool (vec_len sources))
         (λ fault. (result ≡ number_of Status.Failed) × (out.new ≡ out.old)) }

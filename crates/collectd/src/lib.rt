@@ -1,6 +1,7 @@
 //! The calls of collectd's commands: what is written is the text of what was collected.
 #![tactic(auto)]
 
+mod collect_fault;
 mod commands;
 mod early;
 mod full_run;
@@ -9,6 +10,7 @@ mod plan;
 mod sources;
 mod table;
 
+pub use collect_fault::write_collect_fault;
 pub use commands::dump::{run_dump, run_dump_in_full, run_dump_json, run_dump_json_in_full};
 pub use commands::files::{run_files, run_files_in_full};
 pub use commands::merge::{run_merge, run_merge_in_full};
@@ -19,8 +21,8 @@ pub use ipfix_dump::{DumpFault, dump, dump_json};
 pub use ipfix_session::MessageCounter;
 pub use plan::{ReadText, load_plan};
 pub use run_reports::{
-    Origin, Reason, Telling, write_collect_fault, write_dump_fault, write_export_fault,
-    write_not_had, write_not_had_because, write_plan_fault, write_reports, write_tally,
+    Origin, Reason, Telling, write_dump_fault, write_export_fault, write_not_had,
+    write_not_had_because, write_plan_fault, write_reports, write_tally,
 };
 pub use sources::accepting::{Accepted, Listener};
 pub use sources::opening::{OpenSource, Opened};

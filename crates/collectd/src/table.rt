@@ -5,7 +5,7 @@ ghost use Rattle.std.specs.Io.KnownBytes.{Appends};
 ghost use Rattle.flow_table.specs.Fitting.{FitsPlan};
 ghost use Rattle.flow_collect.specs.Refusals.{fault_of_arguments};
 ghost use Rattle.exit_status.specs.Statuses.{number_of};
-ghost use Rattle.collectd.specs.Runs.{export_text, WasCollected, WritesTable, WritesWholeTable};
+ghost use Rattle.collectd.specs.Runs.{export_text, Writes, WritesTable, WritesWholeTable};
 
 use crate::full_run::{NOTHING_MORE, run_in_full};
 use exit_status::Status;
@@ -48,15 +48,12 @@ pub fn run<S: Source + Send + Drop, W: Write, E: Write, R: Threads + Wait + Sync
     // The table of what was received of each session was written, and nothing else; all was well exactly
     // if no session had a fault.
     ensures table { result ≢ number_of Status.Failed
-        → WritesTable S.seen sources.items plan.now pool output result
-        (W.contents out.old) (W.contents out.new) }
+        → WritesTable S.seen sources.items plan.now pool result
+        (Writes plan.now output (W.contents out.old) (W.contents out.new)) }
     // The table of all whole texts was written, and each of them ends with a whole message.
     ensures all { result ≡ number_of Status.Well
-        → WritesWholeTable S.seen sources.items plan.now output
-        (W.contents out.old) (W.contents out.new) }
-    // Nothing was written unless all was collected.
-    ensures untouched { result ≡ number_of Status.Failed
-        → (out.new ≡ out.old) ⊎ WasCollected S.seen sources.items plan.now pool }
+        → WritesWholeTable S.seen sources.items plan.now
+        (Writes plan.now output (W.contents out.old) (W.contents out.new)) }
     // Nothing was collected if the arguments have a fault.
     ensures refused { IfSome (fault_of_arguments pool (vec_len sources))
         (λ fault. (result ≡ number_of Status.Failed) × (out.new ≡ out.old)) }

@@ -7,8 +7,6 @@ use Rattle.ipfix_session.specs.declared.fault.SessionFault.{SessionFault}
 use Rattle.ipfix_session.specs.Faults.{number_of, name_of}
 use Rattle.flow_table.specs.PlanFaults as plan
 use Rattle.flow_table.specs.declared.tally.Tally.{Tally}
-use Rattle.flow_collect.specs.Faults as collect
-use Rattle.flow_collect.specs.declared.fault.CollectFault.{CollectFault}
 use Rattle.flow_export.specs.Faults as export
 use Rattle.flow_export.specs.declared.fault.ExportFault.{ExportFault}
 use Rattle.plan_file.specs.Faults as text
@@ -54,10 +52,7 @@ last_counts t = codes " backward " ++ (decimal t.backward ++ (codes " unkeyed " 
 abbrev pub tally_line : Tally → List ℕ
 tally_line t = first_counts t ++ last_counts t
 
--- a fault of collecting, and one of the export
-abbrev pub collect_fault_line : CollectFault → List ℕ
-collect_fault_line fault = codes "collectd: collect" ++ fault_text (collect.number_of fault) (collect.name_of fault)
-
+-- a fault of the export
 abbrev pub export_fault_line : ExportFault → List ℕ
 export_fault_line fault = codes "collectd: export" ++ fault_text (export.number_of fault) (export.name_of fault)
 

@@ -6,10 +6,9 @@ ghost use Rattle.ipfix_dump.specs.Faults.{number_of, name_of};
 ghost use Rattle.flow_table.specs.PlanFaults as plan;
 ghost use Rattle.plan_file.specs.Faults as text;
 ghost use Rattle.run_reports.specs.PlaceLines.{plan_lines};
-ghost use Rattle.run_reports.specs.ReportLines.{collect_fault_line, export_fault_line, fault_text, not_had_line, plan_fault_text};
+ghost use Rattle.run_reports.specs.ReportLines.{export_fault_line, fault_text, not_had_line, plan_fault_text};
 
 use crate::places::write_place;
-use flow_collect::CollectFault;
 use flow_export::ExportFault;
 use flow_table::PlanFault;
 use ipfix_dump::DumpFault;
@@ -41,14 +40,6 @@ pub fn write_dump_fault<W: Write>(fault: DumpFault, out: &mut W) -> io::Result<(
         (codes "collectd: dump" ++ fault_text (number_of fault) (name_of fault))) }
 {
     write_fault("dump", fault.number(), fault.name(), out)
-}
-
-/// Writes the line of a fault of collecting.
-pub fn write_collect_fault<W: Write>(fault: CollectFault, out: &mut W) -> io::Result<()>
-    ensures { OnOk result (Appends (W.contents out.old) (W.contents out.new)
-        (collect_fault_line fault)) }
-{
-    write_fault("collect", fault.number(), fault.name(), out)
 }
 
 /// Writes the line of a fault of the export.

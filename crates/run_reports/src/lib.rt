@@ -18,8 +18,7 @@ mod telling;
 mod told_reports;
 
 pub use faults::{
-    write_collect_fault, write_dump_fault, write_export_fault, write_fault, write_not_had,
-    write_plan_fault,
+    write_dump_fault, write_export_fault, write_fault, write_not_had, write_plan_fault,
 };
 pub use opening::{write_listening, write_not_had_because, write_opened};
 pub use origin::{Origin, write_origin};

@@ -4,6 +4,7 @@ ghost use Rattle.std.specs.Prelude.{◌≡◌, ◌≢◌, ◌⊎◌, ◌<◌, le
 ghost use Rattle.std.specs.Duration.{as_nanos};
 ghost use Rattle.exit_status.specs.Statuses.{number_of};
 ghost use Rattle.flow_collect.specs.Refusals.{fault_of_arguments};
+ghost use Rattle.collectd.specs.Runs.{Writes};
 ghost use Rattle.collectd.specs.FullRuns.{RunsInFull};
 
 use crate::full_run::run_in_full;
@@ -50,8 +51,8 @@ pub fn run_connections<
     ensures accepted { result ≢ number_of Status.NotOpened
         → RunsInFull S.seen
         (λ sources. (length sources ≡ count) × All (L.gives listener idle) sources)
-        telling.strict plan.now pool output result
-        (W.contents out.old) (W.contents out.new) (out.new ≡ out.old) }
+        telling.strict plan.now pool result
+        (Writes plan.now output (W.contents out.old) (W.contents out.new)) }
     ensures not_accepted { result ≡ number_of Status.NotOpened → out.new ≡ out.old }
     ensures refused { IfSome (fault_of_arguments pool count)
         (λ fault. ((result ≡ number_of Status.NotOpened) ⊎ (result ≡ number_of Status.Failed))

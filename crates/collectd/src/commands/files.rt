@@ -4,9 +4,10 @@ ghost use Rattle.std.specs.Prelude.{◌≡◌, ◌≢◌, ◌⊎◌, length, IfN
 ghost use Rattle.std.specs.List.{AllZip};
 ghost use Rattle.exit_status.specs.Statuses.{number_of};
 ghost use Rattle.flow_collect.specs.Refusals.{fault_of_arguments};
-ghost use Rattle.collectd.specs.Runs.{RunsSources};
+ghost use Rattle.collectd.specs.Runs.{RunsSources, Writes};
 ghost use Rattle.collectd.specs.FullRuns.{fault_of_pool, RunsInFull};
 
+use crate::collect_fault::write_collect_fault;
 use crate::early::refused_early;
 use crate::full_run::{NOTHING_MORE, run_in_full};
 use crate::sources::opening::OpenSource;
@@ -16,7 +17,7 @@ use exit_status::Status;
 use flow_collect::Pool;
 use flow_table::Plan;
 use ipfix_session::Source;
-use run_reports::{Telling, write_collect_fault, write_not_had_because};
+use run_reports::{Telling, write_not_had_because};
 use std::alloc::Global;
 use std::io::Write;
 use std::rt::Clock;
@@ -52,8 +53,8 @@ pub fn run_files<
     // The sources of the paths, in their order, were run, as `run` says it.
     ensures opened { result ≢ number_of Status.NotOpened
         → RunsSources S.seen (AllZip (λ path. O.opens files.now path.now) paths.now)
-        plan.now pool output result
-        (W.contents out.old) (W.contents out.new) (out.new ≡ out.old) }
+        plan.now pool result
+        (Writes plan.now output (W.contents out.old) (W.contents out.new)) }
     // Nothing was written unless all were opened.
     ensures not_opened { result ≡ number_of Status.NotOpened → out.new ≡ out.old }
     // Nothing was collected if the arguments have a fault.
@@ -105,8 +106,8 @@ pub fn run_files_in_full<
     // The sources of the paths, in their order, were run, as `run_in_full` says it.
     ensures opened { IfNone (fault_of_pool pool) (result ≢ number_of Status.NotOpened
         → RunsInFull S.seen (AllZip (λ path. O.opens files.now path.now) paths.now)
-        telling.strict plan.now pool output result
-        (W.contents out.old) (W.contents out.new) (out.new ≡ out.old)) }
+        telling.strict plan.now pool result
+        (Writes plan.now output (W.contents out.old) (W.contents out.new))) }
     // Nothing was written unless all were opened.
     ensures not_opened { result ≡ number_of Status.NotOpened → out.new ≡ out.old }
     // Nothing was collected if the arguments have a fault.
@@ -152,8 +153,8 @@ fn run_paths<
         ⊎ (result ≡ number_of Status.NotOpened) ⊎ (result ≡ number_of Status.Failed) }
     ensures opened { result ≢ number_of Status.NotOpened
         → RunsInFull S.seen (AllZip (λ path. O.opens files.now path.now) paths.now)
-        telling.strict plan.now pool output result
-        (W.contents out.old) (W.contents out.new) (out.new ≡ out.old) }
+        telling.strict plan.now pool result
+        (Writes plan.now output (W.contents out.old) (W.contents out.new)) }
     ensures not_opened { result ≡ number_of Status.NotOpened → out.new ≡ out.old }
     ensures refused { IfSome (fault_of_arguments pool (length paths.now))
         (λ fault. ((result ≡ number_of Status.NotOpened) ⊎ (result ≡ number_of Status.Failed))

@@ -4,10 +4,11 @@ ghost use Rattle.std.specs.Prelude.{◌≡◌, ◌≢◌, ◌⊎◌, ◌<◌, le
 ghost use Rattle.std.specs.Duration.{as_nanos};
 ghost use Rattle.exit_status.specs.Statuses.{number_of};
 ghost use Rattle.flow_collect.specs.Refusals.{fault_of_arguments};
-ghost use Rattle.collectd.specs.Runs.{RunsSources};
+ghost use Rattle.collectd.specs.Runs.{RunsSources, Writes};
 ghost use Rattle.collectd.specs.FullRuns.{fault_of_pool, RunsInFull};
 
 use super::connections::run_connections;
+use crate::collect_fault::write_collect_fault;
 use crate::early::refused_early;
 use crate::full_run::NOTHING_MORE;
 use crate::sources::accepting::Listener;
@@ -16,7 +17,7 @@ use exit_status::Status;
 use flow_collect::Pool;
 use flow_table::Plan;
 use ipfix_session::Source;
-use run_reports::{Telling, write_collect_fault};
+use run_reports::Telling;
 use std::alloc::Global;
 use std::io::Write;
 use std::rt::Clock;
@@ -61,8 +62,8 @@ pub fn run_tcp<
     ensures accepted { result ≢ number_of Status.NotOpened
         → RunsSources S.seen
         (λ sources. (length sources ≡ count) × All (L.gives listener idle) sources)
-        plan.now pool output result
-        (W.contents out.old) (W.contents out.new) (out.new ≡ out.old) }
+        plan.now pool result
+        (Writes plan.now output (W.contents out.old) (W.contents out.new)) }
     // Nothing was written unless all were accepted.
     ensures not_accepted { result ≡ number_of Status.NotOpened → out.new ≡ out.old }
     // Nothing was collected if the arguments have a fault.
@@ -123,8 +124,8 @@ pub fn run_tcp_in_full<
     ensures accepted { IfNone (fault_of_pool pool) (result ≢ number_of Status.NotOpened
         → RunsInFull S.seen
         (λ sources. (length sources ≡ count) × All (L.gives listener idle) sources)
-        telling.strict plan.now pool output result
-        (W.contents out.old) (W.contents out.new) (out.new ≡ out.old)) }
+        telling.strict plan.now pool result
+        (Writes plan.now output (W.contents out.old) (W.contents out.new))) }
     // Nothing was written unless all were accepted.
     ensures not_accepted { result ≡ number_of Status.NotOpened → out.new ≡ out.old }
     // Nothing was collected if the arguments have a fault.
