@@ -159,6 +159,10 @@ pub has_limit : {X : Type 0} (limit : Option X) (Zero : X → Type 0) (P : Type 
 has_limit None Zero P had = tt
 has_limit (Some x) Zero P had = λ zero. absurd (cc (had zero))
 
+pub at_start : {X : Type 0} (limit : Option X) (Zero : X → Type 0) → IfSome limit (λ x. Zero x → ◌≡◌ {A = ℕ} 0 0)
+at_start None Zero = tt
+at_start (Some x) Zero = λ zero. refl
+
 pub is_error : {X : Type 0} (limit : Option X) (Zero : X → Type 0) (some : Type 0) → IfSome limit (λ x. Zero x → some → true ≡ true)
 is_error None Zero some = tt
 is_error (Some x) Zero some = λ zero any. refl

@@ -1,4 +1,5 @@
 mod Ran
+pub mod Had
 mod FullRan
 mod FullDumped
 pub mod Merged

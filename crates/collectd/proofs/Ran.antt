@@ -42,26 +42,6 @@ module _ {S : Type 0} (seen : S → SourceView) where
         added_up = subst (λ (rs : List DataRecord). IsAddedUp plan rs c.table) (whole_records h.records texts whole) h.added_up;
       }
 
--- ---- sources that are opened by their paths
-
-module _ {X S : Type 0} (opens : X → S → Type 0) where
-  -- one more path
-  pub one_opened : (paths : List X) (i : ℕ) (path : X) (had new : List S) (source : S) → i < length paths → new ≡ had ++ source ∷ [] → AllZip opens (take i paths) had → opens (get_or paths i path) source
-      → AllZip opens (take (i + 1) paths) new
-  one_opened paths i path had new source less is first one =
-      rw is (subst (λ (ps : List X). AllZip opens ps (had ++ source ∷ [])) (sym (take_more paths i path less)) (zip_more opens (take i paths) had (get_or paths i path) source first one))
-
-  -- all of them
-  pub all_opened : (paths : List X) (i : ℕ) (had : List S) → length paths ≤ i → AllZip opens (take i paths) had → AllZip opens paths had
-  all_opened paths i had all first = subst (λ (ps : List X). AllZip opens ps had) (take_all i paths all) first
-
--- as many of them as paths
-pub one_for_each : {X S : Type 0} (opens : X → S → Type 0) (paths : List X) (had : List S) → AllZip opens paths had → length had ≡ length paths
-one_for_each opens [] [] all = refl
-one_for_each opens [] (s ∷ had) all = absurd all
-one_for_each opens (p ∷ paths) [] all = absurd all
-one_for_each opens (p ∷ paths) (s ∷ had) all = let shorter = one_for_each opens paths had all.1 in omega (arith, shorter)
-
 -- ---- a run by a caller that has one status more, for what can't be opened
 
 pub one_of_four : (status : ℕ) → (status ≡ 0) ⊎ (status ≡ 1) ⊎ (status ≡ 3) → (status ≡ 0) ⊎ (status ≡ 1) ⊎ (status ≡ 2) ⊎ (status ≡ 3)
@@ -78,12 +58,6 @@ pub refused_for : (pool : Pool) (sources count status : ℕ) (Untouched : Type 0
     → IfSome (fault_of_arguments pool count) (λ fault. ((status ≡ 2) ⊎ (status ≡ 3)) × Untouched)
 refused_for pool sources count status Untouched same refused =
     refused_if (fault_of_arguments pool count) status Untouched (subst (λ (n : ℕ). IfSome (fault_of_arguments pool n) (λ fault. (status ≡ 3) × Untouched)) same refused)
-
-pub one_longer : {X : Type 0} (old new : List X) (x : X) (n : ℕ) → new ≡ old ++ x ∷ [] → length old ≡ n → length new ≡ n + 1
-one_longer old new x n is count = let both = length-append old (x ∷ []) in rw is (omega (arith, both, count))
-
-pub one_more : {X : Type 0} (P : X → Type 0) (old new : List X) (x : X) → new ≡ old ++ x ∷ [] → All P old → P x → All P new
-one_more P old new x is all one = rw is (All-append P old (x ∷ []) all (All-cons P x [] one (All-nil P)))
 
 -- the status is 0 exactly if all was well
 pub zero_if_well : (s : Status) (n : ℕ) (P : Type 0) → n ≡ number_of s → (s ≡ Well) ⊎ (s ≡ SessionFault) → ((s ≡ Well) ↔ P) → ((n ≡ 0) ↔ P)

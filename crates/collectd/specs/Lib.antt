@@ -1,5 +1,6 @@
 -- What public contracts cite.
 pub mod Runs
+pub mod Had
 pub mod FullRuns
 pub mod Dumps
 pub mod Merges

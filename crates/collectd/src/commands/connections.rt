@@ -1,11 +1,12 @@
 //! Accepting connections, and collecting from them.
 
-ghost use Rattle.std.specs.Prelude.{◌≡◌, ◌≢◌, ◌⊎◌, ◌<◌, length, All, IfSome};
+ghost use Rattle.std.specs.Prelude.{◌≡◌, ◌≢◌, ◌⊎◌, ◌<◌, IfSome};
 ghost use Rattle.std.specs.Duration.{as_nanos};
 ghost use Rattle.exit_status.specs.Statuses.{number_of};
 ghost use Rattle.flow_collect.specs.Refusals.{fault_of_arguments};
 ghost use Rattle.collectd.specs.Runs.{Writes};
 ghost use Rattle.collectd.specs.FullRuns.{RunsInFull};
+ghost use Rattle.collectd.specs.Had.{AreAccepted};
 
 use crate::full_run::run_in_full;
 use crate::sources::accepting::{AcceptedAll, Listener, accept_all};
@@ -26,7 +27,7 @@ use std::time::Duration;
 #[tactic(auto, using(crate::proofs::FullRan::runs_in_full))]
 pub fn run_connections<
     S: Source + Send + Drop,
-    L: Listener<S> + Drop,
+    L: Listener<S>,
     P: Write + Copy + Drop + Send,
     W: Write,
     E: Write,
@@ -34,7 +35,7 @@ pub fn run_connections<
 >(
     rt: &R,
     alloc: Global,
-    listener: L,
+    listener: &mut L,
     addr: &str,
     count: usize,
     idle: Option<Duration>,
@@ -50,9 +51,10 @@ pub fn run_connections<
         ⊎ (result ≡ number_of Status.NotOpened) ⊎ (result ≡ number_of Status.Failed) }
     ensures accepted { result ≢ number_of Status.NotOpened
         → RunsInFull S.seen
-        (λ sources. (length sources ≡ count) × All (L.gives listener idle) sources)
+        (AreAccepted (L.gives listener.old idle) count (L.coming listener.old) (L.coming listener.new))
         telling.strict plan.now pool result
         (Writes plan.now output (W.contents out.old) (W.contents out.new)) }
+    ensures closed { L.is_closed listener.new }
     ensures not_accepted { result ≡ number_of Status.NotOpened → out.new ≡ out.old }
     ensures refused { IfSome (fault_of_arguments pool count)
         (λ fault. ((result ≡ number_of Status.NotOpened) ⊎ (result ≡ number_of Status.Failed))

@@ -1,11 +1,11 @@
 //! Collecting from files.
 
 ghost use Rattle.std.specs.Prelude.{◌≡◌, ◌≢◌, ◌⊎◌, length, IfNone, IfSome};
-ghost use Rattle.std.specs.List.{AllZip};
 ghost use Rattle.exit_status.specs.Statuses.{number_of};
 ghost use Rattle.flow_collect.specs.Refusals.{fault_of_arguments};
 ghost use Rattle.collectd.specs.Runs.{RunsSources, Writes};
 ghost use Rattle.collectd.specs.FullRuns.{fault_of_pool, RunsInFull};
+ghost use Rattle.collectd.specs.Had.{AreOpened};
 
 use crate::collect_fault::write_collect_fault;
 use crate::early::refused_early;
@@ -39,7 +39,7 @@ pub fn run_files<
 >(
     rt: &R,
     alloc: Global,
-    files: &O,
+    files: &mut O,
     paths: &[&str],
     plan: &Plan,
     pool: Pool,
@@ -50,9 +50,10 @@ pub fn run_files<
 ) -> u8
     ensures statuses { (result ≡ number_of Status.Well) ⊎ (result ≡ number_of Status.SessionFault)
         ⊎ (result ≡ number_of Status.NotOpened) ⊎ (result ≡ number_of Status.Failed) }
-    // The sources of the paths, in their order, were run, as `run` says it.
+    // The sources of the paths, in their order, each opened once, were run, as `run` says it, and no others.
     ensures opened { result ≢ number_of Status.NotOpened
-        → RunsSources S.seen (AllZip (λ path. O.opens files.now path.now) paths.now)
+        → RunsSources S.seen (AreOpened (λ path. O.opens files.old path.now)
+        paths.now (O.coming files.old) (O.coming files.new))
         plan.now pool result
         (Writes plan.now output (W.contents out.old) (W.contents out.new)) }
     // Nothing was written unless all were opened.
@@ -91,7 +92,7 @@ pub fn run_files_in_full<
 >(
     rt: &R,
     alloc: Global,
-    files: &O,
+    files: &mut O,
     paths: &[&str],
     plan: &Plan,
     pool: Pool,
@@ -103,9 +104,11 @@ pub fn run_files_in_full<
 ) -> u8
     ensures statuses { (result ≡ number_of Status.Well) ⊎ (result ≡ number_of Status.SessionFault)
         ⊎ (result ≡ number_of Status.NotOpened) ⊎ (result ≡ number_of Status.Failed) }
-    // The sources of the paths, in their order, were run, as `run_in_full` says it.
+    // The sources of the paths, in their order, each opened once, were run, as `run_in_full` says it, and no
+    // others.
     ensures opened { IfNone (fault_of_pool pool) (result ≢ number_of Status.NotOpened
-        → RunsInFull S.seen (AllZip (λ path. O.opens files.now path.now) paths.now)
+        → RunsInFull S.seen (AreOpened (λ path. O.opens files.old path.now)
+        paths.now (O.coming files.old) (O.coming files.new))
         telling.strict plan.now pool result
         (Writes plan.now output (W.contents out.old) (W.contents out.new))) }
     // Nothing was written unless all were opened.
@@ -139,7 +142,7 @@ fn run_paths<
 >(
     rt: &R,
     alloc: Global,
-    files: &O,
+    files: &mut O,
     paths: &[&str],
     plan: &Plan,
     pool: Pool,
@@ -152,7 +155,8 @@ fn run_paths<
     ensures statuses { (result ≡ number_of Status.Well) ⊎ (result ≡ number_of Status.SessionFault)
         ⊎ (result ≡ number_of Status.NotOpened) ⊎ (result ≡ number_of Status.Failed) }
     ensures opened { result ≢ number_of Status.NotOpened
-        → RunsInFull S.seen (AllZip (λ path. O.opens files.now path.now) paths.now)
+        → RunsInFull S.seen (AreOpened (λ path. O.opens files.old path.now)
+        paths.now (O.coming files.old) (O.coming files.new))
         telling.strict plan.now pool result
         (Writes plan.now output (W.contents out.old) (W.contents out.new)) }
     ensures not_opened { result ≡ number_of Status.NotOpened → out.new ≡ out.old }

@@ -1,7 +1,6 @@
 //! Merging the exports in files.
 
-ghost use Rattle.std.specs.Prelude.{◌≡◌, ◌⊎◌, [], List, IfErr, IfOk};
-ghost use Rattle.std.specs.List.{AllZip};
+ghost use Rattle.std.specs.Prelude.{◌≡◌, ◌⊎◌, ℕ, List, [], ◌∷◌, IfErr, IfOk};
 ghost use Rattle.exit_status.specs.Statuses.{number_of};
 ghost use Rattle.flow_table.specs.AddedUp.{rows_in, AreAddedUp};
 ghost use Rattle.flow_table.specs.Fitting.{FitsPlan};
@@ -10,6 +9,7 @@ ghost use Rattle.flow_table.specs.declared.table.Table.{Table as TableValue};
 ghost use Rattle.flow_merge.specs.Merging.{merging_plan, StandsFor};
 ghost use Rattle.collectd.specs.Merges.{AddsFile, IsMerged, IsNotMerged, WritesMerged};
 ghost use Rattle.collectd.specs.Runs.{IsUnread};
+ghost use Rattle.collectd.specs.Had.{AreOpened, Came, IsOpened};
 
 use crate::full_run::NOTHING_MORE;
 use crate::merge_reports::{write_file_fault, write_file_opened, write_merge_fault, write_merged};
@@ -32,7 +32,7 @@ use std::io::Write;
 /// opened or not merged, and what is wrong with it. A fault of `err` is passed over. Nothing is written
 /// to `out` unless all files were merged.
 pub fn run_merge<S: Source + Drop, O: OpenSource<S>, W: Write, E: Write>(
-    files: &O,
+    files: &mut O,
     alloc: Global,
     paths: &[&str],
     plan: &Plan,
@@ -42,17 +42,19 @@ pub fn run_merge<S: Source + Drop, O: OpenSource<S>, W: Write, E: Write>(
 ) -> u8
     ensures statuses { (result ≡ number_of Status.Well) ⊎ (result ≡ number_of Status.NotOpened)
         ⊎ (result ≡ number_of Status.Failed) }
-    // The source of each path, in their order, gave an export; the rows of all of them, added up, were
-    // written, and nothing else.
+    // The source of each path, in their order, each opened once, gave an export; the rows of all of them,
+    // added up, were written, and nothing else.
     ensures table { result ≡ number_of Status.Well
-        → WritesMerged S.seen (AllZip (λ path. O.opens files.now path.now) paths.now)
+        → WritesMerged S.seen (AreOpened (λ path. O.opens files.old path.now)
+        paths.now (O.coming files.old) (O.coming files.new))
         plan.now output (W.contents out.old) (W.contents out.new) }
     // Nothing was written unless all were opened,
     ensures not_opened { result ≡ number_of Status.NotOpened → out.new ≡ out.old }
     // and merged.
     ensures untouched { result ≡ number_of Status.Failed
         → (out.new ≡ out.old) ⊎ ((table : TableValue)
-        × IsMerged S.seen (AllZip (λ path. O.opens files.now path.now) paths.now) plan.now table) }
+        × IsMerged S.seen (AreOpened (λ path. O.opens files.old path.now)
+        paths.now (O.coming files.old) (O.coming files.new)) plan.now table) }
 {
     run_merge_in_full(files, alloc, paths, plan, output, NOTHING_MORE, out, err)
 }
@@ -61,7 +63,7 @@ pub fn run_merge<S: Source + Drop, O: OpenSource<S>, W: Write, E: Write>(
 /// name, and the system's reason behind one that can't be. A strict merge is none other, since nothing is
 /// merged in which anything was lost or passed over.
 pub fn run_merge_in_full<S: Source + Drop, O: OpenSource<S>, W: Write, E: Write>(
-    files: &O,
+    files: &mut O,
     alloc: Global,
     paths: &[&str],
     plan: &Plan,
@@ -73,12 +75,14 @@ pub fn run_merge_in_full<S: Source + Drop, O: OpenSource<S>, W: Write, E: Write>
     ensures statuses { (result ≡ number_of Status.Well) ⊎ (result ≡ number_of Status.NotOpened)
         ⊎ (result ≡ number_of Status.Failed) }
     ensures table { result ≡ number_of Status.Well
-        → WritesMerged S.seen (AllZip (λ path. O.opens files.now path.now) paths.now)
+        → WritesMerged S.seen (AreOpened (λ path. O.opens files.old path.now)
+        paths.now (O.coming files.old) (O.coming files.new))
         plan.now output (W.contents out.old) (W.contents out.new) }
     ensures not_opened { result ≡ number_of Status.NotOpened → out.new ≡ out.old }
     ensures untouched { result ≡ number_of Status.Failed
         → (out.new ≡ out.old) ⊎ ((table : TableValue)
-        × IsMerged S.seen (AllZip (λ path. O.opens files.now path.now) paths.now) plan.now table) }
+        × IsMerged S.seen (AreOpened (λ path. O.opens files.old path.now)
+        paths.now (O.coming files.old) (O.coming files.new)) plan.now table) }
 {
     let table = match merge_files(files, alloc, paths, plan, telling, err) {
         Ok(table) => table,
@@ -94,7 +98,7 @@ pub fn run_merge_in_full<S: Source + Drop, O: OpenSource<S>, W: Write, E: Write>
 
 // The table of the exports in files; or the status, if one can't be opened or merged, which is told.
 fn merge_files<S: Source + Drop, O: OpenSource<S>, E: Write>(
-    files: &O,
+    files: &mut O,
     alloc: Global,
     paths: &[&str],
     plan: &Plan,
@@ -102,7 +106,8 @@ fn merge_files<S: Source + Drop, O: OpenSource<S>, E: Write>(
     err: &mut E,
 ) -> Result<Table, Status>
     ensures merged { IfOk result
-        (IsMerged S.seen (AllZip (λ path. O.opens files.now path.now) paths.now) plan.now) }
+        (IsMerged S.seen (AreOpened (λ path. O.opens files.old path.now)
+        paths.now (O.coming files.old) (O.coming files.new)) plan.now) }
     ensures fits { IfOk result (FitsPlan plan.now) }
     ensures status { IfErr result IsNotMerged }
 {
@@ -132,14 +137,17 @@ fn begin<E: Write>(alloc: Global, plan: &Plan, err: &mut E) -> Result<Merging, S
 
 // Adds the file of this number, counted from 1.
 fn add_file<S: Source + Drop, O: OpenSource<S>, E: Write>(
-    files: &O,
+    files: &mut O,
     merging: Merging,
     file: usize,
     path: &str,
     telling: Telling,
     err: &mut E,
 ) -> Result<Merging, Status>
-    ensures added { IfOk result (AddsFile S.seen (O.opens files.now path.now) merging) }
+    ensures added { IfOk result (AddsFile S.seen
+        (IsOpened (O.opens files.old path.now) (O.coming files.old) (O.coming files.new)) merging) }
+    ensures same { (name : List ℕ) (source : S)
+        → O.opens files.new name source → O.opens files.old name source }
     ensures status { IfErr result IsNotMerged }
 {
     let mut source = open_file(files, file, path, telling, err)?;
@@ -154,13 +162,16 @@ fn add_file<S: Source + Drop, O: OpenSource<S>, E: Write>(
 
 // The source of the file of this number.
 fn open_file<S: Source, O: OpenSource<S>, E: Write>(
-    files: &O,
+    files: &mut O,
     file: usize,
     path: &str,
     telling: Telling,
     err: &mut E,
 ) -> Result<S, Status>
-    ensures opened { IfOk result (O.opens files.now path.now) }
+    ensures opened { IfOk result
+        (IsOpened (O.opens files.old path.now) (O.coming files.old) (O.coming files.new)) }
+    ensures same { (name : List ℕ) (source : S)
+        → O.opens files.new name source → O.opens files.old name source }
     ensures unread { IfOk result (IsUnread S.seen) }
     ensures status { IfErr result (λ status. status ≡ Status.NotOpened) }
 {

@@ -1,11 +1,12 @@
 //! Collecting from connections.
 
-ghost use Rattle.std.specs.Prelude.{◌≡◌, ◌≢◌, ◌⊎◌, ◌<◌, length, All, IfNone, IfSome};
+ghost use Rattle.std.specs.Prelude.{◌≡◌, ◌≢◌, ◌⊎◌, ◌<◌, IfNone, IfSome};
 ghost use Rattle.std.specs.Duration.{as_nanos};
 ghost use Rattle.exit_status.specs.Statuses.{number_of};
 ghost use Rattle.flow_collect.specs.Refusals.{fault_of_arguments};
 ghost use Rattle.collectd.specs.Runs.{RunsSources, Writes};
 ghost use Rattle.collectd.specs.FullRuns.{fault_of_pool, RunsInFull};
+ghost use Rattle.collectd.specs.Had.{AreAccepted};
 
 use super::connections::run_connections;
 use crate::collect_fault::write_collect_fault;
@@ -30,14 +31,14 @@ use std::time::Duration;
 /// long as it takes. If a connection can't be accepted, or can't have that limit, the status is 2, and a
 /// line with `addr` is written to `err`.
 ///
-/// The listener is dropped, and so closed, before the first connection is read: a peer that comes later is
-/// refused, and knows that nobody takes what it sends.
+/// The listener is closed before the first connection is read, and however the run ends: a peer that comes
+/// later is refused, and knows that nobody takes what it sends.
 ///
 /// Each session writes to `progress`, if it is there, what it has read: a line at most once a second,
 /// after a read. A fault of `progress` is passed over.
 pub fn run_tcp<
     S: Source + Send + Drop,
-    L: Listener<S> + Drop,
+    L: Listener<S>,
     P: Write + Copy + Drop + Send,
     W: Write,
     E: Write,
@@ -45,7 +46,7 @@ pub fn run_tcp<
 >(
     rt: &R,
     alloc: Global,
-    listener: L,
+    listener: &mut L,
     addr: &str,
     count: usize,
     idle: Option<Duration>,
@@ -58,12 +59,13 @@ pub fn run_tcp<
 ) -> u8
     ensures statuses { (result ≡ number_of Status.Well) ⊎ (result ≡ number_of Status.SessionFault)
         ⊎ (result ≡ number_of Status.NotOpened) ⊎ (result ≡ number_of Status.Failed) }
-    // So many connections with this limit were run, as `run` says it.
+    // So many connections with this limit were accepted and run, as `run` says it, and no others.
     ensures accepted { result ≢ number_of Status.NotOpened
         → RunsSources S.seen
-        (λ sources. (length sources ≡ count) × All (L.gives listener idle) sources)
+        (AreAccepted (L.gives listener.old idle) count (L.coming listener.old) (L.coming listener.new))
         plan.now pool result
         (Writes plan.now output (W.contents out.old) (W.contents out.new)) }
+    ensures closed { L.is_closed listener.new }
     // Nothing was written unless all were accepted.
     ensures not_accepted { result ≡ number_of Status.NotOpened → out.new ≡ out.old }
     // Nothing was collected if the arguments have a fault.
@@ -98,7 +100,7 @@ pub fn run_tcp<
 #[tactic(auto, using(crate::proofs::FullRan::whatever, crate::proofs::FullRan::even_if_none, crate::proofs::FullRan::not_if_some, crate::proofs::FullRan::not_if_none))]
 pub fn run_tcp_in_full<
     S: Source + Send + Drop,
-    L: Listener<S> + Drop,
+    L: Listener<S>,
     P: Write + Copy + Drop + Send,
     W: Write,
     E: Write,
@@ -106,7 +108,7 @@ pub fn run_tcp_in_full<
 >(
     rt: &R,
     alloc: Global,
-    listener: L,
+    listener: &mut L,
     addr: &str,
     count: usize,
     idle: Option<Duration>,
@@ -120,12 +122,13 @@ pub fn run_tcp_in_full<
 ) -> u8
     ensures statuses { (result ≡ number_of Status.Well) ⊎ (result ≡ number_of Status.SessionFault)
         ⊎ (result ≡ number_of Status.NotOpened) ⊎ (result ≡ number_of Status.Failed) }
-    // So many connections with this limit were run, as `run_in_full` says it.
+    // So many connections with this limit were accepted and run, as `run_in_full` says it, and no others.
     ensures accepted { IfNone (fault_of_pool pool) (result ≢ number_of Status.NotOpened
         → RunsInFull S.seen
-        (λ sources. (length sources ≡ count) × All (L.gives listener idle) sources)
+        (AreAccepted (L.gives listener.old idle) count (L.coming listener.old) (L.coming listener.new))
         telling.strict plan.now pool result
         (Writes plan.now output (W.contents out.old) (W.contents out.new))) }
+    ensures closed { L.is_closed listener.new }
     // Nothing was written unless all were accepted.
     ensures not_accepted { result ≡ number_of Status.NotOpened → out.new ≡ out.old }
     // Nothing was collected if the arguments have a fault.
@@ -140,6 +143,7 @@ pub fn run_tcp_in_full<
         (λ fault. (result ≡ number_of Status.Failed) × (out.new ≡ out.old)) }
 {
     if let Some(fault) = refused_early(pool, count) {
+        listener.close();
         let _ = write_collect_fault(fault, err);
         return Status::Failed.number();
     }

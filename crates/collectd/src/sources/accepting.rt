@@ -1,7 +1,8 @@
 //! Accepting connections, one after another.
 
-ghost use Rattle.std.specs.Prelude.{◌≡◌, ◌<◌, ⊤, length, All, IfOk, IfSome, IsErr};
+ghost use Rattle.std.specs.Prelude.{◌≡◌, ◌<◌, ⊤, None, Some, IfOk, IfSome, IsErr};
 ghost use Rattle.std.specs.Duration.{as_nanos};
+ghost use Rattle.collectd.specs.Had.{AreAccepted};
 
 use super::unread::Unread;
 use ipfix_session::{FromReader, Source};
@@ -23,30 +24,74 @@ pub struct Accepted<S> {
 
 /// What gives one connection after another.
 pub trait Listener<S: Source> {
-    ghost use Rattle.std.specs.Prelude.{Option, IfOk, IfSome, IsErr};
+    ghost use Rattle.std.specs.Prelude.{◌≡◌, List, [], ◌∷◌, Option, IfOk, IfSome, IsErr, OnErr};
     ghost use Rattle.std.specs.declared.time.Duration.{Duration};
     ghost use Rattle.collectd.specs.Runs.{IsUnread};
+    ghost use Rattle.collectd.specs.Had.{Came};
 
     /// Whether a source is a connection with this limit of a read's time, as it is before it is read.
     ghost gives: { Self → Option Duration → S → Type 0 };
 
+    /// The connections that are still to come, in their order, if it tells them.
+    ghost coming: { Self → Option (List S) };
+
+    /// Whether it is closed.
+    ghost is_closed: { Self → Type 0 };
+
     /// The next connection, of which nothing was read, and the address of its peer. A read that waits for
     /// longer than `idle` fails; with no `idle` it waits for as long as it takes. Why there is none, if there
-    /// is no connection, or if it can't have that limit.
-    fn next_source(&self, idle: Option<Duration>) -> Result<Accepted<S>, Reason>
-        ensures given { IfOk result (λ accepted. gives self.now idle accepted.source) }
+    /// is no connection, or if it can't have that limit, or if the listener is closed.
+    fn next_source(&mut self, idle: Option<Duration>) -> Result<Accepted<S>, Reason>
+        ensures given { IfOk result (λ accepted. gives self.old idle accepted.source) }
         ensures unread { IfOk result (λ accepted. IsUnread S.seen accepted.source) }
-        ensures no_time { IfSome idle (λ limit. as_nanos limit ≡ 0 → IsErr result) };
+        // It is the next one that was to come.
+        ensures came { IfOk result
+            (λ accepted. Came (coming self.old) (coming self.new) (accepted.source ∷ [])) }
+        ensures none_came { OnErr result (coming self.new ≡ coming self.old) }
+        ensures no_time { IfSome idle (λ limit. as_nanos limit ≡ 0 → IsErr result) }
+        ensures closed { is_closed self.old → IsErr result }
+        // No other connection has a limit than before.
+        ensures same { (limit : Option Duration) (source : S)
+            → gives self.new limit source → gives self.old limit source };
+
+    /// Closes it. A peer that comes later is refused.
+    fn close(&mut self)
+        ensures closed { is_closed self.new }
+        ensures none_came { coming self.new ≡ coming self.old };
 }
 
-impl Listener<FromReader<TcpStream>> for TcpListener {
+/// The system's listener.
+#[derive(Drop)]
+pub struct Listening {
+    listener: Option<TcpListener>,
+}
+
+impl Listening {
+    /// A listener that is open.
+    pub fn new(listener: TcpListener) -> Self
+        ensures { result.listener ≡ Some listener }
+    {
+        Listening {
+            listener: Some(listener),
+        }
+    }
+}
+
+impl Listener<FromReader<TcpStream>> for Listening {
     ghost gives = { λ _ _ _. ⊤ };
 
+    ghost coming = { λ _. None };
+
+    ghost is_closed = { λ l. l.listener ≡ None };
+
     fn next_source(
-        &self,
+        &mut self,
         idle: Option<Duration>,
     ) -> Result<Accepted<FromReader<TcpStream>>, Reason> {
-        let (stream, peer) = match self.accept() {
+        let Some(listener) = &self.listener else {
+            return Err(Reason::Other);
+        };
+        let (stream, peer) = match listener.accept() {
             Ok(connection) => connection,
             Err(error) => return Err(Reason::of(&error)),
         };
@@ -58,6 +103,10 @@ impl Listener<FromReader<TcpStream>> for TcpListener {
             peer,
         })
     }
+
+    fn close(&mut self) {
+        self.listener = None;
+    }
 }
 
 /// Connections that were accepted, and the origins of their sessions.
@@ -67,28 +116,44 @@ pub struct AcceptedAll<S: Source + Drop> {
     pub origins: Vec<Origin<'static>>,
 }
 
-/// So many connections as sources, each with this limit of a read's time. Behind the last the listener is
-/// closed. `err` has a line for each that was accepted, if `telling` is verbose; a fault of `err` is passed
-/// over.
-pub fn accept_all<
-    'r,
-    S: Source + Drop,
-    L: Listener<S> + Drop,
-    P: Write + Copy + Drop,
-    E: Write,
-    R: Clock,
->(
+/// So many connections as sources, each with this limit of a read's time. Behind the last, and if one can't
+/// be accepted, the listener is closed. `err` has a line for each that was accepted, if `telling` is verbose;
+/// a fault of `err` is passed over.
+pub fn accept_all<'r, S: Source + Drop, L: Listener<S>, P: Write + Copy + Drop, E: Write, R: Clock>(
     rt: &'r R,
     alloc: Global,
-    listener: L,
+    listener: &mut L,
     count: usize,
     idle: Option<Duration>,
     progress: Option<P>,
     telling: Telling,
     err: &mut E,
 ) -> Result<AcceptedAll<Watched<'r, S, R, P>>, Reason>
-    ensures one_each { IfOk result (λ all. length all.sources ≡ count) }
-    ensures given { IfOk result (λ all. All (L.gives listener idle) all.sources) }
+    // So many came, each was accepted, and nothing else.
+    ensures accepted { IfOk result (λ all. AreAccepted (L.gives listener.old idle) count
+        (L.coming listener.old) (L.coming listener.new) all.sources) }
+    // None of them is read by then.
+    ensures closed { L.is_closed listener.new }
+    ensures no_time { IfSome idle (λ limit. as_nanos limit ≡ 0 → 0 < count → IsErr result) }
+{
+    let accepted = accept_each(rt, alloc, listener, count, idle, progress, telling, err);
+    listener.close();
+    accepted
+}
+
+// Accepts one connection after another.
+fn accept_each<'r, S: Source + Drop, L: Listener<S>, P: Write + Copy + Drop, E: Write, R: Clock>(
+    rt: &'r R,
+    alloc: Global,
+    listener: &mut L,
+    count: usize,
+    idle: Option<Duration>,
+    progress: Option<P>,
+    telling: Telling,
+    err: &mut E,
+) -> Result<AcceptedAll<Watched<'r, S, R, P>>, Reason>
+    ensures accepted { IfOk result (λ all. AreAccepted (L.gives listener.old idle) count
+        (L.coming listener.old) (L.coming listener.new) all.sources) }
     ensures no_time { IfSome idle (λ limit. as_nanos limit ≡ 0 → 0 < count → IsErr result) }
 {
     let mut sources = Unread::new(alloc);

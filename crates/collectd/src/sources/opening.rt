@@ -1,6 +1,6 @@
 //! What opens sources.
 
-ghost use Rattle.std.specs.Prelude.{⊤};
+ghost use Rattle.std.specs.Prelude.{⊤, None};
 
 use ipfix_session::{FromReader, Source};
 use run_reports::Reason;
@@ -22,29 +22,42 @@ pub struct Opened<S> {
 
 /// Opens sources by their paths.
 pub trait OpenSource<S: Source> {
-    ghost use Rattle.std.specs.Prelude.{ℕ, List, IfOk};
+    ghost use Rattle.std.specs.Prelude.{◌≡◌, ℕ, List, [], ◌∷◌, Option, IfOk, OnErr};
     ghost use Rattle.collectd.specs.Runs.{IsUnread};
+    ghost use Rattle.collectd.specs.Had.{Came};
 
     /// Whether a source is the one that a path opens, as it is before it is read.
     ghost opens: { Self → List ℕ → S → Type 0 };
 
+    /// The sources that are still to come, in their order, if it tells them.
+    ghost coming: { Self → Option (List S) };
+
     /// The source of a path, of which nothing was read; or why it can't be opened.
-    fn open_source(&self, path: &str) -> Result<Opened<S>, Reason>
-        ensures named { IfOk result (λ opened. opens self.now path.now opened.source) }
-        ensures unread { IfOk result (λ opened. IsUnread S.seen opened.source) };
+    fn open_source(&mut self, path: &str) -> Result<Opened<S>, Reason>
+        ensures named { IfOk result (λ opened. opens self.old path.now opened.source) }
+        ensures unread { IfOk result (λ opened. IsUnread S.seen opened.source) }
+        // It is the next one that was to come.
+        ensures came { IfOk result
+            (λ opened. Came (coming self.old) (coming self.new) (opened.source ∷ [])) }
+        ensures none_came { OnErr result (coming self.new ≡ coming self.old) }
+        // No path has another source than before.
+        ensures same { (name : List ℕ) (source : S)
+            → opens self.new name source → opens self.old name source };
 }
 
 /// The files of the system. The path `-` is standard input.
-impl<F: Read + OpenFile + Drop, R: Files<File = F>> OpenSource<FromReader<F>> for R {
+impl<F: Read + OpenFile + Drop, R: Files<File = F>> OpenSource<FromReader<F>> for &R {
     ghost opens = { λ _ _ _. ⊤ };
 
-    fn open_source(&self, path: &str) -> Result<Opened<FromReader<F>>, Reason> {
+    ghost coming = { λ _. None };
+
+    fn open_source(&mut self, path: &str) -> Result<Opened<FromReader<F>>, Reason> {
         let name = if path == STANDARD_INPUT.0 {
             STANDARD_INPUT.1
         } else {
             path
         };
-        let file = match fs::open(self, name) {
+        let file = match fs::open(*self, name) {
             Ok(file) => file,
             Err(error) => return Err(Reason::of(&error)),
         };

@@ -1,9 +1,10 @@
 //! Opening files, one after another.
 
-ghost use Rattle.std.specs.Prelude.{IfOk};
+ghost use Rattle.std.specs.Prelude.{ℕ, List, [], ◌∷◌, IfOk};
 ghost use Rattle.std.specs.List.{AllZip};
 ghost use Rattle.collectd.specs.Runs.{IsUnread};
 ghost use Rattle.collectd.specs.FullRuns.{IsFileNamed};
+ghost use Rattle.collectd.specs.Had.{AreOpened, Came};
 
 use super::opening::{OpenSource, Opened};
 use super::unread::Unread;
@@ -41,14 +42,15 @@ pub fn open_all<
 >(
     rt: &'r R,
     alloc: Global,
-    files: &O,
+    files: &mut O,
     paths: &[&'a str],
     progress: Option<P>,
     telling: Telling,
     err: &mut E,
 ) -> Result<OpenedAll<'a, Watched<'r, S, R, P>>, NotOpened<'a>>
-    ensures opened { IfOk result
-        (λ all. AllZip (λ path. O.opens files.now path.now) paths.now all.sources) }
+    // Each path was opened once, and nothing else.
+    ensures opened { IfOk result (λ all. AreOpened (λ path. O.opens files.old path.now) paths.now
+        (O.coming files.old) (O.coming files.new) all.sources) }
     ensures named { IfOk result
         (λ all. AllZip (λ path. IsFileNamed path.now) paths.now all.origins.items) }
 {
@@ -80,12 +82,16 @@ fn without_memory<'a>(path: &'a str) -> NotOpened<'a> {
 fn open_watched<'r, 'a, S: Source + Drop, O: OpenSource<S>, P: Write + Copy + Drop, R: Clock>(
     rt: &'r R,
     alloc: Global,
-    files: &O,
+    files: &mut O,
     session: usize,
     path: &'a str,
     progress: Option<P>,
 ) -> Result<(Watched<'r, S, R, P>, Origin<'a>), NotOpened<'a>>
-    ensures opened { IfOk result (λ had. O.opens files.now path.now had.0) }
+    ensures opened { IfOk result (λ had. O.opens files.old path.now had.0) }
+    ensures came { IfOk result
+        (λ had. Came (O.coming files.old) (O.coming files.new) (had.0 ∷ [])) }
+    ensures same { (name : List ℕ) (source : S)
+        → O.opens files.new name source → O.opens files.old name source }
     ensures unread { IfOk result (λ had. IsUnread S.seen had.0) }
     ensures named { IfOk result (λ had. IsFileNamed path.now had.1) }
 {

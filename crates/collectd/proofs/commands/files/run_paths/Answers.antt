@@ -1,5 +1,6 @@
 use Rattle.std.proofs.Common.{length, rules}
-use Rattle.collectd.proofs.Ran.{one_for_each, one_of_four, refused_for}
+use Rattle.collectd.proofs.Had.{one_for_each}
+use Rattle.collectd.proofs.Ran.{one_of_four, refused_for}
 use Rattle.collectd.proofs.FullRan.{runs_in_full}
 use Rattle.collectd.proofs.commands.files.run_paths.Goals as goal
 
@@ -13,5 +14,5 @@ returns-in-Ok-clause-opened g c = λ ran.
 
 pub returns-in-Ok-clause-refused : goal.returns-in-Ok-clause-refused
 returns-in-Ok-clause-refused g c =
-    let same = one_for_each _ _ _ c.in-Ok.ensures.opened in
+    let same = one_for_each _ _ _ c.in-Ok.ensures.opened.one_each in
     refused_for c.args.pool c.into_sources.result.len (length c.args.paths.now) c.run_in_full.result _ (search (rules, same)) c.run_in_full.ensures.refused

@@ -1,0 +1,41 @@
+use Rattle.std.proofs.Common.{◌≡◌, ◌<◌, rules}
+use Rattle.std.specs.Duration.{as_nanos}
+use Rattle.collectd.proofs.Had.{Came-nil, one_came, one_longer, one_more}
+use Rattle.collectd.proofs.FullRan.{at_start, has_limit, is_error, none_had}
+use Rattle.collectd.proofs.sources.accepting.accept_each.Goals as goal
+
+pub loop-number-init : goal.loop-number-init
+loop-number-init g c = record {
+  one_each = search rules;
+  asked = search rules;
+  came = rw c.new-sources.ensures (Came-nil (g.L.Listener.coming c.args.listener.now));
+  same = λ limit source gives. gives;
+  in_time = at_start c.args.idle (λ limit. as_nanos limit ≡ 0);
+}
+
+pub loop-number-preserved : goal.loop-number-preserved
+loop-number-preserved g c =
+    let so_far = c.loop-number.invariant in
+    record {
+      one_each = one_longer _ _ _ _ c.in-Ok.ensures so_far.one_each;
+      asked = one_more (g.L.Listener.gives c.args.listener.now c.args.idle) _ _ _ c.in-Ok.ensures so_far.asked (rw c.new-watched.ensures (so_far.same _ _ c.in_ok-source.ensures.given));
+      came = one_came _ _ _ _ _ _ c.in-Ok.ensures so_far.came (rw c.new-watched.ensures c.in_ok-source.ensures.came);
+      same = λ limit source gives. so_far.same limit source (c.next_source.ensures.same limit source gives);
+      in_time = has_limit c.args.idle (λ limit. as_nanos limit ≡ 0) _ c.in_ok-source.ensures.no_time;
+    }
+
+pub returns-in_default-clause-no_time : goal.returns-in_default-clause-no_time
+returns-in_default-clause-no_time g c = is_error c.args.idle (λ limit. as_nanos limit ≡ 0) (0 < c.args.count)
+
+pub returns-in_default-push-clause-no_time : goal.returns-in_default-push-clause-no_time
+returns-in_default-push-clause-no_time g c = is_error c.args.idle (λ limit. as_nanos limit ≡ 0) (0 < c.args.count)
+
+pub returns-clause-accepted : goal.returns-clause-accepted
+returns-clause-accepted g c = record {
+  one_each = search rules;
+  asked = c.loop-number.invariant.asked;
+  came = c.loop-number.invariant.came;
+}
+
+pub returns-clause-no_time : goal.returns-clause-no_time
+returns-clause-no_time g c = none_had c.args.idle (λ limit. as_nanos limit ≡ 0) c.loop-number.number c.args.count (search rules) c.loop-number.invariant.in_time
