@@ -38,7 +38,7 @@ texts_of_message RecordCut = texts (codes "a data record goes past its set") (co
 texts_of_message TooManyDomains = texts (codes "one domain more than 1,024") (codes "none of RFC 7011")
     (codes "The session has more observation domains than this program accepts. Let the exporter\nuse fewer domains, or more sessions.")
 texts_of_message OutOfMemory = texts (codes "memory was refused; may stand in place of any other answer") (codes "none of RFC 7011")
-    (codes "Give the program more memory, or fewer sessions at once, or shorter rings (--ring).")
+    (codes "Give the program more memory, or fewer sessions at once, or shorter rings (--ring); or\nmake the table smaller: longer intervals, fewer keys, a smaller max_spread.")
 texts_of_message Spent = texts (codes "an earlier message of the session had a fault") (codes "none of RFC 7011")
     (codes "Look for the fault of that message: it came first.")
 

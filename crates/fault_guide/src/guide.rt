@@ -129,7 +129,8 @@ fn explanation_of_message(fault: MessageFault) -> Explanation
         MessageFault::OutOfMemory => Explanation {
             found: "memory was refused; may stand in place of any other answer",
             rule: "none of RFC 7011",
-            advice: "Give the program more memory, or fewer sessions at once, or shorter rings (--ring).",
+            advice: "Give the program more memory, or fewer sessions at once, or shorter rings (--ring); or\n\
+                make the table smaller: longer intervals, fewer keys, a smaller max_spread.",
         },
         MessageFault::Spent => Explanation {
             found: "an earlier message of the session had a fault",

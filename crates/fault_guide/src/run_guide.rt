@@ -154,7 +154,8 @@ impl RunFault {
             RunFault::NoThread =>
                 "Allow the process more threads or memory, or take fewer sessions and workers.",
             RunFault::SumTooLarge =>
-                "Take shorter intervals, or look for the record with such a counter by collectd dump.",
+                "Take shorter intervals; or find the session that has such a counter, and leave it out\n\
+                (docs/RECIPES.md, A sum that is too large).",
             RunFault::Session =>
                 "The same line names the fault of its session. Copy the file again, or make it again.",
             RunFault::NotAnExport => "Merge files that were written with --format ipfix.",
