@@ -132,7 +132,7 @@ fn fault_of(plan: &Plan, keys: &[&str], counters: &[&str]) -> Option<PlanFault> 
     } else if plan.keys.len() > 8 {
         ("6 Plan: fault 3 KeyCount", "keys", format!("{} elements, at most 8", keys.len()))
     } else if let Some(at) = bad_key {
-        let words = "only unsigned numbers and addresses (IPv4, IPv6, MAC) may be keys";
+        let words = "only elements known as unsigned numbers or addresses (IPv4, IPv6, MAC) may be keys";
         ("6 Plan: fault 4 KeyKind", "keys", format!("\"{}\": {words}", keys[at]))
     } else if let Some(at) = bad_prefix {
         ("6 Plan: fault 9 Prefix", "keys", format!("\"{}\": only IPv4 addresses take a prefix, 0 to 32", keys[at]))

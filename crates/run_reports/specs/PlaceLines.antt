@@ -48,7 +48,7 @@ abbrev pub rule_words : PlanFault → List ℕ
 rule_words Length = codes "must be 1 to 4294967295"
 rule_words Spread = codes "must be 1 to 4096"
 rule_words KeyCount = codes "at most 8"
-rule_words KeyKind = codes ": only unsigned numbers and addresses (IPv4, IPv6, MAC) may be keys"
+rule_words KeyKind = codes ": only elements known as unsigned numbers or addresses (IPv4, IPv6, MAC) may be keys"
 rule_words Prefix = codes ": only IPv4 addresses take a prefix, 0 to 32"
 rule_words CounterCount = codes "must be 1 to 4"
 rule_words CounterKind =

@@ -150,7 +150,7 @@ fn rule_words(fault: PlanFault) -> &'static str
         PlanFault::Spread => "must be 1 to 4096",
         PlanFault::KeyCount => "at most 8",
         PlanFault::KeyKind => {
-            ": only unsigned numbers and addresses (IPv4, IPv6, MAC) may be keys"
+            ": only elements known as unsigned numbers or addresses (IPv4, IPv6, MAC) may be keys"
         }
         PlanFault::Prefix => ": only IPv4 addresses take a prefix, 0 to 32",
         PlanFault::CounterCount => "must be 1 to 4",
