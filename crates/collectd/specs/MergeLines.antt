@@ -5,8 +5,10 @@ use Rattle.flow_merge.specs.MergeFaults as merging
 use Rattle.flow_merge.specs.RowFaults as rows
 use Rattle.flow_merge.specs.declared.merge_fault.MergeFault.{MergeFault}
 use Rattle.flow_merge.specs.declared.merge_fault.MergeFault.TheVariants.{Session, Row}
+use Rattle.run_reports.specs.OpeningLines.{if_verbose}
 use Rattle.run_reports.specs.Origins.{whole_name}
 use Rattle.run_reports.specs.ReportLines.{fault_text}
+use Rattle.run_reports.specs.declared.telling.Telling.{Telling}
 
 -- how many files were merged, and how many rows their table has
 unfoldable pub merged_line : ℕ → ℕ → List ℕ
@@ -18,16 +20,21 @@ merge_fault_text (Session fault) = codes ": fault 3 Session" ++ fault_text (numb
 merge_fault_text (Row fault) = codes ": fault 6 Row" ++ fault_text (rows.number_of fault) (rows.name_of fault)
 merge_fault_text fault = fault_text (merging.number_of fault) (merging.name_of fault)
 
--- the line of a file, with what is said of it
-abbrev pub file_line : ℕ → List ℕ → List ℕ
-file_line file text = codes "collectd: merge: file " ++ (decimal file ++ text)
-
-abbrev pub file_fault_line : ℕ → MergeFault → List ℕ
-file_fault_line file fault = file_line file (merge_fault_text fault)
-
--- a file that was opened, by its number and its name
+-- what is said of a file begins with its number, and if it is added, its name
 unfoldable pub file_start : ℕ → List ℕ
 file_start file = codes "collectd: merge: file " ++ decimal file
 
+abbrev pub file_fault_line : ℕ → MergeFault → List ℕ
+file_fault_line file fault = file_start file ++ merge_fault_text fault
+
+abbrev pub named_file_line : ℕ → List ℕ → List ℕ → List ℕ
+named_file_line file name text = file_start file ++ (whole_name name ++ text)
+
+-- a file that was opened
 abbrev pub file_opened_line : ℕ → List ℕ → List ℕ
-file_opened_line file name = file_start file ++ (whole_name name ++ codes ": opened\n")
+file_opened_line file name = named_file_line file name (codes ": opened\n")
+
+-- the fault of a file, and once more with the file's name if that is asked for
+abbrev pub file_fault_lines : Telling → ℕ → List ℕ → MergeFault → List ℕ
+file_fault_lines telling file name fault =
+    file_fault_line file fault ++ if_verbose telling (named_file_line file name (merge_fault_text fault))

@@ -5,7 +5,7 @@ ghost use Rattle.std.specs.Io.KnownBytes.{Appends};
 ghost use Rattle.flow_merge.specs.MergeFaults.{number_of, name_of};
 ghost use Rattle.run_reports.specs.OpeningLines.{if_verbose};
 ghost use Rattle.run_reports.specs.ReportLines.{fault_text};
-ghost use Rattle.collectd.specs.MergeLines.{file_fault_line, file_line, file_opened_line, file_start, merged_line};
+ghost use Rattle.collectd.specs.MergeLines.{file_fault_line, file_fault_lines, file_opened_line, file_start, merge_fault_text, merged_line, named_file_line};
 
 use flow_merge::MergeFault;
 use run_reports::{Origin, Telling, write_fault, write_origin};
@@ -29,42 +29,68 @@ pub fn write_merge_fault<W: Write>(fault: MergeFault, out: &mut W) -> io::Result
 }
 
 /// Writes the line of a file, counted from 1, that was not merged: the fault, and behind it that of its
-/// session or of its record.
-pub fn write_file_fault<W: Write>(file: usize, fault: MergeFault, out: &mut W) -> io::Result<()>
-    ensures { OnOk result (Appends (W.contents out.old) (W.contents out.new)
-        (file_fault_line file fault)) }
-{
-    match fault {
-        MergeFault::Session(inner) => write_inner(
-            file,
-            ": fault 3 Session",
-            inner.number(),
-            inner.name(),
-            out,
-        ),
-        MergeFault::Row(inner) => {
-            write_inner(file, ": fault 6 Row", inner.number(), inner.name(), out)
-        }
-        _ => write_inner(file, "", fault.number(), fault.name(), out),
-    }
-}
-
-// The line of a file, with what stands before the last fault.
-#[tactic(auto, unfolding(run_reports::specs::ReportLines::fault_text))]
-fn write_inner<W: Write>(
+/// session or of its record. If `telling` is verbose, the same line follows with the file's name.
+pub fn write_file_fault<W: Write>(
+    telling: Telling,
     file: usize,
-    what: &str,
-    number: u8,
     name: &str,
+    fault: MergeFault,
     out: &mut W,
 ) -> io::Result<()>
     ensures { OnOk result (Appends (W.contents out.old) (W.contents out.new)
-        (file_line file (what.now ++ fault_text number name.now))) }
+        (file_fault_lines telling file name.now fault)) }
 {
-    writeln!(
-        out,
-        "collectd: merge: file {file}{what}: fault {number} {name}"
-    )
+    write_numbered_fault(file, fault, out)?;
+    if telling.verbose {
+        write_named_fault(file, name, fault, out)
+    } else {
+        Ok(())
+    }
+}
+
+fn write_numbered_fault<W: Write>(file: usize, fault: MergeFault, out: &mut W) -> io::Result<()>
+    ensures { OnOk result (Appends (W.contents out.old) (W.contents out.new)
+        (file_fault_line file fault)) }
+{
+    write_file_start(file, out)?;
+    write_merge_fault_text(fault, out)
+}
+
+fn write_named_fault<W: Write>(
+    file: usize,
+    name: &str,
+    fault: MergeFault,
+    out: &mut W,
+) -> io::Result<()>
+    ensures { OnOk result (Appends (W.contents out.old) (W.contents out.new)
+        (named_file_line file name.now (merge_fault_text fault))) }
+{
+    write_file_start(file, out)?;
+    write_origin(&Origin::File { name, size: None }, out)?;
+    write_merge_fault_text(fault, out)
+}
+
+// The fault of a file, and behind it that of its session or of its record, to the end of the line.
+fn write_merge_fault_text<W: Write>(fault: MergeFault, out: &mut W) -> io::Result<()>
+    ensures { OnOk result (Appends (W.contents out.old) (W.contents out.new)
+        (merge_fault_text fault)) }
+{
+    match fault {
+        MergeFault::Session(inner) => {
+            write_inner(": fault 3 Session", inner.number(), inner.name(), out)
+        }
+        MergeFault::Row(inner) => write_inner(": fault 6 Row", inner.number(), inner.name(), out),
+        _ => write_inner("", fault.number(), fault.name(), out),
+    }
+}
+
+// The last fault, behind what stands before it.
+#[tactic(auto, unfolding(run_reports::specs::ReportLines::fault_text))]
+fn write_inner<W: Write>(what: &str, number: u8, name: &str, out: &mut W) -> io::Result<()>
+    ensures { OnOk result (Appends (W.contents out.old) (W.contents out.new)
+        (what.now ++ fault_text number name.now)) }
+{
+    writeln!(out, "{what}: fault {number} {name}")
 }
 
 /// Writes the line of a file, counted from 1, that was opened, with its name. Nothing is written unless

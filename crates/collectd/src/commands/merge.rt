@@ -59,8 +59,8 @@ pub fn run_merge<S: Source + Drop, O: OpenSource<S>, W: Write, E: Write>(
     run_merge_in_full(files, alloc, paths, plan, output, NOTHING_MORE, out, err)
 }
 
-/// Does as [`run_merge`], and tells more if `telling` is verbose: each file that is opened, by its number and
-/// name, and the system's reason behind one that can't be. A strict merge is none other, since nothing is
+/// Does as [`run_merge`], and tells more if `telling` is verbose: each file that is opened or not merged, by its
+/// number and name, and the system's reason behind one that can't be opened. A strict merge is none other, since nothing is
 /// merged in which anything was lost or passed over.
 pub fn run_merge_in_full<S: Source + Drop, O: OpenSource<S>, W: Write, E: Write>(
     files: &mut O,
@@ -154,7 +154,7 @@ fn add_file<S: Source + Drop, O: OpenSource<S>, E: Write>(
     match merging.read(&mut source, READ_LIMIT) {
         Ok(merging) => Ok(merging),
         Err(fault) => {
-            let _ = write_file_fault(file, fault, err);
+            let _ = write_file_fault(telling, file, path, fault, err);
             Err(Status::Failed)
         }
     }

@@ -3,7 +3,7 @@
 ghost use Rattle.std.specs.Prelude.{◌≡◌, string_bytes};
 
 use super::sessions::BY_SOURCE;
-use collectd::{ReadText, load_plan, write_plan_fault};
+use collectd::{ReadText, Reason, Telling, load_plan, write_plan_fault};
 use plan_file::PlanTextError;
 use std::alloc::Global;
 use std::test::Fail;
@@ -18,23 +18,32 @@ struct OneText {
 impl ReadText for OneText {
     ghost has = { λ text path octets. (string_bytes text.path ≡ path) × (text.octets.items ≡ octets) };
 
-    fn read_text(&self, alloc: Global, path: &str) -> Option<Vec<u8>> {
+    fn read_text(&self, alloc: Global, path: &str) -> Result<Vec<u8>, Reason> {
         if self.path.as_str() != path {
-            return None;
+            return Err(Reason::NoSuchFile);
         }
-        Vec::from_slice(alloc, &self.octets).ok()
+        Vec::from_slice(alloc, &self.octets).map_err(|_| Reason::OutOfMemory)
     }
 }
 
 // What is told of the plan of octets at the path "plan" that is read at this path, and behind it the plan's
 // length, if there is one.
-fn loaded(alloc: Global, octets: &[u8], path: &str) -> Result<Vec<u8>, Fail> {
+fn loaded(
+    alloc: Global,
+    octets: &[u8],
+    path: &str,
+    verbose: bool,
+) -> Result<Vec<u8>, Fail> {
     let text = OneText {
         path: String::from_str(alloc, "plan")?,
         octets: Vec::from_slice(alloc, octets)?,
     };
+    let telling = Telling {
+        verbose,
+        strict: false,
+    };
     let mut err = Vec::new(alloc);
-    if let Some(plan) = load_plan(&text, alloc, path, &mut err) {
+    if let Some(plan) = load_plan(&text, alloc, path, telling, &mut err) {
         let length = format!(in alloc; "{}", plan.length())?;
         err.extend_from_slice(length.as_bytes())?;
     }
@@ -44,16 +53,18 @@ fn loaded(alloc: Global, octets: &[u8], path: &str) -> Result<Vec<u8>, Fail> {
 #[test]
 fn loads_plans_of_texts(rt: HostRuntime) -> Result<(), Fail> {
     let plan = BY_SOURCE.as_bytes();
-    for (path, octets, want) in [
-        ("plan", plan, "60000"),
-        ("none", plan, "collectd: open: none\n"),
+    for (path, octets, verbose, want) in [
+        ("plan", plan, true, "60000"),
+        ("none", plan, false, "collectd: open: none\n"),
+        ("none", plan, true, "collectd: open: none: no such file\n"),
         (
             "plan",
             b"\n\xff".as_slice(),
+            false,
             "collectd: plan: fault 1 NotToml\ncollectd: plan: line 2: not UTF-8\n",
         ),
     ] {
-        let text = loaded(rt.alloc(), octets, path)?;
+        let text = loaded(rt.alloc(), octets, path, verbose)?;
         assert_eq!(rt; text.as_slice(), want.as_bytes());
     }
     Ok(())

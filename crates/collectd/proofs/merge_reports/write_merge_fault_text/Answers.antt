@@ -1,4 +1,4 @@
-use Rattle.collectd.proofs.merge_reports.write_file_fault.Goals as goal
+use Rattle.collectd.proofs.merge_reports.write_merge_fault_text.Goals as goal
 
 pub returns-in-Session : goal.returns-in-Session
 returns-in-Session g c = rw c.in-Session.is (rw (c.number.ensures, c.name.ensures) at c.write_inner.ensures)
