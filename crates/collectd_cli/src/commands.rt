@@ -5,6 +5,7 @@ use crate::inputs::{
     Collecting, buffered_output, read_collecting, read_idle, read_job, read_paths, read_progress,
     read_telling, table_output,
 };
+use crate::noted::Noted;
 use clap::ArgMatches;
 use collectd::{
     DumpFault, Origin, Reason, Telling, run_dump_in_full, run_dump_json_in_full, run_files_in_full,
@@ -13,7 +14,7 @@ use collectd::{
 use exit_status::Status;
 use fault_guide::run_explain;
 use ipfix_session::FromReader;
-use std::io::Stderr;
+use std::io::{BufWriter, Stderr, Stdout};
 use std::net::TcpListener;
 use std::rt::Clock;
 use std::sync::Wait;
@@ -26,28 +27,32 @@ pub fn dump(rt: &HostRuntime, chosen: &ArgMatches) -> Result<u8, Status> {
         let _ = write_dump_fault(DumpFault::OutOfMemory, &mut err);
         return Err(Status::Failed);
     };
-    let mut source = FromReader::new(rt.stdin());
+    let mut input = Noted::new(rt.stdin());
+    let mut source = FromReader::new(&mut input);
     let telling = read_telling(chosen);
-    match chosen.get_str("format").and_then(dump_format) {
-        Some(DumpFormat::Text) => Ok(run_dump_in_full(
+    let status = match chosen.get_str("format").and_then(dump_format) {
+        Some(DumpFormat::Text) => run_dump_in_full(
             rt.alloc(),
             &mut source,
             &Origin::Unknown,
             telling,
             &mut out,
             &mut err,
-        )),
-        Some(DumpFormat::Json) => Ok(run_dump_json_in_full(
+        ),
+        Some(DumpFormat::Json) => run_dump_json_in_full(
             rt.alloc(),
             &mut source,
             &Origin::Unknown,
             telling,
             &mut out,
             &mut err,
-        )),
+        ),
         // (the parser lets no other word through)
-        None => Err(Status::NotOpened),
-    }
+        None => return Err(Status::NotOpened),
+    };
+    write_refused(telling, "read", "standard input", input.refused(), &mut err);
+    write_refused_output(telling, &out, &mut err);
+    Ok(status)
 }
 
 /// `collectd files`: the table of the sessions in files to standard output.
@@ -64,7 +69,7 @@ pub fn files<R: Clock + Threads + Wait + Sync>(
         mut out,
         terminal,
     } = read_collecting(rt, chosen, &mut err)?;
-    Ok(run_files_in_full(
+    let status = run_files_in_full(
         threads,
         rt.alloc(),
         rt,
@@ -76,7 +81,9 @@ pub fn files<R: Clock + Threads + Wait + Sync>(
         read_telling(chosen),
         &mut out,
         &mut err,
-    ))
+    );
+    write_refused_output(read_telling(chosen), &out, &mut err);
+    Ok(status)
 }
 
 /// `collectd tcp`: the table of the sessions that come over connections to standard output.
@@ -95,7 +102,7 @@ pub fn tcp<R: Clock + Threads + Wait + Sync>(
         terminal,
     } = read_collecting(rt, chosen, &mut err)?;
     let listener = listen(rt, addr, read_telling(chosen), &mut err)?;
-    Ok(run_tcp_in_full(
+    let status = run_tcp_in_full(
         threads,
         rt.alloc(),
         listener,
@@ -109,7 +116,9 @@ pub fn tcp<R: Clock + Threads + Wait + Sync>(
         read_telling(chosen),
         &mut out,
         &mut err,
-    ))
+    );
+    write_refused_output(read_telling(chosen), &out, &mut err);
+    Ok(status)
 }
 
 // A listener on an address. If it can't be had, `err` has a line.
@@ -135,7 +144,7 @@ pub fn merge(rt: &HostRuntime, chosen: &ArgMatches) -> Result<u8, Status> {
     let paths = read_paths(chosen, &mut err)?;
     let job = read_job(rt, chosen).ok_or(Status::NotOpened)?;
     let mut out = table_output(rt, &mut err)?;
-    Ok(run_merge_in_full(
+    let status = run_merge_in_full(
         rt,
         rt.alloc(),
         paths,
@@ -144,7 +153,29 @@ pub fn merge(rt: &HostRuntime, chosen: &ArgMatches) -> Result<u8, Status> {
         read_telling(chosen),
         &mut out,
         &mut err,
-    ))
+    );
+    write_refused_output(read_telling(chosen), &out, &mut err);
+    Ok(status)
+}
+
+// Why the system did not take octets of standard output, as `write_refused` says it.
+fn write_refused_output(telling: Telling, out: &BufWriter<Noted<Stdout>>, err: &mut Stderr) {
+    let refused = out.get_ref().refused();
+    write_refused(telling, "write", "standard output", refused, err);
+}
+
+// Why the system did not give or take octets of a stream: if there is a reason and `telling` is verbose, `err`
+// has a line.
+fn write_refused(
+    telling: Telling,
+    what: &str,
+    name: &str,
+    refused: Option<Reason>,
+    err: &mut Stderr,
+) {
+    if let (true, Some(reason)) = (telling.verbose, refused) {
+        let _ = write_not_had_because(telling, what, name, reason, err);
+    }
 }
 
 /// `collectd explain`: what is told of a fault, or the list of all, to standard output.

@@ -1,6 +1,7 @@
 //! What a command is told, and where its table goes.
 
 use crate::formats::table_format;
+use crate::noted::Noted;
 use crate::progress_output::{ProgressOutput, open_terminal};
 use crate::timers::ask_for_short_sleeps;
 use clap::ArgMatches;
@@ -17,12 +18,15 @@ use std::time::Duration;
 const OUTPUT_BUFFER: usize = 1 << 16;
 
 /// Standard output behind a buffer. Only memory can be refused here.
-pub fn buffered_output(rt: &HostRuntime) -> Option<BufWriter<Stdout>> {
-    BufWriter::with_capacity(rt.alloc(), OUTPUT_BUFFER, rt.stdout()).ok()
+pub fn buffered_output(rt: &HostRuntime) -> Option<BufWriter<Noted<Stdout>>> {
+    BufWriter::with_capacity(rt.alloc(), OUTPUT_BUFFER, Noted::new(rt.stdout())).ok()
 }
 
 /// The same for a table. If there is none, `err` has a line.
-pub fn table_output(rt: &HostRuntime, err: &mut Stderr) -> Result<BufWriter<Stdout>, Status> {
+pub fn table_output(
+    rt: &HostRuntime,
+    err: &mut Stderr,
+) -> Result<BufWriter<Noted<Stdout>>, Status> {
     let Some(out) = buffered_output(rt) else {
         let _ = write_export_fault(ExportFault::OutOfMemory, err);
         return Err(Status::Failed);
@@ -39,7 +43,8 @@ pub struct Job {
 
 /// The plan, which is read here, and the options. If there is no plan, standard error has a line.
 pub fn read_job(rt: &HostRuntime, chosen: &ArgMatches) -> Option<Job> {
-    let plan = load_plan(rt, rt.alloc(), chosen.get_str("plan")?, &mut rt.stderr())?;
+    let path = chosen.get_str("plan")?;
+    let plan = load_plan(rt, rt.alloc(), path, read_telling(chosen), &mut rt.stderr())?;
     let time = chosen.get_one::<u32>("time")?;
     let format = table_format(chosen.get_str("format")?)?;
     Some(Job {
@@ -53,7 +58,7 @@ pub fn read_job(rt: &HostRuntime, chosen: &ArgMatches) -> Option<Job> {
 pub struct Collecting {
     pub job: Job,
     pub pool: Pool,
-    pub out: BufWriter<Stdout>,
+    pub out: BufWriter<Noted<Stdout>>,
     /// The terminal, if progress is asked for once and there is one.
     pub terminal: Option<File>,
 }

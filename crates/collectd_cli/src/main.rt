@@ -4,6 +4,7 @@
 mod commands;
 mod formats;
 mod inputs;
+mod noted;
 mod progress_output;
 mod timers;
 
