@@ -7,3 +7,4 @@ pub mod Merges
 pub mod CollectLines
 -- What only inner functions and proofs need.
 pub mod MergeLines
+pub mod Limits

@@ -5,6 +5,7 @@ mod collect_fault;
 mod commands;
 mod early;
 mod full_run;
+mod limits;
 mod merge_reports;
 mod plan;
 mod sources;
@@ -19,6 +20,7 @@ pub use exit_status::Status;
 pub use full_run::run_in_full;
 pub use ipfix_dump::{DumpFault, dump, dump_json};
 pub use ipfix_session::MessageCounter;
+pub use limits::write_limit;
 pub use plan::{ReadText, load_plan};
 pub use run_reports::{
     Origin, Reason, Telling, write_dump_fault, write_export_fault, write_not_had,

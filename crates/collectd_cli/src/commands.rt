@@ -9,10 +9,11 @@ use crate::noted::Noted;
 use clap::ArgMatches;
 use collectd::{
     DumpFault, Origin, Reason, Telling, run_dump_in_full, run_dump_json_in_full, run_files_in_full,
-    run_merge_in_full, run_tcp_in_full, write_dump_fault, write_not_had_because,
+    run_merge_in_full, run_tcp_in_full, write_dump_fault, write_limit, write_not_had_because,
 };
 use exit_status::Status;
 use fault_guide::run_explain;
+use flow_collect::Pool;
 use ipfix_session::FromReader;
 use std::io::{BufWriter, Stderr, Stdout};
 use std::net::TcpListener;
@@ -83,6 +84,7 @@ pub fn files<R: Clock + Threads + Wait + Sync>(
         &mut err,
     );
     write_refused_output(read_telling(chosen), &out, &mut err);
+    write_refused_pool(status, read_telling(chosen), pool, paths.len(), &mut err);
     Ok(status)
 }
 
@@ -118,6 +120,13 @@ pub fn tcp<R: Clock + Threads + Wait + Sync>(
         &mut err,
     );
     write_refused_output(read_telling(chosen), &out, &mut err);
+    write_refused_pool(
+        status,
+        read_telling(chosen),
+        pool,
+        sessions as usize,
+        &mut err,
+    );
     Ok(status)
 }
 
@@ -162,6 +171,13 @@ pub fn merge(rt: &HostRuntime, chosen: &ArgMatches) -> Result<u8, Status> {
 fn write_refused_output(telling: Telling, out: &BufWriter<Noted<Stdout>>, err: &mut Stderr) {
     let refused = out.get_ref().refused();
     write_refused(telling, "write", "standard output", refused, err);
+}
+
+// What a pool and that many sessions may be, if the run failed by them: `err` has a line if `telling` is verbose.
+fn write_refused_pool(status: u8, telling: Telling, pool: Pool, sessions: usize, err: &mut Stderr) {
+    if status == Status::Failed.number() {
+        let _ = write_limit(telling, pool, sessions, err);
+    }
 }
 
 // Why the system did not give or take octets of a stream: if there is a reason and `telling` is verbose, `err`
