@@ -6,16 +6,16 @@ use crate::inputs::{
     read_telling, table_output,
 };
 use crate::noted::Noted;
+use crate::refused::{write_refused, write_refused_output, write_refused_pool};
 use clap::ArgMatches;
 use collectd::{
-    DumpFault, Origin, Reason, Telling, run_dump_in_full, run_dump_json_in_full, run_files_in_full,
-    run_merge_in_full, run_tcp_in_full, write_dump_fault, write_limit, write_not_had_because,
+    DumpFault, Listening, Origin, Reason, Telling, run_dump_in_full, run_dump_json_in_full,
+    run_files_in_full, run_merge_in_full, run_tcp_in_full, write_dump_fault, write_not_had_because,
 };
 use exit_status::Status;
 use fault_guide::run_explain;
-use flow_collect::Pool;
 use ipfix_session::FromReader;
-use std::io::{BufWriter, Stderr, Stdout};
+use std::io::Stderr;
 use std::net::TcpListener;
 use std::rt::Clock;
 use std::sync::Wait;
@@ -70,10 +70,11 @@ pub fn files<R: Clock + Threads + Wait + Sync>(
         mut out,
         terminal,
     } = read_collecting(rt, chosen, &mut err)?;
+    let mut files = rt;
     let status = run_files_in_full(
         threads,
         rt.alloc(),
-        rt,
+        &mut files,
         paths,
         &job.plan,
         pool,
@@ -103,11 +104,11 @@ pub fn tcp<R: Clock + Threads + Wait + Sync>(
         mut out,
         terminal,
     } = read_collecting(rt, chosen, &mut err)?;
-    let listener = listen(rt, addr, read_telling(chosen), &mut err)?;
+    let mut listener = listen(rt, addr, read_telling(chosen), &mut err)?;
     let status = run_tcp_in_full(
         threads,
         rt.alloc(),
-        listener,
+        &mut listener,
         addr,
         sessions as usize,
         read_idle(chosen),
@@ -136,9 +137,9 @@ fn listen(
     addr: &str,
     telling: Telling,
     err: &mut Stderr,
-) -> Result<TcpListener, Status> {
+) -> Result<Listening, Status> {
     match TcpListener::bind(rt, addr) {
-        Ok(listener) => Ok(listener),
+        Ok(listener) => Ok(Listening::new(listener)),
         Err(error) => {
             let reason = Reason::of(&error);
             let _ = write_not_had_because(telling, "listen", addr, reason, err);
@@ -153,8 +154,9 @@ pub fn merge(rt: &HostRuntime, chosen: &ArgMatches) -> Result<u8, Status> {
     let paths = read_paths(chosen, &mut err)?;
     let job = read_job(rt, chosen).ok_or(Status::NotOpened)?;
     let mut out = table_output(rt, &mut err)?;
+    let mut files = rt;
     let status = run_merge_in_full(
-        rt,
+        &mut files,
         rt.alloc(),
         paths,
         &job.plan,
@@ -165,33 +167,6 @@ pub fn merge(rt: &HostRuntime, chosen: &ArgMatches) -> Result<u8, Status> {
     );
     write_refused_output(read_telling(chosen), &out, &mut err);
     Ok(status)
-}
-
-// Why the system did not take octets of standard output, as `write_refused` says it.
-fn write_refused_output(telling: Telling, out: &BufWriter<Noted<Stdout>>, err: &mut Stderr) {
-    let refused = out.get_ref().refused();
-    write_refused(telling, "write", "standard output", refused, err);
-}
-
-// What a pool and that many sessions may be, if the run failed by them: `err` has a line if `telling` is verbose.
-fn write_refused_pool(status: u8, telling: Telling, pool: Pool, sessions: usize, err: &mut Stderr) {
-    if status == Status::Failed.number() {
-        let _ = write_limit(telling, pool, sessions, err);
-    }
-}
-
-// Why the system did not give or take octets of a stream: if there is a reason and `telling` is verbose, `err`
-// has a line.
-fn write_refused(
-    telling: Telling,
-    what: &str,
-    name: &str,
-    refused: Option<Reason>,
-    err: &mut Stderr,
-) {
-    if let (true, Some(reason)) = (telling.verbose, refused) {
-        let _ = write_not_had_because(telling, what, name, reason, err);
-    }
 }
 
 /// `collectd explain`: what is told of a fault, or the list of all, to standard output.

@@ -6,6 +6,7 @@ mod formats;
 mod inputs;
 mod noted;
 mod progress_output;
+mod refused;
 mod timers;
 
 use clap::ArgMatches;
