@@ -15,6 +15,7 @@ pub mod Drives
 pub mod Intake
 pub mod Tallies
 pub mod Accounts
+pub mod Rooms
 pub mod Puts
 pub mod Buffers
 pub mod CounterPlaces

@@ -12,10 +12,15 @@ use ipfix_message::PassedOver;
 /// What is kept of a domain's messages. The counts stop at `u64::MAX`.
 #[derive(Clone, Copy)]
 pub struct Account {
+    /// Its data records.
     pub count: u64,
+    /// Those that its sequence numbers say were lost.
     pub lost: u64,
+    /// How often a sequence number went backward.
     pub backward: u64,
+    /// The sets and withdrawals that gave nothing.
     pub passed_over: PassedOver,
+    /// Data records behind messages that had an unknown set.
     pub unaccounted: u64,
     /// The sequence number that is due next, if the last message tells it.
     pub due: Option<u32>,
@@ -57,8 +62,9 @@ pub fn next_after(sequence: u32, records: u64, unknown_sets: u64) -> (Option<u32
     }
 }
 
-// The records that were lost before a sequence number, and whether it is a step backward: 1 if it is.
-fn lost_before(due: Option<u32>, sequence: u32) -> (u64, u64)
+/// The records that were lost before a sequence number, where this one is due, and whether it is a step
+/// backward: 1 if it is (RFC 7011, section 3.1). Where none is due both are 0.
+pub fn lost_before(due: Option<u32>, sequence: u32) -> (u64, u64)
     ensures lost { result.0 ≡ lost_at due sequence }
     ensures backward { result.1 ≡ backward_at due sequence }
 {
@@ -73,8 +79,9 @@ fn lost_before(due: Option<u32>, sequence: u32) -> (u64, u64)
     }
 }
 
-// The gap up to a sequence number behind a message that had an unknown set.
-fn unaccounted_before(unsure: Option<u32>, sequence: u32) -> u64
+/// The gap up to a sequence number behind a message that had an unknown set, modulo 2^32; 0 behind
+/// another.
+pub fn unaccounted_before(unsure: Option<u32>, sequence: u32) -> u64
     ensures { result ≡ unaccounted_at unsure sequence }
 {
     match unsure {
@@ -84,6 +91,7 @@ fn unaccounted_before(unsure: Option<u32>, sequence: u32) -> u64
 }
 
 impl Account {
+    /// The account of no messages.
     pub const EMPTY: Account = Account {
         count: 0,
         lost: 0,

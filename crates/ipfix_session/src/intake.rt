@@ -71,7 +71,7 @@ impl Intake {
             (λ fault. CanTakeNoMore K.seen fault old text before sink.new self.new) }
     {
         let decoded = self.domains.decode_with_header(alloc, header, message)?;
-        self.tally.ledger.make_room()?;
+        self.tally.ledger.make_room(1)?;
         let passed_over = decoded.passed_over();
         let count = decoded.records.len() as u64;
         put_all(decoded.records, &mut self.tally.delivered, sink)?;

@@ -1,6 +1,6 @@
 //! The loss ledger of a session: what the sequence numbers of its messages say (RFC 7011, section 3.1).
 
-ghost use Rattle.std.specs.Prelude.{◌≡◌, ◌<◌, ◌≤◌, ◌++◌, ◌∷◌, [], List, OnOk, OnErr, vec_len, nat_eq, map, unwrap_or};
+ghost use Rattle.std.specs.Prelude.{◌≡◌, ◌+◌, ◌<◌, ◌≤◌, ◌++◌, ◌∷◌, [], List, OnOk, nat_eq, map, unwrap_or};
 ghost use Rattle.std.specs.Vec.{vec_capacity};
 ghost use Rattle.indexmap.specs.IndexMap.{get, spare, index_map_len};
 ghost use Rattle.ipfix_message.specs.Domains.{Message};
@@ -28,6 +28,7 @@ pub struct Ledger {
 }
 
 impl Ledger {
+    /// A ledger of no messages.
     pub fn new(alloc: Global) -> Self
         ensures { result.accounts.entries ≡ [] }
     {
@@ -38,20 +39,24 @@ impl Ledger {
         }
     }
 
-    /// Makes room for one more domain.
-    pub fn make_room(&mut self) -> Result<(), AllocError>
+    /// Makes room for the domains of `messages` more messages.
+    pub fn make_room(&mut self, messages: usize) -> Result<(), AllocError>
         ensures same { self.new.accounts.entries ≡ self.old.accounts.entries }
-        ensures ok { OnOk result ((0 < spare self.new.accounts)
-            × (index_map_len self.new.accounts < vec_capacity self.new.reports)
-            × (index_map_len self.new.accounts < vec_capacity self.new.balances)) }
+        ensures accounts { OnOk result (messages ≤ spare self.new.accounts) }
+        ensures reports { OnOk result
+            (index_map_len self.new.accounts + messages ≤ vec_capacity self.new.reports) }
+        ensures balances { OnOk result
+            (index_map_len self.new.accounts + messages ≤ vec_capacity self.new.balances) }
     {
-        self.accounts.reserve(1)?;
-        self.reports.reserve(self.accounts.len() + 1)?;
-        self.balances.reserve(self.accounts.len() + 1)
+        self.accounts.reserve(messages)?;
+        let domains = self.accounts.len().checked_add(messages);
+        let domains = domains.ok_or(AllocError)?;
+        self.reports.reserve(domains)?;
+        self.balances.reserve(domains)
     }
 
-    // The account of a domain, or an empty one.
-    fn account(&self, domain: u32) -> Account
+    /// The account of a domain, or an empty one.
+    pub fn account(&self, domain: u32) -> Account
         ensures { result ≡ unwrap_or (get nat_eq self.now.accounts domain) (account_of []) }
     {
         self.accounts
@@ -65,7 +70,12 @@ impl Ledger {
         requires account { 0 < spare self.old.accounts }
         requires report { index_map_len self.old.accounts < vec_capacity self.old.reports }
         requires balance { index_map_len self.old.accounts < vec_capacity self.old.balances }
-        ensures { (ms : List Message) (m : Message) → self.old.accounts.entries ≡ accounts_of ms
+        // It takes the room of one domain at most.
+        ensures spare { spare self.old.accounts ≤ spare self.new.accounts + 1 }
+        ensures domains { index_map_len self.new.accounts ≤ index_map_len self.old.accounts + 1 }
+        ensures reports { vec_capacity self.new.reports ≡ vec_capacity self.old.reports }
+        ensures balances { vec_capacity self.new.balances ≡ vec_capacity self.old.balances }
+        ensures taken { (ms : List Message) (m : Message) → self.old.accounts.entries ≡ accounts_of ms
             → m.header ≡ header.now → count_in m ≡ records
             → m.decoding.passed_over ≡ passed_over
             → self.new.accounts.entries ≡ accounts_of (ms ++ m ∷ []) }

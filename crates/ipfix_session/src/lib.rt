@@ -20,9 +20,11 @@ mod source;
 mod stop;
 mod tally;
 
+pub use account::{Account, lost_before, unaccounted_before};
 pub use buffer::fill;
 pub use driver::{READ_LIMIT, READ_SIZE, drive, drive_in_full};
 pub use fault::SessionFault;
+pub use ledger::Ledger;
 pub use message_counter::MessageCounter;
 pub use message_stream::{FirstMessage, LONGEST_MESSAGE, next_message};
 pub use reader::FromReader;
@@ -31,3 +33,4 @@ pub use script::ScriptSource;
 pub use session::Session;
 pub use sink::{Sink, VecSink};
 pub use source::{ReadError, Source};
+pub use tally::Tally;

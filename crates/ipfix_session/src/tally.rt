@@ -1,13 +1,12 @@
 //! What the messages of a session gave, counted.
 
-ghost use Rattle.std.specs.Prelude.{◌≡◌, ◌<◌, ◌++◌, ◌∷◌, [], ℕ, List, vec_len};
-ghost use Rattle.std.specs.Vec.{vec_capacity};
-ghost use Rattle.indexmap.specs.IndexMap.{spare, index_map_len};
+ghost use Rattle.std.specs.Prelude.{◌≡◌, ◌+◌, ◌++◌, ◌∷◌, [], ℕ, List};
 ghost use Rattle.ipfix_message.specs.Domains.{Message};
 ghost use Rattle.ipfix_session.specs.Feeding.{Tells};
 ghost use Rattle.ipfix_session.specs.Intake.{counts_of};
 ghost use Rattle.ipfix_session.specs.Ledger.{count_in};
 ghost use Rattle.ipfix_session.specs.Places.{ReportsInFull};
+ghost use Rattle.ipfix_session.specs.Rooms.{HasRoom};
 
 use crate::account::{NOTHING, add_up};
 use crate::fault::SessionFault;
@@ -20,15 +19,20 @@ use std::alloc::Global;
 /// The counts of a session. They stop at `u64::MAX`.
 #[derive(Drop)]
 pub struct Tally {
+    /// Messages whose records were all delivered.
     pub messages: u64,
     /// The octets of these messages.
     pub octets: u64,
+    /// Data records that were delivered.
     pub delivered: u64,
+    /// What the messages passed over.
     pub passed_over: PassedOver,
+    /// The accounts of their domains.
     pub ledger: Ledger,
 }
 
 impl Tally {
+    /// The counts of no messages.
     pub fn new(alloc: Global) -> Self
         ensures { Tells (counts_of result) [] 0 }
     {
@@ -43,12 +47,10 @@ impl Tally {
 
     /// Counts a message whose records, so many, were all delivered.
     pub fn take(&mut self, header: &Header, records: u64, passed_over: PassedOver)
-        requires account { 0 < spare self.old.ledger.accounts }
-        requires report { index_map_len self.old.ledger.accounts
-            < vec_capacity self.old.ledger.reports }
-        requires balance { index_map_len self.old.ledger.accounts
-            < vec_capacity self.old.ledger.balances }
-        ensures { (ms : List Message) (m : Message) (delivered : ℕ)
+        requires { HasRoom self.old.ledger 1 }
+        ensures room { (more : ℕ) → HasRoom self.old.ledger (more + 1)
+            → HasRoom self.new.ledger more }
+        ensures tells { (ms : List Message) (m : Message) (delivered : ℕ)
             → Tells (counts_of self.old) ms delivered
             → m.header ≡ header.now → count_in m ≡ records → m.decoding.passed_over ≡ passed_over
             → Tells (counts_of self.new) (ms ++ m ∷ []) delivered }

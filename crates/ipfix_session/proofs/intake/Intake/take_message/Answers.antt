@@ -26,4 +26,4 @@ returns g c = λ old text left rest before r begins.
     let puts = tells_put g.K.Sink.seen c.args.sink.now c.put_all.new.sink (counts_of c.args.self.now.tally) c.make_room.new.self.accounts.entries c.put_all.new.delivered r.whole c.in_ok-decoded.decoded.records.items x
     r.puts.tells read.2.records c.in_ok-make_room.ensures.same c.in_ok-put_all.ensures in
     reaches_on g.K.Sink.seen old text left c.args.message.now rest before c.args.sink.now c.put_all.new.sink (counts_of c.args.self.now.tally) _ c.args.self.now.domains c.decode_with_header.new.self
-    r begins x read.1 puts.0 (c.take.ensures r.whole x _ puts.1 (sym read.2.header) (ap length (sym read.2.records) ∙ sym size) (sym read.2.passed_over ∙ sym c.passed_over-passed_over.ensures)) c.in_ok-decoded.ensures.ok read.3
+    r begins x read.1 puts.0 (c.take.ensures.tells r.whole x _ puts.1 (sym read.2.header) (ap length (sym read.2.records) ∙ sym size) (sym read.2.passed_over ∙ sym c.passed_over-passed_over.ensures)) c.in_ok-decoded.ensures.ok read.3

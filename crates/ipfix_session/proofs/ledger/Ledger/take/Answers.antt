@@ -4,8 +4,8 @@ use Rattle.ipfix_wire.specs.declared.header.Header.{Header}
 use Rattle.ipfix_session.proofs.Accounts.{taken}
 use Rattle.ipfix_session.proofs.ledger.Ledger.take.Goals as goal
 
-pub returns : goal.returns
-returns c = λ ms m are is_header is_count is_over.
+pub returns-clause-taken : goal.returns-clause-taken
+returns-clause-taken c = λ ms m are is_header is_count is_over.
     let inserted = rw c.unwrap.ensures at c.insert.ensures.entries in
     let sequence = ap (λ (h : Header). h.sequence) is_header in
     let next = c.next_after-next.ensures m sequence is_count (ap (λ (p : PassedOver). p.unknown_sets) is_over) in
