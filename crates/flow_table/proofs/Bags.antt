@@ -1,5 +1,6 @@
 -- Sums and numbers of flows over lists of records, in whatever order.
 use Rattle.std.proofs.Common.{◌≡◌, ℕ, ◌+◌, ◌≤◌, inl, inr, Bool, true, false, cond, List, [], ◌∷◌, ◌++◌, length, length-append, map, sum_by, filter, refl, sym, ap, ◌∙◌, arith}
+use Rattle.std.specs.List.{range_with_len}
 use Rattle.std.proofs.lemmas.List.Sums.{sum_by-append, sum_by-cons, length-filter}
 use Rattle.std.proofs.lemmas.List.Elements.{filter-append, All-weaker}
 use Rattle.std.proofs.lemmas.List.Sorted.{sum_by-IsPermutation}
@@ -12,9 +13,13 @@ use Rattle.flow_table.specs.declared.class.Class.TheVariants.{Options, Untimed, 
 use Rattle.flow_table.specs.declared.table.Row.{Row}
 use Rattle.flow_table.specs.declared.table.Table.{Table}
 use Rattle.flow_table.specs.Bags.{IsSameBag, IsInterleaving, neither, from_first, from_second}
+use Rattle.flow_table.specs.Missing.{how_many, lacks_start, lacks_end, lacks_key, lacks_counter, missing_of}
+use Rattle.flow_table.specs.declared.plan.TheConstants.{MAX_KEYS, MAX_COUNTERS}
 use Rattle.flow_table.specs.Plans.{PlanValue}
-use Rattle.flow_table.specs.Reading.{class_of}
-use Rattle.flow_table.specs.Tables.{is_class, count_of, tally_of, contributes, share_of, sum_at, flows_at, IsTooLarge, IsRow, IsTable}
+use Rattle.flow_table.specs.Reading.{is_class, class_of}
+use Rattle.flow_table.specs.Tables.{count_of, tally_of, contributes, share_of, sum_at, flows_at, IsTooLarge, IsRow, IsTable}
+use Rattle.flow_table.proofs.Lacking.{same_missing}
+use Rattle.flow_table.proofs.Sums.{same_map}
 
 -- ---- what is the same bag
 
@@ -142,6 +147,17 @@ tally-bag plan rs qs h =
     let used = count_of-bag plan rs qs h Used in
     cc
 
+how_many-bag : (rs qs : List DataRecord) → IsSameBag rs qs → (test : DataRecord → Bool) → how_many test rs ≡ how_many test qs
+unfolding how_many
+how_many-bag rs qs h test = same_length rs qs h test
+
+missing-bag : (plan : PlanValue) (rs qs : List DataRecord) → IsSameBag rs qs → missing_of plan rs ≡ missing_of plan qs
+unfolding missing_of
+missing-bag plan rs qs h =
+    same_missing _ _ _ _ _ _ _ _ (how_many-bag rs qs h (lacks_start plan)) (how_many-bag rs qs h (lacks_end plan))
+    (same_map (λ k. how_many (lacks_key plan k) rs) (λ k. how_many (lacks_key plan k) qs) (λ k. how_many-bag rs qs h (lacks_key plan k)) (range_with_len 0 MAX_KEYS))
+    (same_map (λ c. how_many (lacks_counter plan c) rs) (λ c. how_many (lacks_counter plan c) qs) (λ c. how_many-bag rs qs h (lacks_counter plan c)) (range_with_len 0 MAX_COUNTERS))
+
 pub table_bag : (plan : PlanValue) (rs qs : List DataRecord) (table : Table) → IsSameBag rs qs → IsTable plan rs table → IsTable plan qs table
 table_bag plan rs qs table h is_table =
     record {
@@ -149,4 +165,5 @@ table_bag plan rs qs table h is_table =
       rows = All-weaker (IsRow plan rs) (IsRow plan qs) (row-bag plan rs qs h) table.rows.items is_table.rows;
       complete = λ k key some. is_table.complete k key (omega (arith, some, flows_at-bag plan rs qs h k key));
       tally = is_table.tally ∙ tally-bag plan rs qs h;
+      missing = is_table.missing ∙ missing-bag plan rs qs h;
     }

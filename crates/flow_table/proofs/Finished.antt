@@ -10,6 +10,7 @@ use Rattle.ipfix_message.specs.declared.record.DataRecord.{DataRecord}
 use Rattle.std.specs.declared.cmp.Ordering.TheVariants.{Less}
 use Rattle.flow_table.specs.declared.table.Row.{Row}
 use Rattle.flow_table.specs.declared.table.Table.{Table}
+use Rattle.flow_table.specs.Missing.{missing_of}
 use Rattle.flow_table.specs.Plans.{PlanValue}
 use Rattle.flow_table.specs.Tables.{place_of, place_cmp, flows_at, sum_at, tally_of, IsRow, IsTable}
 use Rattle.flow_table.specs.Totals.{Total, total}
@@ -73,8 +74,8 @@ some_totals plan rs k q some =
 
 -- the rows of all totals of a list are the table of that list
 pub finished : (plan : PlanValue) (rs : List DataRecord) (kept : ℕ → List Cell → Option Total) (table : Table)
-    → ((k : ℕ) (key : List Cell) → kept k key ≡ totals_at plan rs k key) → AreLinesOf kept (map line_of table.rows.items) → table.tally ≡ tally_of plan rs → IsTable plan rs table
-finished plan rs kept table totals_are lines tally_is =
+    → ((k : ℕ) (key : List Cell) → kept k key ≡ totals_at plan rs k key) → AreLinesOf kept (map line_of table.rows.items) → table.tally ≡ tally_of plan rs → table.missing ≡ missing_of plan rs → IsTable plan rs table
+finished plan rs kept table totals_are lines tally_is missing_is =
     record {
       ascending = places_ascend table.rows.items lines.ascend;
       rows = rows_are plan rs table.rows.items (λ i d within. sym (totals_are _ _) ∙ lines.own i d within);
@@ -82,4 +83,5 @@ finished plan rs kept table totals_are lines tally_is =
           subst (λ (ps : List (ℕ × List Cell)). Contains ps (k, q)) (sym (places_of_lines table.rows.items))
           (lines.complete k q _ (totals_are k q ∙ some_totals plan rs k q some));
       tally = tally_is;
+      missing = missing_is;
     }

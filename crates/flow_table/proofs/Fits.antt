@@ -28,12 +28,13 @@ use Rattle.flow_table.specs.declared.table.Table.{Table}
 use Rattle.flow_table.specs.Fitting.{IsCellOf, FitsKeys, FitsRow, FitsPlan, KeysFit}
 use Rattle.flow_table.specs.Intervals.{covers}
 use Rattle.flow_table.specs.Plans.{PlanValue, IsPlan, is_key_kind}
-use Rattle.flow_table.specs.Reading.{projected, cell_of, cells_of, key_of, class_of}
+use Rattle.flow_table.specs.Reading.{is_class, projected, cell_of, cells_of, key_of, class_of}
 use Rattle.flow_table.specs.Readings.{ReadsAs}
 use Rattle.flow_table.specs.declared.reading.Reading.{Reading}
 use Rattle.flow_table.specs.declared.reading.Reading.TheVariants as readings
-use Rattle.flow_table.specs.Tables.{is_class, begin_of, finish_of, key_cmp, is_key, contributes, sum_at, flows_at, IsRow, IsTable, IsTooLarge}
+use Rattle.flow_table.specs.Tables.{begin_of, finish_of, key_cmp, is_key, contributes, sum_at, flows_at, IsRow, IsTable, IsTooLarge}
 use Rattle.flow_table.proofs.Places.{equal_from, key_equal}
+use Rattle.flow_table.proofs.Lacking.{not_used}
 use Rattle.flow_table.proofs.PlanKeys.{key_kinds_of_plan}
 use Rattle.flow_table.proofs.Sums.{flows_at-append}
 use Rattle.flow_table.proofs.UsedFlows.{used_as, begins_in_time}
@@ -245,7 +246,7 @@ pub no_keys_fit : (plan : PlanValue) → KeysFit plan []
 no_keys_fit plan k key some = absurd (no_flows plan k key some)
 
 key_fits : (plan : PlanValue) (r : DataRecord) (key q : List Cell) (reading : Reading) → ReadsAs plan r key reading → class_of plan r ≡ classes.Used → key_of plan r ≡ Some q → FitsKeys plan.keys q
-key_fits plan r key q (readings.Left class) reads used found = absurd (reads.1 (sym reads.0 ∙ used))
+key_fits plan r key q (readings.Left left_out) reads used found = absurd (not_used left_out (sym reads.class ∙ used))
 key_fits plan r key q (readings.Used span) reads used found =
     let cells = reads.0.cells in
     let same : key ≡ q = cc in

@@ -6,23 +6,28 @@ use Rattle.ipfix_elements.specs.declared.cell.Cell.{Cell}
 use Rattle.ipfix_message.specs.declared.record.DataRecord.{DataRecord}
 use Rattle.flow_table.specs.declared.class.Class.{Class}
 use Rattle.flow_table.specs.declared.class.Class.TheVariants.{Options, Untimed, Backward, Unkeyed, TooLong, Used}
+use Rattle.flow_table.specs.declared.left_out.LeftOut.{LeftOut}
+use Rattle.flow_table.specs.declared.missing.Missing.{Missing}
 use Rattle.flow_table.specs.declared.tally.Tally.{Tally}
 use Rattle.flow_table.specs.declared.table_fault.TableFault.{TableFault}
 use Rattle.flow_table.specs.declared.table_fault.TableFault.TheVariants.{OutOfMemory, SumTooLarge}
 use Rattle.flow_table.specs.declared.reading.Reading.TheVariants.{Left}
 use Rattle.flow_table.specs.Fitting.{KeysFit}
 use Rattle.flow_table.specs.Flows.{flow_part}
+use Rattle.flow_table.specs.LeftOut.{class_in, IsLeftOut}
+use Rattle.flow_table.specs.Missing.{missing_of, missing_sum, IsSmall}
 use Rattle.flow_table.specs.Plans.{PlanValue}
 use Rattle.flow_table.specs.Reading.{class_of, counter_of, IsUsed}
 use Rattle.flat_rows.specs.Rows.{Small, SomeTotalTooLarge}
 use Rattle.flow_table.specs.Rows.{AreAlike, AreRowsOf, kept_at, number_at, width_of}
 use Rattle.flow_table.specs.declared.rows.Rows.{Rows}
 use Rattle.ipfix_message.specs.Outcome.{unless}
-use Rattle.flow_table.specs.Partials.{totals_at, HoldsTable, StandsBy, tally_sum, one_of, count_in, tally}
+use Rattle.flow_table.specs.Partials.{totals_at, HoldsTable, NotesMore, StandsBy, tally_sum, one_of, count_in, tally}
 use Rattle.flow_table.specs.Tables.{count_of, flows_at, tally_of, IsTooLarge}
 use Rattle.flow_table.specs.Totals.{Total, joined, IsLargeAt}
 use Rattle.flow_table.proofs.Fits.{no_keys_fit, read_keys_fit, both_keys_fit}
 use Rattle.flow_table.proofs.Bags.{turned, too_large_bag, too_large_more as too_large_stay}
+use Rattle.flow_table.proofs.Lacking.{missing_of-append, missing_small, not_used}
 use Rattle.flow_table.proofs.Kept.{kept_small, merge_joins, merge_keeps, merge_large}
 use Rattle.flow_table.proofs.Sums.{same_tally, totals_at-append, totals_at-left, totals_at-used, tally_of-append, tally_of-one, count_of-append, too_large_at, small_from}
 
@@ -158,11 +163,11 @@ flow_large plan r s e key lent counters old (Err x) used k_is c_is large = λ sa
 
 -- ---- one record taken
 
-pub left_taken : (plan : PlanValue) (rows : Rows) (before after : Tally) (rs : List DataRecord) (r : DataRecord) (class : Class) → class_of plan r ≡ class → class ≢ Used → after ≡ tally_sum before (one_of class)
+pub left_taken : (plan : PlanValue) (rows : Rows) (before after : Tally) (rs : List DataRecord) (r : DataRecord) (why : LeftOut) → IsLeftOut plan r why → after ≡ tally_sum before (one_of (class_in why))
     → ((d : Class) → count_in after d < 2 ^ 64) → HoldsTable plan rows before rs → HoldsTable plan rows after (rs ++ r ∷ [])
-left_taken plan rows before after rs r class is other sum counts holds =
-    holds_more plan rows rows before after rs (r ∷ []) holds (read_keys_fit plan r [] (Left class) (is, other)) holds.of_plan (left_out plan rows r (λ u. other (sym is ∙ u))) (λ k q small. small)
-    (one_more plan r class before after is sum) counts
+left_taken plan rows before after rs r why is sum counts holds =
+    holds_more plan rows rows before after rs (r ∷ []) holds (read_keys_fit plan r [] (Left why) is) holds.of_plan (left_out plan rows r (λ u. not_used why (sym is.class ∙ u))) (λ k q small. small)
+    (one_more plan r (class_in why) before after is.class sum) counts
 
 pub used_taken : (plan : PlanValue) (old new : Rows) (before after : Tally) (rs : List DataRecord) (r : DataRecord) → KeysFit plan (r ∷ []) → class_of plan r ≡ Used → after ≡ tally_sum before (one_of Used)
     → ((d : Class) → count_in after d < 2 ^ 64) → (AreRowsOf plan old → AreRowsOf plan new)
@@ -249,3 +254,18 @@ small_on_ok (Err e) plan rows t rs stands = tt
 pub large_if_err : {X : Type 0} (r : Result X TableFault) (plan : PlanValue) (rows : Rows) (t : Tally) (rs : List DataRecord) → StandsBy (result_err r) plan rows t rs → IfErr r (λ e. e ≡ SumTooLarge → IsTooLarge plan rs)
 large_if_err (Ok x) plan rows t rs stands = tt
 large_if_err (Err e) plan rows t rs stands = λ large. subst (λ (f : TableFault). StandsBy (Some f) plan rows t rs) large stands
+
+-- ---- what records lack
+
+-- what more records lack is added, where there is no fault
+pub missing_after : {X : Type 0} (plan : PlanValue) (rows : Rows) (t : Tally) (rs qs : List DataRecord) (before after : Missing) (r : Result X TableFault) → before ≡ missing_of plan rs
+    → OnOk r (NotesMore plan before qs after) → result_err r ≡ None → StandsBy (result_err r) plan rows t (rs ++ qs) → after ≡ missing_of plan (rs ++ qs)
+missing_after plan rows t rs qs before after (Ok x) is notes none stands =
+    let sum : missing_sum before (missing_of plan qs) ≡ missing_of plan (rs ++ qs) = ap (λ (m : Missing). missing_sum m (missing_of plan qs)) is ∙ sym (missing_of-append plan rs qs) in
+    notes (subst IsSmall (sym sum) (missing_small plan (rs ++ qs) stands.small)) ∙ sum
+missing_after plan rows t rs qs before after (Err e) is notes none stands = cc
+
+-- what those lack that are merged in
+pub merged_missing : (plan : PlanValue) (qs : List DataRecord) (before more after : Missing) → more ≡ missing_of plan qs → (IsSmall (missing_sum before more) → after ≡ missing_sum before more) → NotesMore plan before qs after
+merged_missing plan qs before more after is together small =
+    together (subst (λ (m : Missing). IsSmall (missing_sum before m)) (sym is) small) ∙ ap (missing_sum before) is

@@ -1,11 +1,12 @@
 -- The cells of a record's key, one after another.
-use Rattle.std.proofs.Common.{◌≡◌, ℕ, zero, suc, ◌+◌, ◌<◌, List, [], ◌∷◌, ◌++◌, length, get_or, take, drop, drop-cons, append_assoc, option_map, Option, Some, None, refl, sym, ap, ◌∙◌, subst, add-one, arith}
+use Rattle.std.proofs.Common.{◌≡◌, ℕ, zero, suc, ◌+◌, ◌<◌, List, [], ◌∷◌, ◌++◌, length, get_or, take, drop, drop-cons, append_assoc, option_map, cond, is_none, Option, Some, None, refl, sym, ap, ◌∙◌, subst, add-one, arith}
 use Rattle.std.specs.List.{AllZip}
 use Rattle.ipfix_elements.specs.Elements.{kind_of}
 use Rattle.ipfix_elements.specs.declared.cell.Cell.{Cell}
 use Rattle.ipfix_elements.specs.declared.kind.Kind.{Kind}
 use Rattle.flow_table.specs.declared.key.Key.{Key}
 use Rattle.flow_table.specs.Fitting.{FitsKeys, IsCellOf}
+use Rattle.flow_table.specs.Missing.{first_without}
 use Rattle.flow_table.specs.Plans.{kinds_of}
 use Rattle.flow_table.specs.Reading.{cell_of, cells_of}
 use Rattle.ipfix_message.specs.declared.record.DataRecord.{DataRecord}
@@ -42,3 +43,26 @@ pub cells_more : (keys : List Key) (r : DataRecord) (found news : List Cell) (i 
 cells_more keys r found news i d cell inside here pushed so_far =
     let first : cells_of (drop i keys) r ≡ option_map (λ (rest : List Cell). cell ∷ rest) (cells_of (drop (i + 1) keys) r) = rw (add-one i, drop-cons keys i d) (rw (← here) refl) in
     rw pushed (so_far ∙ ap (λ (o : Option (List Cell)). option_map (λ (rest : List Cell). found ++ rest) o) first ∙ push_all found cell (cells_of (drop (i + 1) keys) r))
+
+-- the first missing key is among those that are left
+further : (i : ℕ) (o : Option ℕ) → option_map (λ (k : ℕ). i + k) (option_map (λ (k : ℕ). suc k) o) ≡ option_map (λ (k : ℕ). i + 1 + k) o
+further i None = refl
+further i (Some k) = let same : i + suc k ≡ i + 1 + k = omega arith in ap (λ (n : ℕ). Some n) same
+
+pub place_more : (keys : List Key) (r : DataRecord) (i : ℕ) (d : Key) (cell : Cell) (first : Option ℕ) → i < length keys → Some cell ≡ cell_of (get_or keys i d) r
+    → first ≡ option_map (λ (k : ℕ). i + k) (first_without (drop i keys) r) → first ≡ option_map (λ (k : ℕ). i + 1 + k) (first_without (drop (i + 1) keys) r)
+place_more keys r i d cell first inside here so_far =
+    let next : first_without (drop i keys) r ≡ option_map (λ (k : ℕ). suc k) (first_without (drop (i + 1) keys) r) =
+    ap (λ (ks : List Key). first_without ks r) (drop-cons keys i d inside)
+    ∙ ap (λ (o : Option Cell). cond (is_none o) (Some 0) (option_map (λ (k : ℕ). suc k) (first_without (drop (suc i) keys) r))) (sym here)
+    ∙ ap (λ (n : ℕ). option_map (λ (k : ℕ). suc k) (first_without (drop n keys) r)) (sym (add-one i)) in
+    so_far ∙ ap (option_map (λ (k : ℕ). i + k)) next ∙ further i (first_without (drop (i + 1) keys) r)
+
+pub place_here : (keys : List Key) (r : DataRecord) (i : ℕ) (d : Key) (first : Option ℕ) → i < length keys → None ≡ cell_of (get_or keys i d) r
+    → first ≡ option_map (λ (k : ℕ). i + k) (first_without (drop i keys) r) → first ≡ Some i
+place_here keys r i d first inside here so_far =
+    let next : first_without (drop i keys) r ≡ Some 0 =
+    ap (λ (ks : List Key). first_without ks r) (drop-cons keys i d inside)
+    ∙ ap (λ (o : Option Cell). cond (is_none o) (Some 0) (option_map (λ (k : ℕ). suc k) (first_without (drop (suc i) keys) r))) (sym here) in
+    let same : i + 0 ≡ i = omega arith in
+    so_far ∙ ap (option_map (λ (k : ℕ). i + k)) next ∙ ap (λ (n : ℕ). Some n) same

@@ -20,6 +20,7 @@ pub mod RowsWritten
 pub mod RunLines
 pub mod Finished
 pub mod Sums
+pub mod Lacking
 pub mod OneTable
 pub mod AddedUp
 pub mod RowsHeld

@@ -124,4 +124,5 @@ same_table plan rs t u is_t is_u =
     record {
       rows = rows_by_place plan rs t.rows.items is_t.rows ∙ ap (map (row_at plan rs)) places ∙ sym (rows_by_place plan rs u.rows.items is_u.rows);
       tally = is_t.tally ∙ sym is_u.tally;
+      missing = is_t.missing ∙ sym is_u.missing;
     }

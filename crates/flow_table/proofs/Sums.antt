@@ -12,11 +12,11 @@ use Rattle.flow_table.specs.declared.class.Class.TheVariants.{Options, Untimed, 
 use Rattle.flow_table.specs.AddedUp.{HasTooLargeRow}
 use Rattle.flow_table.specs.Intervals.{covers, share}
 use Rattle.flow_table.specs.Plans.{PlanValue}
-use Rattle.flow_table.specs.Reading.{class_of, counter_of, IsUsed}
+use Rattle.flow_table.specs.Reading.{class_of, is_class, counter_of, IsUsed}
 use Rattle.flow_table.specs.Rows.{is_same_key}
 use Rattle.flow_table.specs.Flows.{shares_of, flow_total, flow_part}
 use Rattle.flow_table.specs.Partials.{totals_at, tally, tally_sum, one_of}
-use Rattle.flow_table.specs.Tables.{is_class, count_of, tally_of, begin_of, finish_of, contributes, share_of, sum_at, flows_at, IsTooLarge}
+use Rattle.flow_table.specs.Tables.{count_of, tally_of, begin_of, finish_of, contributes, share_of, sum_at, flows_at, IsTooLarge}
 use Rattle.flow_table.specs.Totals.{Total, total, added, joined, HasLarge, IsLarge, IsLargeAt}
 
 -- ---- one list after the other
@@ -27,7 +27,7 @@ sum_at-append plan rs qs k key c =
     ap (λ (ps : List DataRecord). sum_by (share_of plan k c) ps) (filter-append (contributes plan k key) rs qs)
     ∙ sum_by-append (share_of plan k c) (filter (contributes plan k key) rs) (filter (contributes plan k key) qs)
 
-count-append : (p : DataRecord → Bool) (rs qs : List DataRecord) → length (filter p (rs ++ qs)) ≡ length (filter p rs) + length (filter p qs)
+pub count-append : (p : DataRecord → Bool) (rs qs : List DataRecord) → length (filter p (rs ++ qs)) ≡ length (filter p rs) + length (filter p qs)
 count-append p rs qs = ap length (filter-append p rs qs) ∙ length-append (filter p rs) (filter p qs)
 
 pub flows_at-append : (plan : PlanValue) (rs qs : List DataRecord) (k : ℕ) (key : List Cell) → flows_at plan (rs ++ qs) k key ≡ flows_at plan rs k key + flows_at plan qs k key
@@ -59,11 +59,11 @@ sum_at-none plan rs k key c h = ap (λ (ps : List DataRecord). sum_by (share_of 
 
 -- ---- totals
 
-added_map : (f g h : ElementId → ℕ) → ((c : ElementId) → f c ≡ g c + h c) → (cs : List ElementId) → map f cs ≡ added (map g cs) (map h cs)
+pub added_map : {K : Type 0} (f g h : K → ℕ) → ((c : K) → f c ≡ g c + h c) → (cs : List K) → map f cs ≡ added (map g cs) (map h cs)
 added_map f g h is [] = refl
 added_map f g h is (c ∷ cs) = ap (λ (n : ℕ). n ∷ map f cs) (is c) ∙ ap (λ (ns : List ℕ). (g c + h c) ∷ ns) (added_map f g h is cs)
 
-same_map : (f g : ElementId → ℕ) → ((c : ElementId) → f c ≡ g c) → (cs : List ElementId) → map f cs ≡ map g cs
+pub same_map : {K : Type 0} (f g : K → ℕ) → ((c : K) → f c ≡ g c) → (cs : List K) → map f cs ≡ map g cs
 same_map f g is [] = refl
 same_map f g is (c ∷ cs) = ap (λ (n : ℕ). n ∷ map f cs) (is c) ∙ ap (λ (ns : List ℕ). g c ∷ ns) (same_map f g is cs)
 

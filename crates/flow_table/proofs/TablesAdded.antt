@@ -12,6 +12,7 @@ use Rattle.flow_table.specs.AddedUp.{place, total_of, added_to, added_up, rows_i
 use Rattle.flow_table.specs.Bags.{IsSameBag}
 use Rattle.flow_table.specs.Finishing.{line_of}
 use Rattle.flow_table.specs.Partials.{totals_at}
+use Rattle.flow_table.specs.Missing.{missing_of}
 use Rattle.flow_table.specs.Plans.{PlanValue}
 use Rattle.flow_table.specs.SameTables.{RowValue, value_of}
 use Rattle.flow_table.specs.Tables.{place_of, place_cmp, sum_at, flows_at, tally_of, IsRow, IsTable}
@@ -100,8 +101,8 @@ placed rows k q t sorted is =
     ]
 
 pub is_table : (plan : PlanValue) (rs : List DataRecord) (rows : List RowValue) (all : Table) → ((k : ℕ) (q : List Cell) → added_up rows k q ≡ totals_at plan rs k q)
-    → AreAddedUp rows (rows_in all) → all.tally ≡ tally_of plan rs → IsTable plan rs all
-is_table plan rs rows all totals are tally_is =
+    → AreAddedUp rows (rows_in all) → all.tally ≡ tally_of plan rs → all.missing ≡ missing_of plan rs → IsTable plan rs all
+is_table plan rs rows all totals are tally_is missing_is =
     record {
       ascending = subst (IsStrictlySortedBy place_cmp) (places_of_values all.rows.items) are.ascending;
       rows = rows_are plan rs all.rows.items (own_lines plan rs all.rows.items (λ row h.
@@ -109,11 +110,12 @@ is_table plan rs rows all totals are tally_is =
       complete = λ k q some. subst (λ (ps : List (ℕ × List Cell)). Contains ps (k, q)) (places_of_values all.rows.items)
           (placed (rows_in all) k q _ are.ascending (are.same k q ∙ totals k q ∙ some_totals plan rs k q some));
       tally = tally_is;
+      missing = missing_is;
     }
 
 pub tables_are_added : (plan : PlanValue) (lists : List (List DataRecord)) (tables : List Table) (all : Table) → AllZip (IsTable plan) lists tables
-    → AreAddedUp (flat_map rows_in tables) (rows_in all) → all.tally ≡ tally_of plan (all_in lists) → IsTable plan (all_in lists) all
-tables_are_added plan lists tables all are sums tally_is = is_table plan (all_in lists) (flat_map rows_in tables) all (λ k q. tables_totals plan lists tables k q are) sums tally_is
+    → AreAddedUp (flat_map rows_in tables) (rows_in all) → all.tally ≡ tally_of plan (all_in lists) → all.missing ≡ missing_of plan (all_in lists) → IsTable plan (all_in lists) all
+tables_are_added plan lists tables all are sums tally_is missing_is = is_table plan (all_in lists) (flat_map rows_in tables) all (λ k q. tables_totals plan lists tables k q are) sums tally_is missing_is
 
 -- ---- too large
 
@@ -133,8 +135,8 @@ too_large_both plan lists tables are = (too_large_there plan lists tables are, t
 pub any_order : (plan : PlanValue) (lists others : List (List DataRecord)) (tables more : List Table) (a b : Table) → AllZip (IsTable plan) lists tables → AllZip (IsTable plan) others more → IsSameBag (all_in lists) (all_in others)
     → AreAddedUp (flat_map rows_in tables) (rows_in a) → AreAddedUp (flat_map rows_in more) (rows_in b) → rows_in a ≡ rows_in b
 any_order plan lists others tables more a b are them same first second =
-    let t : Table = record a { tally = tally_of plan (all_in lists) } in
-    let u : Table = record b { tally = tally_of plan (all_in others) } in
-    let is_t : IsTable plan (all_in lists) t = tables_are_added plan lists tables t are first refl in
-    let is_u : IsTable plan (all_in others) u = tables_are_added plan others more u them second refl in
+    let t : Table = record a { tally = tally_of plan (all_in lists); missing = missing_of plan (all_in lists) } in
+    let u : Table = record b { tally = tally_of plan (all_in others); missing = missing_of plan (all_in others) } in
+    let is_t : IsTable plan (all_in lists) t = tables_are_added plan lists tables t are first refl refl in
+    let is_u : IsTable plan (all_in others) u = tables_are_added plan others more u them second refl refl in
     (same_table plan (all_in others) t u (table_bag plan (all_in lists) (all_in others) t same is_t) is_u).rows

@@ -3,6 +3,7 @@ pub mod Plans
 pub mod PlanFaults
 pub mod Intervals
 pub mod Reading
+pub mod Missing
 pub mod Tables
 pub mod TableFaults
 pub mod Partials
@@ -16,6 +17,7 @@ pub mod RowTotals
 pub mod Totals
 pub mod Rows
 pub mod Words
+pub mod LeftOut
 pub mod Readings
 pub mod Flows
 pub mod Finishing

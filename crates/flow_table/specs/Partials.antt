@@ -7,8 +7,10 @@ use Rattle.flow_table.specs.declared.class.Class.TheVariants.{Options, Untimed, 
 use Rattle.flow_table.specs.declared.table_fault.TableFault.{TableFault}
 use Rattle.flow_table.specs.declared.table_fault.TableFault.TheVariants.{OutOfMemory, SumTooLarge}
 use Rattle.flow_table.specs.declared.tally.Tally.{Tally}
+use Rattle.flow_table.specs.declared.missing.Missing.{Missing}
 use Rattle.flow_table.specs.declared.partial.Partial.{Partial}
 use Rattle.flow_table.specs.Fitting.{KeysFit}
+use Rattle.flow_table.specs.Missing.{missing_of, missing_sum, IsSmall}
 use Rattle.flow_table.specs.Plans.{PlanValue}
 use Rattle.flow_table.specs.Rows.{AreRowsOf, kept_at}
 use Rattle.flow_table.specs.declared.rows.Rows.{Rows}
@@ -33,6 +35,14 @@ StandsBy None plan rows tally rs = HoldsTable plan rows tally rs
 StandsBy (Some SumTooLarge) plan rows tally rs = IsTooLarge plan rs
 StandsBy (Some OutOfMemory) plan rows tally rs = Unit {0}
 
+-- without a fault the counts are those of what the list lacks
+abbrev pub CountsMissing : Option TableFault → PlanValue → Missing → List DataRecord → Type 0
+CountsMissing fault plan missing rs = fault ≡ None → missing ≡ missing_of plan rs
+
+-- what more records lack is added, if that has a place in 64 bits
+abbrev pub NotesMore : PlanValue → Missing → List DataRecord → Missing → Type 0
+NotesMore plan before more after = IsSmall (missing_sum before (missing_of plan more)) → after ≡ missing_sum before (missing_of plan more)
+
 -- the plan of a partial table
 unfoldable pub plan_of : Partial → PlanValue
 plan_of p = p.plan
@@ -43,7 +53,7 @@ fault_of p = p.fault
 
 -- a partial table stands for a list of records
 unfoldable pub StandsFor : Partial → List DataRecord → Type 0
-StandsFor p rs = StandsBy p.fault p.plan p.rows p.tally rs
+StandsFor p rs = StandsBy p.fault p.plan p.rows p.tally rs × CountsMissing p.fault p.plan p.missing rs
 
 -- whatever it stood for, afterwards it stands for these records more
 abbrev pub Adds : Partial → List DataRecord → Partial → Type 0

@@ -96,6 +96,15 @@ flow_class plan r (Some s) (Some e) =
 abbrev pub class_of : PlanValue → DataRecord → Class
 class_of plan r = if nat_lt 0 r.scope then Options else flow_class plan r (start_of r) (end_of r)
 
+abbrev pub is_class : Class → Class → Bool
+is_class Options Options = true
+is_class Untimed Untimed = true
+is_class Backward Backward = true
+is_class Unkeyed Unkeyed = true
+is_class TooLong TooLong = true
+is_class Used Used = true
+is_class a b = false
+
 -- a used record, from s to e and with this key
 pub record IsUsed (plan : PlanValue) (r : DataRecord) (s e : ℕ) (key : List Cell) : Type 0 where
   pub used : class_of plan r ≡ Used

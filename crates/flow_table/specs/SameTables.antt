@@ -17,7 +17,8 @@ row_value interval key sums flows = record { interval = interval; key = key; sum
 abbrev pub value_of : Row → RowValue
 value_of row = row_value row.interval row.key.items row.sums.items row.flows
 
--- the same rows in the same order, and the same tally
+-- the same rows in the same order, the same tally, and the same missing
 pub record IsSameTable (t u : Table) : Type 0 where
   pub rows : map value_of t.rows.items ≡ map value_of u.rows.items
   pub tally : t.tally ≡ u.tally
+  pub missing : t.missing ≡ u.missing

@@ -1,5 +1,5 @@
 -- The aggregate of a list of data records (RFC 7015, section 5): sums and numbers of flows, and the table of them.
-use Rattle.std.specs.Prelude.{◌≡◌, ℕ, ◌^◌, ◌<◌, ◌≤◌, ◌⊎◌, ◌&&◌, Bool, true, false, nat_eq, List, length, map, filter, sum_by, All, Contains, Option, Some, None, unwrap_or}
+use Rattle.std.specs.Prelude.{◌≡◌, ℕ, ◌^◌, ◌<◌, ◌≤◌, ◌⊎◌, ◌&&◌, Bool, false, nat_eq, List, length, map, filter, sum_by, All, Contains, Option, Some, None, unwrap_or}
 use Rattle.std.specs.List.{list_any}
 use Rattle.std.specs.List.Sorted.{IsStrictlySortedBy}
 use Rattle.std.specs.Cmp.Lexicographic.{slice_cmp}
@@ -15,19 +15,11 @@ use Rattle.flow_table.specs.declared.table.Row.{Row}
 use Rattle.flow_table.specs.declared.table.Table.{Table}
 use Rattle.flow_table.specs.declared.tally.Tally.{Tally}
 use Rattle.flow_table.specs.Intervals.{covers, share}
+use Rattle.flow_table.specs.Missing.{missing_of}
 use Rattle.flow_table.specs.Plans.{PlanValue}
-use Rattle.flow_table.specs.Reading.{class_of, start_of, end_of, key_of, counter_of}
+use Rattle.flow_table.specs.Reading.{class_of, is_class, start_of, end_of, key_of, counter_of}
 
 -- ---- classes
-
-abbrev pub is_class : Class → Class → Bool
-is_class Options Options = true
-is_class Untimed Untimed = true
-is_class Backward Backward = true
-is_class Unkeyed Unkeyed = true
-is_class TooLong TooLong = true
-is_class Used Used = true
-is_class a b = false
 
 -- how many records of a list are of a class
 unfoldable pub count_of : PlanValue → List DataRecord → Class → ℕ
@@ -98,9 +90,10 @@ pub record IsRow (plan : PlanValue) (rs : List DataRecord) (row : Row) : Type 0 
   pub sums : row.sums.items ≡ map (sum_at plan rs row.interval row.key.items) plan.counters
   pub flows : row.flows ≡ flows_at plan rs row.interval row.key.items
 
--- the rows of all intervals and keys that some flow contributes to, in order, and the records by class
+-- the rows of all intervals and keys that some flow contributes to, in order, the records by class, and what they lack
 pub record IsTable (plan : PlanValue) (rs : List DataRecord) (table : Table) : Type 0 where
   pub ascending : IsStrictlySortedBy place_cmp (map place_of table.rows.items)
   pub rows : All (IsRow plan rs) table.rows.items
   pub complete : (k : ℕ) (key : List Cell) → 0 < flows_at plan rs k key → Contains (map place_of table.rows.items) (k, key)
   pub tally : table.tally ≡ tally_of plan rs
+  pub missing : table.missing ≡ missing_of plan rs

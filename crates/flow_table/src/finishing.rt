@@ -4,12 +4,14 @@ ghost use Rattle.std.specs.Prelude.{◌≡◌, ◌*◌, ◌+◌, ◌^◌, ◌<�
 ghost use Rattle.flat_rows.specs.Rows.{row as flat_row};
 ghost use Rattle.flow_table.specs.Finishing.{AreRunLines, line_of, line_from};
 ghost use Rattle.ipfix_message.specs.declared.record.DataRecord.{DataRecord};
+ghost use Rattle.flow_table.specs.Missing.{missing_of};
 ghost use Rattle.flow_table.specs.Partials.{HoldsTable};
 ghost use Rattle.flow_table.specs.Rows.{rows_in};
 ghost use Rattle.flow_table.specs.Tables.{IsTable};
 ghost use Rattle.flow_table.specs.Words.{first_of};
 ghost use Rattle.flow_table.specs.declared.table_fault.TableFault.TheVariants.{OutOfMemory};
 
+use crate::missing::Missing;
 use crate::plan::Plan;
 use crate::rows::Rows;
 use crate::table::{Row, Table};
@@ -94,17 +96,23 @@ pub fn into_rows(
     }
 }
 
-/// The table of the records whose totals and tally these are.
+/// The table of the records whose totals and tally these are, and which lack this.
 pub fn finish_table(
     alloc: Global,
     plan: &Plan,
     rows: Rows,
     tally: Tally,
+    missing: Missing,
 ) -> Result<Table, TableFault>
     ensures table { IfOk result (λ table. (rs : List DataRecord)
-        → HoldsTable plan.now rows tally rs → IsTable plan.now rs table) }
+        → HoldsTable plan.now rows tally rs
+        → missing ≡ missing_of plan.now rs → IsTable plan.now rs table) }
     ensures err { IfErr result (λ e. e ≡ OutOfMemory) }
 {
     let rows = into_rows(alloc, rows, plan.kinds(), plan.counters().len())?;
-    Ok(Table { rows, tally })
+    Ok(Table {
+        rows,
+        tally,
+        missing,
+    })
 }

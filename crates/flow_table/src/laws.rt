@@ -1,7 +1,7 @@
 //! Laws of plans and of tables: a list of records has one table, which is the same for every order of
 //! the list and fits its plan.
 
-ghost use Rattle.std.specs.Prelude.{◌≡◌, ◌++◌, ◌↔◌, true, ◌<◌, ◌≤◌, ℕ, List, All, IsPermutation, flat_map, sum_by};
+ghost use Rattle.std.specs.Prelude.{◌≡◌, ◌+◌, ◌++◌, ◌↔◌, true, ◌<◌, ◌≤◌, ℕ, List, All, IsPermutation, flat_map, sum, sum_by};
 ghost use Rattle.std.specs.List.{AllZip};
 ghost use Rattle.ipfix_message.specs.DataRecords.{HasOctets};
 ghost use Rattle.ipfix_message.specs.declared.record.DataRecord.{DataRecord};
@@ -9,6 +9,7 @@ ghost use Rattle.flow_table.specs.AddedUp.{AddUpTooLarge, AreAddedUp, HasTooLarg
 ghost use Rattle.flow_table.specs.Bags.{IsSameBag, IsInterleaving};
 ghost use Rattle.flow_table.specs.Fitting.{FitsPlan};
 ghost use Rattle.flow_table.specs.Intervals.{covered_by, share};
+ghost use Rattle.flow_table.specs.Missing.{missing_of};
 ghost use Rattle.flow_table.specs.Plans.{PlanValue, IsPlan};
 ghost use Rattle.flow_table.specs.SameTables.{IsSameTable};
 ghost use Rattle.flow_table.specs.Tables.{IsTable, IsTooLarge, tally_of};
@@ -28,6 +29,17 @@ pub fn plans_compare_by_value()
 pub fn shares_add_up()
     ensures { (plan : PlanValue) (start end value : ℕ) → 0 < plan.length → start ≤ end
         → sum_by (share plan start end value) (covered_by plan.length start end) ≡ value }
+{}
+
+/// What records lack adds up to their classes: the untimed ones lack a start or an end, the unkeyed
+/// ones a first key, and a counter lacks in no more records than are used.
+pub fn missing_adds_up()
+    ensures untimed { (plan : PlanValue) (rs : List DataRecord)
+        → (missing_of plan rs).start + (missing_of plan rs).end ≡ (tally_of plan rs).untimed }
+    ensures unkeyed { (plan : PlanValue) (rs : List DataRecord) → IsPlan plan
+        → sum (missing_of plan rs).keys ≡ (tally_of plan rs).unkeyed }
+    ensures used { (plan : PlanValue) (rs : List DataRecord)
+        → All (λ n. n ≤ (tally_of plan rs).used) (missing_of plan rs).counters }
 {}
 
 /// A list of records has no two tables.
@@ -94,6 +106,7 @@ pub fn tables_add_up()
         → (all : Table) → AllZip (IsTable plan) lists tables
         → AreAddedUp (flat_map rows_in tables) (rows_in all)
         → all.tally ≡ tally_of plan (flat_map (λ rs. rs) lists)
+        → all.missing ≡ missing_of plan (flat_map (λ rs. rs) lists)
         → IsTable plan (flat_map (λ rs. rs) lists) all }
     ensures too_large { (plan : PlanValue) (lists : List (List DataRecord)) (tables : List Table)
         → AllZip (IsTable plan) lists tables

@@ -13,6 +13,7 @@ use crate::adding::Room;
 use crate::class::Class;
 use crate::finishing::finish_table;
 use crate::merging::join;
+use crate::missing::{Missing, missing_together};
 use crate::plan::Plan;
 use crate::rows::Rows;
 use crate::table::Table;
@@ -32,6 +33,7 @@ pub struct Partial {
     plan: Plan,
     rows: Rows,
     tally: Tally,
+    missing: Missing,
     fault: Option<TableFault>,
     room: Room,
 }
@@ -51,6 +53,7 @@ impl Partial {
             plan: plan.copy(alloc)?,
             rows: Rows::new(alloc, plan),
             tally: Tally::EMPTY,
+            missing: Missing::NONE,
             fault: None,
             room: Room {
                 key: Vec::new(alloc),
@@ -82,6 +85,7 @@ impl Partial {
             &self.plan,
             &mut self.rows,
             &mut self.tally,
+            &mut self.missing,
             &mut self.room,
             data_record,
         );
@@ -111,6 +115,7 @@ impl Partial {
         let Partial {
             rows,
             tally,
+            missing,
             fault,
             ..
         } = other;
@@ -129,6 +134,7 @@ impl Partial {
             rows,
             &tally,
         );
+        self.missing = missing_together(&self.missing, &missing);
         self.fault = result.err();
         result
     }
@@ -160,12 +166,13 @@ impl Partial {
             plan,
             rows,
             tally,
+            missing,
             fault,
             ..
         } = self;
         match fault {
             Some(fault) => Err(fault),
-            None => finish_table(alloc, &plan, rows, tally),
+            None => finish_table(alloc, &plan, rows, tally, missing),
         }
     }
 }

@@ -1,18 +1,19 @@
 //! Data records read under a plan (RFC 7015, section 5).
 
-ghost use Rattle.std.specs.Prelude.{◌≡◌, ◌<◌, true, Some, None, IsTrue, OnOk, IfOk, IfSome, All, map, if◌then◌else◌};
+ghost use Rattle.std.specs.Prelude.{◌≡◌, ◌<◌, ◌≤◌, true, Some, None, is_none, OnOk, IfOk, IfSome, All, length, map, if◌then◌else◌};
 ghost use Rattle.std.specs.List.{AllPass};
 ghost use Rattle.ipfix_elements.specs.Elements.{kind_of as kind_in};
 ghost use Rattle.ipfix_elements.specs.Values.{cell_in};
 ghost use Rattle.flow_table.specs.Fitting.{FitsKeys, IsCellOf};
+ghost use Rattle.flow_table.specs.Missing.{first_without};
 ghost use Rattle.flow_table.specs.Plans.{HasPrefix, kinds_of, is_counter, is_key_kind};
-ghost use Rattle.flow_table.specs.Reading.{counter_of, cell_of, cells_of, projected, is_too_long as is_too_long_in};
-ghost use Rattle.flow_table.specs.Readings.{ReadsAs};
+ghost use Rattle.flow_table.specs.Reading.{counter_of, number_of, cell_of, cells_of, projected, is_too_long as is_too_long_in};
+ghost use Rattle.flow_table.specs.Readings.{Notes, ReadsAs};
 
-use crate::class::Class;
 use crate::key::Key;
+use crate::left_out::LeftOut;
 use crate::method::Method;
-use crate::plan::Plan;
+use crate::plan::{MAX_COUNTERS, Plan};
 use crate::span::Span;
 use crate::times::{end_of, start_of};
 use ipfix_elements::{Cell, Kind, Width, mask, read_cell, read_number};
@@ -26,8 +27,8 @@ const COUNTER_KIND: Kind = Kind::Unsigned(Width::Eight);
 /// A data record as a plan sees it.
 #[derive(Clone, Copy, Debug)]
 pub(crate) enum Reading {
-    /// It is left out of the table, for this class.
-    Left(Class),
+    /// It is left out of the table, for this reason.
+    Left(LeftOut),
     /// It is a flow of this time.
     Used(Span),
 }
@@ -43,20 +44,23 @@ pub(crate) fn read(
     ensures { IfOk result (ReadsAs plan.now data_record.now key.new.items) }
 {
     if data_record.scope > 0 {
-        return Ok(Reading::Left(Class::Options));
+        return Ok(Reading::Left(LeftOut::Options));
     }
-    let (Some(start), Some(end)) = (start_of(data_record), end_of(data_record)) else {
-        return Ok(Reading::Left(Class::Untimed));
+    let Some(start) = start_of(data_record) else {
+        return Ok(Reading::Left(LeftOut::WithoutStart));
+    };
+    let Some(end) = end_of(data_record) else {
+        return Ok(Reading::Left(LeftOut::WithoutEnd));
     };
     if end < start {
-        return Ok(Reading::Left(Class::Backward));
+        return Ok(Reading::Left(LeftOut::Backward));
     }
-    if !read_key(plan.keys(), plan.kinds(), data_record, key)? {
-        return Ok(Reading::Left(Class::Unkeyed));
+    if let Some(place) = read_key(plan.keys(), plan.kinds(), data_record, key)? {
+        return Ok(Reading::Left(LeftOut::WithoutKey(place)));
     }
     let span = Span { start, end };
     if is_too_long(plan, span) {
-        return Ok(Reading::Left(Class::TooLong));
+        return Ok(Reading::Left(LeftOut::TooLong));
     }
     Ok(Reading::Used(span))
 }
@@ -74,28 +78,29 @@ fn is_too_long(plan: &Plan, span: Span) -> bool
     }
 }
 
-// Leaves the cells of the keys in `cells`, and tells whether each has one.
+// Leaves the cells of the keys in `cells`, or tells the place of the first that has none.
 fn read_key(
     keys: &[Key],
     kinds: &[Kind],
     data_record: &DataRecord,
     cells: &mut Vec<Cell>,
-) -> Result<bool, AllocError>
+) -> Result<Option<usize>, AllocError>
     requires prefixes { All HasPrefix keys.now }
     requires kinds { kinds.now ≡ kinds_of keys.now }
     requires comparable { AllPass is_key_kind kinds.now }
-    ensures cells { IfOk result (λ whole. cells_of keys.now data_record.now
-        ≡ (if whole then Some cells.new.items else None)) }
-    ensures fits { IfOk result (λ whole. IsTrue whole → FitsKeys keys.now cells.new.items) }
+    ensures place { IfOk result (λ place. place ≡ first_without keys.now data_record.now) }
+    ensures cells { IfOk result (λ place. cells_of keys.now data_record.now
+        ≡ (if is_none place then Some cells.new.items else None)) }
+    ensures fits { IfOk result (λ place. place ≡ None → FitsKeys keys.now cells.new.items) }
 {
     cells.clear();
     for (key, kind) in keys.iter().zip(kinds) {
         let Some(cell) = read_cell_of(*key, *kind, data_record) else {
-            return Ok(false);
+            return Ok(Some(cells.len()));
         };
         cells.push(cell)?;
     }
-    Ok(true)
+    Ok(None)
 }
 
 // The cell of a key, if the record has one.
@@ -132,30 +137,37 @@ fn project(key: Key, cell: Cell) -> Cell
     }
 }
 
-// The counter in the first field of an element, 0 if that is missing or no number.
-fn counter(data_record: &DataRecord, element: ElementId) -> u64
+// The counter in the first field of an element, if that isn't missing and is a number.
+fn counter(data_record: &DataRecord, element: ElementId) -> Option<u64>
     requires { is_counter element ≡ true }
-    ensures { result ≡ counter_of element data_record.now }
+    ensures { result ≡ number_of element data_record.now }
 {
-    match data_record.fields.find(element) {
-        Some(octets) => read_number(COUNTER_KIND, octets).unwrap_or(0),
-        None => 0,
-    }
+    let octets = data_record.fields.find(element)?;
+    read_number(COUNTER_KIND, octets)
 }
 
-/// Leaves the counters of a record in `counters`.
+/// Leaves the counters of a record in `counters`, and counts those that it lacks in `missing`, where
+/// what would be 2^64 or more stays below it.
 pub(crate) fn read_counters(
     elements: &[ElementId],
     data_record: &DataRecord,
     counters: &mut Vec<u64>,
+    missing: &mut [u64; MAX_COUNTERS],
 ) -> Result<(), AllocError>
-    requires { AllPass is_counter elements.now }
-    ensures { OnOk result (counters.new.items
+    requires countable { AllPass is_counter elements.now }
+    requires few { length elements.now ≤ MAX_COUNTERS }
+    ensures counters { OnOk result (counters.new.items
         ≡ map (λ c. counter_of c data_record.now) elements.now) }
+    ensures missing { OnOk result (Notes missing.old elements.now data_record.now missing.new) }
 {
     counters.clear();
     for element in elements {
-        counters.push(counter(data_record, *element))?;
+        let counter = counter(data_record, *element);
+        if counter.is_none() {
+            let place = counters.len();
+            missing[place] = missing[place].saturating_add(1);
+        }
+        counters.push(counter.unwrap_or(0))?;
     }
     Ok(())
 }

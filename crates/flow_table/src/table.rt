@@ -1,5 +1,6 @@
 //! The aggregate of data records (RFC 7015, section 5).
 
+use crate::missing::Missing;
 use crate::tally::Tally;
 use ipfix_elements::Cell;
 
@@ -24,4 +25,6 @@ pub struct Table {
     pub rows: Vec<Row>,
     /// All records by class.
     pub tally: Tally,
+    /// What the untimed and unkeyed ones lack, and the used ones' counters that are missing.
+    pub missing: Missing,
 }

@@ -5,7 +5,7 @@ ghost use Rattle.std.specs.Result.{result_err};
 ghost use Rattle.ipfix_elements.specs.declared.cell.Cell.{Cell};
 ghost use Rattle.ipfix_message.specs.declared.record.DataRecord.{DataRecord};
 ghost use Rattle.flow_table.specs.Fitting.{FitsKeys};
-ghost use Rattle.flow_table.specs.Partials.{HoldsTable, StandsBy, totals_at};
+ghost use Rattle.flow_table.specs.Partials.{HoldsTable, NotesMore, StandsBy, totals_at};
 ghost use Rattle.flow_table.specs.Reading.{class_of, IsUsed};
 ghost use Rattle.flow_table.specs.Rows.{AreRowsOf, kept_at};
 ghost use Rattle.flow_table.specs.Totals.{IsLargeAt, joined};
@@ -13,6 +13,7 @@ ghost use Rattle.flow_table.specs.declared.table_fault.TableFault.TheVariants.{S
 
 use crate::adding::{Room, add_flow};
 use crate::class::Class;
+use crate::missing::Missing;
 use crate::plan::Plan;
 use crate::reading::{Reading, read, read_counters};
 use crate::rows::Rows;
@@ -27,6 +28,7 @@ fn take_flow(
     plan: &Plan,
     rows: &mut Rows,
     room: &mut Room,
+    missing: &mut Missing,
     data_record: &DataRecord,
     span: Span,
 ) -> Result<(), TableFault>
@@ -42,32 +44,44 @@ fn take_flow(
     ensures large { AreRowsOf plan.now rows.old → IfErr result (λ e. e ≡ SumTooLarge
         → (k : ℕ) × (q : List Cell) × IsLargeAt (joined (kept_at plan.now rows.old k q)
         (totals_at plan.now (data_record.now ∷ []) k q))) }
+    ensures missing { OnOk result
+        (NotesMore plan.now missing.old (data_record.now ∷ []) missing.new) }
 {
     write_words(&room.key, &mut room.words)?;
-    read_counters(plan.counters(), data_record, &mut room.counters)?;
+    read_counters(
+        plan.counters(),
+        data_record,
+        &mut room.counters,
+        &mut missing.counters,
+    )?;
     add_flow(plan, rows, span, room)
 }
 
-/// Takes a record into the totals and the tally, and answers its class.
+/// Takes a record into the totals, the tally and what records lack, and answers its class.
 pub fn take(
     plan: &Plan,
     rows: &mut Rows,
     tally: &mut Tally,
+    missing: &mut Missing,
     room: &mut Room,
     data_record: &DataRecord,
 ) -> Result<Class, TableFault>
     ensures class { IfOk result (λ class. class ≡ class_of plan.now data_record.now) }
     ensures stands { (rs : List DataRecord) → HoldsTable plan.now rows.old tally.old rs
         → StandsBy (result_err result) plan.now rows.new tally.new (rs ++ data_record.now ∷ []) }
+    ensures missing { OnOk result
+        (NotesMore plan.now missing.old (data_record.now ∷ []) missing.new) }
 {
     match read(plan, data_record, &mut room.key)? {
-        Reading::Left(class) => {
+        Reading::Left(left_out) => {
+            let class = left_out.class();
             tally.count(class)?;
+            missing.note(left_out);
             Ok(class)
         }
         Reading::Used(span) => {
             tally.count(Class::Used)?;
-            take_flow(plan, rows, room, data_record, span)?;
+            take_flow(plan, rows, room, missing, data_record, span)?;
             Ok(Class::Used)
         }
     }

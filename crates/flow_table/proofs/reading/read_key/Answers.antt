@@ -1,4 +1,4 @@
-use Rattle.std.proofs.Common.{◌≡◌, ◌+◌, [], ◌∷◌, ◌++◌, get_or, length, length-append, Some, None, subst}
+use Rattle.std.proofs.Common.{◌≡◌, ◌+◌, [], ◌∷◌, ◌++◌, get_or, length, length-append, Some, None, ap, subst, arith}
 use Rattle.std.proofs.lemmas.Slice.Zip.{zip_turn}
 use Rattle.std.specs.Slice.Iter.{iter_rest}
 use Rattle.std.specs.Iterator.Adapters.{zip_first, zip_second}
@@ -8,7 +8,7 @@ use Rattle.ipfix_elements.specs.declared.kind.Width.TheVariants.{One}
 use Rattle.flow_table.specs.declared.key.Key.{Key}
 use Rattle.flow_table.specs.Fitting.{IsCellOf}
 use Rattle.flow_table.specs.Reading.{cell_of}
-use Rattle.flow_table.proofs.KeyCells.{more_fit, cells_more}
+use Rattle.flow_table.proofs.KeyCells.{more_fit, cells_more, place_more}
 use Rattle.flow_table.proofs.reading.read_key.Goals as goal
 
 -- where there is no key, and no kind
@@ -31,6 +31,8 @@ loop-key-preserved c =
     let fits : IsCellOf (get_or kinds i (Unsigned One)) cell = subst (λ (k : Kind). IsCellOf k cell) (turn.3 (Unsigned One)) c.in-Some-read_cell_of.ensures.fits in
     let next : length (c.loop-key.yielded ++ (c.in-Some.key, c.in-Some.kind) ∷ []) ≡ i + 1 = length-append c.loop-key.yielded ((c.in-Some.key, c.in-Some.kind) ∷ []) in
     record {
+      many = omega (arith, next, ap length c.in_ok-push.ensures.items, length-append found (cell ∷ []), c.loop-key.invariant.many);
+      place = rw next (place_more keys r i no_key cell _ turn.0 here c.loop-key.invariant.place);
       cells = rw next (cells_more keys r found news i no_key cell turn.0 here c.in_ok-push.ensures.items c.loop-key.invariant.cells);
       fits = rw next (more_fit keys kinds found news i no_key (Unsigned One) cell turn.0 c.requires.kinds c.loop-key.invariant.fits fits c.in_ok-push.ensures.items);
     }

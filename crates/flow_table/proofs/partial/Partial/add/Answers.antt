@@ -1,10 +1,10 @@
-use Rattle.std.proofs.Common.{◌∷◌, ◌++◌, [], Option, refl, sym, ap, subst}
+use Rattle.std.proofs.Common.{◌∷◌, ◌++◌, [], Option, refl, sym, ap, ◌∙◌, subst}
 use Rattle.flow_table.specs.declared.table_fault.TableFault.{TableFault}
 use Rattle.ipfix_message.specs.Outcome.{unless}
 use Rattle.flow_table.specs.Partials.{plan_of, fault_of, StandsFor, StandsBy}
 use Rattle.flow_table.specs.Reading.{class_of}
 use Rattle.flow_table.proofs.Bags.{too_large_more}
-use Rattle.flow_table.proofs.Holding.{stands_on, answers, no_fault, large_of, small_on_ok, large_if_err}
+use Rattle.flow_table.proofs.Holding.{missing_after, stands_on, answers, no_fault, one_fault, large_of, small_on_ok, large_if_err}
 use Rattle.flow_table.proofs.partial.Partial.add.Goals as goal
 
 pub returns-in-Some-clause-answer : goal.returns-in-Some-clause-answer
@@ -13,13 +13,16 @@ returns-in-Some-clause-answer c = sym (ap (λ (o : Option TableFault). unless o 
 
 pub returns-in-Some-clause-adds : goal.returns-in-Some-clause-adds
 unfolding StandsFor
-returns-in-Some-clause-adds c = λ rs stands. stands_on c.args.self.now.plan c.args.self.now.rows c.args.self.now.tally rs (c.args.data_record.now ∷ []) c.args.self.now.fault c.in-Some.fault c.in-Some.is stands
+returns-in-Some-clause-adds c = λ rs stands. (
+  stands_on c.args.self.now.plan c.args.self.now.rows c.args.self.now.tally rs (c.args.data_record.now ∷ []) c.args.self.now.fault c.in-Some.fault c.in-Some.is stands.0,
+  λ none. absurd (one_fault c.args.self.now.fault c.in-Some.fault c.in-Some.is none),
+)
 
 pub returns-in-Some-clause-large : goal.returns-in-Some-clause-large
 unfolding StandsFor plan_of
 returns-in-Some-clause-large c = λ rs stands large.
     too_large_more c.args.self.now.plan rs (c.args.data_record.now ∷ [])
-    (large_of c.args.self.now.plan c.args.self.now.rows c.args.self.now.tally rs c.args.self.now.fault c.in-Some.fault c.in-Some.is large stands)
+    (large_of c.args.self.now.plan c.args.self.now.rows c.args.self.now.tally rs c.args.self.now.fault c.in-Some.fault c.in-Some.is large stands.0)
 
 pub returns-clause-plan : goal.returns-clause-plan
 unfolding plan_of
@@ -36,17 +39,21 @@ returns-clause-sticky c = λ some. absurd (no_fault c.args.self.now.fault c.in_d
 pub returns-clause-adds : goal.returns-clause-adds
 unfolding StandsFor
 returns-clause-adds c = λ rs stands.
-    subst (λ (o : Option TableFault). StandsBy o c.args.self.now.plan c.take-result.new.rows c.take-result.new.tally (rs ++ c.args.data_record.now ∷ [])) (sym c.err-self.ensures.value)
-    (c.take-result.ensures.stands rs (subst (λ (o : Option TableFault). StandsBy o c.args.self.now.plan c.args.self.now.rows c.args.self.now.tally rs) c.in_default.is stands))
+    let taken =
+    c.take-result.ensures.stands rs (subst (λ (o : Option TableFault). StandsBy o c.args.self.now.plan c.args.self.now.rows c.args.self.now.tally rs) c.in_default.is stands.0) in (
+      subst (λ (o : Option TableFault). StandsBy o c.args.self.now.plan c.take-result.new.rows c.take-result.new.tally (rs ++ c.args.data_record.now ∷ [])) (sym c.err-self.ensures.value) taken,
+      λ none. missing_after c.args.self.now.plan c.take-result.new.rows c.take-result.new.tally rs (c.args.data_record.now ∷ []) c.args.self.now.missing c.take-result.new.missing c.take-result.result
+          (stands.1 c.in_default.is) c.take-result.ensures.missing (sym c.err-self.ensures.value ∙ none) taken,
+    )
 
 pub returns-clause-small : goal.returns-clause-small
 unfolding StandsFor plan_of
 returns-clause-small c = λ rs stands.
     small_on_ok c.take-result.result c.args.self.now.plan c.take-result.new.rows c.take-result.new.tally (rs ++ c.args.data_record.now ∷ [])
-    (c.take-result.ensures.stands rs (subst (λ (o : Option TableFault). StandsBy o c.args.self.now.plan c.args.self.now.rows c.args.self.now.tally rs) c.in_default.is stands))
+    (c.take-result.ensures.stands rs (subst (λ (o : Option TableFault). StandsBy o c.args.self.now.plan c.args.self.now.rows c.args.self.now.tally rs) c.in_default.is stands.0))
 
 pub returns-clause-large : goal.returns-clause-large
 unfolding StandsFor plan_of
 returns-clause-large c = λ rs stands.
     large_if_err c.take-result.result c.args.self.now.plan c.take-result.new.rows c.take-result.new.tally (rs ++ c.args.data_record.now ∷ [])
-    (c.take-result.ensures.stands rs (subst (λ (o : Option TableFault). StandsBy o c.args.self.now.plan c.args.self.now.rows c.args.self.now.tally rs) c.in_default.is stands))
+    (c.take-result.ensures.stands rs (subst (λ (o : Option TableFault). StandsBy o c.args.self.now.plan c.args.self.now.rows c.args.self.now.tally rs) c.in_default.is stands.0))

@@ -15,7 +15,7 @@ returns-in-Some-clause-err c = λ none. absurd (one_fault c.args.self.fault c.in
 
 pub returns-in-Some-clause-large : goal.returns-in-Some-clause-large
 unfolding StandsFor plan_of
-returns-in-Some-clause-large c = λ rs stands same. large_of c.args.self.plan c.args.self.rows c.args.self.tally rs c.args.self.fault c.in-Some.fault c.in-Some.is same stands
+returns-in-Some-clause-large c = λ rs stands same. large_of c.args.self.plan c.args.self.rows c.args.self.tally rs c.args.self.fault c.in-Some.fault c.in-Some.is same stands.0
 
 pub returns-clause-fault : goal.returns-clause-fault
 unfolding fault_of
@@ -24,17 +24,17 @@ returns-clause-fault c = if_none c.args.self.fault c.finish_table.result c.in-No
 pub returns-clause-table : goal.returns-clause-table
 unfolding StandsFor plan_of
 returns-clause-table c = λ rs stands.
-    let holds = holds_of c.args.self.plan c.args.self.plan c.args.self.rows c.args.self.tally rs c.args.self.fault refl c.in-None.is stands in
-    IfOk-weaker c.finish_table.result _ _ (λ table h. h rs holds) c.finish_table.ensures.table
+    let holds = holds_of c.args.self.plan c.args.self.plan c.args.self.rows c.args.self.tally rs c.args.self.fault refl c.in-None.is stands.0 in
+    IfOk-weaker c.finish_table.result _ _ (λ table h. h rs holds (stands.1 c.in-None.is)) c.finish_table.ensures.table
 
 pub returns-clause-fits : goal.returns-clause-fits
 unfolding StandsFor plan_of
 returns-clause-fits c = λ rs stands.
-    let holds = holds_of c.args.self.plan c.args.self.plan c.args.self.rows c.args.self.tally rs c.args.self.fault refl c.in-None.is stands in
-    IfOk-weaker c.finish_table.result _ _ (λ table h. table_fits c.args.self.plan rs table holds.keys_fit holds.small (h rs holds)) c.finish_table.ensures.table
+    let holds = holds_of c.args.self.plan c.args.self.plan c.args.self.rows c.args.self.tally rs c.args.self.fault refl c.in-None.is stands.0 in
+    IfOk-weaker c.finish_table.result _ _ (λ table h. table_fits c.args.self.plan rs table holds.keys_fit holds.small (h rs holds (stands.1 c.in-None.is))) c.finish_table.ensures.table
 
 pub returns-clause-small : goal.returns-clause-small
 unfolding StandsFor plan_of
 returns-clause-small c = λ rs stands.
-    let holds = holds_of c.args.self.plan c.args.self.plan c.args.self.rows c.args.self.tally rs c.args.self.fault refl c.in-None.is stands in
+    let holds = holds_of c.args.self.plan c.args.self.plan c.args.self.rows c.args.self.tally rs c.args.self.fault refl c.in-None.is stands.0 in
     on_ok c.finish_table.result holds.small

@@ -1,9 +1,11 @@
-use Rattle.std.proofs.Common.{◌++◌, Option, Some, refl, sym, ap, subst}
+use Rattle.std.proofs.Common.{◌++◌, Option, Some, refl, sym, ap, ◌∙◌, subst}
 use Rattle.flow_table.specs.declared.table_fault.TableFault.{TableFault}
 use Rattle.ipfix_message.specs.Outcome.{unless}
+use Rattle.flow_table.specs.Missing.{missing_of}
+use Rattle.flow_table.specs.Plans.{PlanValue}
 use Rattle.flow_table.specs.Partials.{plan_of, fault_of, StandsFor, StandsBy}
 use Rattle.flow_table.proofs.Bags.{too_large_more}
-use Rattle.flow_table.proofs.Holding.{large_of, small_on_ok, large_if_err, stands_on, stands_taken, holds_of, no_fault, one_fault, answers_unit}
+use Rattle.flow_table.proofs.Holding.{merged_missing, missing_after, on_ok, large_of, small_on_ok, large_if_err, stands_on, stands_taken, holds_of, no_fault, one_fault, answers_unit}
 use Rattle.flow_table.proofs.partial.Partial.merge.Goals as goal
 
 pub returns-in-Some-clause-answer : goal.returns-in-Some-clause-answer
@@ -16,13 +18,16 @@ returns-in-Some-clause-takes_over c = λ none some. absurd (one_fault c.args.sel
 
 pub returns-in-Some-clause-merges : goal.returns-in-Some-clause-merges
 unfolding StandsFor
-returns-in-Some-clause-merges c = λ rs qs stands others. stands_on c.args.self.now.plan c.args.self.now.rows c.args.self.now.tally rs qs c.args.self.now.fault c.in-Some.fault c.in-Some.is stands
+returns-in-Some-clause-merges c = λ rs qs stands others. (
+  stands_on c.args.self.now.plan c.args.self.now.rows c.args.self.now.tally rs qs c.args.self.now.fault c.in-Some.fault c.in-Some.is stands.0,
+  λ none. absurd (one_fault c.args.self.now.fault c.in-Some.fault c.in-Some.is none),
+)
 
 pub returns-in-Some-clause-large : goal.returns-in-Some-clause-large
 unfolding StandsFor plan_of
 returns-in-Some-clause-large c = λ rs qs stands others large.
     too_large_more c.args.self.now.plan rs qs
-    (large_of c.args.self.now.plan c.args.self.now.rows c.args.self.now.tally rs c.args.self.now.fault c.in-Some.fault c.in-Some.is large stands)
+    (large_of c.args.self.now.plan c.args.self.now.rows c.args.self.now.tally rs c.args.self.now.fault c.in-Some.fault c.in-Some.is large stands.0)
 
 pub returns-in-Some-fault-clause-plan : goal.returns-in-Some-fault-clause-plan
 unfolding plan_of
@@ -42,14 +47,16 @@ returns-in-Some-fault-clause-takes_over c = λ none some. sym c.in-Some-fault.is
 
 pub returns-in-Some-fault-clause-merges : goal.returns-in-Some-fault-clause-merges
 unfolding StandsFor plan_of
-returns-in-Some-fault-clause-merges c = λ rs qs stands others.
-    stands_taken c.args.self.now.plan c.args.other.plan c.args.self.now.rows c.args.other.rows c.args.self.now.tally c.args.other.tally rs qs c.args.other.fault c.in-Some-fault.fault c.requires c.in-Some-fault.is others
+returns-in-Some-fault-clause-merges c = λ rs qs stands others. (
+  stands_taken c.args.self.now.plan c.args.other.plan c.args.self.now.rows c.args.other.rows c.args.self.now.tally c.args.other.tally rs qs c.args.other.fault c.in-Some-fault.fault c.requires c.in-Some-fault.is others.0,
+  λ none. cc none,
+)
 
 pub returns-in-Some-fault-clause-large : goal.returns-in-Some-fault-clause-large
 unfolding StandsFor plan_of
 returns-in-Some-fault-clause-large c = λ rs qs stands others large.
     large_of c.args.self.now.plan c.args.self.now.rows c.args.self.now.tally (rs ++ qs) (Some c.in-Some-fault.fault) c.in-Some-fault.fault refl large
-    (stands_taken c.args.self.now.plan c.args.other.plan c.args.self.now.rows c.args.other.rows c.args.self.now.tally c.args.other.tally rs qs c.args.other.fault c.in-Some-fault.fault c.requires c.in-Some-fault.is others)
+    (stands_taken c.args.self.now.plan c.args.other.plan c.args.self.now.rows c.args.other.rows c.args.self.now.tally c.args.other.tally rs qs c.args.other.fault c.in-Some-fault.fault c.requires c.in-Some-fault.is others.0)
 
 pub returns-clause-plan : goal.returns-clause-plan
 unfolding plan_of
@@ -70,23 +77,28 @@ returns-clause-takes_over c = λ none some. absurd (no_fault c.args.other.fault 
 pub returns-clause-merges : goal.returns-clause-merges
 unfolding StandsFor plan_of
 returns-clause-merges c = λ rs qs stands others.
-    subst (λ (o : Option TableFault). StandsBy o c.args.self.now.plan c.join-result.new.rows c.join-result.new.tally (rs ++ qs)) (sym c.err-self.ensures.value)
-    (c.join-result.ensures rs qs
-    (subst (λ (o : Option TableFault). StandsBy o c.args.self.now.plan c.args.self.now.rows c.args.self.now.tally rs) c.in_default.is stands)
-    (holds_of c.args.self.now.plan c.args.other.plan c.args.other.rows c.args.other.tally qs c.args.other.fault c.requires c.in_default-fault.is others))
+    let joined =
+    c.join-result.ensures rs qs
+    (subst (λ (o : Option TableFault). StandsBy o c.args.self.now.plan c.args.self.now.rows c.args.self.now.tally rs) c.in_default.is stands.0)
+    (holds_of c.args.self.now.plan c.args.other.plan c.args.other.rows c.args.other.tally qs c.args.other.fault c.requires c.in_default-fault.is others.0) in
+    let more = others.1 c.in_default-fault.is ∙ ap (λ (p : PlanValue). missing_of p qs) c.requires in (
+      subst (λ (o : Option TableFault). StandsBy o c.args.self.now.plan c.join-result.new.rows c.join-result.new.tally (rs ++ qs)) (sym c.err-self.ensures.value) joined,
+      λ none. missing_after c.args.self.now.plan c.join-result.new.rows c.join-result.new.tally rs qs c.args.self.now.missing c.missing_together-self.result c.join-result.result
+          (stands.1 c.in_default.is) (on_ok c.join-result.result (merged_missing c.args.self.now.plan qs c.args.self.now.missing c.args.other.missing c.missing_together-self.result more c.missing_together-self.ensures)) (sym c.err-self.ensures.value ∙ none) joined,
+    )
 
 pub returns-clause-small : goal.returns-clause-small
 unfolding StandsFor plan_of
 returns-clause-small c = λ rs qs stands others.
     small_on_ok c.join-result.result c.args.self.now.plan c.join-result.new.rows c.join-result.new.tally (rs ++ qs)
     (c.join-result.ensures rs qs
-    (subst (λ (o : Option TableFault). StandsBy o c.args.self.now.plan c.args.self.now.rows c.args.self.now.tally rs) c.in_default.is stands)
-    (holds_of c.args.self.now.plan c.args.other.plan c.args.other.rows c.args.other.tally qs c.args.other.fault c.requires c.in_default-fault.is others))
+    (subst (λ (o : Option TableFault). StandsBy o c.args.self.now.plan c.args.self.now.rows c.args.self.now.tally rs) c.in_default.is stands.0)
+    (holds_of c.args.self.now.plan c.args.other.plan c.args.other.rows c.args.other.tally qs c.args.other.fault c.requires c.in_default-fault.is others.0))
 
 pub returns-clause-large : goal.returns-clause-large
 unfolding StandsFor plan_of
 returns-clause-large c = λ rs qs stands others.
     large_if_err c.join-result.result c.args.self.now.plan c.join-result.new.rows c.join-result.new.tally (rs ++ qs)
     (c.join-result.ensures rs qs
-    (subst (λ (o : Option TableFault). StandsBy o c.args.self.now.plan c.args.self.now.rows c.args.self.now.tally rs) c.in_default.is stands)
-    (holds_of c.args.self.now.plan c.args.other.plan c.args.other.rows c.args.other.tally qs c.args.other.fault c.requires c.in_default-fault.is others))
+    (subst (λ (o : Option TableFault). StandsBy o c.args.self.now.plan c.args.self.now.rows c.args.self.now.tally rs) c.in_default.is stands.0)
+    (holds_of c.args.self.now.plan c.args.other.plan c.args.other.rows c.args.other.tally qs c.args.other.fault c.requires c.in_default-fault.is others.0))
