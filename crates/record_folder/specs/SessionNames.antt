@@ -1,0 +1,35 @@
+-- The names of sessions.
+use Rattle.std.specs.Prelude.{ℕ, false, if◌then◌else◌, List, [], ◌∷◌, ◌++◌, codes, decimal, take, drop, bytes_eq}
+use Rattle.std.specs.List.{flat_map}
+use Rattle.std.specs.Fmt.{digits}
+use Rattle.std.specs.declared.net.ip_addr.IpAddr.{IpAddr}
+use Rattle.std.specs.declared.net.ip_addr.IpAddr.TheVariants.{V4, V6}
+use Rattle.std.specs.declared.net.socket_addr.SocketAddr.{SocketAddr}
+use Rattle.std.specs.Net.Addr.{ipv4_octets, ipv6_segments, octets_of}
+use Rattle.std.specs.Net.Socket.{socket_ip, socket_port}
+use Rattle.std.specs.Net.Text.{ipv4_text}
+
+-- two texts with a hyphen between them
+abbrev pub hyphened : List ℕ → List ℕ → List ℕ
+hyphened front back = front ++ (codes "-" ++ back)
+
+-- a hyphen and a segment of an IPv6 address, in lower-case hexadecimal with no leading zeros
+abbrev pub next_group : ℕ → List ℕ
+next_group segment = codes "-" ++ digits 16 false segment
+
+-- its segments with hyphens between them
+abbrev pub groups : List ℕ → List ℕ
+groups [] = []
+groups (segment ∷ segments) = digits 16 false segment ++ flat_map next_group segments
+
+-- an address with no colon in it: of IPv4 its usual form, also where it is mapped into IPv6
+abbrev pub address_name : IpAddr → List ℕ
+address_name (V4 a) = ipv4_text (ipv4_octets a)
+address_name (V6 a) =
+    if bytes_eq (take 6 (ipv6_segments a)) (0 ∷ 0 ∷ 0 ∷ 0 ∷ 0 ∷ 0xffff ∷ [])
+    then ipv4_text (octets_of (drop 6 (ipv6_segments a)))
+    else groups (ipv6_segments a)
+
+-- the name of a session: its peer's address and port, and its number
+abbrev pub name_of_session : SocketAddr → ℕ → List ℕ
+name_of_session peer number = hyphened (address_name (socket_ip peer)) (hyphened (decimal (socket_port peer)) (decimal number))
