@@ -3,6 +3,7 @@
 //! finished where a clock tells that its period is over.
 #![tactic(auto)]
 
+mod file_report;
 mod file_series;
 pub mod laws;
 mod memory_files;
@@ -16,6 +17,7 @@ mod script_clock;
 mod stamp;
 mod ticking_source;
 
+pub use file_report::FileReport;
 pub use file_series::{FileSeries, NotWritten};
 pub use memory_files::MemoryFiles;
 pub use period_clock::PeriodClock;

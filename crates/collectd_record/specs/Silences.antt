@@ -1,0 +1,17 @@
+-- How long a connection may be silent, and which failing read is a tick.
+use Rattle.std.specs.Prelude.{◌≡◌, ◌≤◌, ◌-◌, ◌⊎◌, Bool, true, false, Option, Some, None}
+use Rattle.std.specs.Duration.{as_nanos}
+use Rattle.std.specs.Time.{instant_nanos}
+use Rattle.std.specs.declared.time.Duration.{Duration}
+use Rattle.std.specs.declared.time.Instant.{Instant}
+use Rattle.std.specs.declared.io.ErrorKind.{ErrorKind}
+use Rattle.std.specs.declared.io.ErrorKind.TheVariants.{Interrupted, TimedOut, WouldBlock}
+
+-- nothing was heard since then, for as long as it may be or longer
+abbrev pub IsTooLong : Option Duration → Option Instant → Option Instant → Type 0
+IsTooLong (Some idle) (Some heard) (Some now) = as_nanos idle ≤ instant_nanos now - instant_nanos heard
+IsTooLong idle heard now = ⊥
+
+-- a read that was interrupted, or reached its time limit while the silence is not too long
+abbrev pub IsTick : ErrorKind → Bool → Type 0
+IsTick kind is_too_long = (kind ≡ Interrupted) ⊎ (((kind ≡ WouldBlock) ⊎ (kind ≡ TimedOut)) × (is_too_long ≡ false))

@@ -1,0 +1,57 @@
+//! The lines of peers that were refused, and of files that an earlier run left.
+
+ghost use Rattle.std.specs.Prelude.{OnOk};
+ghost use Rattle.std.specs.Net.Text.{socket_text};
+ghost use Rattle.std.specs.Io.KnownBytes.{Appends};
+ghost use Rattle.collectd_record.specs.RecordLines.{cut_off_line, recovered_line, refused_line, stayed_line, truncated_line};
+
+use std::io::{self, Write};
+use std::net::SocketAddr;
+
+/// Writes how many peers were refused, and which was the last.
+#[tactic(auto, unfolding(crate::specs::RecordLines::refused_line))]
+pub fn write_refused<W: Write>(count: u64, last: SocketAddr, out: &mut W) -> io::Result<()>
+    ensures { OnOk result (Appends (W.contents out.old) (W.contents out.new)
+        (refused_line count (socket_text last))) }
+{
+    writeln!(out, "collectd: refused {count} connections, last {last}")
+}
+
+/// Writes that a file was moved to its period's folder, and has whole messages alone.
+#[tactic(auto, unfolding(crate::specs::RecordLines::recovered_line))]
+pub fn write_recovered<W: Write>(path: &str, out: &mut W) -> io::Result<()>
+    ensures { OnOk result (Appends (W.contents out.old) (W.contents out.new)
+        (recovered_line path.now)) }
+{
+    writeln!(out, "collectd: recovered: {path}")
+}
+
+/// Writes that a file was moved, and so many octets of a message were cut off its end.
+#[tactic(auto, unfolding(crate::specs::RecordLines::cut_off_line))]
+pub fn write_cut_off<W: Write>(path: &str, octets: u64, out: &mut W) -> io::Result<()>
+    ensures { OnOk result (Appends (W.contents out.old) (W.contents out.new)
+        (cut_off_line path.now octets)) }
+{
+    writeln!(out, "collectd: recovered: {path}: cut off {octets} octets")
+}
+
+/// Writes that a file was moved, and so many octets of a message still stand at its end.
+#[tactic(auto, unfolding(crate::specs::RecordLines::truncated_line))]
+pub fn write_truncated<W: Write>(path: &str, octets: u64, out: &mut W) -> io::Result<()>
+    ensures { OnOk result (Appends (W.contents out.old) (W.contents out.new)
+        (truncated_line path.now octets)) }
+{
+    writeln!(
+        out,
+        "collectd: recovered: {path}: ends {octets} octets into a message"
+    )
+}
+
+/// Writes that a file stays among the unfinished ones.
+#[tactic(auto, unfolding(crate::specs::RecordLines::stayed_line))]
+pub fn write_stayed<W: Write>(path: &str, out: &mut W) -> io::Result<()>
+    ensures { OnOk result (Appends (W.contents out.old) (W.contents out.new)
+        (stayed_line path.now)) }
+{
+    writeln!(out, "collectd: not recovered: {path}")
+}
