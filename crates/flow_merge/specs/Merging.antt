@@ -14,10 +14,13 @@ use Rattle.ipfix_session.specs.Ledger.{domain_report, domains_of}
 use Rattle.ipfix_session.specs.Reports.{passed_over_in}
 use Rattle.ipfix_session.specs.Sources.{SourceView}
 use Rattle.flow_table.specs.AddedUp.{rows_in, AddUpTooLarge, AreAddedUp}
+use Rattle.flow_table.specs.Missing.{by_place, missing_of}
 use Rattle.flow_table.specs.Plans.{PlanValue}
 use Rattle.flow_table.specs.RowTotals.{AreOf, totals_plan}
 use Rattle.flow_table.specs.SameTables.{RowValue}
 use Rattle.flow_table.specs.Tables.{tally_of, IsTable}
+use Rattle.flow_table.specs.declared.missing.Missing.{Missing}
+use Rattle.flow_table.specs.declared.plan.TheConstants.{MAX_KEYS, MAX_COUNTERS}
 use Rattle.flow_table.specs.declared.table.Table.{Table}
 use Rattle.flow_table.specs.declared.tally.Tally.{Tally}
 use Rattle.flow_merge.specs.RowRecords.{IsRowOf, IsRowRecord}
@@ -135,13 +138,17 @@ pub record AddsExport {S : Type 0} (seen : S → SourceView) (limit : ℕ) (old 
 
 -- ---- the tables of records
 
--- a table has the rows of the table of a list of records; the records by class are not exported
+-- a table has the rows of the table of a list of records; the records by class, and what they lack, are not exported
 abbrev pub HasRowsOf : PlanValue → List DataRecord → Table → Type 0
-HasRowsOf plan rs table = IsTable plan rs (record table { tally = tally_of plan rs })
+HasRowsOf plan rs table = IsTable plan rs (record table { tally = tally_of plan rs; missing = missing_of plan rs })
 
 -- what counts no records: exports don't tell them by class
 abbrev pub no_records : Tally
 no_records = record { options = 0; untimed = 0; backward = 0; unkeyed = 0; too_long = 0; used = 0 }
+
+-- what no records lack
+abbrev pub none_missing : Missing
+none_missing = record { start = 0; end = 0; keys = by_place MAX_KEYS (λ k. 0); counters = by_place MAX_COUNTERS (λ c. 0) }
 
 -- all records of some lists
 abbrev pub all_of : List (List DataRecord) → List DataRecord

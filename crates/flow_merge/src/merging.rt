@@ -9,7 +9,7 @@ ghost use Rattle.flow_table.specs.Fitting.{FitsPlan};
 ghost use Rattle.flow_table.specs.SameTables.{RowValue};
 ghost use Rattle.flow_table.specs.Tables.{IsTable};
 ghost use Rattle.flow_table.specs.declared.table.Table.{Table as TableValue};
-ghost use Rattle.flow_merge.specs.Merging.{all_of, merging_plan, AddsExport, HasRowsOf, IsDue, StandsFor, no_records};
+ghost use Rattle.flow_merge.specs.Merging.{all_of, merging_plan, AddsExport, HasRowsOf, IsDue, StandsFor, no_records, none_missing};
 ghost use Rattle.flow_merge.specs.RowSink.{HoldsAfter};
 ghost use Rattle.flow_merge.specs.declared.merge_fault.MergeFault.TheVariants.{OutOfMemory};
 
@@ -17,7 +17,7 @@ use crate::judging::judge;
 use crate::merge_fault::MergeFault;
 use crate::row_reading::read_row;
 use crate::row_sink::RowSink;
-use flow_table::{Plan, RowTotals, Table, Tally};
+use flow_table::{Missing, Plan, RowTotals, Table, Tally};
 use ipfix_message::DataRecord;
 use ipfix_session::{Source, drive};
 use std::alloc::Global;
@@ -85,7 +85,8 @@ impl Merging {
         }
     }
 
-    /// The table of the rows, added up. Its tally is 0: exports don't tell the records by class.
+    /// The table of the rows, added up. Its tally is 0, and nothing is missing: exports don't tell the
+    /// records by class, nor what they lack.
     ///
     /// The fault is `OutOfMemory`: an allocation was refused.
     pub fn finish(self) -> Result<Table, MergeFault>
@@ -101,12 +102,14 @@ impl Merging {
             → AllZip (IsTable (merging_plan self)) lists tables
             → IfOk result (HasRowsOf (merging_plan self) (all_of lists)) }
         ensures tally { IfOk result (λ table. table.tally ≡ no_records) }
+        ensures missing { IfOk result (λ table. table.missing ≡ none_missing) }
         ensures err { IfErr result (λ e. e ≡ OutOfMemory) }
     {
         let Merging { totals, .. } = self;
         Ok(Table {
             rows: totals.finish()?,
             tally: Tally::EMPTY,
+            missing: Missing::NONE,
         })
     }
 }

@@ -1,14 +1,13 @@
-use Rattle.std.proofs.Common.{◌≡◌, ◌++◌, ◌∷◌, [], List, refl, subst, rules}
-use Rattle.ipfix_message.specs.declared.record.DataRecord.{DataRecord}
+use Rattle.std.proofs.Common.{◌++◌, ◌∷◌, [], refl, subst}
 use Rattle.flow_table.specs.Plans.{PlanValue}
 use Rattle.flow_table.specs.RowTotals.{totals_plan}
-use Rattle.flow_table.specs.SameTables.{RowValue, value_of}
+use Rattle.flow_table.specs.SameTables.{value_of}
 use Rattle.flow_merge.specs.Merging.{StandsFor, merging_plan}
 use Rattle.flow_merge.specs.MergeFaults.{fault_of_row, fault_of_table}
 use Rattle.flow_merge.specs.RowFaults.{IsRowFault}
 use Rattle.flow_merge.specs.RowRecords.{IsRowRecord}
 use Rattle.flow_merge.specs.RowSink.{HoldsAfter}
-use Rattle.flow_merge.proofs.RowsRead.{Behind, behind_more, other_holds, large_holds, err_is, row_of_plan, same_behind}
+use Rattle.flow_merge.proofs.RowsRead.{behind_more, other_holds, large_holds, err_is, row_of_plan, same_behind}
 use Rattle.flow_merge.proofs.merging.Merging.add.Goals as goal
 
 pub add-requires : goal.add-requires

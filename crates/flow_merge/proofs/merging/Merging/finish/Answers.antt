@@ -1,6 +1,7 @@
 use Rattle.std.proofs.Common.{refl}
 use Rattle.std.specs.Prelude.{flat_map}
 use Rattle.flow_table.specs.AddedUp.{rows_in}
+use Rattle.flow_table.specs.Missing.{missing_of}
 use Rattle.flow_table.specs.RowTotals.{totals_plan}
 use Rattle.flow_table.specs.Tables.{tally_of}
 use Rattle.flow_table.proofs.TablesAdded.{tables_are_added}
@@ -28,4 +29,4 @@ pub returns-clause-tables : goal.returns-clause-tables
 unfolding StandsFor merging_plan
 returns-clause-tables c = λ lists tables stands are.
     let plan = (totals_plan c.args.self.totals) in
-    tables_are_added plan lists tables (record { rows = c.in_ok-finish.field-0; tally = tally_of plan (all_of lists) }) are (c.in_ok-finish.ensures.sums (flat_map rows_in tables) stands.0) refl
+    tables_are_added plan lists tables (record { rows = c.in_ok-finish.field-0; tally = tally_of plan (all_of lists); missing = missing_of plan (all_of lists) }) are (c.in_ok-finish.ensures.sums (flat_map rows_in tables) stands.0) refl refl
