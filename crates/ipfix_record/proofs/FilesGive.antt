@@ -1,6 +1,6 @@
 -- What the files of a recorded session give.
-use Rattle.std.proofs.Common.{◌≡◌, ℕ, List, [], ◌∷◌, ◌++◌, refl, sym, ap, subst, ◌∙◌, append_assoc, inl, inr, map}
-use Rattle.std.specs.Prelude.{All, Option, Some, None, Ok, true}
+use Rattle.std.proofs.Common.{◌≡◌, ℕ, List, [], ◌∷◌, ◌++◌, refl, sym, ap, subst, ◌∙◌, append_assoc, map}
+use Rattle.std.specs.Prelude.{All, Option, Some, None, Result, Ok, true}
 use Rattle.std.specs.Option.{ForSome}
 use Rattle.std.specs.Io.KnownBytes.{Consumes}
 use Rattle.ipfix_session.specs.Sources.{SourceView}
@@ -14,13 +14,18 @@ use Rattle.ipfix_session.specs.declared.stop.Stop.{Stop}
 use Rattle.ipfix_session.specs.declared.stop.Stop.TheVariants.{Clean, Short, Fault}
 use Rattle.ipfix_session.specs.Given.{Given, gives, records_in, records_of, stop_of, IsOpen, IsPrefix}
 use Rattle.ipfix_session.proofs.Giving.{records_in-append, records_of-prefix, gives_after-fault_stays}
+use Rattle.ipfix_session.specs.Drives.{IsDue}
+use Rattle.ipfix_record.specs.declared.record_fault.RecordFault.{RecordFault}
+use Rattle.ipfix_record.specs.declared.recorded_session.RecordedSession.{RecordedSession}
+use Rattle.ipfix_record.specs.FileReports.{file_reports}
 use Rattle.ipfix_record.specs.Recordings.{Part, Recorded}
 use Rattle.ipfix_record.specs.Faithful.{all_given, IsReadAlone}
 use Rattle.ipfix_record.specs.Files.{Contents, FilesView, all_of}
-use Rattle.ipfix_record.specs.Periods.{ClockView, finished_by}
-use Rattle.ipfix_record.specs.Sessions.{file_octets, parts, Stands, IsCutOff, HoldsAll, HoldsCut, RecordsSession}
-use Rattle.ipfix_record.proofs.Growing.{writes_more}
-use Rattle.ipfix_record.proofs.Going.{WritesPart, recorded-push, all_given-parts, octets-push, octets-append}
+use Rattle.ipfix_record.specs.Periods.{ClockView, octets_before, finished_by}
+use Rattle.ipfix_record.specs.Sessions.{file_octets, parts, Stands, IsCutOff, HoldsAll, HoldsCut, HoldsBy, IsTold, fault_of, RecordsSession}
+use Rattle.ipfix_record.proofs.Growing.{writes-append}
+use Rattle.ipfix_record.proofs.Gatherings.{octets-append}
+use Rattle.ipfix_record.proofs.Going.{WritesPart, recorded-push, all_given-parts}
 use Rattle.ipfix_record.proofs.Together.{is_faithful}
 
 all_clean : (ps : List Part) → All IsReadAlone ps → All (λ file. stop_of file ≡ Clean) (map file_octets ps)
@@ -35,19 +40,19 @@ all_records (p ∷ ps) all =
     ∙ sym (records_in-append p.given (all_given ps))
 
 -- what is told of files that tell their octets
-told : (first after : Option Contents) (none c : Contents) (finished : List Part) (last : Part) (cut_off : List ℕ) → first ≡ Some none → after ≡ Some c → Stands first after finished last cut_off
-    → (c.finished ≡ none.finished ++ map file_octets finished) × (c.unfinished ≡ file_octets last ++ cut_off)
-told first after none c finished last cut_off is now stands =
+pub contents_are : (first after : Option Contents) (none c : Contents) (finished : List Part) (last : Part) (cut_off : List ℕ) → first ≡ Some none → after ≡ Some c → Stands first after finished last cut_off
+    → (c.finished ≡ none.finished ++ map file_octets finished) × (c.reports ≡ none.reports ++ file_reports [] finished) × (c.unfinished ≡ file_octets last ++ cut_off)
+contents_are first after none c finished last cut_off is now stands =
     subst (λ (o : Option Contents). Stands (Some none) o finished last cut_off) now (subst (λ (o : Option Contents). Stands o after finished last cut_off) is stands)
 
-pub files_give : (text : List ℕ) (files : List (List Message)) (first after : FilesView) (start c : Contents) → HoldsAll text files first after → first.contents ≡ Some start → start.finished ≡ [] → after.contents ≡ Some c
+pub files_give : (told : List Message → List Message → Type 0) (text : List ℕ) (files : List (List Message)) (first after : FilesView) (start c : Contents) → HoldsAll told text files first after → first.contents ≡ Some start → start.finished ≡ [] → after.contents ≡ Some c
     → All (λ file. stop_of file ≡ Clean) (all_of c) × (flat_map records_of (all_of c) ≡ records_of text)
-files_give text files first after start c h is none now =
+files_give told text files first after start c h is none now =
     let ps = parts h.some.holds.finished h.some.holds.last in
     let read = (is_faithful ps h.some.holds.recorded).files in
-    let t = told first.contents after.contents start c h.some.holds.finished h.some.holds.last [] is now h.some.holds.stands in
+    let t = contents_are first.contents after.contents start c h.some.holds.finished h.some.holds.last [] is now h.some.holds.stands in
     let are : all_of c ≡ map file_octets ps =
-    ap (λ (w : List ℕ). c.finished ++ w ∷ []) (t.1 ∙ append-nil (file_octets h.some.holds.last))
+    ap (λ (w : List ℕ). c.finished ++ w ∷ []) (t.2 ∙ append-nil (file_octets h.some.holds.last))
     ∙ ap (λ (fs : List (List ℕ)). fs ++ file_octets h.some.holds.last ∷ []) (t.0 ∙ ap (λ (fs : List (List ℕ)). fs ++ map file_octets h.some.holds.finished) none)
     ∙ sym (map-append file_octets h.some.holds.finished (h.some.holds.last ∷ [])) in (
       subst (λ (fs : List (List ℕ)). All (λ file. stop_of file ≡ Clean) fs) (sym are) (all_clean ps read),
@@ -107,42 +112,32 @@ recorded-last before (q ∷ ps) p r =
     ((r.0, more.0), subst (λ (b : List Message). WritesPart b p) (append_assoc before q.given (all_given ps)) more.1)
 
 -- the file as it was to be
-abbrev with_message : Part → List (List ℕ) → List ℕ → Message → Part
-with_message p lead m x = record { messages = p.messages ++ m ∷ []; given = p.given ++ x ∷ []; file = p.file ++ (lead ++ m ∷ []) }
+abbrev with_messages : Part → List (List ℕ) → List Message → List (List ℕ) → Part
+with_messages p messages given file = record { messages = p.messages ++ messages; given = p.given ++ given; file = p.file ++ file }
 
 kept_cut : (text : List ℕ) (finished : List Part) (last : Part) (cut_off : List ℕ) → Recorded [] (parts finished last) → IsCutOff text (all_given finished) last.given cut_off
     → All (λ file. IsOpen (stop_of file)) (map file_octets finished ++ (file_octets last ++ cut_off) ∷ []) × IsPrefix (flat_map records_of (map file_octets finished ++ (file_octets last ++ cut_off) ∷ [])) (records_of text)
 kept_cut text finished last cut_off recorded c =
     let was = recorded-last [] finished last recorded in
-    let q = with_message last c.lead c.message c.given in
-    let now : Recorded [] (parts finished q) = recorded-push [] finished q was.0 (writes_more (all_given finished) [] last.messages last.given last.file c.message c.given c.lead was.1 c.read c.precedes) in
+    let q = with_messages last c.messages c.given c.file in
+    let now : Recorded [] (parts finished q) = recorded-push [] finished q was.0 (writes-append (all_given finished) [] last.messages c.messages last.given c.given last.file c.file was.1 c.writes) in
     let octets : file_octets q ≡ (file_octets last ++ cut_off) ++ c.first.0 =
-    octets-append last.file (c.lead ++ c.message ∷ []) ∙ ap (λ (w : List ℕ). file_octets last ++ w) (octets-push c.lead c.message ∙ c.first.1) ∙ sym (append_assoc (file_octets last) cut_off c.first.0) in
+    octets-append last.file c.file ∙ ap (λ (w : List ℕ). file_octets last ++ w) c.first.1 ∙ sym (append_assoc (file_octets last) cut_off c.first.0) in
     let k = kept finished q (file_octets last ++ cut_off) c.first.0 (is_faithful (parts finished q) now).files octets in
     let given : IsPrefix (all_given (parts finished q)) (gives text).messages = subst (λ (ms : List Message). IsPrefix ms (gives text).messages) (sym (all_given-parts finished q)) c.next in
     (k.0, prefix-trans (flat_map records_of (map file_octets finished ++ (file_octets last ++ cut_off) ∷ [])) (records_in (all_given (parts finished q))) (records_of text) k.1 (records-prefix (all_given (parts finished q)) (gives text).messages given))
 
-kept_none : (text : List ℕ) (finished : List Part) (last : Part) (cut_off : List ℕ) → Recorded [] (parts finished last) → IsPrefix (all_given (parts finished last)) (gives text).messages → cut_off ≡ []
-    → All (λ file. IsOpen (stop_of file)) (map file_octets finished ++ (file_octets last ++ cut_off) ∷ []) × IsPrefix (flat_map records_of (map file_octets finished ++ (file_octets last ++ cut_off) ∷ [])) (records_of text)
-kept_none text finished last cut_off recorded given none =
-    let octets : file_octets last ≡ (file_octets last ++ cut_off) ++ [] = sym (append-nil (file_octets last ++ cut_off) ∙ ap (λ (w : List ℕ). file_octets last ++ w) none ∙ append-nil (file_octets last)) in
-    let k = kept finished last (file_octets last ++ cut_off) [] (is_faithful (parts finished last) recorded).files octets in
-    (k.0, prefix-trans (flat_map records_of (map file_octets finished ++ (file_octets last ++ cut_off) ∷ [])) (records_in (all_given (parts finished last))) (records_of text) k.1 (records-prefix (all_given (parts finished last)) (gives text).messages given))
-
-pub files_keep : (text : List ℕ) (files : List (List Message)) (first after : FilesView) (start c : Contents) → HoldsCut text files first after → first.contents ≡ Some start → start.finished ≡ [] → after.contents ≡ Some c
+pub files_keep : (told : List Message → List Message → Type 0) (text earlier : List ℕ) (files : List (List Message)) (first after : FilesView) (start c : Contents) → HoldsCut told text earlier files first after → first.contents ≡ Some start → start.finished ≡ [] → after.contents ≡ Some c
     → All (λ file. IsOpen (stop_of file)) (all_of c) × IsPrefix (flat_map records_of (all_of c)) (records_of text)
-files_keep text files first after start c h is none now =
+files_keep told text earlier files first after start c h is none now =
     let finished = h.holds.finished in
     let last = h.holds.last in
-    let t = told first.contents after.contents start c finished last h.cut_off is now h.holds.stands in
+    let t = contents_are first.contents after.contents start c finished last h.cut_off is now h.holds.stands in
     let are : all_of c ≡ map file_octets finished ++ (file_octets last ++ h.cut_off) ∷ [] =
-    ap (λ (w : List ℕ). c.finished ++ w ∷ []) t.1
+    ap (λ (w : List ℕ). c.finished ++ w ∷ []) t.2
     ∙ ap (λ (fs : List (List ℕ)). fs ++ (file_octets last ++ h.cut_off) ∷ []) (t.0 ∙ ap (λ (fs : List (List ℕ)). fs ++ map file_octets finished) none) in
     subst (λ (fs : List (List ℕ)). All (λ file. IsOpen (stop_of file)) fs × IsPrefix (flat_map records_of fs) (records_of text)) (sym are)
-    (elim h.why [
-      | inl nothing ↦ kept_none text finished last h.cut_off h.holds.recorded h.holds.given nothing
-      | inr cut ↦ kept_cut text finished last h.cut_off h.holds.recorded cut
-    ])
+    (kept_cut text finished last h.cut_off h.holds.recorded h.next)
 
 -- ---- to the end of the source
 
@@ -152,13 +147,15 @@ consumed_all before (Some left) whole gave is some end =
     let all : whole ≡ gave ++ left = subst (λ b. Consumes b (Some left) gave) is some in
     sym (all ∙ ap (λ (w : List ℕ). gave ++ w) (end left refl) ∙ append-nil gave)
 
-pub recorded_all : {S F C : Type 0} (seen : S → SourceView) (view : F → FilesView) (asked : C → ClockView) (limit most : ℕ) (before after : S) (first last : F) (clock then : C) (text : List ℕ) (start c : Contents)
+pub recorded_all : {S F C : Type 0} (seen : S → SourceView) (view : F → FilesView) (asked : C → ClockView) (limit most : ℕ) (before after : S) (first last : F) (clock then : C) (text : List ℕ) (start c : Contents) (s : RecordedSession)
     → ((seen after).ended ≡ true → ForSome (seen after).text (λ xs. xs ≡ []))
-    → RecordsSession seen view asked limit most before after first last clock then (Ok tt) → (seen before).text ≡ Some text
+    → RecordsSession seen view asked limit most before after first last clock then s → s.ended ≡ Ok tt → (seen before).text ≡ Some text
     → (view first).contents ≡ Some start → start.finished ≡ [] → (view last).contents ≡ Some c
     → (stop_of text ≡ Clean) × All (λ file. stop_of file ≡ Clean) (all_of c) × (flat_map records_of (all_of c) ≡ records_of text)
-recorded_all seen view asked limit most before after first last clock then text start c at_end r is is_first none now =
-    let due = r.given.fault_is_due in
+recorded_all seen view asked limit most before after first last clock then text start c s at_end r ok is is_first none now =
+    let due : IsDue None limit r.gave (seen before) (seen after) = subst (λ (a : Result (Unit {0}) RecordFault). IsDue (fault_of a) limit r.gave (seen before) (seen after)) ok r.given.fault_is_due in
+    let holds : HoldsAll (IsTold s) r.gave (finished_by r.reads) (view first) (view last) =
+    subst (λ (a : Result (Unit {0}) RecordFault). HoldsBy (IsTold s) a r.gave (octets_before r.reads) (finished_by r.reads) (view first) (view last)) ok r.holds in
     let all : r.gave ≡ text = consumed_all (seen before).text (seen after).text text r.gave is r.given.octets (at_end due.1) in
-    let f = files_give r.gave (finished_by r.reads) (view first) (view last) start c r.holds is_first none now in
+    let f = files_give (IsTold s) r.gave (finished_by r.reads) (view first) (view last) start c holds is_first none now in
     (ap stop_of (sym all) ∙ due.0, f.0, f.1 ∙ ap records_of all)

@@ -64,16 +64,15 @@ due_more all x d o is = rw (has-push all x d) (by_test (eqb d x.header.domain) r
     by_test true e = rw (right (has all d)) (ap (λ (p : Option ℕ). Some p) (sym (own_in e)))
     by_test false e = rw (left (has all d), own_out e) is
 
-pub keeps_on : (s t : State) (before here : List Message) (x : Message) (h : Header) (records unknown : ℕ) → Keeps s before here → t.ended ≡ None → t.domains.spent ≡ false → StandsFor t.domains.domains x.domains
+pub keeps_on : (s t : State) (before here : List Message) (x : Message) (h : Header) (records unknown : ℕ) → Keeps s before here → t.domains.spent ≡ false → StandsFor t.domains.domains x.domains
     → h ≡ x.header → records ≡ count_in x → unknown ≡ x.decoding.passed_over.unknown_sets
     → t.due ≡ insert_entry eqb s.due h.domain (due_for h records unknown) → t.here ≡ insert_entry eqb s.here h.domain true → Keeps t before (here ++ x ∷ [])
-keeps_on s t before here x h records unknown keeps not_ended fresh stands is_header is_records is_unknown is_due is_here =
+keeps_on s t before here x h records unknown keeps fresh stands is_header is_records is_unknown is_due is_here =
     let now : known_after [] (before ++ (here ++ x ∷ [])) ≡ x.domains = ap (known_after []) (sym (append_assoc before here (x ∷ []))) ∙ known-append [] (before ++ here) (x ∷ []) in
     let due : due_for h records unknown ≡ due_after x = rw (is_header, is_records, is_unknown) refl in
     let where_to : insert_entry eqb s.due h.domain (due_for h records unknown) ≡ insert_entry eqb s.due x.header.domain (due_after x) =
     ap (insert_entry eqb s.due h.domain) due ∙ ap (λ (k : Header). insert_entry eqb s.due k.domain (due_after x)) is_header in
     record {
-      not_ended = not_ended;
       not_spent = fresh;
       known = rw now stands;
       due = λ d.

@@ -6,6 +6,11 @@ pub mod PreamblesAre
 pub mod Leading
 pub mod Keeping
 pub mod Growing
+pub mod FileCounts
+pub mod Counts
+pub mod Gatherings
 pub mod Going
 pub mod ReadOn
 pub mod FilesGive
+pub mod Adding
+pub mod FaultNumbers

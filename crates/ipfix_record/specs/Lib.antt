@@ -1,10 +1,14 @@
 -- What public contracts cite.
+pub mod Faults
 pub mod Preambles
 pub mod Recordings
+pub mod FileReports
 pub mod Faithful
 pub mod Recorders
 pub mod Files
 pub mod Periods
 pub mod Sessions
 -- What only inner functions and proofs need.
+pub mod Counting
+pub mod Gathering
 pub mod Between

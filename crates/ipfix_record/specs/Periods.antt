@@ -54,6 +54,11 @@ abbrev pub octets_read : {S C : Type 0} → List (AskedRead S C) → List ℕ
 octets_read [] = []
 octets_read (h ∷ hs) = octets_read hs ++ h.octets
 
+-- those of the reads before the last
+abbrev pub octets_before : {S C : Type 0} → List (AskedRead S C) → List ℕ
+octets_before [] = []
+octets_before (h ∷ hs) = octets_read hs
+
 -- ---- the files by their periods
 
 -- the messages of a text that stand in none of these finished files

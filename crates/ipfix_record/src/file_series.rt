@@ -1,5 +1,6 @@
 //! Where the files of a session are.
 
+use crate::file_report::FileReport;
 use thiserror::Error;
 
 /// A file was not written, or not finished.
@@ -12,8 +13,8 @@ pub struct NotWritten;
 pub trait FileSeries {
     ghost use Rattle.ipfix_record.specs.Files.{FilesView, Appends, Turns};
 
-    /// What contracts see of it: the octets of the finished files in order and those of the file that
-    /// isn't finished, if it tells them, and how many calls failed.
+    /// What contracts see of it: the octets and the reports of the finished files in order and the octets
+    /// of the file that isn't finished, if it tells them, and how many calls failed.
     ghost seen: { Self → FilesView };
 
     /// Appends octets to the file that isn't finished; they are written when the call returns. After an
@@ -21,7 +22,8 @@ pub trait FileSeries {
     fn append(&mut self, octets: &[u8]) -> Result<(), NotWritten>
         ensures { Appends result octets.now (seen self.old) (seen self.new) };
 
-    /// Finishes that file, and begins the next. After an `Err` this may have been done or not.
-    fn turn(&mut self) -> Result<(), NotWritten>
-        ensures { Turns result (seen self.old) (seen self.new) };
+    /// Finishes that file, of which this is the report, and begins the next. After an `Err` this may have
+    /// been done or not.
+    fn turn(&mut self, report: &FileReport) -> Result<(), NotWritten>
+        ensures { Turns result report.now (seen self.old) (seen self.new) };
 }

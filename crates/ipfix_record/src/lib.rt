@@ -3,17 +3,23 @@
 //! finished where a clock tells that its period is over.
 #![tactic(auto)]
 
+mod counting;
 mod file_report;
 mod file_series;
+mod gathering;
 pub mod laws;
 mod memory_files;
+mod message_count;
 mod period_clock;
 mod pieces;
 mod preamble;
+mod reads;
 mod record_fault;
+mod recorded_session;
 mod recorder;
 mod recording;
 mod script_clock;
+mod session_counts;
 mod stamp;
 mod ticking_source;
 
@@ -22,7 +28,7 @@ pub use file_series::{FileSeries, NotWritten};
 pub use memory_files::MemoryFiles;
 pub use period_clock::PeriodClock;
 pub use record_fault::RecordFault;
-pub use recorder::Recorder;
+pub use recorded_session::RecordedSession;
 pub use recording::record;
 pub use script_clock::ScriptClock;
 pub use ticking_source::TickingSource;

@@ -3,6 +3,7 @@
 ghost use Rattle.std.specs.Prelude.{◌≡◌, Some, map};
 ghost use Rattle.ipfix_record.specs.Files.{no_files};
 
+use crate::file_report::FileReport;
 use crate::file_series::{FileSeries, NotWritten};
 use std::alloc::Global;
 use std::mem;
@@ -12,6 +13,8 @@ use std::mem;
 pub struct MemoryFiles {
     /// The octets of the finished files, in order.
     pub finished: Vec<Vec<u8>>,
+    /// What was reported of each of them.
+    pub reports: Vec<FileReport>,
     /// The octets of the file that isn't finished.
     pub unfinished: Vec<u8>,
     /// How many calls failed; it stops at `u64::MAX`.
@@ -27,6 +30,7 @@ impl MemoryFiles {
     {
         MemoryFiles {
             finished: Vec::new(alloc),
+            reports: Vec::new(alloc),
             unfinished: Vec::new(alloc),
             failed: 0,
             room,
@@ -39,6 +43,7 @@ impl FileSeries for MemoryFiles {
     ghost seen = { λ f. record {
       contents = Some (record {
         finished = map (λ v. v.items) f.finished.items;
+        reports = f.reports.items;
         unfinished = f.unfinished.items;
       });
       failed = f.failed;
@@ -58,14 +63,15 @@ impl FileSeries for MemoryFiles {
         Ok(())
     }
 
-    fn turn(&mut self) -> Result<(), NotWritten> {
-        if self.finished.reserve(1).is_err() {
+    fn turn(&mut self, report: &FileReport) -> Result<(), NotWritten> {
+        if self.finished.reserve(1).is_err() || self.reports.reserve(1).is_err() {
             self.failed = self.failed.saturating_add(1);
             return Err(NotWritten);
         }
         let next = Vec::new(self.alloc);
         let file = mem::replace(&mut self.unfinished, next);
         self.finished.push_reserved(file);
+        self.reports.push_reserved(*report);
         Ok(())
     }
 }

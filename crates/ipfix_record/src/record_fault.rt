@@ -1,10 +1,15 @@
 //! Why a recording ended early.
 
-ghost use Rattle.std.specs.Prelude.{◌≡◌};
+ghost use Rattle.std.specs.Prelude.{◌≡◌, Some, Err};
 ghost use Rattle.ipfix_message.specs.declared.fault.MessageFault.TheVariants.{OutOfMemory};
 ghost use Rattle.ipfix_record.specs.declared.record_fault.RecordFault.TheVariants.{Message};
+ghost use Rattle.ipfix_record.specs.declared.record_fault.RecordFault.TheVariants as faults;
+ghost use Rattle.ipfix_record.specs.Faults.{number_of, name_of};
+ghost use Rattle.ipfix_record.specs.Sessions.{fault_of};
 
+use crate::file_series::NotWritten;
 use ipfix_message::MessageFault;
+use ipfix_session::SessionFault;
 use std::alloc::AllocError;
 use thiserror::Error;
 
@@ -28,11 +33,54 @@ pub enum RecordFault {
     NotWritten,
 }
 
+impl RecordFault {
+    /// The number that reports give for the fault. The faults that sessions have keep their numbers.
+    pub fn number(&self) -> u8
+        ensures { result ≡ number_of self.now }
+    {
+        match self {
+            RecordFault::NotWritten => 19,
+            fault => fault.of_session().number(),
+        }
+    }
+
+    /// The name that reports give for the fault. The faults that sessions have keep their names.
+    pub fn name(&self) -> &'static str
+        ensures { result.now ≡ name_of self.now }
+    {
+        match self {
+            RecordFault::NotWritten => "NotWritten",
+            fault => fault.of_session().name(),
+        }
+    }
+
+    /// The fault as a session's: files that take no more are a sink that takes no more.
+    pub fn of_session(&self) -> SessionFault
+        ensures { Some result ≡ fault_of (Err self.now) }
+    {
+        match self {
+            RecordFault::Message(fault) => SessionFault::Message(*fault),
+            RecordFault::Truncated => SessionFault::Truncated,
+            RecordFault::ReadFailed => SessionFault::ReadFailed,
+            RecordFault::TooManyReads => SessionFault::TooManyReads,
+            RecordFault::NotWritten => SessionFault::SinkClosed,
+        }
+    }
+}
+
 impl From<MessageFault> for RecordFault {
     ghost from_gives = { λ m e. e ≡ Message m };
 
     fn from(fault: MessageFault) -> RecordFault {
         RecordFault::Message(fault)
+    }
+}
+
+impl From<NotWritten> for RecordFault {
+    ghost from_gives = { λ _ e. e ≡ faults.NotWritten };
+
+    fn from(_e: NotWritten) -> RecordFault {
+        RecordFault::NotWritten
     }
 }
 

@@ -1,6 +1,6 @@
-//! A session that is recorded.
+//! What a file of a session has for each message.
 
-ghost use Rattle.std.specs.Prelude.{◌≡◌, ◌≢◌, ◌++◌, [], List, Ok, Err, Some, None, OnOk, IfErr, MatchBool, nat_eq, true};
+ghost use Rattle.std.specs.Prelude.{◌≡◌, ◌≢◌, ◌++◌, [], List, Ok, OnOk, IfOk, IfErr, MatchBool, nat_eq, true};
 ghost use Rattle.indexmap.specs.IndexMap.{insert_entry};
 ghost use Rattle.ipfix_wire.specs.declared.header.Header.{Header as HeaderValue};
 ghost use Rattle.ipfix_message.specs.Domains.{Message, message_header, message_gives};
@@ -8,23 +8,23 @@ ghost use Rattle.ipfix_message.specs.Outcome.{Fails};
 ghost use Rattle.ipfix_session.specs.Given.{known_after};
 ghost use Rattle.ipfix_record.specs.Recorders.{Keeps, Leading, Records, due_for};
 
+use crate::message_count::MessageCount;
 use crate::preamble::{append_bare_message, append_preamble};
 use crate::stamp::Stamp;
 use indexmap::IndexMap;
-use ipfix_message::{Decoded, Domains, MessageFault};
+use ipfix_message::{Domains, MessageFault};
 use ipfix_wire::{HEADER_LENGTH, Header, read_header};
 use std::alloc::{AllocError, Global};
 use std::marker::Model;
 
 /// What is kept of a session while it is recorded: its domains, the sequence number that is due in
-/// each, which of them the file has, and the fault that ended it.
+/// each, and which of them the file has.
 #[derive(Drop)]
 pub struct Recorder {
     domains: Domains,
     due: IndexMap<u32, Option<u32>>,
     here: IndexMap<u32, bool>,
     body: Vec<u8>,
-    ended: Option<MessageFault>,
 }
 
 impl Model for Recorder {
@@ -36,7 +36,6 @@ impl Model for Recorder {
       domains = r.domains;
       due = r.due.entries;
       here = r.here.entries;
-      ended = r.ended;
     } };
 }
 
@@ -50,19 +49,15 @@ impl Recorder {
             due: IndexMap::new(alloc),
             here: IndexMap::new(alloc),
             body: Vec::new(alloc),
-            ended: None,
         }
     }
 
-    /// Begins the session's next file. After a fault it changes nothing.
+    /// Begins the session's next file.
     pub fn turn(&mut self)
-        ensures keeps { (before here : List Message) → Keeps self.old before here
+        ensures { (before here : List Message) → Keeps self.old before here
             → Keeps self.new (before ++ here) [] }
-        ensures again { (fault : MessageFault) → self.old.ended ≡ Some fault → self.new ≡ self.old }
     {
-        if self.ended.is_none() {
-            self.here.clear();
-        }
+        self.here.clear();
     }
 
     /// Whether a message was recorded in this file.
@@ -115,7 +110,6 @@ impl Recorder {
     // Keeps what a message says of its domain.
     fn keep(&mut self, header: &Header, records: usize, unknown_sets: u64) -> Result<(), AllocError>
         ensures domains { self.new.domains ≡ self.old.domains }
-        ensures ended { self.new.ended ≡ self.old.ended }
         ensures due { OnOk result (self.new.due ≡ insert_entry nat_eq self.old.due
             header.now.domain (due_for header.now records unknown_sets)) }
         ensures in_file { OnOk result (self.new.here
@@ -134,19 +128,23 @@ impl Recorder {
         Ok(())
     }
 
-    // Makes what a file has for a message.
-    fn make(
+    /// Makes what a file has for a message: its domain's templates, if this file has none of its
+    /// messages and an earlier file has, and then the message as it came. What stood in `out` before
+    /// is gone. It answers what the message adds to the counts.
+    ///
+    /// The fault is the message's, or `OutOfMemory`. After a fault the recorder is of no use.
+    pub fn put_message(
         &mut self,
         alloc: Global,
         message: &[u8],
         out: &mut Vec<u8>,
-    ) -> Result<Decoded, MessageFault>
+    ) -> Result<MessageCount, MessageFault>
         ensures records { (before here : List Message) → Keeps self.old before here
-            → OnOk result (Records before here self.new message.now out.new.items) }
+            → IfOk result (λ count.
+            Records before here self.new message.now out.new.items count) }
         ensures fails { (before here : List Message) → Keeps self.old before here
             → IfErr result (λ fault.
             Fails fault (message_gives (known_after [] (before ++ here)) message.now)) }
-        ensures ended { self.new.ended ≡ self.old.ended }
     {
         out.clear();
         self.append_lead_of(message, out)?;
@@ -156,40 +154,10 @@ impl Recorder {
         };
         out.extend_from_slice(message)?;
         self.keep(&decoded.header, decoded.records.len(), decoded.unknown_sets)?;
-        Ok(decoded)
-    }
-
-    /// Makes what a file has for a message: its domain's templates, if this file has none of its
-    /// messages and an earlier file has, and then the message as it came. What stood in `out` before
-    /// is gone.
-    ///
-    /// The fault is the message's, or `OutOfMemory`. After a fault nothing is to be written, and each
-    /// further call answers it again and changes nothing.
-    pub fn put_message(
-        &mut self,
-        alloc: Global,
-        message: &[u8],
-        out: &mut Vec<u8>,
-    ) -> Result<Decoded, MessageFault>
-        ensures records { (before here : List Message) → Keeps self.old before here
-            → OnOk result (Records before here self.new message.now out.new.items) }
-        ensures fails { (before here : List Message) → Keeps self.old before here
-            → IfErr result (λ fault.
-            Fails fault (message_gives (known_after [] (before ++ here)) message.now)) }
-        ensures ok { OnOk result (self.new.ended ≡ None) }
-        ensures err { IfErr result (λ fault. self.new.ended ≡ Some fault) }
-        ensures again { (fault : MessageFault) → self.old.ended ≡ Some fault
-            → (result ≡ Err fault) × (self.new ≡ self.old) × (out.new ≡ out.old) }
-    {
-        if let Some(fault) = self.ended {
-            return Err(fault);
-        }
-        match self.make(alloc, message, out) {
-            Ok(decoded) => Ok(decoded),
-            Err(fault) => {
-                self.ended = Some(fault);
-                Err(fault)
-            }
-        }
+        Ok(MessageCount {
+            header: decoded.header,
+            records: decoded.records.len() as u64,
+            passed_over: decoded.passed_over(),
+        })
     }
 }

@@ -21,7 +21,7 @@ use Rattle.ipfix_session.specs.Tallies.{added_up}
 
 -- ---- one more message of a domain
 
-neighbours-push : (f : Message → Message → ℕ) (after : Message → Option ℕ) (g : Option ℕ → ℕ → ℕ) → ((n : ℕ) → g None n ≡ 0) → ((m n : Message) → f m n ≡ g (after m) n.header.sequence)
+pub neighbours-push : (f : Message → Message → ℕ) (after : Message → Option ℕ) (g : Option ℕ → ℕ → ℕ) → ((n : ℕ) → g None n ≡ 0) → ((m n : Message) → f m n ≡ g (after m) n.header.sequence)
     → (xs : List Message) (m : Message) → sum_neighbours f (xs ++ m ∷ []) ≡ sum_neighbours f xs + g (of_last after xs) m.header.sequence
 neighbours-push f after g none is [] m = omega (arith, none m.header.sequence)
 neighbours-push f after g none is (x ∷ []) m = omega (arith, is x m)
@@ -32,7 +32,7 @@ of_last-push after [] m = refl
 of_last-push after (x ∷ []) m = refl
 of_last-push after (x ∷ y ∷ ys) m = of_last-push after (y ∷ ys) m
 
-unaccounted-is : (m n : Message) → unaccounted_between m n ≡ unaccounted_at (unsure_after m) n.header.sequence
+pub unaccounted-is : (m n : Message) → unaccounted_between m n ≡ unaccounted_at (unsure_after m) n.header.sequence
 unaccounted-is m n = by_test (eqb m.decoding.passed_over.unknown_sets 0)
   where
     by_test : (b : Bool) → cond b 0 (gap (sequence_behind m) n.header.sequence) ≡ unaccounted_at (cond b None (Some (sequence_behind m))) n.header.sequence
@@ -46,7 +46,7 @@ account count lost backward passed_over unaccounted due unsure =
 account-same : (a b c d e f g h : ℕ) (x y : PassedOver) (p q r s : Option ℕ) → a ≡ e → b ≡ f → c ≡ g → x ≡ y → d ≡ h → p ≡ q → r ≡ s → account a b c x d p r ≡ account e f g y h q s
 account-same a b c d e f g h x y p q r s i j k l m n o = rw (i, j, k, l, m, n, o) refl
 
-capped-capped : (a b c : ℕ) → c ≡ a + b → capped c ≡ capped (capped a + b)
+pub capped-capped : (a b c : ℕ) → c ≡ a + b → capped c ≡ capped (capped a + b)
 capped-capped a b c e = omega arith
 
 abbrev passed : ℕ → ℕ → ℕ → PassedOver
@@ -81,11 +81,11 @@ insert_key [] y = y ∷ []
 insert_key (x ∷ xs) y = cond (eqb y x) (x ∷ xs) (x ∷ insert_key xs y)
 
 -- a key that is none of these
-abbrev Absent : ℕ → List ℕ → Type 0
+abbrev pub Absent : ℕ → List ℕ → Type 0
 Absent y [] = Unit {0}
 Absent y (x ∷ xs) = (x ≢ y) × Absent y xs
 
-abbrev Distinct : List ℕ → Type 0
+abbrev pub Distinct : List ℕ → Type 0
 Distinct [] = Unit {0}
 Distinct (x ∷ xs) = Absent x xs × Distinct xs
 
@@ -183,18 +183,18 @@ first_appearances-push (x ∷ xs) y =
 
 -- ---- one more message
 
-messages_of-push : (d : ℕ) (ms : List Message) (m : Message) → messages_of d (ms ++ m ∷ []) ≡ messages_of d ms ++ cond (eqb m.header.domain d) (m ∷ []) []
+pub messages_of-push : (d : ℕ) (ms : List Message) (m : Message) → messages_of d (ms ++ m ∷ []) ≡ messages_of d ms ++ cond (eqb m.header.domain d) (m ∷ []) []
 messages_of-push d ms m = filter-append (λ (n : Message). eqb n.header.domain d) ms (m ∷ [])
 
-domains_of-push : (ms : List Message) (m : Message) → domains_of (ms ++ m ∷ []) ≡ insert_key (domains_of ms) m.header.domain
+pub domains_of-push : (ms : List Message) (m : Message) → domains_of (ms ++ m ∷ []) ≡ insert_key (domains_of ms) m.header.domain
 domains_of-push ms m =
     ap first_appearances (map-append (λ (n : Message). n.header.domain) ms (m ∷ []))
     ∙ first_appearances-push (map (λ (n : Message). n.header.domain) ms) m.header.domain
 
-itself : (n : ℕ) → eqb n n ≡ true
+pub itself : (n : ℕ) → eqb n n ≡ true
 itself n = elim (eqb_tells n n) [ inl y ↦ y.0 | inr m ↦ absurd (m.1 refl) ]
 
-apart : (a b : ℕ) → a ≢ b → eqb a b ≡ false
+pub apart : (a b : ℕ) → a ≢ b → eqb a b ≡ false
 apart a b ne = elim (eqb_tells a b) [ inl y ↦ absurd (ne y.1) | inr n ↦ n.0 ]
 
 -- the accounts after one more message: its domain's account goes on, and the others stay
@@ -221,7 +221,7 @@ absent_before y x (z ∷ zs) ne absent =
           (both.0, absent_before y x zs ne both.1)
     ]
 
-no_messages : (d : ℕ) (ms : List Message) → Absent d (domains_of ms) → messages_of d ms ≡ []
+pub no_messages : (d : ℕ) (ms : List Message) → Absent d (domains_of ms) → messages_of d ms ≡ []
 no_messages d [] absent = refl
 no_messages d (m ∷ ms) absent =
     rw (apart m.header.domain d absent.0) (no_messages d ms (absent_before d m.header.domain (domains_of ms) absent.0 absent.1))

@@ -42,6 +42,11 @@ impl Ledger {
     /// Makes room for the domains of `messages` more messages.
     pub fn make_room(&mut self, messages: usize) -> Result<(), AllocError>
         ensures same { self.new.accounts.entries ≡ self.old.accounts.entries }
+        // The room that there is stays.
+        ensures domains { index_map_len self.new.accounts ≡ index_map_len self.old.accounts }
+        ensures same_accounts { spare self.old.accounts ≤ spare self.new.accounts }
+        ensures same_reports { vec_capacity self.old.reports ≤ vec_capacity self.new.reports }
+        ensures same_balances { vec_capacity self.old.balances ≤ vec_capacity self.new.balances }
         ensures accounts { OnOk result (messages ≤ spare self.new.accounts) }
         ensures reports { OnOk result
             (index_map_len self.new.accounts + messages ≤ vec_capacity self.new.reports) }

@@ -1,0 +1,16 @@
+use Rattle.std.proofs.Common.{◌≡◌, ◌++◌, ◌∷◌, [], length, sym, ap, ◌∙◌, rules}
+use Rattle.std.proofs.lemmas.Result.{err_from_is_err_and}
+use Rattle.ipfix_record.proofs.Gatherings.{gathers_on, gathers_out, gathers_decoding, cut_back}
+use Rattle.ipfix_record.proofs.gathering.Gathering.take_message.Goals as goal
+
+pub returns-in_err-count-clause-gathers : goal.returns-in_err-count-clause-gathers
+returns-in_err-count-clause-gathers c = λ before here text left rest g begins.
+    let p = err_from_is_err_and c.from_residual.result c.from_residual.ensures.1 in
+    rw (p.1, p.2) (gathers_decoding before here c.args.self.now.recorder text left c.args.message.now rest c.args.self.now.out.items c.args.self.now.counts.waiting c.in_err-count.field-0.0 g begins
+    (c.in_err-count.ensures.fails before (here ++ g.some.given) g.keeps))
+
+pub returns-in-Ok-clause-gathers : goal.returns-in-Ok-clause-gathers
+returns-in-Ok-clause-gathers c = λ before here text left rest g begins.
+    let written : c.extend_from_slice.new.self.items ≡ c.args.self.now.out.items ++ c.put_message.new.out.items = search rules in
+    gathers_on before here c.args.self.now.recorder c.put_message.new.self text left c.args.message.now rest c.put_message.new.out.items c.args.self.now.out.items c.extend_from_slice.new.self.items
+    c.args.self.now.counts.waiting c.wait_for.new.self.waiting c.in_ok-count.count g begins (c.in_ok-count.ensures.records before (here ++ g.some.given) g.keeps) written c.in-Ok.ensures.waits
