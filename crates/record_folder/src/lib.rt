@@ -2,13 +2,28 @@
 //! what is done at a start with those that an earlier run left.
 #![tactic(auto)]
 
+mod finished_files;
+mod folder;
 pub mod laws;
+mod message_walk;
 mod period;
 mod period_names;
+mod placing;
+mod recovery;
+mod session_files;
 mod session_names;
+mod system_periods;
+mod system_place;
 mod unfinished_names;
 
+pub use finished_files::{FinishedFiles, Recovered};
+pub use folder::{Folder, FolderFault, open_folder};
+pub use message_walk::whole_messages;
 pub use period::{CALENDAR_END, Period, period_of};
 pub use period_names::period_name;
+pub use recovery::recover;
+pub use session_files::SessionFiles;
 pub use session_names::session_name;
+pub use system_periods::{LatestPeriod, SystemPeriods};
+pub use system_place::{SystemPlace, SystemSession};
 pub use unfinished_names::{UnfinishedName, read_unfinished_name, unfinished_name};

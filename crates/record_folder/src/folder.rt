@@ -1,0 +1,87 @@
+//! The folder of a run, and the lock on it.
+
+use std::alloc::Global;
+use std::fs::{self, File, Files, OpenOptions, TryLockError};
+use std::io::{self, ErrorKind};
+use thiserror::Error;
+
+/// The folder of what isn't finished.
+const UNFINISHED: &str = "unfinished";
+
+/// The file on which a run holds a lock. Names that begin with a dot are left out by `FOLDER/*`.
+const LOCK: &str = ".lock";
+
+/// Why a folder could not be opened.
+#[derive(Debug, Drop, Error)]
+pub enum FolderFault {
+    /// Another run has it open.
+    #[error("another run records into this folder")]
+    InUse,
+    /// It could not be made, or not be locked.
+    #[error("{0}")]
+    NotHad(io::Error),
+}
+
+impl From<io::Error> for FolderFault {
+    fn from(error: io::Error) -> Self {
+        FolderFault::NotHad(error)
+    }
+}
+
+/// A folder of recordings. No other run has it open while this value lives; the system ends that when the
+/// process ends, however it ends.
+#[derive(Drop)]
+pub struct Folder {
+    path: String,
+    unfinished: String,
+    _lock: File,
+}
+
+impl Folder {
+    /// The path that it was opened by.
+    pub fn path(&self) -> &str {
+        self.path.as_str()
+    }
+
+    /// The path of the folder of what isn't finished.
+    pub fn unfinished(&self) -> &str {
+        self.unfinished.as_str()
+    }
+}
+
+/// Opens a folder of recordings. It is made where it isn't there, and locked.
+pub fn open_folder<R: Files<File = File>>(
+    rt: &R,
+    alloc: Global,
+    path: &str,
+) -> Result<Folder, FolderFault> {
+    if path.is_empty() {
+        return Err(FolderFault::NotHad(io::Error::from(ErrorKind::NotFound)));
+    }
+    let unfinished = path_in(alloc, path, UNFINISHED)?;
+    fs::create_dir_all(rt, unfinished.as_str())?;
+    let lock = path_in(alloc, path, LOCK)?;
+    let lock = OpenOptions::new()
+        .append(true)
+        .create(true)
+        .open(rt, lock.as_str())?;
+    match lock.try_lock() {
+        Ok(()) => Ok(Folder {
+            path: path_in_place(alloc, path)?,
+            unfinished,
+            _lock: lock,
+        }),
+        Err(TryLockError::WouldBlock) => Err(FolderFault::InUse),
+        Err(TryLockError::Error(error)) => Err(FolderFault::NotHad(error)),
+    }
+}
+
+// The path itself.
+fn path_in_place(alloc: Global, path: &str) -> io::Result<String> {
+    Ok(String::from_str(alloc, path)?)
+}
+
+/// The path of a name in a folder.
+pub(crate) fn path_in(alloc: Global, folder: &str, name: &str) -> io::Result<String> {
+    Ok(format!(in alloc; "{folder}/{name}")?)
+}

@@ -1,0 +1,66 @@
+//! What a session needs of the system to be recorded.
+
+ghost use Rattle.std.specs.Prelude.{◌≡◌, ◌<◌, None, IfOk};
+
+use crate::finished_files::FinishedFiles;
+use crate::folder::Folder;
+use crate::session_files::SessionFiles;
+use crate::session_names::session_name;
+use crate::system_periods::{SystemPeriods, period_now};
+use ipfix_record::{FileSeries, PeriodClock};
+use std::alloc::{AllocError, Global};
+use std::cell::Cell;
+use std::fs::Files;
+use std::net::SocketAddr;
+use std::rc::Rc;
+use std::rt::Clock;
+
+/// A folder of recordings and the length of its periods: makes for each session its files and its clock.
+#[derive(Drop)]
+pub struct SystemPlace<'a, R> {
+    rt: &'a R,
+    folder: &'a Folder,
+    every: u64,
+    ghost lasts: { 0 < every },
+}
+
+/// The files and the clock of a session.
+#[derive(Drop)]
+pub struct SystemSession<'a, R: Files + Clock, L> {
+    pub files: SessionFiles<'a, R, L>,
+    pub periods: SystemPeriods<'a, R>,
+}
+
+impl<'a, R: Files + Clock> SystemPlace<'a, R> {
+    /// Periods have `every` seconds.
+    pub fn new(rt: &'a R, folder: &'a Folder, every: u64) -> Self
+        requires { 0 < every }
+    {
+        SystemPlace { rt, folder, every }
+    }
+
+    /// The files of a session, of which none is there yet, and its clock, whose period begins now. Sessions of
+    /// one run are told apart by their numbers.
+    pub fn session<L: FinishedFiles>(
+        &self,
+        alloc: Global,
+        peer: SocketAddr,
+        number: u64,
+        log: L,
+    ) -> Result<SystemSession<'a, R, L>, AllocError>
+        ensures files { IfOk result (λ session.
+            ⟦<SessionFiles<'a, R, L> as FileSeries>⟧.seen session.files
+            ≡ record { contents = None; failed = 0 }) }
+        ensures periods { IfOk result (λ session.
+            ⟦<SystemPeriods<'a, R> as PeriodClock>⟧.asked session.periods
+            ≡ record { asked = 0; over = 0 }) }
+    {
+        let name = session_name(alloc, peer, number)?;
+        let told = Rc::new(alloc, Cell::new(period_now(self.rt, self.every)))?;
+        let seen = told.clone()?;
+        Ok(SystemSession {
+            files: SessionFiles::new(self.rt, alloc, self.folder, name, seen, log),
+            periods: SystemPeriods::new(self.rt, self.every, told),
+        })
+    }
+}
