@@ -34,3 +34,8 @@ nil_of_length (x ∷ xs) e = absurd (omega arith)
 
 pub all_used : {A : Type 0} (all used rest : List A) → all ≡ used ++ rest → length rest ≡ 0 → all ≡ used
 all_used all used rest e n = e ∙ (ap (λ r. used ++ r) (nil_of_length rest n) ∙ append-nil used)
+
+-- nothing stands behind
+pub all_before : {X : Type 0} (xs ys : List X) → length ys ≡ 0 → xs ++ ys ≡ xs
+all_before xs [] none = append-nil xs
+all_before xs (y ∷ ys) none = absurd (omega arith)

@@ -1,10 +1,10 @@
-use Rattle.std.proofs.Common.{◌∷◌, ◌++◌, [], refl, sym, ap, ◌∙◌, subst, append-nil}
+use Rattle.std.proofs.Common.{◌≡◌, length, arith, ◌∷◌, ◌++◌, [], refl, sym, ap, ◌∙◌, subst, append-nil}
 use Rattle.std.specs.Prelude.{All}
 use Rattle.std.proofs.lemmas.List.Elements.{All-tail, All-head}
 use Rattle.flow_table.specs.Partials.{plan_of}
 use Rattle.flow_table.specs.Plans.{PlanValue}
-use Rattle.flow_collect.specs.Finished.{HasTaken}
-use Rattle.flow_collect.proofs.ZipLists.{split_on}
+use Rattle.flow_collect.specs.Finished.{HasTaken, lanes_of}
+use Rattle.flow_collect.proofs.ZipLists.{all_before, split_on}
 use Rattle.flow_collect.proofs.SettleLists.{lanes_of_push, stands_joined}
 use Rattle.flow_collect.proofs.settling.gathering.merge_in_turn.Goals as goal
 
@@ -41,3 +41,13 @@ loop-other-preserved c =
       one.plan ∙ inv.4,
       rw one.lanes (stands_joined _ _ _ _ _ one.merges inv.5 other.table),
     )
+
+pub returns : goal.returns
+returns c =
+    let inv = c.loop-other.invariant in
+    let ended : length c.loop-other.worked.items ≡ 0 = omega (arith, c.in_default-pop_front.ensures.cases.0, c.loop-other.worked.ok.0) in
+    record {
+      lanes_are = inv.2 ∙ ap lanes_of (sym (inv.1 ∙ all_before inv.0 c.loop-other.worked.items ended));
+      table = inv.5;
+      plan_is = λ plan taken. inv.4 ∙ (All-head (HasTaken plan) _ _ (subst (All (HasTaken plan)) c.in-Some.ensures.items taken)).plan_is;
+    }
