@@ -1,25 +1,22 @@
 -- The reports of files add up to that of their session.
-use Rattle.std.proofs.Common.{◌≡◌, ℕ, ◌+◌, ◌<◌, ◌≤◌, List, [], ◌∷◌, ◌++◌, length, map, refl, sym, ap, ap₂, subst, ◌∙◌, append_assoc, arith}
+use Rattle.std.proofs.Common.{◌≡◌, ℕ, ◌+◌, ◌<◌, List, [], ◌∷◌, ◌++◌, length, map, refl, sym, ap, subst, ◌∙◌, append_assoc, arith}
 use Rattle.std.specs.Prelude.{◌-◌, ◌^◌, None, Option, Some, sum_by}
 use Rattle.std.proofs.lemmas.List.{append-nil, length-append}
 use Rattle.std.proofs.lemmas.List.Sums.{sum_by-cons, sum_by-append}
 use Rattle.ipfix_message.specs.Domains.{Message}
 use Rattle.ipfix_message.specs.declared.passed_over.PassedOver.{PassedOver}
-use Rattle.ipfix_session.specs.declared.report.DomainReport.{DomainReport}
-use Rattle.ipfix_session.specs.declared.report.DomainBalance.{DomainBalance}
 use Rattle.ipfix_session.specs.Given.{records_in}
-use Rattle.ipfix_session.specs.Ledger.{capped, count_in, due_after, lost_at, backward_at, lost_between, backward_between, sum_neighbours, of_last, messages_of, domains_of, domain_report}
+use Rattle.ipfix_session.specs.Ledger.{capped, count_in, due_after, lost_at, backward_at, lost_between, backward_between, sum_neighbours, messages_of, domains_of, domain_report}
 use Rattle.ipfix_session.specs.Balances.{unaccounted_between, domain_balance}
 use Rattle.ipfix_session.specs.Accounts.{unsure_after, unaccounted_at}
 use Rattle.ipfix_session.proofs.Accounts.{unaccounted-is}
-use Rattle.ipfix_session.proofs.Giving.{records_in-append}
 use Rattle.ipfix_record.specs.declared.file_report.FileReport.{FileReport}
 use Rattle.ipfix_record.specs.declared.recorded_session.RecordedSession.{RecordedSession}
 use Rattle.ipfix_record.specs.FileReports.{in_ledger, in_ledger_from, file_report, file_reports, AddsTo, AddUp}
 use Rattle.ipfix_record.specs.Recordings.{Part}
 use Rattle.ipfix_record.specs.Faithful.{all_given}
 use Rattle.ipfix_record.specs.Files.{Contents, FilesView}
-use Rattle.ipfix_record.specs.Sessions.{parts, Stands, HoldsSome, IsTold}
+use Rattle.ipfix_record.specs.Sessions.{parts, HoldsSome, IsTold}
 use Rattle.ipfix_record.proofs.FileCounts.{in_ledger-grows}
 use Rattle.ipfix_record.proofs.Going.{whole, all_given-parts, reports-push}
 use Rattle.ipfix_record.proofs.FilesGive.{contents_are}

@@ -6,7 +6,7 @@ use Rattle.ipfix_session.specs.declared.account.Account.{Account}
 use Rattle.ipfix_session.specs.declared.ledger.Ledger.{Ledger}
 use Rattle.ipfix_session.specs.Given.{records_in}
 use Rattle.ipfix_session.specs.Ledger.{capped, count_in, messages_of}
-use Rattle.ipfix_session.specs.Accounts.{account_of, accounts_of}
+use Rattle.ipfix_session.specs.Accounts.{account_of}
 use Rattle.ipfix_session.specs.Feeding.{Counts, Tells}
 use Rattle.ipfix_session.specs.Puts.{CountsOn}
 use Rattle.ipfix_session.specs.Rooms.{HasRoom}

@@ -1,5 +1,5 @@
 -- The numbers and the names of the faults of a recording.
-use Rattle.std.proofs.Common.{◌≡◌, ℕ, List, Option, Some, None, Result, Ok, Err, refl, ap, sym, arith, ◌∙◌}
+use Rattle.std.proofs.Common.{◌≡◌, Option, Some, Err, refl, ap, arith}
 use Rattle.std.specs.Prelude.{◌≢◌}
 use Rattle.ipfix_message.specs.Faults as messages
 use Rattle.ipfix_message.specs.declared.fault.MessageFault.{MessageFault}

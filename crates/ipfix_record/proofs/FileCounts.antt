@@ -8,7 +8,7 @@ use Rattle.ipfix_message.specs.Domains.{Message}
 use Rattle.ipfix_wire.specs.declared.header.Header.{Header}
 use Rattle.ipfix_message.specs.declared.passed_over.PassedOver.{PassedOver}
 use Rattle.ipfix_session.specs.declared.account.Account.{Account}
-use Rattle.ipfix_session.specs.Ledger.{capped, count_in, due_after, lost_at, backward_at, lost_between, backward_between, sum_neighbours, of_last, messages_of, first_appearances, domains_of}
+use Rattle.ipfix_session.specs.Ledger.{capped, count_in, due_after, lost_at, backward_at, lost_between, backward_between, sum_neighbours, of_last, messages_of, domains_of}
 use Rattle.ipfix_session.specs.Balances.{unaccounted_between}
 use Rattle.ipfix_session.specs.Accounts.{account_of, unsure_after, unaccounted_at}
 use Rattle.ipfix_session.proofs.Accounts.{Absent, Distinct, insert_key, neighbours-push, unaccounted-is, capped-capped, messages_of-push, domains_of-push, no_messages, first_appearances_distinct, itself, apart}

@@ -1,7 +1,6 @@
 -- Gathering the messages of a read.
-use Rattle.std.proofs.Common.{◌≡◌, ℕ, List, [], ◌∷◌, ◌++◌, length, refl, sym, ap, ap₂, subst, ◌∙◌, append_assoc, arith, drop, take}
+use Rattle.std.proofs.Common.{◌≡◌, ℕ, List, [], ◌∷◌, ◌++◌, length, refl, sym, ap, ap₂, subst, ◌∙◌, append_assoc, arith, drop}
 use Rattle.std.proofs.lemmas.List.{append-nil, take-append-drop}
-use Rattle.std.proofs.Math.Seq.{take-append_seam}
 use Rattle.std.proofs.lemmas.Grind.{flat_map-append}
 use Rattle.ipfix_wire.specs.InTurn.{Parts}
 use Rattle.ipfix_wire.proofs.Parts.{parts_of-next}
@@ -144,10 +143,6 @@ pub kept_begun : (before here : List Message) (s : State) (text out : List ℕ) 
 kept_begun before here s text out counts buffer left stop none is_open filled g =
     let nothing : left ≡ [] = subst (λ (r : Result (List ℕ × List ℕ) Stop). IsFilled r left) none filled is_open in
     (gathers_at before here s text out counts (buffer ++ left) buffer (ap (λ (w : List ℕ). buffer ++ w) nothing ∙ append-nil buffer) g, record { stop = stop; none = none; is_open = is_open })
-
--- the octets that are left when those of the last message are taken off again
-pub cut_back : (old new : List ℕ) (n : ℕ) (next : List ℕ) → new ≡ take n (old ++ next) → n ≡ length old → new ≡ old
-cut_back old new n next is size = is ∙ ap (λ (k : ℕ). take k (old ++ next)) size ∙ take-append_seam old next
 
 -- ---- nothing was gathered
 

@@ -35,7 +35,7 @@ use Rattle.ipfix_record.specs.Periods.{unfinished_in, with_file, finished_at}
 use Rattle.ipfix_record.specs.Sessions.{HasMessage, file_octets, parts, files_of, Stands, IsCutOff, Holds, HoldsSome, HoldsEarlier, HoldsAll, HoldsCut}
 use Rattle.ipfix_record.specs.Between.{IsBetween, GoesNoFurther}
 use Rattle.ipfix_record.proofs.Growing.{writes-append}
-use Rattle.ipfix_record.proofs.Gatherings.{octets-append, octets-push}
+use Rattle.ipfix_record.proofs.Gatherings.{octets-append}
 
 -- ---- parts, one after another
 

@@ -1,5 +1,5 @@
 -- What a message adds to the report of its file.
-use Rattle.std.specs.Prelude.{ℕ, ◌+◌}
+use Rattle.std.specs.Prelude.{◌+◌}
 use Rattle.ipfix_session.specs.declared.account.Account.{Account}
 use Rattle.ipfix_session.specs.declared.tally.Tally.{Tally}
 use Rattle.ipfix_session.specs.Ledger.{capped, lost_at, backward_at}

@@ -1,6 +1,6 @@
 //! Gathering the whole messages of a read.
 
-ghost use Rattle.std.specs.Prelude.{◌≡◌, ◌++◌, [], ℕ, List, Ok, MatchResult};
+ghost use Rattle.std.specs.Prelude.{◌≡◌, [], ℕ, List, Ok, MatchResult};
 ghost use Rattle.ipfix_message.specs.Domains.{Message};
 ghost use Rattle.ipfix_session.specs.Intake.{IsRest};
 ghost use Rattle.ipfix_session.specs.MessageStream;

@@ -1,7 +1,6 @@
-use Rattle.std.proofs.Common.{◌≡◌, ◌+◌, ◌≤◌, List, [], ◌∷◌, ◌++◌, length, get_or, take, refl, sym, subst, arith}
+use Rattle.std.proofs.Common.{◌+◌, List, [], length, get_or, take, refl, sym, subst, arith}
 use Rattle.std.specs.Prelude.{◌-◌}
 use Rattle.std.proofs.lemmas.List.{take_all, take_more}
-use Rattle.ipfix_session.specs.Rooms.{HasRoom}
 use Rattle.ipfix_record.specs.declared.message_count.MessageCount.{MessageCount}
 use Rattle.ipfix_record.specs.Counting.{told_of}
 use Rattle.ipfix_record.proofs.Counts.{CountsUpTo, up_to-none, up_to-push, room_at}

@@ -1,4 +1,3 @@
-use Rattle.std.proofs.Common.{refl}
 use Rattle.ipfix_record.proofs.Counts.{up_to-none}
 use Rattle.ipfix_record.proofs.Gatherings.{nothing_gathered}
 use Rattle.ipfix_record.proofs.Going.{with_more-none}

@@ -1,4 +1,4 @@
-use Rattle.std.proofs.Common.{◌≡◌, List, sym, subst}
+use Rattle.std.proofs.Common.{sym, subst}
 use Rattle.std.specs.Prelude.{Result}
 use Rattle.ipfix_session.specs.declared.driver.TheConstants.{READ_SIZE}
 use Rattle.ipfix_record.specs.declared.record_fault.RecordFault.{RecordFault}

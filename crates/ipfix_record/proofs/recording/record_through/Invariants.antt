@@ -1,4 +1,3 @@
-use Rattle.std.proofs.Common.{[]}
 use Rattle.ipfix_record.specs.Recorders.{IsFresh}
 use Rattle.ipfix_record.specs.Files.{IsEmpty}
 use Rattle.ipfix_record.proofs.ReadOn.{Reading}

@@ -1,6 +1,6 @@
-use Rattle.std.proofs.Common.{◌≡◌, ◌++◌, ◌∷◌, [], length, sym, ap, ◌∙◌, rules}
+use Rattle.std.proofs.Common.{◌≡◌, ◌++◌, rules}
 use Rattle.std.proofs.lemmas.Result.{err_from_is_err_and}
-use Rattle.ipfix_record.proofs.Gatherings.{gathers_on, gathers_out, gathers_decoding, cut_back}
+use Rattle.ipfix_record.proofs.Gatherings.{gathers_on, gathers_decoding}
 use Rattle.ipfix_record.proofs.gathering.Gathering.take_message.Goals as goal
 
 pub returns-in_err-count-clause-gathers : goal.returns-in_err-count-clause-gathers
