@@ -7,7 +7,7 @@ use crate::placing::place_file;
 use crate::unfinished_names::{UnfinishedName, read_unfinished_name};
 use std::alloc::Global;
 use std::fs::{self, Files, OpenFile, OpenOptions};
-use std::io;
+use std::io::{self, ErrorKind};
 
 /// Gives each file that an earlier run left its final name, in its period's folder. A message that was cut
 /// off at its end is cut off the file, if that can be done; its whole messages stay. A file that has none
@@ -52,13 +52,17 @@ enum Settled {
     Removed(u64),
 }
 
-// Cuts off what is no whole message, and moves the file; one without a message goes away.
+// Cuts off what is no whole message, and moves the file; one without a message goes away. What is no
+// regular file is not opened.
 fn settle<R: Files + Alloc<A = Global>>(
     rt: &R,
     folder: &Folder,
     path: &str,
     name: &UnfinishedName<'_>,
 ) -> io::Result<Settled> {
+    if !fs::symlink_metadata(rt, path)?.is_file() {
+        return Err(io::Error::from(ErrorKind::InvalidInput));
+    }
     let mut file = OpenOptions::new().read(true).write(true).open(rt, path)?;
     let whole = whole_messages(rt.alloc(), &mut file)?;
     let more = file.metadata()?.len().saturating_sub(whole);
