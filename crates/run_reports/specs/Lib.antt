@@ -5,4 +5,5 @@ pub mod Origins
 pub mod ToldLines
 pub mod Reasons
 pub mod OpeningLines
+pub mod MissingLines
 pub mod Spotless

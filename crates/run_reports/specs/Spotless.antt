@@ -1,5 +1,6 @@
 -- When a run is spotless: no sequence number, no set and no record says that anything which was sent isn't in the table.
 use Rattle.std.specs.Prelude.{◌≡◌, ℕ, List, [], ◌∷◌, All, None}
+use Rattle.flow_table.specs.declared.missing.Missing.{Missing}
 use Rattle.flow_table.specs.declared.tally.Tally.{Tally}
 use Rattle.ipfix_message.specs.Domains.{Message}
 use Rattle.ipfix_session.specs.Ledger.{gap, sequence_behind, messages_of, domains_of}
@@ -31,10 +32,15 @@ pub record IsSpotlessTally (t : Tally) : Type 0 where
   pub none_unkeyed : t.unkeyed ≡ 0
   pub none_too_long : t.too_long ≡ 0
 
--- sessions, and the tally of their records
-pub record IsSpotless (fulls : List FullReport) (t : Tally) : Type 0 where
+-- and each used record had the counters of the plan
+abbrev pub NoCounterLacks : Missing → Type 0
+NoCounterLacks m = All (λ n. n ≡ 0) m.counters
+
+-- sessions, the tally of their records, and what these lack
+pub record IsSpotless (fulls : List FullReport) (t : Tally) (m : Missing) : Type 0 where
   pub sessions : All IsSpotlessSession fulls
   pub tally : IsSpotlessTally t
+  pub counters : NoCounterLacks m
 
 -- ---- what that says of a session's messages
 

@@ -6,6 +6,7 @@ mod balances;
 mod endings;
 mod faults;
 pub mod laws;
+mod missing;
 mod opening;
 mod origin;
 mod places;
@@ -20,6 +21,7 @@ mod told_reports;
 pub use faults::{
     write_dump_fault, write_export_fault, write_fault, write_not_had, write_plan_fault,
 };
+pub use missing::write_missing;
 pub use opening::{write_listening, write_not_had_because, write_opened};
 pub use origin::{Origin, write_origin};
 pub use reason::Reason;

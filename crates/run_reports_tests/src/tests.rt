@@ -1,6 +1,6 @@
 //! What is told of sessions in full, of what was opened and of what was not had, and which runs are spotless.
 
-use flow_table::Tally;
+use flow_table::{Missing, Tally};
 use ipfix_dump::{Line, dump_in_full_by};
 use ipfix_session::{FromReader, FullReport};
 use run_reports::*;
@@ -132,9 +132,14 @@ fn spotless_runs(rt: HostRuntime) -> Result<(), Fail> {
         used: 2,
         ..Tally::EMPTY
     };
+    let counterless = Missing {
+        counters: [0, 1, 0, 0],
+        ..Missing::NONE
+    };
     assert!(rt; !are_spotless(reports.as_slice()));
     assert!(rt; are_spotless(&reports[1..]));
-    assert!(rt; is_spotless(&reports[1..], &options));
-    assert!(rt; !is_spotless(&reports[1..], &untimed));
+    assert!(rt; is_spotless(&reports[1..], &options, &Missing::NONE));
+    assert!(rt; !is_spotless(&reports[1..], &untimed, &Missing::NONE));
+    assert!(rt; !is_spotless(&reports[1..], &options, &counterless));
     Ok(())
 }
