@@ -1,10 +1,10 @@
 //! A caller of `record`, at types in memory.
 
-ghost use Rattle.std.specs.Prelude.{◌≡◌, ◌<◌, ◌++◌, ◌∷◌, [], flat_map, map, OnOk};
+ghost use Rattle.std.specs.Prelude.{◌≡◌, ◌<◌, ◌++◌, ◌∷◌, [], Ok, flat_map, map};
 ghost use Rattle.ipfix_session.specs.Given.{records_of};
 
 use ipfix_record::laws::recorded_to_the_end;
-use ipfix_record::{MemoryFiles, RecordFault, Recorder, ScriptClock, TickingSource, record};
+use ipfix_record::{MemoryFiles, RecordedSession, ScriptClock, TickingSource, record};
 use std::alloc::Global;
 
 /// Records a text in memory, in pieces of at most `piece` octets, with an interrupted read behind each.
@@ -16,24 +16,16 @@ pub fn record_in_memory(
     piece: usize,
     room: usize,
     answers: Vec<bool>,
-) -> (MemoryFiles, Result<(), RecordFault>)
+) -> (MemoryFiles, RecordedSession)
     requires { 0 < piece }
-    ensures { OnOk result.1 (flat_map records_of
+    ensures { result.1.ended ≡ Ok tt → flat_map records_of
         (map (λ v. v.items) result.0.finished.items ++ result.0.unfinished.items ∷ [])
-        ≡ records_of text.items) }
+        ≡ records_of text.items }
 {
     recorded_to_the_end::<TickingSource, MemoryFiles, ScriptClock>();
     let mut source = TickingSource::new(text, piece);
     let mut files = MemoryFiles::new(alloc, room);
     let mut clock = ScriptClock::new(answers);
-    let mut recorder = Recorder::new(alloc);
-    let result = record(
-        alloc,
-        &mut recorder,
-        &mut source,
-        &mut files,
-        &mut clock,
-        u64::MAX,
-    );
-    (files, result)
+    let session = record(alloc, &mut source, &mut files, &mut clock, u64::MAX);
+    (files, session)
 }

@@ -3,5 +3,6 @@
 mod endings;
 mod files;
 mod preambles;
+mod reports;
 mod running;
 mod session;

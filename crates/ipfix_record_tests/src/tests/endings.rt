@@ -3,7 +3,7 @@
 use super::running::{run, sums_of};
 use super::session::{FIRST_OF_1, SESSION_LENGTH, session};
 use ipfix_message::MessageFault;
-use ipfix_record::{MemoryFiles, RecordFault, Recorder, ScriptClock, record};
+use ipfix_record::{FileReport, MemoryFiles, RecordFault, ScriptClock, record};
 use ipfix_session::{ScriptSource, SessionFault};
 use std::alloc::Global;
 use std::test::*;
@@ -19,8 +19,8 @@ fn first_of(text: &[u8], count: usize) -> &[u8] {
 fn a_cut_end(rt: HostRuntime) -> Result<(), Fail> {
     let alloc: Global = rt.alloc();
     let text = session(alloc)?;
-    let (files, result) = run(alloc, first_of(&text, SESSION_LENGTH - 3), 40, false, 1000)?;
-    assert_eq!(rt; result, Err(RecordFault::Truncated));
+    let (files, recorded) = run(alloc, first_of(&text, SESSION_LENGTH - 3), 40, false, 1000)?;
+    assert_eq!(rt; recorded.ended, Err(RecordFault::Truncated));
     assert_eq!(rt; files.unfinished.as_slice(), first_of(&text, 317));
     assert_eq!(rt; sums_of(alloc, &files).records, 11);
     Ok(())
@@ -33,8 +33,11 @@ fn a_malformed_message(rt: HostRuntime) -> Result<(), Fail> {
     let text = session(alloc)?;
     let longer = text_of(alloc, &[&text, VERSION_9, &text])?;
     for (is_over, finished) in [(false, 0), (true, 7)] {
-        let (files, result) = run(alloc, &longer, 40, is_over, 10_000)?;
-        assert_eq!(rt; result, Err(RecordFault::Message(MessageFault::Version)));
+        let (files, recorded) = run(alloc, &longer, 40, is_over, 10_000)?;
+        assert_eq!(rt;
+            recorded.ended,
+            Err(RecordFault::Message(MessageFault::Version))
+        );
         assert_eq!(rt; files.finished.len(), finished);
         assert_eq!(rt; sums_of(alloc, &files).records, 12);
         assert_eq!(rt; sums_of(alloc, &files).fault, None);
@@ -48,51 +51,44 @@ fn a_malformed_message(rt: HostRuntime) -> Result<(), Fail> {
 fn a_full_place(rt: HostRuntime) -> Result<(), Fail> {
     let alloc: Global = rt.alloc();
     let text = session(alloc)?;
-    let (files, result) = run(alloc, &text, 40, false, 100)?;
-    assert_eq!(rt; result, Err(RecordFault::NotWritten));
+    let (files, recorded) = run(alloc, &text, 40, false, 100)?;
+    assert_eq!(rt; recorded.ended, Err(RecordFault::NotWritten));
     assert_eq!(rt; files.failed, 1);
     assert_eq!(rt; files.unfinished.as_slice(), first_of(&text, 100));
     let sums = sums_of(alloc, &files);
     assert_eq!(rt; sums.records, 3);
     assert_eq!(rt; sums.fault, Some(SessionFault::Truncated));
+    let first = FileReport {
+        messages: 1,
+        records: 3,
+        ..FileReport::EMPTY
+    };
+    assert_eq!(rt; recorded.last, first);
+    assert_eq!(rt; recorded.report.report.messages, 1);
+    assert_eq!(rt;
+        recorded.report.report.fault,
+        Some(SessionFault::SinkClosed)
+    );
+    let fault = RecordFault::NotWritten;
+    assert_eq!(rt; (fault.number(), fault.name()), (19, "NotWritten"));
     Ok(())
 }
 
 #[test]
 fn reads_that_end_it(rt: HostRuntime) -> Result<(), Fail> {
     let alloc: Global = rt.alloc();
-    for (fail_at, limit, fault) in [
-        (Some(71), 100, RecordFault::ReadFailed),
-        (None, 2, RecordFault::TooManyReads),
+    for (fail_at, limit, fault, messages) in [
+        (Some(71), 100, RecordFault::ReadFailed, 1),
+        (None, 2, RecordFault::TooManyReads, 2),
     ] {
         let mut source = ScriptSource::new(session(alloc)?, 71, None, fail_at);
         let mut files = MemoryFiles::new(alloc, 1000);
         let mut clock = ScriptClock::new(Vec::new(alloc));
-        let mut recorder = Recorder::new(alloc);
-        let result = record(
-            alloc,
-            &mut recorder,
-            &mut source,
-            &mut files,
-            &mut clock,
-            limit,
-        );
-        assert_eq!(rt; result, Err(fault));
+        let recorded = record(alloc, &mut source, &mut files, &mut clock, limit);
+        assert_eq!(rt; recorded.ended, Err(fault));
+        assert_eq!(rt; recorded.last.messages, messages);
+        assert_eq!(rt; recorded.report.report.messages, messages);
         assert_eq!(rt; files.unfinished.get(..71), Some(FIRST_OF_1));
     }
-    Ok(())
-}
-
-// After a fault each further call answers it again, and changes nothing.
-#[test]
-fn asked_again(rt: HostRuntime) -> Result<(), Fail> {
-    let alloc: Global = rt.alloc();
-    let mut recorder = Recorder::new(alloc);
-    let mut out = Vec::new(alloc);
-    let first = recorder.put_message(alloc, VERSION_9, &mut out);
-    assert_eq!(rt; first.err(), Some(MessageFault::Version));
-    let again = recorder.put_message(alloc, FIRST_OF_1, &mut out);
-    assert_eq!(rt; again.err(), Some(MessageFault::Version));
-    assert_eq!(rt; out.len(), 0);
     Ok(())
 }

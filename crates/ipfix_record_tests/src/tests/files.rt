@@ -19,8 +19,8 @@ fn no_rotation(rt: HostRuntime) -> Result<(), Fail> {
     let alloc: Global = rt.alloc();
     let text = session(alloc)?;
     assert_eq!(rt; text.len(), SESSION_LENGTH);
-    let (files, result) = run(alloc, &text, 65536, false, 1000)?;
-    assert_eq!(rt; result, Ok(()));
+    let (files, recorded) = run(alloc, &text, 65536, false, 1000)?;
+    assert_eq!(rt; recorded.ended, Ok(()));
     assert_eq!(rt; files.finished.len(), 0);
     assert_eq!(rt; files.unfinished.as_slice(), text.as_slice());
     assert_eq!(rt; sums_of(alloc, &files), WHOLE);
@@ -34,8 +34,8 @@ fn rotation_at_each_read(rt: HostRuntime) -> Result<(), Fail> {
     let alloc: Global = rt.alloc();
     let text = session(alloc)?;
     for (piece, finished) in [(65536, 1), (40, 7), (1, 9)] {
-        let (files, result) = run(alloc, &text, piece, true, 10_000)?;
-        assert_eq!(rt; result, Ok(()));
+        let (files, recorded) = run(alloc, &text, piece, true, 10_000)?;
+        assert_eq!(rt; recorded.ended, Ok(()));
         assert_eq!(rt; files.finished.len(), finished);
         assert_eq!(rt; files.unfinished.len(), 0);
         assert_eq!(rt; sums_of(alloc, &files), WHOLE);

@@ -3,7 +3,7 @@
 ghost use Rattle.std.specs.Prelude.{◌<◌};
 
 use crate::calling::record_in_memory;
-use ipfix_record::{MemoryFiles, RecordFault};
+use ipfix_record::{MemoryFiles, RecordedSession};
 use ipfix_session::{FromReader, SessionFault, VecSink, drive};
 use std::alloc::{AllocError, Global};
 
@@ -14,7 +14,7 @@ pub fn run(
     piece: usize,
     is_over: bool,
     room: usize,
-) -> Result<(MemoryFiles, Result<(), RecordFault>), AllocError>
+) -> Result<(MemoryFiles, RecordedSession), AllocError>
     requires { 0 < piece }
 {
     let mut answers = Vec::new(alloc);
