@@ -8,7 +8,6 @@ use Rattle.ipfix_session.specs.Sources.{SourceView}
 use Rattle.ipfix_session.specs.declared.report.FullReport.{FullReport}
 use Rattle.flow_table.specs.Plans.{PlanValue}
 use Rattle.flow_table.specs.declared.table.Table.{Table}
-use Rattle.flow_table.specs.declared.tally.Tally.{Tally}
 use Rattle.flow_collect.specs.InFull.{HeadlineInFull, reports_in}
 use Rattle.flow_collect.specs.Refusals.{fault_of_arguments}
 use Rattle.flow_collect.specs.Texts.{HasNoFault}
@@ -47,24 +46,24 @@ pub none_of_all : (rs : List FullReport) (i : ℕ) → length rs ≤ i → All N
 none_of_all rs i all none = subst (λ (xs : List FullReport). All NoFault xs) (take_all i rs all) none
 
 -- a run that went well has none
-pub well_no_fault : (strict : Bool) (fulls : List FullReport) (tally : Tally) → WentWell strict fulls tally → All NoFault fulls
-well_no_fault true fulls tally well = All-weaker IsSpotlessSession NoFault (λ full spotless. spotless.no_fault) fulls well.sessions
-well_no_fault false fulls tally well = well
+pub well_no_fault : (strict : Bool) (fulls : List FullReport) (table : Table) → WentWell strict fulls table → All NoFault fulls
+well_no_fault true fulls table well = All-weaker IsSpotlessSession NoFault (λ full spotless. spotless.no_fault) fulls well.sessions
+well_no_fault false fulls table well = well
 
 -- the tests of it
-pub tested_strict : (strict : Bool) (fulls : List FullReport) (tally : Tally) (passed : Bool) → strict ≡ true → (IsTrue passed ↔ IsSpotless fulls tally) → (IsTrue passed ↔ WentWell strict fulls tally)
-tested_strict true fulls tally passed is tested = tested
-tested_strict false fulls tally passed is tested = absurd (cc is)
+pub tested_strict : (strict : Bool) (fulls : List FullReport) (table : Table) (passed : Bool) → strict ≡ true → (IsTrue passed ↔ IsSpotless fulls table.tally table.missing) → (IsTrue passed ↔ WentWell strict fulls table)
+tested_strict true fulls table passed is tested = tested
+tested_strict false fulls table passed is tested = absurd (cc is)
 
-pub tested_plain : (strict : Bool) (fulls : List FullReport) (tally : Tally) (passed : Bool) → strict ≡ false → (IsTrue passed ↔ All NoFault fulls) → (IsTrue passed ↔ WentWell strict fulls tally)
-tested_plain true fulls tally passed is tested = absurd (cc is)
-tested_plain false fulls tally passed is tested = tested
+pub tested_plain : (strict : Bool) (fulls : List FullReport) (table : Table) (passed : Bool) → strict ≡ false → (IsTrue passed ↔ All NoFault fulls) → (IsTrue passed ↔ WentWell strict fulls table)
+tested_plain true fulls table passed is tested = absurd (cc is)
+tested_plain false fulls table passed is tested = tested
 
 -- ---- a run
 
 module _ {S : Type 0} (seen : S → SourceView) where
   pub writes_in_full : (strict : Bool) (sources : List S) (plan : PlanValue) (pool : Pool) (status : ℕ) (IsWritten : Table → Type 0) (c : CollectedInFull S)
-      → HeadlineInFull seen sources plan pool c → ((status ≡ 0) ↔ WentWell strict c.sessions.items c.table.tally) → IsWritten c.table → WritesTableInFull seen strict sources plan pool status IsWritten
+      → HeadlineInFull seen sources plan pool c → ((status ≡ 0) ↔ WentWell strict c.sessions.items c.table) → IsWritten c.table → WritesTableInFull seen strict sources plan pool status IsWritten
   writes_in_full strict sources plan pool status IsWritten c h status_is written =
       record {
         collected = c;
@@ -84,16 +83,16 @@ module _ {S : Type 0} (seen : S → SourceView) where
 
   -- ---- without the rest
 
-  status_short : (status : ℕ) (strict : Bool) (fulls : List FullReport) (tally : Tally) → strict ≡ false → ((status ≡ 0) ↔ WentWell strict fulls tally) → ((status ≡ 0) ↔ All HasNoFault (reports_in fulls))
-  status_short status true fulls tally plain is = absurd (cc plain)
-  status_short status false fulls tally plain is = (λ zero. All-map HasNoFault (λ (full : FullReport). full.report) fulls (is.0 zero), λ none. is.1 (no_fault_from fulls none))
+  status_short : (status : ℕ) (strict : Bool) (fulls : List FullReport) (table : Table) → strict ≡ false → ((status ≡ 0) ↔ WentWell strict fulls table) → ((status ≡ 0) ↔ All HasNoFault (reports_in fulls))
+  status_short status true fulls table plain is = absurd (cc plain)
+  status_short status false fulls table plain is = (λ zero. All-map HasNoFault (λ (full : FullReport). full.report) fulls (is.0 zero), λ none. is.1 (no_fault_from fulls none))
 
   pub table_short : (strict : Bool) (sources : List S) (plan : PlanValue) (pool : Pool) (status : ℕ) (IsWritten : Table → Type 0) → strict ≡ false
       → WritesTableInFull seen strict sources plan pool status IsWritten → WritesTable seen sources plan pool status IsWritten
   table_short strict sources plan pool status IsWritten plain w =
       let short = short_run w.collected in
       writes_table seen sources plan pool status IsWritten short.0 (headline_short seen sources plan pool w.collected short.0 w.headline short.1)
-      (rw short.1.sessions_are (status_short status strict w.collected.sessions.items w.collected.table.tally plain w.status_is))
+      (rw short.1.sessions_are (status_short status strict w.collected.sessions.items w.collected.table plain w.status_is))
       (subst IsWritten (sym short.1.table_is) w.written)
 
   -- sources that were had one after another, and then run

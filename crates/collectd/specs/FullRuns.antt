@@ -1,5 +1,5 @@
 -- What a run of collecting that reports in full wrote, and when its status says that all was well.
-use Rattle.std.specs.Prelude.{◌≡◌, ◌≢◌, ◌↔◌, ℕ, Bool, true, false, List, All, Option}
+use Rattle.std.specs.Prelude.{◌≡◌, ◌≢◌, ◌↔◌, ℕ, Bool, true, false, List, ◌++◌, All, Option}
 use Rattle.std.specs.List.{AllZip}
 use Rattle.ipfix_session.specs.Given.{records_of, IsPrefix}
 use Rattle.ipfix_session.specs.Sources.{SourceView}
@@ -8,7 +8,6 @@ use Rattle.exit_status.specs.Statuses.{number_of}
 use Rattle.exit_status.specs.declared.status.Status.TheVariants.{Well, Failed}
 use Rattle.flow_table.specs.Plans.{PlanValue}
 use Rattle.flow_table.specs.declared.table.Table.{Table}
-use Rattle.flow_table.specs.declared.tally.Tally.{Tally}
 use Rattle.flow_collect.specs.InFull.{HeadlineInFull}
 use Rattle.flow_collect.specs.Refusals.{fault_of_arguments}
 use Rattle.flow_collect.specs.Texts.{AreTexts, HasNoFault}
@@ -17,6 +16,9 @@ use Rattle.flow_collect.specs.declared.collected.Pool.{Pool}
 use Rattle.flow_collect.specs.declared.fault.CollectFault.{CollectFault}
 use Rattle.run_reports.specs.declared.origin.Origin.{Origin}
 use Rattle.run_reports.specs.declared.origin.Origin.TheVariants.{File, Peer, Unknown}
+use Rattle.run_reports.specs.declared.telling.Telling.{Telling}
+use Rattle.run_reports.specs.MissingLines.{missing_told}
+use Rattle.run_reports.specs.ReportLines.{tally_line}
 use Rattle.run_reports.specs.Spotless.{IsSpotless}
 use Rattle.collectd.specs.Runs.{IsUnread, WritesWholeTable}
 
@@ -26,9 +28,13 @@ fault_of_pool pool = fault_of_arguments pool 1
 
 -- all was well: no session has a fault, and if the run is strict, nothing shows that anything which was sent isn't in the
 -- table
-abbrev pub WentWell : Bool → List FullReport → Tally → Type 0
-WentWell true fulls tally = IsSpotless fulls tally
-WentWell false fulls tally = All (λ (full : FullReport). HasNoFault full.report) fulls
+abbrev pub WentWell : Bool → List FullReport → Table → Type 0
+WentWell true fulls table = IsSpotless fulls table.tally table.missing
+WentWell false fulls table = All (λ (full : FullReport). HasNoFault full.report) fulls
+
+-- what is told of a table: how many records there were of each class, and what they lack
+abbrev pub table_told : Telling → PlanValue → Table → List ℕ
+table_told telling plan table = tally_line table.tally ++ missing_told telling plan table.missing
 
 -- the origin of a session is a file of this name
 abbrev pub IsFileNamed : List ℕ → Origin → Type 0
@@ -44,7 +50,7 @@ module _ {S : Type 0} (seen : S → SourceView) where
     pub headline : HeadlineInFull seen sources plan pool collected
     -- the records of each session are the first of those that its source's whole text gives
     pub first : (texts : List (List ℕ)) → AreTexts seen sources texts → AllZip (λ q t. IsPrefix q (records_of t)) headline.records texts
-    pub status_is : (status ≡ number_of Well) ↔ WentWell strict collected.sessions.items collected.table.tally
+    pub status_is : (status ≡ number_of Well) ↔ WentWell strict collected.sessions.items collected.table
     pub written : IsWritten collected.table
 
   -- sources were had as the first fact says it, none of which was read before, and a run of them ended like this; the last

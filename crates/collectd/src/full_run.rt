@@ -5,21 +5,21 @@ ghost use Rattle.std.specs.Io.KnownBytes.{Appends};
 ghost use Rattle.exit_status.specs.Statuses.{number_of};
 ghost use Rattle.flow_collect.specs.Refusals.{fault_of_arguments};
 ghost use Rattle.flow_collect.specs.Texts.{HasNoFault};
-ghost use Rattle.run_reports.specs.ReportLines.{tally_line};
 ghost use Rattle.run_reports.specs.ToldLines.{told_lines};
 ghost use Rattle.collectd.specs.Runs.{AddsUpWhole, Writes, WritesWholeTable};
 ghost use Rattle.flow_collect.specs.InFull.{HeadlineInFull};
 ghost use Rattle.flow_table.specs.Plans.{PlanValue};
-ghost use Rattle.collectd.specs.FullRuns.{WentWell, WritesTableInFull};
+ghost use Rattle.collectd.specs.FullRuns.{table_told, WentWell, WritesTableInFull};
 
 use crate::collect_fault::write_collect_fault;
 use crate::table::{Output, export};
 use exit_status::Status;
 use flow_collect::{CollectedInFull, OpenGate, Pool, collect_in_full};
-use flow_table::{Plan, Tally};
+use flow_table::{Plan, Table};
 use ipfix_session::{FullReport, Source};
 use run_reports::{
-    Origin, Telling, is_spotless, write_export_fault, write_tally, write_told_reports,
+    Origin, Telling, is_spotless, write_export_fault, write_missing, write_tally,
+    write_told_reports,
 };
 use std::alloc::Global;
 use std::io::{self, Write};
@@ -74,7 +74,7 @@ pub fn run_in_full<S: Source + Send + Drop, W: Write, E: Write, R: Threads + Wai
         let _ = write_export_fault(fault, err);
         return Status::Failed.number();
     }
-    let _ = tell(telling, origins, &collected, err);
+    let _ = tell(telling, origins, plan, &collected, err);
     status_of(telling.strict, &collected).number()
 }
 
@@ -82,21 +82,21 @@ pub fn run_in_full<S: Source + Send + Drop, W: Write, E: Write, R: Threads + Wai
 fn status_of<S: Source>(strict: bool, collected: &CollectedInFull<S>) -> Status
     ensures ends { (result ≡ Status.Well) ⊎ (result ≡ Status.SessionFault) }
     ensures well { (result ≡ Status.Well)
-        ↔ WentWell strict collected.now.sessions.items collected.now.table.tally }
+        ↔ WentWell strict collected.now.sessions.items collected.now.table }
     ensures whole { (sources : List S) (plan : PlanValue) (pool : Pool)
         → HeadlineInFull S.seen sources plan pool collected.now
-        → WentWell strict collected.now.sessions.items collected.now.table.tally
+        → WentWell strict collected.now.sessions.items collected.now.table
         → AddsUpWhole S.seen sources plan collected.now.table }
 {
-    end_of(strict, &collected.sessions, &collected.table.tally)
+    end_of(strict, &collected.sessions, &collected.table)
 }
 
 // How sessions and their records ended.
-fn end_of(strict: bool, reports: &[FullReport], tally: &Tally) -> Status
+fn end_of(strict: bool, reports: &[FullReport], table: &Table) -> Status
     ensures ends { (result ≡ Status.Well) ⊎ (result ≡ Status.SessionFault) }
-    ensures well { (result ≡ Status.Well) ↔ WentWell strict reports.now tally.now }
+    ensures well { (result ≡ Status.Well) ↔ WentWell strict reports.now table.now }
 {
-    if went_well(strict, reports, tally) {
+    if went_well(strict, reports, table) {
         Status::Well
     } else {
         Status::SessionFault
@@ -104,11 +104,11 @@ fn end_of(strict: bool, reports: &[FullReport], tally: &Tally) -> Status
 }
 
 #[tactic(auto, using(crate::proofs::FullRan::tested_strict, crate::proofs::FullRan::tested_plain))]
-fn went_well(strict: bool, reports: &[FullReport], tally: &Tally) -> bool
-    ensures { IsTrue result ↔ WentWell strict reports.now tally.now }
+fn went_well(strict: bool, reports: &[FullReport], table: &Table) -> bool
+    ensures { IsTrue result ↔ WentWell strict reports.now table.now }
 {
     if strict {
-        is_spotless(reports, tally)
+        is_spotless(reports, &table.tally, &table.missing)
     } else {
         have_no_fault(reports)
     }
@@ -129,13 +129,23 @@ fn have_no_fault(reports: &[FullReport]) -> bool
 fn tell<S, E: Write>(
     telling: Telling,
     origins: &[Origin],
+    plan: &Plan,
     collected: &CollectedInFull<S>,
     err: &mut E,
 ) -> io::Result<()>
     ensures { OnOk result (Appends (E.contents err.old) (E.contents err.new)
         (told_lines telling origins.now collected.now.sessions.items
-        ++ tally_line collected.now.table.tally)) }
+        ++ table_told telling plan.now collected.now.table)) }
 {
     write_told_reports(telling, origins, &collected.sessions, err)?;
-    write_tally(&collected.table.tally, err)
+    tell_table(telling, plan, &collected.table, err)
+}
+
+// How many records there were of each class, and what of them lacked something.
+fn tell_table<E: Write>(telling: Telling, plan: &Plan, table: &Table, err: &mut E) -> io::Result<()>
+    ensures { OnOk result (Appends (E.contents err.old) (E.contents err.new)
+        (table_told telling plan.now table.now)) }
+{
+    write_tally(&table.tally, err)?;
+    write_missing(telling, plan, &table.missing, err)
 }
