@@ -12,7 +12,7 @@ use Rattle.ipfix_session.specs.declared.report.SessionReport.{SessionReport}
 use Rattle.flow_collect.specs.Texts.{HasNoFault}
 use Rattle.ipfix_dump.specs.Dumped.{DumpsBy, DumpsInFullBy}
 use Rattle.run_reports.specs.Spotless.{IsSpotlessSession}
-use Rattle.collectd.specs.Dumps.{DumpsToEnd, EndedWell}
+use Rattle.collectd.specs.Dumps.{DumpsAlone, DumpsToEnd, EndedWell}
 
 pub well_no_fault : (strict : Bool) (full : FullReport) → EndedWell strict full → HasNoFault full.report
 well_no_fault true full well = well.no_fault
@@ -42,10 +42,16 @@ module _ {S : Type 0} (seen : S → SourceView) (line_of : DataRecord → List �
   by_fault status full None one d well is = absurd (omega (arith, one, well.1 is))
   by_fault status full (Some fault) one d well is = (full.report, fault, is, dumps_short full d)
 
-  pub ended_with_fault : (strict : Bool) (status : ℕ) → strict ≡ false → status ≡ 1 → DumpsToEnd line_of seen strict before after old new status
+  pub ended_with_fault : (strict : Bool) (status : ℕ) (IsTold : FullReport → Type 0) → strict ≡ false → status ≡ 1 → DumpsToEnd line_of seen strict before after old new status IsTold
       → (report : SessionReport) × (fault : SessionFault) × (report.fault ≡ Some fault) × DumpsBy line_of seen before after old new report
-  ended_with_fault true status is one d = absurd (cc is)
-  ended_with_fault false status is one d = by_fault status d.full d.full.report.fault one d.dumps d.status_is refl
+  ended_with_fault true status IsTold is one d = absurd (cc is)
+  ended_with_fault false status IsTold is one d = by_fault status d.full d.full.report.fault one d.dumps d.status_is refl
+
+  pub ended_alone : (strict : Bool) (status : ℕ) (IsTold : FullReport → Type 0) (Short : SessionReport → Type 0) → strict ≡ false → ((full : FullReport) → IsTold full → Short full.report)
+      → DumpsToEnd line_of seen strict before after old new status IsTold → DumpsAlone line_of seen before after old new status Short
+  ended_alone true status IsTold Short is shorter d = absurd (cc is)
+  ended_alone false status IsTold Short is shorter d =
+      record { report = d.full.report; dumps = dumps_short d.full d.dumps; told = shorter d.full d.told; status_is = d.status_is }
 
 -- what was written is still there when it is flushed
 pub flushed : {S : Type 0} (seen : S → SourceView) (line_of : DataRecord → List ℕ) (before after : S) (old written new : Option (List ℕ)) (full : FullReport)

@@ -6,6 +6,7 @@ use Rattle.std.specs.Prelude.{◌↔◌, IsTrue, ◌⊎◌, ◌≢◌, ◌||◌,
 use Rattle.std.specs.Option.{ForSome}
 use Rattle.ipfix_session.specs.Sources.{SourceView}
 use Rattle.ipfix_session.specs.declared.report.FullReport.{FullReport}
+use Rattle.ipfix_session.specs.declared.report.SessionReport.{SessionReport}
 use Rattle.flow_table.specs.Plans.{PlanValue}
 use Rattle.flow_table.specs.declared.table.Table.{Table}
 use Rattle.flow_collect.specs.InFull.{HeadlineInFull, reports_in}
@@ -20,7 +21,7 @@ use Rattle.flow_link.specs.declared.making.TheConstants.{MAX_CAPACITY}
 use Rattle.flow_collect.proofs.GivenLists.{first_each}
 use Rattle.flow_collect.proofs.InFull.{given_short, headline_short, short_run}
 use Rattle.run_reports.specs.Spotless.{IsSpotless, IsSpotlessSession}
-use Rattle.collectd.specs.Runs.{AddsUpWhole, IsUnread, RunsSources, WritesTable, WritesWholeTable}
+use Rattle.collectd.specs.Runs.{AddsUpWhole, IsUnread, RunsSources, WritesTable}
 use Rattle.collectd.specs.FullRuns.{RunsInFull, WentWell, WritesTableInFull}
 use Rattle.collectd.proofs.Ran.{adds_up_whole, not_some, writes_table}
 
@@ -62,15 +63,17 @@ tested_plain false fulls table passed is tested = tested
 -- ---- a run
 
 module _ {S : Type 0} (seen : S → SourceView) where
-  pub writes_in_full : (strict : Bool) (sources : List S) (plan : PlanValue) (pool : Pool) (status : ℕ) (IsWritten : Table → Type 0) (c : CollectedInFull S)
-      → HeadlineInFull seen sources plan pool c → ((status ≡ 0) ↔ WentWell strict c.sessions.items c.table) → IsWritten c.table → WritesTableInFull seen strict sources plan pool status IsWritten
-  writes_in_full strict sources plan pool status IsWritten c h status_is written =
+  pub writes_in_full : (strict : Bool) (sources : List S) (plan : PlanValue) (pool : Pool) (status : ℕ) (Ends : List FullReport → Table → Type 0) (c : CollectedInFull S)
+      → HeadlineInFull seen sources plan pool c → ((status ≡ 0) ↔ WentWell strict c.sessions.items c.table) → (status ≡ 0 → AddsUpWhole seen sources plan c.table) → Ends c.sessions.items c.table
+      → WritesTableInFull seen strict sources plan pool status Ends
+  writes_in_full strict sources plan pool status Ends c h status_is whole ends =
       record {
         collected = c;
         headline = h;
         first = λ texts t. first_each seen sources c.sources.items (reports_in c.sessions.items) h.records texts (given_short seen sources c.sources.items c.sessions.items h.records h.given) t;
         status_is = status_is;
-        written = written;
+        whole = whole;
+        ends = ends;
       }
 
   pub adds_up_in_full : ((s : S) → (seen s).ended ≡ true → ForSome (seen s).text (λ xs. xs ≡ [])) → (c : CollectedInFull S) (sources : List S) (plan : PlanValue) (pool : Pool)
@@ -87,30 +90,42 @@ module _ {S : Type 0} (seen : S → SourceView) where
   status_short status true fulls table plain is = absurd (cc plain)
   status_short status false fulls table plain is = (λ zero. All-map HasNoFault (λ (full : FullReport). full.report) fulls (is.0 zero), λ none. is.1 (no_fault_from fulls none))
 
-  pub table_short : (strict : Bool) (sources : List S) (plan : PlanValue) (pool : Pool) (status : ℕ) (IsWritten : Table → Type 0) → strict ≡ false
-      → WritesTableInFull seen strict sources plan pool status IsWritten → WritesTable seen sources plan pool status IsWritten
-  table_short strict sources plan pool status IsWritten plain w =
+  -- an end of the sessions in full, and of their table, is one without the rest
+  abbrev pub IsShorter : (List FullReport → Table → Type 0) → (List SessionReport → Table → Type 0) → Type 0
+  IsShorter Ends Short = (fulls : List FullReport) (table : Table) → Ends fulls table → Short (reports_in fulls) table
+
+  pub table_short : (strict : Bool) (sources : List S) (plan : PlanValue) (pool : Pool) (status : ℕ) (Ends : List FullReport → Table → Type 0) (Short : List SessionReport → Table → Type 0) → strict ≡ false
+      → IsShorter Ends Short → WritesTableInFull seen strict sources plan pool status Ends → WritesTable seen sources plan pool status Short
+  table_short strict sources plan pool status Ends Short plain shorter w =
       let short = short_run w.collected in
-      writes_table seen sources plan pool status IsWritten short.0 (headline_short seen sources plan pool w.collected short.0 w.headline short.1)
+      writes_table seen sources plan pool status Short short.0 (headline_short seen sources plan pool w.collected short.0 w.headline short.1)
       (rw short.1.sessions_are (status_short status strict w.collected.sessions.items w.collected.table plain w.status_is))
-      (subst IsWritten (sym short.1.table_is) w.written)
+      (subst (λ (t : Table). status ≡ 0 → AddsUpWhole seen sources plan t) (sym short.1.table_is) w.whole)
+      (subst (λ (t : Table). Short short.0.sessions.items t) (sym short.1.table_is)
+      (subst (λ (rs : List SessionReport). Short rs w.collected.table) (sym short.1.sessions_are) (shorter w.collected.sessions.items w.collected.table w.ends)))
 
-  -- sources that were had one after another, and then run
-  pub runs_in_full : (AreHad : List S → Type 0) (strict : Bool) (plan : PlanValue) (pool : Pool) (status : ℕ) (IsWritten : Table → Type 0) (sources had : List S)
-      → sources ≡ had → AreHad had → All (IsUnread seen) had → (status ≢ 3 → WritesTableInFull seen strict sources plan pool status IsWritten) → (status ≡ 0 → WritesWholeTable seen sources plan IsWritten)
-      → RunsInFull seen AreHad strict plan pool status IsWritten
-  runs_in_full AreHad strict plan pool status IsWritten sources had same are_had unread table all =
-      record { sources = sources; had = rw same are_had; unread = rw same unread; table = table; all = all }
+  -- sources that were had one after another, and then run, with what was told before
+  pub runs_in_full : (AreHad : List S → Type 0) (strict : Bool) (plan : PlanValue) (pool : Pool) (status : ℕ) (Ends All_ends : List FullReport → Table → Type 0) (sources had : List S)
+      → sources ≡ had → AreHad had → All (IsUnread seen) had → (status ≢ 3 → WritesTableInFull seen strict sources plan pool status Ends) → ((fulls : List FullReport) (table : Table) → Ends fulls table → All_ends fulls table)
+      → RunsInFull seen AreHad strict plan pool status All_ends
+  runs_in_full AreHad strict plan pool status Ends All_ends sources had same are_had unread table all =
+      record {
+        sources = sources;
+        had = rw same are_had;
+        unread = rw same unread;
+        table = λ ran.
+            let w = table ran in
+            record { collected = w.collected; headline = w.headline; first = w.first; status_is = w.status_is; whole = w.whole; ends = all w.collected.sessions.items w.collected.table w.ends };
+      }
 
-  pub runs_short : (AreHad : List S → Type 0) (strict : Bool) (plan : PlanValue) (pool : Pool) (status : ℕ) (IsWritten : Table → Type 0) → strict ≡ false
-      → RunsInFull seen AreHad strict plan pool status IsWritten → RunsSources seen AreHad plan pool status IsWritten
-  runs_short AreHad strict plan pool status IsWritten plain r =
+  pub runs_short : (AreHad : List S → Type 0) (strict : Bool) (plan : PlanValue) (pool : Pool) (status : ℕ) (Ends : List FullReport → Table → Type 0) (Short : List SessionReport → Table → Type 0) → strict ≡ false
+      → IsShorter Ends Short → RunsInFull seen AreHad strict plan pool status Ends → RunsSources seen AreHad plan pool status Short
+  runs_short AreHad strict plan pool status Ends Short plain shorter r =
       record {
         sources = r.sources;
         had = r.had;
         unread = r.unread;
-        table = λ ran. table_short strict r.sources plan pool status IsWritten plain (r.table ran);
-        all = r.all;
+        table = λ ran. table_short strict r.sources plan pool status Ends Short plain shorter (r.table ran);
       }
 
 -- ---- a pool that has a fault

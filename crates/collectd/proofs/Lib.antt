@@ -1,5 +1,6 @@
 mod Ran
 pub mod Had
+mod LinesTold
 mod FullRan
 mod FullDumped
 pub mod Merged

@@ -7,6 +7,7 @@ use Rattle.std.specs.Option.{ForSome}
 use Rattle.std.specs.List.{AllZip}
 use Rattle.ipfix_message.specs.declared.record.DataRecord.{DataRecord}
 use Rattle.ipfix_session.specs.Sources.{SourceView}
+use Rattle.ipfix_session.specs.declared.report.SessionReport.{SessionReport}
 use Rattle.flow_table.specs.Plans.{PlanValue}
 use Rattle.flow_table.specs.declared.table.Table.{Table}
 use Rattle.flow_collect.specs.Headline.{Headline, IsAddedUp}
@@ -14,6 +15,7 @@ use Rattle.flow_collect.specs.Refusals.{fault_of_arguments}
 use Rattle.flow_collect.specs.Texts.{HasNoFault}
 use Rattle.flow_collect.specs.declared.collected.Collected.{Collected}
 use Rattle.flow_collect.specs.declared.collected.Pool.{Pool}
+use Rattle.flow_collect.specs.declared.fault.CollectFault.{CollectFault}
 use Rattle.flow_merge.proofs.RowsRead.{zip_more}
 use Rattle.flow_collect.proofs.GivenLists.{first_each, all_whole, whole_records, whole_clean}
 use Rattle.collectd.specs.Runs.{AddsUpWhole, WritesTable}
@@ -22,15 +24,17 @@ use Rattle.exit_status.specs.declared.status.Status.{Status}
 use Rattle.exit_status.specs.declared.status.Status.TheVariants.{Well, SessionFault, NotOpened, Failed}
 
 module _ {S : Type 0} (seen : S → SourceView) where
-  pub writes_table : (sources : List S) (plan : PlanValue) (pool : Pool) (status : ℕ) (IsWritten : Table → Type 0) (c : Collected S)
-      → Headline seen sources plan pool c → ((status ≡ 0) ↔ All HasNoFault c.sessions.items) → IsWritten c.table → WritesTable seen sources plan pool status IsWritten
-  writes_table sources plan pool status IsWritten c h status_is written =
+  pub writes_table : (sources : List S) (plan : PlanValue) (pool : Pool) (status : ℕ) (Ends : List SessionReport → Table → Type 0) (c : Collected S)
+      → Headline seen sources plan pool c → ((status ≡ 0) ↔ All HasNoFault c.sessions.items) → (status ≡ 0 → AddsUpWhole seen sources plan c.table) → Ends c.sessions.items c.table
+      → WritesTable seen sources plan pool status Ends
+  writes_table sources plan pool status Ends c h status_is whole ends =
       record {
         collected = c;
         headline = h;
         first = λ texts t. first_each seen sources c.sources.items c.sessions.items h.records texts h.given t;
         status_is = status_is;
-        written = written;
+        whole = whole;
+        ends = ends;
       }
 
   pub adds_up_whole : ((s : S) → (seen s).ended ≡ true → ForSome (seen s).text (λ xs. xs ≡ [])) → (c : Collected S) (sources : List S) (plan : PlanValue) (pool : Pool)
@@ -49,15 +53,15 @@ one_of_four status (inl zero) = inl zero
 one_of_four status (inr (inl one)) = inr (inl one)
 one_of_four status (inr (inr three)) = inr (inr (inr three))
 
-refused_if : {X : Type 0} (fault : Option X) (status : ℕ) (Untouched : Type 0) → IfSome fault (λ x. (status ≡ 3) × Untouched) → IfSome fault (λ x. ((status ≡ 2) ⊎ (status ≡ 3)) × Untouched)
-refused_if None status Untouched refused = tt
-refused_if (Some x) status Untouched refused = (inr refused.0, refused.1)
+refused_if : {X : Type 0} (fault : Option X) (status : ℕ) (Untouched : Type 0) (Told : X → Type 0) → IfSome fault (λ x. (status ≡ 3) × Untouched × Told x) → IfSome fault (λ x. ((status ≡ 2) ⊎ (status ≡ 3)) × Untouched)
+refused_if None status Untouched Told refused = tt
+refused_if (Some x) status Untouched Told refused = (inr refused.0, refused.1)
 
 -- arguments that have a fault
-pub refused_for : (pool : Pool) (sources count status : ℕ) (Untouched : Type 0) → sources ≡ count → IfSome (fault_of_arguments pool sources) (λ fault. (status ≡ 3) × Untouched)
+pub refused_for : (pool : Pool) (sources count status : ℕ) (Untouched : Type 0) (Told : CollectFault → Type 0) → sources ≡ count → IfSome (fault_of_arguments pool sources) (λ fault. (status ≡ 3) × Untouched × Told fault)
     → IfSome (fault_of_arguments pool count) (λ fault. ((status ≡ 2) ⊎ (status ≡ 3)) × Untouched)
-refused_for pool sources count status Untouched same refused =
-    refused_if (fault_of_arguments pool count) status Untouched (subst (λ (n : ℕ). IfSome (fault_of_arguments pool n) (λ fault. (status ≡ 3) × Untouched)) same refused)
+refused_for pool sources count status Untouched Told same refused =
+    refused_if (fault_of_arguments pool count) status Untouched Told (subst (λ (n : ℕ). IfSome (fault_of_arguments pool n) (λ fault. (status ≡ 3) × Untouched × Told fault)) same refused)
 
 -- the status is 0 exactly if all was well
 pub zero_if_well : (s : Status) (n : ℕ) (P : Type 0) → n ≡ number_of s → (s ≡ Well) ⊎ (s ≡ SessionFault) → ((s ≡ Well) ↔ P) → ((n ≡ 0) ↔ P)

@@ -1,5 +1,5 @@
 -- What a run of collecting that reports in full wrote, and when its status says that all was well.
-use Rattle.std.specs.Prelude.{◌≡◌, ◌≢◌, ◌↔◌, ℕ, Bool, true, false, List, ◌++◌, All, Option}
+use Rattle.std.specs.Prelude.{◌≡◌, ◌≢◌, ◌↔◌, ℕ, Bool, true, false, List, ◌++◌, length, All, Option}
 use Rattle.std.specs.List.{AllZip}
 use Rattle.ipfix_session.specs.Given.{records_of, IsPrefix}
 use Rattle.ipfix_session.specs.Sources.{SourceView}
@@ -20,7 +20,7 @@ use Rattle.run_reports.specs.declared.telling.Telling.{Telling}
 use Rattle.run_reports.specs.MissingLines.{missing_told}
 use Rattle.run_reports.specs.ReportLines.{tally_line}
 use Rattle.run_reports.specs.Spotless.{IsSpotless}
-use Rattle.collectd.specs.Runs.{IsUnread, WritesWholeTable}
+use Rattle.collectd.specs.Runs.{AddsUpWhole, IsUnread}
 
 -- the fault that a pool has with however many sources
 abbrev pub fault_of_pool : Pool → Option CollectFault
@@ -42,22 +42,34 @@ IsFileNamed path (File name size) = name.now ≡ path
 IsFileNamed path (Peer address) = ⊥
 IsFileNamed path Unknown = ⊥
 
+abbrev pub IsPeer : Origin → Type 0
+IsPeer (File name size) = ⊥
+IsPeer (Peer address) = Unit {0}
+IsPeer Unknown = ⊥
+
+-- so many connections
+pub record ArePeers (count : ℕ) (origins : List Origin) : Type 0 where
+  pub one_each : length origins ≡ count
+  pub peers : All IsPeer origins
+
 module _ {S : Type 0} (seen : S → SourceView) where
-  -- the table of what was collected was written; the status says that all was well exactly if it was
-  pub record WritesTableInFull (strict : Bool) (sources : List S) (plan : PlanValue) (pool : Pool) (status : ℕ) (IsWritten : Table → Type 0) : Type 0 where
+  -- what was collected ended as the last fact says it, of the sessions and their table; the status says that all was well
+  -- exactly if it was
+  pub record WritesTableInFull (strict : Bool) (sources : List S) (plan : PlanValue) (pool : Pool) (status : ℕ) (Ends : List FullReport → Table → Type 0) : Type 0 where
     -- what the headline says, with full reports
     pub collected : CollectedInFull S
     pub headline : HeadlineInFull seen sources plan pool collected
     -- the records of each session are the first of those that its source's whole text gives
     pub first : (texts : List (List ℕ)) → AreTexts seen sources texts → AllZip (λ q t. IsPrefix q (records_of t)) headline.records texts
     pub status_is : (status ≡ number_of Well) ↔ WentWell strict collected.sessions.items collected.table
-    pub written : IsWritten collected.table
+    -- then the table is that of the whole texts
+    pub whole : status ≡ number_of Well → AddsUpWhole seen sources plan collected.table
+    pub ends : Ends collected.sessions.items collected.table
 
-  -- sources were had as the first fact says it, none of which was read before, and a run of them ended like this; the last
-  -- fact says that a table was written
-  pub record RunsInFull (AreHad : List S → Type 0) (strict : Bool) (plan : PlanValue) (pool : Pool) (status : ℕ) (IsWritten : Table → Type 0) : Type 0 where
+  -- sources were had as the first fact says it, none of which was read before, and a run of them ended as the last one says
+  -- it, of their sessions and the table
+  pub record RunsInFull (AreHad : List S → Type 0) (strict : Bool) (plan : PlanValue) (pool : Pool) (status : ℕ) (Ends : List FullReport → Table → Type 0) : Type 0 where
     pub sources : List S
     pub had : AreHad sources
     pub unread : All (IsUnread seen) sources
-    pub table : status ≢ number_of Failed → WritesTableInFull strict sources plan pool status IsWritten
-    pub all : status ≡ number_of Well → WritesWholeTable seen sources plan IsWritten
+    pub table : status ≢ number_of Failed → WritesTableInFull strict sources plan pool status Ends

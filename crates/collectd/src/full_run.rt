@@ -1,15 +1,17 @@
 //! Collecting and writing the table, with reports in full.
 
-ghost use Rattle.std.specs.Prelude.{List, ◌≡◌, ◌≢◌, ◌⊎◌, ◌↔◌, ◌++◌, All, IfSome, IsTrue, OnOk, vec_len};
+ghost use Rattle.std.specs.Prelude.{List, ◌≡◌, ◌≢◌, ◌⊎◌, ◌↔◌, All, IfSome, IsTrue, OnErr, OnOk, vec_len};
 ghost use Rattle.std.specs.Io.KnownBytes.{Appends};
 ghost use Rattle.exit_status.specs.Statuses.{number_of};
 ghost use Rattle.flow_collect.specs.Refusals.{fault_of_arguments};
 ghost use Rattle.flow_collect.specs.Texts.{HasNoFault};
-ghost use Rattle.run_reports.specs.ToldLines.{told_lines};
+ghost use Rattle.run_reports.specs.Told.{AreTold};
 ghost use Rattle.collectd.specs.Runs.{AddsUpWhole, Writes, WritesWholeTable};
 ghost use Rattle.flow_collect.specs.InFull.{HeadlineInFull};
 ghost use Rattle.flow_table.specs.Plans.{PlanValue};
+ghost use Rattle.collectd.specs.CollectLines.{collect_fault_line};
 ghost use Rattle.collectd.specs.FullRuns.{table_told, WentWell, WritesTableInFull};
+ghost use Rattle.collectd.specs.Told.{run_lines, TellsFault};
 
 use crate::collect_fault::write_collect_fault;
 use crate::table::{Output, export};
@@ -18,7 +20,7 @@ use flow_collect::{CollectedInFull, OpenGate, Pool, collect_in_full};
 use flow_table::{Plan, Table};
 use ipfix_session::{FullReport, Source};
 use run_reports::{
-    Origin, Telling, is_spotless, write_export_fault, write_missing, write_tally,
+    Origin, Telling, WriteLines, is_spotless, write_export_fault, write_missing, write_tally,
     write_told_reports,
 };
 use std::alloc::Global;
@@ -36,7 +38,7 @@ pub const NOTHING_MORE: Telling = Telling {
 /// sessions in full, each with the origin that has the session's place. If `telling` is strict, the status is 1
 /// also if anything shows that something which was sent isn't in the table
 /// ([`is_spotless`](run_reports::is_spotless)).
-pub fn run_in_full<S: Source + Send + Drop, W: Write, E: Write, R: Threads + Wait + Sync>(
+pub fn run_in_full<S: Source + Send + Drop, W: Write, E: WriteLines, R: Threads + Wait + Sync>(
     rt: &R,
     alloc: Global,
     sources: Vec<S>,
@@ -50,18 +52,26 @@ pub fn run_in_full<S: Source + Send + Drop, W: Write, E: Write, R: Threads + Wai
 ) -> u8
     ensures statuses { (result ≡ number_of Status.Well) ⊎ (result ≡ number_of Status.SessionFault)
         ⊎ (result ≡ number_of Status.Failed) }
-    // The table of what was received of each session was written, and nothing else; all was well exactly
-    // if no session had a fault, and if the run is strict exactly if it was spotless.
+    // The table of what was received of each session was written, and nothing else; the lines of these
+    // sessions and of the table's counts were told, and nothing else; all was well exactly if no session had
+    // a fault, and if the run is strict exactly if it was spotless.
     ensures table { result ≢ number_of Status.Failed
         → WritesTableInFull S.seen telling.strict sources.items plan.now pool result
-        (Writes plan.now output (W.contents out.old) (W.contents out.new)) }
+        (λ fulls table. Writes plan.now output (W.contents out.old) (W.contents out.new) table
+        × AreTold (E.contents err.old) (E.contents err.new) (E.failed err.new)
+        (run_lines telling origins.now fulls table.tally)) }
     // The table of all whole texts was written, and each of them ends with a whole message.
     ensures all { result ≡ number_of Status.Well
         → WritesWholeTable S.seen sources.items plan.now
         (Writes plan.now output (W.contents out.old) (W.contents out.new)) }
-    // Nothing was collected if the arguments have a fault.
+    // The line of a fault alone was told; and nothing was written, if it is one of collecting.
+    ensures failed { result ≡ number_of Status.Failed → TellsFault (out.new ≡ out.old)
+        (AreTold (E.contents err.old) (E.contents err.new) (E.failed err.new)) }
+    // Nothing was collected if the arguments have a fault, and that is told.
     ensures refused { IfSome (fault_of_arguments pool (vec_len sources))
-        (λ fault. (result ≡ number_of Status.Failed) × (out.new ≡ out.old)) }
+        (λ fault. (result ≡ number_of Status.Failed) × (out.new ≡ out.old)
+        × AreTold (E.contents err.old) (E.contents err.new) (E.failed err.new) (collect_fault_line fault)) }
+    ensures kept { E.failed err.old → E.failed err.new }
 {
     let collected = match collect_in_full(rt, alloc, sources, plan, pool, &OpenGate) {
         Ok(collected) => collected,
@@ -126,16 +136,18 @@ fn have_no_fault(reports: &[FullReport]) -> bool
 }
 
 // What there is to tell of sessions and their records.
-fn tell<S, E: Write>(
+fn tell<S, E: WriteLines>(
     telling: Telling,
     origins: &[Origin],
     plan: &Plan,
     collected: &CollectedInFull<S>,
     err: &mut E,
 ) -> io::Result<()>
-    ensures { OnOk result (Appends (E.contents err.old) (E.contents err.new)
-        (told_lines telling origins.now collected.now.sessions.items
-        ++ table_told telling plan.now collected.now.table)) }
+    ensures told { OnOk result (Appends (E.contents err.old) (E.contents err.new)
+        (run_lines telling origins.now plan.now collected.now.sessions.items
+        collected.now.table)) }
+    ensures failed { OnErr result (E.failed err.new) }
+    ensures kept { E.failed err.old → E.failed err.new }
 {
     write_told_reports(telling, origins, &collected.sessions, err)?;
     tell_table(telling, plan, &collected.table, err)

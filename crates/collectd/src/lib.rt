@@ -23,7 +23,7 @@ pub use ipfix_session::MessageCounter;
 pub use limits::write_limit;
 pub use plan::{ReadText, load_plan};
 pub use run_reports::{
-    Origin, Reason, Telling, write_dump_fault, write_export_fault, write_not_had,
+    Origin, Reason, Remembering, Telling, write_dump_fault, write_export_fault, write_not_had,
     write_not_had_because, write_plan_fault, write_reports, write_tally,
 };
 pub use sources::accepting::{Accepted, Listener, Listening};

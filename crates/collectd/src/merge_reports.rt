@@ -1,6 +1,6 @@
 //! The lines that tell of merging.
 
-ghost use Rattle.std.specs.Prelude.{◌++◌, codes, OnOk};
+ghost use Rattle.std.specs.Prelude.{◌++◌, codes, OnErr, OnOk};
 ghost use Rattle.std.specs.Io.KnownBytes.{Appends};
 ghost use Rattle.flow_merge.specs.MergeFaults.{number_of, name_of};
 ghost use Rattle.run_reports.specs.OpeningLines.{if_verbose};
@@ -8,37 +8,43 @@ ghost use Rattle.run_reports.specs.ReportLines.{fault_text};
 ghost use Rattle.collectd.specs.MergeLines.{file_fault_line, file_fault_lines, file_opened_line, file_start, merge_fault_text, merged_line, named_file_line};
 
 use flow_merge::MergeFault;
-use run_reports::{Origin, Telling, write_fault, write_origin};
-use std::io::{self, Write};
+use run_reports::{Origin, Telling, WriteLines, write_fault, write_origin};
+use std::io;
 
 /// Writes the line that counts the files that were merged, and the rows of their table.
 #[tactic(auto, unfolding(crate::specs::MergeLines::merged_line))]
-pub fn write_merged<W: Write>(files: usize, rows: usize, out: &mut W) -> io::Result<()>
-    ensures { OnOk result (Appends (W.contents out.old) (W.contents out.new)
+pub fn write_merged<W: WriteLines>(files: usize, rows: usize, out: &mut W) -> io::Result<()>
+    ensures told { OnOk result (Appends (W.contents out.old) (W.contents out.new)
         (merged_line files rows)) }
+    ensures failed { OnErr result (W.failed out.new) }
+    ensures kept { W.failed out.old → W.failed out.new }
 {
     writeln!(out, "collectd: merged: files {files} rows {rows}")
 }
 
 /// Writes the line of a fault of merging that is no file's.
-pub fn write_merge_fault<W: Write>(fault: MergeFault, out: &mut W) -> io::Result<()>
-    ensures { OnOk result (Appends (W.contents out.old) (W.contents out.new)
+pub fn write_merge_fault<W: WriteLines>(fault: MergeFault, out: &mut W) -> io::Result<()>
+    ensures told { OnOk result (Appends (W.contents out.old) (W.contents out.new)
         (codes "collectd: merge" ++ fault_text (number_of fault) (name_of fault))) }
+    ensures failed { OnErr result (W.failed out.new) }
+    ensures kept { W.failed out.old → W.failed out.new }
 {
     write_fault("merge", fault.number(), fault.name(), out)
 }
 
 /// Writes the line of a file, counted from 1, that was not merged: the fault, and behind it that of its
 /// session or of its record. If `telling` is verbose, the same line follows with the file's name.
-pub fn write_file_fault<W: Write>(
+pub fn write_file_fault<W: WriteLines>(
     telling: Telling,
     file: usize,
     name: &str,
     fault: MergeFault,
     out: &mut W,
 ) -> io::Result<()>
-    ensures { OnOk result (Appends (W.contents out.old) (W.contents out.new)
+    ensures told { OnOk result (Appends (W.contents out.old) (W.contents out.new)
         (file_fault_lines telling file name.now fault)) }
+    ensures failed { OnErr result (W.failed out.new) }
+    ensures kept { W.failed out.old → W.failed out.new }
 {
     write_numbered_fault(file, fault, out)?;
     if telling.verbose {
@@ -48,22 +54,26 @@ pub fn write_file_fault<W: Write>(
     }
 }
 
-fn write_numbered_fault<W: Write>(file: usize, fault: MergeFault, out: &mut W) -> io::Result<()>
-    ensures { OnOk result (Appends (W.contents out.old) (W.contents out.new)
+fn write_numbered_fault<W: WriteLines>(file: usize, fault: MergeFault, out: &mut W) -> io::Result<()>
+    ensures told { OnOk result (Appends (W.contents out.old) (W.contents out.new)
         (file_fault_line file fault)) }
+    ensures failed { OnErr result (W.failed out.new) }
+    ensures kept { W.failed out.old → W.failed out.new }
 {
     write_file_start(file, out)?;
     write_merge_fault_text(fault, out)
 }
 
-fn write_named_fault<W: Write>(
+fn write_named_fault<W: WriteLines>(
     file: usize,
     name: &str,
     fault: MergeFault,
     out: &mut W,
 ) -> io::Result<()>
-    ensures { OnOk result (Appends (W.contents out.old) (W.contents out.new)
+    ensures told { OnOk result (Appends (W.contents out.old) (W.contents out.new)
         (named_file_line file name.now (merge_fault_text fault))) }
+    ensures failed { OnErr result (W.failed out.new) }
+    ensures kept { W.failed out.old → W.failed out.new }
 {
     write_file_start(file, out)?;
     write_origin(&Origin::File { name, size: None }, out)?;
@@ -71,9 +81,11 @@ fn write_named_fault<W: Write>(
 }
 
 // The fault of a file, and behind it that of its session or of its record, to the end of the line.
-fn write_merge_fault_text<W: Write>(fault: MergeFault, out: &mut W) -> io::Result<()>
-    ensures { OnOk result (Appends (W.contents out.old) (W.contents out.new)
+fn write_merge_fault_text<W: WriteLines>(fault: MergeFault, out: &mut W) -> io::Result<()>
+    ensures told { OnOk result (Appends (W.contents out.old) (W.contents out.new)
         (merge_fault_text fault)) }
+    ensures failed { OnErr result (W.failed out.new) }
+    ensures kept { W.failed out.old → W.failed out.new }
 {
     match fault {
         MergeFault::Session(inner) => {
@@ -86,23 +98,27 @@ fn write_merge_fault_text<W: Write>(fault: MergeFault, out: &mut W) -> io::Resul
 
 // The last fault, behind what stands before it.
 #[tactic(auto, unfolding(run_reports::specs::ReportLines::fault_text))]
-fn write_inner<W: Write>(what: &str, number: u8, name: &str, out: &mut W) -> io::Result<()>
-    ensures { OnOk result (Appends (W.contents out.old) (W.contents out.new)
+fn write_inner<W: WriteLines>(what: &str, number: u8, name: &str, out: &mut W) -> io::Result<()>
+    ensures told { OnOk result (Appends (W.contents out.old) (W.contents out.new)
         (what.now ++ fault_text number name.now)) }
+    ensures failed { OnErr result (W.failed out.new) }
+    ensures kept { W.failed out.old → W.failed out.new }
 {
     writeln!(out, "{what}: fault {number} {name}")
 }
 
 /// Writes the line of a file, counted from 1, that was opened, with its name. Nothing is written unless
 /// `telling` is verbose.
-pub fn write_file_opened<W: Write>(
+pub fn write_file_opened<W: WriteLines>(
     telling: Telling,
     file: usize,
     name: &str,
     out: &mut W,
 ) -> io::Result<()>
-    ensures { OnOk result (Appends (W.contents out.old) (W.contents out.new)
+    ensures told { OnOk result (Appends (W.contents out.old) (W.contents out.new)
         (if_verbose telling (file_opened_line file name.now))) }
+    ensures failed { OnErr result (W.failed out.new) }
+    ensures kept { W.failed out.old → W.failed out.new }
 {
     if telling.verbose {
         write_opened_line(file, name, out)
@@ -111,9 +127,11 @@ pub fn write_file_opened<W: Write>(
     }
 }
 
-fn write_opened_line<W: Write>(file: usize, name: &str, out: &mut W) -> io::Result<()>
-    ensures { OnOk result (Appends (W.contents out.old) (W.contents out.new)
+fn write_opened_line<W: WriteLines>(file: usize, name: &str, out: &mut W) -> io::Result<()>
+    ensures told { OnOk result (Appends (W.contents out.old) (W.contents out.new)
         (file_opened_line file name.now)) }
+    ensures failed { OnErr result (W.failed out.new) }
+    ensures kept { W.failed out.old → W.failed out.new }
 {
     write_file_start(file, out)?;
     write_origin(&Origin::File { name, size: None }, out)?;
@@ -121,8 +139,10 @@ fn write_opened_line<W: Write>(file: usize, name: &str, out: &mut W) -> io::Resu
 }
 
 #[tactic(auto, unfolding(crate::specs::MergeLines::file_start))]
-fn write_file_start<W: Write>(file: usize, out: &mut W) -> io::Result<()>
-    ensures { OnOk result (Appends (W.contents out.old) (W.contents out.new) (file_start file)) }
+fn write_file_start<W: WriteLines>(file: usize, out: &mut W) -> io::Result<()>
+    ensures told { OnOk result (Appends (W.contents out.old) (W.contents out.new) (file_start file)) }
+    ensures failed { OnErr result (W.failed out.new) }
+    ensures kept { W.failed out.old → W.failed out.new }
 {
     write!(out, "collectd: merge: file {file}")
 }

@@ -1,10 +1,14 @@
 //! Collecting and writing the table.
 
-ghost use Rattle.std.specs.Prelude.{◌≡◌, ◌≢◌, ◌⊎◌, IfSome, OnOk, vec_len};
+ghost use Rattle.std.specs.Prelude.{◌≡◌, ◌≢◌, ◌⊎◌, ◌++◌, IfSome, OnOk, vec_len};
 ghost use Rattle.std.specs.Io.KnownBytes.{Appends};
 ghost use Rattle.flow_table.specs.Fitting.{FitsPlan};
 ghost use Rattle.flow_collect.specs.Refusals.{fault_of_arguments};
 ghost use Rattle.exit_status.specs.Statuses.{number_of};
+ghost use Rattle.run_reports.specs.ReportLines.{report_lines, tally_line};
+ghost use Rattle.run_reports.specs.Told.{AreTold};
+ghost use Rattle.collectd.specs.CollectLines.{collect_fault_line};
+ghost use Rattle.collectd.specs.Told.{TellsFault};
 ghost use Rattle.collectd.specs.Runs.{export_text, Writes, WritesTable, WritesWholeTable};
 
 use crate::full_run::{NOTHING_MORE, run_in_full};
@@ -13,6 +17,7 @@ use flow_collect::Pool;
 use flow_export::{ExportFault, Format, write_csv, write_ipfix, write_json};
 use flow_table::{Plan, Table};
 use ipfix_session::Source;
+use run_reports::WriteLines;
 use std::alloc::Global;
 use std::io::Write;
 use std::sync::Wait;
@@ -33,7 +38,7 @@ pub struct Output {
 /// To `err` it writes what there is to tell of the sessions, and then how many records of each class
 /// there were; at status 3 the line of the fault alone. A fault of `err` is passed over. Before a
 /// fault of collecting nothing is written to `out`.
-pub fn run<S: Source + Send + Drop, W: Write, E: Write, R: Threads + Wait + Sync>(
+pub fn run<S: Source + Send + Drop, W: Write, E: WriteLines, R: Threads + Wait + Sync>(
     rt: &R,
     alloc: Global,
     sources: Vec<S>,
@@ -45,18 +50,26 @@ pub fn run<S: Source + Send + Drop, W: Write, E: Write, R: Threads + Wait + Sync
 ) -> u8
     ensures statuses { (result ≡ number_of Status.Well) ⊎ (result ≡ number_of Status.SessionFault)
         ⊎ (result ≡ number_of Status.Failed) }
-    // The table of what was received of each session was written, and nothing else; all was well exactly
-    // if no session had a fault.
+    // The table of what was received of each session was written, and nothing else; the lines of these
+    // sessions and of the table's counts were told, and nothing else; all was well exactly if no session had
+    // a fault.
     ensures table { result ≢ number_of Status.Failed
         → WritesTable S.seen sources.items plan.now pool result
-        (Writes plan.now output (W.contents out.old) (W.contents out.new)) }
+        (λ reports table. Writes plan.now output (W.contents out.old) (W.contents out.new) table
+        × AreTold (E.contents err.old) (E.contents err.new) (E.failed err.new)
+        (report_lines reports ++ tally_line table.tally)) }
     // The table of all whole texts was written, and each of them ends with a whole message.
     ensures all { result ≡ number_of Status.Well
         → WritesWholeTable S.seen sources.items plan.now
         (Writes plan.now output (W.contents out.old) (W.contents out.new)) }
-    // Nothing was collected if the arguments have a fault.
+    // The line of a fault alone was told; and nothing was written, if it is one of collecting.
+    ensures failed { result ≡ number_of Status.Failed → TellsFault (out.new ≡ out.old)
+        (AreTold (E.contents err.old) (E.contents err.new) (E.failed err.new)) }
+    // Nothing was collected if the arguments have a fault, and that is told.
     ensures refused { IfSome (fault_of_arguments pool (vec_len sources))
-        (λ fault. (result ≡ number_of Status.Failed) × (out.new ≡ out.old)) }
+        (λ fault. (result ≡ number_of Status.Failed) × (out.new ≡ out.old)
+        × AreTold (E.contents err.old) (E.contents err.new) (E.failed err.new) (collect_fault_line fault)) }
+    ensures kept { E.failed err.old → E.failed err.new }
 {
     run_in_full(
         rt,

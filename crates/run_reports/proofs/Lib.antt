@@ -1,3 +1,3 @@
-mod Numbering
-mod Untold
+pub mod Numbering
+pub mod Untold
 mod Stream

@@ -27,3 +27,12 @@ pub numbered-more : {X : Type 0} (lines : ℕ → X → List ℕ) (rs : List X) 
 numbered-more {X} lines rs i r less is =
     numbered_from lines 1 rs i (i + 1) r less (omega arith)
     ∙ ap (λ x. flat_map (λ (y : ℕ × X). lines y.0 y.1) (enumerate_from 1 (take i rs)) ++ lines (i + 1) x) (sym is)
+
+-- one more thing behind those that are counted from 1
+pub numbered-last : {X : Type 0} (lines : ℕ → X → List ℕ) (rs : List X) (r : X)
+    → flat_map (λ (x : ℕ × X). lines x.0 x.1) (enumerate_from 1 (rs ++ r ∷ [])) ≡ flat_map (λ (x : ℕ × X). lines x.0 x.1) (enumerate_from 1 rs) ++ lines (length rs + 1) r
+numbered-last {X} lines rs r =
+    let each = λ (x : ℕ × X). lines x.0 x.1 in
+    let k : 1 + length rs ≡ length rs + 1 = omega arith in
+    ap (λ l. flat_map each l) (enumerate_from-last 1 rs r) ∙ flat_map-append each (enumerate_from 1 rs) _
+    ∙ ap (λ t. flat_map each (enumerate_from 1 rs) ++ t) (append-nil _ ∙ ap (λ n. lines n r) k)

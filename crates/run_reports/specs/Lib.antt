@@ -7,3 +7,4 @@ pub mod Reasons
 pub mod OpeningLines
 pub mod MissingLines
 pub mod Spotless
+pub mod Told

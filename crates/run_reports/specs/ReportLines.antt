@@ -7,6 +7,8 @@ use Rattle.ipfix_session.specs.declared.fault.SessionFault.{SessionFault}
 use Rattle.ipfix_session.specs.Faults.{number_of, name_of}
 use Rattle.flow_table.specs.PlanFaults as plan
 use Rattle.flow_table.specs.declared.tally.Tally.{Tally}
+use Rattle.ipfix_dump.specs.Faults as dump
+use Rattle.ipfix_dump.specs.declared.fault.DumpFault.{DumpFault}
 use Rattle.flow_export.specs.Faults as export
 use Rattle.flow_export.specs.declared.fault.ExportFault.{ExportFault}
 use Rattle.plan_file.specs.Faults as text
@@ -52,7 +54,10 @@ last_counts t = codes " backward " ++ (decimal t.backward ++ (codes " unkeyed " 
 abbrev pub tally_line : Tally → List ℕ
 tally_line t = first_counts t ++ last_counts t
 
--- a fault of the export
+-- a fault of a dump, and one of the export
+abbrev pub dump_fault_line : DumpFault → List ℕ
+dump_fault_line fault = codes "collectd: dump" ++ fault_text (dump.number_of fault) (dump.name_of fault)
+
 abbrev pub export_fault_line : ExportFault → List ℕ
 export_fault_line fault = codes "collectd: export" ++ fault_text (export.number_of fault) (export.name_of fault)
 

@@ -1,26 +1,29 @@
 //! The lines of domains in which something wasn't counted.
 
-ghost use Rattle.std.specs.Prelude.{◌≡◌, OnOk};
+ghost use Rattle.std.specs.Prelude.{◌≡◌, OnErr, OnOk};
 ghost use Rattle.std.specs.List.{flat_map};
 ghost use Rattle.std.specs.Io.KnownBytes.{Appends};
 ghost use Rattle.run_reports.specs.ToldLines.{balance_lines, balance_text, balances_told, is_all_counted as all_counted, records_text, sets_text};
 
 use crate::origin::{Origin, write_session_start};
 use crate::telling::Telling;
+use crate::write_lines::WriteLines;
 use ipfix_message::PassedOver;
 use ipfix_session::DomainBalance;
-use std::io::{self, Write};
+use std::io;
 
 /// Writes a line for each domain in which something wasn't counted, if either option asks for it.
-pub fn write_balances<W: Write>(
+pub fn write_balances<W: WriteLines>(
     telling: Telling,
     session: usize,
     origin: &Origin,
     balances: &[DomainBalance],
     out: &mut W,
 ) -> io::Result<()>
-    ensures { OnOk result (Appends (W.contents out.old) (W.contents out.new)
+    ensures told { OnOk result (Appends (W.contents out.old) (W.contents out.new)
         (balances_told telling session origin.now balances.now)) }
+    ensures failed { OnErr result (W.failed out.new) }
+    ensures kept { W.failed out.old → W.failed out.new }
 {
     if telling.verbose || telling.strict {
         write_each(session, origin, balances, out)
@@ -29,14 +32,16 @@ pub fn write_balances<W: Write>(
     }
 }
 
-fn write_each<W: Write>(
+fn write_each<W: WriteLines>(
     session: usize,
     origin: &Origin,
     balances: &[DomainBalance],
     out: &mut W,
 ) -> io::Result<()>
-    ensures { OnOk result (Appends (W.contents out.old) (W.contents out.new)
+    ensures told { OnOk result (Appends (W.contents out.old) (W.contents out.new)
         (flat_map (balance_lines session origin.now) balances.now)) }
+    ensures failed { OnErr result (W.failed out.new) }
+    ensures kept { W.failed out.old → W.failed out.new }
 {
     for balance in balances {
         write_balance(session, origin, balance, out)?;
@@ -44,14 +49,16 @@ fn write_each<W: Write>(
     Ok(())
 }
 
-fn write_balance<W: Write>(
+fn write_balance<W: WriteLines>(
     session: usize,
     origin: &Origin,
     balance: &DomainBalance,
     out: &mut W,
 ) -> io::Result<()>
-    ensures { OnOk result (Appends (W.contents out.old) (W.contents out.new)
+    ensures told { OnOk result (Appends (W.contents out.old) (W.contents out.new)
         (balance_lines session origin.now balance.now)) }
+    ensures failed { OnErr result (W.failed out.new) }
+    ensures kept { W.failed out.old → W.failed out.new }
 {
     if is_all_counted(balance) {
         Ok(())
@@ -73,9 +80,11 @@ fn is_all_counted(balance: &DomainBalance) -> bool
     unknown_sets == 0 && skipped_sets == 0 && ignored_withdrawals == 0 && balance.unaccounted == 0
 }
 
-fn write_balance_end<W: Write>(balance: &DomainBalance, out: &mut W) -> io::Result<()>
-    ensures { OnOk result (Appends (W.contents out.old) (W.contents out.new)
+fn write_balance_end<W: WriteLines>(balance: &DomainBalance, out: &mut W) -> io::Result<()>
+    ensures told { OnOk result (Appends (W.contents out.old) (W.contents out.new)
         (balance_text balance.now)) }
+    ensures failed { OnErr result (W.failed out.new) }
+    ensures kept { W.failed out.old → W.failed out.new }
 {
     let passed_over = balance.passed_over;
     write_sets(balance.domain, passed_over, out)?;
@@ -83,9 +92,11 @@ fn write_balance_end<W: Write>(balance: &DomainBalance, out: &mut W) -> io::Resu
 }
 
 #[tactic(auto, unfolding(crate::specs::ToldLines::sets_text))]
-fn write_sets<W: Write>(domain: u32, passed_over: PassedOver, out: &mut W) -> io::Result<()>
-    ensures { OnOk result (Appends (W.contents out.old) (W.contents out.new)
+fn write_sets<W: WriteLines>(domain: u32, passed_over: PassedOver, out: &mut W) -> io::Result<()>
+    ensures told { OnOk result (Appends (W.contents out.old) (W.contents out.new)
         (sets_text domain passed_over)) }
+    ensures failed { OnErr result (W.failed out.new) }
+    ensures kept { W.failed out.old → W.failed out.new }
 {
     let unknown_sets = passed_over.unknown_sets;
     let skipped_sets = passed_over.skipped_sets;
@@ -96,13 +107,15 @@ fn write_sets<W: Write>(domain: u32, passed_over: PassedOver, out: &mut W) -> io
 }
 
 #[tactic(auto, unfolding(crate::specs::ToldLines::records_text))]
-fn write_records<W: Write>(
+fn write_records<W: WriteLines>(
     ignored_withdrawals: u64,
     unaccounted: u64,
     out: &mut W,
 ) -> io::Result<()>
-    ensures { OnOk result (Appends (W.contents out.old) (W.contents out.new)
+    ensures told { OnOk result (Appends (W.contents out.old) (W.contents out.new)
         (records_text ignored_withdrawals unaccounted)) }
+    ensures failed { OnErr result (W.failed out.new) }
+    ensures kept { W.failed out.old → W.failed out.new }
 {
     writeln!(
         out,

@@ -1,25 +1,28 @@
 //! The lines that tell how a session ended.
 
-ghost use Rattle.std.specs.Prelude.{OnOk};
+ghost use Rattle.std.specs.Prelude.{OnErr, OnOk};
 ghost use Rattle.std.specs.Io.KnownBytes.{Appends};
 ghost use Rattle.run_reports.specs.ToldLines.{end_lines, end_told, ended_line, ended_text, fault_place_lines, left_text, number_left, place_text};
 
 use crate::origin::{Origin, write_session_start};
 use crate::telling::Telling;
+use crate::write_lines::WriteLines;
 use ipfix_session::{FullReport, MessagePlace, SessionFault};
-use std::io::{self, Write};
+use std::io;
 
 /// Writes how a session ended, if verbose lines are asked for: the place of its fault, and then how much
 /// of it counts.
-pub fn write_end<W: Write>(
+pub fn write_end<W: WriteLines>(
     telling: Telling,
     session: usize,
     origin: &Origin,
     full: &FullReport,
     out: &mut W,
 ) -> io::Result<()>
-    ensures { OnOk result (Appends (W.contents out.old) (W.contents out.new)
+    ensures told { OnOk result (Appends (W.contents out.old) (W.contents out.new)
         (end_told telling session origin.now full.now)) }
+    ensures failed { OnErr result (W.failed out.new) }
+    ensures kept { W.failed out.old → W.failed out.new }
 {
     if telling.verbose {
         write_both(session, origin, full, out)
@@ -28,29 +31,33 @@ pub fn write_end<W: Write>(
     }
 }
 
-fn write_both<W: Write>(
+fn write_both<W: WriteLines>(
     session: usize,
     origin: &Origin,
     full: &FullReport,
     out: &mut W,
 ) -> io::Result<()>
-    ensures { OnOk result (Appends (W.contents out.old) (W.contents out.new)
+    ensures told { OnOk result (Appends (W.contents out.old) (W.contents out.new)
         (end_lines session origin.now full.now)) }
+    ensures failed { OnErr result (W.failed out.new) }
+    ensures kept { W.failed out.old → W.failed out.new }
 {
     write_fault_place(session, origin, full.report.fault, full.stopped_at, out)?;
     write_ended(session, origin, full, out)
 }
 
 // The fault, where the first message begins that doesn't count, and how many octets there are from there on.
-fn write_fault_place<W: Write>(
+fn write_fault_place<W: WriteLines>(
     session: usize,
     origin: &Origin,
     fault: Option<SessionFault>,
     place: MessagePlace,
     out: &mut W,
 ) -> io::Result<()>
-    ensures { OnOk result (Appends (W.contents out.old) (W.contents out.new)
+    ensures told { OnOk result (Appends (W.contents out.old) (W.contents out.new)
         (fault_place_lines session origin.now fault place)) }
+    ensures failed { OnErr result (W.failed out.new) }
+    ensures kept { W.failed out.old → W.failed out.new }
 {
     match fault {
         None => Ok(()),
@@ -63,9 +70,16 @@ fn write_fault_place<W: Write>(
 }
 
 #[tactic(auto, unfolding(crate::specs::ToldLines::place_text))]
-fn write_place<W: Write>(number: u8, name: &str, place: MessagePlace, out: &mut W) -> io::Result<()>
-    ensures { OnOk result (Appends (W.contents out.old) (W.contents out.new)
+fn write_place<W: WriteLines>(
+    number: u8,
+    name: &str,
+    place: MessagePlace,
+    out: &mut W,
+) -> io::Result<()>
+    ensures told { OnOk result (Appends (W.contents out.old) (W.contents out.new)
         (place_text number name.now place)) }
+    ensures failed { OnErr result (W.failed out.new) }
+    ensures kept { W.failed out.old → W.failed out.new }
 {
     let MessagePlace { message, octet } = place;
     write!(
@@ -74,8 +88,10 @@ fn write_place<W: Write>(number: u8, name: &str, place: MessagePlace, out: &mut 
     )
 }
 
-fn write_left<W: Write>(octets: Option<u64>, out: &mut W) -> io::Result<()>
-    ensures { OnOk result (Appends (W.contents out.old) (W.contents out.new) (left_text octets)) }
+fn write_left<W: WriteLines>(octets: Option<u64>, out: &mut W) -> io::Result<()>
+    ensures told { OnOk result (Appends (W.contents out.old) (W.contents out.new) (left_text octets)) }
+    ensures failed { OnErr result (W.failed out.new) }
+    ensures kept { W.failed out.old → W.failed out.new }
 {
     match octets {
         None => writeln!(out),
@@ -84,21 +100,25 @@ fn write_left<W: Write>(octets: Option<u64>, out: &mut W) -> io::Result<()>
 }
 
 #[tactic(auto, unfolding(crate::specs::ToldLines::number_left))]
-fn write_number_left<W: Write>(octets: u64, out: &mut W) -> io::Result<()>
-    ensures { OnOk result (Appends (W.contents out.old) (W.contents out.new)
+fn write_number_left<W: WriteLines>(octets: u64, out: &mut W) -> io::Result<()>
+    ensures told { OnOk result (Appends (W.contents out.old) (W.contents out.new)
         (number_left octets)) }
+    ensures failed { OnErr result (W.failed out.new) }
+    ensures kept { W.failed out.old → W.failed out.new }
 {
     writeln!(out, " unread {octets}")
 }
 
-fn write_ended<W: Write>(
+fn write_ended<W: WriteLines>(
     session: usize,
     origin: &Origin,
     full: &FullReport,
     out: &mut W,
 ) -> io::Result<()>
-    ensures { OnOk result (Appends (W.contents out.old) (W.contents out.new)
+    ensures told { OnOk result (Appends (W.contents out.old) (W.contents out.new)
         (ended_line session origin.now full.now)) }
+    ensures failed { OnErr result (W.failed out.new) }
+    ensures kept { W.failed out.old → W.failed out.new }
 {
     write_session_start(session, origin, out)?;
     write_counts(
@@ -110,9 +130,16 @@ fn write_ended<W: Write>(
 }
 
 #[tactic(auto, unfolding(crate::specs::ToldLines::ended_text))]
-fn write_counts<W: Write>(messages: u64, octets: u64, records: u64, out: &mut W) -> io::Result<()>
-    ensures { OnOk result (Appends (W.contents out.old) (W.contents out.new)
+fn write_counts<W: WriteLines>(
+    messages: u64,
+    octets: u64,
+    records: u64,
+    out: &mut W,
+) -> io::Result<()>
+    ensures told { OnOk result (Appends (W.contents out.old) (W.contents out.new)
         (ended_text messages octets records)) }
+    ensures failed { OnErr result (W.failed out.new) }
+    ensures kept { W.failed out.old → W.failed out.new }
 {
     writeln!(
         out,

@@ -1,25 +1,27 @@
 //! The lines of the faults of a run.
 
-ghost use Rattle.std.specs.Prelude.{◌++◌, codes, OnOk};
+ghost use Rattle.std.specs.Prelude.{◌++◌, codes, OnErr, OnOk};
 ghost use Rattle.std.specs.Io.KnownBytes.{Appends};
-ghost use Rattle.ipfix_dump.specs.Faults.{number_of, name_of};
 ghost use Rattle.flow_table.specs.PlanFaults as plan;
 ghost use Rattle.plan_file.specs.Faults as text;
 ghost use Rattle.run_reports.specs.PlaceLines.{plan_lines};
-ghost use Rattle.run_reports.specs.ReportLines.{export_fault_line, fault_text, not_had_line, plan_fault_text};
+ghost use Rattle.run_reports.specs.ReportLines.{dump_fault_line, export_fault_line, fault_text, not_had_line, plan_fault_text};
 
 use crate::places::write_place;
+use crate::write_lines::WriteLines;
 use flow_export::ExportFault;
 use flow_table::PlanFault;
 use ipfix_dump::DumpFault;
 use plan_file::{PlanTextError, PlanTextFault};
-use std::io::{self, Write};
+use std::io;
 
 /// The line of a fault, of whatever it is.
 #[tactic(auto, unfolding(crate::specs::ReportLines::fault_text))]
-pub fn write_fault<W: Write>(what: &str, number: u8, name: &str, out: &mut W) -> io::Result<()>
-    ensures { OnOk result (Appends (W.contents out.old) (W.contents out.new)
+pub fn write_fault<W: WriteLines>(what: &str, number: u8, name: &str, out: &mut W) -> io::Result<()>
+    ensures told { OnOk result (Appends (W.contents out.old) (W.contents out.new)
         (codes "collectd: " ++ (what.now ++ fault_text number name.now))) }
+    ensures failed { OnErr result (W.failed out.new) }
+    ensures kept { W.failed out.old → W.failed out.new }
 {
     writeln!(out, "collectd: {what}: fault {number} {name}")
 }
@@ -27,32 +29,38 @@ pub fn write_fault<W: Write>(what: &str, number: u8, name: &str, out: &mut W) ->
 /// Writes the line of what the system did not give: `what` is "open" with the path of a file, or
 /// "listen" with an address.
 #[tactic(auto, unfolding(crate::specs::ReportLines::not_had_line))]
-pub fn write_not_had<W: Write>(what: &str, name: &str, out: &mut W) -> io::Result<()>
-    ensures { OnOk result (Appends (W.contents out.old) (W.contents out.new)
+pub fn write_not_had<W: WriteLines>(what: &str, name: &str, out: &mut W) -> io::Result<()>
+    ensures told { OnOk result (Appends (W.contents out.old) (W.contents out.new)
         (not_had_line what.now name.now)) }
+    ensures failed { OnErr result (W.failed out.new) }
+    ensures kept { W.failed out.old → W.failed out.new }
 {
     writeln!(out, "collectd: {what}: {name}")
 }
 
 /// Writes the line of a fault of the dump.
-pub fn write_dump_fault<W: Write>(fault: DumpFault, out: &mut W) -> io::Result<()>
-    ensures { OnOk result (Appends (W.contents out.old) (W.contents out.new)
-        (codes "collectd: dump" ++ fault_text (number_of fault) (name_of fault))) }
+pub fn write_dump_fault<W: WriteLines>(fault: DumpFault, out: &mut W) -> io::Result<()>
+    ensures told { OnOk result (Appends (W.contents out.old) (W.contents out.new)
+        (dump_fault_line fault)) }
+    ensures failed { OnErr result (W.failed out.new) }
+    ensures kept { W.failed out.old → W.failed out.new }
 {
     write_fault("dump", fault.number(), fault.name(), out)
 }
 
 /// Writes the line of a fault of the export.
-pub fn write_export_fault<W: Write>(fault: ExportFault, out: &mut W) -> io::Result<()>
-    ensures { OnOk result (Appends (W.contents out.old) (W.contents out.new)
+pub fn write_export_fault<W: WriteLines>(fault: ExportFault, out: &mut W) -> io::Result<()>
+    ensures told { OnOk result (Appends (W.contents out.old) (W.contents out.new)
         (export_fault_line fault)) }
+    ensures failed { OnErr result (W.failed out.new) }
+    ensures kept { W.failed out.old → W.failed out.new }
 {
     write_fault("export", fault.number(), fault.name(), out)
 }
 
 /// Writes the line of a fault of a plan's text, with the plan's own fault if it has one, and then the
 /// line that tells where it is. For want of memory there is no such line.
-pub fn write_plan_fault<W: Write>(error: &PlanTextError, out: &mut W) -> io::Result<()>
+pub fn write_plan_fault<W: WriteLines>(error: &PlanTextError, out: &mut W) -> io::Result<()>
     ensures { OnOk result (Appends (W.contents out.old) (W.contents out.new)
         (plan_lines error.now)) }
 {
@@ -60,7 +68,7 @@ pub fn write_plan_fault<W: Write>(error: &PlanTextError, out: &mut W) -> io::Res
     write_place(error, out)
 }
 
-fn write_plan_fault_line<W: Write>(fault: PlanTextFault, out: &mut W) -> io::Result<()>
+fn write_plan_fault_line<W: WriteLines>(fault: PlanTextFault, out: &mut W) -> io::Result<()>
     ensures { OnOk result (Appends (W.contents out.old) (W.contents out.new)
         (codes "collectd: plan" ++ plan_fault_text fault)) }
 {
@@ -70,14 +78,14 @@ fn write_plan_fault_line<W: Write>(fault: PlanTextFault, out: &mut W) -> io::Res
     }
 }
 
-fn write_text_fault<W: Write>(fault: PlanTextFault, out: &mut W) -> io::Result<()>
+fn write_text_fault<W: WriteLines>(fault: PlanTextFault, out: &mut W) -> io::Result<()>
     ensures { OnOk result (Appends (W.contents out.old) (W.contents out.new)
         (codes "collectd: plan" ++ fault_text (text.number_of fault) (text.name_of fault))) }
 {
     write_fault("plan", fault.number(), fault.name(), out)
 }
 
-fn write_inner_fault<W: Write>(fault: PlanFault, out: &mut W) -> io::Result<()>
+fn write_inner_fault<W: WriteLines>(fault: PlanFault, out: &mut W) -> io::Result<()>
     ensures { OnOk result (Appends (W.contents out.old) (W.contents out.new)
         (codes "collectd: plan: fault 6 Plan"
         ++ fault_text (plan.number_of fault) (plan.name_of fault))) }

@@ -17,6 +17,7 @@ mod spotless;
 mod tally;
 mod telling;
 mod told_reports;
+mod write_lines;
 
 pub use faults::{
     write_dump_fault, write_export_fault, write_fault, write_not_had, write_plan_fault,
@@ -30,3 +31,4 @@ pub use spotless::{are_spotless, is_spotless};
 pub use tally::write_tally;
 pub use telling::Telling;
 pub use told_reports::write_told_reports;
+pub use write_lines::{Remembering, WriteLines};

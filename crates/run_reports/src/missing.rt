@@ -1,22 +1,24 @@
 //! The lines of what records lack.
 
-ghost use Rattle.std.specs.Prelude.{◌≡◌, ◌≤◌, ◌++◌, false, length, OnOk};
+ghost use Rattle.std.specs.Prelude.{◌≡◌, ◌≤◌, ◌++◌, false, length, OnErr, OnOk};
 ghost use Rattle.std.specs.Io.KnownBytes.{Appends};
+ghost use Rattle.ipfix_elements.specs.Names.{name_text};
+ghost use Rattle.flow_export.specs.CsvText.{prefix_text};
 ghost use Rattle.flow_table.specs.declared.plan.TheConstants.{MAX_COUNTERS, MAX_KEYS};
 ghost use Rattle.run_reports.specs.MissingLines.{count_end, counter_line, counter_lines, counter_text, key_line, key_lines, missing_lines, missing_told, time_line, time_text, unkeyed_text};
 
 use crate::telling::Telling;
-use flow_export::write_key;
+use crate::write_lines::WriteLines;
 use flow_table::{Key, MAX_COUNTERS, MAX_KEYS, Missing, Plan};
-use ipfix_elements::write_name;
+use ipfix_elements::name_of;
 use ipfix_wire::ElementId;
-use std::io::{self, Write};
+use std::io;
 
 /// Writes what records lack, if `telling` is verbose or strict: a line for each counter of the plan that
 /// used records lack, with how many do; then one for untimed records without a start and one for those
 /// without an end; then one for each key of the plan that is the first which unkeyed records lack. A line
 /// whose number is 0 is left out.
-pub fn write_missing<W: Write>(
+pub fn write_missing<W: WriteLines>(
     telling: Telling,
     plan: &Plan,
     missing: &Missing,
@@ -24,6 +26,8 @@ pub fn write_missing<W: Write>(
 ) -> io::Result<()>
     ensures told { OnOk result (Appends (W.contents out.old) (W.contents out.new)
         (missing_told telling plan.now missing.now)) }
+    ensures failed { OnErr result (W.failed out.new) }
+    ensures kept { W.failed out.old → W.failed out.new }
     // Without these options nothing is written.
     ensures plain { telling.verbose ≡ false → telling.strict ≡ false → out.new ≡ out.old }
 {
@@ -34,9 +38,11 @@ pub fn write_missing<W: Write>(
     }
 }
 
-fn write_lines<W: Write>(plan: &Plan, missing: &Missing, out: &mut W) -> io::Result<()>
-    ensures { OnOk result (Appends (W.contents out.old) (W.contents out.new)
+fn write_lines<W: WriteLines>(plan: &Plan, missing: &Missing, out: &mut W) -> io::Result<()>
+    ensures told { OnOk result (Appends (W.contents out.old) (W.contents out.new)
         (missing_lines plan.now missing.now)) }
+    ensures failed { OnErr result (W.failed out.new) }
+    ensures kept { W.failed out.old → W.failed out.new }
 {
     write_counters(plan.counters(), &missing.counters, out)?;
     write_time("start", missing.start, out)?;
@@ -44,14 +50,16 @@ fn write_lines<W: Write>(plan: &Plan, missing: &Missing, out: &mut W) -> io::Res
     write_keys(plan.keys(), &missing.keys, out)
 }
 
-fn write_counters<W: Write>(
+fn write_counters<W: WriteLines>(
     counters: &[ElementId],
     counts: &[u64; MAX_COUNTERS],
     out: &mut W,
 ) -> io::Result<()>
     requires { length counters.now ≤ MAX_COUNTERS }
-    ensures { OnOk result (Appends (W.contents out.old) (W.contents out.new)
+    ensures told { OnOk result (Appends (W.contents out.old) (W.contents out.new)
         (counter_lines counters.now counts.now)) }
+    ensures failed { OnErr result (W.failed out.new) }
+    ensures kept { W.failed out.old → W.failed out.new }
 {
     for (place, counter) in counters.iter().enumerate() {
         write_counter(*counter, counts[place], out)?;
@@ -59,9 +67,11 @@ fn write_counters<W: Write>(
     Ok(())
 }
 
-fn write_counter<W: Write>(counter: ElementId, count: u64, out: &mut W) -> io::Result<()>
-    ensures { OnOk result (Appends (W.contents out.old) (W.contents out.new)
+fn write_counter<W: WriteLines>(counter: ElementId, count: u64, out: &mut W) -> io::Result<()>
+    ensures told { OnOk result (Appends (W.contents out.old) (W.contents out.new)
         (counter_line counter count)) }
+    ensures failed { OnErr result (W.failed out.new) }
+    ensures kept { W.failed out.old → W.failed out.new }
 {
     if count == 0 {
         Ok(())
@@ -72,17 +82,21 @@ fn write_counter<W: Write>(counter: ElementId, count: u64, out: &mut W) -> io::R
 }
 
 #[tactic(auto, unfolding(crate::specs::MissingLines::counter_text))]
-fn write_counter_start<W: Write>(counter: ElementId, out: &mut W) -> io::Result<()>
-    ensures { OnOk result (Appends (W.contents out.old) (W.contents out.new)
+fn write_counter_start<W: WriteLines>(counter: ElementId, out: &mut W) -> io::Result<()>
+    ensures told { OnOk result (Appends (W.contents out.old) (W.contents out.new)
         (counter_text counter)) }
+    ensures failed { OnErr result (W.failed out.new) }
+    ensures kept { W.failed out.old → W.failed out.new }
 {
     out.write_all("collectd: records: without ".as_bytes())?;
-    write_name(counter, out)
+    write_element(counter, out)
 }
 
-fn write_time<W: Write>(time: &str, count: u64, out: &mut W) -> io::Result<()>
-    ensures { OnOk result (Appends (W.contents out.old) (W.contents out.new)
+fn write_time<W: WriteLines>(time: &str, count: u64, out: &mut W) -> io::Result<()>
+    ensures told { OnOk result (Appends (W.contents out.old) (W.contents out.new)
         (time_line time.now count)) }
+    ensures failed { OnErr result (W.failed out.new) }
+    ensures kept { W.failed out.old → W.failed out.new }
 {
     if count == 0 {
         Ok(())
@@ -93,17 +107,21 @@ fn write_time<W: Write>(time: &str, count: u64, out: &mut W) -> io::Result<()>
 }
 
 #[tactic(auto, unfolding(crate::specs::MissingLines::time_text))]
-fn write_time_start<W: Write>(time: &str, out: &mut W) -> io::Result<()>
-    ensures { OnOk result (Appends (W.contents out.old) (W.contents out.new)
+fn write_time_start<W: WriteLines>(time: &str, out: &mut W) -> io::Result<()>
+    ensures told { OnOk result (Appends (W.contents out.old) (W.contents out.new)
         (time_text time.now)) }
+    ensures failed { OnErr result (W.failed out.new) }
+    ensures kept { W.failed out.old → W.failed out.new }
 {
     write!(out, "collectd: records: untimed without {time}")
 }
 
-fn write_keys<W: Write>(keys: &[Key], counts: &[u64; MAX_KEYS], out: &mut W) -> io::Result<()>
+fn write_keys<W: WriteLines>(keys: &[Key], counts: &[u64; MAX_KEYS], out: &mut W) -> io::Result<()>
     requires { length keys.now ≤ MAX_KEYS }
-    ensures { OnOk result (Appends (W.contents out.old) (W.contents out.new)
+    ensures told { OnOk result (Appends (W.contents out.old) (W.contents out.new)
         (key_lines keys.now counts.now)) }
+    ensures failed { OnErr result (W.failed out.new) }
+    ensures kept { W.failed out.old → W.failed out.new }
 {
     for (place, key) in keys.iter().enumerate() {
         write_lacking_key(*key, counts[place], out)?;
@@ -111,9 +129,11 @@ fn write_keys<W: Write>(keys: &[Key], counts: &[u64; MAX_KEYS], out: &mut W) -> 
     Ok(())
 }
 
-fn write_lacking_key<W: Write>(key: Key, count: u64, out: &mut W) -> io::Result<()>
-    ensures { OnOk result (Appends (W.contents out.old) (W.contents out.new)
+fn write_lacking_key<W: WriteLines>(key: Key, count: u64, out: &mut W) -> io::Result<()>
+    ensures told { OnOk result (Appends (W.contents out.old) (W.contents out.new)
         (key_line key count)) }
+    ensures failed { OnErr result (W.failed out.new) }
+    ensures kept { W.failed out.old → W.failed out.new }
 {
     if count == 0 {
         Ok(())
@@ -124,16 +144,48 @@ fn write_lacking_key<W: Write>(key: Key, count: u64, out: &mut W) -> io::Result<
 }
 
 #[tactic(auto, unfolding(crate::specs::MissingLines::unkeyed_text))]
-fn write_key_start<W: Write>(key: Key, out: &mut W) -> io::Result<()>
-    ensures { OnOk result (Appends (W.contents out.old) (W.contents out.new) (unkeyed_text key)) }
+fn write_key_start<W: WriteLines>(key: Key, out: &mut W) -> io::Result<()>
+    ensures told { OnOk result (Appends (W.contents out.old) (W.contents out.new) (unkeyed_text key)) }
+    ensures failed { OnErr result (W.failed out.new) }
+    ensures kept { W.failed out.old → W.failed out.new }
 {
     out.write_all("collectd: records: unkeyed without ".as_bytes())?;
-    write_key(key, out)
+    write_element(key.element, out)?;
+    write_prefix(key.prefix, out)
+}
+
+// Writes an element's name, or its numbers.
+fn write_element<W: WriteLines>(element: ElementId, out: &mut W) -> io::Result<()>
+    ensures told { OnOk result (Appends (W.contents out.old) (W.contents out.new)
+        (name_text element)) }
+    ensures failed { OnErr result (W.failed out.new) }
+    ensures kept { W.failed out.old → W.failed out.new }
+{
+    let pen = element.pen;
+    let number = element.number;
+    match name_of(element) {
+        Some(name) => out.write_all(name.as_bytes()),
+        None => write!(out, "e{pen}.{number}"),
+    }
+}
+
+fn write_prefix<W: WriteLines>(prefix: Option<u8>, out: &mut W) -> io::Result<()>
+    ensures told { OnOk result (Appends (W.contents out.old) (W.contents out.new)
+        (prefix_text prefix)) }
+    ensures failed { OnErr result (W.failed out.new) }
+    ensures kept { W.failed out.old → W.failed out.new }
+{
+    match prefix {
+        Some(bits) => write!(out, "/{bits}"),
+        None => Ok(()),
+    }
 }
 
 #[tactic(auto, unfolding(crate::specs::MissingLines::count_end))]
-fn write_count_end<W: Write>(count: u64, out: &mut W) -> io::Result<()>
-    ensures { OnOk result (Appends (W.contents out.old) (W.contents out.new) (count_end count)) }
+fn write_count_end<W: WriteLines>(count: u64, out: &mut W) -> io::Result<()>
+    ensures told { OnOk result (Appends (W.contents out.old) (W.contents out.new) (count_end count)) }
+    ensures failed { OnErr result (W.failed out.new) }
+    ensures kept { W.failed out.old → W.failed out.new }
 {
     writeln!(out, " {count}")
 }

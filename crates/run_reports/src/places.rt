@@ -5,13 +5,14 @@ ghost use Rattle.std.specs.Io.KnownBytes.{Appends};
 ghost use Rattle.run_reports.specs.PlaceLines.{column_start, count_end, key_line, key_start, kind_words as words_of_kind, line_line, name_end, place_line, rule_line, rule_words as words_of_rule, text_end, toml_line, words_end};
 
 use crate::quoting::{write_octets, write_quoted};
+use crate::write_lines::WriteLines;
 use flow_table::PlanFault;
 use plan_file::{PlanKey, PlanPlace, PlanTextError};
-use std::io::{self, Write};
+use std::io;
 
 /// Writes the line that says where a plan has its fault: the line of the file, or the key and what is
 /// wrong with it, or what a plan allows there. For want of memory there is none.
-pub fn write_place<W: Write>(error: &PlanTextError, out: &mut W) -> io::Result<()>
+pub fn write_place<W: WriteLines>(error: &PlanTextError, out: &mut W) -> io::Result<()>
     ensures { OnOk result (Appends (W.contents out.old) (W.contents out.new)
         (place_line error.now)) }
 {
@@ -36,7 +37,7 @@ pub fn write_place<W: Write>(error: &PlanTextError, out: &mut W) -> io::Result<(
 }
 
 #[tactic(auto, unfolding(crate::specs::PlaceLines::line_line))]
-fn write_line<W: Write>(line: usize, words: &str, out: &mut W) -> io::Result<()>
+fn write_line<W: WriteLines>(line: usize, words: &str, out: &mut W) -> io::Result<()>
     ensures { OnOk result (Appends (W.contents out.old) (W.contents out.new)
         (line_line line words.now)) }
 {
@@ -44,7 +45,7 @@ fn write_line<W: Write>(line: usize, words: &str, out: &mut W) -> io::Result<()>
 }
 
 // The place in a file, and what the parser of TOML says of it.
-fn write_toml_line<W: Write>(
+fn write_toml_line<W: WriteLines>(
     line: usize,
     column: usize,
     message: &str,
@@ -59,14 +60,14 @@ fn write_toml_line<W: Write>(
 }
 
 #[tactic(auto, unfolding(crate::specs::PlaceLines::column_start))]
-fn write_column_start<W: Write>(line: usize, column: usize, out: &mut W) -> io::Result<()>
+fn write_column_start<W: WriteLines>(line: usize, column: usize, out: &mut W) -> io::Result<()>
     ensures { OnOk result (Appends (W.contents out.old) (W.contents out.new)
         (column_start line column)) }
 {
     write!(out, "collectd: plan: line {line}, column {column}: ")
 }
 
-fn write_key_line<W: Write>(key: &str, words: &str, out: &mut W) -> io::Result<()>
+fn write_key_line<W: WriteLines>(key: &str, words: &str, out: &mut W) -> io::Result<()>
     ensures { OnOk result (Appends (W.contents out.old) (W.contents out.new)
         (key_line key.now words.now)) }
 {
@@ -74,7 +75,7 @@ fn write_key_line<W: Write>(key: &str, words: &str, out: &mut W) -> io::Result<(
     write_words_end(words, out)
 }
 
-fn write_key<W: Write>(key: &str, out: &mut W) -> io::Result<()>
+fn write_key<W: WriteLines>(key: &str, out: &mut W) -> io::Result<()>
     ensures { OnOk result (Appends (W.contents out.old) (W.contents out.new) (key_start key.now)) }
 {
     write!(out, "collectd: plan: key ")?;
@@ -82,7 +83,7 @@ fn write_key<W: Write>(key: &str, out: &mut W) -> io::Result<()>
 }
 
 #[tactic(auto, unfolding(crate::specs::PlaceLines::words_end))]
-fn write_words_end<W: Write>(words: &str, out: &mut W) -> io::Result<()>
+fn write_words_end<W: WriteLines>(words: &str, out: &mut W) -> io::Result<()>
     ensures { OnOk result (Appends (W.contents out.old) (W.contents out.new)
         (words_end words.now)) }
 {
@@ -90,7 +91,7 @@ fn write_words_end<W: Write>(words: &str, out: &mut W) -> io::Result<()>
 }
 
 #[tactic(auto, unfolding(crate::specs::PlaceLines::name_end))]
-fn write_name_end<W: Write>(text: &str, out: &mut W) -> io::Result<()>
+fn write_name_end<W: WriteLines>(text: &str, out: &mut W) -> io::Result<()>
     ensures { OnOk result (Appends (W.contents out.old) (W.contents out.new) (name_end text.now)) }
 {
     write!(out, ": no element is named ")?;
@@ -99,7 +100,7 @@ fn write_name_end<W: Write>(text: &str, out: &mut W) -> io::Result<()>
 }
 
 // What gives a plan the fault, and what is allowed.
-fn write_rule<W: Write>(fault: PlanFault, place: &PlanPlace, out: &mut W) -> io::Result<()>
+fn write_rule<W: WriteLines>(fault: PlanFault, place: &PlanPlace, out: &mut W) -> io::Result<()>
     ensures { OnOk result (Appends (W.contents out.old) (W.contents out.new)
         (rule_line fault place.now)) }
 {
@@ -118,14 +119,14 @@ fn write_rule<W: Write>(fault: PlanFault, place: &PlanPlace, out: &mut W) -> io:
 }
 
 #[tactic(auto, unfolding(crate::specs::PlaceLines::count_end))]
-fn write_count_end<W: Write>(count: usize, words: &str, out: &mut W) -> io::Result<()>
+fn write_count_end<W: WriteLines>(count: usize, words: &str, out: &mut W) -> io::Result<()>
     ensures { OnOk result (Appends (W.contents out.old) (W.contents out.new)
         (count_end count words.now)) }
 {
     writeln!(out, ": {count} elements, {words}")
 }
 
-fn write_text_end<W: Write>(text: &str, words: &str, out: &mut W) -> io::Result<()>
+fn write_text_end<W: WriteLines>(text: &str, words: &str, out: &mut W) -> io::Result<()>
     ensures { OnOk result (Appends (W.contents out.old) (W.contents out.new)
         (text_end text.now words.now)) }
 {
@@ -134,7 +135,7 @@ fn write_text_end<W: Write>(text: &str, words: &str, out: &mut W) -> io::Result<
     write_end(words, out)
 }
 
-fn write_end<W: Write>(words: &str, out: &mut W) -> io::Result<()>
+fn write_end<W: WriteLines>(words: &str, out: &mut W) -> io::Result<()>
     ensures { OnOk result (Appends (W.contents out.old) (W.contents out.new)
         (words.now ++ codes "\n")) }
 {

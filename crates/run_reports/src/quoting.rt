@@ -1,17 +1,18 @@
 //! Texts that a file gives, as a terminal may show them.
 
-ghost use Rattle.std.specs.Prelude.{◌≡◌, OnOk};
+ghost use Rattle.std.specs.Prelude.{◌≡◌, OnErr, OnOk};
 ghost use Rattle.std.specs.List.{flat_map};
 ghost use Rattle.std.specs.Io.KnownBytes.{Appends};
 ghost use Rattle.run_reports.specs.PlaceLines.{is_plain as is_plain_octet, octet_shown, quoted, text_shown};
 
-use std::io::{self, Write};
+use crate::write_lines::WriteLines;
+use std::io;
 
 /// The most octets that are shown of a name that a file gives.
 const MOST_SHOWN: usize = 64;
 
 /// Writes a text that a file gives between quotation marks, so that a terminal is safe.
-pub fn write_quoted<W: Write>(text: &str, out: &mut W) -> io::Result<()>
+pub fn write_quoted<W: WriteLines>(text: &str, out: &mut W) -> io::Result<()>
     ensures { OnOk result (Appends (W.contents out.old) (W.contents out.new) (quoted text.now)) }
 {
     write!(out, "\"")?;
@@ -19,7 +20,7 @@ pub fn write_quoted<W: Write>(text: &str, out: &mut W) -> io::Result<()>
     write!(out, "\"")
 }
 
-fn write_shown<W: Write>(text: &[u8], out: &mut W) -> io::Result<()>
+fn write_shown<W: WriteLines>(text: &[u8], out: &mut W) -> io::Result<()>
     ensures { OnOk result (Appends (W.contents out.old) (W.contents out.new)
         (text_shown text.now)) }
 {
@@ -32,9 +33,11 @@ fn write_shown<W: Write>(text: &[u8], out: &mut W) -> io::Result<()>
 }
 
 /// Writes octets, each that is no plain character as its number.
-pub fn write_octets<W: Write>(octets: &[u8], out: &mut W) -> io::Result<()>
-    ensures { OnOk result (Appends (W.contents out.old) (W.contents out.new)
+pub fn write_octets<W: WriteLines>(octets: &[u8], out: &mut W) -> io::Result<()>
+    ensures told { OnOk result (Appends (W.contents out.old) (W.contents out.new)
         (flat_map octet_shown octets.now)) }
+    ensures failed { OnErr result (W.failed out.new) }
+    ensures kept { W.failed out.old → W.failed out.new }
 {
     for octet in octets {
         write_octet(*octet, out)?;
@@ -43,8 +46,10 @@ pub fn write_octets<W: Write>(octets: &[u8], out: &mut W) -> io::Result<()>
 }
 
 #[tactic(auto, using(std::proofs::lemmas::Fmt::hex_byte))]
-fn write_octet<W: Write>(octet: u8, out: &mut W) -> io::Result<()>
-    ensures { OnOk result (Appends (W.contents out.old) (W.contents out.new) (octet_shown octet)) }
+fn write_octet<W: WriteLines>(octet: u8, out: &mut W) -> io::Result<()>
+    ensures told { OnOk result (Appends (W.contents out.old) (W.contents out.new) (octet_shown octet)) }
+    ensures failed { OnErr result (W.failed out.new) }
+    ensures kept { W.failed out.old → W.failed out.new }
 {
     if is_plain(octet) {
         out.write_all(&[octet])

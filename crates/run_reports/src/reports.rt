@@ -1,18 +1,21 @@
 //! The lines that tell what sessions lost, and how they ended.
 
-ghost use Rattle.std.specs.Prelude.{◌++◌, codes, decimal, OnOk};
+ghost use Rattle.std.specs.Prelude.{◌++◌, codes, decimal, OnErr, OnOk};
 ghost use Rattle.std.specs.List.{flat_map};
 ghost use Rattle.std.specs.Io.KnownBytes.{Appends};
 ghost use Rattle.run_reports.specs.ReportLines.{domain_lines, fault_text, loss_line, report_lines, session_lines};
 
+use crate::write_lines::WriteLines;
 use ipfix_session::{DomainReport, SessionReport};
-use std::io::{self, Write};
+use std::io;
 
 /// Writes what there is to tell of sessions, counted from 1: a line for each domain whose sequence
 /// numbers tell a loss or a step backward, and then a line for the session's fault.
-pub fn write_reports<W: Write>(reports: &[SessionReport], out: &mut W) -> io::Result<()>
-    ensures { OnOk result (Appends (W.contents out.old) (W.contents out.new)
+pub fn write_reports<W: WriteLines>(reports: &[SessionReport], out: &mut W) -> io::Result<()>
+    ensures told { OnOk result (Appends (W.contents out.old) (W.contents out.new)
         (report_lines reports.now)) }
+    ensures failed { OnErr result (W.failed out.new) }
+    ensures kept { W.failed out.old → W.failed out.new }
 {
     for (index, report) in reports.iter().enumerate() {
         write_session(index + 1, report, out)?;
@@ -21,13 +24,15 @@ pub fn write_reports<W: Write>(reports: &[SessionReport], out: &mut W) -> io::Re
 }
 
 /// Writes what there is to tell of the session of this number.
-pub fn write_session<W: Write>(
+pub fn write_session<W: WriteLines>(
     session: usize,
     report: &SessionReport,
     out: &mut W,
 ) -> io::Result<()>
-    ensures { OnOk result (Appends (W.contents out.old) (W.contents out.new)
+    ensures told { OnOk result (Appends (W.contents out.old) (W.contents out.new)
         (session_lines session report.now)) }
+    ensures failed { OnErr result (W.failed out.new) }
+    ensures kept { W.failed out.old → W.failed out.new }
 {
     write_domains(session, &report.domains, out)?;
     if let Some(fault) = report.fault {
@@ -36,9 +41,15 @@ pub fn write_session<W: Write>(
     Ok(())
 }
 
-fn write_domains<W: Write>(session: usize, domains: &[DomainReport], out: &mut W) -> io::Result<()>
-    ensures { OnOk result (Appends (W.contents out.old) (W.contents out.new)
+fn write_domains<W: WriteLines>(
+    session: usize,
+    domains: &[DomainReport],
+    out: &mut W,
+) -> io::Result<()>
+    ensures told { OnOk result (Appends (W.contents out.old) (W.contents out.new)
         (flat_map (domain_lines session) domains.now)) }
+    ensures failed { OnErr result (W.failed out.new) }
+    ensures kept { W.failed out.old → W.failed out.new }
 {
     for domain in domains {
         if domain.lost > 0 || domain.backward > 0 {
@@ -49,9 +60,11 @@ fn write_domains<W: Write>(session: usize, domains: &[DomainReport], out: &mut W
 }
 
 #[tactic(auto, unfolding(crate::specs::ReportLines::loss_line))]
-fn write_loss<W: Write>(session: usize, report: &DomainReport, out: &mut W) -> io::Result<()>
-    ensures { OnOk result (Appends (W.contents out.old) (W.contents out.new)
+fn write_loss<W: WriteLines>(session: usize, report: &DomainReport, out: &mut W) -> io::Result<()>
+    ensures told { OnOk result (Appends (W.contents out.old) (W.contents out.new)
         (loss_line session report.now)) }
+    ensures failed { OnErr result (W.failed out.new) }
+    ensures kept { W.failed out.old → W.failed out.new }
 {
     let DomainReport {
         domain,
@@ -66,14 +79,16 @@ fn write_loss<W: Write>(session: usize, report: &DomainReport, out: &mut W) -> i
 }
 
 #[tactic(auto, unfolding(crate::specs::ReportLines::fault_text))]
-fn write_session_fault<W: Write>(
+fn write_session_fault<W: WriteLines>(
     session: usize,
     number: u8,
     name: &str,
     out: &mut W,
 ) -> io::Result<()>
-    ensures { OnOk result (Appends (W.contents out.old) (W.contents out.new)
+    ensures told { OnOk result (Appends (W.contents out.old) (W.contents out.new)
         (codes "collectd: session " ++ (decimal session ++ fault_text number name.now))) }
+    ensures failed { OnErr result (W.failed out.new) }
+    ensures kept { W.failed out.old → W.failed out.new }
 {
     writeln!(out, "collectd: session {session}: fault {number} {name}")
 }

@@ -1,25 +1,30 @@
 //! The line that counts the records of each class.
 
-ghost use Rattle.std.specs.Prelude.{OnOk};
+ghost use Rattle.std.specs.Prelude.{OnErr, OnOk};
 ghost use Rattle.std.specs.Io.KnownBytes.{Appends};
 ghost use Rattle.run_reports.specs.ReportLines.{first_counts, last_counts, tally_line};
 
+use crate::write_lines::WriteLines;
 use flow_table::Tally;
-use std::io::{self, Write};
+use std::io;
 
 /// Writes the line that counts the records of each class.
-pub fn write_tally<W: Write>(tally: &Tally, out: &mut W) -> io::Result<()>
-    ensures { OnOk result (Appends (W.contents out.old) (W.contents out.new)
+pub fn write_tally<W: WriteLines>(tally: &Tally, out: &mut W) -> io::Result<()>
+    ensures told { OnOk result (Appends (W.contents out.old) (W.contents out.new)
         (tally_line tally.now)) }
+    ensures failed { OnErr result (W.failed out.new) }
+    ensures kept { W.failed out.old → W.failed out.new }
 {
     write_first_counts(tally, out)?;
     write_last_counts(tally, out)
 }
 
 #[tactic(auto, unfolding(crate::specs::ReportLines::first_counts))]
-fn write_first_counts<W: Write>(tally: &Tally, out: &mut W) -> io::Result<()>
-    ensures { OnOk result (Appends (W.contents out.old) (W.contents out.new)
+fn write_first_counts<W: WriteLines>(tally: &Tally, out: &mut W) -> io::Result<()>
+    ensures told { OnOk result (Appends (W.contents out.old) (W.contents out.new)
         (first_counts tally.now)) }
+    ensures failed { OnErr result (W.failed out.new) }
+    ensures kept { W.failed out.old → W.failed out.new }
 {
     let used = tally.used;
     let options = tally.options;
@@ -31,9 +36,11 @@ fn write_first_counts<W: Write>(tally: &Tally, out: &mut W) -> io::Result<()>
 }
 
 #[tactic(auto, unfolding(crate::specs::ReportLines::last_counts))]
-fn write_last_counts<W: Write>(tally: &Tally, out: &mut W) -> io::Result<()>
-    ensures { OnOk result (Appends (W.contents out.old) (W.contents out.new)
+fn write_last_counts<W: WriteLines>(tally: &Tally, out: &mut W) -> io::Result<()>
+    ensures told { OnOk result (Appends (W.contents out.old) (W.contents out.new)
         (last_counts tally.now)) }
+    ensures failed { OnErr result (W.failed out.new) }
+    ensures kept { W.failed out.old → W.failed out.new }
 {
     let backward = tally.backward;
     let unkeyed = tally.unkeyed;

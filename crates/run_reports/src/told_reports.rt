@@ -1,6 +1,6 @@
 //! The lines of sessions in full.
 
-ghost use Rattle.std.specs.Prelude.{◌≡◌, false, map, OnOk};
+ghost use Rattle.std.specs.Prelude.{◌≡◌, false, map, OnErr, OnOk};
 ghost use Rattle.std.specs.Io.KnownBytes.{Appends};
 ghost use Rattle.run_reports.specs.ReportLines.{report_lines};
 ghost use Rattle.run_reports.specs.ToldLines.{added_lines, origin_of, told_lines, told_session};
@@ -10,8 +10,9 @@ use crate::endings::write_end;
 use crate::origin::Origin;
 use crate::reports::write_session;
 use crate::telling::Telling;
+use crate::write_lines::WriteLines;
 use ipfix_session::FullReport;
-use std::io::{self, Write};
+use std::io;
 
 /// Writes what there is to tell of sessions, counted from 1: for each first what
 /// [`write_reports`](crate::write_reports) writes, and that is all if `telling` asks for nothing.
@@ -21,7 +22,7 @@ use std::io::{self, Write};
 /// place of the session's fault follows, and then how much of it counts. Each of these lines has the
 /// origin that stands at the session's place in `origins` behind the session's number; none if it is
 /// missing there.
-pub fn write_told_reports<W: Write>(
+pub fn write_told_reports<W: WriteLines>(
     telling: Telling,
     origins: &[Origin],
     reports: &[FullReport],
@@ -33,6 +34,8 @@ pub fn write_told_reports<W: Write>(
     ensures plain { telling.verbose ≡ false → telling.strict ≡ false
         → OnOk result (Appends (W.contents out.old) (W.contents out.new)
         (report_lines (map (λ full. full.report) reports.now))) }
+    ensures failed { OnErr result (W.failed out.new) }
+    ensures kept { W.failed out.old → W.failed out.new }
 {
     for (index, full) in reports.iter().enumerate() {
         write_numbered(telling, index + 1, origins, full, out)?;
@@ -41,15 +44,17 @@ pub fn write_told_reports<W: Write>(
 }
 
 // The lines of the session of this number, counted from 1.
-fn write_numbered<W: Write>(
+fn write_numbered<W: WriteLines>(
     telling: Telling,
     session: usize,
     origins: &[Origin],
     full: &FullReport,
     out: &mut W,
 ) -> io::Result<()>
-    ensures { OnOk result (Appends (W.contents out.old) (W.contents out.new)
+    ensures told { OnOk result (Appends (W.contents out.old) (W.contents out.new)
         (told_session telling session (origin_of origins.now session) full.now)) }
+    ensures failed { OnErr result (W.failed out.new) }
+    ensures kept { W.failed out.old → W.failed out.new }
 {
     match origins.get(session.saturating_sub(1)) {
         Some(origin) => write_told_session(telling, session, origin, full, out),
@@ -57,29 +62,33 @@ fn write_numbered<W: Write>(
     }
 }
 
-fn write_told_session<W: Write>(
+fn write_told_session<W: WriteLines>(
     telling: Telling,
     session: usize,
     origin: &Origin,
     full: &FullReport,
     out: &mut W,
 ) -> io::Result<()>
-    ensures { OnOk result (Appends (W.contents out.old) (W.contents out.new)
+    ensures told { OnOk result (Appends (W.contents out.old) (W.contents out.new)
         (told_session telling session origin.now full.now)) }
+    ensures failed { OnErr result (W.failed out.new) }
+    ensures kept { W.failed out.old → W.failed out.new }
 {
     write_session(session, &full.report, out)?;
     write_added(telling, session, origin, full, out)
 }
 
-fn write_added<W: Write>(
+fn write_added<W: WriteLines>(
     telling: Telling,
     session: usize,
     origin: &Origin,
     full: &FullReport,
     out: &mut W,
 ) -> io::Result<()>
-    ensures { OnOk result (Appends (W.contents out.old) (W.contents out.new)
+    ensures told { OnOk result (Appends (W.contents out.old) (W.contents out.new)
         (added_lines telling session origin.now full.now)) }
+    ensures failed { OnErr result (W.failed out.new) }
+    ensures kept { W.failed out.old → W.failed out.new }
 {
     write_balances(telling, session, origin, &full.balances, out)?;
     write_end(telling, session, origin, full, out)

@@ -4,9 +4,12 @@ ghost use Rattle.std.specs.Prelude.{◌≡◌, ◌≢◌, ◌⊎◌, ◌<◌, If
 ghost use Rattle.std.specs.Duration.{as_nanos};
 ghost use Rattle.exit_status.specs.Statuses.{number_of};
 ghost use Rattle.flow_collect.specs.Refusals.{fault_of_arguments};
+ghost use Rattle.run_reports.specs.OpeningLines.{if_verbose, listening_line};
+ghost use Rattle.run_reports.specs.Told.{AreTold};
 ghost use Rattle.collectd.specs.Runs.{Writes};
-ghost use Rattle.collectd.specs.FullRuns.{RunsInFull};
+ghost use Rattle.collectd.specs.FullRuns.{ArePeers, RunsInFull};
 ghost use Rattle.collectd.specs.Had.{AreAccepted};
+ghost use Rattle.collectd.specs.Told.{TellsFailedRun, TellsNotAccepted, TellsRun};
 
 use crate::full_run::run_in_full;
 use crate::sources::accepting::{AcceptedAll, Listener, accept_all};
@@ -15,7 +18,7 @@ use exit_status::Status;
 use flow_collect::Pool;
 use flow_table::Plan;
 use ipfix_session::Source;
-use run_reports::{Telling, write_listening, write_not_had_because};
+use run_reports::{Telling, WriteLines, write_listening, write_not_had_because};
 use std::alloc::Global;
 use std::io::Write;
 use std::rt::Clock;
@@ -30,7 +33,7 @@ pub fn run_connections<
     L: Listener<S>,
     P: Write + Copy + Drop + Send,
     W: Write,
-    E: Write,
+    E: WriteLines,
     R: Clock + Threads + Wait + Sync,
 >(
     rt: &R,
@@ -53,7 +56,9 @@ pub fn run_connections<
         → RunsInFull S.seen
         (AreAccepted (L.gives listener.old idle) count (L.coming listener.old) (L.coming listener.new))
         telling.strict plan.now pool result
-        (Writes plan.now output (W.contents out.old) (W.contents out.new)) }
+        (λ fulls table. Writes plan.now output (W.contents out.old) (W.contents out.new) table
+        × TellsRun (ArePeers count) telling (if_verbose telling (listening_line addr.now count))
+        (AreTold (E.contents err.old) (E.contents err.new) (E.failed err.new)) fulls table.tally) }
     ensures closed { L.is_closed listener.new }
     ensures not_accepted { result ≡ number_of Status.NotOpened → out.new ≡ out.old }
     ensures refused { IfSome (fault_of_arguments pool count)
@@ -61,6 +66,14 @@ pub fn run_connections<
         × (out.new ≡ out.old)) }
     ensures no_time { IfSome idle
         (λ limit. as_nanos limit ≡ 0 → 0 < count → result ≡ number_of Status.NotOpened) }
+    ensures failed { result ≡ number_of Status.Failed
+        → TellsFailedRun (ArePeers count) telling (if_verbose telling (listening_line addr.now count)) (out.new ≡ out.old)
+        (AreTold (E.contents err.old) (E.contents err.new) (E.failed err.new)) }
+    // Each connection that was had was told, and then the address that gives none.
+    ensures stopped { result ≡ number_of Status.NotOpened
+        → TellsNotAccepted telling (if_verbose telling (listening_line addr.now count)) addr.now
+        (AreTold (E.contents err.old) (E.contents err.new) (E.failed err.new)) }
+    ensures kept { E.failed err.old → E.failed err.new }
 {
     let _ = write_listening(telling, addr, count, err);
     match accept_all(rt, alloc, listener, count, idle, progress, telling, err) {

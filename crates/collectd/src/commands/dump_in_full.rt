@@ -1,14 +1,18 @@
 //! Dumping a source to its end, with the report in full.
 
-ghost use Rattle.std.specs.Prelude.{◌≡◌, ◌≢◌, ◌⊎◌, ◌↔◌, IfOk, IsTrue};
+ghost use Rattle.std.specs.Prelude.{◌≡◌, ◌≢◌, ◌⊎◌, ◌↔◌, [], ◌∷◌, IfOk, IsTrue};
 ghost use Rattle.exit_status.specs.Statuses.{number_of};
 ghost use Rattle.ipfix_dump.specs.Dumped.{DumpsAllBy, DumpsInFullBy};
-ghost use Rattle.collectd.specs.Dumps.{DumpsToEnd, EndedWell};
+ghost use Rattle.run_reports.specs.Told.{AreTold};
+ghost use Rattle.run_reports.specs.ToldLines.{told_lines};
+ghost use Rattle.collectd.specs.Dumps.{DumpsToEnd, EndedWell, TellsDumpFault};
 
 use exit_status::Status;
 use ipfix_dump::{DumpFault, RecordLine, dump_in_full_by};
 use ipfix_session::{FullReport, Source};
-use run_reports::{Origin, Telling, are_spotless, write_dump_fault, write_told_reports};
+use run_reports::{
+    Origin, Telling, WriteLines, are_spotless, write_dump_fault, write_told_reports,
+};
 use std::alloc::Global;
 use std::io::Write;
 use std::slice;
@@ -16,7 +20,7 @@ use std::slice;
 /// Dumps a source to `out` with lines that `line` makes, and answers the exit status. To `err` it writes what
 /// there is to tell of the session, or at status 3 the line of the fault alone. A fault of `err` is passed
 /// over.
-pub fn dump_to_end<L: RecordLine, S: Source, W: Write, E: Write>(
+pub fn dump_to_end<L: RecordLine, S: Source, W: Write, E: WriteLines>(
     alloc: Global,
     line: &mut L,
     source: &mut S,
@@ -31,7 +35,13 @@ pub fn dump_to_end<L: RecordLine, S: Source, W: Write, E: Write>(
         → DumpsAllBy L.line_of (S.seen source.old).text (W.contents out.old) (W.contents out.new) }
     ensures dumped { result ≢ number_of Status.Failed
         → DumpsToEnd L.line_of S.seen telling.strict source.old source.new
-        (W.contents out.old) (W.contents out.new) result }
+        (W.contents out.old) (W.contents out.new) result
+        (λ full. AreTold (E.contents err.old) (E.contents err.new) (E.failed err.new)
+        (told_lines telling (origin.now ∷ []) (full ∷ []))) }
+    // The line of a fault alone was told.
+    ensures failed { result ≡ number_of Status.Failed → TellsDumpFault
+        (AreTold (E.contents err.old) (E.contents err.new) (E.failed err.new)) }
+    ensures kept { E.failed err.old → E.failed err.new }
 {
     match dump_whole(alloc, line, source, out) {
         Ok(full) => {

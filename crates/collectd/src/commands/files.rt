@@ -1,11 +1,15 @@
 //! Collecting from files.
 
-ghost use Rattle.std.specs.Prelude.{◌≡◌, ◌≢◌, ◌⊎◌, length, IfNone, IfSome};
+ghost use Rattle.std.specs.Prelude.{◌≡◌, ◌≢◌, ◌⊎◌, ◌++◌, [], length, map, IfNone, IfSome};
+ghost use Rattle.std.specs.List.{AllZip};
 ghost use Rattle.exit_status.specs.Statuses.{number_of};
 ghost use Rattle.flow_collect.specs.Refusals.{fault_of_arguments};
+ghost use Rattle.run_reports.specs.ReportLines.{report_lines, tally_line};
+ghost use Rattle.run_reports.specs.Told.{AreTold};
 ghost use Rattle.collectd.specs.Runs.{RunsSources, Writes};
-ghost use Rattle.collectd.specs.FullRuns.{fault_of_pool, RunsInFull};
+ghost use Rattle.collectd.specs.FullRuns.{fault_of_pool, IsFileNamed, RunsInFull};
 ghost use Rattle.collectd.specs.Had.{AreOpened};
+ghost use Rattle.collectd.specs.Told.{TellsFailedRun, TellsFault, TellsNotOpened, TellsRun};
 
 use crate::collect_fault::write_collect_fault;
 use crate::early::refused_early;
@@ -17,7 +21,7 @@ use exit_status::Status;
 use flow_collect::Pool;
 use flow_table::Plan;
 use ipfix_session::Source;
-use run_reports::{Telling, write_not_had_because};
+use run_reports::{Telling, WriteLines, write_not_had_because};
 use std::alloc::Global;
 use std::io::Write;
 use std::rt::Clock;
@@ -34,7 +38,7 @@ pub fn run_files<
     O: OpenSource<S>,
     P: Write + Copy + Drop + Send,
     W: Write,
-    E: Write,
+    E: WriteLines,
     R: Clock + Threads + Wait + Sync,
 >(
     rt: &R,
@@ -55,13 +59,23 @@ pub fn run_files<
         → RunsSources S.seen (AreOpened (λ path. O.opens files.old path.now)
         paths.now (O.coming files.old) (O.coming files.new))
         plan.now pool result
-        (Writes plan.now output (W.contents out.old) (W.contents out.new)) }
+        (λ reports table. Writes plan.now output (W.contents out.old) (W.contents out.new) table
+        × AreTold (E.contents err.old) (E.contents err.new) (E.failed err.new)
+        (report_lines reports ++ tally_line table.tally)) }
     // Nothing was written unless all were opened.
     ensures not_opened { result ≡ number_of Status.NotOpened → out.new ≡ out.old }
     // Nothing was collected if the arguments have a fault.
     ensures refused { IfSome (fault_of_arguments pool (length paths.now))
         (λ fault. ((result ≡ number_of Status.NotOpened) ⊎ (result ≡ number_of Status.Failed))
         × (out.new ≡ out.old)) }
+    // The line of a fault alone was told; and nothing was written, if it is one of collecting.
+    ensures failed { result ≡ number_of Status.Failed → TellsFault (out.new ≡ out.old)
+        (AreTold (E.contents err.old) (E.contents err.new) (E.failed err.new)) }
+    // Each file that was had was told, and then the path that can't be opened.
+    ensures stopped { result ≡ number_of Status.NotOpened
+        → TellsNotOpened (map (λ path. path.now) paths.now) NOTHING_MORE
+        (AreTold (E.contents err.old) (E.contents err.new) (E.failed err.new)) }
+    ensures kept { E.failed err.old → E.failed err.new }
 {
     run_paths(
         rt,
@@ -87,7 +101,7 @@ pub fn run_files_in_full<
     O: OpenSource<S>,
     P: Write + Copy + Drop + Send,
     W: Write,
-    E: Write,
+    E: WriteLines,
     R: Clock + Threads + Wait + Sync,
 >(
     rt: &R,
@@ -110,7 +124,9 @@ pub fn run_files_in_full<
         → RunsInFull S.seen (AreOpened (λ path. O.opens files.old path.now)
         paths.now (O.coming files.old) (O.coming files.new))
         telling.strict plan.now pool result
-        (Writes plan.now output (W.contents out.old) (W.contents out.new))) }
+        (λ fulls table. Writes plan.now output (W.contents out.old) (W.contents out.new) table
+        × TellsRun (AllZip (λ path. IsFileNamed path.now) paths.now) telling []
+        (AreTold (E.contents err.old) (E.contents err.new) (E.failed err.new)) fulls table.tally)) }
     // Nothing was written unless all were opened.
     ensures not_opened { result ≡ number_of Status.NotOpened → out.new ≡ out.old }
     // Nothing was collected if the arguments have a fault.
@@ -119,7 +135,18 @@ pub fn run_files_in_full<
         × (out.new ≡ out.old)) }
     // No file is opened for a pool that has a fault.
     ensures pool { IfSome (fault_of_pool pool)
-        (λ fault. (result ≡ number_of Status.Failed) × (out.new ≡ out.old)) }
+        (λ fault. (result ≡ number_of Status.Failed) × (out.new ≡ out.old)
+        × TellsFault (out.new ≡ out.old)
+        (AreTold (E.contents err.old) (E.contents err.new) (E.failed err.new))) }
+    // The line of a fault was told behind those of what was had; nothing was written, if it is one of collecting.
+    ensures failed { IfNone (fault_of_pool pool) (result ≡ number_of Status.Failed
+        → TellsFailedRun (AllZip (λ path. IsFileNamed path.now) paths.now) telling [] (out.new ≡ out.old)
+        (AreTold (E.contents err.old) (E.contents err.new) (E.failed err.new))) }
+    // Each file that was had was told, and then the path that can't be opened.
+    ensures stopped { result ≡ number_of Status.NotOpened
+        → TellsNotOpened (map (λ path. path.now) paths.now) telling
+        (AreTold (E.contents err.old) (E.contents err.new) (E.failed err.new)) }
+    ensures kept { E.failed err.old → E.failed err.new }
 {
     if let Some(fault) = refused_early(pool, paths.len()) {
         let _ = write_collect_fault(fault, err);
@@ -137,7 +164,7 @@ fn run_paths<
     O: OpenSource<S>,
     P: Write + Copy + Drop + Send,
     W: Write,
-    E: Write,
+    E: WriteLines,
     R: Clock + Threads + Wait + Sync,
 >(
     rt: &R,
@@ -158,11 +185,21 @@ fn run_paths<
         → RunsInFull S.seen (AreOpened (λ path. O.opens files.old path.now)
         paths.now (O.coming files.old) (O.coming files.new))
         telling.strict plan.now pool result
-        (Writes plan.now output (W.contents out.old) (W.contents out.new)) }
+        (λ fulls table. Writes plan.now output (W.contents out.old) (W.contents out.new) table
+        × TellsRun (AllZip (λ path. IsFileNamed path.now) paths.now) telling []
+        (AreTold (E.contents err.old) (E.contents err.new) (E.failed err.new)) fulls table.tally) }
     ensures not_opened { result ≡ number_of Status.NotOpened → out.new ≡ out.old }
     ensures refused { IfSome (fault_of_arguments pool (length paths.now))
         (λ fault. ((result ≡ number_of Status.NotOpened) ⊎ (result ≡ number_of Status.Failed))
         × (out.new ≡ out.old)) }
+    ensures failed { result ≡ number_of Status.Failed
+        → TellsFailedRun (AllZip (λ path. IsFileNamed path.now) paths.now) telling [] (out.new ≡ out.old)
+        (AreTold (E.contents err.old) (E.contents err.new) (E.failed err.new)) }
+    // Each file that was had was told, and then the path that can't be opened.
+    ensures stopped { result ≡ number_of Status.NotOpened
+        → TellsNotOpened (map (λ path. path.now) paths.now) telling
+        (AreTold (E.contents err.old) (E.contents err.new) (E.failed err.new)) }
+    ensures kept { E.failed err.old → E.failed err.new }
 {
     match open_all(rt, alloc, files, paths, progress, telling, err) {
         Ok(OpenedAll { sources, origins }) => run_in_full(

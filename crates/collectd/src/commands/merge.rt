@@ -19,7 +19,7 @@ use exit_status::Status;
 use flow_merge::Merging;
 use flow_table::{Plan, Table};
 use ipfix_session::{READ_LIMIT, Source};
-use run_reports::{Telling, write_export_fault, write_not_had_because};
+use run_reports::{Telling, WriteLines, write_export_fault, write_not_had_because};
 use std::alloc::Global;
 use std::io::Write;
 
@@ -31,7 +31,7 @@ use std::io::Write;
 /// To `err` it writes how many files and rows there were, or else a line for the first file that was not
 /// opened or not merged, and what is wrong with it. A fault of `err` is passed over. Nothing is written
 /// to `out` unless all files were merged.
-pub fn run_merge<S: Source + Drop, O: OpenSource<S>, W: Write, E: Write>(
+pub fn run_merge<S: Source + Drop, O: OpenSource<S>, W: Write, E: WriteLines>(
     files: &mut O,
     alloc: Global,
     paths: &[&str],
@@ -62,7 +62,7 @@ pub fn run_merge<S: Source + Drop, O: OpenSource<S>, W: Write, E: Write>(
 /// Does as [`run_merge`], and tells more if `telling` is verbose: each file that is opened or not merged, by its
 /// number and name, and the system's reason behind one that can't be opened. A strict merge is none other, since nothing is
 /// merged in which anything was lost or passed over.
-pub fn run_merge_in_full<S: Source + Drop, O: OpenSource<S>, W: Write, E: Write>(
+pub fn run_merge_in_full<S: Source + Drop, O: OpenSource<S>, W: Write, E: WriteLines>(
     files: &mut O,
     alloc: Global,
     paths: &[&str],
@@ -97,7 +97,7 @@ pub fn run_merge_in_full<S: Source + Drop, O: OpenSource<S>, W: Write, E: Write>
 }
 
 // The table of the exports in files; or the status, if one can't be opened or merged, which is told.
-fn merge_files<S: Source + Drop, O: OpenSource<S>, E: Write>(
+fn merge_files<S: Source + Drop, O: OpenSource<S>, E: WriteLines>(
     files: &mut O,
     alloc: Global,
     paths: &[&str],
@@ -121,7 +121,7 @@ fn merge_files<S: Source + Drop, O: OpenSource<S>, E: Write>(
 }
 
 // Nothing merged.
-fn begin<E: Write>(alloc: Global, plan: &Plan, err: &mut E) -> Result<Merging, Status>
+fn begin<E: WriteLines>(alloc: Global, plan: &Plan, err: &mut E) -> Result<Merging, Status>
     ensures plan { IfOk result (λ m. merging_plan m ≡ plan.now) }
     ensures empty { IfOk result (λ m. StandsFor m []) }
     ensures status { IfErr result (λ status. status ≡ Status.Failed) }
@@ -136,7 +136,7 @@ fn begin<E: Write>(alloc: Global, plan: &Plan, err: &mut E) -> Result<Merging, S
 }
 
 // Adds the file of this number, counted from 1.
-fn add_file<S: Source + Drop, O: OpenSource<S>, E: Write>(
+fn add_file<S: Source + Drop, O: OpenSource<S>, E: WriteLines>(
     files: &mut O,
     merging: Merging,
     file: usize,
@@ -161,7 +161,7 @@ fn add_file<S: Source + Drop, O: OpenSource<S>, E: Write>(
 }
 
 // The source of the file of this number.
-fn open_file<S: Source, O: OpenSource<S>, E: Write>(
+fn open_file<S: Source, O: OpenSource<S>, E: WriteLines>(
     files: &mut O,
     file: usize,
     path: &str,
@@ -188,7 +188,7 @@ fn open_file<S: Source, O: OpenSource<S>, E: Write>(
 }
 
 // The table of all that was added.
-fn end<E: Write>(merging: Merging, err: &mut E) -> Result<Table, Status>
+fn end<E: WriteLines>(merging: Merging, err: &mut E) -> Result<Table, Status>
     ensures rows { (rows : List RowValue)
         → StandsFor merging rows → IfOk result (λ table. AreAddedUp rows (rows_in table)) }
     ensures fits { (rows : List RowValue)

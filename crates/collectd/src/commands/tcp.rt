@@ -1,12 +1,16 @@
 //! Collecting from connections.
 
-ghost use Rattle.std.specs.Prelude.{◌≡◌, ◌≢◌, ◌⊎◌, ◌<◌, IfNone, IfSome};
+ghost use Rattle.std.specs.Prelude.{◌≡◌, ◌≢◌, ◌⊎◌, ◌<◌, ◌++◌, [], IfNone, IfSome};
 ghost use Rattle.std.specs.Duration.{as_nanos};
 ghost use Rattle.exit_status.specs.Statuses.{number_of};
 ghost use Rattle.flow_collect.specs.Refusals.{fault_of_arguments};
+ghost use Rattle.run_reports.specs.OpeningLines.{if_verbose, listening_line};
+ghost use Rattle.run_reports.specs.ReportLines.{report_lines, tally_line};
+ghost use Rattle.run_reports.specs.Told.{AreTold};
 ghost use Rattle.collectd.specs.Runs.{RunsSources, Writes};
-ghost use Rattle.collectd.specs.FullRuns.{fault_of_pool, RunsInFull};
+ghost use Rattle.collectd.specs.FullRuns.{ArePeers, fault_of_pool, RunsInFull};
 ghost use Rattle.collectd.specs.Had.{AreAccepted};
+ghost use Rattle.collectd.specs.Told.{TellsFailedRun, TellsFault, TellsNotAccepted, TellsRun};
 
 use super::connections::run_connections;
 use crate::collect_fault::write_collect_fault;
@@ -18,7 +22,7 @@ use exit_status::Status;
 use flow_collect::Pool;
 use flow_table::Plan;
 use ipfix_session::Source;
-use run_reports::Telling;
+use run_reports::{Telling, WriteLines};
 use std::alloc::Global;
 use std::io::Write;
 use std::rt::Clock;
@@ -41,7 +45,7 @@ pub fn run_tcp<
     L: Listener<S>,
     P: Write + Copy + Drop + Send,
     W: Write,
-    E: Write,
+    E: WriteLines,
     R: Clock + Threads + Wait + Sync,
 >(
     rt: &R,
@@ -64,7 +68,9 @@ pub fn run_tcp<
         → RunsSources S.seen
         (AreAccepted (L.gives listener.old idle) count (L.coming listener.old) (L.coming listener.new))
         plan.now pool result
-        (Writes plan.now output (W.contents out.old) (W.contents out.new)) }
+        (λ reports table. Writes plan.now output (W.contents out.old) (W.contents out.new) table
+        × AreTold (E.contents err.old) (E.contents err.new) (E.failed err.new)
+        (report_lines reports ++ tally_line table.tally)) }
     ensures closed { L.is_closed listener.new }
     // Nothing was written unless all were accepted.
     ensures not_accepted { result ≡ number_of Status.NotOpened → out.new ≡ out.old }
@@ -75,6 +81,14 @@ pub fn run_tcp<
     // No connection can have a limit of no time.
     ensures no_time { IfSome idle
         (λ limit. as_nanos limit ≡ 0 → 0 < count → result ≡ number_of Status.NotOpened) }
+    // The line of a fault alone was told; and nothing was written, if it is one of collecting.
+    ensures failed { result ≡ number_of Status.Failed → TellsFault (out.new ≡ out.old)
+        (AreTold (E.contents err.old) (E.contents err.new) (E.failed err.new)) }
+    // Each connection that was had was told, and then the address that gives none.
+    ensures stopped { result ≡ number_of Status.NotOpened
+        → TellsNotAccepted NOTHING_MORE [] addr.now
+        (AreTold (E.contents err.old) (E.contents err.new) (E.failed err.new)) }
+    ensures kept { E.failed err.old → E.failed err.new }
 {
     run_connections(
         rt,
@@ -103,7 +117,7 @@ pub fn run_tcp_in_full<
     L: Listener<S>,
     P: Write + Copy + Drop + Send,
     W: Write,
-    E: Write,
+    E: WriteLines,
     R: Clock + Threads + Wait + Sync,
 >(
     rt: &R,
@@ -127,7 +141,9 @@ pub fn run_tcp_in_full<
         → RunsInFull S.seen
         (AreAccepted (L.gives listener.old idle) count (L.coming listener.old) (L.coming listener.new))
         telling.strict plan.now pool result
-        (Writes plan.now output (W.contents out.old) (W.contents out.new))) }
+        (λ fulls table. Writes plan.now output (W.contents out.old) (W.contents out.new) table
+        × TellsRun (ArePeers count) telling (if_verbose telling (listening_line addr.now count))
+        (AreTold (E.contents err.old) (E.contents err.new) (E.failed err.new)) fulls table.tally)) }
     ensures closed { L.is_closed listener.new }
     // Nothing was written unless all were accepted.
     ensures not_accepted { result ≡ number_of Status.NotOpened → out.new ≡ out.old }
@@ -140,7 +156,18 @@ pub fn run_tcp_in_full<
         (λ limit. as_nanos limit ≡ 0 → 0 < count → result ≡ number_of Status.NotOpened)) }
     // No connection is accepted for a pool that has a fault.
     ensures pool { IfSome (fault_of_pool pool)
-        (λ fault. (result ≡ number_of Status.Failed) × (out.new ≡ out.old)) }
+        (λ fault. (result ≡ number_of Status.Failed) × (out.new ≡ out.old)
+        × TellsFault (out.new ≡ out.old)
+        (AreTold (E.contents err.old) (E.contents err.new) (E.failed err.new))) }
+    // The line of a fault was told behind those of what was had; nothing was written, if it is one of collecting.
+    ensures failed { IfNone (fault_of_pool pool) (result ≡ number_of Status.Failed
+        → TellsFailedRun (ArePeers count) telling (if_verbose telling (listening_line addr.now count)) (out.new ≡ out.old)
+        (AreTold (E.contents err.old) (E.contents err.new) (E.failed err.new))) }
+    // Each connection that was had was told, and then the address that gives none.
+    ensures stopped { result ≡ number_of Status.NotOpened
+        → TellsNotAccepted telling (if_verbose telling (listening_line addr.now count)) addr.now
+        (AreTold (E.contents err.old) (E.contents err.new) (E.failed err.new)) }
+    ensures kept { E.failed err.old → E.failed err.new }
 {
     if let Some(fault) = refused_early(pool, count) {
         listener.close();

@@ -1,12 +1,15 @@
 //! Accepting connections, one after another.
 
-ghost use Rattle.std.specs.Prelude.{◌≡◌, ◌<◌, ⊤, None, Some, IfOk, IfSome, IsErr};
+ghost use Rattle.std.specs.Prelude.{◌≡◌, ◌<◌, ⊤, None, Some, IfOk, IfSome, IsErr, OnErr};
 ghost use Rattle.std.specs.Duration.{as_nanos};
+ghost use Rattle.run_reports.specs.Told.{AreTold};
+ghost use Rattle.collectd.specs.FullRuns.{ArePeers};
 ghost use Rattle.collectd.specs.Had.{AreAccepted};
+ghost use Rattle.collectd.specs.Told.{opened_lines, TellsPeers};
 
 use super::unread::Unread;
 use ipfix_session::{FromReader, Source};
-use run_reports::{Origin, Reason, Telling, write_opened};
+use run_reports::{Origin, Reason, Telling, WriteLines, write_opened};
 use session_progress::Watched;
 use std::alloc::Global;
 use std::io::Write;
@@ -119,7 +122,14 @@ pub struct AcceptedAll<S: Source + Drop> {
 /// So many connections as sources, each with this limit of a read's time. Behind the last, and if one can't
 /// be accepted, the listener is closed. `err` has a line for each that was accepted, if `telling` is verbose;
 /// a fault of `err` is passed over.
-pub fn accept_all<'r, S: Source + Drop, L: Listener<S>, P: Write + Copy + Drop, E: Write, R: Clock>(
+pub fn accept_all<
+    'r,
+    S: Source + Drop,
+    L: Listener<S>,
+    P: Write + Copy + Drop,
+    E: WriteLines,
+    R: Clock,
+>(
     rt: &'r R,
     alloc: Global,
     listener: &mut L,
@@ -135,6 +145,13 @@ pub fn accept_all<'r, S: Source + Drop, L: Listener<S>, P: Write + Copy + Drop, 
     // None of them is read by then.
     ensures closed { L.is_closed listener.new }
     ensures no_time { IfSome idle (λ limit. as_nanos limit ≡ 0 → 0 < count → IsErr result) }
+    ensures peers { IfOk result (λ all. ArePeers count all.origins.items) }
+    ensures told { IfOk result
+        (λ all. AreTold (E.contents err.old) (E.contents err.new) (E.failed err.new)
+        (opened_lines telling all.origins.items)) }
+    ensures stopped { OnErr result (TellsPeers telling
+        (AreTold (E.contents err.old) (E.contents err.new) (E.failed err.new))) }
+    ensures kept { E.failed err.old → E.failed err.new }
 {
     let accepted = accept_each(rt, alloc, listener, count, idle, progress, telling, err);
     listener.close();
@@ -142,7 +159,14 @@ pub fn accept_all<'r, S: Source + Drop, L: Listener<S>, P: Write + Copy + Drop, 
 }
 
 // Accepts one connection after another.
-fn accept_each<'r, S: Source + Drop, L: Listener<S>, P: Write + Copy + Drop, E: Write, R: Clock>(
+fn accept_each<
+    'r,
+    S: Source + Drop,
+    L: Listener<S>,
+    P: Write + Copy + Drop,
+    E: WriteLines,
+    R: Clock,
+>(
     rt: &'r R,
     alloc: Global,
     listener: &mut L,
@@ -155,13 +179,19 @@ fn accept_each<'r, S: Source + Drop, L: Listener<S>, P: Write + Copy + Drop, E: 
     ensures accepted { IfOk result (λ all. AreAccepted (L.gives listener.old idle) count
         (L.coming listener.old) (L.coming listener.new) all.sources) }
     ensures no_time { IfSome idle (λ limit. as_nanos limit ≡ 0 → 0 < count → IsErr result) }
+    ensures peers { IfOk result (λ all. ArePeers count all.origins.items) }
+    ensures told { IfOk result
+        (λ all. AreTold (E.contents err.old) (E.contents err.new) (E.failed err.new)
+        (opened_lines telling all.origins.items)) }
+    ensures stopped { OnErr result (TellsPeers telling
+        (AreTold (E.contents err.old) (E.contents err.new) (E.failed err.new))) }
+    ensures kept { E.failed err.old → E.failed err.new }
 {
     let mut sources = Unread::new(alloc);
     let mut origins = Vec::new(alloc);
     for number in 0..count {
         let Accepted { source, peer } = listener.next_source(idle)?;
         let origin = Origin::Peer(peer);
-        let _ = write_opened(telling, number + 1, &origin, err);
         let watched = Watched::new(alloc, rt, number + 1, source, None, progress);
         let Ok(()) = sources.push(watched) else {
             return Err(Reason::OutOfMemory);
@@ -169,6 +199,7 @@ fn accept_each<'r, S: Source + Drop, L: Listener<S>, P: Write + Copy + Drop, E: 
         let Ok(()) = origins.push(origin) else {
             return Err(Reason::OutOfMemory);
         };
+        let _ = write_opened(telling, number + 1, &origin, err);
     }
     Ok(AcceptedAll { sources, origins })
 }

@@ -1,15 +1,17 @@
 //! Opening files, one after another.
 
-ghost use Rattle.std.specs.Prelude.{ℕ, List, [], ◌∷◌, IfOk};
+ghost use Rattle.std.specs.Prelude.{◌≡◌, ℕ, List, [], ◌∷◌, map, IfErr, IfOk};
 ghost use Rattle.std.specs.List.{AllZip};
 ghost use Rattle.collectd.specs.Runs.{IsUnread};
 ghost use Rattle.collectd.specs.FullRuns.{IsFileNamed};
 ghost use Rattle.collectd.specs.Had.{AreOpened, Came};
+ghost use Rattle.collectd.specs.Told.{opened_lines, StopsAt};
+ghost use Rattle.run_reports.specs.Told.{AreTold};
 
 use super::opening::{OpenSource, Opened};
 use super::unread::Unread;
 use ipfix_session::Source;
-use run_reports::{Origin, Reason, Telling, write_opened};
+use run_reports::{Origin, Reason, Telling, WriteLines, write_opened};
 use session_progress::Watched;
 use std::alloc::Global;
 use std::io::Write;
@@ -37,7 +39,7 @@ pub fn open_all<
     S: Source + Drop,
     O: OpenSource<S>,
     P: Write + Copy + Drop,
-    E: Write,
+    E: WriteLines,
     R: Clock,
 >(
     rt: &'r R,
@@ -53,25 +55,33 @@ pub fn open_all<
         (O.coming files.old) (O.coming files.new) all.sources) }
     ensures named { IfOk result
         (λ all. AllZip (λ path. IsFileNamed path.now) paths.now all.origins.items) }
+    ensures told { IfOk result
+        (λ all. AreTold (E.contents err.old) (E.contents err.new) (E.failed err.new)
+        (opened_lines telling all.origins.items)) }
+    ensures stops { IfErr result
+        (λ stopped. StopsAt (map (λ path. path.now) paths.now) telling
+        (AreTold (E.contents err.old) (E.contents err.new) (E.failed err.new)) stopped.path.now) }
+    ensures kept { E.failed err.old → E.failed err.new }
 {
     let mut sources = Unread::new(alloc);
     let mut origins = Vec::new(alloc);
-    let mut session = 0_usize;
-    for path in paths {
-        session = session.saturating_add(1);
+    for (index, path) in paths.iter().enumerate() {
+        let session = index + 1;
         let (source, origin) = open_watched(rt, alloc, files, session, *path, progress)?;
-        let _ = write_opened(telling, session, &origin, err);
         let Ok(()) = sources.push(source) else {
             return Err(without_memory(*path));
         };
         let Ok(()) = origins.push(origin) else {
             return Err(without_memory(*path));
         };
+        let _ = write_opened(telling, session, &origin, err);
     }
     Ok(OpenedAll { sources, origins })
 }
 
-fn without_memory<'a>(path: &'a str) -> NotOpened<'a> {
+fn without_memory<'a>(path: &'a str) -> NotOpened<'a>
+    ensures { result.path.now ≡ path.now }
+{
     NotOpened {
         path,
         reason: Reason::OutOfMemory,
@@ -92,6 +102,7 @@ fn open_watched<'r, 'a, S: Source + Drop, O: OpenSource<S>, P: Write + Copy + Dr
         (λ had. Came (O.coming files.old) (O.coming files.new) (had.0 ∷ [])) }
     ensures same { (name : List ℕ) (source : S)
         → O.opens files.new name source → O.opens files.old name source }
+    ensures stopped { IfErr result (λ stopped. stopped.path.now ≡ path.now) }
     ensures unread { IfOk result (λ had. IsUnread S.seen had.0) }
     ensures named { IfOk result (λ had. IsFileNamed path.now had.1) }
 {

@@ -1,6 +1,11 @@
-use Rattle.std.proofs.Common.{refl}
+use Rattle.std.proofs.Common.{List, [], ℕ, refl, subst}
+use Rattle.run_reports.specs.Told.{AreTold}
+use Rattle.collectd.specs.declared.full_run.TheConstants.{NOTHING_MORE}
 use Rattle.collectd.proofs.FullRan.{table_short}
+use Rattle.collectd.proofs.LinesTold.{plain_alone}
 use Rattle.collectd.proofs.table.run.Goals as goal
 
 pub returns-clause-table : goal.returns-clause-table
-returns-clause-table g c = λ ran. table_short g.S.Source.seen _ c.args.sources.items c.args.plan.now c.args.pool c.run_in_full.result _ refl (c.run_in_full.ensures.table ran)
+returns-clause-table g c = λ ran.
+    table_short g.S.Source.seen _ c.args.sources.items c.args.plan.now c.args.pool c.run_in_full.result _ _ refl
+    (λ fulls table ends. (ends.0, subst (λ (l : List ℕ). AreTold (g.E.WriteLines.contents c.args.err.now) (g.E.WriteLines.contents c.run_in_full.new.err) (g.E.WriteLines.failed c.run_in_full.new.err) l) (plain_alone NOTHING_MORE refl refl [] fulls table.tally) ends.1)) (c.run_in_full.ensures.table ran)

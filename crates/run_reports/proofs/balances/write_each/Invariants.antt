@@ -5,4 +5,7 @@ use Rattle.run_reports.specs.ToldLines.{balance_lines}
 use Rattle.run_reports.proofs.balances.write_each.Given as goal
 
 abbrev pub invariant-loop-balance : goal.invariant-loop-balance
-invariant-loop-balance g l = Appends (g.W.Write.contents l.initial.out) (g.W.Write.contents l.out) (flat_map (balance_lines l.session l.origin) (take l.balance-index l.balances))
+invariant-loop-balance g l = record {
+  told : Appends (g.W.WriteLines.contents l.initial.out) (g.W.WriteLines.contents l.out) (flat_map (balance_lines l.session l.origin) (take l.balance-index l.balances));
+  kept : g.W.WriteLines.failed l.initial.out → g.W.WriteLines.failed l.out;
+}

@@ -6,9 +6,9 @@ use Rattle.ipfix_elements.specs.Names.{name_text}
 use Rattle.run_reports.specs.MissingLines.{counter_text}
 use Rattle.run_reports.proofs.missing.write_counter_start.Goals as goal
 
-pub returns : goal.returns
+pub returns-clause-told : goal.returns-clause-told
 unfolding counter_text
-returns g c =
-    let held = g.W.Write.contents in
+returns-clause-told g c =
+    let held = g.W.WriteLines.contents in
     let words = subst (λ (t : List ℕ). Appends (held c.args.out.now) (held c.write_all.new.self) t) c.as_bytes.ensures.value c.in_ok-write_all.ensures.bytes in
-    on_ok_weaker c.write_name.result (λ h. Appends-trans _ _ _ (codes "collectd: records: without ") (name_text c.args.counter) words h) c.write_name.ensures
+    on_ok_weaker c.write_element.result (λ h. Appends-trans _ _ _ (codes "collectd: records: without ") (name_text c.args.counter) words h) c.write_element.ensures.told

@@ -4,4 +4,7 @@ use Rattle.run_reports.specs.MissingLines.{counter_lines}
 use Rattle.run_reports.proofs.missing.write_counters.Given as goal
 
 abbrev pub invariant-loop-place : goal.invariant-loop-place
-invariant-loop-place g l = Appends (g.W.Write.contents l.initial.out) (g.W.Write.contents l.out) (counter_lines (take l.place l.counters) l.counts)
+invariant-loop-place g l = record {
+  told : Appends (g.W.WriteLines.contents l.initial.out) (g.W.WriteLines.contents l.out) (counter_lines (take l.place l.counters) l.counts);
+  kept : g.W.WriteLines.failed l.initial.out → g.W.WriteLines.failed l.out;
+}

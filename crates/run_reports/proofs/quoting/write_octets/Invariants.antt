@@ -5,4 +5,7 @@ use Rattle.run_reports.specs.PlaceLines.{octet_shown}
 use Rattle.run_reports.proofs.quoting.write_octets.Given as goal
 
 abbrev pub invariant-loop-octet : goal.invariant-loop-octet
-invariant-loop-octet g l = Appends (g.W.Write.contents l.initial.out) (g.W.Write.contents l.out) (flat_map octet_shown (take l.octet-index l.octets))
+invariant-loop-octet g l = record {
+  told : Appends (g.W.WriteLines.contents l.initial.out) (g.W.WriteLines.contents l.out) (flat_map octet_shown (take l.octet-index l.octets));
+  kept : g.W.WriteLines.failed l.initial.out → g.W.WriteLines.failed l.out;
+}

@@ -14,4 +14,4 @@ slice_bounds-write_octets-end g c = sym (length-take-le 64 c.args.text.now (omeg
 pub returns-in_ok-write_octets : goal.returns-in_ok-write_octets
 returns-in_ok-write_octets g c =
     rw (lt-ltb 64 (length c.args.text.now) c.if-text-gt-MOST_SHOWN.true)
-    (on_ok_weaker c.write.result (λ h. Appends-trans _ _ _ (flat_map octet_shown (take 64 c.args.text.now)) (codes "..") c.in_ok-write_octets.ensures h) c.write.ensures.bytes)
+    (on_ok_weaker c.write.result (λ h. Appends-trans _ _ _ (flat_map octet_shown (take 64 c.args.text.now)) (codes "..") c.in_ok-write_octets.ensures.told h) c.write.ensures.bytes)

@@ -5,4 +5,7 @@ use Rattle.run_reports.specs.ReportLines.{domain_lines}
 use Rattle.run_reports.proofs.reports.write_domains.Given as goal
 
 abbrev pub invariant-loop-domain : goal.invariant-loop-domain
-invariant-loop-domain g l = Appends (g.W.Write.contents l.initial.out) (g.W.Write.contents l.out) (flat_map (domain_lines l.session) (take l.domain-index l.domains))
+invariant-loop-domain g l = record {
+  told : Appends (g.W.WriteLines.contents l.initial.out) (g.W.WriteLines.contents l.out) (flat_map (domain_lines l.session) (take l.domain-index l.domains));
+  kept : g.W.WriteLines.failed l.initial.out → g.W.WriteLines.failed l.out;
+}

@@ -4,4 +4,7 @@ use Rattle.run_reports.specs.ReportLines.{report_lines}
 use Rattle.run_reports.proofs.reports.write_reports.Given as goal
 
 abbrev pub invariant-loop-index : goal.invariant-loop-index
-invariant-loop-index g l = Appends (g.W.Write.contents l.initial.out) (g.W.Write.contents l.out) (report_lines (take l.index l.reports))
+invariant-loop-index g l = record {
+  told : Appends (g.W.WriteLines.contents l.initial.out) (g.W.WriteLines.contents l.out) (report_lines (take l.index l.reports));
+  kept : g.W.WriteLines.failed l.initial.out → g.W.WriteLines.failed l.out;
+}

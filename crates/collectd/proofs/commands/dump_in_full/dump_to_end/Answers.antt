@@ -1,6 +1,7 @@
 use Rattle.std.proofs.Common.{refl}
 use Rattle.ipfix_dump.proofs.Writing.{dumps_all}
 use Rattle.collectd.proofs.Ran.{zero_if_well}
+use Rattle.collectd.proofs.LinesTold.{is_told}
 use Rattle.collectd.proofs.FullDumped.{dumps_short, well_no_fault}
 use Rattle.collectd.proofs.commands.dump_in_full.dump_to_end.Goals as goal
 
@@ -12,8 +13,13 @@ returns-in-Ok-clause-all g c = λ zero.
 
 pub returns-in-Ok-clause-dumped : goal.returns-in-Ok-clause-dumped
 returns-in-Ok-clause-dumped g c = λ ran.
+    let told = rw (c.from_ref.ensures.value, c.from_ref-in-Ok.ensures.value) at c.write_told_reports.ensures.told in
     record {
       full = c.in-Ok.full;
       dumps = c.in-Ok.ensures;
+      told = is_told _ _ _ c.write_told_reports.result _ told c.write_told_reports.ensures.failed;
       status_is = zero_if_well c.end_of.result c.number.result _ c.number.ensures c.end_of.ensures.ends c.end_of.ensures.well;
     }
+
+pub returns-in-Err-clause-failed : goal.returns-in-Err-clause-failed
+returns-in-Err-clause-failed g c = λ failed. (c.in-Err.fault, is_told _ _ _ c.write_dump_fault.result _ c.write_dump_fault.ensures.told c.write_dump_fault.ensures.failed)

@@ -1,0 +1,7 @@
+-- What it is that lines were told.
+use Rattle.std.specs.Prelude.{ℕ, ◌⊎◌, List, Option}
+use Rattle.std.specs.Io.KnownBytes.{Appends}
+
+-- exactly these lines were told; or a write failed, if the second fact holds
+abbrev pub AreTold : Option (List ℕ) → Option (List ℕ) → Type 0 → List ℕ → Type 0
+AreTold old new HasFailed lines = Appends old new lines ⊎ HasFailed
