@@ -9,8 +9,9 @@ use crate::noted::Noted;
 use crate::refused::{write_refused, write_refused_output, write_refused_pool};
 use clap::ArgMatches;
 use collectd::{
-    DumpFault, Listening, Origin, Reason, Telling, run_dump_in_full, run_dump_json_in_full,
-    run_files_in_full, run_merge_in_full, run_tcp_in_full, write_dump_fault, write_not_had_because,
+    DumpFault, Listening, Origin, Reason, Remembering, Telling, run_dump_in_full,
+    run_dump_json_in_full, run_files_in_full, run_merge_in_full, run_tcp_in_full, write_dump_fault,
+    write_not_had_because,
 };
 use exit_status::Status;
 use fault_guide::run_explain;
@@ -23,7 +24,7 @@ use std::thread::Threads;
 
 /// `collectd dump`: standard input to standard output.
 pub fn dump(rt: &HostRuntime, chosen: &ArgMatches) -> Result<u8, Status> {
-    let mut err = rt.stderr();
+    let mut err = Remembering::new(rt.stderr());
     let Some(mut out) = buffered_output(rt) else {
         let _ = write_dump_fault(DumpFault::OutOfMemory, &mut err);
         return Err(Status::Failed);
@@ -51,8 +52,14 @@ pub fn dump(rt: &HostRuntime, chosen: &ArgMatches) -> Result<u8, Status> {
         // (the parser lets no other word through)
         None => return Err(Status::NotOpened),
     };
-    write_refused(telling, "read", "standard input", input.refused(), &mut err);
-    write_refused_output(telling, &out, &mut err);
+    write_refused(
+        telling,
+        "read",
+        "standard input",
+        input.refused(),
+        &mut rt.stderr(),
+    );
+    write_refused_output(telling, &out, &mut rt.stderr());
     Ok(status)
 }
 
@@ -82,7 +89,7 @@ pub fn files<R: Clock + Threads + Wait + Sync>(
         read_progress(&terminal, rt, chosen),
         read_telling(chosen),
         &mut out,
-        &mut err,
+        &mut Remembering::new(rt.stderr()),
     );
     write_refused_output(read_telling(chosen), &out, &mut err);
     write_refused_pool(status, read_telling(chosen), pool, paths.len(), &mut err);
@@ -118,7 +125,7 @@ pub fn tcp<R: Clock + Threads + Wait + Sync>(
         read_progress(&terminal, rt, chosen),
         read_telling(chosen),
         &mut out,
-        &mut err,
+        &mut Remembering::new(rt.stderr()),
     );
     write_refused_output(read_telling(chosen), &out, &mut err);
     write_refused_pool(
@@ -163,7 +170,7 @@ pub fn merge(rt: &HostRuntime, chosen: &ArgMatches) -> Result<u8, Status> {
         job.output,
         read_telling(chosen),
         &mut out,
-        &mut err,
+        &mut Remembering::new(rt.stderr()),
     );
     write_refused_output(read_telling(chosen), &out, &mut err);
     Ok(status)
