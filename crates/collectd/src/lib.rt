@@ -26,6 +26,7 @@ pub use run_reports::{
     Origin, Reason, Remembering, Telling, write_dump_fault, write_export_fault, write_not_had,
     write_not_had_because, write_plan_fault, write_reports, write_tally,
 };
-pub use sources::accepting::{Accepted, Listener, Listening};
+pub use sources::accepting::{Accepted, Listener};
+pub use sources::listening::Listening;
 pub use sources::opening::{OpenSource, Opened};
 pub use table::{Output, run};

@@ -11,17 +11,17 @@ ghost use Rattle.collectd.specs.FullRuns.{fault_of_pool, IsFileNamed, RunsInFull
 ghost use Rattle.collectd.specs.Had.{AreOpened};
 ghost use Rattle.collectd.specs.Told.{TellsFailedRun, TellsFault, TellsNotOpened, TellsRun};
 
+use super::paths::run_paths;
 use crate::collect_fault::write_collect_fault;
 use crate::early::refused_early;
-use crate::full_run::{NOTHING_MORE, run_in_full};
+use crate::full_run::NOTHING_MORE;
 use crate::sources::opening::OpenSource;
-use crate::sources::opening_all::{NotOpened, OpenedAll, open_all};
 use crate::table::Output;
 use exit_status::Status;
 use flow_collect::Pool;
 use flow_table::Plan;
 use ipfix_session::Source;
-use run_reports::{Telling, WriteLines, write_not_had_because};
+use run_reports::{Telling, WriteLines};
 use std::alloc::Global;
 use std::io::Write;
 use std::rt::Clock;
@@ -92,7 +92,7 @@ pub fn run_files<
     )
 }
 
-/// Does as [`run_files`], and tells more if `telling` asks for it, as [`run_in_full`]: in verbose lines each file
+/// Does as [`run_files`], and tells more if `telling` asks for it, as [`run_in_full`](crate::run_in_full): in verbose lines each file
 /// that is opened, and the system's reason behind one that can't be. If the pool has a fault, no file is
 /// opened, and the status is 3.
 #[tactic(auto, using(crate::proofs::FullRan::whatever, crate::proofs::FullRan::even_if_none, crate::proofs::FullRan::not_if_some, crate::proofs::FullRan::not_if_none))]
@@ -155,68 +155,4 @@ pub fn run_files_in_full<
     run_paths(
         rt, alloc, files, paths, plan, pool, output, progress, telling, out, err,
     )
-}
-
-// Opens the files and runs them.
-#[tactic(auto, using(crate::proofs::FullRan::runs_in_full))]
-fn run_paths<
-    S: Source + Send + Drop,
-    O: OpenSource<S>,
-    P: Write + Copy + Drop + Send,
-    W: Write,
-    E: WriteLines,
-    R: Clock + Threads + Wait + Sync,
->(
-    rt: &R,
-    alloc: Global,
-    files: &mut O,
-    paths: &[&str],
-    plan: &Plan,
-    pool: Pool,
-    output: Output,
-    progress: Option<P>,
-    telling: Telling,
-    out: &mut W,
-    err: &mut E,
-) -> u8
-    ensures statuses { (result ≡ number_of Status.Well) ⊎ (result ≡ number_of Status.SessionFault)
-        ⊎ (result ≡ number_of Status.NotOpened) ⊎ (result ≡ number_of Status.Failed) }
-    ensures opened { result ≢ number_of Status.NotOpened
-        → RunsInFull S.seen (AreOpened (λ path. O.opens files.old path.now)
-        paths.now (O.coming files.old) (O.coming files.new))
-        telling.strict plan.now pool result
-        (λ fulls table. Writes plan.now output (W.contents out.old) (W.contents out.new) table
-        × TellsRun (AllZip (λ path. IsFileNamed path.now) paths.now) telling []
-        (AreTold (E.contents err.old) (E.contents err.new) (E.failed err.new)) fulls table.tally) }
-    ensures not_opened { result ≡ number_of Status.NotOpened → out.new ≡ out.old }
-    ensures refused { IfSome (fault_of_arguments pool (length paths.now))
-        (λ fault. ((result ≡ number_of Status.NotOpened) ⊎ (result ≡ number_of Status.Failed))
-        × (out.new ≡ out.old)) }
-    ensures failed { result ≡ number_of Status.Failed
-        → TellsFailedRun (AllZip (λ path. IsFileNamed path.now) paths.now) telling [] (out.new ≡ out.old)
-        (AreTold (E.contents err.old) (E.contents err.new) (E.failed err.new)) }
-    // Each file that was had was told, and then the path that can't be opened.
-    ensures stopped { result ≡ number_of Status.NotOpened
-        → TellsNotOpened (map (λ path. path.now) paths.now) telling
-        (AreTold (E.contents err.old) (E.contents err.new) (E.failed err.new)) }
-    ensures kept { E.failed err.old → E.failed err.new }
-{
-    match open_all(rt, alloc, files, paths, progress, telling, err) {
-        Ok(OpenedAll { sources, origins }) => run_in_full(
-            rt,
-            alloc,
-            sources.into_sources(),
-            &origins,
-            plan,
-            pool,
-            output,
-            telling,
-            out,
-            err,
-        ),
-        Err(NotOpened { path, reason }) => {
-            let _ = write_not_had_because(telling, "open", path, reason, err);
-            Status::NotOpened.number()
-        }
-    }
 }

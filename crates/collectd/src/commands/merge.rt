@@ -1,18 +1,16 @@
 //! Merging the exports in files.
 
-ghost use Rattle.std.specs.Prelude.{◌≡◌, ◌⊎◌, ℕ, List, [], ◌∷◌, IfErr, IfOk};
+ghost use Rattle.std.specs.Prelude.{◌≡◌, ◌⊎◌, ℕ, List, IfErr, IfOk};
 ghost use Rattle.exit_status.specs.Statuses.{number_of};
-ghost use Rattle.flow_table.specs.AddedUp.{rows_in, AreAddedUp};
 ghost use Rattle.flow_table.specs.Fitting.{FitsPlan};
-ghost use Rattle.flow_table.specs.SameTables.{RowValue};
 ghost use Rattle.flow_table.specs.declared.table.Table.{Table as TableValue};
-ghost use Rattle.flow_merge.specs.Merging.{merging_plan, StandsFor};
 ghost use Rattle.collectd.specs.Merges.{AddsFile, IsMerged, IsNotMerged, WritesMerged};
 ghost use Rattle.collectd.specs.Runs.{IsUnread};
-ghost use Rattle.collectd.specs.Had.{AreOpened, Came, IsOpened};
+ghost use Rattle.collectd.specs.Had.{AreOpened, IsOpened};
 
+use super::merge_ends::{begin, end};
 use crate::full_run::NOTHING_MORE;
-use crate::merge_reports::{write_file_fault, write_file_opened, write_merge_fault, write_merged};
+use crate::merge_reports::{write_file_fault, write_file_opened, write_merged};
 use crate::sources::opening::OpenSource;
 use crate::table::{Output, export};
 use exit_status::Status;
@@ -120,21 +118,6 @@ fn merge_files<S: Source + Drop, O: OpenSource<S>, E: WriteLines>(
     end(merging, err)
 }
 
-// Nothing merged.
-fn begin<E: WriteLines>(alloc: Global, plan: &Plan, err: &mut E) -> Result<Merging, Status>
-    ensures plan { IfOk result (λ m. merging_plan m ≡ plan.now) }
-    ensures empty { IfOk result (λ m. StandsFor m []) }
-    ensures status { IfErr result (λ status. status ≡ Status.Failed) }
-{
-    match Merging::new(alloc, plan) {
-        Ok(merging) => Ok(merging),
-        Err(fault) => {
-            let _ = write_merge_fault(fault, err);
-            Err(Status::Failed)
-        }
-    }
-}
-
 // Adds the file of this number, counted from 1.
 fn add_file<S: Source + Drop, O: OpenSource<S>, E: WriteLines>(
     files: &mut O,
@@ -183,23 +166,6 @@ fn open_file<S: Source, O: OpenSource<S>, E: WriteLines>(
         Err(reason) => {
             let _ = write_not_had_because(telling, "open", path, reason, err);
             Err(Status::NotOpened)
-        }
-    }
-}
-
-// The table of all that was added.
-fn end<E: WriteLines>(merging: Merging, err: &mut E) -> Result<Table, Status>
-    ensures rows { (rows : List RowValue)
-        → StandsFor merging rows → IfOk result (λ table. AreAddedUp rows (rows_in table)) }
-    ensures fits { (rows : List RowValue)
-        → StandsFor merging rows → IfOk result (FitsPlan (merging_plan merging)) }
-    ensures status { IfErr result (λ status. status ≡ Status.Failed) }
-{
-    match merging.finish() {
-        Ok(table) => Ok(table),
-        Err(fault) => {
-            let _ = write_merge_fault(fault, err);
-            Err(Status::Failed)
         }
     }
 }

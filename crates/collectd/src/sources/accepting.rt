@@ -1,6 +1,6 @@
 //! Accepting connections, one after another.
 
-ghost use Rattle.std.specs.Prelude.{◌≡◌, ◌<◌, ⊤, None, Some, IfOk, IfSome, IsErr, OnErr};
+ghost use Rattle.std.specs.Prelude.{◌≡◌, ◌<◌, IfOk, IfSome, IsErr, OnErr};
 ghost use Rattle.std.specs.Duration.{as_nanos};
 ghost use Rattle.run_reports.specs.Told.{AreTold};
 ghost use Rattle.collectd.specs.FullRuns.{ArePeers};
@@ -8,12 +8,12 @@ ghost use Rattle.collectd.specs.Had.{AreAccepted};
 ghost use Rattle.collectd.specs.Told.{opened_lines, TellsPeers};
 
 use super::unread::Unread;
-use ipfix_session::{FromReader, Source};
+use ipfix_session::Source;
 use run_reports::{Origin, Reason, Telling, WriteLines, write_opened};
 use session_progress::Watched;
 use std::alloc::Global;
 use std::io::Write;
-use std::net::{SocketAddr, TcpListener, TcpStream};
+use std::net::SocketAddr;
 use std::rt::Clock;
 use std::time::Duration;
 
@@ -61,55 +61,6 @@ pub trait Listener<S: Source> {
     fn close(&mut self)
         ensures closed { is_closed self.new }
         ensures none_came { coming self.new ≡ coming self.old };
-}
-
-/// The system's listener.
-#[derive(Drop)]
-pub struct Listening {
-    listener: Option<TcpListener>,
-}
-
-impl Listening {
-    /// A listener that is open.
-    pub fn new(listener: TcpListener) -> Self
-        ensures { result.listener ≡ Some listener }
-    {
-        Listening {
-            listener: Some(listener),
-        }
-    }
-}
-
-impl Listener<FromReader<TcpStream>> for Listening {
-    ghost gives = { λ _ _ _. ⊤ };
-
-    ghost coming = { λ _. None };
-
-    ghost is_closed = { λ l. l.listener ≡ None };
-
-    fn next_source(
-        &mut self,
-        idle: Option<Duration>,
-    ) -> Result<Accepted<FromReader<TcpStream>>, Reason> {
-        let Some(listener) = &self.listener else {
-            return Err(Reason::Other);
-        };
-        let (stream, peer) = match listener.accept() {
-            Ok(connection) => connection,
-            Err(error) => return Err(Reason::of(&error)),
-        };
-        if let Err(error) = stream.set_read_timeout(idle) {
-            return Err(Reason::of(&error));
-        }
-        Ok(Accepted {
-            source: FromReader::new(stream),
-            peer,
-        })
-    }
-
-    fn close(&mut self) {
-        self.listener = None;
-    }
 }
 
 /// Connections that were accepted, and the origins of their sessions.

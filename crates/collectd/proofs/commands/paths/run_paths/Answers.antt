@@ -3,7 +3,7 @@ use Rattle.collectd.proofs.Had.{one_for_each}
 use Rattle.collectd.proofs.Ran.{one_of_four, refused_for}
 use Rattle.collectd.proofs.FullRan.{runs_in_full}
 use Rattle.collectd.proofs.LinesTold.{both_told, fault_told, never_two, stops_then}
-use Rattle.collectd.proofs.commands.files.run_paths.Goals as goal
+use Rattle.collectd.proofs.commands.paths.run_paths.Goals as goal
 
 pub returns-in-Ok-clause-statuses : goal.returns-in-Ok-clause-statuses
 returns-in-Ok-clause-statuses g c = one_of_four c.run_in_full.result c.run_in_full.ensures.statuses
