@@ -1,3 +1,4 @@
 mod inputs;
 mod plans;
 mod sessions;
+mod waiting;

@@ -1,6 +1,6 @@
 //! Runs over files and connections that are in memory.
 
-ghost use Rattle.std.specs.Prelude.{⊤, IfSome};
+ghost use Rattle.std.specs.Prelude.{◌≡◌, ⊤, None, IfSome, true};
 ghost use Rattle.collectd.specs.Runs.{IsUnread};
 
 use super::sessions::{BY_SOURCE, CSV, POOL};
@@ -33,9 +33,17 @@ fn peer() -> SocketAddr {
 #[derive(Drop)]
 struct Inputs {
     alloc: Global,
+    closed: bool,
 }
 
 impl Inputs {
+    fn new(alloc: Global) -> Self {
+        Inputs {
+            alloc,
+            closed: false,
+        }
+    }
+
     fn source(&self, path: &str) -> Option<ScriptSource>
         ensures { IfSome result (IsUnread ⟦<ScriptSource as Source>⟧.seen) }
     {
@@ -65,7 +73,9 @@ fn joined(
 impl OpenSource<ScriptSource> for Inputs {
     ghost opens = { λ _ _ _. ⊤ };
 
-    fn open_source(&self, path: &str) -> Result<Opened<ScriptSource>, Reason> {
+    ghost coming = { λ _. None };
+
+    fn open_source(&mut self, path: &str) -> Result<Opened<ScriptSource>, Reason> {
         match self.source(path) {
             Some(source) => Ok(Opened { source, size: None }),
             None => Err(Reason::NoSuchFile),
@@ -77,7 +87,14 @@ impl OpenSource<ScriptSource> for Inputs {
 impl Listener<ScriptSource> for Inputs {
     ghost gives = { λ _ _ _. ⊤ };
 
-    fn next_source(&self, idle: Option<Duration>) -> Result<Accepted<ScriptSource>, Reason> {
+    ghost coming = { λ _. None };
+
+    ghost is_closed = { λ i. i.closed ≡ true };
+
+    fn next_source(&mut self, idle: Option<Duration>) -> Result<Accepted<ScriptSource>, Reason> {
+        if self.closed {
+            return Err(Reason::Other);
+        }
         if let Some(limit) = idle
             && limit.is_zero()
         {
@@ -91,6 +108,10 @@ impl Listener<ScriptSource> for Inputs {
             None => Err(Reason::NoSuchFile),
         }
     }
+
+    fn close(&mut self) {
+        self.closed = true;
+    }
 }
 
 // What is written by a run of these files, what is told of it, and the status, one behind the other.
@@ -99,13 +120,13 @@ fn run_paths<R: Clock + Threads + Wait + Sync>(
     alloc: Global,
     paths: &[&str],
 ) -> Result<Vec<u8>, Fail> {
-    let inputs = Inputs { alloc };
+    let mut inputs = Inputs::new(alloc);
     let plan = read_plan(alloc, BY_SOURCE)?;
     let (mut out, mut err) = (Vec::new(alloc), Vec::new(alloc));
     let status = run_files(
         rt,
         alloc,
-        &inputs,
+        &mut inputs,
         paths,
         &plan,
         POOL,
@@ -144,13 +165,13 @@ fn run_told<R: Clock + Threads + Wait + Sync>(
     pool: Pool,
     telling: Telling,
 ) -> Result<Vec<u8>, Fail> {
-    let inputs = Inputs { alloc };
+    let mut inputs = Inputs::new(alloc);
     let plan = read_plan(alloc, BY_SOURCE)?;
     let (mut out, mut err) = (Vec::new(alloc), Vec::new(alloc));
     let status = run_files_in_full(
         rt,
         alloc,
-        &inputs,
+        &mut inputs,
         paths,
         &plan,
         pool,
@@ -204,11 +225,11 @@ fn opens_no_file_for_a_pool_without_workers(rt: HostRuntime) -> Result<(), Fail>
 
 // The same of the merge of two files with the same row.
 fn merged(alloc: Global) -> Result<Vec<u8>, Fail> {
-    let inputs = Inputs { alloc };
+    let mut inputs = Inputs::new(alloc);
     let plan = read_plan(alloc, BY_SOURCE)?;
     let (mut out, mut err) = (Vec::new(alloc), Vec::new(alloc));
     let paths = ["export", "export"];
-    let status = run_merge(&inputs, alloc, &paths, &plan, CSV, &mut out, &mut err);
+    let status = run_merge(&mut inputs, alloc, &paths, &plan, CSV, &mut out, &mut err);
     joined_with(status, out, &err)
 }
 
@@ -229,13 +250,13 @@ fn run_peers<R: Clock + Threads + Wait + Sync>(
     alloc: Global,
     idle: Option<Duration>,
 ) -> Result<Vec<u8>, Fail> {
-    let inputs = Inputs { alloc };
+    let mut inputs = Inputs::new(alloc);
     let plan = read_plan(alloc, BY_SOURCE)?;
     let (mut out, mut err) = (Vec::new(alloc), Vec::new(alloc));
     let status = run_tcp(
         rt,
         alloc,
-        inputs,
+        &mut inputs,
         "peers",
         3,
         idle,
@@ -262,7 +283,7 @@ collectd: records: used 6 options 0 untimed 0 backward 0 unkeyed 0 too_long 0
 
 #[test]
 fn tells_connections_by_their_peers(rt: HostRuntime) -> Result<(), Fail> {
-    let inputs = Inputs { alloc: rt.alloc() };
+    let mut inputs = Inputs::new(rt.alloc());
     let plan = read_plan(rt.alloc(), BY_SOURCE)?;
     let (mut out, mut err) = (Vec::new(rt.alloc()), Vec::new(rt.alloc()));
     let telling = Telling {
@@ -272,7 +293,7 @@ fn tells_connections_by_their_peers(rt: HostRuntime) -> Result<(), Fail> {
     let status = run_tcp_in_full(
         &rt,
         rt.alloc(),
-        inputs,
+        &mut inputs,
         "peers",
         1,
         None,
