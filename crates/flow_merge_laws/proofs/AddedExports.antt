@@ -6,6 +6,7 @@ use Rattle.std.specs.Option.{ForSome}
 use Rattle.ipfix_message.specs.declared.record.DataRecord.{DataRecord}
 use Rattle.ipfix_session.specs.Sources.{SourceView}
 use Rattle.flow_table.specs.AddedUp.{rows_in, AreAddedUp}
+use Rattle.flow_table.specs.Missing.{missing_of}
 use Rattle.flow_table.specs.Plans.{PlanValue}
 use Rattle.flow_table.specs.SameTables.{RowValue}
 use Rattle.flow_table.specs.Tables.{tally_of, IsTable}
@@ -35,4 +36,4 @@ module _ {S : Type 0} (seen : S → SourceView) (limit : ℕ) (plan : PlanValue)
   pub all_records : (sources : List S) (lists : List (List DataRecord)) (table : Table) → AreExportsOf seen plan sources lists → AddsAllUp seen limit plan sources table → HasRowsOf plan (all_of lists) table
   all_records sources lists table hold adds =
       let tables = given_tables sources lists adds.exports hold adds.given in
-      tables_are_added plan lists tables.0 (record table { tally = tally_of plan (all_of lists) }) tables.1 (subst (λ (l : List RowValue). AreAddedUp l (rows_in table)) tables.2 adds.added_up) refl
+      tables_are_added plan lists tables.0 (record table { tally = tally_of plan (all_of lists); missing = missing_of plan (all_of lists) }) tables.1 (subst (λ (l : List RowValue). AreAddedUp l (rows_in table)) tables.2 adds.added_up) refl refl

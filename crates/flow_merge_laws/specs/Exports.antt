@@ -7,6 +7,7 @@ use Rattle.ipfix_session.specs.declared.fault.SessionFault.TheVariants as sessio
 use Rattle.ipfix_session.specs.Sources.{SourceView}
 use Rattle.flow_table.specs.AddedUp.{rows_in}
 use Rattle.flow_table.specs.Fitting.{FitsPlan}
+use Rattle.flow_table.specs.Missing.{missing_of}
 use Rattle.flow_table.specs.Plans.{PlanValue, IsPlan}
 use Rattle.flow_table.specs.SameTables.{RowValue}
 use Rattle.flow_table.specs.Tables.{tally_of, IsTable}
@@ -47,9 +48,9 @@ IsExportFault large (Session sessions.TooManyReads) = Unit {0}
 IsExportFault large SumTooLarge = large
 IsExportFault large fault = ⊥
 
--- the table with the records by class that exports don't tell
-abbrev pub with_tally : PlanValue → List DataRecord → Table → Table
-with_tally plan rs table = record table { tally = tally_of plan rs }
+-- the table with the records by class that exports don't tell, and with what they lack
+abbrev pub with_counts : PlanValue → List DataRecord → Table → Table
+with_counts plan rs table = record table { tally = tally_of plan rs; missing = missing_of plan rs }
 
 -- a table that can be exported at a time: it fits a plan of intervals below 2^32 ms, and has fewer than 2^32 rows
 pub record IsExportable (plan : PlanValue) (table : Table) (time : ℕ) : Type 0 where

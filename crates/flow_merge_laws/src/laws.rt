@@ -16,7 +16,7 @@ ghost use Rattle.flow_merge.specs.declared.merge_fault.MergeFault.{MergeFault};
 ghost use Rattle.flow_merge.specs.declared.merging.Merging.{Merging};
 ghost use Rattle.flow_merge.specs.declared.row_fault.RowFault.{RowFault};
 ghost use Rattle.flow_merge.specs.declared.row_fault.RowFault.TheVariants.{OutOfMemory};
-ghost use Rattle.flow_merge_laws.specs.Exports.{AreExportsOf, HoldsExport, IsExportable, IsExportFault, IsExportOf, with_tally};
+ghost use Rattle.flow_merge_laws.specs.Exports.{AreExportsOf, HoldsExport, IsExportable, IsExportFault, IsExportOf, with_counts};
 
 use ipfix_session::Source;
 
@@ -73,7 +73,7 @@ pub fn exports_add_up_to_all_records<S: Source>()
 pub fn merged_is_merged_again()
     ensures { (plan : PlanValue) (rs : List DataRecord) (merged : Table) (time : ℕ)
         → HasRowsOf plan rs merged → IsExportable plan merged time
-        → IsExportOf plan rs (with_tally plan rs merged) (ipfix_text plan time (rows_in merged)) }
+        → IsExportOf plan rs (with_counts plan rs merged) (ipfix_text plan time (rows_in merged)) }
 {}
 
 /// However records are split over exports, and in whatever order and tree these are merged, the rows

@@ -5,7 +5,7 @@ ghost use Rattle.std.specs.List.{AllZip};
 ghost use Rattle.ipfix_message.specs.declared.record.DataRecord.{DataRecord};
 ghost use Rattle.flow_table.specs.AddedUp.{HasTooLargeRow};
 ghost use Rattle.flow_table.specs.Fitting.{FitsPlan};
-ghost use Rattle.flow_merge.specs.Merging.{all_of, AddsAllUp, HasRowsOf, no_records};
+ghost use Rattle.flow_merge.specs.Merging.{all_of, AddsAllUp, HasRowsOf, no_records, none_missing};
 ghost use Rattle.flow_merge.specs.declared.merge_fault.MergeFault.TheVariants.{OutOfMemory};
 ghost use Rattle.flow_merge_laws.specs.Exports.{AreExportsOf, IsExportFault, StopsAt};
 
@@ -17,7 +17,7 @@ use std::collections::VecDeque;
 
 /// Merges the exports that the sources hold, one after another, each in at most `limit` reads: if they
 /// are those of the tables of some lists of records, the rows are those of the table of all these
-/// records (RFC 7015, section 5). Its tally is 0.
+/// records (RFC 7015, section 5). Its tally is 0, and nothing is missing.
 ///
 /// The fault is that of the first source that has one, as [`Merging::read`] answers it, or
 /// `OutOfMemory`.
@@ -46,6 +46,7 @@ pub fn merge<S: Source + Drop>(
     // The table fits the plan, as an export asks.
     ensures fits { IfOk result (FitsPlan plan.now) }
     ensures tally { IfOk result (λ table. table.tally ≡ no_records) }
+    ensures missing { IfOk result (λ table. table.missing ≡ none_missing) }
 {
     let mut merging = Merging::new(alloc, plan)?;
     let mut waiting = VecDeque::from_vec(sources);
