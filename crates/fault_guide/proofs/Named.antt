@@ -3,57 +3,60 @@ use Rattle.std.proofs.Common.{◌≡◌, ◌||◌, ℕ, List, Option, Some, find
 use Rattle.std.specs.Fmt.{decimal, digits}
 use Rattle.std.specs.Str.{bytes_eq, str_to_ascii_lowercase}
 use Rattle.ipfix_message.specs.declared.fault.MessageFault.TheVariants.{Version, MessageLength, SetHeader, SetLength, TemplateId, TemplateCut, Scope, ZeroLength, TemplateChanged, RecordCut, TooManyDomains, OutOfMemory, Spent}
-use Rattle.ipfix_session.specs.declared.fault.SessionFault.{SessionFault}
+use Rattle.fault_guide.specs.declared.ending_fault.EndingFault.{EndingFault}
+use Rattle.fault_guide.specs.declared.ending_fault.EndingFault.TheVariants.{Session, NotWritten}
 use Rattle.ipfix_session.specs.declared.fault.SessionFault.TheVariants.{Message, Truncated, ReadFailed, TooManyReads, SinkClosed}
-use Rattle.ipfix_session.specs.Faults.{number_of, name_of}
+use Rattle.fault_guide.specs.EndingFaults.{number_of, name_of}
 use Rattle.fault_guide.specs.Explained.{named, IsWordOf}
 use Rattle.fault_guide.specs.declared.faults.TheConstants.{FAULTS}
 
 -- the fault that a word names, of the word in lower case
-found : List ℕ → Option SessionFault
+found : List ℕ → Option EndingFault
 found lower = find (λ fault. bytes_eq lower (str_to_ascii_lowercase (decimal (number_of fault))) || bytes_eq lower (str_to_ascii_lowercase (name_of fault))) FAULTS
 
-by_number : (fault : SessionFault) → found (str_to_ascii_lowercase (decimal (number_of fault))) ≡ Some fault
+by_number : (fault : EndingFault) → found (str_to_ascii_lowercase (decimal (number_of fault))) ≡ Some fault
 unfolding found digits
-by_number (Message Version) = refl
-by_number (Message MessageLength) = refl
-by_number (Message SetHeader) = refl
-by_number (Message SetLength) = refl
-by_number (Message TemplateId) = refl
-by_number (Message TemplateCut) = refl
-by_number (Message Scope) = refl
-by_number (Message ZeroLength) = refl
-by_number (Message TemplateChanged) = refl
-by_number (Message RecordCut) = refl
-by_number (Message TooManyDomains) = refl
-by_number (Message OutOfMemory) = refl
-by_number (Message Spent) = refl
-by_number Truncated = refl
-by_number ReadFailed = refl
-by_number TooManyReads = refl
-by_number SinkClosed = refl
+by_number (Session (Message Version)) = refl
+by_number (Session (Message MessageLength)) = refl
+by_number (Session (Message SetHeader)) = refl
+by_number (Session (Message SetLength)) = refl
+by_number (Session (Message TemplateId)) = refl
+by_number (Session (Message TemplateCut)) = refl
+by_number (Session (Message Scope)) = refl
+by_number (Session (Message ZeroLength)) = refl
+by_number (Session (Message TemplateChanged)) = refl
+by_number (Session (Message RecordCut)) = refl
+by_number (Session (Message TooManyDomains)) = refl
+by_number (Session (Message OutOfMemory)) = refl
+by_number (Session (Message Spent)) = refl
+by_number (Session Truncated) = refl
+by_number (Session ReadFailed) = refl
+by_number (Session TooManyReads) = refl
+by_number (Session SinkClosed) = refl
+by_number NotWritten = refl
 
-by_name : (fault : SessionFault) → found (str_to_ascii_lowercase (name_of fault)) ≡ Some fault
+by_name : (fault : EndingFault) → found (str_to_ascii_lowercase (name_of fault)) ≡ Some fault
 unfolding found digits
-by_name (Message Version) = refl
-by_name (Message MessageLength) = refl
-by_name (Message SetHeader) = refl
-by_name (Message SetLength) = refl
-by_name (Message TemplateId) = refl
-by_name (Message TemplateCut) = refl
-by_name (Message Scope) = refl
-by_name (Message ZeroLength) = refl
-by_name (Message TemplateChanged) = refl
-by_name (Message RecordCut) = refl
-by_name (Message TooManyDomains) = refl
-by_name (Message OutOfMemory) = refl
-by_name (Message Spent) = refl
-by_name Truncated = refl
-by_name ReadFailed = refl
-by_name TooManyReads = refl
-by_name SinkClosed = refl
+by_name (Session (Message Version)) = refl
+by_name (Session (Message MessageLength)) = refl
+by_name (Session (Message SetHeader)) = refl
+by_name (Session (Message SetLength)) = refl
+by_name (Session (Message TemplateId)) = refl
+by_name (Session (Message TemplateCut)) = refl
+by_name (Session (Message Scope)) = refl
+by_name (Session (Message ZeroLength)) = refl
+by_name (Session (Message TemplateChanged)) = refl
+by_name (Session (Message RecordCut)) = refl
+by_name (Session (Message TooManyDomains)) = refl
+by_name (Session (Message OutOfMemory)) = refl
+by_name (Session (Message Spent)) = refl
+by_name (Session Truncated) = refl
+by_name (Session ReadFailed) = refl
+by_name (Session TooManyReads) = refl
+by_name (Session SinkClosed) = refl
+by_name NotWritten = refl
 
-pub each : (word : List ℕ) (fault : SessionFault) → IsWordOf word fault → named word ≡ Some fault
+pub each : (word : List ℕ) (fault : EndingFault) → IsWordOf word fault → named word ≡ Some fault
 unfolding found named
 each word fault (inl is) = subst (λ (lower : List ℕ). found lower ≡ Some fault) (sym is) (by_number fault)
 each word fault (inr is) = subst (λ (lower : List ℕ). found lower ≡ Some fault) (sym is) (by_name fault)

@@ -4,6 +4,8 @@ use Rattle.ipfix_message.specs.declared.fault.MessageFault.{MessageFault}
 use Rattle.ipfix_message.specs.declared.fault.MessageFault.TheVariants.{Version, MessageLength, SetHeader, SetLength, TemplateId, TemplateCut, Scope, ZeroLength, TemplateChanged, RecordCut, TooManyDomains, OutOfMemory, Spent}
 use Rattle.ipfix_session.specs.declared.fault.SessionFault.{SessionFault}
 use Rattle.ipfix_session.specs.declared.fault.SessionFault.TheVariants.{Message, Truncated, ReadFailed, TooManyReads, SinkClosed}
+use Rattle.fault_guide.specs.declared.ending_fault.EndingFault.{EndingFault}
+use Rattle.fault_guide.specs.declared.ending_fault.EndingFault.TheVariants.{Session, NotWritten}
 
 -- what was found, by which rule it is a fault, and what an operator does about it
 pub record Texts : Type 0 where
@@ -42,13 +44,18 @@ texts_of_message OutOfMemory = texts (codes "memory was refused; may stand in pl
 texts_of_message Spent = texts (codes "an earlier message of the session had a fault") (codes "none of RFC 7011")
     (codes "Look for the fault of that message: it came first.")
 
-abbrev pub texts_of : SessionFault → Texts
-texts_of (Message fault) = texts_of_message fault
-texts_of Truncated = texts (codes "the input ended inside a message") (codes "RFC 7011, section 3.1")
+abbrev pub texts_of_session : SessionFault → Texts
+texts_of_session (Message fault) = texts_of_message fault
+texts_of_session Truncated = texts (codes "the input ended inside a message") (codes "RFC 7011, section 3.1")
     (codes "The file was cut, or the exporter was stopped while it sent. A tunnel that is killed\nends a session in the same way (seen with stunnel). Copy the file again, or find out why.")
-texts_of ReadFailed = texts (codes "the input could not be read on, or sent nothing for as long as --idle says") (codes "none of RFC 7011")
+texts_of_session ReadFailed = texts (codes "the input could not be read on, or sent nothing for as long as --idle says") (codes "none of RFC 7011")
     (codes "The connection was reset or fell silent, or the file's disk fails. Look at the logs of\nthe system and of the exporter, and let it connect again.")
-texts_of TooManyReads = texts (codes "the input had not ended after 2^40 reads") (codes "none of RFC 7011")
+texts_of_session TooManyReads = texts (codes "the input had not ended after 2^40 reads") (codes "none of RFC 7011")
     (codes "End the session earlier, and begin another one.")
-texts_of SinkClosed = texts (codes "the sink takes no more records") (codes "none of RFC 7011")
+texts_of_session SinkClosed = texts (codes "the sink takes no more records") (codes "none of RFC 7011")
     (codes "What the records went to has ended. Look for the fault that it reports.")
+
+abbrev pub texts_of : EndingFault → Texts
+texts_of (Session fault) = texts_of_session fault
+texts_of NotWritten = texts (codes "a file of the recorded session could not be written, or not be finished") (codes "none of RFC 7011")
+    (codes "Look for a full disk, or for a folder without permission. The messages that were written\nstand whole in the session's files. Let the exporter connect again.")

@@ -1,4 +1,5 @@
 -- what public contracts cite
+pub mod EndingFaults
 pub mod Explained
 pub mod Guide
 pub mod RunFaults

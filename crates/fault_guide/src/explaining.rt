@@ -4,35 +4,35 @@ ghost use Rattle.std.specs.Prelude.{◌≡◌, ◌⊎◌, ◌↔◌, find, None,
 ghost use Rattle.std.specs.List.{flat_map};
 ghost use Rattle.std.specs.Option.{option_map};
 ghost use Rattle.std.specs.Io.KnownBytes.{Appends};
-ghost use Rattle.ipfix_session.specs.declared.fault.SessionFault.{SessionFault};
+ghost use Rattle.fault_guide.specs.declared.ending_fault.EndingFault.{EndingFault};
 ghost use Rattle.fault_guide.specs.Explained.{IsWordOf, answer, explanation_text, failed_line, fault_line, list_text, named, names, rule_lines};
 
+use crate::ending_fault::EndingFault;
 use crate::faults::FAULTS;
 use crate::guide::Explanation;
 use crate::run_explaining::{explain_run_fault, run_fault_named, write_run_fault_lines};
 use crate::run_faults::RUN_FAULTS;
 use exit_status::Status;
-use ipfix_session::SessionFault;
 use itoa::Buffer;
 use std::io::{self, Write};
 
-/// The session's fault that a word names: by its number in decimal, or by its name in any letter case.
-pub fn fault_named(word: &str) -> Option<SessionFault>
+/// The fault that ends a session and that a word names: by its number in decimal, or by its name in any letter case.
+pub fn fault_named(word: &str) -> Option<EndingFault>
     // Each fault is found by both.
-    ensures each { (fault : SessionFault) → IsWordOf word.now fault → result ≡ Some fault }
+    ensures each { (fault : EndingFault) → IsWordOf word.now fault → result ≡ Some fault }
     ensures exact { result ≡ named word.now }
 {
     named_fault(word)
 }
 
 #[tactic(auto, unfolding(crate::specs::Explained::named))]
-fn named_fault(word: &str) -> Option<SessionFault>
+fn named_fault(word: &str) -> Option<EndingFault>
     ensures { result ≡ named word.now }
 {
     find_fault(&FAULTS, word)
 }
 
-fn find_fault(mut faults: &'static [SessionFault], word: &str) -> Option<SessionFault>
+fn find_fault(mut faults: &'static [EndingFault], word: &str) -> Option<EndingFault>
     ensures { result ≡ find (names word.now) faults.entry.now }
 {
     while let [fault, rest @ ..] = faults {
@@ -44,7 +44,7 @@ fn find_fault(mut faults: &'static [SessionFault], word: &str) -> Option<Session
     None
 }
 
-fn is_named(fault: SessionFault, word: &str) -> bool
+fn is_named(fault: EndingFault, word: &str) -> bool
     ensures { result ≡ names word.now fault }
 {
     let mut digits = Buffer::new();
@@ -53,7 +53,7 @@ fn is_named(fault: SessionFault, word: &str) -> bool
 }
 
 /// Writes the explanation of a fault, and flushes the writer.
-pub fn explain<W: Write>(fault: SessionFault, out: &mut W) -> io::Result<()>
+pub fn explain<W: Write>(fault: EndingFault, out: &mut W) -> io::Result<()>
     ensures { OnOk result (Appends (W.contents out.old) (W.contents out.new)
         (explanation_text fault)) }
 {
@@ -64,7 +64,7 @@ pub fn explain<W: Write>(fault: SessionFault, out: &mut W) -> io::Result<()>
 }
 
 #[tactic(auto, unfolding(crate::specs::Explained::fault_line))]
-fn write_fault_line<W: Write>(fault: SessionFault, out: &mut W) -> io::Result<()>
+fn write_fault_line<W: Write>(fault: EndingFault, out: &mut W) -> io::Result<()>
     ensures { OnOk result (Appends (W.contents out.old) (W.contents out.new) (fault_line fault)) }
 {
     let (number, name) = (fault.number(), fault.name());
@@ -73,14 +73,14 @@ fn write_fault_line<W: Write>(fault: SessionFault, out: &mut W) -> io::Result<()
 }
 
 #[tactic(auto, unfolding(crate::specs::Explained::rule_lines))]
-fn write_rule_lines<W: Write>(fault: SessionFault, out: &mut W) -> io::Result<()>
+fn write_rule_lines<W: Write>(fault: EndingFault, out: &mut W) -> io::Result<()>
     ensures { OnOk result (Appends (W.contents out.old) (W.contents out.new) (rule_lines fault)) }
 {
     let Explanation { rule, advice, .. } = Explanation::of(fault);
     writeln!(out, "rule: {rule}\n{advice}")
 }
 
-/// Writes a line for each fault of a session, in the order of their numbers, and then for each that
+/// Writes a line for each fault that ends a session, in the order of their numbers, and then for each that
 /// ends a run, and flushes the writer.
 pub fn list_faults<W: Write>(out: &mut W) -> io::Result<()>
     ensures { OnOk result (Appends (W.contents out.old) (W.contents out.new) list_text) }
@@ -90,7 +90,7 @@ pub fn list_faults<W: Write>(out: &mut W) -> io::Result<()>
     out.flush()
 }
 
-fn write_fault_lines<W: Write>(faults: &[SessionFault], out: &mut W) -> io::Result<()>
+fn write_fault_lines<W: Write>(faults: &[EndingFault], out: &mut W) -> io::Result<()>
     ensures { OnOk result (Appends (W.contents out.old) (W.contents out.new)
         (flat_map fault_line faults.now)) }
 {

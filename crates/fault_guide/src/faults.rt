@@ -1,25 +1,27 @@
 //! The faults that are explained.
 
+use crate::ending_fault::EndingFault;
 use ipfix_message::MessageFault;
 use ipfix_session::SessionFault;
 
-/// Each fault of a session, in the order of their numbers.
-pub const FAULTS: [SessionFault; 17] = [
-    SessionFault::Message(MessageFault::Version),
-    SessionFault::Message(MessageFault::MessageLength),
-    SessionFault::Message(MessageFault::SetHeader),
-    SessionFault::Message(MessageFault::SetLength),
-    SessionFault::Message(MessageFault::TemplateId),
-    SessionFault::Message(MessageFault::TemplateCut),
-    SessionFault::Message(MessageFault::Scope),
-    SessionFault::Message(MessageFault::ZeroLength),
-    SessionFault::Message(MessageFault::TemplateChanged),
-    SessionFault::Message(MessageFault::RecordCut),
-    SessionFault::Message(MessageFault::TooManyDomains),
-    SessionFault::Message(MessageFault::OutOfMemory),
-    SessionFault::Message(MessageFault::Spent),
-    SessionFault::Truncated,
-    SessionFault::ReadFailed,
-    SessionFault::TooManyReads,
-    SessionFault::SinkClosed,
+/// Each fault that ends a session, in the order of their numbers.
+pub const FAULTS: [EndingFault; 18] = [
+    EndingFault::Session(SessionFault::Message(MessageFault::Version)),
+    EndingFault::Session(SessionFault::Message(MessageFault::MessageLength)),
+    EndingFault::Session(SessionFault::Message(MessageFault::SetHeader)),
+    EndingFault::Session(SessionFault::Message(MessageFault::SetLength)),
+    EndingFault::Session(SessionFault::Message(MessageFault::TemplateId)),
+    EndingFault::Session(SessionFault::Message(MessageFault::TemplateCut)),
+    EndingFault::Session(SessionFault::Message(MessageFault::Scope)),
+    EndingFault::Session(SessionFault::Message(MessageFault::ZeroLength)),
+    EndingFault::Session(SessionFault::Message(MessageFault::TemplateChanged)),
+    EndingFault::Session(SessionFault::Message(MessageFault::RecordCut)),
+    EndingFault::Session(SessionFault::Message(MessageFault::TooManyDomains)),
+    EndingFault::Session(SessionFault::Message(MessageFault::OutOfMemory)),
+    EndingFault::Session(SessionFault::Message(MessageFault::Spent)),
+    EndingFault::Session(SessionFault::Truncated),
+    EndingFault::Session(SessionFault::ReadFailed),
+    EndingFault::Session(SessionFault::TooManyReads),
+    EndingFault::Session(SessionFault::SinkClosed),
+    EndingFault::NotWritten,
 ];

@@ -1,8 +1,9 @@
 //! The explanation of each fault.
 
 ghost use Rattle.std.specs.Prelude.{◌≡◌};
-ghost use Rattle.fault_guide.specs.Guide.{texts_of, texts_of_message};
+ghost use Rattle.fault_guide.specs.Guide.{texts_of, texts_of_message, texts_of_session};
 
+use crate::ending_fault::EndingFault;
 use ipfix_message::MessageFault;
 use ipfix_session::SessionFault;
 
@@ -19,36 +20,52 @@ pub struct Explanation {
 
 impl Explanation {
     /// The explanation of this fault.
-    pub fn of(fault: SessionFault) -> Self
+    pub fn of(fault: EndingFault) -> Self
         ensures found { result.found.now ≡ (texts_of fault).found }
         ensures rule { result.rule.now ≡ (texts_of fault).rule }
         ensures advice { result.advice.now ≡ (texts_of fault).advice }
     {
         match fault {
-            SessionFault::Message(fault) => explanation_of_message(fault),
-            SessionFault::Truncated => Explanation {
-                found: "the input ended inside a message",
-                rule: "RFC 7011, section 3.1",
-                advice: "The file was cut, or the exporter was stopped while it sent. A tunnel that is killed\n\
-                    ends a session in the same way (seen with stunnel). Copy the file again, or find out why.",
-            },
-            SessionFault::ReadFailed => Explanation {
-                found: "the input could not be read on, or sent nothing for as long as --idle says",
+            EndingFault::Session(fault) => explanation_of_session(fault),
+            EndingFault::NotWritten => Explanation {
+                found: "a file of the recorded session could not be written, or not be finished",
                 rule: "none of RFC 7011",
-                advice: "The connection was reset or fell silent, or the file's disk fails. Look at the logs of\n\
-                    the system and of the exporter, and let it connect again.",
-            },
-            SessionFault::TooManyReads => Explanation {
-                found: "the input had not ended after 2^40 reads",
-                rule: "none of RFC 7011",
-                advice: "End the session earlier, and begin another one.",
-            },
-            SessionFault::SinkClosed => Explanation {
-                found: "the sink takes no more records",
-                rule: "none of RFC 7011",
-                advice: "What the records went to has ended. Look for the fault that it reports.",
+                advice: "Look for a full disk, or for a folder without permission. The messages that were written\n\
+                    stand whole in the session's files. Let the exporter connect again.",
             },
         }
+    }
+}
+
+fn explanation_of_session(fault: SessionFault) -> Explanation
+    ensures found { result.found.now ≡ (texts_of_session fault).found }
+    ensures rule { result.rule.now ≡ (texts_of_session fault).rule }
+    ensures advice { result.advice.now ≡ (texts_of_session fault).advice }
+{
+    match fault {
+        SessionFault::Message(fault) => explanation_of_message(fault),
+        SessionFault::Truncated => Explanation {
+            found: "the input ended inside a message",
+            rule: "RFC 7011, section 3.1",
+            advice: "The file was cut, or the exporter was stopped while it sent. A tunnel that is killed\n\
+                    ends a session in the same way (seen with stunnel). Copy the file again, or find out why.",
+        },
+        SessionFault::ReadFailed => Explanation {
+            found: "the input could not be read on, or sent nothing for as long as --idle says",
+            rule: "none of RFC 7011",
+            advice: "The connection was reset or fell silent, or the file's disk fails. Look at the logs of\n\
+                    the system and of the exporter, and let it connect again.",
+        },
+        SessionFault::TooManyReads => Explanation {
+            found: "the input had not ended after 2^40 reads",
+            rule: "none of RFC 7011",
+            advice: "End the session earlier, and begin another one.",
+        },
+        SessionFault::SinkClosed => Explanation {
+            found: "the sink takes no more records",
+            rule: "none of RFC 7011",
+            advice: "What the records went to has ended. Look for the fault that it reports.",
+        },
     }
 }
 

@@ -1,6 +1,7 @@
 //! Faults in plain words: what was found, by which rule it is a fault, and what an operator does about it.
 #![tactic(auto)]
 
+mod ending_fault;
 mod explaining;
 mod faults;
 mod guide;
@@ -9,6 +10,7 @@ mod run_explaining;
 mod run_faults;
 mod run_guide;
 
+pub use ending_fault::EndingFault;
 pub use explaining::{explain, fault_named, list_faults, run_explain};
 pub use faults::FAULTS;
 pub use guide::Explanation;
