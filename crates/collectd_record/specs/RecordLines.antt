@@ -5,7 +5,8 @@ use Rattle.std.specs.Net.Text.{socket_text}
 use Rattle.std.specs.declared.net.socket_addr.SocketAddr.{SocketAddr}
 use Rattle.ipfix_session.specs.declared.report.DomainReport.{DomainReport}
 use Rattle.ipfix_record.specs.declared.file_report.FileReport.{FileReport}
-use Rattle.run_reports.specs.ReportLines.{fault_text}
+use Rattle.record_folder.specs.declared.finished_files.Recovered.{Recovered}
+use Rattle.record_folder.specs.declared.finished_files.Recovered.TheVariants.{Whole, CutOff, Truncated, Removed, Stayed}
 
 -- ---- a file that is finished
 
@@ -41,7 +42,7 @@ abbrev pub peer_domain_lines : SocketAddr → DomainReport → List ℕ
 peer_domain_lines peer d = if (d.lost == 0) && (d.backward == 0) then [] else peer_loss_line (socket_text peer) d
 
 unfoldable pub peer_fault_line : List ℕ → ℕ → List ℕ → List ℕ
-peer_fault_line peer number name = codes "collectd: session " ++ (peer ++ fault_text number name)
+peer_fault_line peer number name = codes "collectd: session " ++ (peer ++ (codes ": fault " ++ (decimal number ++ (codes " " ++ (name ++ codes "\n")))))
 
 -- ---- peers that were refused
 
@@ -61,3 +62,18 @@ truncated_line path octets = codes "collectd: recovered: " ++ (path ++ (codes ":
 
 unfoldable pub stayed_line : List ℕ → List ℕ
 stayed_line path = codes "collectd: not recovered: " ++ (path ++ codes "\n")
+
+unfoldable pub removed_line : List ℕ → ℕ → List ℕ
+removed_line path octets = codes "collectd: not recovered: " ++ (path ++ (codes ": removed " ++ (decimal octets ++ codes " octets, no whole message\n")))
+
+abbrev pub outcome_line : List ℕ → Recovered → List ℕ
+outcome_line path Whole = recovered_line path
+outcome_line path (CutOff octets) = cut_off_line path octets
+outcome_line path (Truncated octets) = truncated_line path octets
+outcome_line path (Removed octets) = removed_line path octets
+outcome_line path Stayed = stayed_line path
+
+-- ---- threads that could not be started
+
+unfoldable pub threads_line : ℕ → ℕ → List ℕ
+threads_line started threads = codes "collectd: record: threads " ++ (decimal started ++ (codes " of " ++ (decimal threads ++ codes "\n")))

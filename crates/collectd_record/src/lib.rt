@@ -1,20 +1,26 @@
-//! Recording what exporters send over connections: who may send, where it is read from, and what is told
-//! of it.
+//! Recording what exporters send over connections: who may send, where it is read from, how a session is
+//! recorded, and what is told of it.
 #![tactic(auto)]
 
 mod address_bits;
+mod connection;
 mod file_lines;
 mod front_desk;
 mod log;
 mod notice_lines;
 mod patient_reader;
 mod peer_filter;
+mod place;
 mod prefix;
+mod serving;
 mod session_lines;
 
 pub use address_bits::AddressBits;
+pub use connection::{Connection, ConnectionSource, NotAccepted, PatientListener};
 pub use front_desk::{FrontDesk, RefusedPeers};
 pub use log::Log;
 pub use patient_reader::PatientReader;
 pub use peer_filter::PeerFilter;
+pub use place::{Recording, RecordingFiles, SessionPlace};
 pub use prefix::{NotAPrefix, Prefix};
+pub use serving::record_connection;

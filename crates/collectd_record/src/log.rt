@@ -4,13 +4,14 @@ ghost use Rattle.std.specs.Prelude.{◌≡◌, OnOk};
 ghost use Rattle.std.specs.List.{flat_map};
 ghost use Rattle.std.specs.Net.Text.{socket_text};
 ghost use Rattle.std.specs.Io.KnownBytes.{Appends};
-ghost use Rattle.collectd_record.specs.RecordLines.{finished_line, peer_domain_lines, peer_fault_line, peer_loss_line, refused_line};
+ghost use Rattle.collectd_record.specs.RecordLines.{finished_line, outcome_line, peer_domain_lines, peer_fault_line, peer_loss_line, refused_line, threads_line};
 
 use crate::file_lines::write_finished;
-use crate::notice_lines::write_refused;
+use crate::notice_lines::{write_outcome, write_refused, write_threads};
 use crate::session_lines::{write_peer_fault, write_peer_loss};
 use ipfix_record::FileReport;
 use ipfix_session::DomainReport;
+use record_folder::Recovered;
 use std::alloc::Global;
 use std::io::{self, Write};
 use std::marker::Model;
@@ -99,6 +100,26 @@ impl<E: Write + Drop> Log<E> {
     {
         self.line.clear();
         write_refused(count, last, &mut self.line)?;
+        self.out.write_all(self.line.as_slice())
+    }
+
+    /// Tells what became of a file that an earlier run left.
+    pub fn tell_recovered(&mut self, path: &str, outcome: Recovered) -> io::Result<()>
+        ensures { OnOk result (Appends (E.contents self.old) (E.contents self.new)
+            (outcome_line path.now outcome)) }
+    {
+        self.line.clear();
+        write_outcome(path, outcome, &mut self.line)?;
+        self.out.write_all(self.line.as_slice())
+    }
+
+    /// Tells how many threads could be started, of how many.
+    pub fn tell_threads(&mut self, started: usize, threads: usize) -> io::Result<()>
+        ensures { OnOk result (Appends (E.contents self.old) (E.contents self.new)
+            (threads_line started threads)) }
+    {
+        self.line.clear();
+        write_threads(started, threads, &mut self.line)?;
         self.out.write_all(self.line.as_slice())
     }
 }

@@ -1,7 +1,7 @@
 //! Which peers may send.
 
-ghost use Rattle.std.specs.Prelude.{◌≡◌, ◌⊎◌, ◌↔◌, [], Any, IsTrue};
-ghost use Rattle.collectd_record.specs.Prefixes.{Covers};
+ghost use Rattle.std.specs.Prelude.{◌↔◌, IsTrue};
+ghost use Rattle.collectd_record.specs.Peers.{LetsIn};
 
 use crate::prefix::Prefix;
 use std::net::IpAddr;
@@ -13,10 +13,9 @@ pub struct PeerFilter {
 }
 
 impl PeerFilter {
-    /// Whether a peer with this address may send.
+    /// Whether a peer with this address may send: there is no prefix, or one covers it.
     pub fn lets_in(&self, peer: IpAddr) -> bool
-        ensures { IsTrue result ↔ ((self.now.prefixes.items ≡ [])
-            ⊎ Any (λ prefix. Covers prefix peer) self.now.prefixes.items) }
+        ensures { IsTrue result ↔ LetsIn self.now peer }
     {
         self.prefixes.is_empty() || self.prefixes.iter().any(|prefix| prefix.covers(peer))
     }

@@ -32,7 +32,7 @@ pub fn write_peer_loss<W: Write>(
 }
 
 /// Writes the fault of a session.
-#[tactic(auto, unfolding(crate::specs::RecordLines::peer_fault_line, run_reports::specs::ReportLines::fault_text))]
+#[tactic(auto, unfolding(crate::specs::RecordLines::peer_fault_line))]
 pub fn write_peer_fault<W: Write>(
     peer: SocketAddr,
     number: u8,

@@ -1,0 +1,57 @@
+//! Where connections come from.
+
+use crate::patient_reader::PatientReader;
+use ipfix_session::Source;
+use std::net::{SocketAddr, TcpListener, TcpStream};
+use std::rt::Clock;
+use std::time::Duration;
+use thiserror::Error;
+
+/// How many seconds a read waits before it is a tick.
+const TICK: u64 = 1;
+
+/// A connection that was accepted.
+#[derive(Drop)]
+pub struct Connection<S> {
+    pub source: S,
+    /// The address of its peer.
+    pub peer: SocketAddr,
+}
+
+/// No connection could be accepted, or it has gone again.
+#[derive(Clone, Copy, Debug, PartialEq, Eq, Error)]
+#[error("no connection could be accepted")]
+pub struct NotAccepted;
+
+/// What gives one connection after another, to several threads.
+pub trait ConnectionSource<S: Source> {
+    /// The next connection, of which nothing was read.
+    fn next_connection(&self) -> Result<Connection<S>, NotAccepted>;
+}
+
+/// A listener of the system. A read of its connections that waits for a second is a tick, and the session
+/// of a peer that sends nothing for `idle` ends.
+#[derive(Drop)]
+pub struct PatientListener<'a, C: Clock> {
+    pub listener: TcpListener,
+    pub clock: &'a C,
+    pub idle: Option<Duration>,
+}
+
+impl<'a, C: Clock> ConnectionSource<PatientReader<'a, TcpStream, C>> for PatientListener<'a, C> {
+    fn next_connection(&self) -> Result<Connection<PatientReader<'a, TcpStream, C>>, NotAccepted> {
+        let Ok((stream, peer)) = self.listener.accept() else {
+            return Err(NotAccepted);
+        };
+        if stream
+            .set_read_timeout(Some(Duration::from_secs(TICK)))
+            .is_err()
+        {
+            return Err(NotAccepted);
+        }
+        Ok(Connection {
+            source: PatientReader::new(self.clock, stream, self.idle),
+            peer,
+        })
+    }
+}
