@@ -8,7 +8,8 @@ use Rattle.std.specs.Io.KnownBytes.{Appends}
 use Rattle.ipfix_session.specs.declared.report.FullReport.{FullReport}
 use Rattle.flow_collect.specs.InFull.{reports_in}
 use Rattle.flow_table.specs.declared.table.Table.{Table}
-use Rattle.flow_table.specs.declared.tally.Tally.{Tally}
+use Rattle.flow_table.specs.Plans.{PlanValue}
+use Rattle.run_reports.specs.MissingLines.{missing_told}
 use Rattle.run_reports.specs.OpeningLines.{if_verbose, opened_line}
 use Rattle.run_reports.specs.ReportLines.{export_fault_line, report_lines, tally_line}
 use Rattle.run_reports.specs.ToldLines.{told_lines}
@@ -18,7 +19,7 @@ use Rattle.run_reports.specs.declared.telling.Telling.{Telling}
 use Rattle.run_reports.proofs.Numbering.{numbered-last}
 use Rattle.run_reports.proofs.Untold.{told_plain}
 use Rattle.collectd.specs.CollectLines.{collect_fault_line}
-use Rattle.collectd.specs.FullRuns.{IsFileNamed}
+use Rattle.collectd.specs.FullRuns.{IsFileNamed, table_told}
 use Rattle.collectd.specs.Told.{opened_lines, run_lines, StopsAt, TellsFault, TellsPeers}
 
 module _ (old mid new : Option (List ℕ)) (Before After : Type 0) where
@@ -76,14 +77,20 @@ none_opened telling plain n (o ∷ origins) =
     let nothing : if_verbose telling (opened_line n o) ≡ [] = rw plain refl in
     ap (λ (l : List ℕ). l ++ flat_map (λ (x : ℕ × Origin). if_verbose telling (opened_line x.0 x.1)) (enumerate_from (n + 1) origins)) nothing ∙ none_opened telling plain (n + 1) origins
 
-pub plain_alone : (telling : Telling) → telling.verbose ≡ false → telling.strict ≡ false → (origins : List Origin) (fulls : List FullReport) (tally : Tally)
-    → run_lines telling origins fulls tally ≡ report_lines (reports_in fulls) ++ tally_line tally
-plain_alone telling verbose strict origins fulls tally = ap (λ (l : List ℕ). l ++ tally_line tally) (told_plain telling verbose strict origins fulls)
+plain_table : (telling : Telling) → telling.verbose ≡ false → telling.strict ≡ false → (plan : PlanValue) (table : Table) → table_told telling plan table ≡ tally_line table.tally
+plain_table telling verbose strict plan table =
+    let nothing : missing_told telling plan table.missing ≡ [] = rw (verbose, strict) refl in
+    ap (λ (l : List ℕ). tally_line table.tally ++ l) nothing ∙ append-nil _
 
-pub plain_run : (telling : Telling) → telling.verbose ≡ false → telling.strict ≡ false → (origins : List Origin) (fulls : List FullReport) (tally : Tally)
-    → opened_lines telling origins ++ run_lines telling origins fulls tally ≡ report_lines (reports_in fulls) ++ tally_line tally
-plain_run telling verbose strict origins fulls tally =
-    ap (λ (l : List ℕ). l ++ run_lines telling origins fulls tally) (none_opened telling verbose 1 origins) ∙ plain_alone telling verbose strict origins fulls tally
+pub plain_alone : (telling : Telling) → telling.verbose ≡ false → telling.strict ≡ false → (plan : PlanValue) (origins : List Origin) (fulls : List FullReport) (table : Table)
+    → run_lines telling plan origins fulls table ≡ report_lines (reports_in fulls) ++ tally_line table.tally
+plain_alone telling verbose strict plan origins fulls table =
+    ap (λ (l : List ℕ). l ++ table_told telling plan table) (told_plain telling verbose strict origins fulls) ∙ ap (λ (l : List ℕ). report_lines (reports_in fulls) ++ l) (plain_table telling verbose strict plan table)
+
+pub plain_run : (telling : Telling) → telling.verbose ≡ false → telling.strict ≡ false → (plan : PlanValue) (origins : List Origin) (fulls : List FullReport) (table : Table)
+    → opened_lines telling origins ++ run_lines telling plan origins fulls table ≡ report_lines (reports_in fulls) ++ tally_line table.tally
+plain_run telling verbose strict plan origins fulls table =
+    ap (λ (l : List ℕ). l ++ run_lines telling plan origins fulls table) (none_opened telling verbose 1 origins) ∙ plain_alone telling verbose strict plan origins fulls table
 
 -- ---- arguments that have a fault
 

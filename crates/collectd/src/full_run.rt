@@ -59,7 +59,7 @@ pub fn run_in_full<S: Source + Send + Drop, W: Write, E: WriteLines, R: Threads 
         → WritesTableInFull S.seen telling.strict sources.items plan.now pool result
         (λ fulls table. Writes plan.now output (W.contents out.old) (W.contents out.new) table
         × AreTold (E.contents err.old) (E.contents err.new) (E.failed err.new)
-        (run_lines telling origins.now fulls table.tally)) }
+        (run_lines telling plan.now origins.now fulls table)) }
     // The table of all whole texts was written, and each of them ends with a whole message.
     ensures all { result ≡ number_of Status.Well
         → WritesWholeTable S.seen sources.items plan.now
@@ -144,7 +144,7 @@ fn tell<S, E: WriteLines>(
     err: &mut E,
 ) -> io::Result<()>
     ensures told { OnOk result (Appends (E.contents err.old) (E.contents err.new)
-        (run_lines telling origins.now plan.now collected.now.sessions.items
+        (run_lines telling plan.now origins.now collected.now.sessions.items
         collected.now.table)) }
     ensures failed { OnErr result (E.failed err.new) }
     ensures kept { E.failed err.old → E.failed err.new }
@@ -154,9 +154,16 @@ fn tell<S, E: WriteLines>(
 }
 
 // How many records there were of each class, and what of them lacked something.
-fn tell_table<E: Write>(telling: Telling, plan: &Plan, table: &Table, err: &mut E) -> io::Result<()>
-    ensures { OnOk result (Appends (E.contents err.old) (E.contents err.new)
+fn tell_table<E: WriteLines>(
+    telling: Telling,
+    plan: &Plan,
+    table: &Table,
+    err: &mut E,
+) -> io::Result<()>
+    ensures told { OnOk result (Appends (E.contents err.old) (E.contents err.new)
         (table_told telling plan.now table.now)) }
+    ensures failed { OnErr result (E.failed err.new) }
+    ensures kept { E.failed err.old → E.failed err.new }
 {
     write_tally(&table.tally, err)?;
     write_missing(telling, plan, &table.missing, err)

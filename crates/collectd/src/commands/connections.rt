@@ -57,8 +57,8 @@ pub fn run_connections<
         (AreAccepted (L.gives listener.old idle) count (L.coming listener.old) (L.coming listener.new))
         telling.strict plan.now pool result
         (λ fulls table. Writes plan.now output (W.contents out.old) (W.contents out.new) table
-        × TellsRun (ArePeers count) telling (if_verbose telling (listening_line addr.now count))
-        (AreTold (E.contents err.old) (E.contents err.new) (E.failed err.new)) fulls table.tally) }
+        × TellsRun (ArePeers count) telling plan.now (if_verbose telling (listening_line addr.now count))
+        (AreTold (E.contents err.old) (E.contents err.new) (E.failed err.new)) fulls table) }
     ensures closed { L.is_closed listener.new }
     ensures not_accepted { result ≡ number_of Status.NotOpened → out.new ≡ out.old }
     ensures refused { IfSome (fault_of_arguments pool count)

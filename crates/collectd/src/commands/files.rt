@@ -125,8 +125,8 @@ pub fn run_files_in_full<
         paths.now (O.coming files.old) (O.coming files.new))
         telling.strict plan.now pool result
         (λ fulls table. Writes plan.now output (W.contents out.old) (W.contents out.new) table
-        × TellsRun (AllZip (λ path. IsFileNamed path.now) paths.now) telling []
-        (AreTold (E.contents err.old) (E.contents err.new) (E.failed err.new)) fulls table.tally)) }
+        × TellsRun (AllZip (λ path. IsFileNamed path.now) paths.now) telling plan.now []
+        (AreTold (E.contents err.old) (E.contents err.new) (E.failed err.new)) fulls table)) }
     // Nothing was written unless all were opened.
     ensures not_opened { result ≡ number_of Status.NotOpened → out.new ≡ out.old }
     // Nothing was collected if the arguments have a fault.

@@ -54,8 +54,8 @@ pub fn run_paths<
         paths.now (O.coming files.old) (O.coming files.new))
         telling.strict plan.now pool result
         (λ fulls table. Writes plan.now output (W.contents out.old) (W.contents out.new) table
-        × TellsRun (AllZip (λ path. IsFileNamed path.now) paths.now) telling []
-        (AreTold (E.contents err.old) (E.contents err.new) (E.failed err.new)) fulls table.tally) }
+        × TellsRun (AllZip (λ path. IsFileNamed path.now) paths.now) telling plan.now []
+        (AreTold (E.contents err.old) (E.contents err.new) (E.failed err.new)) fulls table) }
     ensures not_opened { result ≡ number_of Status.NotOpened → out.new ≡ out.old }
     ensures refused { IfSome (fault_of_arguments pool (length paths.now))
         (λ fault. ((result ≡ number_of Status.NotOpened) ⊎ (result ≡ number_of Status.Failed))

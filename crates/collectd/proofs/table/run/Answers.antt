@@ -8,4 +8,4 @@ use Rattle.collectd.proofs.table.run.Goals as goal
 pub returns-clause-table : goal.returns-clause-table
 returns-clause-table g c = λ ran.
     table_short g.S.Source.seen _ c.args.sources.items c.args.plan.now c.args.pool c.run_in_full.result _ _ refl
-    (λ fulls table ends. (ends.0, subst (λ (l : List ℕ). AreTold (g.E.WriteLines.contents c.args.err.now) (g.E.WriteLines.contents c.run_in_full.new.err) (g.E.WriteLines.failed c.run_in_full.new.err) l) (plain_alone NOTHING_MORE refl refl [] fulls table.tally) ends.1)) (c.run_in_full.ensures.table ran)
+    (λ fulls table ends. (ends.0, subst (λ (l : List ℕ). AreTold (g.E.WriteLines.contents c.args.err.now) (g.E.WriteLines.contents c.run_in_full.new.err) (g.E.WriteLines.failed c.run_in_full.new.err) l) (plain_alone NOTHING_MORE refl refl c.args.plan.now [] fulls table) ends.1)) (c.run_in_full.ensures.table ran)

@@ -7,9 +7,9 @@ use Rattle.flow_export.specs.CsvText.{key_text, prefix_text}
 use Rattle.run_reports.specs.MissingLines.{unkeyed_text}
 use Rattle.run_reports.proofs.missing.write_key_start.Goals as goal
 
-pub returns-in_ok-write_element-clause-told : goal.returns-in_ok-write_element-clause-told
+pub returns-clause-told : goal.returns-clause-told
 unfolding unkeyed_text
-returns-in_ok-write_element-clause-told g c =
+returns-clause-told g c =
     let held = g.W.WriteLines.contents in
     let words = subst (λ (t : List ℕ). Appends (held c.args.out.now) (held c.write_all.new.self) t) c.as_bytes.ensures.value c.in_ok-write_all.ensures.bytes in
     on_ok_weaker c.write_prefix.result
