@@ -54,7 +54,11 @@ pub fn write_file_fault<W: WriteLines>(
     }
 }
 
-fn write_numbered_fault<W: WriteLines>(file: usize, fault: MergeFault, out: &mut W) -> io::Result<()>
+fn write_numbered_fault<W: WriteLines>(
+    file: usize,
+    fault: MergeFault,
+    out: &mut W,
+) -> io::Result<()>
     ensures told { OnOk result (Appends (W.contents out.old) (W.contents out.new)
         (file_fault_line file fault)) }
     ensures failed { OnErr result (W.failed out.new) }

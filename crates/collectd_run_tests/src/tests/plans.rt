@@ -28,12 +28,7 @@ impl ReadText for OneText {
 
 // What is told of the plan of octets at the path "plan" that is read at this path, and behind it the plan's
 // length, if there is one.
-fn loaded(
-    alloc: Global,
-    octets: &[u8],
-    path: &str,
-    verbose: bool,
-) -> Result<Vec<u8>, Fail> {
+fn loaded(alloc: Global, octets: &[u8], path: &str, verbose: bool) -> Result<Vec<u8>, Fail> {
     let text = OneText {
         path: String::from_str(alloc, "plan")?,
         octets: Vec::from_slice(alloc, octets)?,
