@@ -14,6 +14,7 @@ mod session_files;
 mod session_names;
 mod system_periods;
 mod system_place;
+mod told_period;
 mod unfinished_names;
 
 pub use finished_files::{FinishedFiles, Recovered};

@@ -7,13 +7,13 @@ use crate::finished_files::FinishedFiles;
 use crate::folder::{Folder, path_in};
 use crate::period::Period;
 use crate::placing::place_file;
+use crate::told_period::ToldPeriod;
 use crate::unfinished_names::unfinished_name;
 use ipfix_record::{FileReport, FileSeries, NotWritten};
 use std::alloc::Global;
-use std::cell::Cell;
 use std::fs::{self, Files, OpenFile, OpenOptions};
 use std::io::{self, Write};
-use std::rc::Rc;
+use std::sync::Arc;
 
 /// A file that isn't finished.
 #[derive(Drop)]
@@ -35,7 +35,7 @@ pub struct SessionFiles<'a, R: Files, L> {
     alloc: Global,
     folder: &'a Folder,
     session: String,
-    period: Rc<Cell<Period>>,
+    period: Arc<ToldPeriod>,
     unfinished: Option<Unfinished<R::File>>,
     log: L,
     failed: u64,
@@ -47,7 +47,7 @@ impl<'a, R: Files, L: FinishedFiles> SessionFiles<'a, R, L> {
         alloc: Global,
         folder: &'a Folder,
         session: String,
-        period: Rc<Cell<Period>>,
+        period: Arc<ToldPeriod>,
         log: L,
     ) -> Self
         ensures { ⟦<SessionFiles<'a, R, L> as FileSeries>⟧.seen result

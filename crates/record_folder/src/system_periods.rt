@@ -4,10 +4,10 @@ ghost use Rattle.std.specs.Prelude.{◌≡◌, ◌↔◌, ◌<◌, max, IsTrue};
 ghost use Rattle.ipfix_record.specs.Periods.{ClockView};
 
 use crate::period::{Period, period_of};
+use crate::told_period::ToldPeriod;
 use ipfix_record::PeriodClock;
-use std::cell::Cell;
-use std::rc::Rc;
 use std::rt::Clock;
+use std::sync::Arc;
 use std::time::SystemTime;
 
 /// The latest period that a clock has told.
@@ -38,7 +38,7 @@ pub struct SystemPeriods<'a, R: Clock> {
     rt: &'a R,
     every: u64,
     latest: LatestPeriod,
-    told: Rc<Cell<Period>>,
+    told: Arc<ToldPeriod>,
     asked: u64,
     over: u64,
     ghost lasts: { 0 < every },
@@ -46,7 +46,7 @@ pub struct SystemPeriods<'a, R: Clock> {
 
 impl<'a, R: Clock> SystemPeriods<'a, R> {
     // A clock whose period is the one that it told to the files.
-    pub(crate) fn new(rt: &'a R, every: u64, told: Rc<Cell<Period>>) -> Self
+    pub(crate) fn new(rt: &'a R, every: u64, told: Arc<ToldPeriod>) -> Self
         requires { 0 < every }
         ensures { ⟦<SystemPeriods<'a, R> as PeriodClock>⟧.asked result
             ≡ record { asked = 0; over = 0 } }

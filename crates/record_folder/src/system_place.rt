@@ -7,13 +7,13 @@ use crate::folder::Folder;
 use crate::session_files::SessionFiles;
 use crate::session_names::session_name;
 use crate::system_periods::{SystemPeriods, period_now};
+use crate::told_period::ToldPeriod;
 use ipfix_record::{FileSeries, PeriodClock};
 use std::alloc::{AllocError, Global};
-use std::cell::Cell;
 use std::fs::Files;
 use std::net::SocketAddr;
-use std::rc::Rc;
 use std::rt::Clock;
+use std::sync::Arc;
 
 /// A folder of recordings and the length of its periods: makes for each session its files and its clock.
 #[derive(Drop)]
@@ -56,7 +56,7 @@ impl<'a, R: Files + Clock> SystemPlace<'a, R> {
             ≡ record { asked = 0; over = 0 }) }
     {
         let name = session_name(alloc, peer, number)?;
-        let told = Rc::new(alloc, Cell::new(period_now(self.rt, self.every)))?;
+        let told = Arc::new(alloc, ToldPeriod::new(period_now(self.rt, self.every)))?;
         let seen = told.clone()?;
         Ok(SystemSession {
             files: SessionFiles::new(self.rt, alloc, self.folder, name, seen, log),
