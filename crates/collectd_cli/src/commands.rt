@@ -111,11 +111,11 @@ pub fn tcp<R: Clock + Threads + Wait + Sync>(
         mut out,
         terminal,
     } = read_collecting(rt, chosen, &mut err)?;
-    let mut listener = listen(rt, addr, read_telling(chosen), &mut err)?;
+    let listener = listen_on(rt, addr, read_telling(chosen), &mut err)?;
     let status = run_tcp_in_full(
         threads,
         rt.alloc(),
-        &mut listener,
+        &mut Listening::new(listener),
         addr,
         sessions as usize,
         read_idle(chosen),
@@ -138,15 +138,15 @@ pub fn tcp<R: Clock + Threads + Wait + Sync>(
     Ok(status)
 }
 
-// A listener on an address. If it can't be had, `err` has a line.
-fn listen(
+/// A listener on an address. If it can't be had, `err` has a line.
+pub fn listen_on(
     rt: &HostRuntime,
     addr: &str,
     telling: Telling,
     err: &mut Stderr,
-) -> Result<Listening, Status> {
+) -> Result<TcpListener, Status> {
     match TcpListener::bind(rt, addr) {
-        Ok(listener) => Ok(Listening::new(listener)),
+        Ok(listener) => Ok(listener),
         Err(error) => {
             let reason = Reason::of(&error);
             let _ = write_not_had_because(telling, "listen", addr, reason, err);

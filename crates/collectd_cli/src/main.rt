@@ -6,6 +6,7 @@ mod formats;
 mod inputs;
 mod noted;
 mod progress_output;
+mod record_command;
 mod refused;
 mod timers;
 
@@ -55,6 +56,7 @@ fn run_subcommand<R: Clock + Threads + Wait + Sync>(
         Some(Subcommand::Dump) => commands::dump(rt, chosen),
         Some(Subcommand::Files) => commands::files(threads, rt, chosen),
         Some(Subcommand::Tcp) => commands::tcp(threads, rt, chosen),
+        Some(Subcommand::Record) => record_command::record(threads, rt, chosen),
         Some(Subcommand::Merge) => commands::merge(rt, chosen),
         Some(Subcommand::Explain) => Ok(commands::explain(rt, chosen)),
         // (the parser lets no other word through)

@@ -3,6 +3,7 @@
 
 mod format_words;
 mod options;
+mod record_options;
 mod showing;
 mod subcommands;
 mod words;

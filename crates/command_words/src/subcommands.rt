@@ -9,6 +9,7 @@ pub enum Subcommand {
     Dump,
     Files,
     Tcp,
+    Record,
     Merge,
     Explain,
 }
@@ -22,6 +23,7 @@ impl Subcommand {
             Subcommand::Dump => "dump",
             Subcommand::Files => "files",
             Subcommand::Tcp => "tcp",
+            Subcommand::Record => "record",
             Subcommand::Merge => "merge",
             Subcommand::Explain => "explain",
         }
@@ -35,6 +37,7 @@ impl Subcommand {
             "dump" => Some(Subcommand::Dump),
             "files" => Some(Subcommand::Files),
             "tcp" => Some(Subcommand::Tcp),
+            "record" => Some(Subcommand::Record),
             "merge" => Some(Subcommand::Merge),
             "explain" => Some(Subcommand::Explain),
             _ => None,

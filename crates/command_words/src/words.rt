@@ -4,6 +4,7 @@ use crate::format_words::DUMP_FORMATS;
 use crate::options::{
     files, option, with_connections, with_options, with_output, with_plan, with_telling,
 };
+use crate::record_options::with_recording;
 use crate::subcommands::Subcommand;
 use clap::{Arg, ArgMatches, Command, Error};
 use std::alloc::{AllocError, Global};
@@ -25,6 +26,7 @@ fn command<'a>(alloc: Global) -> Result<Command<'a>, AllocError> {
         .subcommand(subcommand(alloc, Subcommand::Dump)?)?
         .subcommand(subcommand(alloc, Subcommand::Files)?)?
         .subcommand(subcommand(alloc, Subcommand::Tcp)?)?
+        .subcommand(subcommand(alloc, Subcommand::Record)?)?
         .subcommand(subcommand(alloc, Subcommand::Merge)?)?
         .subcommand(subcommand(alloc, Subcommand::Explain)?)
 }
@@ -35,6 +37,7 @@ fn subcommand<'a>(alloc: Global, named: Subcommand) -> Result<Command<'a>, Alloc
         Subcommand::Dump => with_dump(alloc, command),
         Subcommand::Files => with_files(alloc, command),
         Subcommand::Tcp => with_tcp(alloc, command),
+        Subcommand::Record => with_record(alloc, command),
         Subcommand::Merge => with_merge(alloc, command),
         Subcommand::Explain => with_explain(alloc, command),
     }
@@ -75,6 +78,18 @@ fn with_tcp<'a>(alloc: Global, command: Command<'a>) -> Result<Command<'a>, Allo
              Example:\n  collectd tcp --plan plan.toml --listen 0.0.0.0:4739 --sessions 2 > table.csv",
         );
     with_connections(alloc, with_options(alloc, tcp)?)
+}
+
+fn with_record<'a>(alloc: Global, command: Command<'a>) -> Result<Command<'a>, AllocError> {
+    let record = command
+        .about("Records what connections send in files, one a session and period, and never ends")
+        .after_help(
+            "A finished file is FOLDER/YYYY-MM-DD/HHMMSS/NAME, the beginning of its period in UTC, and can be\n\
+             read by itself. Whatever stops the program, nothing is lost that was written: the next start\n\
+             finishes what this one left.\n\n\
+             Example:\n  collectd record --into recordings --listen 0.0.0.0:4739 --from 192.0.2.0/24",
+        );
+    with_recording(alloc, record)
 }
 
 fn with_merge<'a>(alloc: Global, command: Command<'a>) -> Result<Command<'a>, AllocError> {
