@@ -1,6 +1,6 @@
 //! Gathering the whole messages of a read.
 
-ghost use Rattle.std.specs.Prelude.{◌≡◌, [], ℕ, List, Ok, MatchResult};
+ghost use Rattle.std.specs.Prelude.{◌≡◌, ◌++◌, [], ℕ, List, Ok, OnOk, OnErr, MatchResult};
 ghost use Rattle.ipfix_message.specs.Domains.{Message};
 ghost use Rattle.ipfix_session.specs.Intake.{IsRest};
 ghost use Rattle.ipfix_session.specs.MessageStream;
@@ -14,7 +14,23 @@ use crate::recorder::Recorder;
 use crate::session_counts::SessionCounts;
 use ipfix_message::MessageFault;
 use ipfix_session::next_message;
-use std::alloc::Global;
+use std::alloc::{AllocError, Global};
+
+// Appends two texts, or nothing if there is no memory.
+fn append_both(first: &[u8], second: &[u8], out: &mut Vec<u8>) -> Result<(), AllocError>
+    ensures both { OnOk result (out.new.items ≡ out.old.items ++ (first.now ++ second.now)) }
+    ensures none { OnErr result (out.new.items ≡ out.old.items) }
+{
+    let length = out.len();
+    out.extend_from_slice(first)?;
+    match out.extend_from_slice(second) {
+        Ok(()) => Ok(()),
+        Err(error) => {
+            out.truncate(length);
+            Err(error)
+        }
+    }
+}
 
 /// A session while it is recorded, and what the whole messages of a read have: the octets that are to be
 /// written, and what is to be counted then.
@@ -24,8 +40,8 @@ pub struct Gathering {
     pub counts: SessionCounts,
     /// What is to be written.
     pub out: Vec<u8>,
-    /// What a message has.
-    pub next: Vec<u8>,
+    /// What stands before a message in its file.
+    pub lead: Vec<u8>,
 }
 
 impl Gathering {
@@ -37,7 +53,7 @@ impl Gathering {
             recorder: Recorder::new(alloc),
             counts: SessionCounts::new(alloc),
             out: Vec::new(alloc),
-            next: Vec::new(alloc),
+            lead: Vec::new(alloc),
         }
     }
 
@@ -62,7 +78,7 @@ impl Gathering {
             recorder: _,
             counts,
             out: _,
-            next: _,
+            lead: _,
         } = self;
         counts.into_session(ended)
     }
@@ -80,9 +96,9 @@ impl Gathering {
             self.new.counts.waiting) }
         ensures told { self.new.counts.told ≡ self.old.counts.told }
     {
-        let count = self.recorder.put_message(alloc, message, &mut self.next)?;
+        let count = self.recorder.take_message(alloc, message, &mut self.lead)?;
         let length = self.out.len();
-        self.out.extend_from_slice(&self.next)?;
+        append_both(&self.lead, message, &mut self.out)?;
         match self.counts.wait_for(count) {
             Ok(()) => Ok(()),
             Err(_) => {

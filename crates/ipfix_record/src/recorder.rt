@@ -128,31 +128,30 @@ impl Recorder {
         Ok(())
     }
 
-    /// Makes what a file has for a message: its domain's templates, if this file has none of its
-    /// messages and an earlier file has, and then the message as it came. What stood in `out` before
-    /// is gone. It answers what the message adds to the counts.
+    /// Takes a message, and makes what a file has before it: its domain's templates, if this file has none
+    /// of its messages and an earlier file has. What stood in `lead` before is gone. It answers what the
+    /// message adds to the counts.
     ///
     /// The fault is the message's, or `OutOfMemory`. After a fault the recorder is of no use.
-    pub fn put_message(
+    pub fn take_message(
         &mut self,
         alloc: Global,
         message: &[u8],
-        out: &mut Vec<u8>,
+        lead: &mut Vec<u8>,
     ) -> Result<MessageCount, MessageFault>
         ensures records { (before here : List Message) → Keeps self.old before here
             → IfOk result (λ count.
-            Records before here self.new message.now out.new.items count) }
+            Records before here self.new message.now (lead.new.items ++ message.now) count) }
         ensures fails { (before here : List Message) → Keeps self.old before here
             → IfErr result (λ fault.
             Fails fault (message_gives (known_after [] (before ++ here)) message.now)) }
     {
-        out.clear();
-        self.append_lead_of(message, out)?;
+        lead.clear();
+        self.append_lead_of(message, lead)?;
         let decoded = match self.domains.decode(alloc, message) {
             Ok(decoded) => decoded,
             Err(fault) => return Err(fault),
         };
-        out.extend_from_slice(message)?;
         self.keep(&decoded.header, decoded.records.len(), decoded.unknown_sets)?;
         Ok(MessageCount {
             header: decoded.header,

@@ -11,6 +11,6 @@ returns-in_err-count-clause-gathers c = λ before here text left rest g begins.
 
 pub returns-in-Ok-clause-gathers : goal.returns-in-Ok-clause-gathers
 returns-in-Ok-clause-gathers c = λ before here text left rest g begins.
-    let written : c.extend_from_slice.new.self.items ≡ c.args.self.now.out.items ++ c.put_message.new.out.items = search rules in
-    gathers_on before here c.args.self.now.recorder c.put_message.new.self text left c.args.message.now rest c.put_message.new.out.items c.args.self.now.out.items c.extend_from_slice.new.self.items
+    let written : c.append_both.new.out.items ≡ c.args.self.now.out.items ++ (c.take_message.new.lead.items ++ c.args.message.now) = search rules in
+    gathers_on before here c.args.self.now.recorder c.take_message.new.self text left c.args.message.now rest (c.take_message.new.lead.items ++ c.args.message.now) c.args.self.now.out.items c.append_both.new.out.items
     c.args.self.now.counts.waiting c.wait_for.new.self.waiting c.in_ok-count.count g begins (c.in_ok-count.ensures.records before (here ++ g.some.given) g.keeps) written c.in-Ok.ensures.waits

@@ -7,7 +7,7 @@ use Rattle.ipfix_session.specs.Ledger.{count_in}
 use Rattle.ipfix_record.specs.Recorders.{State, Keeps}
 use Rattle.ipfix_message.proofs.PartsOf.{was_read}
 use Rattle.ipfix_record.proofs.Keeping.{keeps_on}
-use Rattle.ipfix_record.proofs.recorder.Recorder.put_message.Goals as goal
+use Rattle.ipfix_record.proofs.recorder.Recorder.take_message.Goals as goal
 
 pub returns-clause-records : goal.returns-clause-records
 returns-clause-records c = λ before here keeps.
@@ -18,7 +18,6 @@ returns-clause-records c = λ before here keeps.
     let x = r.0 in
     let read = was_read ds c.args.message.now x r.1 in
     let lead = c.in_ok-append_lead_of.ensures.lead before here keeps x.header read.header in
-    let written : c.extend_from_slice.new.self.items ≡ c.append_lead_of.new.out.items ++ c.args.message.now = search rules in
     let first : c.append_lead_of.new.out.items ≡ octets_of lead.lead = lead.octets ∙ ap (λ (w : List ℕ). w ++ octets_of lead.lead) c.clear.ensures.items in
     let back : c.decode.new.self ≡ c.keep.new.self.domains = sym c.in_ok-keep.ensures.domains in
     let fresh : c.keep.new.self.domains.spent ≡ false = subst (λ (s : DomainsView). s.spent ≡ false) back c.in-Ok.ensures.ok in
@@ -32,7 +31,7 @@ returns-clause-records c = λ before here keeps.
       read = r.1;
       lead = lead.lead;
       is = lead.is;
-      octets_are = written ∙ ap (λ (w : List ℕ). w ++ c.args.message.now) first;
+      octets_are = ap (λ (w : List ℕ). w ++ c.args.message.now) first;
       keeps = keeps_on inside c.keep.new.self before here x c.in-Ok.decoded.header c.len.result c.in-Ok.decoded.unknown_sets now fresh stands r.2.header count unknown c.in_ok-keep.ensures.due c.in_ok-keep.ensures.in_file;
       counts = record { header = sym r.2.header; records = sym (again ∙ ap (λ (rs : List DataRecord). length rs) r.2.records); passed_over = sym r.2.passed_over ∙ sym c.passed_over.ensures };
     }
