@@ -11,7 +11,8 @@ use std::os::unix::fs::MetadataExt;
 /// Moves a file that isn't finished to its period's folder, under the name of its session, and answers its
 /// path. What stands there already is never replaced: the file gets the next name that is free. Wherever
 /// this is cut off the file stands whole under one of its names, or under both as one file; and when it
-/// is done again it goes on from there. An `Err` leaves the file under its first name.
+/// is done again it goes on from there. An `Err` leaves the file under one of its names, the first if it
+/// has got no other.
 pub(crate) fn place_file<R: Files>(
     rt: &R,
     alloc: Global,
@@ -23,14 +24,14 @@ pub(crate) fn place_file<R: Files>(
     let name = period_name(alloc, period)?;
     let period_path = path_in(alloc, folder.path(), name.as_str())?;
     fs::create_dir_all(rt, period_path.as_str())?;
-    let path = link_to_free_name(rt, alloc, unfinished, period_path.as_str(), session)?;
+    let path = give_free_name(rt, alloc, unfinished, period_path.as_str(), session)?;
     sync_down_to(rt, folder.path(), period_path.as_str())?;
-    fs::remove_file(rt, unfinished)?;
+    remove_first_name(rt, unfinished)?;
     Ok(path)
 }
 
-// Gives a file a second name, the first that is free, and answers its path.
-fn link_to_free_name<R: Files>(
+// Gives a file its final name, the first that is free, and answers its path.
+fn give_free_name<R: Files>(
     rt: &R,
     alloc: Global,
     unfinished: &str,
@@ -39,7 +40,7 @@ fn link_to_free_name<R: Files>(
 ) -> io::Result<String> {
     for number in 1..u64::MAX {
         let path = final_path(alloc, folder, session, number)?;
-        match fs::hard_link(rt, unfinished, path.as_str()) {
+        match give_name(rt, unfinished, path.as_str()) {
             Ok(()) => return Ok(path),
             Err(error) if error.kind() == ErrorKind::AlreadyExists => {
                 if is_same_file(rt, unfinished, path.as_str())? {
@@ -50,6 +51,44 @@ fn link_to_free_name<R: Files>(
         }
     }
     Err(io::Error::from(ErrorKind::AlreadyExists))
+}
+
+// Gives a file a name that is free: a second one, or in place of the first on a file system where files
+// have one name alone.
+fn give_name<R: Files>(rt: &R, unfinished: &str, path: &str) -> io::Result<()> {
+    match fs::hard_link(rt, unfinished, path) {
+        Err(error) if may_lack_links(error.kind()) => move_to_free_name(rt, unfinished, path),
+        given => given,
+    }
+}
+
+// Whether a link may have failed so since the file system has none.
+fn may_lack_links(kind: ErrorKind) -> bool {
+    match kind {
+        ErrorKind::PermissionDenied | ErrorKind::Unsupported => true,
+        _ => false,
+    }
+}
+
+// Moves a file to a name that is free. An empty file takes the name first, and only that one is replaced.
+fn move_to_free_name<R: Files>(rt: &R, unfinished: &str, path: &str) -> io::Result<()> {
+    OpenOptions::new()
+        .write(true)
+        .create_new(true)
+        .open(rt, path)?;
+    let moved = fs::rename(rt, unfinished, path);
+    if moved.is_err() {
+        let _ = fs::remove_file(rt, path);
+    }
+    moved
+}
+
+// Takes its first name from a file that has another, if it has not lost it already.
+fn remove_first_name<R: Files>(rt: &R, unfinished: &str) -> io::Result<()> {
+    match fs::remove_file(rt, unfinished) {
+        Err(error) if error.kind() == ErrorKind::NotFound => Ok(()),
+        removed => removed,
+    }
 }
 
 // The path of a session's file; where it was taken before, that of the next number.
