@@ -44,10 +44,13 @@ peer_domain_lines peer d = if (d.lost == 0) && (d.backward == 0) then [] else pe
 unfoldable pub peer_fault_line : List ℕ → ℕ → List ℕ → List ℕ
 peer_fault_line peer number name = codes "collectd: session " ++ (peer ++ (codes ": fault " ++ (decimal number ++ (codes " " ++ (name ++ codes "\n")))))
 
--- ---- peers that were refused
+-- ---- peers that have no session
 
 unfoldable pub refused_line : ℕ → List ℕ → List ℕ
 refused_line count last = codes "collectd: refused " ++ (decimal count ++ (codes " connections, last " ++ (last ++ codes "\n")))
+
+unfoldable pub not_accepted_line : ℕ → List ℕ
+not_accepted_line count = codes "collectd: record: accept failed " ++ (decimal count ++ codes " times\n")
 
 -- ---- files that an earlier run left
 

@@ -4,6 +4,7 @@ ghost use Rattle.std.specs.Prelude.{◌≡◌, Some, None};
 ghost use Rattle.ipfix_session.specs.Sources.{one_more};
 ghost use Rattle.collectd_record.specs.Refusals.{one_more_refused, refused_count};
 
+use std::mem;
 use std::net::SocketAddr;
 
 /// The peers that were refused and are not told yet.
@@ -14,12 +15,14 @@ pub struct RefusedPeers {
     pub last: SocketAddr,
 }
 
-/// What the threads share: the number of the last session, and the peers that were refused.
+/// What the threads share: the number of the last session, and what is to be told of peers that have none.
 #[derive(Debug, PartialEq, Eq, Drop)]
 pub struct FrontDesk {
     /// The number of the last session, counted from 1, up to `u64::MAX`.
     pub sessions: u64,
     pub refused: Option<RefusedPeers>,
+    /// How often no connection could be accepted, as far as it is not told yet, up to `u64::MAX`.
+    pub not_accepted: u64,
 }
 
 impl FrontDesk {
@@ -27,10 +30,12 @@ impl FrontDesk {
     pub fn new() -> Self
         ensures sessions { result.sessions ≡ 0 }
         ensures refused { result.refused ≡ None }
+        ensures not_accepted { result.not_accepted ≡ 0 }
     {
         FrontDesk {
             sessions: 0,
             refused: None,
+            not_accepted: 0,
         }
     }
 
@@ -39,6 +44,7 @@ impl FrontDesk {
         ensures number { result ≡ one_more self.old.sessions }
         ensures counted { self.new.sessions ≡ result }
         ensures refused { self.new.refused ≡ self.old.refused }
+        ensures not_accepted { self.new.not_accepted ≡ self.old.not_accepted }
     {
         self.sessions = self.sessions.saturating_add(1);
         self.sessions
@@ -48,6 +54,7 @@ impl FrontDesk {
     pub fn refuse(&mut self, peer: SocketAddr)
         ensures counted { self.new.refused ≡ Some (one_more_refused self.old.refused peer) }
         ensures sessions { self.new.sessions ≡ self.old.sessions }
+        ensures not_accepted { self.new.not_accepted ≡ self.old.not_accepted }
     {
         self.refused = Some(RefusedPeers {
             count: count_of(self.refused).saturating_add(1),
@@ -60,8 +67,28 @@ impl FrontDesk {
         ensures all { result ≡ self.old.refused }
         ensures none_left { self.new.refused ≡ None }
         ensures sessions { self.new.sessions ≡ self.old.sessions }
+        ensures not_accepted { self.new.not_accepted ≡ self.old.not_accepted }
     {
         self.refused.take()
+    }
+
+    /// Counts that no connection could be accepted.
+    pub fn count_not_accepted(&mut self)
+        ensures counted { self.new.not_accepted ≡ one_more self.old.not_accepted }
+        ensures sessions { self.new.sessions ≡ self.old.sessions }
+        ensures refused { self.new.refused ≡ self.old.refused }
+    {
+        self.not_accepted = self.not_accepted.saturating_add(1);
+    }
+
+    /// How often no connection could be accepted since this was asked last, which is told now.
+    pub fn take_not_accepted(&mut self) -> u64
+        ensures all { result ≡ self.old.not_accepted }
+        ensures none_left { self.new.not_accepted ≡ 0 }
+        ensures sessions { self.new.sessions ≡ self.old.sessions }
+        ensures refused { self.new.refused ≡ self.old.refused }
+    {
+        mem::take(&mut self.not_accepted)
     }
 }
 

@@ -4,10 +4,10 @@ ghost use Rattle.std.specs.Prelude.{◌≡◌, OnOk};
 ghost use Rattle.std.specs.List.{flat_map};
 ghost use Rattle.std.specs.Net.Text.{socket_text};
 ghost use Rattle.std.specs.Io.KnownBytes.{Appends};
-ghost use Rattle.collectd_record.specs.RecordLines.{finished_line, outcome_line, peer_domain_lines, peer_fault_line, peer_loss_line, refused_line, threads_line};
+ghost use Rattle.collectd_record.specs.RecordLines.{finished_line, not_accepted_line, outcome_line, peer_domain_lines, peer_fault_line, peer_loss_line, refused_line, threads_line};
 
 use crate::file_lines::write_finished;
-use crate::notice_lines::{write_outcome, write_refused, write_threads};
+use crate::notice_lines::{write_not_accepted, write_outcome, write_refused, write_threads};
 use crate::session_lines::{write_peer_fault, write_peer_loss};
 use ipfix_record::FileReport;
 use ipfix_session::DomainReport;
@@ -100,6 +100,16 @@ impl<E: Write + Drop> Log<E> {
     {
         self.line.clear();
         write_refused(count, last, &mut self.line)?;
+        self.out.write_all(self.line.as_slice())
+    }
+
+    /// Tells how often no connection could be accepted.
+    pub fn tell_not_accepted(&mut self, count: u64) -> io::Result<()>
+        ensures { OnOk result (Appends (E.contents self.old) (E.contents self.new)
+            (not_accepted_line count)) }
+    {
+        self.line.clear();
+        write_not_accepted(count, &mut self.line)?;
         self.out.write_all(self.line.as_slice())
     }
 

@@ -1,9 +1,9 @@
-//! The lines of peers that were refused, and of files that an earlier run left.
+//! The lines of peers that have no session, of threads, and of files that an earlier run left.
 
 ghost use Rattle.std.specs.Prelude.{OnOk};
 ghost use Rattle.std.specs.Net.Text.{socket_text};
 ghost use Rattle.std.specs.Io.KnownBytes.{Appends};
-ghost use Rattle.collectd_record.specs.RecordLines.{cut_off_line, outcome_line, recovered_line, refused_line, removed_line, stayed_line, threads_line, truncated_line};
+ghost use Rattle.collectd_record.specs.RecordLines.{cut_off_line, not_accepted_line, outcome_line, recovered_line, refused_line, removed_line, stayed_line, threads_line, truncated_line};
 
 use record_folder::Recovered;
 use std::io::{self, Write};
@@ -16,6 +16,15 @@ pub fn write_refused<W: Write>(count: u64, last: SocketAddr, out: &mut W) -> io:
         (refused_line count (socket_text last))) }
 {
     writeln!(out, "collectd: refused {count} connections, last {last}")
+}
+
+/// Writes how often no connection could be accepted.
+#[tactic(auto, unfolding(crate::specs::RecordLines::not_accepted_line))]
+pub fn write_not_accepted<W: Write>(count: u64, out: &mut W) -> io::Result<()>
+    ensures { OnOk result (Appends (W.contents out.old) (W.contents out.new)
+        (not_accepted_line count)) }
+{
+    writeln!(out, "collectd: record: accept failed {count} times")
 }
 
 /// Writes how many threads could be started, of how many.

@@ -24,11 +24,11 @@ use std::time::Duration;
 /// How many milliseconds a thread waits if no connection could be accepted.
 const PAUSE: u64 = 100;
 
-/// How many seconds it takes until peers that were refused are told.
+/// How many seconds it takes until peers that have no session are told.
 const BETWEEN_LINES: u64 = 1;
 
-/// Records what comes over connections in so many threads, each of which accepts one after another. It
-/// ends only if no thread can be started.
+/// Records what comes over connections in so many threads, each of which accepts one after another. Where
+/// none can be accepted that is told, and tried again. It ends only if no thread can be started.
 pub fn record_connections<
     S: Source + Send + Drop,
     F: RecordingFiles + Send,
@@ -63,7 +63,7 @@ pub fn record_connections<
     )
 }
 
-// Starts the threads, and then tells which peers were refused.
+// Starts the threads, and then tells which peers have no session.
 fn run_all<
     's,
     'e,
@@ -99,7 +99,7 @@ fn run_all<
         let _ = log.tell_threads(started, threads);
     }
     if started > 0 {
-        tell_refused_forever(rt, desk, &mut log);
+        tell_forever(rt, desk, &mut log);
     }
     Status::Failed
 }
@@ -130,7 +130,10 @@ fn accept_forever<
                 let _ = serve(rt, alloc, connection, place, filter, desk, &mut log);
             }
             // No descriptor is free, or the connection has gone: wait, and go on.
-            Err(_) => thread::sleep(rt, Duration::from_millis(PAUSE)),
+            Err(_) => {
+                desk.lock(rt).count_not_accepted();
+                thread::sleep(rt, Duration::from_millis(PAUSE));
+            }
         }
     }
 }
@@ -166,8 +169,8 @@ fn serve<
     record_connection(alloc, connection, number, place, log)
 }
 
-// Tells once a second which peers were refused, if any were.
-fn tell_refused_forever<E: Write + Drop, R: Clock + Wait>(
+// Tells once a second which peers were refused, and how often none could be accepted, if that was so.
+fn tell_forever<E: Write + Drop, R: Clock + Wait>(
     rt: &R,
     desk: &Mutex<FrontDesk>,
     log: &mut Log<E>,
@@ -177,6 +180,10 @@ fn tell_refused_forever<E: Write + Drop, R: Clock + Wait>(
         let refused = desk.lock(rt).take_refused();
         if let Some(refused) = refused {
             let _ = log.tell_refused(refused.count, refused.last);
+        }
+        let not_accepted = desk.lock(rt).take_not_accepted();
+        if not_accepted > 0 {
+            let _ = log.tell_not_accepted(not_accepted);
         }
     }
 }
