@@ -1,5 +1,7 @@
--- The lines that tell what was opened and what is waited for, and why something was not had.
+-- The lines that tell what was opened and what is waited for, and why something was not had, or could not be read on.
 use Rattle.std.specs.Prelude.{ℕ, List, [], ◌++◌, codes, decimal, if◌then◌else◌}
+use Rattle.ipfix_session.specs.Faults.{number_of, name_of}
+use Rattle.ipfix_session.specs.declared.fault.SessionFault.TheVariants.{ReadFailed}
 use Rattle.run_reports.specs.Origins.{session_start}
 use Rattle.run_reports.specs.Reasons.{words_of}
 use Rattle.run_reports.specs.ReportLines.{not_had_line}
@@ -31,3 +33,12 @@ if_verbose telling line = if telling.verbose then line else []
 
 abbrev pub not_had_lines : Telling → List ℕ → List ℕ → Reason → List ℕ
 not_had_lines telling what name reason = if telling.verbose then because_line what name reason else not_had_line what name
+
+-- a fault, and why the system made it one
+unfoldable pub reason_text : ℕ → List ℕ → List ℕ → List ℕ
+reason_text number name words = codes ": fault " ++ (decimal number ++ (codes " " ++ (name ++ (codes ": " ++ (words ++ codes "\n")))))
+
+-- why a session could not be read on
+abbrev pub read_failed_line : ℕ → Origin → Reason → List ℕ
+read_failed_line session origin reason =
+    session_start session origin ++ reason_text (number_of ReadFailed) (name_of ReadFailed) (words_of reason)

@@ -23,7 +23,7 @@ pub use faults::{
     write_dump_fault, write_export_fault, write_fault, write_not_had, write_plan_fault,
 };
 pub use missing::write_missing;
-pub use opening::{write_listening, write_not_had_because, write_opened};
+pub use opening::{write_listening, write_not_had_because, write_opened, write_read_failed};
 pub use origin::{Origin, write_origin};
 pub use reason::Reason;
 pub use reports::write_reports;

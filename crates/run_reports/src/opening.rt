@@ -1,8 +1,9 @@
-//! The lines that tell what was opened and what is waited for, and why something was not had.
+//! The lines that tell what was opened and what is waited for, and why something was not had, or could not be
+//! read on.
 
 ghost use Rattle.std.specs.Prelude.{◌≡◌, ◌++◌, codes, OnErr, OnOk};
 ghost use Rattle.std.specs.Io.KnownBytes.{Appends};
-ghost use Rattle.run_reports.specs.OpeningLines.{if_verbose, listening_line, not_had_lines, opened_line, opened_text as text_of_opened};
+ghost use Rattle.run_reports.specs.OpeningLines.{if_verbose, listening_line, not_had_lines, opened_line, opened_text as text_of_opened, read_failed_line, reason_text};
 ghost use Rattle.run_reports.specs.ReportLines.{not_had_line};
 
 use crate::faults::write_not_had;
@@ -10,6 +11,7 @@ use crate::origin::{Origin, write_session_start};
 use crate::reason::Reason;
 use crate::telling::Telling;
 use crate::write_lines::WriteLines;
+use ipfix_session::SessionFault;
 use std::io;
 
 /// Writes the line of a session, counted from 1, whose file was opened or whose connection was accepted.
@@ -117,4 +119,51 @@ fn write_because<W: WriteLines>(what: &str, name: &str, words: &str, out: &mut W
     ensures kept { W.failed out.old → W.failed out.new }
 {
     writeln!(out, "collectd: {what}: {name}: {words}")
+}
+
+/// Writes the line of a session, counted from 1, that ended as ReadFailed, with the reason that the system gave.
+/// Nothing is written unless `telling` is verbose.
+pub fn write_read_failed<W: WriteLines>(
+    telling: Telling,
+    session: usize,
+    origin: &Origin,
+    reason: Reason,
+    out: &mut W,
+) -> io::Result<()>
+    ensures told { OnOk result (Appends (W.contents out.old) (W.contents out.new)
+        (if_verbose telling (read_failed_line session origin.now reason))) }
+    ensures failed { OnErr result (W.failed out.new) }
+    ensures kept { W.failed out.old → W.failed out.new }
+{
+    if telling.verbose {
+        write_read_failed_line(session, origin, reason, out)
+    } else {
+        Ok(())
+    }
+}
+
+fn write_read_failed_line<W: WriteLines>(
+    session: usize,
+    origin: &Origin,
+    reason: Reason,
+    out: &mut W,
+) -> io::Result<()>
+    ensures told { OnOk result (Appends (W.contents out.old) (W.contents out.new)
+        (read_failed_line session origin.now reason)) }
+    ensures failed { OnErr result (W.failed out.new) }
+    ensures kept { W.failed out.old → W.failed out.new }
+{
+    let fault = SessionFault::ReadFailed;
+    write_session_start(session, origin, out)?;
+    write_reason(fault.number(), fault.name(), reason.words(), out)
+}
+
+#[tactic(auto, unfolding(crate::specs::OpeningLines::reason_text))]
+fn write_reason<W: WriteLines>(number: u8, name: &str, words: &str, out: &mut W) -> io::Result<()>
+    ensures told { OnOk result (Appends (W.contents out.old) (W.contents out.new)
+        (reason_text number name.now words.now)) }
+    ensures failed { OnErr result (W.failed out.new) }
+    ensures kept { W.failed out.old → W.failed out.new }
+{
+    writeln!(out, ": fault {number} {name}: {words}")
 }
