@@ -112,9 +112,6 @@ both_some None b ws h = absurd cc
 both_some (Some us) None ws h = absurd cc
 both_some (Some us) (Some vs) ws h = (us, vs, refl, refl, sym (some_same (us ++ vs) ws h))
 
-no_words : (o : Option (List ℕ)) (ws : List ℕ) → o ≡ None → o ≡ Some ws → ⊥
-no_words o ws e h = cc
-
 pub key_rank : (kinds : List Kind) (cs ds : List Cell) (ws vs : List ℕ) → key_words kinds cs ≡ Some ws → key_words kinds ds ≡ Some vs → (r s : List ℕ) → words_cmp (ws ++ r) (vs ++ s) ≡ ordering_then (key_cmp cs ds) (words_cmp r s)
 key_rank [] [] [] ws vs h k r s =
     ap (λ (xs : List ℕ). words_cmp (xs ++ r) (vs ++ s)) (sym (some_same [] ws h)) ∙ ap (λ (ys : List ℕ). words_cmp r (ys ++ s)) (sym (some_same [] vs k))
@@ -130,9 +127,6 @@ key_rank (kind ∷ kinds) (c ∷ cs) (d ∷ ds) ws vs h k r s =
     ∙ cell_rank kind c d x.0 y.0 x.2 y.2 (x.1 ++ r) (y.1 ++ s)
     ∙ ap (λ (o : Ordering). ordering_then (cell_cmp c d) o) (key_rank kinds cs ds x.1 y.1 x.3 y.3 r s)
     ∙ sym (then_then (cell_cmp c d) (key_cmp cs ds) (words_cmp r s))
-
-one_long : (ws : List ℕ) (n : ℕ) → ws ≡ n ∷ [] → length ws ≡ 1
-one_long ws n e = ap length e
 
 cell_long : (kind : Kind) (c : Cell) (ws : List ℕ) → cell_words kind c ≡ Some ws → length ws ≡ words_of_kind kind
 cell_long (kinds.Unsigned width) c ws h = ap length (of_number width c ws h).2
@@ -208,11 +202,6 @@ padded_is zero (w ∷ ws) l = absurd (omega arith)
 padded_is (suc n) (w ∷ ws) l =
     let less : n - length ws ≡ suc n - suc (length ws) = omega arith in
     ap (λ (vs : List ℕ). w ∷ vs) (padded_is n ws (omega arith)) ∙ ap (λ (m : ℕ). w ∷ (ws ++ padded m [])) less
-
-pub length-padded : (n : ℕ) (ws : List ℕ) → length (padded n ws) ≡ n
-length-padded zero ws = refl
-length-padded (suc n) [] = ap suc (length-padded n [])
-length-padded (suc n) (w ∷ ws) = ap suc (length-padded n ws)
 
 pub get_or-padded : (n : ℕ) (ws : List ℕ) (i : ℕ) → length ws ≤ n → get_or (padded n ws) i 0 ≡ get_or ws i 0
 get_or-padded zero [] i l = refl

@@ -57,12 +57,3 @@ place_more keys r i d cell first inside here so_far =
     ∙ ap (λ (o : Option Cell). cond (is_none o) (Some 0) (option_map (λ (k : ℕ). suc k) (first_without (drop (suc i) keys) r))) (sym here)
     ∙ ap (λ (n : ℕ). option_map (λ (k : ℕ). suc k) (first_without (drop n keys) r)) (sym (add-one i)) in
     so_far ∙ ap (option_map (λ (k : ℕ). i + k)) next ∙ further i (first_without (drop (i + 1) keys) r)
-
-pub place_here : (keys : List Key) (r : DataRecord) (i : ℕ) (d : Key) (first : Option ℕ) → i < length keys → None ≡ cell_of (get_or keys i d) r
-    → first ≡ option_map (λ (k : ℕ). i + k) (first_without (drop i keys) r) → first ≡ Some i
-place_here keys r i d first inside here so_far =
-    let next : first_without (drop i keys) r ≡ Some 0 =
-    ap (λ (ks : List Key). first_without ks r) (drop-cons keys i d inside)
-    ∙ ap (λ (o : Option Cell). cond (is_none o) (Some 0) (option_map (λ (k : ℕ). suc k) (first_without (drop (suc i) keys) r))) (sym here) in
-    let same : i + 0 ≡ i = omega arith in
-    so_far ∙ ap (option_map (λ (k : ℕ). i + k)) next ∙ ap (λ (n : ℕ). Some n) same

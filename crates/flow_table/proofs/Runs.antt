@@ -64,19 +64,6 @@ pub run_none : (init : ℕ → List Cell → Option Total) (f : ℕ → Total) (
 run_none init f first key k q =
     elim (run_tells first first k) [ inl y ↦ absurd (omega arith) | inr n ↦ rw n.0 refl ]
 
--- what fitted before, and at the place that was added to, fits
-pub fits_step : (old new : ℕ → List Cell → Option Total) (t : Total) (i : ℕ) (key : List Cell)
-    → ((k : ℕ) (q : List Cell) → new k q ≡ joined (old k q) (place_part i key t k q)) → (IsLargeAt (new i key) → ⊥)
-    → (k : ℕ) (q : List Cell) → (IsLargeAt (old k q) → ⊥) → IsLargeAt (new k q) → ⊥
-fits_step old new t i key step here k q before big =
-    elim (intervals_tell k i) [
-      | inl y ↦ elim (keys_tell q key) [
-        | inl z ↦ here (subst (λ (p : List Cell). IsLargeAt (new i p)) z.1 (subst (λ (n : ℕ). IsLargeAt (new n q)) y.1 big))
-        | inr m ↦ before (subst IsLargeAt (step k q ∙ rw (y.0, m.0) refl) big)
-      ]
-      | inr n ↦ before (subst IsLargeAt (step k q ∙ rw n.0 refl) big)
-    ]
-
 -- a place without room
 pub run_large : (init old : ℕ → List Cell → Option Total) (f : ℕ → Total) (first end i : ℕ) (key : List Cell) → first ≤ i → i < end
     → ((k : ℕ) (q : List Cell) → old k q ≡ joined (init k q) (run_part first i key f k q))

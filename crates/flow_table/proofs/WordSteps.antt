@@ -10,7 +10,7 @@ use Rattle.ipfix_elements.specs.declared.kind.Kind.{Kind}
 use Rattle.flow_table.specs.Fitting.{FitsKeys, IsCellOf}
 use Rattle.ipfix_elements.specs.declared.kind.Kind.TheVariants.{Unsigned, Ipv4, Ipv6, Mac, Seconds, Millis, Octets}
 use Rattle.flow_table.specs.Plans.{IsPlan, PlanValue, kinds_of}
-use Rattle.flow_table.specs.Words.{address_words, spelled, both_words, cell_from, cell_words, first_of, key_from, key_words, word_count, words_of_kind}
+use Rattle.flow_table.specs.Words.{address_words, spelled, both_words, cell_words, first_of, key_words, word_count, words_of_kind}
 use Rattle.flow_table.specs.declared.key.Key.{Key}
 use Rattle.flow_table.proofs.Octets.{eight_spell, octets_pass}
 use Rattle.flow_table.proofs.PlanKeys.{passed_tests}
@@ -19,9 +19,6 @@ split_at : {X : Type 0} (xs : List X) (i : ℕ) (x : X) → i < length xs → x 
 split_at {X} xs i x l e = drop_more xs i x l ∙ ap (λ (y : X). y ∷ drop (i + 1) xs) (sym e)
 
 -- ---- counting
-
-pub count_step : (kinds : List Kind) (i : ℕ) (kind : Kind) (count all : ℕ) → i < length kinds → kind ≡ get_or kinds i kind → count + word_count (drop i kinds) ≡ all → count + words_of_kind kind + word_count (drop (i + 1) kinds) ≡ all
-count_step kinds i kind count all l e h = omega (arith, h, ap word_count (split_at kinds i kind l e))
 
 count_few : (kinds : List Kind) → word_count kinds ≤ 2 * length kinds
 count_few [] = omega arith
@@ -44,19 +41,6 @@ pub words_few : (plan : PlanValue) → IsPlan plan → word_count (kinds_of plan
 words_few plan h = let few = kinds_few plan h in let count = count_few (kinds_of plan.keys) in omega arith
 
 -- ---- reading
-
-pub key_step : (kinds : List Kind) (i : ℕ) (kind : Kind) (rest next : List ℕ) (old new all : List Cell) → i < length kinds → kind ≡ get_or kinds i kind
-    → new ≡ old ++ cell_from kind (get_or rest 0 0) (get_or rest 1 0) ∷ [] → next ≡ drop (words_of_kind kind) rest
-    → old ++ key_from (drop i kinds) rest ≡ all → new ++ key_from (drop (i + 1) kinds) next ≡ all
-key_step kinds i kind rest next old new all l e pushed after h =
-    let cell = cell_from kind (get_or rest 0 0) (get_or rest 1 0) in
-    ap (λ (cs : List Cell). cs ++ key_from (drop (i + 1) kinds) next) pushed
-    ∙ append_assoc old (cell ∷ []) (key_from (drop (i + 1) kinds) next)
-    ∙ ap (λ (ws : List ℕ). old ++ cell ∷ key_from (drop (i + 1) kinds) ws) after
-    ∙ sym (ap (λ (ks : List Kind). old ++ key_from ks rest) (split_at kinds i kind l e)) ∙ h
-
-pub key_done : (kinds : List Kind) (i : ℕ) (rest : List ℕ) (out all : List Cell) → length kinds ≤ i → out ++ key_from (drop i kinds) rest ≡ all → out ≡ all
-key_done kinds i rest out all l h = sym (append-nil out) ∙ ap (λ (ks : List Kind). out ++ key_from ks rest) (sym (drop_all i kinds l)) ∙ h
 
 -- ---- writing
 

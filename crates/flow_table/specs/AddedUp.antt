@@ -1,14 +1,14 @@
 -- Rows added up: rows of the same interval and key become one, with their sums and numbers of flows added.
-use Rattle.std.specs.Prelude.{◌≡◌, ℕ, ◌^◌, ◌≤◌, ◌⊎◌, List, [], ◌∷◌, map, Contains, Option, None}
+use Rattle.std.specs.Prelude.{◌≡◌, ℕ, ◌^◌, ◌≤◌, ◌⊎◌, List, [], ◌∷◌, map, Contains, Option, Some, None, if◌then◌else◌}
 use Rattle.std.specs.List.Sorted.{IsStrictlySortedBy}
+use Rattle.std.specs.Ordering.{nat_cmp, is_eq}
 use Rattle.ipfix_wire.specs.declared.specifier.ElementId.{ElementId}
 use Rattle.ipfix_elements.specs.declared.cell.Cell.{Cell}
-use Rattle.flow_table.specs.Rows.{place_part}
 use Rattle.ipfix_message.specs.declared.record.DataRecord.{DataRecord}
 use Rattle.flow_table.specs.declared.table.Table.{Table}
 use Rattle.flow_table.specs.Plans.{PlanValue}
 use Rattle.flow_table.specs.SameTables.{RowValue, value_of}
-use Rattle.flow_table.specs.Tables.{place_cmp, flows_at, sum_at}
+use Rattle.flow_table.specs.Tables.{key_cmp, place_cmp, flows_at, sum_at}
 use Rattle.flow_table.specs.Totals.{Total, total, joined, IsLargeAt}
 
 -- where a row stands: by interval, and then by key
@@ -19,9 +19,9 @@ place row = (row.interval, row.key)
 abbrev pub total_of : RowValue → Total
 total_of row = total row.sums row.flows
 
--- what it has at an interval and a key
+-- what it has at an interval and a key: its totals if they are its own, otherwise nothing
 abbrev pub part_of : RowValue → ℕ → List Cell → Option Total
-part_of row k key = place_part row.interval row.key (total_of row) k key
+part_of row k key = if is_eq (nat_cmp k row.interval) then (if is_eq (key_cmp key row.key) then Some (total_of row) else None) else None
 
 -- what rows have there, one after another, added to what there is before them
 abbrev pub added_to : Option Total → List RowValue → ℕ → List Cell → Option Total

@@ -11,10 +11,11 @@ pub mod Fitting
 pub mod Bags
 pub mod SamePlans
 pub mod SameTables
+pub mod Totals
 pub mod AddedUp
 pub mod RowTotals
 -- What only inner functions and proofs need.
-pub mod Totals
+pub mod SamePlanLaws
 pub mod Rows
 pub mod Words
 pub mod LeftOut

@@ -1,5 +1,5 @@
 -- What flows with the same key add up to in an interval.
-use Rattle.std.specs.Prelude.{◌≡◌, ℕ, ◌+◌, ◌^◌, ◌≤◌, ◌⊎◌, List, [], ◌∷◌, Option, Some, None}
+use Rattle.std.specs.Prelude.{ℕ, ◌+◌, ◌^◌, ◌≤◌, ◌⊎◌, List, [], ◌∷◌, Option, Some, None}
 
 -- the sums of the counters' shares, and the number of flows
 pub record Total : Type 0 where
@@ -37,16 +37,3 @@ IsLargeAt None = ⊥
 IsLargeAt (Some t) = IsLarge t
 
 -- ---- totals that are merged with others, place by place
-
--- at each place there is afterwards what there was and the others
-abbrev pub Joins : {I : Type 0} → (I → Option Total) → (I → Option Total) → (I → Option Total) → Type 0
-Joins {I} before others after = (i : I) → after i ≡ joined (before i) (others i)
-
--- no number is too large afterwards where neither was
-abbrev pub StaysSmall : {I : Type 0} → (I → Option Total) → (I → Option Total) → (I → Option Total) → Type 0
-StaysSmall {I} before others after =
-    (i : I) → (IsLargeAt (before i) → ⊥) → (IsLargeAt (others i) → ⊥) → IsLargeAt (after i) → ⊥
-
--- some number would be too large
-abbrev pub WouldBeLarge : {I : Type 0} → (I → Option Total) → (I → Option Total) → Type 0
-WouldBeLarge {I} before others = (i : I) × IsLargeAt (joined (before i) (others i))

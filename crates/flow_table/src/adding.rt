@@ -35,12 +35,14 @@ fn add_at(
     interval: u64,
     room: &mut Room,
 ) -> Result<(), TableFault>
-    requires words { key_words (kinds_of plan.now.keys) room.old.key.items ≡ Some room.old.words.items }
+    requires words { key_words (kinds_of plan.now.keys) room.old.key.items
+        ≡ Some room.old.words.items }
     requires counters { length room.old.counters.items ≡ length plan.now.counters }
     ensures rows { AreRowsOf plan.now rows.old → AreRowsOf plan.now rows.new }
     ensures ok { AreRowsOf plan.now rows.old → OnOk result ((k : ℕ) (q : List CellValue)
         → kept_at plan.now rows.new k q ≡ joined (kept_at plan.now rows.old k q)
-        (place_part interval room.old.key.items (flow_total plan.now span.start span.end room.old.counters.items interval) k q)) }
+        (place_part interval room.old.key.items
+        (flow_total plan.now span.start span.end room.old.counters.items interval) k q)) }
     ensures fits { OnOk result ((k : ℕ) (q : List CellValue)
         → IsLargeAt (kept_at plan.now rows.new k q) → ⊥) }
     ensures large { AreRowsOf plan.now rows.old → IfErr result (λ e. e ≡ SumTooLarge
@@ -58,7 +60,8 @@ fn add_at(
 /// Adds the shares of a flow, whose key and counters were read, to the totals of its key at all
 /// intervals that it contributes to.
 pub fn add_flow(plan: &Plan, rows: &mut Rows, span: Span, room: &mut Room) -> Result<(), TableFault>
-    requires words { key_words (kinds_of plan.now.keys) room.old.key.items ≡ Some room.old.words.items }
+    requires words { key_words (kinds_of plan.now.keys) room.old.key.items
+        ≡ Some room.old.words.items }
     requires counters { length room.old.counters.items ≡ length plan.now.counters }
     ensures rows { AreRowsOf plan.now rows.old → AreRowsOf plan.now rows.new }
     ensures ok { AreRowsOf plan.now rows.old → OnOk result ((k : ℕ) (q : List CellValue)

@@ -170,7 +170,8 @@ fn kinds_of(alloc: Global, keys: &[Key]) -> Result<Vec<Kind>, AllocError>
 
 impl PartialEq for Plan {
     ghost use Rattle.std.specs.Cmp.{partial_equiv_from_equiv};
-    ghost use Rattle.flow_table.specs.SamePlans.{same_plan, same_plan_laws};
+    ghost use Rattle.flow_table.specs.SamePlans.{same_plan};
+    ghost use Rattle.flow_table.specs.SamePlanLaws.{same_plan_laws};
 
     ghost eq = { same_plan };
 
@@ -186,7 +187,7 @@ impl PartialEq for Plan {
 }
 
 impl Eq for Plan {
-    ghost use Rattle.flow_table.specs.SamePlans.{same_plan_laws};
+    ghost use Rattle.flow_table.specs.SamePlanLaws.{same_plan_laws};
 
     ghost laws = { same_plan_laws };
 }

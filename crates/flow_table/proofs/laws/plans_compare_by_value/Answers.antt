@@ -1,4 +1,4 @@
-use Rattle.flow_table.specs.SamePlans.{same_plan-tells}
+use Rattle.flow_table.specs.SamePlanLaws.{same_plan-tells}
 use Rattle.flow_table.proofs.laws.plans_compare_by_value.Goals as goal
 
 pub returns : goal.returns
