@@ -81,11 +81,15 @@ number_field p = field p.0 (number_octets p.1)
 abbrev pub key_field : Key × Cell → Field
 key_field p = field (exported_element p.0) (cell_octets p.1 (key_width p.0))
 
--- the first and the last millisecond of the interval, the key, the sums and the number of flows
+-- two times in milliseconds, a cell for each key, a sum for each counter, and a number of flows
+abbrev pub fields_of : PlanValue → ℕ → ℕ → List Cell → List ℕ → ℕ → List Field
+fields_of plan start end key sums flows =
+    number_field (iana FLOW_START_MILLISECONDS, start) ∷ number_field (iana FLOW_END_MILLISECONDS, end) ∷
+    (map key_field (zip plan.keys key) ++ (map number_field (zip plan.counters sums) ++ number_field (iana ORIGINAL_FLOWS_PRESENT, flows) ∷ []))
+
+-- those of a row: the first and the last millisecond of its interval, its key, its sums and its number of flows
 abbrev pub row_fields : PlanValue → RowValue → List Field
-row_fields plan row =
-    number_field (iana FLOW_START_MILLISECONDS, first_of plan row) ∷ number_field (iana FLOW_END_MILLISECONDS, last_of plan row) ∷
-    (map key_field (zip plan.keys row.key) ++ (map number_field (zip plan.counters row.sums) ++ number_field (iana ORIGINAL_FLOWS_PRESENT, row.flows) ∷ []))
+row_fields plan row = fields_of plan (first_of plan row) (last_of plan row) row.key row.sums row.flows
 
 -- a row is its fields, one after another
 abbrev pub row_octets : PlanValue → RowValue → List ℕ

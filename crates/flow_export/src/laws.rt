@@ -5,6 +5,7 @@ ghost use Rattle.csv.specs.Writing.{default_writer, row_text};
 ghost use Rattle.flow_table.specs.Plans.{PlanValue};
 ghost use Rattle.flow_table.specs.SameTables.{RowValue};
 ghost use Rattle.flow_export.specs.CsvText.{line, heading, row_texts};
+ghost use Rattle.flow_export.specs.declared.ipfix_text.rows.TheConstants.{ROWS_A_MESSAGE};
 
 mod examples;
 
@@ -17,4 +18,9 @@ pub fn nothing_is_quoted()
         → row_text default_writer (heading plan) ≡ line (heading plan) }
     ensures rows { (plan : PlanValue) (row : RowValue)
         → row_text default_writer (row_texts plan row) ≡ line (row_texts plan row) }
+{}
+
+/// A message of IPFIX has at most 100 rows.
+pub fn limits()
+    ensures { ROWS_A_MESSAGE ≡ 100 }
 {}

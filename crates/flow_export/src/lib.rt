@@ -16,4 +16,3 @@ pub use fault::ExportFault;
 pub use format::Format;
 pub use ipfix_text::{ROWS_A_MESSAGE, ipfix_bytes, write_ipfix};
 pub use json_text::write_json;
-pub use key_name::write_key;
