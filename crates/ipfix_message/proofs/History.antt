@@ -1,12 +1,14 @@
 -- What is kept for the domains of a session.
 use Rattle.std.proofs.Common.{◌≡◌, ℕ, ◌<◌, ◌≤◌, Bool, true, false, cond, ltb, eqb, List, [], ◌∷◌, ◌++◌, length, drop, Option, Some, None, Result, Ok, Err, refl, sym, ap, subst, ◌∙◌, arith, inl, inr, is_some}
+use Rattle.std.specs.Prelude.{IsOk, MatchBool}
 use Rattle.std.specs.Map.{lookup, keys_of, set_value}
 use Rattle.std.specs.Option.{unwrap_or, option_and_then, option_map}
 use Rattle.std.proofs.lemmas.Bool.Decides.{eqb_tells}
 use Rattle.std.specs.BTreeMap.{BTreeMap}
+use Rattle.std.specs.List.{AllZip}
 use Rattle.std.proofs.lemmas.Map.Made.{lookup-map_values}
 use Rattle.std.proofs.lemmas.Map.Entries.{length-keys_of}
-use Rattle.std.proofs.lemmas.Bool.{ltb-false, le-ltb, lt-ltb, eqb-true}
+use Rattle.std.proofs.lemmas.Bool.{ltb-false, ltb-true, le-ltb, lt-ltb, eqb-true}
 use Rattle.std.proofs.lemmas.List.{map-append}
 use Rattle.ipfix_message.specs.declared.fault.MessageFault.{MessageFault}
 use Rattle.ipfix_message.specs.declared.fault.MessageFault.TheVariants.{MessageLength, TooManyDomains}
@@ -24,7 +26,7 @@ use Rattle.ipfix_message.proofs.Reading.{Fails-of, ok_is, not_both, bind_ok}
 use Rattle.ipfix_wire.proofs.Choices.{chosen, different}
 use Rattle.ipfix_message.specs.TemplatesInForce.{in_force}
 use Rattle.ipfix_message.specs.Held.{template_in, Agrees, Holds, Reaches, Admits}
-use Rattle.ipfix_message.specs.Domains.{History, IsAdmitted, admit, with_events, of_wire, message_header, message_gives, Message, StandsFor, Decodes, template_for}
+use Rattle.ipfix_message.specs.Domains.{History, IsAdmitted, admit, with_events, of_wire, message_header, message_gives, Message, StandsFor, Decodes, template_for, alone}
 use Rattle.ipfix_message.specs.Kept.{kept}
 
 -- ---- what is kept at each domain
@@ -353,6 +355,61 @@ templates_for xs ds domain id (Some m) stands e = sym (template_for-some xs ds d
 -- no domains stand for none
 pub stands-none : StandsFor [] []
 stands-none = record { domains = refl; templates = λ domain id. refl }
+
+-- ---- whether a domain finds room
+
+pub has_room-known : (es : List (ℕ × BTreeMap ℕ Template)) (ds : History) (domain : ℕ) → StandsFor (kept es) ds → is_some (lookup (eqb domain) es) ≡ true → IsOk (admit ds domain)
+has_room-known es ds domain stands there = let a = admit-known es ds domain stands there in rw a.1 refl
+
+pub has_room-new : (es : List (ℕ × BTreeMap ℕ Template)) (ds : History) (domain n : ℕ) → StandsFor (kept es) ds → is_some (lookup (eqb domain) es) ≡ false → n ≡ length es
+    → MatchBool (ltb n 1024) (IsOk (admit ds domain)) (admit ds domain ≡ Err TooManyDomains)
+has_room-new es ds domain n stands new size = by_test (ltb n 1024) refl
+  where
+    by_test : (b : Bool) → ltb n 1024 ≡ b → MatchBool b (IsOk (admit ds domain)) (admit ds domain ≡ Err TooManyDomains)
+    by_test true e = rw (admit-room es ds domain stands new (omega (arith, size, ltb-true n 1024 e))) refl
+    by_test false e = admit-full es ds domain stands new (omega (arith, size, ltb-false n 1024 e))
+
+-- ---- one domain alone
+
+abbrev IsCopy : ℕ × Template → ℕ × Template → Type 0
+IsCopy p q = (q.0 ≡ p.0) × (q.1 ≡ p.1)
+
+entry_is : (p q : ℕ × Template) → IsCopy p q → q ≡ p
+entry_is p q h = ap (λ (k : ℕ). (k, q.1)) h.0 ∙ ap (λ (t : Template). (p.0, t)) h.1
+
+-- a map whose entries are copies has the same
+pub copied : (es fs : List (ℕ × Template)) → AllZip IsCopy es fs → fs ≡ es
+copied [] [] h = refl
+copied [] (f ∷ fs) h = absurd h
+copied (e ∷ es) [] h = absurd h
+copied (e ∷ es) (f ∷ fs) h = ap (λ (x : ℕ × Template). x ∷ fs) (entry_is e f h.0) ∙ ap (λ (xs : List (ℕ × Template)). e ∷ xs) (copied es fs h.1)
+
+alone_none : (a : Option (List (ℕ × Template))) (ds : History) (domain : ℕ) (b : Option (List Event)) → a ≡ None → lookup (eqb domain) ds ≡ b → AgreesAt a b → alone ds domain ≡ []
+alone_none a ds domain None ea eb h = ap (λ (o : Option (List Event)). elim o [ None ↦ [] | Some es ↦ (domain, es) ∷ [] ]) eb
+alone_none a ds domain (Some es) ea eb h = absurd (subst (λ (o : Option (List (ℕ × Template))). AgreesAt o (Some es)) ea h)
+
+pub stands_alone-none : (xs : List (ℕ × BTreeMap ℕ Template)) (ds : History) (domain : ℕ) → StandsFor (kept xs) ds → lookup (eqb domain) xs ≡ None → StandsFor [] (alone ds domain)
+stands_alone-none xs ds domain stands none =
+    let e = alone_none (lookup (eqb domain) (kept xs)) ds domain (lookup (eqb domain) ds) (lookup-kept domain xs ∙ ap (option_map (λ (x : BTreeMap ℕ Template). x.entries)) none) refl (stands-at (kept xs) ds stands domain) in
+    rw e stands-none
+
+alone_some : (a : Option (List (ℕ × Template))) (ds : History) (domain : ℕ) (b : Option (List Event)) (entries : List (ℕ × Template)) → a ≡ Some entries → lookup (eqb domain) ds ≡ b → AgreesAt a b
+    → StandsFor ((domain, entries) ∷ []) (alone ds domain)
+alone_some a ds domain (Some es) entries ea eb h =
+    let e : alone ds domain ≡ (domain, es) ∷ [] = ap (λ (o : Option (List Event)). elim o [ None ↦ [] | Some fs ↦ (domain, fs) ∷ [] ]) eb in
+    let agrees : Agrees entries es = subst (λ (o : Option (List (ℕ × Template))). AgreesAt o (Some es)) ea h in
+    rw e (stands-from ((domain, entries) ∷ []) ((domain, es) ∷ []) refl (λ q. at (eqb q domain) es agrees))
+  where
+    at : (b : Bool) (es : List Event) → Agrees entries es → AgreesAt (cond b (Some entries) None) (cond b (Some es) None)
+    at true es agrees = agrees
+    at false es agrees = tt
+alone_some a ds domain None entries ea eb h = absurd (subst (λ (o : Option (List (ℕ × Template))). AgreesAt o None) ea h)
+
+pub stands_alone : (xs : List (ℕ × BTreeMap ℕ Template)) (ds : History) (domain : ℕ) (m n : BTreeMap ℕ Template) → StandsFor (kept xs) ds → lookup (eqb domain) xs ≡ Some m → AllZip IsCopy m.entries n.entries
+    → StandsFor ((domain, n.entries) ∷ []) (alone ds domain)
+stands_alone xs ds domain m n stands some is =
+    rw (copied m.entries n.entries is)
+    (alone_some (lookup (eqb domain) (kept xs)) ds domain (lookup (eqb domain) ds) m.entries (lookup-kept domain xs ∙ ap (option_map (λ (x : BTreeMap ℕ Template). x.entries)) some) refl (stands-at (kept xs) ds stands domain))
 
 -- ---- the domains after a message
 

@@ -1,5 +1,5 @@
 -- The domains of a session with their events, and what a message gives after them (RFC 7011, sections 3.1 and 8).
-use Rattle.std.specs.Prelude.{◌≡◌, ℕ, Bool, nat_lt, ◌==◌, nat_eq, is_some, if◌then◌else◌, List, [], ◌∷◌, ◌++◌, length, drop, Option, Result, Ok, Err, IsOk}
+use Rattle.std.specs.Prelude.{◌≡◌, ℕ, Bool, nat_lt, ◌==◌, nat_eq, is_some, if◌then◌else◌, List, [], ◌∷◌, ◌++◌, length, drop, Option, Some, None, Result, Ok, Err, IsOk}
 use Rattle.std.specs.Map.{lookup, keys_of, set_value}
 use Rattle.std.specs.Option.{unwrap_or, option_and_then}
 use Rattle.std.specs.Ordering.{nat_cmp, eq_by_cmp}
@@ -30,6 +30,10 @@ events_in ds domain = unwrap_or (lookup (nat_eq domain) ds) []
 -- the template that is in force for an id in a domain
 abbrev pub template_for : History → ℕ → ℕ → Option Template
 template_for ds domain id = option_and_then (λ es. in_force es id) (lookup (nat_eq domain) ds)
+
+-- one of the domains alone, if it has appeared
+abbrev pub alone : History → ℕ → History
+alone ds domain = elim (lookup (nat_eq domain) ds) [ None ↦ [] | Some es ↦ (domain, es) ∷ [] ]
 
 -- ---- what a message gives
 

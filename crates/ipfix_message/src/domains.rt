@@ -1,18 +1,18 @@
 //! The domains of a transport session, which decode its messages (RFC 7011, sections 3.1 and 8).
 
-ghost use Rattle.std.specs.Prelude.{[], ◌≡◌, false, true, IsTrue, ℕ, IsErrOf, OnOk, OnErr, Ok, Err, None, option_copied, option_and_then};
+ghost use Rattle.std.specs.Prelude.{[], ◌≡◌, false, true, IsTrue, ℕ, IsErrOf, IsOk, IfOk, OnOk, OnErr, Ok, Err, MatchBool, None, option_copied, option_and_then};
 ghost use Rattle.std.specs.Ordering.{nat_cmp};
 ghost use Rattle.std.specs.BTreeMap.{get};
-ghost use Rattle.ipfix_message.specs.Domains.{History, StandsFor, Decodes, IsAdmitted, message_header, message_gives, template_for};
-ghost use Rattle.ipfix_message.specs.declared.fault.MessageFault.TheVariants.{OutOfMemory, Spent};
+ghost use Rattle.ipfix_message.specs.Domains.{History, StandsFor, Decodes, IsAdmitted, admit, message_header, message_gives, template_for, alone};
+ghost use Rattle.ipfix_message.specs.declared.fault.MessageFault.TheVariants.{OutOfMemory, Spent, TooManyDomains};
 
 use crate::fault::MessageFault;
 use crate::in_force::Templates;
-use crate::message::{Decoded, header_of, read_message};
+use crate::message::{Decoded, MAX_DOMAINS, header_of, read_message};
 use crate::record::Template;
 use indexmap::IndexMap;
 use ipfix_wire::Header;
-use std::alloc::Global;
+use std::alloc::{AllocError, Global};
 use std::marker::Model;
 
 /// The observation domains of a transport session, in order of first appearance, with the templates
@@ -125,5 +125,38 @@ impl Domains {
             return None;
         }
         self.known.get(&domain)
+    }
+
+    /// Whether a message of a domain can be taken: the domain is one of these, or finds room among them.
+    pub fn has_room(&self, domain: u32) -> bool
+        ensures { (ds : History) → StandsFor self.now.domains ds → MatchBool result
+            (IsOk (admit ds domain)) (admit ds domain ≡ Err TooManyDomains) }
+    {
+        if self.known.contains_key(&domain) {
+            return true;
+        }
+        self.known.len() < MAX_DOMAINS
+    }
+
+    /// One of the domains alone, with the templates that are in force in it, or none if it has not
+    /// appeared. What is decoded there changes nothing here.
+    pub fn alone(&self, alloc: Global, domain: u32) -> Result<Domains, AllocError>
+        ensures spent { IfOk result (λ d. d.spent ≡ self.now.spent) }
+        ensures templates { IfOk result (λ d. (ds : History) → StandsFor self.now.domains ds
+            → StandsFor d.domains (alone ds domain)) }
+    {
+        let mut known = IndexMap::new(alloc);
+        let Some(templates) = self.known.get(&domain) else {
+            return Ok(Domains {
+                known,
+                spent: self.spent,
+            });
+        };
+        let copy = templates.clone()?;
+        let _ = known.insert(domain, copy)?;
+        Ok(Domains {
+            known,
+            spent: self.spent,
+        })
     }
 }

@@ -27,7 +27,7 @@ pub use fault::MessageFault;
 pub use field_block::Fields;
 pub use field_iter::{FieldIter, FieldRef};
 pub use in_force::Templates;
-pub use message::Decoded;
+pub use message::{Decoded, header_of};
 pub use passed_over::PassedOver;
 pub use record::{DataRecord, Specs, Template};
 pub use template_in_force::TemplateInForce;

@@ -21,8 +21,8 @@ use ipfix_wire::{HEADER_LENGTH, Header, read_header};
 use std::alloc::Global;
 use std::collections::BTreeMap;
 
-// How many domains a session may have.
-const MAX_DOMAINS: usize = 1024;
+/// How many domains a session may have.
+pub const MAX_DOMAINS: usize = 1024;
 
 /// The header of a message, whose length is that of the message.
 #[tactic(auto, unfolding(crate::specs::Domains::message_header))]

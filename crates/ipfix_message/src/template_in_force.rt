@@ -88,6 +88,17 @@ impl Model for TemplateInForce {
         × IsTemplate (arc_value k.template) };
 }
 
+impl Clone for TemplateInForce {
+    ghost is_clone = { λ t u. u ≡ t };
+
+    fn clone(&self) -> Result<TemplateInForce, AllocError> {
+        Ok(TemplateInForce {
+            template: self.share()?,
+            least: self.least,
+        })
+    }
+}
+
 impl TemplateInForce {
     /// The template of a definition, of whose records the layout is found.
     pub fn new(alloc: Global, definition: Definition) -> Result<Self, AllocError>
