@@ -24,7 +24,7 @@ compare: bin/collectd ; @tests/more/compare && tests/more/stress && tests/more/e
 
 hostile: bin/collectd ; @tests/more/peers
 
-soak: bin/collectd ; @tests/more/soak
+soak: bin/collectd ; @tests/more/soak && tests/more/soak_recordings
 
 scale: bin/collectd ; @tests/more/scale
 

@@ -3,9 +3,11 @@
 // REFUSE=5 refuses the fifth call that asks for memory, REFUSE=5.. that one and all after it, whatever thread makes it;
 // what the system's libraries ask for counts, too. With REFUSE_WHAT=reads, writes, threads, accepts or limits calls
 // that read, write, start a thread, accept a connection or set an option of a socket, as its limits are, fail in place of
-// those. With REFUSE_WHAT=octets nothing fails, and each read and write moves one octet. With REFUSE_WHAT=interruptions
-// every other call that reads, writes or accepts a connection is interrupted. Each time a letter is written to descriptor
-// 9, if that is open. A program that still runs after twenty seconds gets SIGALRM.
+// those; with files, directories, syncs, names, erasures those that open a file, make a folder, sync one, give a second name
+// or take one; with privileges those that give a second name, as where a file system has none. With REFUSE_WHAT=octets
+// nothing fails, and each read and write moves one octet. With REFUSE_WHAT=interruptions every other call that reads,
+// writes or accepts a connection is interrupted. Each time a letter is written to descriptor 9, if that is open. A program
+// that still runs after twenty seconds gets SIGALRM.
 //
 // The toolchain's clang builds it, and has no headers, so that all that is called is declared here.
 
@@ -22,7 +24,9 @@ extern void *dlsym(void *, const char *);
 extern int *__errno_location(void);
 
 enum { READ = 0, WRITE = 1, RECEIVE = 45, SET_OPTION = 54, ACCEPT = 288 };
-enum { INTERRUPTED = 4, DEVICE = 5, AGAIN = 11, NO_MEMORY = 12, SECONDS = 20 };
+enum { SYNC = 74, MAKE_FOLDER = 83, LINK = 86, UNLINK = 87, OPEN = 257 };
+enum { NOT_ALLOWED = 1, INTERRUPTED = 4, DEVICE = 5, AGAIN = 11, NO_MEMORY = 12, TOO_MANY = 24, NO_SPACE = 28, SECONDS = 20 };
+enum { HERE = -100 };
 
 // The first letter of what is refused; the first such call, 0 for none, and whether those after it are refused, too.
 static char what = 'm';
@@ -103,6 +107,25 @@ long __write(int to, const void *from, size_t size) { return write(to, from, siz
 int accept4(int listener, void *peer, void *size, int flags) {
   return is_refused('a', DEVICE) || is_interrupted() ? -1 : (int)syscall(ACCEPT, listener, peer, size, flags);
 }
+
+// (the mode of a file that is made is the last argument, if there is one)
+int openat(int at, const char *path, int flags, unsigned mode) {
+  return is_refused('f', TOO_MANY) ? -1 : (int)syscall(OPEN, at, path, flags, mode);
+}
+
+int open(const char *path, int flags, unsigned mode) { return openat(HERE, path, flags, mode); }
+
+int mkdir(const char *path, unsigned mode) {
+  return is_refused('d', NO_SPACE) ? -1 : (int)syscall(MAKE_FOLDER, path, mode);
+}
+
+int fsync(int of) { return is_refused('s', DEVICE) ? -1 : (int)syscall(SYNC, of); }
+
+int link(const char *from, const char *to) {
+  return is_refused('n', DEVICE) || is_refused('p', NOT_ALLOWED) ? -1 : (int)syscall(LINK, from, to);
+}
+
+int unlink(const char *path) { return is_refused('e', DEVICE) ? -1 : (int)syscall(UNLINK, path); }
 
 int setsockopt(int of, int level, int option, const void *value, unsigned size) {
   return is_refused('l', DEVICE) ? -1 : (int)syscall(SET_OPTION, of, level, option, value, size);
