@@ -35,5 +35,3 @@ IsLarge t = HasLarge t.sums ⊎ (2 ^ 64 ≤ t.flows)
 abbrev pub IsLargeAt : Option Total → Type 0
 IsLargeAt None = ⊥
 IsLargeAt (Some t) = IsLarge t
-
--- ---- totals that are merged with others, place by place
