@@ -1,13 +1,11 @@
 -- Why a data record is no row's under a plan.
-use Rattle.std.specs.Prelude.{◌≡◌, ℕ, ◌+◌, ◌-◌, ◌*◌, ◌^◌, ◌<◌, List, [], ◌∷◌, ◌++◌, length, map, zip, All, codes}
+use Rattle.std.specs.Prelude.{◌≡◌, ℕ, ◌+◌, ◌-◌, ◌*◌, ◌^◌, ◌<◌, List, length, All, codes}
 use Rattle.ipfix_elements.specs.declared.cell.Cell.{Cell}
-use Rattle.ipfix_elements.specs.declared.iana.TheConstants.{FLOW_START_MILLISECONDS, FLOW_END_MILLISECONDS, ORIGINAL_FLOWS_PRESENT}
 use Rattle.ipfix_message.specs.Fields.{Field}
 use Rattle.ipfix_message.specs.declared.record.DataRecord.{DataRecord}
 use Rattle.flow_table.specs.Fitting.{FitsKeys}
 use Rattle.flow_table.specs.Plans.{PlanValue}
-use Rattle.ipfix_elements.specs.Elements.{iana}
-use Rattle.flow_export.specs.IpfixText.{key_field, number_field}
+use Rattle.flow_export.specs.IpfixText.{fields_of}
 use Rattle.flow_merge.specs.declared.row_fault.RowFault.{RowFault}
 use Rattle.flow_merge.specs.declared.row_fault.RowFault.TheVariants.{OutOfMemory, Template, Fields, Interval, Prefix, Flows}
 use Rattle.flow_merge.specs.RowRecords.{AreProjected, IsOfTemplate}
@@ -21,15 +19,9 @@ pub record FieldValues : Type 0 where
   pub sums : List ℕ
   pub flows : ℕ
 
--- the fields that tell them
-abbrev pub fields_of : PlanValue → FieldValues → List Field
-fields_of plan v =
-    number_field (iana FLOW_START_MILLISECONDS, v.start) ∷ number_field (iana FLOW_END_MILLISECONDS, v.end) ∷
-    (map key_field (zip plan.keys v.key) ++ (map number_field (zip plan.counters v.sums) ++ number_field (iana ORIGINAL_FLOWS_PRESENT, v.flows) ∷ []))
-
--- fields of the plan's exports, in their order and in their full width
+-- the fields tell them, in the order of the plan's exports and in their full width
 pub record Tell (plan : PlanValue) (fields : List Field) (v : FieldValues) : Type 0 where
-  pub told : fields ≡ fields_of plan v
+  pub told : fields ≡ fields_of plan v.start v.end v.key v.sums v.flows
   pub key : FitsKeys plan.keys v.key
   pub sums : length v.sums ≡ length plan.counters
   pub start : v.start < 2 ^ 64
