@@ -41,13 +41,6 @@ bound_exact total x bound most new l m w h q i =
       | inr e ↦ subst (λ (k : List ℕ). total k i + part k i x ≤ new) e (omega (arith, part_own x i, h i))
     ]
 
-pub bound_more : (total : List ℕ → ℕ → ℕ) (x : Row) (bound most new : ℕ) → bound + most ≤ new → ((q : List ℕ) (i : ℕ) → total q i ≤ bound) → ((i : ℕ) → get_or x.numbers i 0 ≤ most) → (q : List ℕ) (i : ℕ) → total q i + part q i x ≤ new
-bound_more total x bound most new l w h q i =
-    elim (split q i x (words_cmp x.key q) refl) [
-      | inl e ↦ omega (arith, w q i, e)
-      | inr e ↦ subst (λ (k : List ℕ). total k i + part k i x ≤ new) e (omega (arith, part_own x i, h i, w x.key i))
-    ]
-
 -- the greatest of an ascending list's rows with what another total has of their keys
 pub both_within : (xs : List Row) (total : List ℕ → ℕ → ℕ) (most : ℕ) → Ascends xs → ((k : ℕ) (d : Row) → k < length xs → (j : ℕ) → total (get_or xs k d).key j + get_or (get_or xs k d).numbers j 0 ≤ most) → ((q : List ℕ) (i : ℕ) → total q i ≤ most) → (q : List ℕ) (i : ℕ) → total_at xs q i + total q i ≤ most
 both_within [] total most a h w q i = omega (arith, w q i)

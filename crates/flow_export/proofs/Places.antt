@@ -1,13 +1,9 @@
 -- Pieces that are written at places, one after another.
-use Rattle.std.proofs.Common.{◌≡◌, ℕ, ◌+◌, ◌<◌, List, [], ◌∷◌, ◌++◌, length, get_or, take, refl, sym, ap, ◌∙◌, append_assoc, length-append, arith}
+use Rattle.std.proofs.Common.{◌≡◌, ℕ, ◌+◌, ◌<◌, List, [], ◌∷◌, ◌++◌, length, get_or, take, sym, ap, ◌∙◌, append_assoc, length-append, arith}
 use Rattle.std.specs.List.{flat_map}
 use Rattle.std.proofs.lemmas.List.{append-nil, take_more}
 use Rattle.std.proofs.lemmas.Grind.{flat_map-append}
 use Rattle.flow_export.specs.Placed.{Placed}
-
--- nothing is written yet
-pub none_placed : (a : List ℕ) (at : ℕ) → Placed a a at [] at
-none_placed a at = record { written = sym (append-nil (take at a)); moved = omega arith; room = refl }
 
 -- the next piece begins where the one before it ended
 pub then_placed : {a b c xs ys : List ℕ} {i j k : ℕ} → Placed a b i xs j → Placed b c j ys k → Placed a c i (xs ++ ys) k

@@ -4,7 +4,7 @@ use Rattle.std.specs.Prelude.{nat_lt, if◌then◌else◌}
 use Rattle.std.specs.Int.{bit_at}
 use Rattle.std.proofs.lemmas.Bool.{cases_lt, cond-true, cond-false, lt-ltb, le-ltb}
 use Rattle.std.proofs.lemmas.Nat.Bits.{bit_at_cat_low, bit_at_cat_high, bit_at-zero}
-use Rattle.std.proofs.Math.Nat.{div-add-mod', mod-lt, one-le-pow, mod-eq_of_lt}
+use Rattle.std.proofs.Math.Nat.{div-add-mod', mod-lt, one-le-pow}
 use Rattle.byteorder.specs.Endian.{big_number}
 use Rattle.byteorder.specs.Numbers.{big_number-reads_back}
 use Rattle.ipfix_elements.specs.Prefixes.{address_bit, masked}
@@ -12,9 +12,6 @@ use Rattle.ipfix_elements.specs.Prefixes.{address_bit, masked}
 -- what is kept is no more than the number
 pub kept-le : (n k : ℕ) → n / 2 ^ k * 2 ^ k ≤ n
 kept-le n k = omega (arith, div-add-mod' n (2 ^ k))
-
-pub kept_fits : (n k : ℕ) → n < 2 ^ 32 → n / 2 ^ k * 2 ^ k % 2 ^ 64 ≡ n / 2 ^ k * 2 ^ k
-kept_fits n k small = mod-eq_of_lt (omega (arith, kept-le n k))
 
 -- bit j of what is kept when the low k bits are dropped
 kept_high : (n k j : ℕ) → k ≤ j → bit_at (n / 2 ^ k * 2 ^ k) j ≡ bit_at n j

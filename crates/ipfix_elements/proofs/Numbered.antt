@@ -1,5 +1,5 @@
 -- The form e<pen>.<number>: what is written is read again, and nothing else is read.
-use Rattle.std.proofs.Common.{◌≡◌, ℕ, ◌+◌, ◌<◌, ◌^◌, true, List, [], ◌∷◌, ◌++◌, length, get_or, take, drop, Option, Some, None, Result, refl, sym, ap, subst, ◌∙◌, inl, inr, append_assoc, length-append, arith}
+use Rattle.std.proofs.Common.{◌≡◌, ℕ, ◌+◌, ◌<◌, ◌^◌, true, List, [], ◌∷◌, ◌++◌, length, get_or, take, drop, Option, Some, None, Result, refl, sym, ap, subst, ◌∙◌, append_assoc, length-append, arith}
 use denote.Bor.{Bor}
 use Rattle.std.specs.Prelude.{◌==◌, ◌≢◌}
 use Rattle.std.specs.Option.{MatchOption, IsSomeAnd}
@@ -18,7 +18,6 @@ use Rattle.std.proofs.lemmas.Slice.Eq.{bytes_eq-Decides}
 use Rattle.std.proofs.Math.Seq.{get_or-append_seam}
 use Rattle.ipfix_wire.specs.declared.specifier.ElementId.{ElementId}
 use Rattle.ipfix_elements.specs.Names.{IsElement, numbered_text, numbers_in, numbered_element}
-use Rattle.ipfix_elements.proofs.Lookups.{cases_Option}
 
 digits : IsNumeralModel (AllDigits 10) (digits_value 10)
 digits = numerals_by_value (AllDigits 10) tells_digits
@@ -83,14 +82,6 @@ numbered_so t e h =
       record { pen = subst (λ (d : ElementId). d.pen < 2 ^ 32) chosen.1 pen; number = subst (λ (d : ElementId). d.number < 2 ^ 15) chosen.1 number },
       (bytes_eq-Decides t (numbered_text (numbers_in t))).0 both.0 ∙ ap numbered_text chosen.1,
     )
-
--- nothing is read where nothing is written so
-pub not_numbered : (t : List ℕ) → ((e : ElementId) → IsElement e → t ≡ numbered_text e → ⊥) → None ≡ numbered_element t
-not_numbered t none =
-    elim (cases_Option (numbered_element t)) [
-      | inl e ↦ sym e
-      | inr found ↦ let so = numbered_so t found.0 found.1 in absurd (none found.0 so.0 so.1)
-    ]
 
 -- a decimal number is parsed
 pub parsed : {E : Type 0} (k n : ℕ) (bs : List ℕ) (r : Result ℕ E) (o : Option ℕ) → n < 2 ^ k → n < 2 ^ 64 → bs ≡ decimal n → ParsesUnsigned k 10 bs r → o ≡ result_ok r → o ≡ Some n

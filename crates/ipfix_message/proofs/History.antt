@@ -22,7 +22,7 @@ use Rattle.ipfix_wire.specs.MessageHeader.{header_at}
 use Rattle.ipfix_message.specs.declared.message.Decoded.{Decoded}
 use Rattle.ipfix_message.specs.Outcome.{◌>>=◌, Fails}
 use Rattle.ipfix_message.specs.Messages.{Decoding, before, sets_from}
-use Rattle.ipfix_message.proofs.Reading.{Fails-of, ok_is, not_both, bind_ok}
+use Rattle.ipfix_message.proofs.Reading.{Fails-of, ok_is, not_both}
 use Rattle.ipfix_wire.proofs.Choices.{chosen, different}
 use Rattle.ipfix_message.specs.TemplatesInForce.{in_force}
 use Rattle.ipfix_message.specs.Held.{template_in, Agrees, Holds, Reaches, Admits}
@@ -410,31 +410,3 @@ pub stands_alone : (xs : List (ℕ × BTreeMap ℕ Template)) (ds : History) (do
 stands_alone xs ds domain m n stands some is =
     rw (copied m.entries n.entries is)
     (alone_some (lookup (eqb domain) (kept xs)) ds domain (lookup (eqb domain) ds) m.entries (lookup-kept domain xs ∙ ap (option_map (λ (x : BTreeMap ℕ Template). x.entries)) some) refl (stands-at (kept xs) ds stands domain))
-
--- ---- the domains after a message
-
--- the domains, and this one behind them where it is new
-abbrev pub with_domain : History → ℕ → List ℕ
-with_domain ds domain = cond (is_some (lookup (eqb domain) ds)) (keys_of ds) (keys_of ds ++ domain ∷ [])
-
-admit-keys : (ds known : History) (domain : ℕ) → admit ds domain ≡ Ok known → keys_of known ≡ with_domain ds domain
-unfolding admit
-admit-keys ds known domain h =
-    elim (chosen (is_some (lookup (eqb domain) ds)) (Ok ds) (cond (ltb (length ds) 1024) (Ok (ds ++ (domain, []) ∷ [])) (Err TooManyDomains)) (Ok known) h) [
-      | inl t ↦ rw t.0 (ap keys_of (sym (ok_is ds known t.1)))
-      | inr f ↦ elim (chosen (ltb (length ds) 1024) (Ok (ds ++ (domain, []) ∷ [])) (Err TooManyDomains) (Ok known) f.1) [
-        | inl t ↦ rw f.0 (ap keys_of (sym (ok_is (ds ++ (domain, []) ∷ []) known t.1)) ∙ keys_of-append ds ((domain, []) ∷ []))
-        | inr g ↦ absurd (not_both known TooManyDomains (sym g.1))
-      ]
-    ]
-
--- after a message the domains are those before it, and its own behind them where it is new
-pub message_gives-keys : (ds : History) (m : List ℕ) (x : Message) → message_gives ds m ≡ Ok x → keys_of x.domains ≡ with_domain ds x.header.domain
-unfolding message_gives
-message_gives-keys ds m x read =
-    let h = bind_ok (message_header m) (λ h. admit ds h.domain >>= λ known. after_admit h m known) x read in
-    let known = bind_ok (admit ds h.0.domain) (after_admit h.0 m) x h.2 in
-    let d = bind_ok (sets_from h.0 (before (unwrap_or (lookup (eqb h.0.domain) known.0) [])) (drop 16 m)) (after_sets h.0 known.0) x known.2 in
-    let same = ok_is (record { header = h.0; decoding = d.0; domains = with_events known.0 h.0.domain d.0.events }) x d.2 in
-    let P : Message → Type 0 = λ y. keys_of y.domains ≡ with_domain ds y.header.domain in
-    subst P same (keys_of-set_value (eqb h.0.domain) known.0 d.0.events ∙ admit-keys ds known.0 h.0.domain known.1)

@@ -15,10 +15,6 @@ use Rattle.ipfix_message.specs.Layouts.{gaps_from, last_from, behind, place_from
 abbrev pub place : ℕ → ℕ → ℕ → FieldPlace
 place before offset width = record { before = before; offset = offset; width = width }
 
-behind-none : (p : Option FieldPlace) → behind 0 p ≡ p
-behind-none None = refl
-behind-none (Some p) = ap (λ (k : ℕ). Some (place k p.offset p.width)) (let sum : 0 + p.before ≡ p.before = omega arith in sum)
-
 behind-more : (n m : ℕ) (p : Option FieldPlace) → m ≡ n + 1 → behind n (behind 1 p) ≡ behind m p
 behind-more n m None e = refl
 behind-more n m (Some p) e = ap (λ (k : ℕ). Some (place k p.offset p.width)) (let sum : n + (1 + p.before) ≡ m + p.before = omega (arith, e) in sum)
@@ -31,16 +27,6 @@ pub record LaidSoFar (gaps : List ℕ) (last : ℕ) (places : BTreeMap ℕ Field
   pub narrow : All IsNarrow (take i specs)
   pub small : last ≤ 65535 * i
   pub few : length gaps ≤ i
-
-pub laid_none : (places : BTreeMap ℕ FieldPlace) (specs : List Spec) → ((k : ℕ) → get nat_cmp places k ≡ None) → LaidSoFar [] 0 places 0 specs
-laid_none places specs empty = record {
-  gap = refl;
-  end = refl;
-  at = λ e small. rw (empty (key_of e)) (behind-none (place_from 0 specs e));
-  narrow = All-nil IsNarrow;
-  small = omega arith;
-  few = omega arith;
-}
 
 -- a place was noted for an element, unless one was there
 abbrev pub Noted : BTreeMap ℕ FieldPlace → BTreeMap ℕ FieldPlace → ElementId → FieldPlace → Type 0

@@ -89,9 +89,6 @@ pub record Steps (ds : History) (domain : ℕ) (es : List Event) (news : History
   pub events_at : (q : ℕ) → events_in news q ≡ cond (eqb q domain) es (events_in ds q)
   pub keys : keys_of news ≡ cond (knows ds domain) (keys_of ds) (keys_of ds ++ domain ∷ [])
 
-abbrev found_or : Bool → Option (List Event) → Option (List Event)
-found_or b o = o
-
 is_some-put : (w : List Event) (b : Bool) (o : Option (List Event)) → is_some (put w b o) ≡ is_some o
 is_some-put w true None = refl
 is_some-put w true (Some x) = refl

@@ -1,8 +1,7 @@
 -- Messages that are read one after another.
-use Rattle.std.proofs.Common.{◌≡◌, ℕ, List, [], ◌∷◌, ◌++◌, None, Ok, refl, ap, ◌∙◌}
+use Rattle.std.proofs.Common.{◌≡◌, ℕ, List, [], ◌∷◌, ◌++◌, Ok, refl}
 use Rattle.ipfix_message.specs.Domains.{History, Message, message_gives}
-use Rattle.ipfix_session.specs.Given.{known_after, messages_give}
-use Rattle.ipfix_session.proofs.Giving.{give-none, give-next}
+use Rattle.ipfix_session.specs.Given.{known_after}
 
 -- these messages give these, with no fault
 abbrev pub GivesAll : History → List (List ℕ) → List Message → Type 0
@@ -10,12 +9,6 @@ GivesAll ds [] [] = Unit {0}
 GivesAll ds (m ∷ ms) (x ∷ xs) = (message_gives ds m ≡ Ok x) × GivesAll x.domains ms xs
 GivesAll ds [] (x ∷ xs) = ⊥
 GivesAll ds (m ∷ ms) [] = ⊥
-
-pub gives_all : (ds : History) (ms : List (List ℕ)) (xs : List Message) → GivesAll ds ms xs → messages_give ds ms ≡ (xs, None)
-gives_all ds [] [] h = give-none ds
-gives_all ds (m ∷ ms) (x ∷ xs) h = give-next ds m ms x h.0 ∙ ap (λ (r : List Message × _). (x ∷ r.0, r.1)) (gives_all x.domains ms xs h.1)
-gives_all ds [] (x ∷ xs) h = absurd h
-gives_all ds (m ∷ ms) [] h = absurd h
 
 pub gives-append : (ds : History) (ms ns : List (List ℕ)) (xs ys : List Message) → GivesAll ds ms xs → GivesAll (known_after ds xs) ns ys → GivesAll ds (ms ++ ns) (xs ++ ys)
 gives-append ds [] ns [] ys h k = k

@@ -1,12 +1,11 @@
 -- Putting records one by one.
-use Rattle.std.proofs.Common.{◌≡◌, ℕ, ◌+◌, List, [], ◌∷◌, ◌++◌, length, refl, sym, ap, subst, ◌∙◌, append_assoc, arith}
-use Rattle.std.proofs.lemmas.List.{append-nil, length-append, nil_from_length}
+use Rattle.std.proofs.Common.{◌≡◌, ℕ, ◌+◌, List, [], ◌∷◌, ◌++◌, length, sym, ap, ◌∙◌, append_assoc, arith}
+use Rattle.std.proofs.lemmas.List.{length-append}
 use Rattle.std.proofs.lemmas.Fn.{FoldsTo-push}
 use Rattle.ipfix_message.specs.declared.record.DataRecord.{DataRecord}
 use Rattle.ipfix_session.specs.Ledger.{capped}
-use Rattle.ipfix_session.specs.Sources.{one_more}
 use Rattle.ipfix_session.specs.Sinks.{SinkView, Takes}
-use Rattle.ipfix_session.specs.Puts.{CountsOn, GivesBack}
+use Rattle.ipfix_session.specs.Puts.{CountsOn}
 
 -- the first records were put, and these are left
 pub record Putting {K : Type 0} (view : SinkView K) (records : List DataRecord) (old now : ℕ) (before after : K) (left : List DataRecord) (size : ℕ) : Type 0 where
@@ -15,10 +14,6 @@ pub record Putting {K : Type 0} (view : SinkView K) (records : List DataRecord) 
   pub takes : Takes view before put after
   pub counted : CountsOn old (length put) now
   pub sized : size ≡ length left
-
-pub put_none : {K : Type 0} (view : SinkView K) (records left : List DataRecord) (old size : ℕ) (k : K) → left ≡ records → size ≡ length records → Putting view records old old k k left size
-put_none view records left old size k e n =
-    record { put = []; whole = sym e; takes = record { chain = refl; none_refused = refl }; counted = λ m h. omega (arith, h); sized = n ∙ ap length (sym e) }
 
 pub put_next : {K : Type 0} (view : SinkView K) (records left rest : List DataRecord) (old now next size less : ℕ) (before after last : K) (item : DataRecord)
     → Putting view records old now before after left size → left ≡ item ∷ rest → less + 1 ≡ size → view.took after item last → view.refused last ≡ view.refused after → next ≡ capped (now + 1)
@@ -33,14 +28,3 @@ put_next view records left rest old now next size less before after last item p 
       counted = λ m h. let was = p.counted m h in omega (arith, was, c, grown);
       sized = omega (arith, p.sized, smaller, n);
     }
-
-pub put_done : {K : Type 0} (view : SinkView K) (records left : List DataRecord) (old now size : ℕ) (before after : K) → Putting view records old now before after left size → size ≡ 0
-    → Takes view before records after × CountsOn old (length records) now
-put_done view records left old now size before after p e =
-    let all : records ≡ p.put = p.whole ∙ ap (λ (rs : List DataRecord). p.put ++ rs) (nil_from_length left (omega (arith, p.sized, e))) ∙ append-nil p.put in
-    (subst (λ (rs : List DataRecord). Takes view before rs after) (sym all) p.takes, subst (λ (rs : List DataRecord). CountsOn old (length rs) now) (sym all) p.counted)
-
-pub put_back : {K : Type 0} (view : SinkView K) (records left rest : List DataRecord) (old now size : ℕ) (before after last : K) (item : DataRecord)
-    → Putting view records old now before after left size → left ≡ item ∷ rest → view.refused last ≡ one_more (view.refused after) → GivesBack view records old now before last
-put_back view records left rest old now size before after last item p e back =
-    record { first = p.put; item = item; others = rest; are = p.whole ∙ ap (λ (rs : List DataRecord). p.put ++ rs) e; last = after; takes = p.takes; back = back; counted = p.counted }
