@@ -76,7 +76,8 @@ fn greatest_at<const K: usize, const C: usize>(
 ) -> Option<u64>
     requires { IsRun run.now }
     ensures { MatchOption result
-        (SomeTooLarge (λ i. total_at run.now piece.now.key i + slice_index_or piece.now.numbers i 0))
+        (SomeTooLarge (λ i.
+        total_at run.now piece.now.key i + slice_index_or piece.now.numbers i 0))
         (λ most. (i : ℕ)
         → total_at run.now piece.now.key i + slice_index_or piece.now.numbers i 0 ≤ most) }
 {

@@ -89,7 +89,7 @@ pub fn is_padding(rest: &[u8]) -> bool
 fn scope_of(kind: TemplateKind, count: u16, rest: &[u8]) -> Result<(u16, &[u8]), MessageFault>
     ensures exact { Gives (λ x. (x.0, x.1.now)) result (scope_at kind count rest.now) }
     ensures scoped { IfOk result (λ x. IsScope kind x.0 count) }
-    // it is written again in no more octets
+    // It is written again in no more octets.
     ensures room { IfOk result (λ x.
         length (scope_octets kind x.0) + length x.1.now ≤ length rest.now) }
 {
@@ -114,8 +114,9 @@ fn specs_of(alloc: Global, count: u16, octets: &[u8]) -> Result<(Vec<Spec>, &[u8
     ensures exact { Gives (λ x. (x.0.items, x.1.now)) result (specs_at count octets.now) }
     ensures count { IfOk result (λ x. vec_len x.0 ≡ count) }
     ensures each { IfOk result (λ x. All IsSpec x.0.items) }
-    // they are written again in no more octets
-    ensures room { IfOk result (λ x. length (flat_map spec_octets x.0.items) + length x.1.now ≤ length octets.now) }
+    // They are written again in no more octets.
+    ensures room { IfOk result (λ x.
+        length (flat_map spec_octets x.0.items) + length x.1.now ≤ length octets.now) }
 {
     let mut specs = Vec::new(alloc);
     let mut rest = octets;

@@ -80,9 +80,9 @@ impl Ledger {
         ensures domains { index_map_len self.new.accounts ≤ index_map_len self.old.accounts + 1 }
         ensures reports { vec_capacity self.new.reports ≡ vec_capacity self.old.reports }
         ensures balances { vec_capacity self.new.balances ≡ vec_capacity self.old.balances }
-        ensures taken { (ms : List Message) (m : Message) → self.old.accounts.entries ≡ accounts_of ms
-            → m.header ≡ header.now → count_in m ≡ records
-            → m.decoding.passed_over ≡ passed_over
+        ensures taken { (ms : List Message) (m : Message)
+            → self.old.accounts.entries ≡ accounts_of ms
+            → m.header ≡ header.now → count_in m ≡ records → m.decoding.passed_over ≡ passed_over
             → self.new.accounts.entries ≡ accounts_of (ms ++ m ∷ []) }
     {
         let before = self.account(header.domain);
