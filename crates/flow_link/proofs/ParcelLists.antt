@@ -23,17 +23,9 @@ records_in-append [] qs = refl
 records_in-append (Item r ∷ ps) qs = ap (λ (rs : List DataRecord). r ∷ rs) (records_in-append ps qs)
 records_in-append (Last ∷ ps) qs = records_in-append ps qs
 
-pub items-append : (rs qs : List DataRecord) → items (rs ++ qs) ≡ items rs ++ items qs
-items-append [] qs = refl
-items-append (r ∷ rs) qs = ap (λ (ps : List Parcel). Item r ∷ ps) (items-append rs qs)
-
 pub has_last-items : (rs : List DataRecord) → has_last (items rs) ≡ false
 has_last-items [] = refl
 has_last-items (r ∷ rs) = has_last-items rs
-
-pub records_in-items : (rs : List DataRecord) → records_in (items rs) ≡ rs
-records_in-items [] = refl
-records_in-items (r ∷ rs) = ap (λ (qs : List DataRecord). r ∷ qs) (records_in-items rs)
 
 -- the parcels of a session that was sent whole
 pub records_in-whole : (rs : List DataRecord) → records_in (items rs ++ Last ∷ []) ≡ rs
