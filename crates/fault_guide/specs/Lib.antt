@@ -1,4 +1,4 @@
--- what public contracts cite
+-- What public contracts cite.
 pub mod EndingFaults
 pub mod Explained
 pub mod Guide

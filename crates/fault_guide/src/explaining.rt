@@ -110,7 +110,8 @@ pub fn run_explain<W: Write, E: Write>(word: Option<&str>, out: &mut W, err: &mu
     ensures written { result ≡ Status.Well
         → IsSomeAnd (answer (option_map (λ w. w.now) word.entry))
         (Appends (W.contents out.old) (W.contents out.new)) }
-    ensures unknown { (result ≡ Status.NotOpened) ↔ (answer (option_map (λ w. w.now) word.entry) ≡ None) }
+    ensures unknown { (result ≡ Status.NotOpened)
+        ↔ (answer (option_map (λ w. w.now) word.entry) ≡ None) }
     ensures untouched { result ≡ Status.NotOpened → out.new ≡ out.old }
 {
     match word {

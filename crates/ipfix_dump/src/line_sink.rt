@@ -39,7 +39,8 @@ impl<'a, L: RecordLine, W: Write> LineSink<'a, L, W> {
         ensures same_writer { self.new.out.ghost_name ≡ self.old.out.ghost_name }
         ensures none_refused { self.new.refused ≡ self.old.refused }
         ensures no_fault { self.new.fault ≡ self.old.fault }
-        ensures ok { OnOk result (Appends (W.contents self.old.out.now) (W.contents self.new.out.now)
+        ensures ok { OnOk result
+            (Appends (W.contents self.old.out.now) (W.contents self.new.out.now)
             (L.line_of data_record.now)) }
     {
         let line = self.line.make(data_record)?;

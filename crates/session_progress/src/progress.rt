@@ -92,8 +92,8 @@ impl<'a, C: Clock, P: Write + Drop> Progress<'a, C, P> {
         ensures due { IfSome now (λ time. self.old.last + second ≤ instant_nanos time
             → OnOk result (TellsLine self.old self.new)) }
         // Also if it can't be told.
-        ensures last { IfSome now
-            (λ time. self.old.last + second ≤ instant_nanos time → self.new.last ≡ instant_nanos time) }
+        ensures last { IfSome now (λ time. self.old.last + second ≤ instant_nanos time
+            → self.new.last ≡ instant_nanos time) }
         ensures early { IfSome now
             (λ time. instant_nanos time < self.old.last + second → IsSilent self.old self.new) }
         ensures no_time { IfNone now (IsSilent self.old self.new) }
