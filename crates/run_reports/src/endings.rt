@@ -2,7 +2,7 @@
 
 ghost use Rattle.std.specs.Prelude.{OnErr, OnOk};
 ghost use Rattle.std.specs.Io.KnownBytes.{Appends};
-ghost use Rattle.run_reports.specs.ToldLines.{end_lines, end_told, ended_line, ended_text, fault_place_lines, left_text, number_left, place_text};
+ghost use Rattle.run_reports.specs.ToldLines.{end_told, ended_line, ended_text, fault_place_lines, left_text, number_left, place_text};
 
 use crate::origin::{Origin, write_session_start};
 use crate::telling::Telling;
@@ -25,25 +25,11 @@ pub fn write_end<W: WriteLines>(
     ensures kept { W.failed out.old → W.failed out.new }
 {
     if telling.verbose {
-        write_both(session, origin, full, out)
+        write_fault_place(session, origin, full.report.fault, full.stopped_at, out)?;
+        write_ended(session, origin, full, out)
     } else {
         Ok(())
     }
-}
-
-fn write_both<W: WriteLines>(
-    session: usize,
-    origin: &Origin,
-    full: &FullReport,
-    out: &mut W,
-) -> io::Result<()>
-    ensures told { OnOk result (Appends (W.contents out.old) (W.contents out.new)
-        (end_lines session origin.now full.now)) }
-    ensures failed { OnErr result (W.failed out.new) }
-    ensures kept { W.failed out.old → W.failed out.new }
-{
-    write_fault_place(session, origin, full.report.fault, full.stopped_at, out)?;
-    write_ended(session, origin, full, out)
 }
 
 // The fault, where the first message begins that doesn't count, and how many octets there are from there on.
@@ -89,7 +75,8 @@ fn write_place<W: WriteLines>(
 }
 
 fn write_left<W: WriteLines>(octets: Option<u64>, out: &mut W) -> io::Result<()>
-    ensures told { OnOk result (Appends (W.contents out.old) (W.contents out.new) (left_text octets)) }
+    ensures told { OnOk result (Appends (W.contents out.old) (W.contents out.new)
+        (left_text octets)) }
     ensures failed { OnErr result (W.failed out.new) }
     ensures kept { W.failed out.old → W.failed out.new }
 {

@@ -145,7 +145,8 @@ fn write_lacking_key<W: WriteLines>(key: Key, count: u64, out: &mut W) -> io::Re
 
 #[tactic(auto, unfolding(crate::specs::MissingLines::unkeyed_text))]
 fn write_key_start<W: WriteLines>(key: Key, out: &mut W) -> io::Result<()>
-    ensures told { OnOk result (Appends (W.contents out.old) (W.contents out.new) (unkeyed_text key)) }
+    ensures told { OnOk result (Appends (W.contents out.old) (W.contents out.new)
+        (unkeyed_text key)) }
     ensures failed { OnErr result (W.failed out.new) }
     ensures kept { W.failed out.old → W.failed out.new }
 {
@@ -183,7 +184,8 @@ fn write_prefix<W: WriteLines>(prefix: Option<u8>, out: &mut W) -> io::Result<()
 
 #[tactic(auto, unfolding(crate::specs::MissingLines::count_end))]
 fn write_count_end<W: WriteLines>(count: u64, out: &mut W) -> io::Result<()>
-    ensures told { OnOk result (Appends (W.contents out.old) (W.contents out.new) (count_end count)) }
+    ensures told { OnOk result (Appends (W.contents out.old) (W.contents out.new)
+        (count_end count)) }
     ensures failed { OnErr result (W.failed out.new) }
     ensures kept { W.failed out.old → W.failed out.new }
 {

@@ -47,7 +47,8 @@ pub fn write_octets<W: WriteLines>(octets: &[u8], out: &mut W) -> io::Result<()>
 
 #[tactic(auto, using(std::proofs::lemmas::Fmt::hex_byte))]
 fn write_octet<W: WriteLines>(octet: u8, out: &mut W) -> io::Result<()>
-    ensures told { OnOk result (Appends (W.contents out.old) (W.contents out.new) (octet_shown octet)) }
+    ensures told { OnOk result (Appends (W.contents out.old) (W.contents out.new)
+        (octet_shown octet)) }
     ensures failed { OnErr result (W.failed out.new) }
     ensures kept { W.failed out.old → W.failed out.new }
 {

@@ -3,7 +3,7 @@
 ghost use Rattle.std.specs.Prelude.{◌≡◌, false, map, OnErr, OnOk};
 ghost use Rattle.std.specs.Io.KnownBytes.{Appends};
 ghost use Rattle.run_reports.specs.ReportLines.{report_lines};
-ghost use Rattle.run_reports.specs.ToldLines.{added_lines, origin_of, told_lines, told_session};
+ghost use Rattle.run_reports.specs.ToldLines.{origin_of, told_lines, told_session};
 
 use crate::balances::write_balances;
 use crate::endings::write_end;
@@ -75,21 +75,6 @@ fn write_told_session<W: WriteLines>(
     ensures kept { W.failed out.old → W.failed out.new }
 {
     write_session(session, &full.report, out)?;
-    write_added(telling, session, origin, full, out)
-}
-
-fn write_added<W: WriteLines>(
-    telling: Telling,
-    session: usize,
-    origin: &Origin,
-    full: &FullReport,
-    out: &mut W,
-) -> io::Result<()>
-    ensures told { OnOk result (Appends (W.contents out.old) (W.contents out.new)
-        (added_lines telling session origin.now full.now)) }
-    ensures failed { OnErr result (W.failed out.new) }
-    ensures kept { W.failed out.old → W.failed out.new }
-{
     write_balances(telling, session, origin, &full.balances, out)?;
     write_end(telling, session, origin, full, out)
 }
