@@ -76,9 +76,6 @@ open_front w more clean = by_stop (stop_of w) refl
 prefix-trans : {X : Type 0} (xs ys zs : List X) → IsPrefix xs ys → IsPrefix ys zs → IsPrefix xs zs
 prefix-trans {X} xs ys zs p q = (p.0 ++ q.0, q.1 ∙ ap (λ (l : List X). l ++ q.0) p.1 ∙ append_assoc xs p.0 q.0)
 
-prefix-behind : {X : Type 0} (front xs ys : List X) → IsPrefix xs ys → IsPrefix (front ++ xs) (front ++ ys)
-prefix-behind {X} front xs ys p = (p.0, ap (λ (l : List X). front ++ l) p.1 ∙ sym (append_assoc front xs p.0))
-
 records-prefix : (ms ns : List Message) → IsPrefix ms ns → IsPrefix (records_in ms) (records_in ns)
 records-prefix ms ns p = (records_in p.0, ap records_in p.1 ∙ records_in-append ms p.0)
 

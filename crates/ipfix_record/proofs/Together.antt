@@ -59,11 +59,6 @@ record Leading (before here : List Message) (fs : History) (x : Message) (lead :
   part : IsPartOf (known_after fs given) (known_after [] (before ++ here))
   knows_at : (q : ℕ) → knows (known_after fs given) q ≡ knows (known_after [] (before ++ here)) q
 
-first_of_two : (a b : Bool) → (a || b) ≡ true → (b ≡ true → a ≡ true) → a ≡ true
-first_of_two true b h k = refl
-first_of_two false true h k = k refl
-first_of_two false false h k = absurd cc
-
 or_itself : (a b : Bool) → (b ≡ true → a ≡ true) → (a || b) ≡ a
 or_itself true b k = refl
 or_itself false true k = let e = k refl in absurd cc

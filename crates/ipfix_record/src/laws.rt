@@ -68,7 +68,8 @@ pub fn file_reports_add_up()
 pub fn fault_numbers()
     ensures same { (fault : RecordFault) (session : SessionFault) → fault ≢ NotWritten
         → fault_of (Err fault) ≡ Some session
-        → (number_of fault ≡ sessions.number_of session) × (name_of fault ≡ sessions.name_of session) }
+        → (number_of fault ≡ sessions.number_of session)
+        × (name_of fault ≡ sessions.name_of session) }
     ensures only { (fault : RecordFault) → number_of fault ≡ 19 → fault ≡ NotWritten }
 {}
 
