@@ -23,12 +23,15 @@ mod session_counts;
 mod stamp;
 mod ticking_source;
 
+pub use counting::count_all;
 pub use file_report::FileReport;
 pub use file_series::{FileSeries, NotWritten};
 pub use memory_files::MemoryFiles;
+pub use message_count::MessageCount;
 pub use period_clock::PeriodClock;
 pub use record_fault::RecordFault;
 pub use recorded_session::RecordedSession;
+pub use recorder::Recorder;
 pub use recording::record;
 pub use script_clock::ScriptClock;
 pub use ticking_source::TickingSource;

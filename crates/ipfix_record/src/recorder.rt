@@ -68,6 +68,13 @@ impl Recorder {
         !self.here.is_empty()
     }
 
+    /// The domains of the session, with the templates that are in force in each.
+    pub fn domains(&self) -> &Domains
+        ensures { result.now ≡ self.now.domains }
+    {
+        &self.domains
+    }
+
     // Appends what stands before a message that begins its domain again.
     fn append_lead(&mut self, header: &Header, out: &mut Vec<u8>) -> Result<(), AllocError>
         ensures same { self.new ≡ self.old }
