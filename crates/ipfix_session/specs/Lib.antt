@@ -11,11 +11,12 @@ pub mod Sources
 pub mod Sinks
 pub mod Feeding
 pub mod Drives
--- What only inner functions and proofs need.
-pub mod Intake
-pub mod Tallies
+-- What only the calls cite that build a session of parts: of ledgers, counts and buffers.
 pub mod Accounts
+pub mod Tallies
 pub mod Rooms
-pub mod Puts
+pub mod Intake
 pub mod Buffers
 pub mod CounterPlaces
+-- What only inner functions and proofs need.
+pub mod Puts

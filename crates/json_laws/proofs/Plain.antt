@@ -154,11 +154,6 @@ mark_plain kinds.Mac = refl
 mark_plain kinds.Seconds = refl
 mark_plain kinds.Millis = refl
 
--- a cell's text, or another one
-cell_or : (o : Option Cell) (other : List ℕ) → IsPlain other → ((c : Cell) → o ≡ Some c → IsPlain (cell_text c)) → IsPlain (option_map_or cell_text o other)
-cell_or None other p each = p
-cell_or (Some c) other p each = each c refl
-
 if_some : (b : Bool) (c : Cell) (other : List ℕ) → IsPlain other → IsPlain (cell_text c) → IsPlain (option_map_or cell_text (cond b (Some c) None) other)
 if_some true c other p q = q
 if_some false c other p q = p
