@@ -10,7 +10,7 @@ const HEADER: [u8; 16] = [
 ];
 
 #[test]
-fn headers(rt: HostRuntime) -> Result<(), Fail> {
+fn writes_and_reads_headers(rt: HostRuntime) -> Result<(), Fail> {
     let header = Header {
         length: 68,
         export_time: 1_700_000_000,
@@ -25,7 +25,7 @@ fn headers(rt: HostRuntime) -> Result<(), Fail> {
 }
 
 #[test]
-fn refused_headers(rt: HostRuntime) {
+fn refuses_faulty_headers(rt: HostRuntime) {
     for (at, octet, fault) in [
         (1, 9, WireFault::Version),
         (3, 15, WireFault::MessageLength),
@@ -37,7 +37,7 @@ fn refused_headers(rt: HostRuntime) {
 }
 
 #[test]
-fn written_set(rt: HostRuntime) -> Result<(), Fail> {
+fn writes_a_set(rt: HostRuntime) -> Result<(), Fail> {
     let mut out = Vec::new(rt.alloc());
     write_set(256, 40, &mut out)?;
     assert_eq!(rt; out.as_slice(), [0x01, 0x00, 0x00, 0x2c].as_slice());
@@ -45,7 +45,7 @@ fn written_set(rt: HostRuntime) -> Result<(), Fail> {
 }
 
 #[test]
-fn read_sets(rt: HostRuntime) {
+fn reads_sets(rt: HostRuntime) {
     for (octets, answer) in [
         ([0x01, 0x00, 0x00, 0x2c], Err(WireFault::SetLength)),
         ([0, 2, 0, 4], Ok(SetSpan { id: 2, body: 0 })),
@@ -56,7 +56,7 @@ fn read_sets(rt: HostRuntime) {
 }
 
 #[test]
-fn cut_set_header(rt: HostRuntime) {
+fn refuses_a_cut_set_header(rt: HostRuntime) {
     assert_eq!(rt; read_set(&[0, 2, 0]), Err(WireFault::SetHeader));
 }
 
@@ -71,7 +71,7 @@ const SPEC: Spec = Spec {
 const SPEC_OCTETS: [u8; 8] = [0x80, 0x01, 0xff, 0xff, 0x00, 0x00, 0x7e, 0xd9];
 
 #[test]
-fn written_specifier(rt: HostRuntime) -> Result<(), Fail> {
+fn writes_a_specifier(rt: HostRuntime) -> Result<(), Fail> {
     let mut out = Vec::new(rt.alloc());
     write_spec(&SPEC, &mut out)?;
     assert_eq!(rt; out.as_slice(), SPEC_OCTETS.as_slice());
@@ -79,7 +79,7 @@ fn written_specifier(rt: HostRuntime) -> Result<(), Fail> {
 }
 
 #[test]
-fn read_specifiers(rt: HostRuntime) {
+fn reads_specifiers(rt: HostRuntime) {
     // An enterprise bit with enterprise number 0 is read as no bit.
     let iana = Spec {
         element: ElementId::iana(1),
@@ -102,7 +102,7 @@ fn length_octets(rt: &HostRuntime, length: u16) -> Result<Vec<u8>, AllocError> {
 }
 
 #[test]
-fn written_lengths(rt: HostRuntime) -> Result<(), Fail> {
+fn writes_lengths(rt: HostRuntime) -> Result<(), Fail> {
     let cases: [(u16, &[u8]); 3] = [(5, &[0x05]), (254, &[0xfe]), (255, &[0xff, 0x00, 0xff])];
     for (length, wanted) in cases {
         let octets = length_octets(&rt, length)?;
@@ -112,7 +112,7 @@ fn written_lengths(rt: HostRuntime) -> Result<(), Fail> {
 }
 
 #[test]
-fn read_lengths(rt: HostRuntime) {
+fn reads_lengths(rt: HostRuntime) {
     let cases: [(&[u8], Option<(usize, usize)>); 3] = [
         (&[0xff, 0x00, 0x05], Some((5, 3))),
         (&[0xff, 0x00], None),
@@ -124,7 +124,7 @@ fn read_lengths(rt: HostRuntime) {
 }
 
 #[test]
-fn fault_numbers_and_names(rt: HostRuntime) {
+fn faults_have_numbers_and_names(rt: HostRuntime) {
     for (fault, number, name) in [
         (WireFault::Version, 1, "Version"),
         (WireFault::MessageLength, 2, "MessageLength"),
