@@ -61,7 +61,7 @@ fn value_text(alloc: Global, kind: Kind, octets: &[u8]) -> Result<Vec<u8>, Fail>
 }
 
 #[test]
-fn kinds_and_names(rt: HostRuntime) {
+fn elements_have_kinds_and_names(rt: HostRuntime) {
     for &(number, name, kind) in &TABLE {
         let element = ElementId::iana(number);
         assert_eq!(rt;
@@ -83,7 +83,7 @@ fn names_are_written(rt: HostRuntime) -> Result<(), Fail> {
 
 // The numbers that have a name of their own are those of the elements with these names.
 #[test]
-fn named_numbers(rt: HostRuntime) {
+fn named_numbers_are_those_of_the_elements(rt: HostRuntime) {
     let numbers = [
         (iana::OCTET_DELTA_COUNT, "octetDeltaCount"),
         (iana::SOURCE_IPV4_ADDRESS, "sourceIPv4Address"),
@@ -158,7 +158,7 @@ fn other_texts_name_no_element(rt: HostRuntime) {
 }
 
 #[test]
-fn numbers(rt: HostRuntime) {
+fn reads_numbers(rt: HostRuntime) {
     let two = Kind::Unsigned(Width::Two);
     let eight = Kind::Unsigned(Width::Eight);
     let cases: [(Kind, &[u8], Option<u64>); 10] = [
@@ -179,7 +179,7 @@ fn numbers(rt: HostRuntime) {
 }
 
 #[test]
-fn cells(rt: HostRuntime) {
+fn reads_cells(rt: HostRuntime) {
     let cases: [(Kind, &[u8], Option<Cell>); 6] = [
         (
             Kind::Ipv4,
@@ -219,7 +219,7 @@ fn cells_ascend(rt: HostRuntime) {
 }
 
 #[test]
-fn texts(rt: HostRuntime) -> Result<(), Fail> {
+fn writes_values_as_texts(rt: HostRuntime) -> Result<(), Fail> {
     let address = [0x20, 1, 0x0d, 0xb8, 0, 0, 0, 0, 0, 0, 0, 0, 0, 0, 0, 1];
     let long = [0x61; 254];
     let cases: [(Kind, &[u8], &str); 9] = [
@@ -256,7 +256,7 @@ fn texts(rt: HostRuntime) -> Result<(), Fail> {
 }
 
 #[test]
-fn octets_of_cells(rt: HostRuntime) -> Result<(), Fail> {
+fn writes_cells_as_octets(rt: HostRuntime) -> Result<(), Fail> {
     let mut out = Vec::new(rt.alloc());
     write_cell_octets(&Cell::Number(18), 2, &mut out)?;
     write_cell_octets(&Cell::Number(1), 9, &mut out)?;
@@ -272,7 +272,7 @@ fn octets_of_cells(rt: HostRuntime) -> Result<(), Fail> {
 }
 
 #[test]
-fn masks(rt: HostRuntime) {
+fn masks_addresses(rt: HostRuntime) {
     assert_eq!(rt; mask([192, 0, 2, 1], 24), [192, 0, 2, 0]);
     assert_eq!(rt; mask([192, 0, 2, 200], 24), [192, 0, 2, 0]);
     assert_eq!(rt; mask([192, 0, 2, 200], 25), [192, 0, 2, 128]);
@@ -301,7 +301,7 @@ impl Write for Broken {
 }
 
 #[test]
-fn failing_writers(rt: HostRuntime) {
+fn tells_that_a_writer_failed(rt: HostRuntime) {
     assert!(rt; write_name(ElementId::iana(8), &mut Broken { left: 16 }).is_err());
     assert!(rt; write_name(ElementId::iana(999), &mut Broken { left: 5 }).is_err());
     for left in [0, 2, 100] {
