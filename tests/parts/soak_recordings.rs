@@ -55,11 +55,12 @@ fn send(port: u16, messages: usize, end: Instant, numbers: &mut Numbers, rows: &
     let mut peer = TcpStream::connect(("127.0.0.1", port))?;
     peer.write_all(&template())?;
     let mut sequence = 0;
-    for _ in 0..messages {
+    for place in 0..messages {
         if Instant::now() >= end {
             break;
         }
-        let count = if numbers.one_in(20) { 2_700 } else { 1 + numbers.below(57) };
+        // (the first is a long one, so that the program soon has all the memory that it needs)
+        let count = if place == 0 || numbers.one_in(20) { 2_700 } else { 1 + numbers.below(57) };
         peer.write_all(&message(sequence, count, numbers, rows))?;
         sequence += count as u32;
         if numbers.one_in(4) {
