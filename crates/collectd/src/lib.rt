@@ -24,9 +24,10 @@ pub use limits::write_limit;
 pub use plan::{ReadText, load_plan};
 pub use run_reports::{
     Origin, Reason, Remembering, Telling, write_dump_fault, write_export_fault, write_not_had,
-    write_not_had_because, write_plan_fault, write_reports, write_tally,
+    write_not_had_because, write_plan_fault, write_read_failed, write_reports, write_tally,
 };
 pub use sources::accepting::{Accepted, Listener};
-pub use sources::listening::Listening;
-pub use sources::opening::{OpenSource, Opened};
+pub use sources::listening::{Listening, NotedPeer};
+pub use sources::noted::{Note, Noted};
+pub use sources::opening::{OpenSource, Opened, SystemFiles};
 pub use table::{Output, run};

@@ -2,6 +2,7 @@
 
 pub mod accepting;
 pub mod listening;
+pub mod noted;
 pub mod opening;
 pub mod opening_all;
 pub mod unread;

@@ -5,13 +5,15 @@ use crate::inputs::{
     Collecting, buffered_output, read_collecting, read_idle, read_job, read_paths, read_progress,
     read_telling, table_output,
 };
-use crate::noted::Noted;
-use crate::refused::{write_refused, write_refused_output, write_refused_pool};
+use crate::refused::{
+    write_refused, write_refused_files, write_refused_output, write_refused_peers,
+    write_refused_pool,
+};
 use clap::ArgMatches;
 use collectd::{
-    DumpFault, Listening, Origin, Reason, Remembering, Telling, run_dump_in_full,
-    run_dump_json_in_full, run_files_in_full, run_merge_in_full, run_tcp_in_full, write_dump_fault,
-    write_not_had_because,
+    DumpFault, Listening, Noted, Origin, Reason, Remembering, SystemFiles, Telling,
+    run_dump_in_full, run_dump_json_in_full, run_files_in_full, run_merge_in_full, run_tcp_in_full,
+    write_dump_fault, write_not_had_because,
 };
 use exit_status::Status;
 use fault_guide::run_explain;
@@ -25,11 +27,11 @@ use std::thread::Threads;
 /// `collectd dump`: standard input to standard output.
 pub fn dump(rt: &HostRuntime, chosen: &ArgMatches) -> Result<u8, Status> {
     let mut err = Remembering::new(rt.stderr());
-    let Some(mut out) = buffered_output(rt) else {
+    let input = Noted::new(rt.alloc(), rt.stdin());
+    let (Some(mut out), Ok(mut input)) = (buffered_output(rt), input) else {
         let _ = write_dump_fault(DumpFault::OutOfMemory, &mut err);
         return Err(Status::Failed);
     };
-    let mut input = Noted::new(rt.stdin());
     let mut source = FromReader::new(&mut input);
     let telling = read_telling(chosen);
     let status = match chosen.get_str("format").and_then(dump_format) {
@@ -56,7 +58,7 @@ pub fn dump(rt: &HostRuntime, chosen: &ArgMatches) -> Result<u8, Status> {
         telling,
         "read",
         "standard input",
-        input.refused(),
+        input.note(),
         &mut rt.stderr(),
     );
     write_refused_output(telling, &out, &mut rt.stderr());
@@ -77,7 +79,7 @@ pub fn files<R: Clock + Threads + Wait + Sync>(
         mut out,
         terminal,
     } = read_collecting(rt, chosen, &mut err)?;
-    let mut files = rt;
+    let mut files = SystemFiles::new(rt, rt.alloc());
     let status = run_files_in_full(
         threads,
         rt.alloc(),
@@ -91,8 +93,10 @@ pub fn files<R: Clock + Threads + Wait + Sync>(
         &mut out,
         &mut Remembering::new(rt.stderr()),
     );
-    write_refused_output(read_telling(chosen), &out, &mut err);
-    write_refused_pool(status, read_telling(chosen), pool, paths.len(), &mut err);
+    let telling = read_telling(chosen);
+    write_refused_output(telling, &out, &mut err);
+    write_refused_pool(status, telling, pool, paths.len(), &mut err);
+    write_refused_files(status, telling, paths, files.notes(), &mut err);
     Ok(status)
 }
 
@@ -112,10 +116,11 @@ pub fn tcp<R: Clock + Threads + Wait + Sync>(
         terminal,
     } = read_collecting(rt, chosen, &mut err)?;
     let listener = listen_on(rt, addr, read_telling(chosen), &mut err)?;
+    let mut listening = Listening::new(rt.alloc(), listener);
     let status = run_tcp_in_full(
         threads,
         rt.alloc(),
-        &mut Listening::new(listener),
+        &mut listening,
         addr,
         sessions as usize,
         read_idle(chosen),
@@ -127,14 +132,10 @@ pub fn tcp<R: Clock + Threads + Wait + Sync>(
         &mut out,
         &mut Remembering::new(rt.stderr()),
     );
-    write_refused_output(read_telling(chosen), &out, &mut err);
-    write_refused_pool(
-        status,
-        read_telling(chosen),
-        pool,
-        sessions as usize,
-        &mut err,
-    );
+    let telling = read_telling(chosen);
+    write_refused_output(telling, &out, &mut err);
+    write_refused_pool(status, telling, pool, sessions as usize, &mut err);
+    write_refused_peers(status, telling, listening.peers(), &mut err);
     Ok(status)
 }
 
@@ -161,7 +162,7 @@ pub fn merge(rt: &HostRuntime, chosen: &ArgMatches) -> Result<u8, Status> {
     let paths = read_paths(chosen, &mut err)?;
     let job = read_job(rt, chosen).ok_or(Status::NotOpened)?;
     let mut out = table_output(rt, &mut err)?;
-    let mut files = rt;
+    let mut files = SystemFiles::new(rt, rt.alloc());
     let status = run_merge_in_full(
         &mut files,
         rt.alloc(),

@@ -1,11 +1,10 @@
 //! What a command is told, and where its table goes.
 
 use crate::formats::table_format;
-use crate::noted::Noted;
 use crate::progress_output::{ProgressOutput, open_terminal};
 use crate::timers::ask_for_short_sleeps;
 use clap::ArgMatches;
-use collectd::{Output, Telling, load_plan, write_export_fault};
+use collectd::{Noted, Output, Telling, load_plan, write_export_fault};
 use exit_status::Status;
 use flow_collect::Pool;
 use flow_export::ExportFault;
@@ -19,7 +18,8 @@ const OUTPUT_BUFFER: usize = 1 << 16;
 
 /// Standard output behind a buffer. Only memory can be refused here.
 pub fn buffered_output(rt: &HostRuntime) -> Option<BufWriter<Noted<Stdout>>> {
-    BufWriter::with_capacity(rt.alloc(), OUTPUT_BUFFER, Noted::new(rt.stdout())).ok()
+    let noted = Noted::new(rt.alloc(), rt.stdout()).ok()?;
+    BufWriter::with_capacity(rt.alloc(), OUTPUT_BUFFER, noted).ok()
 }
 
 /// The same for a table. If there is none, `err` has a line.

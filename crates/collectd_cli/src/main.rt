@@ -4,7 +4,6 @@
 mod commands;
 mod formats;
 mod inputs;
-mod noted;
 mod progress_output;
 mod record_command;
 mod refused;

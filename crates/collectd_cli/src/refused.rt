@@ -1,15 +1,16 @@
 //! Lines behind a run that failed: why the system refused something, and what is allowed.
 
-use crate::noted::Noted;
-use collectd::{Reason, Telling, write_limit, write_not_had_because};
+use collectd::{
+    Note, Noted, NotedPeer, Origin, Telling, write_limit, write_not_had_because, write_read_failed,
+};
 use exit_status::Status;
 use flow_collect::Pool;
 use std::io::{BufWriter, Stderr, Stdout};
 
 /// Why the system did not take octets of standard output, as `write_refused` says it.
 pub fn write_refused_output(telling: Telling, out: &BufWriter<Noted<Stdout>>, err: &mut Stderr) {
-    let refused = out.get_ref().refused();
-    write_refused(telling, "write", "standard output", refused, err);
+    let note = out.get_ref().note();
+    write_refused(telling, "write", "standard output", note, err);
 }
 
 /// What a pool and that many sessions may be, if the run failed by them: `err` has a line if `telling` is verbose.
@@ -27,14 +28,46 @@ pub fn write_refused_pool(
 
 /// Why the system did not give or take octets of a stream: if there is a reason and `telling` is verbose, `err`
 /// has a line.
-pub fn write_refused(
+pub fn write_refused(telling: Telling, what: &str, name: &str, note: &Note, err: &mut Stderr) {
+    if let (true, Some(reason)) = (telling.verbose, note.reason()) {
+        let _ = write_not_had_because(telling, what, name, reason, err);
+    }
+}
+
+/// Why the system did not give octets of files, each of which is a session: `err` has a line for each that
+/// ended so, if `telling` is verbose.
+pub fn write_refused_files(
+    status: u8,
     telling: Telling,
-    what: &str,
-    name: &str,
-    refused: Option<Reason>,
+    paths: &[&str],
+    notes: &[Note],
     err: &mut Stderr,
 ) {
-    if let (true, Some(reason)) = (telling.verbose, refused) {
-        let _ = write_not_had_because(telling, what, name, reason, err);
+    for (index, (path, note)) in paths.iter().zip(notes).enumerate() {
+        let name = *path;
+        let origin = Origin::File { name, size: None };
+        write_refused_session(status, telling, index + 1, &origin, note, err);
+    }
+}
+
+/// The same of connections.
+pub fn write_refused_peers(status: u8, telling: Telling, peers: &[NotedPeer], err: &mut Stderr) {
+    for (index, NotedPeer { address, note }) in peers.iter().enumerate() {
+        let origin = Origin::Peer(*address);
+        write_refused_session(status, telling, index + 1, &origin, note, err);
+    }
+}
+
+// The line of a session, counted from 1. A run that ended otherwise has told of none.
+fn write_refused_session(
+    status: u8,
+    telling: Telling,
+    session: usize,
+    origin: &Origin,
+    note: &Note,
+    err: &mut Stderr,
+) {
+    if let (true, Some(reason)) = (status == Status::SessionFault.number(), note.reason()) {
+        let _ = write_read_failed(telling, session, origin, reason, err);
     }
 }

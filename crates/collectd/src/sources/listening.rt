@@ -1,31 +1,65 @@
 //! The system's listener.
 
-ghost use Rattle.std.specs.Prelude.{◌≡◌, ⊤, None, Some};
+ghost use Rattle.std.specs.Prelude.{◌≡◌, ⊤, IfOk, None, Some};
+ghost use Rattle.collectd.specs.Runs.{IsUnread};
 
 use super::accepting::{Accepted, Listener};
-use ipfix_session::FromReader;
+use super::noted::{Note, Noted};
+use ipfix_session::{FromReader, Source};
 use run_reports::Reason;
-use std::net::{TcpListener, TcpStream};
+use std::alloc::{AllocError, Global};
+use std::net::{SocketAddr, TcpListener, TcpStream};
 use std::time::Duration;
 
-/// The system's listener.
+/// A peer whose connection was accepted, and why its octets could not be read on.
+#[derive(Drop)]
+pub struct NotedPeer {
+    pub address: SocketAddr,
+    pub note: Note,
+}
+
+/// The system's listener. It keeps the peers that it has accepted.
 #[derive(Drop)]
 pub struct Listening {
+    alloc: Global,
     listener: Option<TcpListener>,
+    peers: Vec<NotedPeer>,
 }
 
 impl Listening {
     /// A listener that is open.
-    pub fn new(listener: TcpListener) -> Self
+    pub fn new(alloc: Global, listener: TcpListener) -> Self
         ensures { result.listener ≡ Some listener }
     {
         Listening {
+            alloc,
             listener: Some(listener),
+            peers: Vec::new(alloc),
         }
+    }
+
+    /// The peers that it has accepted, in their order.
+    pub fn peers(&self) -> &[NotedPeer] {
+        &self.peers
+    }
+
+    // The source of a connection of which nothing was read; its peer is kept.
+    fn noted(
+        &mut self,
+        stream: TcpStream,
+        address: SocketAddr,
+    ) -> Result<FromReader<Noted<TcpStream>>, AllocError>
+        ensures same { self.new.listener ≡ self.old.listener }
+        ensures unread { IfOk result (IsUnread ⟦<FromReader<Noted<TcpStream>> as Source>⟧.seen) }
+    {
+        let noted = Noted::new(self.alloc, stream)?;
+        let note = noted.note().clone()?;
+        self.peers.push(NotedPeer { address, note })?;
+        Ok(FromReader::new(noted))
     }
 }
 
-impl Listener<FromReader<TcpStream>> for Listening {
+impl Listener<FromReader<Noted<TcpStream>>> for Listening {
     ghost gives = { λ _ _ _. ⊤ };
 
     ghost coming = { λ _. None };
@@ -35,7 +69,7 @@ impl Listener<FromReader<TcpStream>> for Listening {
     fn next_source(
         &mut self,
         idle: Option<Duration>,
-    ) -> Result<Accepted<FromReader<TcpStream>>, Reason> {
+    ) -> Result<Accepted<FromReader<Noted<TcpStream>>>, Reason> {
         let Some(listener) = &self.listener else {
             return Err(Reason::Other);
         };
@@ -46,10 +80,10 @@ impl Listener<FromReader<TcpStream>> for Listening {
         if let Err(error) = stream.set_read_timeout(idle) {
             return Err(Reason::of(&error));
         }
-        Ok(Accepted {
-            source: FromReader::new(stream),
-            peer,
-        })
+        match self.noted(stream, peer) {
+            Ok(source) => Ok(Accepted { source, peer }),
+            Err(_) => Err(Reason::OutOfMemory),
+        }
     }
 
     fn close(&mut self) {

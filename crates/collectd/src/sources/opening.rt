@@ -1,9 +1,12 @@
 //! What opens sources.
 
-ghost use Rattle.std.specs.Prelude.{⊤, None};
+ghost use Rattle.std.specs.Prelude.{⊤, IfOk, None};
+ghost use Rattle.collectd.specs.Runs.{IsUnread};
 
+use super::noted::{Note, Noted};
 use ipfix_session::{FromReader, Source};
 use run_reports::Reason;
+use std::alloc::{AllocError, Global};
 use std::fs::{self, OpenFile};
 use std::io::Read;
 use std::num::NonZeroU64;
@@ -45,31 +48,69 @@ pub trait OpenSource<S: Source> {
             → opens self.new name source → opens self.old name source };
 }
 
-/// The files of the system. The path `-` is standard input.
-impl<F: Read + OpenFile + Drop, R: Files<File = F>> OpenSource<FromReader<F>> for &R {
+/// The files of the system. The path `-` is standard input. It keeps why octets could not be read on.
+#[derive(Drop)]
+pub struct SystemFiles<'r, R> {
+    rt: &'r R,
+    alloc: Global,
+    notes: Vec<Note>,
+}
+
+impl<'r, R> SystemFiles<'r, R> {
+    /// None of them is opened yet.
+    pub fn new(rt: &'r R, alloc: Global) -> Self {
+        SystemFiles {
+            rt,
+            alloc,
+            notes: Vec::new(alloc),
+        }
+    }
+
+    /// The notes of the files that were opened, in their order.
+    pub fn notes(&self) -> &[Note] {
+        &self.notes
+    }
+
+    // The source of a file of which nothing was read; its note is kept.
+    fn noted<F: Read + Drop>(&mut self, file: F) -> Result<FromReader<Noted<F>>, AllocError>
+        ensures { IfOk result (IsUnread ⟦<FromReader<Noted<F>> as Source>⟧.seen) }
+    {
+        let noted = Noted::new(self.alloc, file)?;
+        self.notes.push(noted.note().clone()?)?;
+        Ok(FromReader::new(noted))
+    }
+}
+
+impl<'r, F: Read + OpenFile + Drop, R: Files<File = F>> OpenSource<FromReader<Noted<F>>>
+    for SystemFiles<'r, R> {
     ghost opens = { λ _ _ _. ⊤ };
 
     ghost coming = { λ _. None };
 
-    fn open_source(&mut self, path: &str) -> Result<Opened<FromReader<F>>, Reason> {
+    fn open_source(&mut self, path: &str) -> Result<Opened<FromReader<Noted<F>>>, Reason> {
         let name = if path == STANDARD_INPUT.0 {
             STANDARD_INPUT.1
         } else {
             path
         };
-        let file = match fs::open(*self, name) {
+        let file = match fs::open(self.rt, name) {
             Ok(file) => file,
             Err(error) => return Err(Reason::of(&error)),
         };
         let size = size_of(&file);
-        Ok(Opened {
-            source: FromReader::new(file),
-            size,
-        })
+        match self.noted(file) {
+            Ok(source) => Ok(Opened { source, size }),
+            Err(_) => Err(Reason::OutOfMemory),
+        }
     }
 }
 
-// How many octets a file has, if that can be known before it is read.
+// How many octets a file has, if that can be known before it is read: a folder has a size, and no octets.
 fn size_of<F: OpenFile>(file: &F) -> Option<NonZeroU64> {
-    NonZeroU64::new(file.metadata().ok()?.len())
+    let metadata = file.metadata().ok()?;
+    if metadata.is_file() {
+        NonZeroU64::new(metadata.len())
+    } else {
+        None
+    }
 }
