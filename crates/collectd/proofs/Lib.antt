@@ -4,3 +4,4 @@ mod LinesTold
 mod FullRan
 mod FullDumped
 pub mod Merged
+mod FilesTold

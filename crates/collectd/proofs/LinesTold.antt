@@ -115,7 +115,7 @@ zip_names name_of [] (o ∷ origins) all = absurd all
 zip_names name_of (p ∷ paths) [] all = absurd all
 zip_names name_of (p ∷ paths) (o ∷ origins) all = (all.0, zip_names name_of paths origins all.1)
 
-map_of_both : {P : Type 0} (name_of : P → List ℕ) (xs ys : List P) → map name_of (xs ++ ys) ≡ map name_of xs ++ map name_of ys
+pub map_of_both : {P : Type 0} (name_of : P → List ℕ) (xs ys : List P) → map name_of (xs ++ ys) ≡ map name_of xs ++ map name_of ys
 map_of_both name_of [] ys = refl
 map_of_both name_of (x ∷ xs) ys = ap (λ (l : List (List ℕ)). name_of x ∷ l) (map_of_both name_of xs ys)
 

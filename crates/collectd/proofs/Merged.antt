@@ -1,6 +1,6 @@
 -- Files that are merged one after another.
-use Rattle.std.proofs.Common.{◌≡◌, ℕ, ◌+◌, ◌<◌, ◌≤◌, List, [], ◌∷◌, ◌++◌, length, take, get_or, All, Option, Result, Ok, Err, sym, ap, ◌∙◌, subst, append-nil, append_assoc}
-use Rattle.std.specs.Prelude.{flat_map, IfOk}
+use Rattle.std.proofs.Common.{◌≡◌, ℕ, ◌+◌, ◌<◌, ◌≤◌, List, [], ◌∷◌, ◌++◌, length, take, get_or, All, Option, sym, ap, ◌∙◌, subst, append-nil, append_assoc}
+use Rattle.std.specs.Prelude.{flat_map}
 use Rattle.std.specs.List.{AllZip}
 use Rattle.std.proofs.lemmas.List.{take_more, take_all}
 use Rattle.std.proofs.lemmas.List.Elements.{All-append, All-cons, All-nil}
@@ -16,7 +16,6 @@ use Rattle.collectd.specs.Had.{AreOpened, Came, IsOpened}
 use Rattle.collectd.specs.Merges.{AddsFile, IsMerged}
 use Rattle.collectd.proofs.Had.{Came-nil, Came-trans}
 use Rattle.collectd.specs.Runs.{IsUnread}
-use Rattle.exit_status.specs.declared.status.Status.{Status}
 use Rattle.ipfix_session.specs.declared.driver.TheConstants.{READ_LIMIT}
 
 abbrev pub all_rows : List (List RowValue) → List RowValue
@@ -58,16 +57,14 @@ module _ {S X : Type 0} (seen : S → SourceView) (opens : X → S → Type 0) (
         stands = subst (StandsFor new) (sym (all_rows-more so_far.exports one.more)) one.stands;
       }
 
-  all_read : (paths : List X) (now : Option (List S)) (m : Merging) (answer : Result Table Status) (so_far : Stands paths now m) → IfOk answer (λ table. AreAddedUp (all_rows so_far.exports) (rows_in table))
-      → IfOk answer (IsMerged seen (AreOpened opens paths start now) plan)
-  all_read paths now m (Ok table) so_far added =
+  all_read : (paths : List X) (now : Option (List S)) (m : Merging) (table : Table) (so_far : Stands paths now m) → AreAddedUp (all_rows so_far.exports) (rows_in table) → IsMerged seen (AreOpened opens paths start now) plan table
+  all_read paths now m table so_far added =
       record {
         sources = so_far.sources;
         had = record { one_each = so_far.opened; came = so_far.came };
         unread = so_far.unread;
         added_up = record { exports = so_far.exports; given = so_far.given; added_up = added };
       }
-  all_read paths now m (Err status) so_far added = tt
 
   -- one more of these paths
   pub one_path : (paths : List X) (i : ℕ) (path : X) (before after : Option (List S)) (opens_now : X → S → Type 0) (old new : Merging) → i < length paths → ((x : X) (s : S) → opens_now x s → opens x s)
@@ -76,10 +73,10 @@ module _ {S X : Type 0} (seen : S → SourceView) (opens : X → S → Type 0) (
       subst (λ (ps : List X). Stands ps after new) (sym (take_more paths i path less)) (one_read (take i paths) (get_or paths i path) before after opens_now old new same file so_far)
 
   -- all of them
-  pub all_paths : (paths : List X) (i : ℕ) (now : Option (List S)) (m : Merging) (answer : Result Table Status) → length paths ≤ i → (so_far : Stands (take i paths) now m)
-      → IfOk answer (λ table. AreAddedUp (all_rows so_far.exports) (rows_in table)) → IfOk answer (IsMerged seen (AreOpened opens paths start now) plan)
-  all_paths paths i now m answer all so_far added =
-      subst (λ (ps : List X). IfOk answer (IsMerged seen (AreOpened opens ps start now) plan)) (take_all i paths all) (all_read (take i paths) now m answer so_far added)
+  pub all_paths : (paths : List X) (i : ℕ) (now : Option (List S)) (m : Merging) (table : Table) → length paths ≤ i → (so_far : Stands (take i paths) now m)
+      → AreAddedUp (all_rows so_far.exports) (rows_in table) → IsMerged seen (AreOpened opens paths start now) plan table
+  all_paths paths i now m table all so_far added =
+      subst (λ (ps : List X). IsMerged seen (AreOpened opens ps start now) plan table) (take_all i paths all) (all_read (take i paths) now m table so_far added)
 
 pub adds_file : {S : Type 0} (seen : S → SourceView) (IsHad : S → Type 0) (old new : Merging) (before after : S) → IsHad before → IsUnread seen before → merging_plan new ≡ merging_plan old
     → ((rows : List RowValue) → StandsFor old rows → AddsExport seen READ_LIMIT old before after rows new) → AddsFile seen IsHad old new

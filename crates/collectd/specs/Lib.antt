@@ -5,7 +5,8 @@ pub mod FullRuns
 pub mod Dumps
 pub mod Merges
 pub mod CollectLines
-pub mod Told
--- What only inner functions and proofs need.
 pub mod MergeLines
+pub mod Told
+pub mod MergesTold
+-- What only inner functions and proofs need.
 pub mod Limits

@@ -1,14 +1,19 @@
 -- The lines that a merge of files writes to standard error.
 use Rattle.std.specs.Prelude.{ℕ, List, ◌++◌, codes, decimal}
+use Rattle.std.specs.List.{flat_map, enumerate_from}
+use Rattle.exit_status.specs.declared.status.Status.{Status}
+use Rattle.exit_status.specs.declared.status.Status.TheVariants as status
 use Rattle.ipfix_session.specs.Faults.{number_of, name_of}
 use Rattle.flow_merge.specs.MergeFaults as merging
 use Rattle.flow_merge.specs.RowFaults as rows
 use Rattle.flow_merge.specs.declared.merge_fault.MergeFault.{MergeFault}
 use Rattle.flow_merge.specs.declared.merge_fault.MergeFault.TheVariants.{Session, Row}
-use Rattle.run_reports.specs.OpeningLines.{if_verbose}
+use Rattle.run_reports.specs.OpeningLines.{if_verbose, not_had_lines}
 use Rattle.run_reports.specs.Origins.{whole_name}
 use Rattle.run_reports.specs.ReportLines.{fault_text}
 use Rattle.run_reports.specs.declared.telling.Telling.{Telling}
+use Rattle.collectd.specs.declared.not_merged.NotMerged.{NotMerged}
+use Rattle.collectd.specs.declared.not_merged.NotMerged.TheVariants.{NotOpened, File, Whole}
 
 -- how many files were merged, and how many rows their table has
 unfoldable pub merged_line : ℕ → ℕ → List ℕ
@@ -38,3 +43,22 @@ file_opened_line file name = named_file_line file name (codes ": opened\n")
 abbrev pub file_fault_lines : Telling → ℕ → List ℕ → MergeFault → List ℕ
 file_fault_lines telling file name fault =
     file_fault_line file fault ++ if_verbose telling (named_file_line file name (merge_fault_text fault))
+
+-- a fault that is no file's
+abbrev pub merge_fault_line : MergeFault → List ℕ
+merge_fault_line fault = codes "collectd: merge" ++ fault_text (merging.number_of fault) (merging.name_of fault)
+
+-- the files that were opened, counted from 1, if that is asked for
+abbrev pub files_opened_lines : Telling → List (List ℕ) → List ℕ
+files_opened_lines telling names = flat_map (λ x. if_verbose telling (file_opened_line x.0 x.1)) (enumerate_from 1 names)
+
+-- why files were not merged, and how the run ends then
+abbrev pub not_merged_lines : Telling → NotMerged → List ℕ
+not_merged_lines telling (NotOpened path reason) = not_had_lines telling (codes "open") path.now reason
+not_merged_lines telling (File number path fault) = file_fault_lines telling number path.now fault
+not_merged_lines telling (Whole fault) = merge_fault_line fault
+
+abbrev pub status_of : NotMerged → Status
+status_of (NotOpened path reason) = status.NotOpened
+status_of (File number path fault) = status.Failed
+status_of (Whole fault) = status.Failed

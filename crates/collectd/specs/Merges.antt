@@ -1,5 +1,5 @@
 -- What merging the exports in files wrote.
-use Rattle.std.specs.Prelude.{◌≡◌, ◌⊎◌, ℕ, List, All, Option}
+use Rattle.std.specs.Prelude.{◌≡◌, ℕ, List, [], All, Option}
 use Rattle.std.specs.Io.KnownBytes.{Appends}
 use Rattle.ipfix_session.specs.Sources.{SourceView}
 use Rattle.flow_table.specs.Plans.{PlanValue}
@@ -9,8 +9,12 @@ use Rattle.flow_merge.specs.Merging.{merging_plan, AddsAllUp, AddsExport, Stands
 use Rattle.flow_merge.specs.declared.merging.Merging.{Merging}
 use Rattle.collectd.specs.Runs.{export_text, IsUnread}
 use Rattle.ipfix_session.specs.declared.driver.TheConstants.{READ_LIMIT}
-use Rattle.exit_status.specs.declared.status.Status.{Status}
-use Rattle.exit_status.specs.declared.status.Status.TheVariants.{NotOpened, Failed}
+use Rattle.run_reports.specs.OpeningLines.{if_verbose}
+use Rattle.run_reports.specs.declared.telling.Telling.{Telling}
+use Rattle.collectd.specs.MergeLines.{file_opened_line, files_opened_lines}
+use Rattle.collectd.specs.MergesTold.{StopsBehind}
+use Rattle.collectd.specs.declared.not_merged.NotMerged.{NotMerged}
+use Rattle.collectd.specs.declared.not_merged.NotMerged.TheVariants.{NotOpened, File, Whole}
 use Rattle.collectd.specs.declared.table.Output.{Output}
 
 module _ {S : Type 0} (seen : S → SourceView) where
@@ -22,11 +26,12 @@ module _ {S : Type 0} (seen : S → SourceView) where
     pub unread : All (IsUnread seen) sources
     pub added_up : AddsAllUp seen READ_LIMIT plan sources table
 
-  -- that table was written, and nothing else
-  pub record WritesMerged (AreHad : List S → Type 0) (plan : PlanValue) (output : Output) (old new : Option (List ℕ)) : Type 0 where
+  -- that table was written, and nothing else, and it was told as the last fact says it
+  pub record WritesMerged (AreHad : List S → Type 0) (plan : PlanValue) (output : Output) (old new : Option (List ℕ)) (IsTold : Table → Type 0) : Type 0 where
     pub table : Table
     pub merged : IsMerged AreHad plan table
     pub written : Appends old new (export_text output plan table)
+    pub told : IsTold table
 
   -- the export of a source that was had as the first fact says it, and not read before, is added
   pub record AddsFile (IsHad : S → Type 0) (old new : Merging) : Type 0 where
@@ -37,6 +42,14 @@ module _ {S : Type 0} (seen : S → SourceView) where
     pub same_plan : merging_plan new ≡ merging_plan old
     pub adds : (rows : List RowValue) → StandsFor old rows → AddsExport seen READ_LIMIT old before after rows new
 
--- the status if a file can't be opened or merged
-abbrev pub IsNotMerged : Status → Type 0
-IsNotMerged status = (status ≡ NotOpened) ⊎ (status ≡ Failed)
+-- why the file of this name and number was not added, and what was told by then
+abbrev pub IsNotAdded : Telling → ℕ → List ℕ → (List ℕ → Type 0) → NotMerged → Type 0
+IsNotAdded telling file name AreTold (NotOpened path reason) = (path.now ≡ name) × AreTold []
+IsNotAdded telling file name AreTold (File number path fault) = (number ≡ file) × (path.now ≡ name) × AreTold (if_verbose telling (file_opened_line file name))
+IsNotAdded telling file name AreTold (Whole fault) = ⊥
+
+-- why files were not merged, and which of them were told as opened by then
+pub record StopsMerge (names : List (List ℕ)) (telling : Telling) (AreTold : List ℕ → Type 0) (not_merged : NotMerged) : Type 0 where
+  pub opened : List (List ℕ)
+  pub stops : StopsBehind names opened not_merged
+  pub told : AreTold (files_opened_lines telling opened)

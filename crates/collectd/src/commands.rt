@@ -5,6 +5,5 @@ pub mod dump;
 pub mod dump_in_full;
 pub mod files;
 pub mod merge;
-pub mod merge_ends;
 pub mod paths;
 pub mod tcp;

@@ -7,6 +7,7 @@ mod early;
 mod full_run;
 mod limits;
 mod merge_reports;
+mod not_merged;
 mod plan;
 mod sources;
 mod table;

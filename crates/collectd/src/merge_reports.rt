@@ -5,10 +5,11 @@ ghost use Rattle.std.specs.Io.KnownBytes.{Appends};
 ghost use Rattle.flow_merge.specs.MergeFaults.{number_of, name_of};
 ghost use Rattle.run_reports.specs.OpeningLines.{if_verbose};
 ghost use Rattle.run_reports.specs.ReportLines.{fault_text};
-ghost use Rattle.collectd.specs.MergeLines.{file_fault_line, file_fault_lines, file_opened_line, file_start, merge_fault_text, merged_line, named_file_line};
+ghost use Rattle.collectd.specs.MergeLines.{file_fault_line, file_fault_lines, file_opened_line, file_start, merge_fault_line, merge_fault_text, merged_line, named_file_line, not_merged_lines};
 
+use crate::not_merged::NotMerged;
 use flow_merge::MergeFault;
-use run_reports::{Origin, Telling, WriteLines, write_fault, write_origin};
+use run_reports::{Origin, Telling, WriteLines, write_fault, write_not_had_because, write_origin};
 use std::io;
 
 /// Writes the line that counts the files that were merged, and the rows of their table.
@@ -22,19 +23,43 @@ pub fn write_merged<W: WriteLines>(files: usize, rows: usize, out: &mut W) -> io
     writeln!(out, "collectd: merged: files {files} rows {rows}")
 }
 
-/// Writes the line of a fault of merging that is no file's.
-pub fn write_merge_fault<W: WriteLines>(fault: MergeFault, out: &mut W) -> io::Result<()>
+/// Writes why files were not merged.
+pub fn write_not_merged<W: WriteLines>(
+    telling: Telling,
+    not_merged: &NotMerged,
+    out: &mut W,
+) -> io::Result<()>
     ensures told { OnOk result (Appends (W.contents out.old) (W.contents out.new)
-        (codes "collectd: merge" ++ fault_text (number_of fault) (name_of fault))) }
+        (not_merged_lines telling not_merged.now)) }
+    ensures failed { OnErr result (W.failed out.new) }
+    ensures kept { W.failed out.old → W.failed out.new }
+{
+    match not_merged {
+        NotMerged::NotOpened { path, reason } => {
+            write_not_had_because(telling, "open", path, *reason, out)
+        }
+        NotMerged::File {
+            number,
+            path,
+            fault,
+        } => write_file_fault(telling, *number, path, *fault, out),
+        NotMerged::Whole(fault) => write_merge_fault(*fault, out),
+    }
+}
+
+// The line of a fault that is no file's.
+fn write_merge_fault<W: WriteLines>(fault: MergeFault, out: &mut W) -> io::Result<()>
+    ensures told { OnOk result (Appends (W.contents out.old) (W.contents out.new)
+        (merge_fault_line fault)) }
     ensures failed { OnErr result (W.failed out.new) }
     ensures kept { W.failed out.old → W.failed out.new }
 {
     write_fault("merge", fault.number(), fault.name(), out)
 }
 
-/// Writes the line of a file, counted from 1, that was not merged: the fault, and behind it that of its
-/// session or of its record. If `telling` is verbose, the same line follows with the file's name.
-pub fn write_file_fault<W: WriteLines>(
+// The line of a file, counted from 1, that was not merged: the fault, and behind it that of its session or of
+// its record. If `telling` is verbose, the same line follows with the file's name.
+fn write_file_fault<W: WriteLines>(
     telling: Telling,
     file: usize,
     name: &str,

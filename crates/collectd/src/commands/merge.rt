@@ -1,23 +1,26 @@
 //! Merging the exports in files.
 
-ghost use Rattle.std.specs.Prelude.{◌≡◌, ◌⊎◌, ℕ, List, IfErr, IfOk};
+ghost use Rattle.std.specs.Prelude.{◌≡◌, ◌⊎◌, ℕ, List, map, IfErr, IfOk, OnOk};
 ghost use Rattle.exit_status.specs.Statuses.{number_of};
 ghost use Rattle.flow_table.specs.Fitting.{FitsPlan};
 ghost use Rattle.flow_table.specs.declared.table.Table.{Table as TableValue};
-ghost use Rattle.collectd.specs.Merges.{AddsFile, IsMerged, IsNotMerged, WritesMerged};
-ghost use Rattle.collectd.specs.Runs.{IsUnread};
+ghost use Rattle.run_reports.specs.OpeningLines.{if_verbose};
+ghost use Rattle.run_reports.specs.Told.{AreTold};
+ghost use Rattle.collectd.specs.MergeLines.{file_opened_line, files_opened_lines};
+ghost use Rattle.collectd.specs.Merges.{AddsFile, IsMerged, IsNotAdded, StopsMerge, WritesMerged};
+ghost use Rattle.collectd.specs.MergesTold.{merge_lines, TellsNotExported, TellsNotMerged};
 ghost use Rattle.collectd.specs.Had.{AreOpened, IsOpened};
 
-use super::merge_ends::{begin, end};
 use crate::full_run::NOTHING_MORE;
-use crate::merge_reports::{write_file_fault, write_file_opened, write_merged};
+use crate::merge_reports::{write_file_opened, write_merged, write_not_merged};
+use crate::not_merged::NotMerged;
 use crate::sources::opening::OpenSource;
 use crate::table::{Output, export};
 use exit_status::Status;
 use flow_merge::Merging;
 use flow_table::{Plan, Table};
 use ipfix_session::{READ_LIMIT, Source};
-use run_reports::{Telling, WriteLines, write_export_fault, write_not_had_because};
+use run_reports::{Telling, WriteLines, write_export_fault};
 use std::alloc::Global;
 use std::io::Write;
 
@@ -41,18 +44,26 @@ pub fn run_merge<S: Source + Drop, O: OpenSource<S>, W: Write, E: WriteLines>(
     ensures statuses { (result ≡ number_of Status.Well) ⊎ (result ≡ number_of Status.NotOpened)
         ⊎ (result ≡ number_of Status.Failed) }
     // The source of each path, in their order, each opened once, gave an export; the rows of all of them,
-    // added up, were written, and nothing else.
+    // added up, were written, and nothing else; how many files and rows there are was told, and nothing else.
     ensures table { result ≡ number_of Status.Well
         → WritesMerged S.seen (AreOpened (λ path. O.opens files.old path.now)
         paths.now (O.coming files.old) (O.coming files.new))
-        plan.now output (W.contents out.old) (W.contents out.new) }
-    // Nothing was written unless all were opened,
-    ensures not_opened { result ≡ number_of Status.NotOpened → out.new ≡ out.old }
-    // and merged.
-    ensures untouched { result ≡ number_of Status.Failed
-        → (out.new ≡ out.old) ⊎ ((table : TableValue)
-        × IsMerged S.seen (AreOpened (λ path. O.opens files.old path.now)
-        paths.now (O.coming files.old) (O.coming files.new)) plan.now table) }
+        plan.now output (W.contents out.old) (W.contents out.new)
+        (λ table. AreTold (E.contents err.old) (E.contents err.new) (E.failed err.new)
+        (merge_lines NOTHING_MORE (map (λ path. path.now) paths.now) table)) }
+    // Nothing was written unless all were opened, and the one that can't be was told;
+    ensures not_opened { result ≡ number_of Status.NotOpened → (out.new ≡ out.old)
+        × TellsNotMerged (map (λ path. path.now) paths.now) NOTHING_MORE
+        (AreTold (E.contents err.old) (E.contents err.new) (E.failed err.new)) result }
+    // nor unless all were merged, and the fault was told; else the table was had, and the fault of the export told.
+    ensures failed { result ≡ number_of Status.Failed → ((out.new ≡ out.old)
+        × TellsNotMerged (map (λ path. path.now) paths.now) NOTHING_MORE
+        (AreTold (E.contents err.old) (E.contents err.new) (E.failed err.new)) result)
+        ⊎ (((table : TableValue) × IsMerged S.seen (AreOpened (λ path. O.opens files.old path.now)
+        paths.now (O.coming files.old) (O.coming files.new)) plan.now table)
+        × TellsNotExported (map (λ path. path.now) paths.now) NOTHING_MORE
+        (AreTold (E.contents err.old) (E.contents err.new) (E.failed err.new))) }
+    ensures kept { E.failed err.old → E.failed err.new }
 {
     run_merge_in_full(files, alloc, paths, plan, output, NOTHING_MORE, out, err)
 }
@@ -72,19 +83,34 @@ pub fn run_merge_in_full<S: Source + Drop, O: OpenSource<S>, W: Write, E: WriteL
 ) -> u8
     ensures statuses { (result ≡ number_of Status.Well) ⊎ (result ≡ number_of Status.NotOpened)
         ⊎ (result ≡ number_of Status.Failed) }
+    // The source of each path, in their order, each opened once, gave an export; the rows of all of them,
+    // added up, were written, and nothing else; how many files and rows there are was told, and nothing else.
     ensures table { result ≡ number_of Status.Well
         → WritesMerged S.seen (AreOpened (λ path. O.opens files.old path.now)
         paths.now (O.coming files.old) (O.coming files.new))
-        plan.now output (W.contents out.old) (W.contents out.new) }
-    ensures not_opened { result ≡ number_of Status.NotOpened → out.new ≡ out.old }
-    ensures untouched { result ≡ number_of Status.Failed
-        → (out.new ≡ out.old) ⊎ ((table : TableValue)
-        × IsMerged S.seen (AreOpened (λ path. O.opens files.old path.now)
-        paths.now (O.coming files.old) (O.coming files.new)) plan.now table) }
+        plan.now output (W.contents out.old) (W.contents out.new)
+        (λ table. AreTold (E.contents err.old) (E.contents err.new) (E.failed err.new)
+        (merge_lines telling (map (λ path. path.now) paths.now) table)) }
+    // Nothing was written unless all were opened, and the one that can't be was told;
+    ensures not_opened { result ≡ number_of Status.NotOpened → (out.new ≡ out.old)
+        × TellsNotMerged (map (λ path. path.now) paths.now) telling
+        (AreTold (E.contents err.old) (E.contents err.new) (E.failed err.new)) result }
+    // nor unless all were merged, and the fault was told; else the table was had, and the fault of the export told.
+    ensures failed { result ≡ number_of Status.Failed → ((out.new ≡ out.old)
+        × TellsNotMerged (map (λ path. path.now) paths.now) telling
+        (AreTold (E.contents err.old) (E.contents err.new) (E.failed err.new)) result)
+        ⊎ (((table : TableValue) × IsMerged S.seen (AreOpened (λ path. O.opens files.old path.now)
+        paths.now (O.coming files.old) (O.coming files.new)) plan.now table)
+        × TellsNotExported (map (λ path. path.now) paths.now) telling
+        (AreTold (E.contents err.old) (E.contents err.new) (E.failed err.new))) }
+    ensures kept { E.failed err.old → E.failed err.new }
 {
     let table = match merge_files(files, alloc, paths, plan, telling, err) {
         Ok(table) => table,
-        Err(status) => return status.number(),
+        Err(not_merged) => {
+            let _ = write_not_merged(telling, &not_merged, err);
+            return not_merged.status().number();
+        }
     };
     if let Err(fault) = export(alloc, plan, &table, output, out) {
         let _ = write_export_fault(fault, err);
@@ -94,78 +120,68 @@ pub fn run_merge_in_full<S: Source + Drop, O: OpenSource<S>, W: Write, E: WriteL
     Status::Well.number()
 }
 
-// The table of the exports in files; or the status, if one can't be opened or merged, which is told.
-fn merge_files<S: Source + Drop, O: OpenSource<S>, E: WriteLines>(
+// The table of the exports in files; or why they were not merged. Each that is opened is told.
+fn merge_files<'a, S: Source + Drop, O: OpenSource<S>, E: WriteLines>(
     files: &mut O,
     alloc: Global,
-    paths: &[&str],
+    paths: &[&'a str],
     plan: &Plan,
     telling: Telling,
     err: &mut E,
-) -> Result<Table, Status>
+) -> Result<Table, NotMerged<'a>>
     ensures merged { IfOk result
         (IsMerged S.seen (AreOpened (λ path. O.opens files.old path.now)
         paths.now (O.coming files.old) (O.coming files.new)) plan.now) }
     ensures fits { IfOk result (FitsPlan plan.now) }
-    ensures status { IfErr result IsNotMerged }
+    ensures told { OnOk result (AreTold (E.contents err.old) (E.contents err.new) (E.failed err.new)
+        (files_opened_lines telling (map (λ path. path.now) paths.now))) }
+    ensures stops { IfErr result (StopsMerge (map (λ path. path.now) paths.now) telling
+        (AreTold (E.contents err.old) (E.contents err.new) (E.failed err.new))) }
+    ensures kept { E.failed err.old → E.failed err.new }
 {
-    let mut merging = begin(alloc, plan, err)?;
-    let mut file = 0_usize;
-    for path in paths {
-        file = file.saturating_add(1);
-        merging = add_file(files, merging, file, *path, telling, err)?;
+    let mut merging = match Merging::new(alloc, plan) {
+        Ok(merging) => merging,
+        Err(fault) => return Err(NotMerged::Whole(fault)),
+    };
+    for (index, path) in paths.iter().enumerate() {
+        merging = add_file(files, merging, index + 1, *path, telling, err)?;
     }
-    end(merging, err)
+    match merging.finish() {
+        Ok(table) => Ok(table),
+        Err(fault) => Err(NotMerged::Whole(fault)),
+    }
 }
 
 // Adds the file of this number, counted from 1.
-fn add_file<S: Source + Drop, O: OpenSource<S>, E: WriteLines>(
+fn add_file<'a, S: Source + Drop, O: OpenSource<S>, E: WriteLines>(
     files: &mut O,
     merging: Merging,
-    file: usize,
-    path: &str,
+    number: usize,
+    path: &'a str,
     telling: Telling,
     err: &mut E,
-) -> Result<Merging, Status>
+) -> Result<Merging, NotMerged<'a>>
     ensures added { IfOk result (AddsFile S.seen
         (IsOpened (O.opens files.old path.now) (O.coming files.old) (O.coming files.new)) merging) }
     ensures same { (name : List ℕ) (source : S)
         → O.opens files.new name source → O.opens files.old name source }
-    ensures status { IfErr result IsNotMerged }
+    ensures told { OnOk result (AreTold (E.contents err.old) (E.contents err.new) (E.failed err.new)
+        (if_verbose telling (file_opened_line number path.now))) }
+    ensures stops { IfErr result (IsNotAdded telling number path.now
+        (AreTold (E.contents err.old) (E.contents err.new) (E.failed err.new))) }
+    ensures kept { E.failed err.old → E.failed err.new }
 {
-    let mut source = open_file(files, file, path, telling, err)?;
+    let mut source = match files.open_source(path) {
+        Ok(opened) => opened.source,
+        Err(reason) => return Err(NotMerged::NotOpened { path, reason }),
+    };
+    let _ = write_file_opened(telling, number, path, err);
     match merging.read(&mut source, READ_LIMIT) {
         Ok(merging) => Ok(merging),
-        Err(fault) => {
-            let _ = write_file_fault(telling, file, path, fault, err);
-            Err(Status::Failed)
-        }
-    }
-}
-
-// The source of the file of this number.
-fn open_file<S: Source, O: OpenSource<S>, E: WriteLines>(
-    files: &mut O,
-    file: usize,
-    path: &str,
-    telling: Telling,
-    err: &mut E,
-) -> Result<S, Status>
-    ensures opened { IfOk result
-        (IsOpened (O.opens files.old path.now) (O.coming files.old) (O.coming files.new)) }
-    ensures same { (name : List ℕ) (source : S)
-        → O.opens files.new name source → O.opens files.old name source }
-    ensures unread { IfOk result (IsUnread S.seen) }
-    ensures status { IfErr result (λ status. status ≡ Status.NotOpened) }
-{
-    match files.open_source(path) {
-        Ok(opened) => {
-            let _ = write_file_opened(telling, file, path, err);
-            Ok(opened.source)
-        }
-        Err(reason) => {
-            let _ = write_not_had_because(telling, "open", path, reason, err);
-            Err(Status::NotOpened)
-        }
+        Err(fault) => Err(NotMerged::File {
+            number,
+            path,
+            fault,
+        }),
     }
 }

@@ -1,31 +1,33 @@
-use Rattle.std.proofs.Common.{subst}
-use Rattle.std.specs.Prelude.{IfOk}
-use Rattle.flow_table.specs.Fitting.{FitsPlan}
-use Rattle.flow_table.specs.Plans.{PlanValue}
+use Rattle.collectd.proofs.FilesTold.{one_file_told, stops_merge}
+use Rattle.collectd.proofs.LinesTold.{none_told, passed_on}
 use Rattle.collectd.proofs.Merged.{all_paths, all_rows, none_read, one_path}
 use Rattle.collectd.proofs.commands.merge.merge_files.Goals as goal
 
-pub loop-path-init : goal.loop-path-init
-loop-path-init g c = record {
-  stands = none_read _ _ c.args.plan.now _ c.in_ok-merging.merging c.in_ok-merging.ensures.plan c.in_ok-merging.ensures.empty;
+pub loop-index-init : goal.loop-index-init
+loop-index-init g c = record {
+  stands = none_read _ _ c.args.plan.now _ c.in-Ok.merging c.in-Ok.ensures.plan c.in-Ok.ensures.empty;
   same = λ name source opens. opens;
+  told = none_told (g.E.WriteLines.contents c.args.err.now) (g.E.WriteLines.failed c.args.err.now);
+  kept = λ failed. failed;
 }
 
-pub loop-path-preserved : goal.loop-path-preserved
-loop-path-preserved g c =
-    let so_far = c.loop-path.invariant in
+pub loop-index-preserved : goal.loop-index-preserved
+loop-index-preserved g c =
+    let so_far = c.loop-index.invariant in
     record {
-      stands = one_path _ _ c.args.plan.now _ c.args.paths.now c.loop-path.path-index _ _ _ _ c.loop-path.merging c.in_ok-merging-2.merging c.loop-path-test.true
-          (λ path source opens. so_far.same path.now source opens) c.in_ok-merging-2.ensures.added so_far.stands;
+      stands = one_path _ _ c.args.plan.now _ c.args.paths.now c.loop-index.index _ _ _ _ c.loop-index.merging c.in_ok-merging.merging c.loop-index-test.true
+          (λ path source opens. so_far.same path.now source opens) c.in_ok-merging.ensures.added so_far.stands;
       same = λ name source opens. so_far.same name source (c.add_file.ensures.same name source opens);
+      told = one_file_told (λ path. path.now) c.args.paths.now _ _ _ _ _ c.args.telling c.loop-index.index _ c.loop-index-test.true so_far.told c.in_ok-merging.ensures.told c.add_file.ensures.kept;
+      kept = λ failed. c.add_file.ensures.kept (so_far.kept failed);
     }
 
-pub returns-clause-merged : goal.returns-clause-merged
-returns-clause-merged g c =
-    let so_far = c.loop-path.invariant.stands in
-    all_paths _ _ c.args.plan.now _ c.args.paths.now c.loop-path.path-index _ c.loop-path.merging c.end.result c.loop-path-test.false so_far (c.end.ensures.rows (all_rows so_far.exports) so_far.stands)
+pub returns-in_err-merging-clause-stops : goal.returns-in_err-merging-clause-stops
+returns-in_err-merging-clause-stops g c =
+    passed_on c.from_residual.result c.in_err-merging.field-0.0 _ c.from_residual.ensures.1
+    (stops_merge (λ path. path.now) c.args.paths.now _ _ _ _ _ c.args.telling c.loop-index.index _ _ c.loop-index-test.true c.loop-index.invariant.told c.in_err-merging.ensures.stops c.add_file.ensures.kept)
 
-pub returns-clause-fits : goal.returns-clause-fits
-returns-clause-fits g c =
-    let so_far = c.loop-path.invariant.stands in
-    subst (λ (p : PlanValue). IfOk c.end.result (FitsPlan p)) so_far.same_plan (c.end.ensures.fits (all_rows so_far.exports) so_far.stands)
+pub returns-in-Ok-finish-clause-merged : goal.returns-in-Ok-finish-clause-merged
+returns-in-Ok-finish-clause-merged g c =
+    let so_far = c.loop-index.invariant.stands in
+    all_paths _ _ c.args.plan.now _ c.args.paths.now c.loop-index.index _ c.loop-index.merging c.in-Ok-finish.table c.loop-index-test.false so_far (c.in-Ok-finish.ensures.rows (all_rows so_far.exports) so_far.stands)

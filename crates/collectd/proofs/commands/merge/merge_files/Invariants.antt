@@ -1,9 +1,14 @@
-use Rattle.std.proofs.Common.{ℕ, List, take}
+use Rattle.std.proofs.Common.{ℕ, List, map, take}
+use Rattle.run_reports.specs.Told.{AreTold}
+use Rattle.collectd.specs.MergeLines.{files_opened_lines}
 use Rattle.collectd.proofs.Merged.{Stands}
 use Rattle.collectd.proofs.commands.merge.merge_files.Given as goal
 
-abbrev pub invariant-loop-path : goal.invariant-loop-path
-invariant-loop-path g l = record {
-  stands : Stands g.S.Source.seen (λ path. g.O.OpenSource.opens l.fn.files path.now) l.fn.plan (g.O.OpenSource.coming l.fn.files) (take l.path-index l.fn.paths) (g.O.OpenSource.coming l.files) l.merging;
+-- the first files were opened, told and added
+abbrev pub invariant-loop-index : goal.invariant-loop-index
+invariant-loop-index g l = record {
+  stands : Stands g.S.Source.seen (λ path. g.O.OpenSource.opens l.fn.files path.now) l.fn.plan (g.O.OpenSource.coming l.fn.files) (take l.index l.fn.paths) (g.O.OpenSource.coming l.files) l.merging;
   same : (name : List ℕ) (source : _) → g.O.OpenSource.opens l.files name source → g.O.OpenSource.opens l.fn.files name source;
+  told : AreTold (g.E.WriteLines.contents l.fn.err) (g.E.WriteLines.contents l.err) (g.E.WriteLines.failed l.err) (files_opened_lines l.fn.telling (map (λ path. path.now) (take l.index l.fn.paths)));
+  kept : g.E.WriteLines.failed l.fn.err → g.E.WriteLines.failed l.err;
 }
