@@ -1,0 +1,3 @@
+pub mod Registered
+pub mod Apart
+pub mod Orders

@@ -1,0 +1,10 @@
+use Rattle.std.proofs.Common.{◌≡◌, length, map}
+use Rattle.std.specs.Prelude.{find}
+use Rattle.element_registry.specs.Registries.{shown, is_named}
+use Rattle.element_registry.proofs.entry.find_named.Given as goal
+
+abbrev pub invariant-loop-entries : goal.invariant-loop-entries
+invariant-loop-entries l = find (is_named l.name) (map shown l.entries) ≡ find (is_named l.name) (map shown l.initial.entries)
+
+abbrev pub decreases-loop-entries : goal.decreases-loop-entries
+decreases-loop-entries l = length l.entries
