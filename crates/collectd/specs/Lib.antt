@@ -8,5 +8,4 @@ pub mod CollectLines
 pub mod MergeLines
 pub mod Told
 pub mod MergesTold
--- What only inner functions and proofs need.
 pub mod Limits

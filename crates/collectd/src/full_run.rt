@@ -70,7 +70,8 @@ pub fn run_in_full<S: Source + Send + Drop, W: Write, E: WriteLines, R: Threads 
     // Nothing was collected if the arguments have a fault, and that is told.
     ensures refused { IfSome (fault_of_arguments pool (vec_len sources))
         (λ fault. (result ≡ number_of Status.Failed) × (out.new ≡ out.old)
-        × AreTold (E.contents err.old) (E.contents err.new) (E.failed err.new) (collect_fault_line fault)) }
+        × AreTold (E.contents err.old) (E.contents err.new) (E.failed err.new)
+        (collect_fault_line fault)) }
     ensures kept { E.failed err.old → E.failed err.new }
 {
     let collected = match collect_in_full(rt, alloc, sources, plan, pool, &OpenGate) {

@@ -68,7 +68,8 @@ pub fn run<S: Source + Send + Drop, W: Write, E: WriteLines, R: Threads + Wait +
     // Nothing was collected if the arguments have a fault, and that is told.
     ensures refused { IfSome (fault_of_arguments pool (vec_len sources))
         (λ fault. (result ≡ number_of Status.Failed) × (out.new ≡ out.old)
-        × AreTold (E.contents err.old) (E.contents err.new) (E.failed err.new) (collect_fault_line fault)) }
+        × AreTold (E.contents err.old) (E.contents err.new) (E.failed err.new)
+        (collect_fault_line fault)) }
     ensures kept { E.failed err.old → E.failed err.new }
 {
     run_in_full(

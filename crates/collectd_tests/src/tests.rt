@@ -36,7 +36,7 @@ d=1 t=256 x=1700000000 s=0 octetDeltaCount=4
 ";
 
 #[test]
-fn whole_inputs(rt: HostRuntime) -> Result<(), Fail> {
+fn dumps_whole_inputs(rt: HostRuntime) -> Result<(), Fail> {
     let cases: [(&[&[u8]], &str, &str); 4] = [
         (&[], "", ""),
         (&[ONE_FLOW], LINE, ""),
@@ -60,7 +60,7 @@ fn whole_inputs(rt: HostRuntime) -> Result<(), Fail> {
 }
 
 #[test]
-fn a_failing_read(rt: HostRuntime) -> Result<(), Fail> {
+fn dumps_what_came_before_a_failing_read(rt: HostRuntime) -> Result<(), Fail> {
     for (piece, interrupt_at) in [(1, None), (7, Some(3)), (100, Some(1))] {
         let text = text_of(rt.alloc(), &[ONE_FLOW, ONE_FLOW])?;
         let mut source = ScriptSource::new(text, piece, interrupt_at, Some(80));
@@ -133,7 +133,7 @@ fn report(
 }
 
 #[test]
-fn reports_of_sessions(rt: HostRuntime) -> Result<(), Fail> {
+fn writes_reports_of_sessions(rt: HostRuntime) -> Result<(), Fail> {
     let mut reports = Vec::new(rt.alloc());
     reports.push(report(rt.alloc(), &[(1, 0, 0)], None)?)?;
     let domains = [(7, 3, 0), (4294967295, 0, 0), (2, 0, u64::MAX)];
@@ -152,7 +152,7 @@ collectd: session 3: fault 15 ReadFailed
 }
 
 #[test]
-fn fault_numbers_and_names(rt: HostRuntime) {
+fn faults_have_numbers_and_names(rt: HostRuntime) {
     assert_eq!(rt; DumpFault::OutOfMemory.number(), 1);
     assert_eq!(rt; DumpFault::OutOfMemory.name(), "OutOfMemory");
     assert_eq!(rt; DumpFault::WriteFailed.number(), 2);
@@ -196,7 +196,7 @@ fn export(connection: TcpStream, line_came: &AtomicBool) -> bool {
 }
 
 #[test]
-fn a_live_connection(rt: HostRuntime) -> Result<(), Fail> {
+fn dumps_a_message_while_the_connection_lives(rt: HostRuntime) -> Result<(), Fail> {
     let listener = TcpListener::bind(&rt, "127.0.0.1:0")?;
     let exporter = TcpStream::connect(&rt, listener.local_addr()?)?;
     let (collector, _) = listener.accept()?;
@@ -243,7 +243,7 @@ fn count_in_pieces(text: &[u8], size: usize) -> u64
 
 /// However they are cut: each header here is cut behind each of its octets.
 #[test]
-fn messages_in_pieces(rt: HostRuntime) -> Result<(), Fail> {
+fn counts_messages_in_pieces(rt: HostRuntime) -> Result<(), Fail> {
     let cases: [(&[&[u8]], u64); 7] = [
         (&[], 0),
         (&[ONE_FLOW], 1),
@@ -264,7 +264,7 @@ fn messages_in_pieces(rt: HostRuntime) -> Result<(), Fail> {
 
 /// An octet at a time: a message counts with its last octet.
 #[test]
-fn messages_by_octets(rt: HostRuntime) {
+fn counts_messages_that_come_by_octets(rt: HostRuntime) {
     let mut counter = MessageCounter::new();
     for round in 0..3 {
         for octet in &ONE_FLOW[..67] {
@@ -277,7 +277,7 @@ fn messages_by_octets(rt: HostRuntime) {
 }
 
 #[test]
-fn the_longest_message(rt: HostRuntime) {
+fn counts_the_longest_message(rt: HostRuntime) {
     let mut counter = MessageCounter::new();
     counter.read(&header(65535, 0, 1));
     for _ in 0..65518 {

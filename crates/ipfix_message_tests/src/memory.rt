@@ -7,7 +7,7 @@ use std::test::*;
 use worked_examples::templates::OPTIONS_TEMPLATE_WITHDRAWAL_UNKNOWN_SET;
 
 #[test]
-fn decode_with_refused_memory(rt: HostRuntime) {
+fn decoding_survives_refused_memory(rt: HostRuntime) {
     let mut domains = Domains::new(rt.alloc());
     match domains.decode(rt.alloc(), OPTIONS_TEMPLATE_WITHDRAWAL_UNKNOWN_SET) {
         Ok(decoded) => {

@@ -30,7 +30,7 @@ fn drain<S: Source>(source: &mut S, octets: &mut Vec<u8>) -> Result<(u64, bool),
 }
 
 #[test]
-fn sources(rt: HostRuntime) -> Result<(), Fail> {
+fn sources_give_their_octets(rt: HostRuntime) -> Result<(), Fail> {
     let text = [1, 2, 3, 4, 5, 6, 7, 8, 9, 10];
     let mut octets = Vec::new(rt.alloc());
     let mut reader = FromReader::new(text.as_slice());
@@ -54,7 +54,7 @@ fn sources(rt: HostRuntime) -> Result<(), Fail> {
 }
 
 #[test]
-fn numbers_and_names(rt: HostRuntime) -> Result<(), Fail> {
+fn faults_have_numbers_and_names(rt: HostRuntime) -> Result<(), Fail> {
     for (fault, number, name) in [
         (SessionFault::from(MessageFault::RecordCut), 10, "RecordCut"),
         (SessionFault::Truncated, 14, "Truncated"),

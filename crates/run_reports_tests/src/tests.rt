@@ -57,7 +57,7 @@ fn origins() -> [Origin<'static>; 2] {
 }
 
 #[test]
-fn sessions_in_full(rt: HostRuntime) -> Result<(), Fail> {
+fn writes_sessions_in_full(rt: HostRuntime) -> Result<(), Fail> {
     let reports = two_sessions(rt.alloc())?;
     let cases: [(Telling, &str); 3] = [
         (PLAIN, "collectd: session 1: fault 14 Truncated\n"),
@@ -86,7 +86,7 @@ collectd: session 2 192.0.2.1:4711: ended: messages 1 octets 40 records 2
 }
 
 #[test]
-fn what_was_opened(rt: HostRuntime) -> Result<(), Fail> {
+fn writes_what_was_opened(rt: HostRuntime) -> Result<(), Fail> {
     let mut err = Vec::new(rt.alloc());
     for telling in [PLAIN, VERBOSE] {
         write_listening(telling, "127.0.0.1:4739", 2, &mut err)?;
@@ -105,7 +105,7 @@ collectd: session 2: opened
 }
 
 #[test]
-fn what_was_not_had(rt: HostRuntime) -> Result<(), Fail> {
+fn writes_what_was_not_had(rt: HostRuntime) -> Result<(), Fail> {
     let mut err = Vec::new(rt.alloc());
     let missing = Reason::of(&io::Error::from(ErrorKind::NotFound));
     let silent = Reason::of(&io::Error::from(ErrorKind::WouldBlock));
@@ -121,7 +121,7 @@ collectd: listen: 127.0.0.1:1: nothing came in time
 }
 
 #[test]
-fn spotless_runs(rt: HostRuntime) -> Result<(), Fail> {
+fn tells_spotless_runs(rt: HostRuntime) -> Result<(), Fail> {
     let reports = two_sessions(rt.alloc())?;
     let untimed = Tally {
         untimed: 1,

@@ -54,10 +54,12 @@ pub fn run_connections<
         ⊎ (result ≡ number_of Status.NotOpened) ⊎ (result ≡ number_of Status.Failed) }
     ensures accepted { result ≢ number_of Status.NotOpened
         → RunsInFull S.seen
-        (AreAccepted (L.gives listener.old idle) count (L.coming listener.old) (L.coming listener.new))
+        (AreAccepted (L.gives listener.old idle) count
+        (L.coming listener.old) (L.coming listener.new))
         telling.strict plan.now pool result
         (λ fulls table. Writes plan.now output (W.contents out.old) (W.contents out.new) table
-        × TellsRun (ArePeers count) telling plan.now (if_verbose telling (listening_line addr.now count))
+        × TellsRun (ArePeers count) telling plan.now
+        (if_verbose telling (listening_line addr.now count))
         (AreTold (E.contents err.old) (E.contents err.new) (E.failed err.new)) fulls table) }
     ensures closed { L.is_closed listener.new }
     ensures not_accepted { result ≡ number_of Status.NotOpened → out.new ≡ out.old }
@@ -67,7 +69,8 @@ pub fn run_connections<
     ensures no_time { IfSome idle
         (λ limit. as_nanos limit ≡ 0 → 0 < count → result ≡ number_of Status.NotOpened) }
     ensures failed { result ≡ number_of Status.Failed
-        → TellsFailedRun (ArePeers count) telling (if_verbose telling (listening_line addr.now count)) (out.new ≡ out.old)
+        → TellsFailedRun (ArePeers count) telling
+        (if_verbose telling (listening_line addr.now count)) (out.new ≡ out.old)
         (AreTold (E.contents err.old) (E.contents err.new) (E.failed err.new)) }
     // Each connection that was had was told, and then the address that gives none.
     ensures stopped { result ≡ number_of Status.NotOpened

@@ -39,8 +39,10 @@ pub fn run_dump<S: Source, W: Write, E: WriteLines>(
         × Dumps S.seen source.old source.new (W.contents out.old) (W.contents out.new) report }
     // The session was told, and all was well exactly if it has no fault.
     ensures ended { result ≢ number_of Status.Failed
-        → DumpsAlone dump_line S.seen source.old source.new (W.contents out.old) (W.contents out.new) result
-        (λ report. AreTold (E.contents err.old) (E.contents err.new) (E.failed err.new) (report_lines (report ∷ []))) }
+        → DumpsAlone dump_line S.seen source.old source.new
+        (W.contents out.old) (W.contents out.new) result
+        (λ report. AreTold (E.contents err.old) (E.contents err.new) (E.failed err.new)
+        (report_lines (report ∷ []))) }
     // The line of a fault alone was told.
     ensures failed { result ≡ number_of Status.Failed → TellsDumpFault
         (AreTold (E.contents err.old) (E.contents err.new) (E.failed err.new)) }
@@ -65,8 +67,10 @@ pub fn run_dump_json<S: Source, W: Write, E: WriteLines>(
         × DumpsJson S.seen source.old source.new (W.contents out.old) (W.contents out.new) report }
     // The session was told, and all was well exactly if it has no fault.
     ensures ended { result ≢ number_of Status.Failed
-        → DumpsAlone json_line S.seen source.old source.new (W.contents out.old) (W.contents out.new) result
-        (λ report. AreTold (E.contents err.old) (E.contents err.new) (E.failed err.new) (report_lines (report ∷ []))) }
+        → DumpsAlone json_line S.seen source.old source.new
+        (W.contents out.old) (W.contents out.new) result
+        (λ report. AreTold (E.contents err.old) (E.contents err.new) (E.failed err.new)
+        (report_lines (report ∷ []))) }
     // The line of a fault alone was told.
     ensures failed { result ≡ number_of Status.Failed → TellsDumpFault
         (AreTold (E.contents err.old) (E.contents err.new) (E.failed err.new)) }
@@ -163,8 +167,10 @@ fn run_dump_by<L: RecordLine, S: Source, W: Write, E: WriteLines>(
         (W.contents out.old) (W.contents out.new) report }
     // The session was told, and all was well exactly if it has no fault.
     ensures ended { result ≢ number_of Status.Failed
-        → DumpsAlone L.line_of S.seen source.old source.new (W.contents out.old) (W.contents out.new) result
-        (λ report. AreTold (E.contents err.old) (E.contents err.new) (E.failed err.new) (report_lines (report ∷ []))) }
+        → DumpsAlone L.line_of S.seen source.old source.new
+        (W.contents out.old) (W.contents out.new) result
+        (λ report. AreTold (E.contents err.old) (E.contents err.new) (E.failed err.new)
+        (report_lines (report ∷ []))) }
     // The line of a fault alone was told.
     ensures failed { result ≡ number_of Status.Failed → TellsDumpFault
         (AreTold (E.contents err.old) (E.contents err.new) (E.failed err.new)) }

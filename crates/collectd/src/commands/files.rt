@@ -140,7 +140,8 @@ pub fn run_files_in_full<
         (AreTold (E.contents err.old) (E.contents err.new) (E.failed err.new))) }
     // The line of a fault was told behind those of what was had; nothing was written, if it is one of collecting.
     ensures failed { IfNone (fault_of_pool pool) (result ≡ number_of Status.Failed
-        → TellsFailedRun (AllZip (λ path. IsFileNamed path.now) paths.now) telling [] (out.new ≡ out.old)
+        → TellsFailedRun (AllZip (λ path. IsFileNamed path.now) paths.now) telling []
+        (out.new ≡ out.old)
         (AreTold (E.contents err.old) (E.contents err.new) (E.failed err.new))) }
     // Each file that was had was told, and then the path that can't be opened.
     ensures stopped { result ≡ number_of Status.NotOpened

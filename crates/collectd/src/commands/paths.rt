@@ -61,7 +61,8 @@ pub fn run_paths<
         (λ fault. ((result ≡ number_of Status.NotOpened) ⊎ (result ≡ number_of Status.Failed))
         × (out.new ≡ out.old)) }
     ensures failed { result ≡ number_of Status.Failed
-        → TellsFailedRun (AllZip (λ path. IsFileNamed path.now) paths.now) telling [] (out.new ≡ out.old)
+        → TellsFailedRun (AllZip (λ path. IsFileNamed path.now) paths.now) telling []
+        (out.new ≡ out.old)
         (AreTold (E.contents err.old) (E.contents err.new) (E.failed err.new)) }
     // Each file that was had was told, and then the path that can't be opened.
     ensures stopped { result ≡ number_of Status.NotOpened

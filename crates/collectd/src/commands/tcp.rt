@@ -66,7 +66,8 @@ pub fn run_tcp<
     // So many connections with this limit were accepted and run, as `run` says it, and no others.
     ensures accepted { result ≢ number_of Status.NotOpened
         → RunsSources S.seen
-        (AreAccepted (L.gives listener.old idle) count (L.coming listener.old) (L.coming listener.new))
+        (AreAccepted (L.gives listener.old idle) count
+        (L.coming listener.old) (L.coming listener.new))
         plan.now pool result
         (λ reports table. Writes plan.now output (W.contents out.old) (W.contents out.new) table
         × AreTold (E.contents err.old) (E.contents err.new) (E.failed err.new)
@@ -139,10 +140,12 @@ pub fn run_tcp_in_full<
     // So many connections with this limit were accepted and run, as `run_in_full` says it, and no others.
     ensures accepted { IfNone (fault_of_pool pool) (result ≢ number_of Status.NotOpened
         → RunsInFull S.seen
-        (AreAccepted (L.gives listener.old idle) count (L.coming listener.old) (L.coming listener.new))
+        (AreAccepted (L.gives listener.old idle) count
+        (L.coming listener.old) (L.coming listener.new))
         telling.strict plan.now pool result
         (λ fulls table. Writes plan.now output (W.contents out.old) (W.contents out.new) table
-        × TellsRun (ArePeers count) telling plan.now (if_verbose telling (listening_line addr.now count))
+        × TellsRun (ArePeers count) telling plan.now
+        (if_verbose telling (listening_line addr.now count))
         (AreTold (E.contents err.old) (E.contents err.new) (E.failed err.new)) fulls table)) }
     ensures closed { L.is_closed listener.new }
     // Nothing was written unless all were accepted.
@@ -161,7 +164,8 @@ pub fn run_tcp_in_full<
         (AreTold (E.contents err.old) (E.contents err.new) (E.failed err.new))) }
     // The line of a fault was told behind those of what was had; nothing was written, if it is one of collecting.
     ensures failed { IfNone (fault_of_pool pool) (result ≡ number_of Status.Failed
-        → TellsFailedRun (ArePeers count) telling (if_verbose telling (listening_line addr.now count)) (out.new ≡ out.old)
+        → TellsFailedRun (ArePeers count) telling
+        (if_verbose telling (listening_line addr.now count)) (out.new ≡ out.old)
         (AreTold (E.contents err.old) (E.contents err.new) (E.failed err.new))) }
     // Each connection that was had was told, and then the address that gives none.
     ensures stopped { result ≡ number_of Status.NotOpened

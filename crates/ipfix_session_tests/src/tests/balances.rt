@@ -51,7 +51,7 @@ fn report(lost: u64) -> DomainReport {
 }
 
 #[test]
-fn gap_behind_unknown_set(rt: HostRuntime) -> Result<(), Fail> {
+fn a_gap_behind_an_unknown_set_is_unaccounted(rt: HostRuntime) -> Result<(), Fail> {
     // Sequence numbers 0, 0 with an unknown set, 7 and 9, without a record: 7 is unaccounted for, 2 lost.
     let full = full_report(
         rt.alloc(),
@@ -72,7 +72,7 @@ fn gap_behind_unknown_set(rt: HostRuntime) -> Result<(), Fail> {
 }
 
 #[test]
-fn step_backward_behind_unknown_set(rt: HostRuntime) -> Result<(), Fail> {
+fn a_step_backward_behind_an_unknown_set_is_unaccounted(rt: HostRuntime) -> Result<(), Fail> {
     let parts: [&[u8]; 3] = [&header(24, 5, 1), &UNKNOWN_SET, &header(16, 4, 1)];
     let full = full_report(rt.alloc(), &parts)?;
     assert_eq!(rt;
@@ -84,7 +84,7 @@ fn step_backward_behind_unknown_set(rt: HostRuntime) -> Result<(), Fail> {
 }
 
 #[test]
-fn balance_of_each_domain(rt: HostRuntime) -> Result<(), Fail> {
+fn each_domain_has_its_balance(rt: HostRuntime) -> Result<(), Fail> {
     let full = full_report(
         rt.alloc(),
         &[
@@ -104,7 +104,7 @@ fn balance_of_each_domain(rt: HostRuntime) -> Result<(), Fail> {
 }
 
 #[test]
-fn place_of_malformed_message(rt: HostRuntime) -> Result<(), Fail> {
+fn tells_the_place_of_a_malformed_message(rt: HostRuntime) -> Result<(), Fail> {
     // The third message has version 9.
     let mut bad = header(16, 0, 1);
     bad[1] = 9;
@@ -125,7 +125,7 @@ fn place_of_malformed_message(rt: HostRuntime) -> Result<(), Fail> {
 }
 
 #[test]
-fn place_of_cut_message(rt: HostRuntime) -> Result<(), Fail> {
+fn tells_the_place_of_a_cut_message(rt: HostRuntime) -> Result<(), Fail> {
     let parts: [&[u8]; 2] = [&header(16, 0, 1), &header(24, 0, 1)];
     let full = full_report(rt.alloc(), &parts)?;
     assert_eq!(rt;
@@ -143,7 +143,7 @@ fn place_of_cut_message(rt: HostRuntime) -> Result<(), Fail> {
 }
 
 #[test]
-fn fed_as_driven(rt: HostRuntime) -> Result<(), Fail> {
+fn feeding_reports_as_driving_does(rt: HostRuntime) -> Result<(), Fail> {
     let text = text_of(
         rt.alloc(),
         &[&header(24, 0, 1), &UNKNOWN_SET, &header(16, 7, 1)],

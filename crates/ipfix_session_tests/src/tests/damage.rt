@@ -37,7 +37,7 @@ fn assert_all_cut(rt: &impl Abort, alloc: Global, messages: &[&[u8]]) {
 
 // Each message cut at every octet.
 #[test]
-fn cut_messages(rt: HostRuntime) {
+fn refuses_messages_cut_at_each_octet(rt: HostRuntime) {
     for example in examples() {
         assert_all_cut(&rt, rt.alloc(), example.messages);
     }
@@ -60,7 +60,7 @@ fn put_number(text: &mut [u8], at: usize, number: u16) -> bool {
 
 // Each length with a wrong number.
 #[test]
-fn wrong_lengths(rt: HostRuntime) -> Result<(), Fail> {
+fn refuses_wrong_lengths(rt: HostRuntime) -> Result<(), Fail> {
     let alloc = rt.alloc();
     let all = [0, 3, 4, 65_535];
     for (message, at, numbers, fault) in [
@@ -102,7 +102,7 @@ fn with_number(
 
 // What stood in the template set is read as sets then.
 #[test]
-fn template_set_cut_short(rt: HostRuntime) -> Result<(), Fail> {
+fn reads_what_is_left_of_a_short_template_set_as_sets(rt: HostRuntime) -> Result<(), Fail> {
     let run = with_number(&rt, rt.alloc(), ONE_FLOW, 18, 4)?;
     assert_eq!(rt; run.fault(), None);
     let sets = (run.report.skipped_sets, run.report.unknown_sets);
@@ -112,7 +112,7 @@ fn template_set_cut_short(rt: HostRuntime) -> Result<(), Fail> {
 
 // Each two octets at the front of a text, its lengths among them, with other numbers: it has one meaning.
 #[test]
-fn other_numbers(rt: HostRuntime) -> Result<(), Fail> {
+fn other_numbers_have_one_meaning(rt: HostRuntime) -> Result<(), Fail> {
     let alloc = rt.alloc();
     for example in examples() {
         let whole = text_of(alloc, example.messages)?;

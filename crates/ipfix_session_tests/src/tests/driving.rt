@@ -9,7 +9,7 @@ use worked_examples::flows::ONE_FLOW;
 use worked_examples::text_of;
 
 #[test]
-fn a_sink_that_takes_nothing(rt: HostRuntime) -> Result<(), Fail> {
+fn a_sink_that_takes_nothing_closes_the_session(rt: HostRuntime) -> Result<(), Fail> {
     let alloc: Global = rt.alloc();
     let text = text_of(alloc, &[ONE_FLOW, ONE_FLOW])?;
     let mut source = FromReader::new(text.as_slice());
@@ -24,7 +24,7 @@ fn a_sink_that_takes_nothing(rt: HostRuntime) -> Result<(), Fail> {
 
 // The first read is the last that is allowed: it fails, is interrupted, or gives octets or the end.
 #[test]
-fn one_read(rt: HostRuntime) -> Result<(), Fail> {
+fn ends_after_one_read(rt: HostRuntime) -> Result<(), Fail> {
     let alloc: Global = rt.alloc();
     for (text, interrupt_at, fail_at, fault, delivered) in [
         (ONE_FLOW, None, Some(0), Some(SessionFault::ReadFailed), 0),
@@ -58,7 +58,7 @@ impl Read for Faltering<'_> {
 }
 
 #[test]
-fn errors_of_readers(rt: HostRuntime) {
+fn errors_of_readers_are_failures_or_interruptions(rt: HostRuntime) {
     let alloc: Global = rt.alloc();
     let failed = Some(SessionFault::ReadFailed);
     for (kind, read_error, fault, delivered) in [

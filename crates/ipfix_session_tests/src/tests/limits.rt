@@ -17,7 +17,7 @@ use worked_examples::{header, text_of};
 const NOTHING: &[u8] = &[];
 
 #[test]
-fn failing_reads(rt: HostRuntime) -> Result<(), Fail> {
+fn counts_reads_that_fail_and_reads_too_many(rt: HostRuntime) -> Result<(), Fail> {
     for (texts, piece, limit, fail_at, delivered, number) in [
         ([NOTHING; 2], 1, 1, None, 0, None),
         ([NOTHING; 2], 1, 0, None, 0, Some(17)),
@@ -51,7 +51,7 @@ fn driven_from(alloc: Global, source: &mut ScriptSource, limit: u64) -> Run {
 
 // A fault ends the reading.
 #[test]
-fn no_read_too_many(rt: HostRuntime) -> Result<(), Fail> {
+fn reads_no_more_behind_a_fault(rt: HostRuntime) -> Result<(), Fail> {
     let alloc: Global = rt.alloc();
     let text = text_of(alloc, &[VERSION_9, ONE_FLOW])?;
     let mut source = ScriptSource::new(text, 16, None, None);
@@ -64,7 +64,7 @@ fn no_read_too_many(rt: HostRuntime) -> Result<(), Fail> {
 }
 
 #[test]
-fn faults_stay(rt: HostRuntime) -> Result<(), Fail> {
+fn a_fault_stays(rt: HostRuntime) -> Result<(), Fail> {
     let alloc: Global = rt.alloc();
     let more = text_of(alloc, &[ONE_FLOW])?;
     let version = SessionFault::Message(MessageFault::Version);
@@ -111,7 +111,7 @@ fn push_message(text: &mut Vec<u8>, domain: u32, alone: bool) -> Result<(), Fail
 }
 
 #[test]
-fn many_domains(rt: HostRuntime) -> Result<(), Fail> {
+fn refuses_one_domain_too_many(rt: HostRuntime) -> Result<(), Fail> {
     let alloc = rt.alloc();
     for (last, alone, messages, fault) in [
         (0, true, 1025, None),

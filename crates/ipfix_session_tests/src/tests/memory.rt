@@ -95,7 +95,7 @@ fn of_domain(domain: u32, count: u64) -> DomainReport {
 }
 
 #[test]
-fn feed_with_refused_memory(rt: HostRuntime) {
+fn feeding_survives_refused_memory(rt: HostRuntime) {
     for size in [172, 7] {
         let run = fed_on(&rt, rt.alloc(), size);
         let answer = answer_of(&rt, &run);
@@ -104,7 +104,7 @@ fn feed_with_refused_memory(rt: HostRuntime) {
 }
 
 #[test]
-fn drive_with_refused_memory(rt: HostRuntime) {
+fn driving_survives_refused_memory(rt: HostRuntime) {
     let run = driven(rt.alloc(), &TEXT);
     let answer = answer_of(&rt, &run);
     let _ = eprintln!(rt; "drive: {answer}");

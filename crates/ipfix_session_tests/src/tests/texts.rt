@@ -28,7 +28,7 @@ fn assert_gives(rt: &impl Abort, run: &Run, example: &Example) {
 }
 
 #[test]
-fn worked_examples(rt: HostRuntime) -> Result<(), Fail> {
+fn worked_examples_give_their_records(rt: HostRuntime) -> Result<(), Fail> {
     let alloc: Global = rt.alloc();
     for example in examples() {
         let text = text_of(alloc, example.messages)?;
