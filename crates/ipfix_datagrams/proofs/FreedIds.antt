@@ -1,0 +1,88 @@
+-- Domains in which ids are freed.
+use Rattle.std.proofs.Common.{◌≡◌, ℕ, ◌≤◌, ◌<◌, ◌^◌, Bool, true, false, cond, eqb, is_some, List, [], ◌∷◌, ◌++◌, take, Option, Some, None, Result, Ok, Err, refl, sym, ap, subst, ◌∙◌, arith}
+use Rattle.std.specs.Prelude.{MatchResult, All}
+use Rattle.std.specs.Map.{lookup, keys_of, set_value}
+use Rattle.std.specs.Option.{unwrap_or, option_map}
+use Rattle.std.proofs.lemmas.Bool.{eq-eqb}
+use Rattle.ipfix_wire.specs.declared.header.Header.{Header}
+use Rattle.ipfix_message.specs.declared.fault.MessageFault.{MessageFault}
+use Rattle.ipfix_message.specs.declared.fault.MessageFault.TheVariants.{OutOfMemory}
+use Rattle.ipfix_message.specs.declared.record.Template.{Template}
+use Rattle.ipfix_message.specs.declared.template_record.Event.{Event}
+use Rattle.ipfix_message.specs.declared.message.Decoded.{Decoded}
+use Rattle.ipfix_message.specs.Domains.{History, DomainsView, Message, StandsFor, Decodes, alone, events_in, with_events, message_gives}
+use Rattle.ipfix_message.specs.Outcome.{Fails}
+use Rattle.ipfix_message.specs.Alike.{knows}
+use Rattle.ipfix_message.proofs.History.{put, lookup-set_value}
+use Rattle.ipfix_message.proofs.Reading.{ok_is, not_both}
+use Rattle.ipfix_datagrams.specs.Withdrawals.{withdrawal_message}
+use Rattle.ipfix_datagrams.specs.Datagrams.{freed, with_one_freed, with_freed}
+use Rattle.ipfix_datagrams.proofs.Withdrawn.{Withdrawn}
+
+-- one id more
+pub freed-push : (ds : History) (domain : ℕ) (ids : List ℕ) (id : ℕ) → with_freed ds domain (ids ++ id ∷ []) ≡ with_one_freed (with_freed ds domain ids) domain id
+freed-push ds domain [] id = refl
+freed-push ds domain (i ∷ ids) id = freed-push (with_one_freed ds domain i) domain ids id
+
+is_some-put : {X : Type 0} (w : X) (b : Bool) (o : Option X) → is_some (put w b o) ≡ is_some o
+is_some-put w false o = refl
+is_some-put w true None = refl
+is_some-put w true (Some x) = refl
+
+-- no domain comes or goes
+pub knows-events : (ds : History) (domain q : ℕ) (es : List Event) → knows (with_events ds domain es) q ≡ knows ds q
+knows-events ds domain q es = ap is_some (lookup-set_value q domain ds es) ∙ is_some-put es (eqb q domain) (lookup (eqb q) ds)
+
+pub knows-freed : (ds : History) (domain : ℕ) (ids : List ℕ) (q : ℕ) → knows (with_freed ds domain ids) q ≡ knows ds q
+knows-freed ds domain [] q = refl
+knows-freed ds domain (id ∷ ids) q = knows-freed (with_one_freed ds domain id) domain ids q ∙ knows-events ds domain q (freed (events_in ds domain) id)
+
+-- the events of a domain that is known
+pub events_now : (ds : History) (domain : ℕ) (es : List Event) → knows ds domain ≡ true → events_in (with_events ds domain es) domain ≡ es
+events_now ds domain es there =
+    ap (λ (o : Option (List Event)). unwrap_or o []) (lookup-set_value domain domain ds es)
+    ∙ ap (λ (b : Bool). unwrap_or (put es b (lookup (eqb domain) ds)) []) (eq-eqb domain domain refl)
+    ∙ some (lookup (eqb domain) ds) there
+  where
+    some : (o : Option (List Event)) → is_some o ≡ true → unwrap_or (put es true o) [] ≡ es
+    some (Some x) h = refl
+    some None h = absurd cc
+
+-- the events after ids were freed depend on those before alone
+pub same_freed : (ds fs : History) (domain : ℕ) (ids : List ℕ) → knows ds domain ≡ true → knows fs domain ≡ true → events_in fs domain ≡ events_in ds domain
+    → events_in (with_freed fs domain ids) domain ≡ events_in (with_freed ds domain ids) domain
+same_freed ds fs domain [] there here same = same
+same_freed ds fs domain (id ∷ ids) there here same =
+    same_freed (with_one_freed ds domain id) (with_one_freed fs domain id) domain ids
+    (knows-events ds domain domain (freed (events_in ds domain) id) ∙ there) (knows-events fs domain domain (freed (events_in fs domain) id) ∙ here)
+    (events_now fs domain (freed (events_in fs domain) id) here ∙ ap (λ (es : List Event). freed es id) same ∙ sym (events_now ds domain (freed (events_in ds domain) id) there))
+
+-- ---- one domain alone
+
+pub alone_none : (ds : History) (domain : ℕ) → lookup (eqb domain) ds ≡ None → alone ds domain ≡ []
+alone_none ds domain e = ap (λ (o : Option (List Event)). elim o [ None ↦ [] | Some es ↦ (domain, es) ∷ [] ]) e
+
+alone_some : (ds : History) (domain : ℕ) (es : List Event) → lookup (eqb domain) ds ≡ Some es → alone ds domain ≡ (domain, es) ∷ []
+alone_some ds domain es e = ap (λ (o : Option (List Event)). elim o [ None ↦ [] | Some fs ↦ (domain, fs) ∷ [] ]) e
+
+found_alone : (domain : ℕ) (es : List Event) → lookup (eqb domain) ((domain, es) ∷ []) ≡ Some es
+found_alone domain es = ap (λ (b : Bool). cond b (Some es) None) (eq-eqb domain domain refl)
+
+lookup_alone : (ds : History) (domain : ℕ) (o : Option (List Event)) → lookup (eqb domain) ds ≡ o → lookup (eqb domain) (alone ds domain) ≡ o
+lookup_alone ds domain None e = ap (λ (k : History). lookup (eqb domain) k) (alone_none ds domain e)
+lookup_alone ds domain (Some es) e = ap (λ (k : History). lookup (eqb domain) k) (alone_some ds domain es e) ∙ found_alone domain es
+
+pub alone_events : (ds : History) (domain : ℕ) → events_in (alone ds domain) domain ≡ events_in ds domain
+alone_events ds domain = ap (λ (o : Option (List Event)). unwrap_or o []) (lookup_alone ds domain (lookup (eqb domain) ds) refl)
+
+pub alone_knows : (ds : History) (domain : ℕ) → knows (alone ds domain) domain ≡ knows ds domain
+alone_knows ds domain = ap is_some (lookup_alone ds domain (lookup (eqb domain) ds) refl)
+
+-- ---- the code
+
+-- a message that withdraws an id was decoded
+pub freed_one : (kept : List (ℕ × List (ℕ × Template))) (ds : History) (h : Header) (id : ℕ) (w : List ℕ) (m y : Message) → w ≡ withdrawal_message h id → message_gives ds w ≡ Ok m → StandsFor kept m.domains → Withdrawn ds h id y
+    → StandsFor kept (with_one_freed ds h.domain id)
+freed_one kept ds h id w m y written read stands gives =
+    let same : m.domains ≡ with_one_freed ds h.domain id = ap (λ (k : Message). k.domains) (ok_is m y (sym read ∙ ap (message_gives ds) written ∙ gives.is)) ∙ gives.domains in
+    subst (StandsFor kept) same stands

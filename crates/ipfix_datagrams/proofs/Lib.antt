@@ -1,0 +1,6 @@
+pub mod Withdrawn
+pub mod FreedIds
+pub mod Readings
+pub mod OwnTemplates
+pub mod Answered
+pub mod Attempted

@@ -1,0 +1,129 @@
+-- A message that withdraws an id is read: it gives no record, and no template is in force for the id any more.
+use Rattle.std.proofs.Common.{◌≡◌, ℕ, ◌+◌, ◌^◌, ◌<◌, ◌≤◌, Bool, true, false, cond, ltb, eqb, is_some, List, [], ◌∷◌, ◌++◌, length, drop, Option, Some, None, Result, Ok, Err, refl, sym, ap, subst, ◌∙◌, arith}
+use Rattle.std.specs.Prelude.{OnOk}
+use Rattle.std.specs.Map.{lookup}
+use Rattle.std.proofs.lemmas.Bool.{le-ltb, eq-eqb}
+use Rattle.std.proofs.lemmas.List.{append-nil, length-append, drop_at}
+use Rattle.byteorder.specs.Endian.{big_bytes}
+use Rattle.ipfix_wire.specs.MessageHeader.{header_octets, header_at}
+use Rattle.ipfix_wire.specs.declared.header.Header.{Header}
+use Rattle.ipfix_wire.specs.declared.fault.WireFault.{WireFault}
+use Rattle.ipfix_message.specs.declared.fault.MessageFault.{MessageFault}
+use Rattle.ipfix_message.specs.declared.fault.MessageFault.TheVariants.{MessageLength}
+use Rattle.ipfix_message.specs.declared.passed_over.PassedOver.{PassedOver}
+use Rattle.ipfix_message.specs.declared.template_record.TemplateKind.{TemplateKind}
+use Rattle.ipfix_message.specs.declared.template_record.TemplateKind.TheVariants.{Plain, Options}
+use Rattle.ipfix_message.specs.declared.template_record.Event.{Event}
+use Rattle.ipfix_message.specs.declared.template_record.Event.TheVariants.{Withdraw}
+use Rattle.ipfix_message.specs.Outcome.{◌>>=◌}
+use Rattle.ipfix_message.specs.TemplateRecords.{set_id_of, event_at}
+use Rattle.ipfix_message.specs.TemplatesInForce.{is_ignored, event_gives, template_set_gives}
+use Rattle.ipfix_message.specs.Sets.{Set, next_set}
+use Rattle.ipfix_message.specs.Messages.{Decoding, before, more_ignored, templates_in, set_gives, sets_from}
+use Rattle.ipfix_message.specs.Domains.{History, Message, of_wire, admit, events_in, with_events, message_header, message_gives}
+use Rattle.ipfix_message.specs.Alike.{knows}
+use Rattle.ipfix_message.proofs.TemplateRecords.{events_read}
+use Rattle.ipfix_message.proofs.TemplateSets.{plus, count_of, template_set_gives-next, template_set_gives-done}
+use Rattle.ipfix_message.proofs.MessageSets.{next_set-only}
+use Rattle.ipfix_message.proofs.Decoding.{sets_from-next, sets_from-done}
+use Rattle.ipfix_message.proofs.History.{after_admit, after_sets}
+use Rattle.ipfix_datagrams.specs.Withdrawals.{withdrawal_header, withdrawal_record, withdrawal_set, withdrawal_message}
+use Rattle.ipfix_datagrams.specs.Datagrams.{with_one_freed}
+
+-- ---- its sets
+
+event_is : (kind : TemplateKind) (id : ℕ) → 256 ≤ id → id < 2 ^ 16 → event_at kind (withdrawal_record id) ≡ Ok (Withdraw kind id, [])
+event_is kind id low high =
+    ap (event_at kind) (sym (append-nil (withdrawal_record id))) ∙ (events_read kind).only (Withdraw kind id) (withdrawal_record id) [] (refl, low, high, refl)
+
+taken : (es : List Event) (kind : TemplateKind) (id : ℕ) → event_gives es (Withdraw kind id) ≡ Ok (is_ignored es (Withdraw kind id))
+unfolding event_gives
+taken es kind id = refl
+
+-- how many withdrawals were ignored
+abbrev count : List Event → TemplateKind → ℕ → ℕ
+count es kind id = count_of (is_ignored es (Withdraw kind id)) + 0
+
+templates_are : (es : List Event) (kind : TemplateKind) (id : ℕ) → 256 ≤ id → id < 2 ^ 16 → template_set_gives kind es (withdrawal_record id) ≡ Ok (Withdraw kind id ∷ es, count es kind id)
+templates_are es kind id low high =
+    template_set_gives-next kind es (withdrawal_record id) (Withdraw kind id) [] (is_ignored es (Withdraw kind id)) (event_is kind id low high) (taken es kind id)
+    ∙ ap (plus (count_of (is_ignored es (Withdraw kind id)))) (template_set_gives-done kind (Withdraw kind id ∷ es) [] refl)
+
+abbrev set_of : TemplateKind → ℕ → Set
+set_of kind id = record { id = set_id_of kind; body = withdrawal_record id }
+
+set_is : (k : TemplateKind) (h : Header) (d : Decoding) (body : List ℕ) → set_gives h d (record { id = set_id_of k; body = body }) ≡ templates_in k d body
+unfolding set_gives
+set_is Plain h d body = refl
+set_is Options h d body = refl
+
+abbrev withdrawing : TemplateKind → ℕ → Decoding → Decoding
+withdrawing kind id d = record d { events = Withdraw kind id ∷ d.events; passed_over = more_ignored (count d.events kind id) d.passed_over }
+
+one_set : (h : Header) (d : Decoding) (kind : TemplateKind) (id : ℕ) → 256 ≤ id → id < 2 ^ 16 → set_gives h d (set_of kind id) ≡ Ok (withdrawing kind id d)
+unfolding templates_in
+one_set h d kind id low high =
+    set_is kind h d (withdrawal_record id)
+    ∙ ap (λ (r : Result (List Event × ℕ) MessageFault). r >>= λ x. Ok (record d { events = x.0; passed_over = more_ignored x.1 d.passed_over })) (templates_are d.events kind id low high)
+
+small_id : (k : TemplateKind) → set_id_of k < 2 ^ 16
+small_id Plain = omega arith
+small_id Options = omega arith
+
+next_is : (kind : TemplateKind) (id : ℕ) (rest : List ℕ) → next_set (withdrawal_set kind id ++ rest) ≡ Ok (set_of kind id, rest)
+next_is kind id rest = next_set-only (set_of kind id) (withdrawal_set kind id) rest (record { id = small_id kind; size = omega arith; octets = refl })
+
+abbrev sets_octets : ℕ → List ℕ
+sets_octets id = withdrawal_set Plain id ++ withdrawal_set Options id
+
+sets_are : (h : Header) (d : Decoding) (id : ℕ) → 256 ≤ id → id < 2 ^ 16 → sets_from h d (sets_octets id) ≡ Ok (withdrawing Options id (withdrawing Plain id d))
+sets_are h d id low high =
+    let e = withdrawing Plain id d in
+    let last : next_set (withdrawal_set Options id) ≡ Ok (set_of Options id, []) = ap next_set (sym (append-nil (withdrawal_set Options id))) ∙ next_is Options id [] in
+    sets_from-next h d e (sets_octets id) (set_of Plain id) (withdrawal_set Options id) (next_is Plain id (withdrawal_set Options id)) (one_set h d Plain id low high)
+    ∙ sets_from-next h e (withdrawing Options id e) (withdrawal_set Options id) (set_of Options id) [] last (one_set h e Options id low high)
+    ∙ sets_from-done h (withdrawing Options id e) [] refl
+
+-- ---- the message
+
+pub header_is : (h : Header) (id : ℕ) → header_at (header_octets (withdrawal_header h) ++ sets_octets id) ≡ Ok (withdrawal_header h) → message_header (withdrawal_message h id) ≡ Ok (withdrawal_header h)
+unfolding message_header
+header_is h id at =
+    let m = withdrawal_message h id in
+    ap (λ (r : Result Header WireFault). of_wire r >>= λ k. cond (eqb k.length (length m)) (Ok k) (Err MessageLength)) at
+
+pub always : {T E P : Type 0} (r : Result T E) → P → OnOk r P
+always (Ok x) p = p
+always (Err e) p = tt
+
+-- a message of a domain that is known is read so
+pub given_by : (ds : History) (m : List ℕ) (h : Header) (known : History) → message_header m ≡ Ok h → admit ds h.domain ≡ Ok known → message_gives ds m ≡ after_admit h m known
+unfolding message_gives
+given_by ds m h known good admitted =
+    ap (λ (r : Result Header MessageFault). r >>= λ g. admit ds g.domain >>= λ k. after_admit g m k) good
+    ∙ ap (λ (r : Result History MessageFault). r >>= λ k. after_admit h m k) admitted
+
+pub admitted : (ds : History) (domain : ℕ) → knows ds domain ≡ true → admit ds domain ≡ Ok ds
+unfolding admit
+admitted ds domain there = rw there refl
+
+-- what it gives
+pub record Withdrawn (ds : History) (h : Header) (id : ℕ) (y : Message) : Type 0 where
+  pub is : message_gives ds (withdrawal_message h id) ≡ Ok y
+  pub domains : y.domains ≡ with_one_freed ds h.domain id
+  pub records : y.decoding.records ≡ []
+
+pub withdraws : (ds : History) (h : Header) (id : ℕ) → message_header (withdrawal_message h id) ≡ Ok (withdrawal_header h) → knows ds h.domain ≡ true → 256 ≤ id → id < 2 ^ 16 → (y : Message) × Withdrawn ds h id y
+withdraws ds h id good there low high =
+    let k = withdrawal_header h in
+    let es = events_in ds h.domain in
+    let d = withdrawing Options id (withdrawing Plain id (before es)) in
+    let sets : sets_from k (before es) (drop 16 (withdrawal_message h id)) ≡ Ok d =
+    ap (sets_from k (before es)) (drop_at (header_octets k) (sets_octets id) 16 refl) ∙ sets_are k (before es) id low high in (
+      record { header = k; decoding = d; domains = with_events ds h.domain d.events },
+      record {
+        is = given_by ds (withdrawal_message h id) k ds good (admitted ds h.domain there) ∙ ap (λ (r : Result Decoding MessageFault). r >>= λ x. after_sets k ds x) sets;
+        domains = refl;
+        records = refl;
+      },
+    )

@@ -1,0 +1,3 @@
+pub mod Datagrams
+pub mod Withdrawals
+pub mod Attempts

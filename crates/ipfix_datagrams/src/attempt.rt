@@ -1,0 +1,111 @@
+//! One attempt to read a datagram.
+
+ghost use Rattle.std.specs.Prelude.{◌≡◌, ◌≤◌, ◌⊎◌, [], true, false, ℕ, All, Ok, None, IsOk, IsSome, is_some, MatchBool, MatchResult, option_copied, option_and_then};
+ghost use Rattle.std.specs.List.{list_all};
+ghost use Rattle.std.specs.BTreeMap.{get, keys, IsOrdered};
+ghost use Rattle.std.specs.Ordering.{nat_cmp};
+ghost use Rattle.ipfix_wire.specs.declared.set.TheConstants.{FIRST_TEMPLATE_ID};
+ghost use Rattle.ipfix_message.specs.Alike.{knows};
+ghost use Rattle.ipfix_message.specs.Domains.{History, StandsFor, admit, alone, message_header, template_for};
+ghost use Rattle.ipfix_message.specs.declared.fault.MessageFault.TheVariants.{OutOfMemory};
+ghost use Rattle.ipfix_datagrams.specs.Attempts.{Reads, FailsBy};
+ghost use Rattle.ipfix_datagrams.specs.Datagrams.{with_freed};
+
+use crate::datagram_fault::DatagramFault;
+use crate::freeing::free_ids;
+use ipfix_message::{Domains, MessageFault, Templates};
+use ipfix_wire::Header;
+use std::alloc::Global;
+
+// Whether an id has a template.
+fn has_id(templates: Option<&Templates>, id: u16) -> bool
+    ensures { result ≡ is_some (option_and_then (λ t. get nat_cmp t id) (option_copied templates.entry)) }
+{
+    match templates {
+        Some(templates) => templates.contains_key(&id),
+        None => false,
+    }
+}
+
+// Whether each id of templates has one among those that follow.
+fn keeps_ids(before: &Templates, after: Option<&Templates>) -> bool
+    ensures ordered { IsOrdered nat_cmp before.now }
+    ensures kept { result ≡ list_all
+        (λ id. is_some (option_and_then (λ t. get nat_cmp t id) (option_copied after.entry)))
+        (keys before.now) }
+{
+    before.keys().all(|id| has_id(after, *id))
+}
+
+// Whether each id that has a template in a domain has one there behind a datagram.
+fn keeps_all(before: &Domains, after: &Domains, domain: u32) -> bool
+    ensures { (ds fs : History) → before.now.spent ≡ false → StandsFor before.now.domains ds
+        → after.now.spent ≡ false → StandsFor after.now.domains fs
+        → MatchBool result
+        ((id : ℕ) → IsSome (template_for ds domain id) → IsSome (template_for fs domain id))
+        ((id : ℕ) × IsSome (template_for ds domain id) × (template_for fs domain id ≡ None)) }
+{
+    match before.templates(domain) {
+        Some(templates) => keeps_ids(templates, after.templates(domain)),
+        None => true,
+    }
+}
+
+// One domain alone, with these ids freed in it. The fault is `OutOfMemory`.
+fn freed_alone(
+    alloc: Global,
+    domains: &Domains,
+    header: &Header,
+    ids: &[u16],
+) -> Result<Domains, MessageFault>
+    requires { All (λ id. FIRST_TEMPLATE_ID ≤ id) ids.now }
+    ensures { (ds : History) → domains.now.spent ≡ false → StandsFor domains.now.domains ds
+        → (ids.now ≡ []) ⊎ (knows ds header.now.domain ≡ true)
+        → MatchResult result
+        (λ d. (d.spent ≡ false) × StandsFor d.domains
+        (with_freed (alone ds header.now.domain) header.now.domain ids.now))
+        (λ fault. fault ≡ OutOfMemory) }
+{
+    let mut alone = match domains.alone(alloc, header.domain) {
+        Ok(alone) => alone,
+        Err(_) => return Err(MessageFault::OutOfMemory),
+    };
+    if ids.is_empty() {
+        return Ok(alone);
+    }
+    match free_ids(alloc, &mut alone, header, ids) {
+        Ok(()) => Ok(alone),
+        Err(fault) => Err(fault),
+    }
+}
+
+/// Reads a datagram, with these ids freed in its domain, as if in a copy of the domain. Nothing is changed.
+pub fn attempt(
+    alloc: Global,
+    domains: &Domains,
+    header: &Header,
+    ids: &[u16],
+    datagram: &[u8],
+) -> Result<(), DatagramFault>
+    requires header { message_header datagram.now ≡ Ok header.now }
+    requires ids { All (λ id. FIRST_TEMPLATE_ID ≤ id) ids.now }
+    ensures { (ds : History) → domains.now.spent ≡ false → StandsFor domains.now.domains ds
+        → IsOk (admit ds header.now.domain)
+        → (ids.now ≡ []) ⊎ (knows ds header.now.domain ≡ true)
+        → MatchResult result
+        (λ _. Reads ds header.now.domain ids.now datagram.now)
+        (λ fault. FailsBy fault ds header.now.domain ids.now datagram.now) }
+{
+    let mut alone = match freed_alone(alloc, domains, header, ids) {
+        Ok(alone) => alone,
+        Err(fault) => return Err(DatagramFault::Message(fault)),
+    };
+    if let Err(fault) = alone.decode_with_header(alloc, header, datagram) {
+        return Err(DatagramFault::Message(fault));
+    }
+    if keeps_all(domains, &alone, header.domain) {
+        Ok(())
+    } else {
+        Err(DatagramFault::Withdrawal)
+    }
+}

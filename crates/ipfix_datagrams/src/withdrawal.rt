@@ -1,0 +1,56 @@
+//! A message that withdraws the templates of an id (RFC 7011, section 8.1).
+
+ghost use Rattle.std.specs.Prelude.{◌≡◌, ◌++◌, Ok, OnOk};
+ghost use Rattle.byteorder.specs.Endian.{big_bytes};
+ghost use Rattle.ipfix_wire.specs.SetHeader.{set_octets};
+ghost use Rattle.ipfix_message.specs.Domains.{message_header};
+ghost use Rattle.ipfix_datagrams.specs.Withdrawals.{withdrawal_header, withdrawal_message, withdrawal_record};
+
+use byteorder::{BigEndian, ByteOrder};
+use ipfix_wire::{
+    HEADER_LENGTH, Header, OPTIONS_TEMPLATE_SET_ID, SET_HEADER_LENGTH, TEMPLATE_SET_ID,
+    write_header, write_set,
+};
+use std::alloc::AllocError;
+
+// Octets of a template record without fields.
+const RECORD_LENGTH: usize = 4;
+
+// Appends a template record without fields.
+fn append_record(id: u16, out: &mut Vec<u8>) -> Result<(), AllocError>
+    ensures { OnOk result (out.new.items ≡ out.old.items ++ withdrawal_record id) }
+{
+    let mut octets = [0; 2];
+    BigEndian::write_u16(&mut octets, id);
+    out.extend_from_slice(&octets)?;
+    BigEndian::write_u16(&mut octets, 0);
+    out.extend_from_slice(&octets)
+}
+
+// Appends a set of this record alone.
+fn append_set(set_id: u16, id: u16, out: &mut Vec<u8>) -> Result<(), AllocError>
+    ensures { OnOk result (out.new.items
+        ≡ out.old.items ++ (set_octets set_id 4 ++ withdrawal_record id)) }
+{
+    write_set(set_id, RECORD_LENGTH as u16, out)?;
+    append_record(id, out)
+}
+
+/// Appends a message that withdraws the template of an id, of whichever kind it is, in the domain of a
+/// header, with its export time and its sequence number.
+pub fn append_withdrawal(header: &Header, id: u16, out: &mut Vec<u8>) -> Result<(), AllocError>
+    ensures octets { OnOk result
+        (out.new.items ≡ out.old.items ++ withdrawal_message header.now id) }
+    ensures header { OnOk result
+        (message_header (withdrawal_message header.now id) ≡ Ok (withdrawal_header header.now)) }
+{
+    let header = Header {
+        length: (HEADER_LENGTH + 2 * (SET_HEADER_LENGTH + RECORD_LENGTH)) as u16,
+        export_time: header.export_time,
+        sequence: header.sequence,
+        domain: header.domain,
+    };
+    write_header(&header, out)?;
+    append_set(TEMPLATE_SET_ID, id, out)?;
+    append_set(OPTIONS_TEMPLATE_SET_ID, id, out)
+}
