@@ -1,6 +1,6 @@
 -- What is answered of a datagram.
-use Rattle.std.proofs.Common.{◌≡◌, ℕ, Bool, true, false, cond, ltb, eqb, List, [], length, Option, Some, None, Result, Ok, Err, refl, sym, ap, subst, ◌∙◌, arith, inl, inr}
-use Rattle.std.specs.Prelude.{◌⊎◌, ◌≢◌, IsOk, IsSome}
+use Rattle.std.proofs.Common.{◌≡◌, ℕ, Bool, true, false, cond, ltb, eqb, List, [], length, Option, Result, Ok, Err, refl, sym, ap, subst, ◌∙◌, arith, inl, inr}
+use Rattle.std.specs.Prelude.{◌≢◌, IsSome}
 use Rattle.std.specs.Map.{lookup}
 use Rattle.std.specs.Option.{unwrap_or}
 use Rattle.ipfix_wire.specs.declared.header.Header.{Header}
@@ -8,7 +8,7 @@ use Rattle.ipfix_wire.specs.declared.fault.WireFault.{WireFault}
 use Rattle.ipfix_wire.specs.declared.fault.WireFault.TheVariants as wire
 use Rattle.ipfix_wire.specs.MessageHeader.{header_at}
 use Rattle.ipfix_message.specs.declared.fault.MessageFault.{MessageFault}
-use Rattle.ipfix_message.specs.declared.fault.MessageFault.TheVariants.{TemplateChanged, OutOfMemory, TooManyDomains, MessageLength}
+use Rattle.ipfix_message.specs.declared.fault.MessageFault.TheVariants.{TemplateChanged, TooManyDomains, MessageLength}
 use Rattle.ipfix_message.specs.declared.template_record.Event.{Event}
 use Rattle.ipfix_message.specs.Faults.{fault_of}
 use Rattle.ipfix_message.specs.TemplatesInForce.{in_force}
@@ -21,7 +21,7 @@ use Rattle.ipfix_message.proofs.PartsOf.{HasRoom}
 use Rattle.ipfix_datagrams.specs.declared.datagram_fault.DatagramFault.{DatagramFault}
 use Rattle.ipfix_datagrams.specs.declared.datagram_fault.DatagramFault.TheVariants.{Message as OfMessage, Withdrawal}
 use Rattle.ipfix_datagrams.specs.Datagrams.{with_freed, HasOwn, Frees, KeepsIds, IsTaken, IsRefused}
-use Rattle.ipfix_datagrams.specs.Attempts.{Reads, Loses, FailsBy}
+use Rattle.ipfix_datagrams.specs.Attempts.{Reads, FailsBy}
 use Rattle.ipfix_datagrams.proofs.Readings.{fails_or, room_or, same_reading, alike_fault}
 
 -- ---- a bad header

@@ -1,5 +1,5 @@
 -- An attempt to read a datagram in a copy of its domain.
-use Rattle.std.proofs.Common.{◌≡◌, ℕ, Bool, true, false, List, [], ◌∷◌, Option, Some, None, Result, Ok, Err, refl, sym, ap, subst, ◌∙◌, arith, eqb, length, ◌<◌, inl, inr, is_some}
+use Rattle.std.proofs.Common.{◌≡◌, ℕ, Bool, true, false, List, [], ◌∷◌, Option, Some, None, Ok, refl, sym, ap, subst, ◌∙◌, arith, eqb, inl, inr, is_some}
 use Rattle.std.specs.Prelude.{◌⊎◌, IsOk, IsSome, MatchBool}
 use Rattle.std.specs.Prelude.{All, Contains, ◌&&◌}
 use Rattle.std.specs.List.{list_all}
@@ -14,16 +14,14 @@ use Rattle.std.proofs.lemmas.List.Sums.{AllPass-from_list_all}
 use Rattle.ipfix_message.specs.declared.template_record.Event.{Event}
 use Rattle.ipfix_wire.specs.declared.header.Header.{Header}
 use Rattle.ipfix_message.specs.declared.fault.MessageFault.{MessageFault}
-use Rattle.ipfix_message.specs.declared.fault.MessageFault.TheVariants.{OutOfMemory}
 use Rattle.ipfix_message.specs.declared.record.Template.{Template}
 use Rattle.ipfix_message.specs.TemplatesInForce.{in_force}
-use Rattle.ipfix_message.specs.Outcome.{Read, Fails}
+use Rattle.ipfix_message.specs.Outcome.{Fails}
 use Rattle.ipfix_message.specs.Messages.{Decoding}
 use Rattle.ipfix_message.specs.Domains.{History, Message, admit, alone, events_in, template_for, message_header, message_gives}
 use Rattle.ipfix_message.specs.Alike.{Alike, knows}
 use Rattle.ipfix_message.proofs.PartsOf.{HasRoom}
-use Rattle.ipfix_datagrams.specs.declared.datagram_fault.DatagramFault.{DatagramFault}
-use Rattle.ipfix_datagrams.specs.declared.datagram_fault.DatagramFault.TheVariants.{Message as OfMessage, Withdrawal}
+use Rattle.ipfix_datagrams.specs.declared.datagram_fault.DatagramFault.TheVariants.{Message as OfMessage}
 use Rattle.ipfix_datagrams.specs.Datagrams.{with_freed}
 use Rattle.ipfix_datagrams.specs.Attempts.{Reads, Loses, FailsBy}
 use Rattle.ipfix_datagrams.proofs.FreedIds.{alone_none, knows-freed, same_freed, alone_events, alone_knows}

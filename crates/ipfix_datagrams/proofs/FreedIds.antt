@@ -1,20 +1,15 @@
 -- Domains in which ids are freed.
-use Rattle.std.proofs.Common.{◌≡◌, ℕ, ◌≤◌, ◌<◌, ◌^◌, Bool, true, false, cond, eqb, is_some, List, [], ◌∷◌, ◌++◌, take, Option, Some, None, Result, Ok, Err, refl, sym, ap, subst, ◌∙◌, arith}
-use Rattle.std.specs.Prelude.{MatchResult, All}
-use Rattle.std.specs.Map.{lookup, keys_of, set_value}
-use Rattle.std.specs.Option.{unwrap_or, option_map}
+use Rattle.std.proofs.Common.{◌≡◌, ℕ, Bool, true, false, cond, eqb, is_some, List, [], ◌∷◌, ◌++◌, Option, Some, None, Ok, refl, sym, ap, subst, ◌∙◌}
+use Rattle.std.specs.Map.{lookup}
+use Rattle.std.specs.Option.{unwrap_or}
 use Rattle.std.proofs.lemmas.Bool.{eq-eqb}
 use Rattle.ipfix_wire.specs.declared.header.Header.{Header}
-use Rattle.ipfix_message.specs.declared.fault.MessageFault.{MessageFault}
-use Rattle.ipfix_message.specs.declared.fault.MessageFault.TheVariants.{OutOfMemory}
 use Rattle.ipfix_message.specs.declared.record.Template.{Template}
 use Rattle.ipfix_message.specs.declared.template_record.Event.{Event}
-use Rattle.ipfix_message.specs.declared.message.Decoded.{Decoded}
-use Rattle.ipfix_message.specs.Domains.{History, DomainsView, Message, StandsFor, Decodes, alone, events_in, with_events, message_gives}
-use Rattle.ipfix_message.specs.Outcome.{Fails}
+use Rattle.ipfix_message.specs.Domains.{History, Message, StandsFor, alone, events_in, with_events, message_gives}
 use Rattle.ipfix_message.specs.Alike.{knows}
 use Rattle.ipfix_message.proofs.History.{put, lookup-set_value}
-use Rattle.ipfix_message.proofs.Reading.{ok_is, not_both}
+use Rattle.ipfix_message.proofs.Reading.{ok_is}
 use Rattle.ipfix_datagrams.specs.Withdrawals.{withdrawal_message}
 use Rattle.ipfix_datagrams.specs.Datagrams.{freed, with_one_freed, with_freed}
 use Rattle.ipfix_datagrams.proofs.Withdrawn.{Withdrawn}

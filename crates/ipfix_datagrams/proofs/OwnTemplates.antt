@@ -1,16 +1,14 @@
 -- The templates that a datagram has by itself.
 use Rattle.std.proofs.Common.{◌≡◌, ℕ, ◌≤◌, List, [], ◌∷◌, ◌++◌, append_assoc, map, Option, Some, None, Ok, refl, sym, ap, ◌∙◌}
-use Rattle.std.specs.Prelude.{All, Contains}
+use Rattle.std.specs.Prelude.{All}
 use Rattle.std.specs.Ordering.{nat_cmp}
 use Rattle.std.specs.BTreeMap.{BTreeMap, get, values, IsOrdered}
 use Rattle.std.proofs.lemmas.List.Elements.{All-nil, All-cons, All-head, All-tail}
 use Rattle.ipfix_wire.specs.declared.header.Header.{Header}
 use Rattle.ipfix_message.specs.declared.record.Template.{Template}
-use Rattle.ipfix_message.specs.declared.template_record.Event.{Event}
 use Rattle.ipfix_message.specs.TemplatesInForce.{in_force}
 use Rattle.ipfix_message.specs.WrittenTemplates.{IsTemplate}
 use Rattle.ipfix_message.specs.Domains.{Message, template_for, message_header, message_gives}
-use Rattle.ipfix_record.specs.Preambles.{AreInForce}
 use Rattle.ipfix_record.proofs.PreamblesAre.{map_in_force}
 use Rattle.ipfix_datagrams.specs.Datagrams.{HasOwn}
 use Rattle.ipfix_datagrams.proofs.Readings.{header_same, template_behind}

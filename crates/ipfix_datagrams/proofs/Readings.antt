@@ -1,6 +1,6 @@
 -- What a datagram gives depends on the events of its domain alone.
-use Rattle.std.proofs.Common.{◌≡◌, ℕ, Bool, true, false, cond, ltb, eqb, List, [], ◌∷◌, length, drop, Option, Some, None, Result, Ok, Err, refl, sym, ap, subst, ◌∙◌, inl, inr, is_some}
-use Rattle.std.specs.Prelude.{◌⊎◌, IsOk, IsSome}
+use Rattle.std.proofs.Common.{◌≡◌, ℕ, Bool, true, false, ltb, eqb, List, [], length, drop, Option, Some, None, Ok, Err, refl, sym, ap, subst, ◌∙◌, inl, inr}
+use Rattle.std.specs.Prelude.{◌⊎◌, IsOk}
 use Rattle.std.specs.Map.{lookup}
 use Rattle.std.specs.Option.{unwrap_or, option_and_then}
 use Rattle.std.proofs.lemmas.Bool.{eq-eqb, ltb-true}
@@ -8,7 +8,6 @@ use Rattle.ipfix_wire.specs.declared.header.Header.{Header}
 use Rattle.ipfix_message.specs.declared.fault.MessageFault.{MessageFault}
 use Rattle.ipfix_message.specs.declared.fault.MessageFault.TheVariants.{OutOfMemory, TooManyDomains}
 use Rattle.ipfix_message.specs.declared.fault.MessageFault.TheVariants as faults
-use Rattle.ipfix_message.specs.declared.record.Template.{Template}
 use Rattle.ipfix_message.specs.declared.template_record.Event.{Event}
 use Rattle.ipfix_message.specs.Outcome.{Read, ◌>>=◌, Fails}
 use Rattle.ipfix_message.specs.TemplatesInForce.{in_force}
@@ -16,7 +15,7 @@ use Rattle.ipfix_message.specs.Messages.{Decoding, before, sets_from}
 use Rattle.ipfix_message.specs.Domains.{History, Message, admit, events_in, template_for, message_header, message_gives}
 use Rattle.ipfix_message.specs.Alike.{Alike, knows}
 use Rattle.ipfix_message.proofs.Reading.{ok_is, not_both, fault_is, Fails-of}
-use Rattle.ipfix_message.proofs.History.{after_admit, after_sets}
+use Rattle.ipfix_message.proofs.History.{after_sets}
 use Rattle.ipfix_message.proofs.PartsOf.{HasRoom, admits, was_read}
 use Rattle.ipfix_datagrams.proofs.Withdrawn.{given_by}
 

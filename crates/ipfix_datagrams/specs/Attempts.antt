@@ -1,7 +1,5 @@
 -- One attempt to read a datagram, with ids freed or none.
 use Rattle.std.specs.Prelude.{◌≡◌, ℕ, List, Ok, IsSome, None}
-use Rattle.ipfix_message.specs.declared.fault.MessageFault.{MessageFault}
-use Rattle.ipfix_message.specs.declared.fault.MessageFault.TheVariants.{OutOfMemory}
 use Rattle.ipfix_message.specs.Outcome.{Fails}
 use Rattle.ipfix_message.specs.TemplatesInForce.{in_force}
 use Rattle.ipfix_message.specs.Domains.{History, Message, events_in, message_gives}

@@ -1,6 +1,6 @@
 -- What the datagrams of a peer give (RFC 7011, sections 8.1 and 8.4). Over UDP a definition replaces an older one of its id, and no
 -- withdrawal ends a template.
-use Rattle.std.specs.Prelude.{◌≡◌, ◌≢◌, ◌⊎◌, ℕ, List, [], ◌∷◌, map, Option, Some, None, Ok, Err, IsSome}
+use Rattle.std.specs.Prelude.{◌≡◌, ◌≢◌, ◌⊎◌, ℕ, List, [], ◌∷◌, map, None, Ok, Err, IsSome}
 use Rattle.ipfix_message.specs.declared.fault.MessageFault.{MessageFault}
 use Rattle.ipfix_message.specs.declared.fault.MessageFault.TheVariants.{TemplateChanged, OutOfMemory}
 use Rattle.ipfix_message.specs.declared.record.Template.{Template}

@@ -1,4 +1,3 @@
-use Rattle.std.proofs.Common.{◌≡◌, false}
 use Rattle.ipfix_message.specs.Domains.{alone}
 use Rattle.ipfix_datagrams.specs.Datagrams.{with_freed}
 use Rattle.ipfix_datagrams.proofs.Attempted.{attempt_fails, attempt_reads, attempt_loses}

@@ -1,5 +1,4 @@
-use Rattle.std.proofs.Common.{◌≡◌, List, ℕ, refl, sym, subst, inl, inr}
-use Rattle.ipfix_datagrams.specs.Datagrams.{IsTaken, HasOwn}
+use Rattle.std.proofs.Common.{◌≡◌, List, ℕ, refl, subst, inl, inr}
 use Rattle.ipfix_datagrams.specs.Attempts.{Reads, FailsBy}
 use Rattle.ipfix_datagrams.proofs.Readings.{room_of}
 use Rattle.ipfix_datagrams.proofs.Answered.{no_room_refused, refused_plainly, changed_is, changed_knows, taken_freed, refused_freed}
