@@ -1,12 +1,12 @@
 -- Lists of which no two are the same, in any order.
 use Rattle.std.proofs.Common.{◌≡◌, Bool, true, false, List, [], ◌∷◌, ◌++◌, Option, Some, None, refl, sym, ap, subst, ◌∙◌, inl, inr, append-nil, append_assoc}
-use Rattle.std.specs.Prelude.{◌&&◌, ◌||◌, not, find}
+use Rattle.std.specs.Prelude.{not, find}
 use Rattle.std.specs.List.{list_any}
 use Rattle.std.specs.Option.{option_or}
 use Rattle.std.proofs.lemmas.Bool.{cases_Bool, and_parts, and_from, not-true, both_ways, or_left, or_right, or_parts, or_from}
 use Rattle.std.proofs.lemmas.List.Folds.{list_any-append, find-append}
 use Rattle.std.proofs.lemmas.Option.{same_Some}
-use Rattle.ipfix_elements.proofs.Lookups.{ComparesKeys, are_distinct, find_head, find_rest, find_passes, find_any, cases_Option}
+use Rattle.ipfix_elements.proofs.Lookups.{ComparesKeys, are_distinct, find_head, find_rest, find_passes, cases_Option}
 
 -- whichever of two stands first
 same_back : {X : Type 0} (same : X → X → Bool) → ComparesKeys same → (x y : X) → same x y ≡ true → same y x ≡ true

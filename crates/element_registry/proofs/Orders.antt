@@ -1,6 +1,6 @@
 -- Files in another order.
-use Rattle.std.proofs.Common.{◌≡◌, ℕ, true, List, ◌++◌, Option, Some, None, refl, sym, ap, subst, ◌∙◌}
-use Rattle.std.specs.Prelude.{◌&&◌, find, is_none, option_map, unwrap_or, Bool}
+use Rattle.std.proofs.Common.{◌≡◌, ℕ, true, List, ◌++◌, Option, sym, ap, subst, ◌∙◌}
+use Rattle.std.specs.Prelude.{find, is_none, option_map, unwrap_or, Bool}
 use Rattle.std.specs.List.{list_all}
 use Rattle.std.specs.Option.{option_map_or, option_or}
 use Rattle.std.proofs.lemmas.Bool.{and_parts, and_from}

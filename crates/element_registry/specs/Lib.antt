@@ -1,2 +1,6 @@
 -- What public contracts cite.
 pub mod Registries
+pub mod Faults
+pub mod Types
+pub mod Rows
+pub mod Files

@@ -1,6 +1,7 @@
 //! The elements that are known: the built-in ones, and those of files.
 
 use crate::entry::{Entry, find_known, find_named};
+use crate::fault::ElementsFault;
 use crate::kind::ElementKind;
 use ipfix_elements::{Kind, by_name, kind_of, name_of, write_name};
 use ipfix_wire::ElementId;
@@ -8,6 +9,9 @@ use std::alloc::Global;
 use std::io;
 use std::io::Write;
 use std::marker::Model;
+
+/// As many elements of files are kept.
+const MOST: usize = 16384;
 
 /// The elements that are known: the built-in ones, and those of files.
 #[derive(Drop)]
@@ -27,9 +31,12 @@ impl Model for Elements {
 }
 
 impl Elements {
-    ghost use Rattle.std.specs.Prelude.{◌≡◌, [], OnOk};
+    ghost use Rattle.std.specs.Prelude.{◌≡◌, true, [], is_none, OnOk, IfErr, Ok};
+    ghost use Rattle.ipfix_elements.specs.Elements.{entry_of};
+    ghost use Rattle.element_registry.specs.Faults.{Fails};
+    ghost use Rattle.element_registry.specs.Files.{with_entry};
     ghost use Rattle.ipfix_elements.specs.Writers.{Writes};
-    ghost use Rattle.element_registry.specs.Registries.{kind_under, name_under, element_under};
+    ghost use Rattle.element_registry.specs.Registries.{shown, kind_under, name_under, element_under};
 
     /// The built-in elements alone.
     pub fn built_in(alloc: Global) -> Elements
@@ -38,6 +45,26 @@ impl Elements {
         Elements {
             entries: Vec::new(alloc),
         }
+    }
+
+    /// Adds an element, if none is known with its numbers or its name.
+    #[tactic(auto, using(crate::proofs::Adding::added))]
+    pub fn add(&mut self, entry: Entry) -> Result<(), ElementsFault>
+        requires { is_none (entry_of entry.element) ≡ true }
+        ensures ok { OnOk result (with_entry self.old (shown entry) ≡ Ok self.new) }
+        ensures fault { IfErr result (λ fault. Fails fault (with_entry self.old (shown entry))) }
+    {
+        if find_known(&self.entries, entry.element).is_some() {
+            return Err(ElementsFault::NumberTwice);
+        }
+        if self.by_name(entry.name.as_str()).is_some() {
+            return Err(ElementsFault::NameTwice);
+        }
+        if self.entries.len() >= MOST {
+            return Err(ElementsFault::TooMany);
+        }
+        self.entries.push(entry)?;
+        Ok(())
     }
 
     /// The kind that an element's fields are read by: octets for each element that is not known.

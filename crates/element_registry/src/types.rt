@@ -1,0 +1,84 @@
+//! The names of types.
+
+ghost use Rattle.std.specs.Prelude.{◌≡◌, find, map, option_map};
+ghost use Rattle.std.specs.Str.{bytes_eq};
+ghost use Rattle.element_registry.specs.Rows.{kind_of_type as kind_of};
+ghost use Rattle.element_registry.specs.Types.{kind_named as kind_in, shown_type};
+
+use crate::kind::ElementKind;
+use ipfix_elements::{Kind, Width};
+
+/// A type's name, and the kind that its fields are read by.
+#[derive(Clone, Copy)]
+struct DataType {
+    name: &'static str,
+    kind: ElementKind,
+}
+
+macro_rules! types {
+    ($(($name:literal, $kind:expr),)*) => {
+        [$(DataType { name: $name, kind: $kind }),*]
+    };
+}
+
+const OCTETS: ElementKind = ElementKind::Plain(Kind::Octets);
+
+static TYPES: [DataType; 23] = types![
+    ("unsigned8", ElementKind::Plain(Kind::Unsigned(Width::One))),
+    ("unsigned16", ElementKind::Plain(Kind::Unsigned(Width::Two))),
+    (
+        "unsigned32",
+        ElementKind::Plain(Kind::Unsigned(Width::Four))
+    ),
+    (
+        "unsigned64",
+        ElementKind::Plain(Kind::Unsigned(Width::Eight))
+    ),
+    ("signed8", ElementKind::Signed(Width::One)),
+    ("signed16", ElementKind::Signed(Width::Two)),
+    ("signed32", ElementKind::Signed(Width::Four)),
+    ("signed64", ElementKind::Signed(Width::Eight)),
+    ("boolean", ElementKind::Boolean),
+    ("ipv4Address", ElementKind::Plain(Kind::Ipv4)),
+    ("ipv6Address", ElementKind::Plain(Kind::Ipv6)),
+    ("macAddress", ElementKind::Plain(Kind::Mac)),
+    ("string", ElementKind::Text),
+    ("dateTimeSeconds", ElementKind::Plain(Kind::Seconds)),
+    ("dateTimeMilliseconds", ElementKind::Plain(Kind::Millis)),
+    ("dateTimeMicroseconds", ElementKind::Micros),
+    ("dateTimeNanoseconds", ElementKind::Nanos),
+    ("octetArray", OCTETS),
+    ("basicList", OCTETS),
+    ("subTemplateList", OCTETS),
+    ("subTemplateMultiList", OCTETS),
+    ("float32", OCTETS),
+    ("float64", OCTETS),
+];
+
+/// The kind of a type: octets, if it is not known.
+pub fn kind_of_type(name: &[u8]) -> ElementKind
+    ensures { result ≡ kind_of name.now }
+{
+    kind_named(name).unwrap_or(OCTETS)
+}
+
+/// The kind of a type, if it is known.
+#[tactic(auto, unfolding(crate::specs::Types::types))]
+pub fn kind_named(name: &[u8]) -> Option<ElementKind>
+    ensures { result ≡ kind_in name.now }
+{
+    find_type(&TYPES, name)
+}
+
+fn find_type(mut types: &'static [DataType], name: &[u8]) -> Option<ElementKind>
+    ensures { result ≡ option_map (λ t. t.kind)
+        (find (λ t. bytes_eq t.name name.now) (map shown_type types.entry.now)) }
+{
+    while let [data_type, rest @ ..] = types {
+        if data_type.name.as_bytes() == name {
+            return Some(data_type.kind);
+        }
+        types = rest;
+    }
+    None
+}
