@@ -8,7 +8,7 @@ use Rattle.std.proofs.lemmas.List.{append-nil, length-append, drop_more, drop_al
 use Rattle.std.proofs.lemmas.List.Elements.{All-nil, All-cons, All-append}
 use Rattle.ipfix_wire.specs.declared.specifier.Spec.{Spec}
 use Rattle.ipfix_wire.specs.declared.specifier.ElementId.{ElementId}
-use Rattle.ipfix_message.specs.declared.layout.FieldPlace.{FieldPlace}
+use Rattle.ipfix_message.specs.declared.places.FieldPlace.{FieldPlace}
 use Rattle.ipfix_message.specs.Fields.{same_element}
 use Rattle.ipfix_message.specs.Layouts.{gaps_from, last_from, behind, place_from, key_of, IsNarrow}
 

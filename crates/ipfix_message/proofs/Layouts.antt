@@ -16,7 +16,7 @@ use Rattle.ipfix_wire.specs.declared.specifier.ElementId.{ElementId}
 use Rattle.ipfix_wire.proofs.Parts.{cases_read}
 use Rattle.ipfix_message.specs.declared.fault.MessageFault.{MessageFault}
 use Rattle.ipfix_message.specs.declared.fault.MessageFault.TheVariants.{RecordCut}
-use Rattle.ipfix_message.specs.declared.layout.FieldPlace.{FieldPlace}
+use Rattle.ipfix_message.specs.declared.places.FieldPlace.{FieldPlace}
 use Rattle.ipfix_message.specs.declared.layout.Layout.{Layout}
 use Rattle.ipfix_message.specs.Fields.{Field, same_element, octets_of}
 use Rattle.ipfix_message.specs.Outcome.{Read, ◌>>=◌, Gives}
@@ -198,7 +198,7 @@ octets_at_place-finds specs w e begins =
     let read : (skip 0 w >>= fields_at specs) ≡ Ok x.0 = ap (λ (r : Read (List ℕ)). r >>= fields_at specs) (skip-none w) ∙ x.1 in
     rw (fields_in-read specs w x.0.0 x.0.1 x.1) (sym (octets_at_place-reads specs 0 w e x.0 read))
 
-pub layout-inside : (l : Layout) (specs : List Spec) (e : ElementId) (p : FieldPlace) → IsLayout l specs → e.number < 2 ^ 16 → get nat_cmp l.places (key_of e) ≡ Some p → p.before ≤ length l.gaps.items
+pub layout-inside : (l : Layout) (specs : List Spec) (e : ElementId) (p : FieldPlace) → IsLayout l specs → e.number < 2 ^ 16 → get nat_cmp l.places.all (key_of e) ≡ Some p → p.before ≤ length l.gaps.items
 layout-inside l specs e p is small found = rw is.gaps (before-inside specs 0 e p (sym (is.places e small) ∙ found))
 
 -- the fields of a record of octets are short
@@ -219,7 +219,7 @@ short_fields specs w x narrow fits h =
         All-cons IsShort f fs (short_octets s.width f.octets spelled.0 (All-head IsNarrow s ss narrow) spelled.4) (spelled_short ss fs spelled.1 (All-tail IsNarrow s ss narrow) spelled.5)
 
 pub layout_finds : (l : Layout) (specs : List Spec) (w : List ℕ) (e : ElementId) → IsLayout l specs → e.number < 2 ^ 16 → BeginsWithFields specs w
-    → octets_at_place l.gaps.items (get nat_cmp l.places (key_of e)) w ≡ octets_of e (fields_in specs w)
+    → octets_at_place l.gaps.items (get nat_cmp l.places.all (key_of e)) w ≡ octets_of e (fields_in specs w)
 layout_finds l specs w e is small begins = rw (is.gaps, is.places e small) (octets_at_place-finds specs w e begins)
 
 -- the answer of cutting a record by the layout, whose octets now shows

@@ -9,10 +9,11 @@ use Rattle.ipfix_wire.specs.declared.specifier.Spec.{Spec}
 use Rattle.ipfix_wire.specs.declared.specifier.ElementId.{ElementId}
 use Rattle.ipfix_message.specs.declared.fault.MessageFault.TheVariants.{RecordCut}
 use Rattle.ipfix_message.specs.declared.layout.Layout.{Layout}
-use Rattle.ipfix_message.specs.declared.layout.FieldPlace.{FieldPlace}
+use Rattle.ipfix_message.specs.declared.places.FieldPlace.{FieldPlace}
 use Rattle.ipfix_message.specs.Fields.{same_element}
 use Rattle.ipfix_message.specs.Outcome.{Read, ◌>>=◌}
 use Rattle.ipfix_message.specs.SpelledFields.{value_at}
+use Rattle.ipfix_message.specs.Spots.{AreSpotsOf}
 
 -- ---- gaps, where o octets of fixed widths stand before the first specifier
 
@@ -51,7 +52,8 @@ IsNarrow s = s.width < 2 ^ 16
 pub record IsLayout (l : Layout) (specs : List Spec) : Type 0 where
   pub gaps : l.gaps.items ≡ gaps_from 0 specs
   pub last : l.last ≡ last_from 0 specs
-  pub places : (e : ElementId) → e.number < 2 ^ 16 → get nat_cmp l.places (key_of e) ≡ place_from 0 specs e
+  pub places : (e : ElementId) → e.number < 2 ^ 16 → get nat_cmp l.places.all (key_of e) ≡ place_from 0 specs e
+  pub spots : AreSpotsOf l.places.spots l.places.all
   pub narrow : All IsNarrow specs
 
 -- ---- reading by them

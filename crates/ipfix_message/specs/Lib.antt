@@ -14,6 +14,7 @@ pub mod Domains
 pub mod Alike
 -- What only inner functions and proofs need.
 pub mod Layouts
+pub mod Spots
 pub mod SetRecords
 pub mod KeptFields
 pub mod Held

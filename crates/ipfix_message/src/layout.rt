@@ -1,31 +1,18 @@
 //! Where the fields of a template's records stand (RFC 7011, sections 3.4.3 and 7).
 
-ghost use Rattle.std.specs.Prelude.{◌≡◌, ◌<◌, ◌^◌, ◌==◌, if◌then◌else◌, List, Some, None, length, IfOk, OnOk, option_copied};
-ghost use Rattle.std.specs.Option.{option_map, option_or};
+ghost use Rattle.std.specs.Prelude.{◌≡◌, ◌<◌, ◌^◌, List, length, IfOk, option_copied};
+ghost use Rattle.std.specs.Option.{option_map};
 ghost use Rattle.std.specs.Ordering.{nat_cmp};
 ghost use Rattle.std.specs.BTreeMap.{get};
-ghost use Rattle.ipfix_wire.specs.declared.specifier.ElementId.{ElementId};
 ghost use Rattle.ipfix_wire.specs.declared.specifier.Spec.{Spec};
-ghost use Rattle.ipfix_message.specs.Fields.{same_element};
 ghost use Rattle.ipfix_message.specs.SpelledFields.{unless_cut};
 ghost use Rattle.ipfix_message.specs.Layouts;
-ghost use Rattle.ipfix_message.specs.Layouts.{IsLayout, after_all, octets_at_place, place_from};
+ghost use Rattle.ipfix_message.specs.Layouts.{IsLayout, after_all, octets_at_place};
 
 use crate::field_value::value_of;
+use crate::places::{FieldPlace, Places};
 use ipfix_wire::{ElementId, Spec, VARIABLE_WIDTH};
 use std::alloc::{AllocError, Global};
-use std::collections::BTreeMap;
-
-/// Where a field stands in each record of a template.
-#[derive(Clone, Copy, Debug)]
-pub struct FieldPlace {
-    /// How many fields of variable length stand before it.
-    pub before: u16,
-    /// The octets of the fields of fixed width since the last of those.
-    pub offset: u32,
-    /// Its width.
-    pub width: u16,
-}
 
 /// Where the fields of a template's records stand, found once for all of them: what a record then
 /// costs depends on its octets, not on how many specifiers there are.
@@ -35,33 +22,8 @@ pub struct Layout {
     gaps: Vec<u32>,
     // Those since the last field of variable length.
     last: u32,
-    // Where the first field of each element stands, by its key.
-    places: BTreeMap<u64, FieldPlace>,
-}
-
-// The number by which an element is sought.
-fn key_of(element: ElementId) -> u64
-    ensures { result ≡ Layouts.key_of element }
-{
-    u64::from(element.pen) * 65536 + u64::from(element.number)
-}
-
-// Notes where a field of an element stands, unless one stands before it.
-fn note_first(
-    places: &mut BTreeMap<u64, FieldPlace>,
-    element: ElementId,
-    place: FieldPlace,
-) -> Result<(), AllocError>
-    ensures { OnOk result ((e : ElementId) → e.number < 2 ^ 16
-        → get nat_cmp places.new (Layouts.key_of e)
-        ≡ option_or (get nat_cmp places.old (Layouts.key_of e))
-        (if same_element element e then Some place else None)) }
-{
-    let key = key_of(element);
-    if !places.contains_key(&key) {
-        places.insert(key, place)?;
-    }
-    Ok(())
+    // Where the first field of each element stands.
+    places: Places,
 }
 
 // What follows that many octets.
@@ -103,14 +65,14 @@ impl Layout {
     {
         let mut gaps = Vec::new(alloc);
         let mut last = 0;
-        let mut places = BTreeMap::new(alloc);
+        let mut places = Places::new(alloc);
         for spec in specs {
             let place = FieldPlace {
                 before: gaps.len() as u16,
                 offset: last,
                 width: spec.width,
             };
-            note_first(&mut places, spec.element, place)?;
+            places.note_first(spec.element, place)?;
             if spec.width == VARIABLE_WIDTH {
                 gaps.push(last)?;
                 last = 0;
@@ -135,9 +97,9 @@ impl Layout {
     pub fn find<'a>(&self, element: ElementId, octets: &'a [u8]) -> Option<&'a [u8]>
         requires { (specs : List Spec) × IsLayout self.now specs }
         ensures { option_copied result ≡ octets_at_place self.now.gaps.items
-            (get nat_cmp self.now.places (Layouts.key_of element)) octets.now }
+            (get nat_cmp self.now.places.all (Layouts.key_of element)) octets.now }
     {
-        let place = self.places.get(&key_of(element))?;
+        let place = self.places.find(element)?;
         let rest = after_gaps(&self.gaps[..usize::from(place.before)], octets)?;
         let (value, _) = value_of(place.width, skip(place.offset, rest)?)?;
         Some(value)

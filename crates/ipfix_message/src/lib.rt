@@ -15,6 +15,7 @@ mod layout;
 mod message;
 mod own_fields;
 mod passed_over;
+mod places;
 mod record;
 mod set_body;
 mod sets;

@@ -8,7 +8,7 @@ use Rattle.ipfix_message.proofs.layout.Layout.find.Goals as goal
 
 pub slice_bounds-after_gaps-end : goal.slice_bounds-after_gaps-end
 slice_bounds-after_gaps-end c =
-    let found : get nat_cmp c.args.self.now.places (key_of c.args.element) ≡ Some c.in_ok-place.place.now = search rules in
+    let found : get nat_cmp c.args.self.now.places.all (key_of c.args.element) ≡ Some c.in_ok-place.place.now = search rules in
     let small : c.args.element.number < 2 ^ 16 = omega arith in
     let inside = layout-inside c.args.self.now c.requires.0 c.args.element c.in_ok-place.place.now c.requires.1 small found in
     let room : c.from.result ≤ length c.deref.result.now = search (rules, inside) in
