@@ -6,7 +6,7 @@ use Rattle.std.specs.Io.KnownBytes.{Appends}
 use Rattle.std.specs.declared.net.socket_addr.SocketAddr.{SocketAddr}
 use Rattle.ipfix_message.specs.declared.fault.MessageFault.TheVariants.{OutOfMemory}
 use Rattle.ipfix_session.specs.Sources.{SourceView}
-use Rattle.ipfix_session.specs.declared.driver.TheConstants.{READ_LIMIT, READ_SIZE}
+use Rattle.ipfix_session.specs.declared.driver.TheConstants.{READ_LIMIT}
 use Rattle.ipfix_record.specs.Faults.{number_of, name_of}
 use Rattle.ipfix_record.specs.Files.{FilesView}
 use Rattle.ipfix_record.specs.Periods.{ClockView}
@@ -48,7 +48,7 @@ pub record IsRecorded {S F C E A : Type 0} (seen : S â†’ SourceView) (view : F â
   pub session : RecordedSession
   pub written : F
   pub asked_last : C
-  pub recorded : RecordsSession seen view asked READ_LIMIT READ_SIZE source after files written clock asked_last session
+  pub recorded : RecordsSession seen view asked READ_LIMIT source after files written clock asked_last session
   pub finished : Result (Unit {0}) NotWritten
   pub is_finished : finishes written session.last finished
   pub told : OnOk answer (Appends (contents old) (contents new) (session_lines peer session finished))

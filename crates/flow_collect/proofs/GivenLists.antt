@@ -103,7 +103,7 @@ module _ {S : Type 0} (seen : S → SourceView) where
       → AreTexts seen befores ts → All HasNoFault rs → AreWhole qs ts
   all_whole at_end befores afters rs qs ts e t n =
       last_beside (λ (s a : S) (r : SessionReport) (q : List DataRecord). IsGivenBy seen s a r q × HasNoFault r) (λ (s : S) (x : List ℕ). (seen s).text ≡ Some x) (λ (q : List DataRecord) (x : List ℕ). (stop_of x ≡ Clean) × (q ≡ records_of x))
-      (λ s a r q x g is. given_all_of seen _ _ s a r q x (at_end a) g.0 g.1 is)
+      (λ s a r q x g is. given_all_of seen _ s a r q x (at_end a) g.0 g.1 is)
       befores afters rs qs ts (each4_third (IsGivenBy seen) HasNoFault befores afters rs qs e n) t
 
   pub records_by_octets : (befores afters : List S) (rs : List SessionReport) (qs : List (List DataRecord)) (bs : List (List ℕ)) → Each4 (IsGivenBy seen) befores afters rs qs

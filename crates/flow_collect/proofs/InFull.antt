@@ -15,7 +15,7 @@ use Rattle.ipfix_session.specs.Ledger.{domains_of, domain_report}
 use Rattle.ipfix_session.specs.Places.{ReportsInFull, IsFullReport}
 use Rattle.ipfix_session.specs.Sinks.{SinkView, Takes}
 use Rattle.ipfix_session.specs.Sources.{SourceView}
-use Rattle.ipfix_session.specs.declared.driver.TheConstants.{READ_LIMIT, READ_SIZE}
+use Rattle.ipfix_session.specs.declared.driver.TheConstants.{READ_LIMIT}
 use Rattle.ipfix_session.specs.declared.fault.SessionFault.{SessionFault}
 use Rattle.ipfix_session.specs.declared.fault.SessionFault.TheVariants as faults
 use Rattle.ipfix_session.specs.declared.report.DomainBalance.{DomainBalance}
@@ -50,7 +50,7 @@ module _ {S K : Type 0} (seen : S → SourceView) (view : SinkView K) (before af
     pub takes : Takes view first records last
 
   -- these messages count, and their records were put
-  took_whole : (d : DrivesInFull seen view READ_LIMIT READ_SIZE before after first last full) (whole : List Message) → IsPrefix whole (gives d.gave).messages
+  took_whole : (d : DrivesInFull seen view READ_LIMIT before after first last full) (whole : List Message) → IsPrefix whole (gives d.gave).messages
       → (full.report.fault ≢ Some (faults.Message OutOfMemory) → whole ≡ (gives d.gave).messages) → IsPrefix (gives d.given.stops.earlier).messages whole → full.report.fault ≢ Some faults.SinkClosed
       → PutsWhole view (gives d.given.stops.earlier).messages whole d.middle last (ReportsInFull full) → TookInFull
   took_whole d whole some all from taken p =
@@ -64,7 +64,7 @@ module _ {S K : Type 0} (seen : S → SourceView) (view : SinkView K) (before af
       }
 
   -- all messages count
-  took_each : (d : DrivesInFull seen view READ_LIMIT READ_SIZE before after first last full) → full.report.fault ≢ Some faults.SinkClosed
+  took_each : (d : DrivesInFull seen view READ_LIMIT before after first last full) → full.report.fault ≢ Some faults.SinkClosed
       → PutsWhole view (gives d.given.stops.earlier).messages (gives d.gave).messages d.middle last (ReportsInFull full) → TookInFull
   took_each d taken p =
       let all = (gives d.gave).messages in
@@ -72,7 +72,7 @@ module _ {S K : Type 0} (seen : S → SourceView) (view : SinkView K) (before af
       took_whole d all ([], sym (append-nil all)) (λ _. refl) (subst (λ (w : List ℕ). IsPrefix (gives stops.earlier).messages (gives w).messages) (sym stops.is) (gives-prefix stops.earlier stops.last)) taken p
 
   -- by the fault
-  took_by : (d : DrivesInFull seen view READ_LIMIT READ_SIZE before after first last full) (fault : Option SessionFault) → full.report.fault ≡ fault → full.report.fault ≢ Some faults.SinkClosed
+  took_by : (d : DrivesInFull seen view READ_LIMIT before after first last full) (fault : Option SessionFault) → full.report.fault ≡ fault → full.report.fault ≢ Some faults.SinkClosed
       → PutsUpTo view fault (gives d.given.stops.earlier).messages (gives d.gave).messages d.middle last (ReportsInFull full) → TookInFull
   took_by d None is taken p = took_each d taken p
   took_by d (Some faults.Truncated) is taken p = took_each d taken p
@@ -82,9 +82,9 @@ module _ {S K : Type 0} (seen : S → SourceView) (view : SinkView K) (before af
   took_by d (Some (faults.Message e)) is taken p = took_each d taken p
   took_by d (Some faults.SinkClosed) is taken p = absurd (taken is)
 
-  pub took_in_full : DrivesInFull seen view READ_LIMIT READ_SIZE before after first last full → view.refused last ≡ 0 → TookInFull
+  pub took_in_full : DrivesInFull seen view READ_LIMIT before after first last full → view.refused last ≡ 0 → TookInFull
   took_in_full d none =
-      let short = driven_took_all seen view READ_LIMIT READ_SIZE before after first last full.report (drives_told seen view READ_LIMIT READ_SIZE before after first last full.report.fault _ _ (λ ms delivered told. told.reports) d) none in
+      let short = driven_took_all seen view READ_LIMIT before after first last full.report (drives_told seen view READ_LIMIT before after first last full.report.fault _ _ (λ ms delivered told. told.reports) d) none in
       took_by d full.report.fault refl short.given.not_closed d.puts
 
 -- ---- the ledgers

@@ -8,7 +8,7 @@ use Rattle.std.specs.List.{AllZip, flat_map}
 use Rattle.ipfix_message.specs.declared.record.DataRecord.{DataRecord}
 use Rattle.ipfix_session.specs.Drives.{IsGiven}
 use Rattle.ipfix_session.specs.Sources.{SourceView}
-use Rattle.ipfix_session.specs.declared.driver.TheConstants.{READ_LIMIT, READ_SIZE}
+use Rattle.ipfix_session.specs.declared.driver.TheConstants.{READ_LIMIT}
 use Rattle.ipfix_session.specs.declared.report.SessionReport.{SessionReport}
 use Rattle.flow_link.specs.Parcels.{items}
 use Rattle.flow_link.specs.Settling.{settled_capacity, settled_sent, settled_received}
@@ -46,7 +46,7 @@ pub record IsReceived (capacity : ℕ) (link : Settled) (records : List DataReco
 --   memory that ran out in the session is the one exception: then records and report are of the first of these messages;
 --   no report has SinkClosed
 abbrev pub IsGivenBy : {S : Type 0} → (S → SourceView) → S → S → SessionReport → List DataRecord → Type 0
-IsGivenBy seen before after report records = IsGiven seen READ_LIMIT READ_SIZE before after report records
+IsGivenBy seen before after report records = IsGiven seen READ_LIMIT before after report records
 
 -- ---- what was added up
 

@@ -4,7 +4,6 @@ use Rattle.std.specs.Prelude.{IfErr, IsErrAnd}
 use Rattle.ipfix_session.specs.Drives.{TakesGiven, Drives}
 use Rattle.ipfix_session.specs.Sinks.{SinkView}
 use Rattle.ipfix_session.specs.Sources.{SourceView}
-use Rattle.ipfix_session.specs.declared.driver.TheConstants.{READ_SIZE}
 use Rattle.ipfix_session.specs.declared.report.SessionReport.{SessionReport}
 use Rattle.ipfix_session.proofs.Driven.{driven_took_all}
 use Rattle.flow_table.specs.Plans.{PlanValue}
@@ -24,9 +23,9 @@ sink_view = record { took = TakesRecord; refused = λ s. 0 }
 abbrev new_sink : Merging → RowSink
 new_sink m = record { merging = m; fault = None }
 
-module _ {S : Type 0} (seen : S → SourceView) (limit : ℕ) (before after : S) (r : SessionReport) (old : Merging) (last : RowSink) (driven : Drives seen sink_view limit READ_SIZE before after (new_sink old) last r) where
-  taken : TakesGiven seen sink_view limit READ_SIZE before after (new_sink old) last r
-  taken = driven_took_all seen sink_view limit READ_SIZE before after (new_sink old) last r driven refl
+module _ {S : Type 0} (seen : S → SourceView) (limit : ℕ) (before after : S) (r : SessionReport) (old : Merging) (last : RowSink) (driven : Drives seen sink_view limit before after (new_sink old) last r) where
+  taken : TakesGiven seen sink_view limit before after (new_sink old) last r
+  taken = driven_took_all seen sink_view limit before after (new_sink old) last r driven refl
 
   pub same_plan : merging_plan last.merging ≡ merging_plan old
   same_plan = (takes_all (new_sink old) last taken.records taken.takes.chain).plan

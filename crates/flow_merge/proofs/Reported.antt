@@ -10,7 +10,6 @@ use Rattle.ipfix_session.specs.Given.{gives, records_in, records_of}
 use Rattle.ipfix_session.specs.Ledger.{capped, domain_report, domains_of}
 use Rattle.ipfix_session.specs.Reports.{Reports}
 use Rattle.ipfix_session.specs.Sources.{SourceView}
-use Rattle.ipfix_session.specs.declared.driver.TheConstants.{READ_SIZE}
 use Rattle.ipfix_session.specs.declared.fault.SessionFault.{SessionFault}
 use Rattle.ipfix_session.specs.declared.fault.SessionFault.TheVariants as sessions
 use Rattle.ipfix_session.specs.declared.report.SessionReport.{SessionReport}
@@ -64,13 +63,13 @@ module _ (r : SessionReport) (ms : List Message) (n : ℕ) (reports : Reports r 
 
 -- ---- a session that its source's octets were given to
 
-module _ {S : Type 0} (seen : S → SourceView) (limit : ℕ) (before after : S) (r : SessionReport) (rs : List DataRecord) (given : IsGiven seen limit READ_SIZE before after r rs) where
+module _ {S : Type 0} (seen : S → SourceView) (limit : ℕ) (before after : S) (r : SessionReport) (rs : List DataRecord) (given : IsGiven seen limit before after r rs) where
   -- without a fault all messages count
   counted_all : r.fault ≡ None → given.counted ≡ (gives given.gave).messages
   counted_all none = given.all (λ memory. let no : None ≡ Some (sessions.Message messages.OutOfMemory) = sym none ∙ memory in cc)
 
-  gave_none : r.fault ≡ None → Gave seen limit READ_SIZE before given.gave after None
-  gave_none none = subst (λ (fault : Option SessionFault). Gave seen limit READ_SIZE before given.gave after fault) none given.given
+  gave_none : r.fault ≡ None → Gave seen limit before given.gave after None
+  gave_none none = subst (λ (fault : Option SessionFault). Gave seen limit before given.gave after fault) none given.given
 
   reports_all : r.fault ≡ None → Reports r (gives given.gave).messages (length rs)
   reports_all none = subst (λ (ms : List Message). Reports r ms (length rs)) (counted_all none) given.report_is
@@ -95,10 +94,10 @@ module _ {S : Type 0} (seen : S → SourceView) (limit : ℕ) (before after : S)
   -- the session's own fault
   ended_early : (plan : PlanValue) (rows : List RowValue) (fault : SessionFault) → r.fault ≡ Some fault → IsMergeDue seen limit plan rows before after (Session fault)
   ended_early plan rows sessions.SinkClosed is = absurd (given.not_closed is)
-  ended_early plan rows (sessions.Message e) is = (given.gave, subst (λ (o : Option SessionFault). Gave seen limit READ_SIZE before given.gave after o) is given.given)
-  ended_early plan rows sessions.Truncated is = (given.gave, subst (λ (o : Option SessionFault). Gave seen limit READ_SIZE before given.gave after o) is given.given)
-  ended_early plan rows sessions.ReadFailed is = (given.gave, subst (λ (o : Option SessionFault). Gave seen limit READ_SIZE before given.gave after o) is given.given)
-  ended_early plan rows sessions.TooManyReads is = (given.gave, subst (λ (o : Option SessionFault). Gave seen limit READ_SIZE before given.gave after o) is given.given)
+  ended_early plan rows (sessions.Message e) is = (given.gave, subst (λ (o : Option SessionFault). Gave seen limit before given.gave after o) is given.given)
+  ended_early plan rows sessions.Truncated is = (given.gave, subst (λ (o : Option SessionFault). Gave seen limit before given.gave after o) is given.given)
+  ended_early plan rows sessions.ReadFailed is = (given.gave, subst (λ (o : Option SessionFault). Gave seen limit before given.gave after o) is given.given)
+  ended_early plan rows sessions.TooManyReads is = (given.gave, subst (λ (o : Option SessionFault). Gave seen limit before given.gave after o) is given.given)
 
   -- what the report has against them
   pub due_by_report : (plan : PlanValue) (rows : List RowValue) (fault : MergeFault) → IsBadBy r fault → IsMergeDue seen limit plan rows before after fault

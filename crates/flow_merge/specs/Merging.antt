@@ -4,7 +4,6 @@ use Rattle.std.specs.List.{AllZip}
 use Rattle.ipfix_message.specs.Domains.{Message}
 use Rattle.ipfix_message.specs.declared.record.DataRecord.{DataRecord}
 use Rattle.ipfix_message.specs.declared.passed_over.PassedOver.{PassedOver}
-use Rattle.ipfix_session.specs.declared.driver.TheConstants.{READ_SIZE}
 use Rattle.ipfix_session.specs.declared.fault.SessionFault.TheVariants as sessions
 use Rattle.ipfix_session.specs.declared.stop.Stop.TheVariants.{Clean}
 use Rattle.ipfix_session.specs.declared.report.DomainReport.{DomainReport}
@@ -67,7 +66,7 @@ module _ {S : Type 0} (seen : S → SourceView) where
   -- an export of these rows is what a source gave: it told its end, and no read failed
   pub record GivesExport (limit : ℕ) (plan : PlanValue) (before after : S) (rows : List RowValue) : Type 0 where
     pub gave : List ℕ
-    pub given : Gave seen limit READ_SIZE before gave after None
+    pub given : Gave seen limit before gave after None
     pub export : IsExport plan gave rows
 
   -- each source gave the export of one of the lists of rows, in their order
@@ -117,8 +116,8 @@ module _ {S : Type 0} (seen : S → SourceView) where
   -- them
   abbrev pub IsDue : ℕ → PlanValue → List RowValue → S → S → MergeFault → Type 0
   IsDue limit plan rows before after (Session sessions.SinkClosed) = ⊥
-  IsDue limit plan rows before after (Session fault) = (gave : List ℕ) × Gave seen limit READ_SIZE before gave after (Some fault)
-  IsDue limit plan rows before after fault = (gave : List ℕ) × Gave seen limit READ_SIZE before gave after None × IsAgainst plan rows gave fault
+  IsDue limit plan rows before after (Session fault) = (gave : List ℕ) × Gave seen limit before gave after (Some fault)
+  IsDue limit plan rows before after fault = (gave : List ℕ) × Gave seen limit before gave after None × IsAgainst plan rows gave fault
 
 -- ---- what is merged
 

@@ -16,16 +16,16 @@ use Rattle.ipfix_session.specs.Drives.{IsGiven, PutsUpTo, DrivesInFull}
 use Rattle.ipfix_session.proofs.Giving.{gives-prefix}
 use Rattle.ipfix_session.proofs.Reaching.{takes-append}
 
-module _ {S K : Type 0} (seen : S → SourceView) (view : SinkView K) (limit most : ℕ) (before after : S) (first last : K) (full : FullReport) where
+module _ {S K : Type 0} (seen : S → SourceView) (view : SinkView K) (limit : ℕ) (before after : S) (first last : K) (full : FullReport) where
   -- the sink took the records that the source gave, and the full report is of their messages
   pub record TakesInFull : Type 0 where
     pub records : List DataRecord
-    pub given : IsGiven seen limit most before after full.report records
+    pub given : IsGiven seen limit before after full.report records
     pub in_full : ReportsInFull full given.counted (length records)
     pub takes : Takes view first records last
 
   -- these messages count, and their records were put
-  in_full_whole : (d : DrivesInFull seen view limit most before after first last full) (whole : List Message) → IsPrefix whole (gives d.gave).messages
+  in_full_whole : (d : DrivesInFull seen view limit before after first last full) (whole : List Message) → IsPrefix whole (gives d.gave).messages
       → (full.report.fault ≢ Some (faults.Message OutOfMemory) → whole ≡ (gives d.gave).messages) → IsPrefix (gives d.given.stops.earlier).messages whole
       → full.report.fault ≢ Some faults.SinkClosed → PutsWhole view (gives d.given.stops.earlier).messages whole d.middle last (ReportsInFull full) → TakesInFull
   in_full_whole d whole some all from taken p =
@@ -47,7 +47,7 @@ module _ {S K : Type 0} (seen : S → SourceView) (view : SinkView K) (limit mos
       }
 
   -- all messages count
-  in_full_all : (d : DrivesInFull seen view limit most before after first last full) → full.report.fault ≢ Some faults.SinkClosed
+  in_full_all : (d : DrivesInFull seen view limit before after first last full) → full.report.fault ≢ Some faults.SinkClosed
       → PutsWhole view (gives d.given.stops.earlier).messages (gives d.gave).messages d.middle last (ReportsInFull full) → TakesInFull
   in_full_all d taken p =
       let all = (gives d.gave).messages in
@@ -56,7 +56,7 @@ module _ {S K : Type 0} (seen : S → SourceView) (view : SinkView K) (limit mos
       in_full_whole d all ([], sym (append-nil all)) (λ _. refl) from taken p
 
   -- by the fault
-  in_full_by : (d : DrivesInFull seen view limit most before after first last full) (fault : Option SessionFault) → full.report.fault ≡ fault → full.report.fault ≢ Some faults.SinkClosed
+  in_full_by : (d : DrivesInFull seen view limit before after first last full) (fault : Option SessionFault) → full.report.fault ≡ fault → full.report.fault ≢ Some faults.SinkClosed
       → PutsUpTo view fault (gives d.given.stops.earlier).messages (gives d.gave).messages d.middle last (ReportsInFull full) → TakesInFull
   in_full_by d None is taken p = in_full_all d taken p
   in_full_by d (Some faults.Truncated) is taken p = in_full_all d taken p
@@ -75,5 +75,5 @@ module _ {S K : Type 0} (seen : S → SourceView) (view : SinkView K) (limit mos
   closed_not (Some (faults.Message e)) old all middle none p = λ e. cc e
   closed_not (Some faults.SinkClosed) old all middle none p = absurd (omega (arith, p.back, none))
 
-  pub took_in_full : DrivesInFull seen view limit most before after first last full → view.refused last ≡ 0 → TakesInFull
+  pub took_in_full : DrivesInFull seen view limit before after first last full → view.refused last ≡ 0 → TakesInFull
   took_in_full d none = in_full_by d full.report.fault refl (closed_not full.report.fault _ _ _ none d.puts) d.puts

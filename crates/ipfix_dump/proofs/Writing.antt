@@ -27,5 +27,5 @@ pub dumps_all : {S : Type 0} (seen : S → SourceView) (line_of : DataRecord →
     → DumpsBy line_of seen before after old new r → r.fault ≡ None → (held : Option (List ℕ)) → (seen before).text ≡ held → DumpsAllBy line_of held old new
 dumps_all seen line_of before after old new r at_end d none None is = tt
 dumps_all seen line_of before after old new r at_end d none (Some whole) is =
-    let all = given_all_of seen _ _ before after r d.records whole at_end d.given none is in
+    let all = given_all_of seen _ before after r d.records whole at_end d.given none is in
     (all.0, subst (λ (rs : List DataRecord). Appends old new (flat_map line_of rs)) all.1 d.written)

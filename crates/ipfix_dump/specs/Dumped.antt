@@ -10,7 +10,7 @@ use Rattle.ipfix_session.specs.Given.{records_of, stop_of}
 use Rattle.ipfix_session.specs.Sources.{SourceView}
 use Rattle.ipfix_session.specs.Drives.{IsGiven}
 use Rattle.ipfix_session.specs.Places.{ReportsInFull}
-use Rattle.ipfix_session.specs.declared.driver.TheConstants.{READ_LIMIT, READ_SIZE}
+use Rattle.ipfix_session.specs.declared.driver.TheConstants.{READ_LIMIT}
 use Rattle.ipfix_dump.specs.DumpLines.{dump_line}
 use Rattle.ipfix_dump.specs.JsonLines.{json_line}
 
@@ -19,14 +19,14 @@ module _ (line_of : DataRecord → List ℕ) where
   -- a source gave octets that have these records, as the report tells, and their lines were written
   pub record DumpsBy {S : Type 0} (seen : S → SourceView) (before after : S) (old new : Option (List ℕ)) (report : SessionReport) : Type 0 where
     pub records : List DataRecord
-    pub given : IsGiven seen READ_LIMIT READ_SIZE before after report records
+    pub given : IsGiven seen READ_LIMIT before after report records
     pub written : Appends old new (flat_map line_of records)
 
   -- the same, and the full report is of these messages: what each domain passed over, what is unaccounted for in it, and
   -- where the first message begins that doesn't count
   pub record DumpsInFullBy {S : Type 0} (seen : S → SourceView) (before after : S) (old new : Option (List ℕ)) (full : FullReport) : Type 0 where
     pub records : List DataRecord
-    pub given : IsGiven seen READ_LIMIT READ_SIZE before after full.report records
+    pub given : IsGiven seen READ_LIMIT before after full.report records
     pub in_full : ReportsInFull full given.counted (length records)
     pub written : Appends old new (flat_map line_of records)
 

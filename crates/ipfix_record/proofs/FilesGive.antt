@@ -28,11 +28,11 @@ use Rattle.ipfix_record.proofs.Gatherings.{octets-append}
 use Rattle.ipfix_record.proofs.Going.{WritesPart, recorded-push, all_given-parts}
 use Rattle.ipfix_record.proofs.Together.{is_faithful}
 
-all_clean : (ps : List Part) → All IsReadAlone ps → All (λ file. stop_of file ≡ Clean) (map file_octets ps)
+pub all_clean : (ps : List Part) → All IsReadAlone ps → All (λ file. stop_of file ≡ Clean) (map file_octets ps)
 all_clean [] all = All-nil (λ file. stop_of file ≡ Clean)
 all_clean (p ∷ ps) all = All-cons (λ file. stop_of file ≡ Clean) (file_octets p) (map file_octets ps) (All-head IsReadAlone p ps all).stop (all_clean ps (All-tail IsReadAlone p ps all))
 
-all_records : (ps : List Part) → All IsReadAlone ps → flat_map records_of (map file_octets ps) ≡ records_in (all_given ps)
+pub all_records : (ps : List Part) → All IsReadAlone ps → flat_map records_of (map file_octets ps) ≡ records_in (all_given ps)
 all_records [] all = refl
 all_records (p ∷ ps) all =
     ap (λ (rs : List DataRecord). rs ++ flat_map records_of (map file_octets ps)) (All-head IsReadAlone p ps all).records
@@ -80,7 +80,7 @@ records-prefix : (ms ns : List Message) → IsPrefix ms ns → IsPrefix (records
 records-prefix ms ns p = (records_in p.0, ap records_in p.1 ∙ records_in-append ms p.0)
 
 -- files that are read by themselves, the last of them cut
-kept : (ps : List Part) (q : Part) (w more : List ℕ) → All IsReadAlone (ps ++ q ∷ []) → file_octets q ≡ w ++ more
+pub kept : (ps : List Part) (q : Part) (w more : List ℕ) → All IsReadAlone (ps ++ q ∷ []) → file_octets q ≡ w ++ more
     → All (λ file. IsOpen (stop_of file)) (map file_octets ps ++ w ∷ []) × IsPrefix (flat_map records_of (map file_octets ps ++ w ∷ [])) (records_in (all_given (ps ++ q ∷ [])))
 kept [] q w more all is =
     let one = All-head IsReadAlone q [] all in
@@ -144,12 +144,12 @@ consumed_all before (Some left) whole gave is some end =
     let all : whole ≡ gave ++ left = subst (λ b. Consumes b (Some left) gave) is some in
     sym (all ∙ ap (λ (w : List ℕ). gave ++ w) (end left refl) ∙ append-nil gave)
 
-pub recorded_all : {S F C : Type 0} (seen : S → SourceView) (view : F → FilesView) (asked : C → ClockView) (limit most : ℕ) (before after : S) (first last : F) (clock then : C) (text : List ℕ) (start c : Contents) (s : RecordedSession)
+pub recorded_all : {S F C : Type 0} (seen : S → SourceView) (view : F → FilesView) (asked : C → ClockView) (limit : ℕ) (before after : S) (first last : F) (clock then : C) (text : List ℕ) (start c : Contents) (s : RecordedSession)
     → ((seen after).ended ≡ true → ForSome (seen after).text (λ xs. xs ≡ []))
-    → RecordsSession seen view asked limit most before after first last clock then s → s.ended ≡ Ok tt → (seen before).text ≡ Some text
+    → RecordsSession seen view asked limit before after first last clock then s → s.ended ≡ Ok tt → (seen before).text ≡ Some text
     → (view first).contents ≡ Some start → start.finished ≡ [] → (view last).contents ≡ Some c
     → (stop_of text ≡ Clean) × All (λ file. stop_of file ≡ Clean) (all_of c) × (flat_map records_of (all_of c) ≡ records_of text)
-recorded_all seen view asked limit most before after first last clock then text start c s at_end r ok is is_first none now =
+recorded_all seen view asked limit before after first last clock then text start c s at_end r ok is is_first none now =
     let due : IsDue None limit r.gave (seen before) (seen after) = subst (λ (a : Result (Unit {0}) RecordFault). IsDue (fault_of a) limit r.gave (seen before) (seen after)) ok r.given.fault_is_due in
     let holds : HoldsAll (IsTold s) r.gave (finished_by r.reads) (view first) (view last) =
     subst (λ (a : Result (Unit {0}) RecordFault). HoldsBy (IsTold s) a r.gave (octets_before r.reads) (finished_by r.reads) (view first) (view last)) ok r.holds in

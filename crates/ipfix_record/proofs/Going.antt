@@ -67,11 +67,11 @@ reports-push before (q ∷ ps) p =
 abbrev pub empty_part : Part
 empty_part = record { messages = []; given = []; file = [] }
 
-stands_first : (o : Option Contents) → IsEmpty o → Stands o o [] empty_part []
+pub stands_first : (o : Option Contents) → IsEmpty o → Stands o o [] empty_part []
 stands_first None none = tt
 stands_first (Some c) none = (sym (append-nil c.finished), sym (append-nil c.reports), none)
 
-stands_more : (first v after : Option Contents) (finished : List Part) (last next : Part) (octets : List ℕ) → after ≡ option_map (grown octets) v → file_octets next ≡ file_octets last ++ octets → Stands first v finished last []
+pub stands_more : (first v after : Option Contents) (finished : List Part) (last next : Part) (octets : List ℕ) → after ≡ option_map (grown octets) v → file_octets next ≡ file_octets last ++ octets → Stands first v finished last []
     → Stands first after finished next []
 stands_more first v after finished last next octets is longer stands = subst (λ (o : Option Contents). Stands first o finished next []) (sym is) (by_cases first v stands)
   where
@@ -81,7 +81,7 @@ stands_more first v after finished last next octets is longer stands = subst (λ
     by_cases (Some f) None h = absurd h
     by_cases (Some f) (Some c) h = (h.0, h.1, ap (λ (w : List ℕ). w ++ octets) (h.2 ∙ append-nil (file_octets last)) ∙ sym longer ∙ sym (append-nil (file_octets next)))
 
-stands_cut : (first v after : Option Contents) (finished : List Part) (last : Part) (octets : List ℕ) → after ≡ option_map (grown octets) v → Stands first v finished last [] → Stands first after finished last octets
+pub stands_cut : (first v after : Option Contents) (finished : List Part) (last : Part) (octets : List ℕ) → after ≡ option_map (grown octets) v → Stands first v finished last [] → Stands first after finished last octets
 stands_cut first v after finished last octets is stands = subst (λ (o : Option Contents). Stands first o finished last octets) (sym is) (by_cases first v stands)
   where
     by_cases : (f o : Option Contents) → Stands f o finished last [] → Stands f (option_map (grown octets) o) finished last octets
@@ -90,7 +90,7 @@ stands_cut first v after finished last octets is stands = subst (λ (o : Option 
     by_cases (Some f) None h = absurd h
     by_cases (Some f) (Some c) h = (h.0, h.1, ap (λ (w : List ℕ). w ++ octets) (h.2 ∙ append-nil (file_octets last)))
 
-stands_turned : (first v after : Option Contents) (finished : List Part) (last : Part) (report : FileReport) → after ≡ option_map (turned report) v → report ≡ file_report (all_given finished) last.given → Stands first v finished last []
+pub stands_turned : (first v after : Option Contents) (finished : List Part) (last : Part) (report : FileReport) → after ≡ option_map (turned report) v → report ≡ file_report (all_given finished) last.given → Stands first v finished last []
     → Stands first after (parts finished last) empty_part []
 stands_turned first v after finished last report is reported stands = subst (λ (o : Option Contents). Stands first o (parts finished last) empty_part []) (sym is) (by_cases first v stands)
   where

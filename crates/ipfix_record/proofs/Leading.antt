@@ -2,7 +2,7 @@
 use Rattle.std.proofs.Common.{◌≡◌, ℕ, ◌^◌, ◌<◌, Bool, true, false, cond, eqb, is_some, List, [], ◌++◌, Option, Some, None, refl, sym, ap, subst, ◌∙◌}
 use Rattle.std.specs.Prelude.{Result, Ok, Err, OnOk, ◌||◌, ◌&&◌, not, All}
 use Rattle.std.specs.Map.{lookup}
-use Rattle.std.specs.Option.{unwrap_or, option_and_then}
+use Rattle.std.specs.Option.{unwrap_or, option_and_then, option_flatten}
 use Rattle.std.specs.Ordering.{nat_cmp}
 use Rattle.std.specs.BTreeMap.{BTreeMap, get, values, IsOrdered}
 use Rattle.std.proofs.lemmas.List.{append-nil}
@@ -132,3 +132,11 @@ all_found ds d o m some ordered same = map_in_force m (events_in ds d) ordered (
 -- a preamble of no templates is a message without sets
 pub bare : (old new : List ℕ) (s : Stamp) → new ≡ old ++ templates_message s [] → new ≡ old ++ octets_of (preamble s [])
 bare old new s is = is ∙ ap (λ (w : List ℕ). old ++ w) (sym (append-nil (templates_message s [])))
+
+-- the sequence number that is due
+pub due_is : (s : State) (before here : List Message) (d : ℕ) → Keeps s before here → option_flatten (lookup (eqb d) s.due) ≡ due_of (messages_of d (before ++ here))
+due_is s before here d keeps = by_cases (has (before ++ here) d) refl (keeps.due d)
+  where
+    by_cases : (b : Bool) → has (before ++ here) d ≡ b → lookup (eqb d) s.due ≡ cond b (Some (due_of (messages_of d (before ++ here)))) None → option_flatten (lookup (eqb d) s.due) ≡ due_of (messages_of d (before ++ here))
+    by_cases true e is = ap option_flatten is
+    by_cases false e is = ap option_flatten is ∙ sym (ap due_of (own_none d (before ++ here) e))

@@ -14,6 +14,7 @@ use Rattle.ipfix_session.specs.MessageStream.{rest_stop}
 use Rattle.ipfix_session.specs.Given.{stop_of, IsOpen}
 use Rattle.ipfix_session.specs.Intake.{IsRest}
 use Rattle.ipfix_session.specs.Sources.{SourceView, IsRead, one_more}
+use Rattle.ipfix_session.specs.declared.driver.TheConstants.{READ_SIZE}
 use Rattle.ipfix_session.specs.Drives.{IsDue, StopsAtFault}
 use Rattle.ipfix_session.proofs.Cut.{next_stop}
 use Rattle.ipfix_session.proofs.Reaching.{never_clean}
@@ -117,9 +118,9 @@ module _ {S C : Type 0} (seen : S → SourceView) (asked : C → ClockView) wher
 
   -- ---- nothing is read after a fault
 
-  stops_at : (most n : ℕ) (before now after : S) (start clock : C) (first v : FilesView) (s : State) (c : Told) (left : List ℕ) (d : Reading n before now start clock first v s c left) (gave piece : List ℕ)
-      → (seen after).reads ≤ (seen now).reads + 1 → gave ≡ octets_read d.reads ++ piece → length piece ≤ most → StopsAtFault seen most before gave after
-  stops_at most n before now after start clock first v s c left d gave piece few is fits =
+  stops_at : (n : ℕ) (before now after : S) (start clock : C) (first v : FilesView) (s : State) (c : Told) (left : List ℕ) (d : Reading n before now start clock first v s c left) (gave piece : List ℕ)
+      → (seen after).reads ≤ (seen now).reads + 1 → gave ≡ octets_read d.reads ++ piece → length piece ≤ READ_SIZE → StopsAtFault seen before gave after
+  stops_at n before now after start clock first v s c left d gave piece few is fits =
       record {
         at = now;
         earlier = octets_read d.reads;
@@ -159,12 +160,12 @@ short_is (b ∷ w) Short some e is_open = refl
 short_is (b ∷ w) (Fault f) some e is_open = absurd is_open
 
 module _ {S F C : Type 0} (seen : S → SourceView) (view : F → FilesView) (asked : C → ClockView) where
-  pub records_fault : (limit most n : ℕ) (before now after : S) (first last more : F) (start clock then : C) (s : State) (c e : Told) (left piece : List ℕ) (is_over : Bool) (f : RecordFault)
-      → (d : Reading seen asked n before now start clock (view first) (view last) s c left) → n < limit → length piece ≤ most → ReadsOn (seen now) (seen after) piece → IsAnswer (asked clock) is_over (asked then)
+  pub records_fault : (limit n : ℕ) (before now after : S) (first last more : F) (start clock then : C) (s : State) (c e : Told) (left piece : List ℕ) (is_over : Bool) (f : RecordFault)
+      → (d : Reading seen asked n before now start clock (view first) (view last) s c left) → n < limit → length piece ≤ READ_SIZE → ReadsOn (seen now) (seen after) piece → IsAnswer (asked clock) is_over (asked then)
       → GoesNoFurther f (octets_read d.reads ++ piece) (octets_read d.reads) (finished_at is_over (octets_read d.reads) (finished_by d.reads)) (view first) (view more) e
-      → RecordsTo seen view asked limit most before after first more start then (Err f) (Counted e)
+      → RecordsTo seen view asked limit before after first more start then (Err f) (Counted e)
   unfolding stops_at
-  records_fault limit most n before now after first last more start clock then s c e left piece is_over f d less room on answer g =
+  records_fault limit n before now after first last more start clock then s c e left piece is_over f d less room on answer g =
       let gave = octets_read d.reads ++ piece in
       let files = finished_at is_over (octets_read d.reads) (finished_by d.reads) in
       record {
@@ -172,7 +173,7 @@ module _ {S F C : Type 0} (seen : S → SourceView) (view : F → FilesView) (as
         given = record {
           octets = Consumes-trans (seen before).text (seen now).text (seen after).text (octets_read d.reads) piece d.octets on.moved;
           within = omega (arith, d.within, on.counted, less);
-          stops = stops_at seen asked most n before now after start clock (view first) (view last) s c left d gave piece (omega (arith, on.counted)) refl room;
+          stops = stops_at seen asked n before now after start clock (view first) (view last) s c left d gave piece (omega (arith, on.counted)) refl room;
           fault_is_due = due_by limit (seen before) (seen after) gave (octets_read d.reads) files (view first) (view more) e f g;
         };
         reads = asked_read seen asked piece is_over after then ∷ d.reads;
@@ -184,19 +185,19 @@ module _ {S F C : Type 0} (seen : S → SourceView) (view : F → FilesView) (as
       }
 
   -- the last read gave nothing
-  records_still : (limit most n : ℕ) (before now after : S) (first last : F) (start clock : C) (s : State) (c : Told) (left : List ℕ) (answer : Result (Unit {0}) RecordFault)
+  records_still : (limit n : ℕ) (before now after : S) (first last : F) (start clock : C) (s : State) (c : Told) (left : List ℕ) (answer : Result (Unit {0}) RecordFault)
       → (d : Reading seen asked n before now start clock (view first) (view last) s c left) → Consumes (seen before).text (seen after).text (octets_read d.reads) → (seen after).reads ≤ (seen before).reads + limit
       → (seen after).reads ≤ (seen now).reads + 1 → IsDue (fault_of answer) limit (octets_read d.reads) (seen before) (seen after) → HoldsBy (Counted c) answer (octets_read d.reads) (octets_before d.reads) (finished_by d.reads) (view first) (view last)
-      → RecordsTo seen view asked limit most before after first last start clock answer (Counted c)
+      → RecordsTo seen view asked limit before after first last start clock answer (Counted c)
   unfolding stops_at
-  records_still limit most n before now after first last start clock s c left answer d octets within few due holds =
+  records_still limit n before now after first last start clock s c left answer d octets within few due holds =
       let gave = octets_read d.reads in
       record {
         gave = gave;
         given = record {
           octets = octets;
           within = within;
-          stops = stops_at seen asked most n before now after start clock (view first) (view last) s c left d gave [] few (sym (append-nil gave)) (omega arith);
+          stops = stops_at seen asked n before now after start clock (view first) (view last) s c left d gave [] few (sym (append-nil gave)) (omega arith);
           fault_is_due = due;
         };
         reads = d.reads;
@@ -209,10 +210,10 @@ module _ {S F C : Type 0} (seen : S → SourceView) (view : F → FilesView) (as
 
   -- ---- the end of the source
 
-  pub records_ended : (limit most n count : ℕ) (before now after : S) (first last : F) (start clock : C) (s : State) (c : Told) (left buffer : List ℕ) (answer : Result (Unit {0}) RecordFault)
+  pub records_ended : (limit n count : ℕ) (before now after : S) (first last : F) (start clock : C) (s : State) (c : Told) (left buffer : List ℕ) (answer : Result (Unit {0}) RecordFault)
       → (d : Reading seen asked n before now start clock (view first) (view last) s c left) → n < limit → IsRead (seen now) (Ok count) (seen after) buffer → count ≡ 0 → 0 < length buffer
-      → MatchResult answer (λ _. left ≡ []) (λ fault. (fault ≡ Truncated) × (0 < length left)) → RecordsTo seen view asked limit most before after first last start clock answer (Counted c)
-  records_ended limit most n count before now after first last start clock s c left buffer answer d less read none room is =
+      → MatchResult answer (λ _. left ≡ []) (λ fault. (fault ≡ Truncated) × (0 < length left)) → RecordsTo seen view asked limit before after first last start clock answer (Counted c)
+  records_ended limit n count before now after first last start clock s c left buffer answer d less read none room is =
       let gave = octets_read d.reads in
       let files = finished_by d.reads in
       let same : List ℕ → Type 0 = λ g. Consumes (seen before).text (seen after).text g in
@@ -226,39 +227,39 @@ module _ {S F C : Type 0} (seen : S → SourceView) (view : F → FilesView) (as
     where
       by_answer : (r : Result (Unit {0}) RecordFault) → Consumes (seen before).text (seen after).text (octets_read d.reads) → stop_of (octets_read d.reads) ≡ d.rest.stop → rest_stop left ≡ d.rest.stop → (seen after).ended ≡ true
           → (seen after).failed ≡ (seen before).failed → HoldsAll (Counted c) (octets_read d.reads) (finished_by d.reads) (view first) (view last)
-          → MatchResult r (λ _. left ≡ []) (λ fault. (fault ≡ Truncated) × (0 < length left)) → RecordsTo seen view asked limit most before after first last start clock r (Counted c)
+          → MatchResult r (λ _. left ≡ []) (λ fault. (fault ≡ Truncated) × (0 < length left)) → RecordsTo seen view asked limit before after first last start clock r (Counted c)
       by_answer (Ok x) octets stop at ended failed all none_left =
-          records_still limit most n before now after first last start clock s c left (Ok x) d octets (omega (arith, d.within, read.counted, less)) (omega (arith, read.counted))
+          records_still limit n before now after first last start clock s c left (Ok x) d octets (omega (arith, d.within, read.counted, less)) (omega (arith, read.counted))
           (stop ∙ sym at ∙ ap rest_stop none_left, ended, failed) all
       by_answer (Err f) octets stop at ended failed all both =
-          subst (λ (g : RecordFault). RecordsTo seen view asked limit most before after first last start clock (Err g) (Counted c)) (sym both.0)
-          (records_still limit most n before now after first last start clock s c left (Err Truncated) d octets (omega (arith, d.within, read.counted, less)) (omega (arith, read.counted))
+          subst (λ (g : RecordFault). RecordsTo seen view asked limit before after first last start clock (Err g) (Counted c)) (sym both.0)
+          (records_still limit n before now after first last start clock s c left (Err Truncated) d octets (omega (arith, d.within, read.counted, less)) (omega (arith, read.counted))
           (stop ∙ short_is left d.rest.stop both.1 at d.rest.is_open, ended, failed) all)
 
-  pub records_failed : (limit most n : ℕ) (before now after : S) (first last : F) (start clock : C) (s : State) (c : Told) (left buffer : List ℕ) → (d : Reading seen asked n before now start clock (view first) (view last) s c left)
-      → n < limit → IsRead (seen now) (Err Failed) (seen after) buffer → RecordsTo seen view asked limit most before after first last start clock (Err ReadFailed) (Counted c)
-  records_failed limit most n before now after first last start clock s c left buffer d less read =
+  pub records_failed : (limit n : ℕ) (before now after : S) (first last : F) (start clock : C) (s : State) (c : Told) (left buffer : List ℕ) → (d : Reading seen asked n before now start clock (view first) (view last) s c left)
+      → n < limit → IsRead (seen now) (Err Failed) (seen after) buffer → RecordsTo seen view asked limit before after first last start clock (Err ReadFailed) (Counted c)
+  records_failed limit n before now after first last start clock s c left buffer d less read =
       let gave = octets_read d.reads in
-      records_still limit most n before now after first last start clock s c left (Err ReadFailed) d
+      records_still limit n before now after first last start clock s c left (Err ReadFailed) d
       (Consumes-kept (seen before).text (seen now).text (seen after).text gave d.octets read.moved) (omega (arith, d.within, read.counted, less)) (omega (arith, read.counted))
       (open_yet gave (finished_by d.reads) (view first) (view last) s c left d.between d.rest, read.failures ∙ ap one_more d.none_failed) (all_held gave (finished_by d.reads) (view first) (view last) s c left d.between d.rest)
 
-  pub records_limit : (limit most n : ℕ) (before now : S) (first last : F) (start clock : C) (s : State) (c : Told) (left : List ℕ) → (d : Reading seen asked n before now start clock (view first) (view last) s c left) → n ≡ limit
-      → RecordsTo seen view asked limit most before now first last start clock (Err TooManyReads) (Counted c)
-  records_limit limit most n before now first last start clock s c left d all =
+  pub records_limit : (limit n : ℕ) (before now : S) (first last : F) (start clock : C) (s : State) (c : Told) (left : List ℕ) → (d : Reading seen asked n before now start clock (view first) (view last) s c left) → n ≡ limit
+      → RecordsTo seen view asked limit before now first last start clock (Err TooManyReads) (Counted c)
+  records_limit limit n before now first last start clock s c left d all =
       let gave = octets_read d.reads in
-      records_still limit most n before now now first last start clock s c left (Err TooManyReads) d d.octets (omega (arith, d.within, all)) (omega arith)
+      records_still limit n before now now first last start clock s c left (Err TooManyReads) d d.octets (omega (arith, d.within, all)) (omega arith)
       (open_yet gave (finished_by d.reads) (view first) (view last) s c left d.between d.rest, subst (λ (k : ℕ). ((seen now).reads ≡ (seen before).reads + k) ⊎ ((seen now).reads ≡ 2 ^ 64 - 1)) all d.counted, d.none_failed, d.not_ended)
       (all_held gave (finished_by d.reads) (view first) (view last) s c left d.between d.rest)
 
   -- ---- no memory for a buffer
 
-  pub records_nowhere : (limit most : ℕ) (source : S) (files : F) (clock : C) (s : State) (c : Told) → IsFresh s c → IsEmpty (view files).contents
-      → RecordsTo seen view asked limit most source source files files clock clock (Err (OfMessage OutOfMemory)) (Counted c)
+  pub records_nowhere : (limit : ℕ) (source : S) (files : F) (clock : C) (s : State) (c : Told) → IsFresh s c → IsEmpty (view files).contents
+      → RecordsTo seen view asked limit source source files files clock clock (Err (OfMessage OutOfMemory)) (Counted c)
   unfolding reading_first
-  records_nowhere limit most source files clock s c new fresh =
+  records_nowhere limit source files clock s c new fresh =
       let d = reading_first seen asked source clock (view files) s c [] refl new fresh in
-      records_still limit most 0 source source source files files clock clock s c [] (Err (OfMessage OutOfMemory)) d d.octets (omega arith) (omega arith) tt
+      records_still limit 0 source source source files files clock clock s c [] (Err (OfMessage OutOfMemory)) d d.octets (omega arith) (omega arith) tt
       (out_behind [] [] (view files) (view files) s c [] d.between d.rest)
 
 -- ---- other words for what is told
@@ -299,9 +300,9 @@ module _ {told tells : List Message → List Message → Type 0} (goes : (before
   by_told (Err ReadFailed) text earlier files first after h = all_told text files first after h
   by_told (Err TooManyReads) text earlier files first after h = all_told text files first after h
 
-  pub records_told : {S F C : Type 0} (seen : S → SourceView) (view : F → FilesView) (asked : C → ClockView) (limit most : ℕ) (before after : S) (first last : F) (start clock : C) (answer : Result (Unit {0}) RecordFault)
-      → RecordsTo seen view asked limit most before after first last start clock answer told → RecordsTo seen view asked limit most before after first last start clock answer tells
-  records_told seen view asked limit most before after first last start clock answer r = record {
+  pub records_told : {S F C : Type 0} (seen : S → SourceView) (view : F → FilesView) (asked : C → ClockView) (limit : ℕ) (before after : S) (first last : F) (start clock : C) (answer : Result (Unit {0}) RecordFault)
+      → RecordsTo seen view asked limit before after first last start clock answer told → RecordsTo seen view asked limit before after first last start clock answer tells
+  records_told seen view asked limit before after first last start clock answer r = record {
     gave = r.gave;
     given = r.given;
     reads = r.reads;

@@ -124,10 +124,10 @@ fault_of (Err NotWritten) = Some faults.SinkClosed
 
 -- a source gave octets up to this answer, which is due, and the files hold their messages, which are told; a file is finished
 -- where the clock, asked behind each read, tells that the period is over
-pub record RecordsTo {S F C : Type 0} (seen : S → SourceView) (view : F → FilesView) (asked : C → ClockView) (limit most : ℕ) (before after : S) (first last : F) (start end : C)
+pub record RecordsTo {S F C : Type 0} (seen : S → SourceView) (view : F → FilesView) (asked : C → ClockView) (limit : ℕ) (before after : S) (first last : F) (start end : C)
     (answer : Result (Unit {0}) RecordFault) (told : List Message → List Message → Type 0) : Type 0 where
   pub gave : List ℕ
-  pub given : Gave seen limit most before gave after (fault_of answer)
+  pub given : Gave seen limit before gave after (fault_of answer)
   -- behind each read that gave octets, or was interrupted, the clock was asked once, and not otherwise
   pub reads : List (AskedRead S C)
   pub are_reads : AreAskedReads seen asked before start reads
@@ -143,5 +143,5 @@ pub record IsTold (r : RecordedSession) (before here : List Message) : Type 0 wh
   pub last : r.last ≡ file_report before here
 
 -- and the reports tell them
-abbrev pub RecordsSession : {S F C : Type 0} → (S → SourceView) → (F → FilesView) → (C → ClockView) → ℕ → ℕ → S → S → F → F → C → C → RecordedSession → Type 0
-RecordsSession seen view asked limit most before after first last start end r = RecordsTo seen view asked limit most before after first last start end r.ended (IsTold r)
+abbrev pub RecordsSession : {S F C : Type 0} → (S → SourceView) → (F → FilesView) → (C → ClockView) → ℕ → S → S → F → F → C → C → RecordedSession → Type 0
+RecordsSession seen view asked limit before after first last start end r = RecordsTo seen view asked limit before after first last start end r.ended (IsTold r)

@@ -76,9 +76,9 @@ pub fn fault_numbers()
 /// A recording that ended without a fault: the source's text is whole messages, each file is read by
 /// itself, with no fault, and one after another they give all records of the text.
 pub fn recorded_to_the_end<S: Source, F: FileSeries, C: PeriodClock>()
-    ensures { (limit most : ℕ) (before after : S) (first last : F) (clock then : C) (text : List ℕ)
+    ensures { (limit : ℕ) (before after : S) (first last : F) (clock then : C) (text : List ℕ)
         (start now : Contents) (r : RecordedSession)
-        → RecordsSession S.seen F.seen C.asked limit most before after first last clock then r
+        → RecordsSession S.seen F.seen C.asked limit before after first last clock then r
         → r.ended ≡ Ok tt
         → (S.seen before).text ≡ Some text
         → (F.seen first).contents ≡ Some start → start.finished ≡ []

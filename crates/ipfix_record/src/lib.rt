@@ -34,4 +34,5 @@ pub use recorded_session::RecordedSession;
 pub use recorder::Recorder;
 pub use recording::record;
 pub use script_clock::ScriptClock;
+pub use session_counts::SessionCounts;
 pub use ticking_source::TickingSource;

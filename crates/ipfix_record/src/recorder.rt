@@ -6,6 +6,7 @@ ghost use Rattle.ipfix_wire.specs.declared.header.Header.{Header as HeaderValue}
 ghost use Rattle.ipfix_message.specs.Domains.{Message, message_header, message_gives};
 ghost use Rattle.ipfix_message.specs.Outcome.{Fails};
 ghost use Rattle.ipfix_session.specs.Given.{known_after};
+ghost use Rattle.ipfix_session.specs.Ledger.{messages_of, due_of};
 ghost use Rattle.ipfix_record.specs.Recorders.{Keeps, Leading, Records, due_for};
 
 use crate::message_count::MessageCount;
@@ -73,6 +74,14 @@ impl Recorder {
         ensures { result.now ≡ self.now.domains }
     {
         &self.domains
+    }
+
+    /// The sequence number that is due in a domain; `None` if none is known there.
+    pub fn due(&self, domain: u32) -> Option<u32>
+        ensures { (before here : List Message) → Keeps self.now before here
+            → result ≡ due_of (messages_of domain (before ++ here)) }
+    {
+        self.due.get(&domain).copied().flatten()
     }
 
     // Appends what stands before a message that begins its domain again.

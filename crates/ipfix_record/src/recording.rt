@@ -56,7 +56,7 @@ pub fn record<S: Source, F: FileSeries, C: PeriodClock>(
     limit: u64,
 ) -> RecordedSession
     ensures { IsEmpty (F.seen files.old).contents
-        → RecordsSession S.seen F.seen C.asked limit READ_SIZE source.old source.new
+        → RecordsSession S.seen F.seen C.asked limit source.old source.new
         files.old files.new clock.old clock.new result }
 {
     let mut gathering = Gathering::new(alloc);
@@ -75,7 +75,7 @@ fn record_gathering<S: Source, F: FileSeries, C: PeriodClock>(
 ) -> Result<(), RecordFault>
     ensures { IsFresh gathering.old.recorder gathering.old.counts.told
         → IsEmpty (F.seen files.old).contents
-        → RecordsTo S.seen F.seen C.asked limit READ_SIZE source.old source.new
+        → RecordsTo S.seen F.seen C.asked limit source.old source.new
         files.old files.new clock.old clock.new result (Counted gathering.new.counts.told) }
 {
     match vec![in alloc; 0; READ_SIZE] {
@@ -103,10 +103,10 @@ fn record_through<S: Source, F: FileSeries, C: PeriodClock>(
     buffer: &mut [u8],
 ) -> Result<(), RecordFault>
     requires { 0 < length buffer.old }
-    ensures { (most : ℕ) → length buffer.old ≤ most
+    ensures { length buffer.old ≤ READ_SIZE
         → IsFresh gathering.old.recorder gathering.old.counts.told
         → IsEmpty (F.seen files.old).contents
-        → RecordsTo S.seen F.seen C.asked limit most source.old source.new
+        → RecordsTo S.seen F.seen C.asked limit source.old source.new
         files.old files.new clock.old clock.new result (Counted gathering.new.counts.told) }
 {
     let mut begun = Vec::new(alloc);

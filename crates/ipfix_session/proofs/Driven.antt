@@ -19,11 +19,11 @@ use Rattle.ipfix_session.specs.Drives.{IsDue, IsGiven, PutsUpTo, Drives, TakesGi
 use Rattle.ipfix_session.proofs.Giving.{gives-prefix}
 use Rattle.ipfix_session.proofs.Reaching.{takes-append}
 
-module _ {S K : Type 0} (seen : S → SourceView) (view : SinkView K) (limit most : ℕ) (before after : S) (first last : K) (r : SessionReport) where
+module _ {S K : Type 0} (seen : S → SourceView) (view : SinkView K) (limit : ℕ) (before after : S) (first last : K) (r : SessionReport) where
   -- these messages count, and their records were put
-  given_whole : (d : Drives seen view limit most before after first last r) (whole : List Message) → IsPrefix whole (gives d.gave).messages → (r.fault ≢ Some (faults.Message OutOfMemory) → whole ≡ (gives d.gave).messages)
+  given_whole : (d : Drives seen view limit before after first last r) (whole : List Message) → IsPrefix whole (gives d.gave).messages → (r.fault ≢ Some (faults.Message OutOfMemory) → whole ≡ (gives d.gave).messages)
       → IsPrefix (gives d.given.stops.earlier).messages whole → r.fault ≢ Some faults.SinkClosed → PutsWhole view (gives d.given.stops.earlier).messages whole d.middle last (Reports r)
-      → TakesGiven seen view limit most before after first last r
+      → TakesGiven seen view limit before after first last r
   given_whole d whole some all from taken p =
       record {
         records = records_in whole;
@@ -42,17 +42,17 @@ module _ {S K : Type 0} (seen : S → SourceView) (view : SinkView K) (limit mos
       }
 
   -- all messages count
-  given_all : (d : Drives seen view limit most before after first last r) → r.fault ≢ Some faults.SinkClosed → PutsWhole view (gives d.given.stops.earlier).messages (gives d.gave).messages d.middle last (Reports r)
-      → TakesGiven seen view limit most before after first last r
+  given_all : (d : Drives seen view limit before after first last r) → r.fault ≢ Some faults.SinkClosed → PutsWhole view (gives d.given.stops.earlier).messages (gives d.gave).messages d.middle last (Reports r)
+      → TakesGiven seen view limit before after first last r
   given_all d taken p =
       let all = (gives d.gave).messages in
       let stops = d.given.stops in
       given_whole d all ([], sym (append-nil all)) (λ _. refl) (subst (λ (w : List ℕ). IsPrefix (gives stops.earlier).messages (gives w).messages) (sym stops.is) (gives-prefix stops.earlier stops.last)) taken p
 
   -- by the fault
-  given_by : (d : Drives seen view limit most before after first last r) (fault : Option SessionFault) → r.fault ≡ fault → r.fault ≢ Some faults.SinkClosed
+  given_by : (d : Drives seen view limit before after first last r) (fault : Option SessionFault) → r.fault ≡ fault → r.fault ≢ Some faults.SinkClosed
       → PutsUpTo view fault (gives d.given.stops.earlier).messages (gives d.gave).messages d.middle last (Reports r)
-      → TakesGiven seen view limit most before after first last r
+      → TakesGiven seen view limit before after first last r
   given_by d None is taken p = given_all d taken p
   given_by d (Some faults.Truncated) is taken p = given_all d taken p
   given_by d (Some faults.ReadFailed) is taken p = given_all d taken p
@@ -61,7 +61,7 @@ module _ {S K : Type 0} (seen : S → SourceView) (view : SinkView K) (limit mos
   given_by d (Some (faults.Message e)) is taken p = given_all d taken p
   given_by d (Some faults.SinkClosed) is taken p = absurd (taken is)
 
-  pub driven_is_given : Drives seen view limit most before after first last r → r.fault ≢ Some faults.SinkClosed → TakesGiven seen view limit most before after first last r
+  pub driven_is_given : Drives seen view limit before after first last r → r.fault ≢ Some faults.SinkClosed → TakesGiven seen view limit before after first last r
   driven_is_given d taken = given_by d r.fault refl taken d.puts
 
   -- a sink that gave none back at all didn't close
@@ -73,7 +73,7 @@ module _ {S K : Type 0} (seen : S → SourceView) (view : SinkView K) (limit mos
   closed_not (Some (faults.Message e)) old all middle told none p = λ e. cc e
   closed_not (Some faults.SinkClosed) old all middle told none p = absurd (omega (arith, p.back, none))
 
-  pub driven_took_all : Drives seen view limit most before after first last r → view.refused last ≡ 0 → TakesGiven seen view limit most before after first last r
+  pub driven_took_all : Drives seen view limit before after first last r → view.refused last ≡ 0 → TakesGiven seen view limit before after first last r
   driven_took_all d none = driven_is_given d (closed_not r.fault _ _ _ _ none d.puts)
 
 -- ---- a session without a fault
@@ -84,10 +84,10 @@ consumed_all before (Some left) whole gave is some end =
     let all : whole ≡ gave ++ left = subst (λ b. Consumes b (Some left) gave) is some in
     sym (all ∙ ap (λ (w : List ℕ). gave ++ w) (end left refl) ∙ append-nil gave)
 
-pub given_all_of : {S : Type 0} (seen : S → SourceView) (limit most : ℕ) (before after : S) (r : SessionReport) (records : List DataRecord) (whole : List ℕ)
+pub given_all_of : {S : Type 0} (seen : S → SourceView) (limit : ℕ) (before after : S) (r : SessionReport) (records : List DataRecord) (whole : List ℕ)
     → ((seen after).ended ≡ true → ForSome (seen after).text (λ xs. xs ≡ []))
-    → IsGiven seen limit most before after r records → r.fault ≡ None → (seen before).text ≡ Some whole → (stop_of whole ≡ Clean) × (records ≡ records_of whole)
-given_all_of seen limit most before after r records whole at_end g none is =
+    → IsGiven seen limit before after r records → r.fault ≡ None → (seen before).text ≡ Some whole → (stop_of whole ≡ Clean) × (records ≡ records_of whole)
+given_all_of seen limit before after r records whole at_end g none is =
     let due : IsDue None limit g.gave (seen before) (seen after) = subst (λ (o : Option SessionFault). IsDue o limit g.gave (seen before) (seen after)) none g.given.fault_is_due in
     let all : g.gave ≡ whole = consumed_all (seen before).text (seen after).text whole g.gave is g.given.octets (at_end due.1) in
     let memory : r.fault ≢ Some (faults.Message OutOfMemory) = λ e. let no : None ≡ Some (faults.Message OutOfMemory) = sym none ∙ e in cc in

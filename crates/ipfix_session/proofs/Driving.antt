@@ -19,6 +19,7 @@ use Rattle.ipfix_session.specs.Given.{Given, gives, records_in, records_of, stop
 use Rattle.ipfix_session.specs.Sources.{SourceView, IsRead, one_more, tells_end}
 use Rattle.ipfix_session.specs.Sinks.{SinkView, Takes}
 use Rattle.ipfix_session.specs.Feeding.{State, Tells, fault_at, StandsForText, PutsWhole, PutsAll, RunsOut, Feeds}
+use Rattle.ipfix_session.specs.declared.driver.TheConstants.{READ_SIZE}
 use Rattle.ipfix_session.specs.Drives.{IsDue, StopsAtFault, PutsUpTo, DrivesTo}
 use Rattle.ipfix_session.proofs.Reaching.{takes-append, takes-none, gives_first, may_go_on}
 
@@ -105,9 +106,9 @@ driving_again view n before now after first last s buffer d read =
 -- ---- nothing is read after a fault
 
 -- all octets so far have no fault, and the last read, if there was one more, gave these
-stops_at : {S K : Type 0} (seen : S → SourceView) (view : SinkView K) (most n : ℕ) (before now after : S) (first last : K) (s : State) (d : Driving view n (seen before) (seen now) first last s) (gave piece : List ℕ)
-    → (seen after).reads ≤ (seen now).reads + 1 → gave ≡ d.gave ++ piece → length piece ≤ most → StopsAtFault seen most before gave after
-stops_at seen view most n before now after first last s d gave piece few is fits =
+stops_at : {S K : Type 0} (seen : S → SourceView) (view : SinkView K) (n : ℕ) (before now after : S) (first last : K) (s : State) (d : Driving view n (seen before) (seen now) first last s) (gave piece : List ℕ)
+    → (seen after).reads ≤ (seen now).reads + 1 → gave ≡ d.gave ++ piece → length piece ≤ READ_SIZE → StopsAtFault seen before gave after
+stops_at seen view n before now after first last s d gave piece few is fits =
     record {
       at = now;
       earlier = d.gave;
@@ -121,8 +122,8 @@ stops_at seen view most n before now after first last s d gave piece few is fits
       size = fits;
     }
 
-pub read_fits : (most n : ℕ) (buffer : List ℕ) → n ≤ length buffer → length buffer ≤ most → length (take n buffer) ≤ most
-read_fits most n buffer fits room = let taken = length-take-le n buffer fits in omega (arith, taken, fits, room)
+pub read_fits : (n : ℕ) (buffer : List ℕ) → n ≤ length buffer → length buffer ≤ READ_SIZE → length (take n buffer) ≤ READ_SIZE
+read_fits n buffer fits room = let taken = length-take-le n buffer fits in omega (arith, taken, fits, room)
 
 -- ---- what is told
 
@@ -160,9 +161,9 @@ puts_told view fault old all before after told other tell = by_fault fault
           tells = tell b.whole _ b.tells;
         }
 
-pub drives_told : {S K : Type 0} (seen : S → SourceView) (view : SinkView K) (limit most : ℕ) (before after : S) (first last : K) (fault : Option SessionFault) (told other : List Message → ℕ → Type 0)
-    → ((ms : List Message) (d : ℕ) → told ms d → other ms d) → DrivesTo seen view limit most before after first last fault told → DrivesTo seen view limit most before after first last fault other
-drives_told seen view limit most before after first last fault told other tell d =
+pub drives_told : {S K : Type 0} (seen : S → SourceView) (view : SinkView K) (limit : ℕ) (before after : S) (first last : K) (fault : Option SessionFault) (told other : List Message → ℕ → Type 0)
+    → ((ms : List Message) (d : ℕ) → told ms d → other ms d) → DrivesTo seen view limit before after first last fault told → DrivesTo seen view limit before after first last fault other
+drives_told seen view limit before after first last fault told other tell d =
     record { gave = d.gave; given = d.given; middle = d.middle; earlier = d.earlier; puts = puts_told view fault _ _ d.middle last told other tell d.puts }
 
 -- ---- a piece after which the session has a fault
@@ -189,19 +190,19 @@ put_by view last more s gave piece told f tell fed = puts_told view (Some f) _ _
     by_fault faults.ReadFailed fed = absurd fed
     by_fault faults.TooManyReads fed = absurd fed
 
-pub drives_fault : {S K : Type 0} (seen : S → SourceView) (view : SinkView K) (limit most n count : ℕ) (before now after : S) (first last more : K) (s t : State) (buffer : List ℕ) (o : Option SessionFault) (told : List Message → ℕ → Type 0) (f : SessionFault)
-    → (d : Driving view n (seen before) (seen now) first last s) → n < limit → length buffer ≤ most → IsRead (seen now) (Ok count) (seen after) buffer → Feeds view (Err f) d.gave (take count buffer) last more t
+pub drives_fault : {S K : Type 0} (seen : S → SourceView) (view : SinkView K) (limit n count : ℕ) (before now after : S) (first last more : K) (s t : State) (buffer : List ℕ) (o : Option SessionFault) (told : List Message → ℕ → Type 0) (f : SessionFault)
+    → (d : Driving view n (seen before) (seen now) first last s) → n < limit → length buffer ≤ READ_SIZE → IsRead (seen now) (Ok count) (seen after) buffer → Feeds view (Err f) d.gave (take count buffer) last more t
     → ((ms : List Message) (delivered : ℕ) → Tells t.counts ms delivered → told ms delivered) → o ≡ Some f
-    → DrivesTo seen view limit most before after first more o told
+    → DrivesTo seen view limit before after first more o told
 unfolding stops_at
-drives_fault seen view limit most n count before now after first last more s t buffer o told f d less room read fed tell fault =
+drives_fault seen view limit n count before now after first last more s t buffer o told f d less room read fed tell fault =
     let piece = take count buffer in
     record {
       gave = d.gave ++ piece;
       given = record {
         octets = Consumes-trans (seen before).text (seen now).text (seen after).text d.gave piece d.octets read.moved;
         within = omega (arith, d.within, read.counted, less);
-        stops = stops_at seen view most n before now after first last s d (d.gave ++ piece) piece (omega (arith, read.counted)) refl (read_fits most count buffer read.fits room);
+        stops = stops_at seen view n before now after first last s d (d.gave ++ piece) piece (omega (arith, read.counted)) refl (read_fits count buffer read.fits room);
         fault_is_due = subst (λ (f : Option SessionFault). IsDue f limit (d.gave ++ piece) (seen before) (seen after)) (sym fault) (due_by view limit (seen before) (seen after) last more t d.gave piece f fed);
       };
       middle = last;
@@ -217,19 +218,19 @@ puts_none : {K : Type 0} (view : SinkView K) (k : K) (gave : List ℕ) (told : L
 puts_none view k gave told tells = record { put = []; takes = takes-none view k; records = sym (append-nil (records_of gave)); tells = tells }
 
 -- a source that gave nothing more, and why that was the last read
-drives_still : {S K : Type 0} (seen : S → SourceView) (view : SinkView K) (limit most n : ℕ) (before now after : S) (first last : K) (s : State) (o : Option SessionFault) (told : List Message → ℕ → Type 0)
+drives_still : {S K : Type 0} (seen : S → SourceView) (view : SinkView K) (limit n : ℕ) (before now after : S) (first last : K) (s : State) (o : Option SessionFault) (told : List Message → ℕ → Type 0)
     → (d : Driving view n (seen before) (seen now) first last s) → Consumes (seen before).text (seen after).text d.gave → (seen after).reads ≤ (seen before).reads + limit → (seen after).reads ≤ (seen now).reads + 1
     → IsDue o limit d.gave (seen before) (seen after)
     → PutsUpTo view o (gives d.gave).messages (gives d.gave).messages last last told
-    → DrivesTo seen view limit most before after first last o told
+    → DrivesTo seen view limit before after first last o told
 unfolding stops_at
-drives_still seen view limit most n before now after first last s o told d octets within few due puts =
+drives_still seen view limit n before now after first last s o told d octets within few due puts =
     record {
       gave = d.gave;
       given = record {
         octets = octets;
         within = within;
-        stops = stops_at seen view most n before now after first last s d d.gave [] few (sym (append-nil d.gave)) (omega arith);
+        stops = stops_at seen view n before now after first last s d d.gave [] few (sym (append-nil d.gave)) (omega arith);
         fault_is_due = due;
       };
       middle = last;
@@ -253,14 +254,14 @@ put_at view first last old all told Clean is_open puts = puts
 put_at view first last old all told Short is_open puts = puts
 put_at view first last old all told (Fault e) is_open puts = absurd is_open
 
-pub drives_ended : {S K : Type 0} (seen : S → SourceView) (view : SinkView K) (limit most n count : ℕ) (before now after : S) (first last : K) (s : State) (buffer : List ℕ) (o : Option SessionFault) (told : List Message → ℕ → Type 0)
+pub drives_ended : {S K : Type 0} (seen : S → SourceView) (view : SinkView K) (limit n count : ℕ) (before now after : S) (first last : K) (s : State) (buffer : List ℕ) (o : Option SessionFault) (told : List Message → ℕ → Type 0)
     → (d : Driving view n (seen before) (seen now) first last s) → n < limit → IsRead (seen now) (Ok count) (seen after) buffer → count ≡ 0 → 0 < length buffer → told (gives d.gave).messages (length (records_of d.gave)) → o ≡ end_of d.gave
-    → DrivesTo seen view limit most before after first last o told
-drives_ended seen view limit most n count before now after first last s buffer o told d less read none room tells is_fault =
+    → DrivesTo seen view limit before after first last o told
+drives_ended seen view limit n count before now after first last s buffer o told d less read none room tells is_fault =
     let is_open = may_go_on s d.gave d.stands d.no_fault in
     let same : List ℕ → Type 0 = λ gave. Consumes (seen before).text (seen after).text gave in
     let moved = subst (λ k. Consumes (seen now).text (seen after).text (take k buffer)) none read.moved in
-    drives_still seen view limit most n before now after first last s o told d
+    drives_still seen view limit n before now after first last s o told d
     (subst same (append-nil d.gave) (Consumes-trans (seen before).text (seen now).text (seen after).text d.gave [] d.octets moved)) (omega (arith, d.within, read.counted, less)) (omega (arith, read.counted))
     (subst (λ (f : Option SessionFault). IsDue f limit d.gave (seen before) (seen after)) (sym is_fault)
     (due_at limit (seen before) (seen after) d.gave (stop_of d.gave) refl is_open (told_end (seen now).ended (seen after).ended count buffer read.end none room) (read.failures ∙ d.none_failed)))
@@ -269,39 +270,39 @@ drives_ended seen view limit most n count before now after first last s buffer o
 
 -- ---- a read that failed
 
-pub drives_failed : {S K : Type 0} (seen : S → SourceView) (view : SinkView K) (limit most n : ℕ) (before now after : S) (first last : K) (s : State) (buffer : List ℕ) (o : Option SessionFault) (told : List Message → ℕ → Type 0)
+pub drives_failed : {S K : Type 0} (seen : S → SourceView) (view : SinkView K) (limit n : ℕ) (before now after : S) (first last : K) (s : State) (buffer : List ℕ) (o : Option SessionFault) (told : List Message → ℕ → Type 0)
     → (d : Driving view n (seen before) (seen now) first last s) → n < limit → IsRead (seen now) (Err Failed) (seen after) buffer
     → ((ms : List Message) (delivered : ℕ) → Tells s.counts ms delivered → told ms delivered) → o ≡ Some faults.ReadFailed
-    → DrivesTo seen view limit most before after first last o told
-drives_failed seen view limit most n before now after first last s buffer o told d less read tell fault =
-    drives_still seen view limit most n before now after first last s o told d
+    → DrivesTo seen view limit before after first last o told
+drives_failed seen view limit n before now after first last s buffer o told d less read tell fault =
+    drives_still seen view limit n before now after first last s o told d
     (Consumes-kept (seen before).text (seen now).text (seen after).text d.gave d.octets read.moved) (omega (arith, d.within, read.counted, less)) (omega (arith, read.counted))
     (subst (λ (f : Option SessionFault). IsDue f limit d.gave (seen before) (seen after)) (sym fault) (may_go_on s d.gave d.stands d.no_fault, read.failures ∙ ap one_more d.none_failed))
     (subst (λ (f : Option SessionFault). PutsUpTo view f (gives d.gave).messages (gives d.gave).messages last last told) (sym fault) (puts_none view last d.gave told (tell _ _ d.stands.tells)))
 
 -- ---- no more reads
 
-pub drives_limit : {S K : Type 0} (seen : S → SourceView) (view : SinkView K) (limit most n : ℕ) (before now : S) (first last : K) (s : State) (o : Option SessionFault) (told : List Message → ℕ → Type 0)
+pub drives_limit : {S K : Type 0} (seen : S → SourceView) (view : SinkView K) (limit n : ℕ) (before now : S) (first last : K) (s : State) (o : Option SessionFault) (told : List Message → ℕ → Type 0)
     → (d : Driving view n (seen before) (seen now) first last s) → n ≡ limit
     → ((ms : List Message) (delivered : ℕ) → Tells s.counts ms delivered → told ms delivered) → o ≡ Some faults.TooManyReads
-    → DrivesTo seen view limit most before now first last o told
-drives_limit seen view limit most n before now first last s o told d all tell fault =
-    drives_still seen view limit most n before now now first last s o told d d.octets (omega (arith, d.within, all)) (omega arith)
+    → DrivesTo seen view limit before now first last o told
+drives_limit seen view limit n before now first last s o told d all tell fault =
+    drives_still seen view limit n before now now first last s o told d d.octets (omega (arith, d.within, all)) (omega arith)
     (subst (λ (f : Option SessionFault). IsDue f limit d.gave (seen before) (seen now)) (sym fault)
     (may_go_on s d.gave d.stands d.no_fault, subst (λ (k : ℕ). ((seen now).reads ≡ (seen before).reads + k) ⊎ ((seen now).reads ≡ 2 ^ 64 - 1)) all d.counted, d.none_failed, d.not_ended))
     (subst (λ (f : Option SessionFault). PutsUpTo view f (gives d.gave).messages (gives d.gave).messages last last told) (sym fault) (puts_none view last d.gave told (tell _ _ d.stands.tells)))
 
 -- ---- no memory for a buffer
 
-pub drives_nowhere : {S K : Type 0} (seen : S → SourceView) (view : SinkView K) (limit most : ℕ) (source : S) (sink : K) (s : State) (o : Option SessionFault) (told : List Message → ℕ → Type 0) → StandsForText s []
+pub drives_nowhere : {S K : Type 0} (seen : S → SourceView) (view : SinkView K) (limit : ℕ) (source : S) (sink : K) (s : State) (o : Option SessionFault) (told : List Message → ℕ → Type 0) → StandsForText s []
     → ((ms : List Message) (delivered : ℕ) → Tells s.counts ms delivered → told ms delivered) → o ≡ Some (faults.Message OutOfMemory)
-    → DrivesTo seen view limit most source source sink sink o told
+    → DrivesTo seen view limit source source sink sink o told
 unfolding driving_first
-drives_nowhere seen view limit most source sink s o told stands tell fault =
+drives_nowhere seen view limit source sink s o told stands tell fault =
     let d = driving_first view (seen source) sink s stands in
     let ms = (gives []).messages in
     let out : RunsOut view ms ms sink sink told =
     record { whole = ms; from = ([], sym (append-nil ms)); up_to = ([], sym (append-nil ms)); puts = puts_none view sink [] told (tell _ _ stands.tells) } in
-    drives_still seen view limit most 0 source source source sink sink s o told d d.octets (omega arith) (omega arith)
+    drives_still seen view limit 0 source source source sink sink s o told d d.octets (omega arith) (omega arith)
     (subst (λ (f : Option SessionFault). IsDue f limit [] (seen source) (seen source)) (sym fault) tt)
     (subst (λ (f : Option SessionFault). PutsUpTo view f ms ms sink sink told) (sym fault) out)

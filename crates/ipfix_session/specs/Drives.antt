@@ -4,6 +4,7 @@ use Rattle.std.specs.Io.KnownBytes.{Consumes}
 use Rattle.ipfix_message.specs.Domains.{Message}
 use Rattle.ipfix_message.specs.declared.fault.MessageFault.TheVariants.{OutOfMemory}
 use Rattle.ipfix_message.specs.declared.record.DataRecord.{DataRecord}
+use Rattle.ipfix_session.specs.declared.driver.TheConstants.{READ_SIZE}
 use Rattle.ipfix_session.specs.declared.report.SessionReport.{SessionReport}
 use Rattle.ipfix_session.specs.declared.report.FullReport.{FullReport}
 use Rattle.ipfix_session.specs.declared.stop.Stop.TheVariants.{Clean, Short, Fault}
@@ -39,7 +40,7 @@ IsDue (Some (faults.Message e)) limit gave before after = stop_of gave ≡ Fault
 module _ {S : Type 0} (seen : S → SourceView) where
   -- reading stops at the first malformed message, at the first read that fails, and at the end: before the last read there
   -- was none of these
-  pub record StopsAtFault (most : ℕ) (before : S) (gave : List ℕ) (after : S) : Type 0 where
+  pub record StopsAtFault (before : S) (gave : List ℕ) (after : S) : Type 0 where
     -- the source before the last read, itself and no view that could be made up, and what it had given by then
     pub at : S
     pub earlier : List ℕ
@@ -51,22 +52,22 @@ module _ {S : Type 0} (seen : S → SourceView) where
     pub one_read : (seen after).reads ≤ (seen at).reads + 1
     pub last : List ℕ
     pub is : gave ≡ earlier ++ last
-    pub size : length last ≤ most
+    pub size : length last ≤ READ_SIZE
 
   -- a source gave these octets, in at most that many reads, until this fault, which is due
-  pub record Gave (limit most : ℕ) (before : S) (gave : List ℕ) (after : S) (fault : Option SessionFault) : Type 0 where
+  pub record Gave (limit : ℕ) (before : S) (gave : List ℕ) (after : S) (fault : Option SessionFault) : Type 0 where
     -- what the source held before is these, and then what it holds after
     pub octets : Consumes (seen before).text (seen after).text gave
     pub within : (seen after).reads ≤ (seen before).reads + limit
-    pub stops : StopsAtFault most before gave after
+    pub stops : StopsAtFault before gave after
     pub fault_is_due : IsDue fault limit gave (seen before) (seen after)
 
   -- ---- a session of a source
 
   -- a source gave octets that have these records, and the report tells of them; no record was given back
-  pub record IsGiven (limit most : ℕ) (before after : S) (report : SessionReport) (records : List DataRecord) : Type 0 where
+  pub record IsGiven (limit : ℕ) (before after : S) (report : SessionReport) (records : List DataRecord) : Type 0 where
     pub gave : List ℕ
-    pub given : Gave limit most before gave after report.fault
+    pub given : Gave limit before gave after report.fault
     -- the messages that count are the first of those that RFC 7011 (sections 3 and 8) gives for the octets before their
     -- first malformed one
     pub counted : List Message
@@ -90,24 +91,24 @@ module _ {K : Type 0} (view : SinkView K) where
 
 module _ {S K : Type 0} (seen : S → SourceView) (view : SinkView K) where
   -- a source gave octets until this fault, a sink took their records, and this is told of the messages that count
-  pub record DrivesTo (limit most : ℕ) (before after : S) (first last : K) (fault : Option SessionFault) (told : List Message → ℕ → Type 0) : Type 0 where
+  pub record DrivesTo (limit : ℕ) (before after : S) (first last : K) (fault : Option SessionFault) (told : List Message → ℕ → Type 0) : Type 0 where
     pub gave : List ℕ
-    pub given : Gave seen limit most before gave after fault
+    pub given : Gave seen limit before gave after fault
     -- the first records that the sink took are those of what was given before the last read, and it gave none of them back
     pub middle : K
     pub earlier : Takes view first (records_of given.stops.earlier) middle
     pub puts : PutsUpTo view fault (gives given.stops.earlier).messages (gives gave).messages middle last told
 
   -- and the report tells it
-  abbrev pub Drives : ℕ → ℕ → S → S → K → K → SessionReport → Type 0
-  Drives limit most before after first last report = DrivesTo limit most before after first last report.fault (Reports report)
+  abbrev pub Drives : ℕ → S → S → K → K → SessionReport → Type 0
+  Drives limit before after first last report = DrivesTo limit before after first last report.fault (Reports report)
 
   -- and the full report tells it
-  abbrev pub DrivesInFull : ℕ → ℕ → S → S → K → K → FullReport → Type 0
-  DrivesInFull limit most before after first last full = DrivesTo limit most before after first last full.report.fault (ReportsInFull full)
+  abbrev pub DrivesInFull : ℕ → S → S → K → K → FullReport → Type 0
+  DrivesInFull limit before after first last full = DrivesTo limit before after first last full.report.fault (ReportsInFull full)
 
   -- the sink took, one after another, the records that a source gave
-  pub record TakesGiven (limit most : ℕ) (before after : S) (first last : K) (report : SessionReport) : Type 0 where
+  pub record TakesGiven (limit : ℕ) (before after : S) (first last : K) (report : SessionReport) : Type 0 where
     pub records : List DataRecord
-    pub given : IsGiven seen limit most before after report records
+    pub given : IsGiven seen limit before after report records
     pub takes : Takes view first records last

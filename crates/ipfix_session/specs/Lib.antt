@@ -8,6 +8,7 @@ pub mod Reports
 pub mod Balances
 pub mod Places
 pub mod Sources
+pub mod Readers
 pub mod Sinks
 pub mod Feeding
 pub mod Drives

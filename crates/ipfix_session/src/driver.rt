@@ -32,7 +32,7 @@ pub fn drive<S: Source, K: Sink>(
     sink: &mut K,
     limit: u64,
 ) -> SessionReport
-    ensures { Drives S.seen K.seen limit READ_SIZE source.old source.new sink.old sink.new result }
+    ensures { Drives S.seen K.seen limit source.old source.new sink.old sink.new result }
 {
     drive_in_full(alloc, source, sink, limit).report
 }
@@ -45,7 +45,7 @@ pub fn drive_in_full<S: Source, K: Sink>(
     sink: &mut K,
     limit: u64,
 ) -> FullReport
-    ensures { DrivesInFull S.seen K.seen limit READ_SIZE source.old source.new sink.old sink.new
+    ensures { DrivesInFull S.seen K.seen limit source.old source.new sink.old sink.new
         result }
 {
     match vec![in alloc; 0; READ_SIZE] {
@@ -65,8 +65,8 @@ fn drive_through<S: Source, K: Sink>(
     buffer: &mut [u8],
 ) -> FullReport
     requires { 0 < length buffer.old }
-    ensures { (most : ℕ) → length buffer.old ≤ most
-        → DrivesInFull S.seen K.seen limit most source.old source.new sink.old sink.new result }
+    ensures { length buffer.old ≤ READ_SIZE
+        → DrivesInFull S.seen K.seen limit source.old source.new sink.old sink.new result }
 {
     let mut session = Session::new(alloc);
     for _ in 0..limit {

@@ -65,20 +65,20 @@ pub fn pieces_are_one<K: Sink>()
 /// What [`drive`](crate::drive) says of a session whose sink gave no record back: the sink took the
 /// records of what the source gave.
 pub fn driven_is_given<S: Source, K: Sink>()
-    ensures refused { (limit most : ℕ) (before after : S) (first last : K) (r : SessionReport)
-        → Drives S.seen K.seen limit most before after first last r → K.seen.refused last ≡ 0
-        → TakesGiven S.seen K.seen limit most before after first last r }
-    ensures fault { (limit most : ℕ) (before after : S) (first last : K) (r : SessionReport)
-        → Drives S.seen K.seen limit most before after first last r → r.fault ≢ Some SinkClosed
-        → TakesGiven S.seen K.seen limit most before after first last r }
+    ensures refused { (limit : ℕ) (before after : S) (first last : K) (r : SessionReport)
+        → Drives S.seen K.seen limit before after first last r → K.seen.refused last ≡ 0
+        → TakesGiven S.seen K.seen limit before after first last r }
+    ensures fault { (limit : ℕ) (before after : S) (first last : K) (r : SessionReport)
+        → Drives S.seen K.seen limit before after first last r → r.fault ≢ Some SinkClosed
+        → TakesGiven S.seen K.seen limit before after first last r }
 {}
 
 /// A session without a fault has read all that its source held: whole messages, of which it has all
 /// records.
 pub fn no_fault_is_all<S: Source>()
-    ensures { (limit most : ℕ) (before after : S) (r : SessionReport) (records : List DataRecord)
+    ensures { (limit : ℕ) (before after : S) (r : SessionReport) (records : List DataRecord)
         (text : List ℕ)
-        → IsGiven S.seen limit most before after r records → r.fault ≡ None
+        → IsGiven S.seen limit before after r records → r.fault ≡ None
         → (S.seen before).text ≡ Some text
         → (stop_of text ≡ Clean) × (records ≡ records_of text) }
 {}

@@ -42,6 +42,9 @@ fn read_error(error: &io::Error) -> ReadError
 }
 
 impl<R: Read> Source for FromReader<R> {
+    ghost use Rattle.ipfix_session.specs.Sources.{IsRead};
+    ghost use Rattle.ipfix_session.specs.Readers.{reader_of};
+
     ghost seen = { λ s. record {
       text = R.remaining s.reader;
       reads = s.reads;
@@ -51,7 +54,13 @@ impl<R: Read> Source for FromReader<R> {
 
     ghost ended_is_end = { λ s e. s.behind_the_end e };
 
-    fn read(&mut self, buffer: &mut [u8]) -> Result<usize, ReadError> {
+    fn read(&mut self, buffer: &mut [u8]) -> Result<usize, ReadError>
+        ensures is_read { IsRead (⟦<FromReader<R> as Source>⟧.seen self.old) result
+            (⟦<FromReader<R> as Source>⟧.seen self.new) buffer.new }
+        // Behind its end the reader isn't asked.
+        ensures not_asked { (⟦<FromReader<R> as Source>⟧.seen self.old).ended ≡ true
+            → reader_of self.new ≡ reader_of self.old }
+    {
         self.reads = self.reads.saturating_add(1);
         if self.ended {
             return Ok(0);

@@ -4,7 +4,7 @@ use Rattle.std.specs.List.{FoldsTo}
 use Rattle.std.proofs.lemmas.List.{append-nil}
 use Rattle.ipfix_message.specs.declared.record.DataRecord.{DataRecord}
 use Rattle.ipfix_session.specs.Sources.{SourceView}
-use Rattle.ipfix_session.specs.declared.driver.TheConstants.{READ_LIMIT, READ_SIZE}
+use Rattle.ipfix_session.specs.declared.driver.TheConstants.{READ_LIMIT}
 use Rattle.ipfix_session.specs.declared.fault.SessionFault.{SessionFault}
 use Rattle.ipfix_session.specs.declared.fault.SessionFault.TheVariants.{SinkClosed}
 use Rattle.ipfix_session.specs.declared.sink.VecSink.{VecSink}
@@ -22,9 +22,9 @@ closed_not fault none = λ e. let no : None ≡ Some SinkClosed = sym none ∙ e
 
 pub returns-in-None : goal.returns-in-None
 returns-in-None g c = λ text is.
-    let took = c.driven_is_given.ensures.fault READ_LIMIT READ_SIZE c.new-source.result c.drive-report.new.source c.new-sink.result c.drive-report.new.sink c.drive-report.result
+    let took = c.driven_is_given.ensures.fault READ_LIMIT c.new-source.result c.drive-report.new.source c.new-sink.result c.drive-report.new.sink c.drive-report.result
     c.drive-report.ensures (closed_not c.drive-report.result.fault c.in-None.is) in
-    let told = c.no_fault_is_all.ensures READ_LIMIT READ_SIZE c.new-source.result c.drive-report.new.source c.drive-report.result took.records text
+    let told = c.no_fault_is_all.ensures READ_LIMIT c.new-source.result c.drive-report.new.source c.drive-report.result took.records text
     took.given c.in-None.is (ap (λ (v : SourceView). v.text) c.new-source.ensures ∙ is) in (
       told.0,
       kept_all (λ (p : VecSink) (x : DataRecord) (q : VecSink). q.records.items ≡ p.records.items ++ x ∷ []) (λ (p : VecSink). p.records.items) (λ p x q e. e)
