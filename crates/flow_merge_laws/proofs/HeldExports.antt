@@ -8,7 +8,6 @@ use Rattle.ipfix_message.specs.declared.record.DataRecord.{DataRecord}
 use Rattle.ipfix_session.specs.Drives.{Gave}
 use Rattle.ipfix_session.specs.Given.{Given, gives, records_of, stop_of}
 use Rattle.ipfix_session.specs.Sources.{SourceView}
-use Rattle.ipfix_session.specs.declared.driver.TheConstants.{READ_SIZE}
 use Rattle.ipfix_session.specs.declared.fault.SessionFault.{SessionFault}
 use Rattle.ipfix_session.specs.declared.fault.SessionFault.TheVariants as sessions
 use Rattle.ipfix_session.specs.declared.stop.Stop.TheVariants.{Clean, Short, Fault}
@@ -88,7 +87,7 @@ module _ {S : Type 0} (seen : S → SourceView) (limit : ℕ) (before after : S)
   is_export = export_is_export plan rs holds.table holds.text holds.export
 
   -- without a fault all of it was given
-  whole : (gave : List ℕ) → Gave seen limit READ_SIZE before gave after None → gave ≡ holds.text
+  whole : (gave : List ℕ) → Gave seen limit before gave after None → gave ≡ holds.text
   whole gave given = gave_all (seen before) (seen after) holds.text gave holds.held given.octets at_end given.fault_is_due.1
 
   -- it gave its rows

@@ -4,3 +4,4 @@ pub mod ExportedTables
 pub mod HeldExports
 pub mod MergesOn
 pub mod AddedExports
+pub mod SummedRows

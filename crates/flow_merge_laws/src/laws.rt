@@ -1,8 +1,9 @@
 //! Laws of exports that are read and merged.
 
-ghost use Rattle.std.specs.Prelude.{◌≡◌, ◌≢◌, ◌++◌, ℕ, List};
+ghost use Rattle.std.specs.Prelude.{◌≡◌, ◌≢◌, ◌==◌, ◌++◌, ℕ, List, length, All, is_none, IfSome};
+ghost use Rattle.ipfix_elements.specs.declared.cell.Cell.{Cell};
 ghost use Rattle.ipfix_message.specs.declared.record.DataRecord.{DataRecord};
-ghost use Rattle.flow_table.specs.AddedUp.{rows_in, AddUpTooLarge};
+ghost use Rattle.flow_table.specs.AddedUp.{added_up, rows_in, AddUpTooLarge};
 ghost use Rattle.flow_table.specs.Bags.{IsSameBag};
 ghost use Rattle.flow_table.specs.Plans.{PlanValue, IsPlan};
 ghost use Rattle.flow_table.specs.SameTables.{RowValue};
@@ -17,6 +18,7 @@ ghost use Rattle.flow_merge.specs.declared.merging.Merging.{Merging};
 ghost use Rattle.flow_merge.specs.declared.row_fault.RowFault.{RowFault};
 ghost use Rattle.flow_merge.specs.declared.row_fault.RowFault.TheVariants.{OutOfMemory};
 ghost use Rattle.flow_merge_laws.specs.Exports.{AreExportsOf, HoldsExport, IsExportable, IsExportFault, IsExportOf, with_counts};
+ghost use Rattle.flow_merge_laws.specs.RowSums.{rows_at, AreSumsOf};
 
 use ipfix_session::Source;
 
@@ -81,4 +83,14 @@ pub fn merged_is_merged_again()
 pub fn any_split_merges()
     ensures { (plan : PlanValue) (rs others : List DataRecord) (a b : Table) → IsSameBag rs others
         → HasRowsOf plan rs a → HasRowsOf plan others b → rows_in a ≡ rows_in b }
+{}
+
+/// What rows add up to at an interval and a key is nothing if no row is there, and otherwise, for each
+/// counter and for the flows, the sum over the rows that are there.
+pub fn rows_add_up_by_sums()
+    ensures none { (rows : List RowValue) (k : ℕ) (key : List Cell)
+        → is_none (added_up rows k key) ≡ (length (rows_at rows k key) == 0) }
+    ensures some { (rows : List RowValue) (k : ℕ) (key : List Cell) (count : ℕ)
+        → All (λ row. length row.sums ≡ count) rows
+        → IfSome (added_up rows k key) (AreSumsOf count (rows_at rows k key)) }
 {}
