@@ -61,16 +61,20 @@ pub fn write_export_fault<W: WriteLines>(fault: ExportFault, out: &mut W) -> io:
 /// Writes the line of a fault of a plan's text, with the plan's own fault if it has one, and then the
 /// line that tells where it is. For want of memory there is no such line.
 pub fn write_plan_fault<W: WriteLines>(error: &PlanTextError, out: &mut W) -> io::Result<()>
-    ensures { OnOk result (Appends (W.contents out.old) (W.contents out.new)
+    ensures told { OnOk result (Appends (W.contents out.old) (W.contents out.new)
         (plan_lines error.now)) }
+    ensures failed { OnErr result (W.failed out.new) }
+    ensures kept { W.failed out.old → W.failed out.new }
 {
     write_plan_fault_line(error.fault(), out)?;
     write_place(error, out)
 }
 
 fn write_plan_fault_line<W: WriteLines>(fault: PlanTextFault, out: &mut W) -> io::Result<()>
-    ensures { OnOk result (Appends (W.contents out.old) (W.contents out.new)
+    ensures told { OnOk result (Appends (W.contents out.old) (W.contents out.new)
         (codes "collectd: plan" ++ plan_fault_text fault)) }
+    ensures failed { OnErr result (W.failed out.new) }
+    ensures kept { W.failed out.old → W.failed out.new }
 {
     match fault {
         PlanTextFault::Plan(inner) => write_inner_fault(inner, out),
@@ -79,16 +83,20 @@ fn write_plan_fault_line<W: WriteLines>(fault: PlanTextFault, out: &mut W) -> io
 }
 
 fn write_text_fault<W: WriteLines>(fault: PlanTextFault, out: &mut W) -> io::Result<()>
-    ensures { OnOk result (Appends (W.contents out.old) (W.contents out.new)
+    ensures told { OnOk result (Appends (W.contents out.old) (W.contents out.new)
         (codes "collectd: plan" ++ fault_text (text.number_of fault) (text.name_of fault))) }
+    ensures failed { OnErr result (W.failed out.new) }
+    ensures kept { W.failed out.old → W.failed out.new }
 {
     write_fault("plan", fault.number(), fault.name(), out)
 }
 
 fn write_inner_fault<W: WriteLines>(fault: PlanFault, out: &mut W) -> io::Result<()>
-    ensures { OnOk result (Appends (W.contents out.old) (W.contents out.new)
+    ensures told { OnOk result (Appends (W.contents out.old) (W.contents out.new)
         (codes "collectd: plan: fault 6 Plan"
         ++ fault_text (plan.number_of fault) (plan.name_of fault))) }
+    ensures failed { OnErr result (W.failed out.new) }
+    ensures kept { W.failed out.old → W.failed out.new }
 {
     write_fault("plan: fault 6 Plan", fault.number(), fault.name(), out)
 }

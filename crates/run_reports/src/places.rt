@@ -1,6 +1,6 @@
 //! The line that says where a plan has its fault.
 
-ghost use Rattle.std.specs.Prelude.{◌≡◌, ◌++◌, codes, OnOk};
+ghost use Rattle.std.specs.Prelude.{◌≡◌, ◌++◌, codes, OnErr, OnOk};
 ghost use Rattle.std.specs.Io.KnownBytes.{Appends};
 ghost use Rattle.run_reports.specs.PlaceLines.{column_start, count_end, key_line, key_start, kind_words as words_of_kind, line_line, name_end, place_line, rule_line, rule_words as words_of_rule, text_end, toml_line, words_end};
 
@@ -13,8 +13,10 @@ use std::io;
 /// Writes the line that says where a plan has its fault: the line of the file, or the key and what is
 /// wrong with it, or what a plan allows there. For want of memory there is none.
 pub fn write_place<W: WriteLines>(error: &PlanTextError, out: &mut W) -> io::Result<()>
-    ensures { OnOk result (Appends (W.contents out.old) (W.contents out.new)
+    ensures told { OnOk result (Appends (W.contents out.old) (W.contents out.new)
         (place_line error.now)) }
+    ensures failed { OnErr result (W.failed out.new) }
+    ensures kept { W.failed out.old → W.failed out.new }
 {
     match error {
         PlanTextError::NotUtf8 { line } => write_line(*line, "not UTF-8", out),
@@ -38,8 +40,10 @@ pub fn write_place<W: WriteLines>(error: &PlanTextError, out: &mut W) -> io::Res
 
 #[tactic(auto, unfolding(crate::specs::PlaceLines::line_line))]
 fn write_line<W: WriteLines>(line: usize, words: &str, out: &mut W) -> io::Result<()>
-    ensures { OnOk result (Appends (W.contents out.old) (W.contents out.new)
+    ensures told { OnOk result (Appends (W.contents out.old) (W.contents out.new)
         (line_line line words.now)) }
+    ensures failed { OnErr result (W.failed out.new) }
+    ensures kept { W.failed out.old → W.failed out.new }
 {
     writeln!(out, "collectd: plan: line {line}: {words}")
 }
@@ -51,8 +55,10 @@ fn write_toml_line<W: WriteLines>(
     message: &str,
     out: &mut W,
 ) -> io::Result<()>
-    ensures { OnOk result (Appends (W.contents out.old) (W.contents out.new)
+    ensures told { OnOk result (Appends (W.contents out.old) (W.contents out.new)
         (toml_line line column message.now)) }
+    ensures failed { OnErr result (W.failed out.new) }
+    ensures kept { W.failed out.old → W.failed out.new }
 {
     write_column_start(line, column, out)?;
     write_octets(message.as_bytes(), out)?;
@@ -61,22 +67,29 @@ fn write_toml_line<W: WriteLines>(
 
 #[tactic(auto, unfolding(crate::specs::PlaceLines::column_start))]
 fn write_column_start<W: WriteLines>(line: usize, column: usize, out: &mut W) -> io::Result<()>
-    ensures { OnOk result (Appends (W.contents out.old) (W.contents out.new)
+    ensures told { OnOk result (Appends (W.contents out.old) (W.contents out.new)
         (column_start line column)) }
+    ensures failed { OnErr result (W.failed out.new) }
+    ensures kept { W.failed out.old → W.failed out.new }
 {
     write!(out, "collectd: plan: line {line}, column {column}: ")
 }
 
 fn write_key_line<W: WriteLines>(key: &str, words: &str, out: &mut W) -> io::Result<()>
-    ensures { OnOk result (Appends (W.contents out.old) (W.contents out.new)
+    ensures told { OnOk result (Appends (W.contents out.old) (W.contents out.new)
         (key_line key.now words.now)) }
+    ensures failed { OnErr result (W.failed out.new) }
+    ensures kept { W.failed out.old → W.failed out.new }
 {
     write_key(key, out)?;
     write_words_end(words, out)
 }
 
 fn write_key<W: WriteLines>(key: &str, out: &mut W) -> io::Result<()>
-    ensures { OnOk result (Appends (W.contents out.old) (W.contents out.new) (key_start key.now)) }
+    ensures told { OnOk result (Appends (W.contents out.old) (W.contents out.new)
+        (key_start key.now)) }
+    ensures failed { OnErr result (W.failed out.new) }
+    ensures kept { W.failed out.old → W.failed out.new }
 {
     write!(out, "collectd: plan: key ")?;
     write_quoted(key, out)
@@ -84,15 +97,20 @@ fn write_key<W: WriteLines>(key: &str, out: &mut W) -> io::Result<()>
 
 #[tactic(auto, unfolding(crate::specs::PlaceLines::words_end))]
 fn write_words_end<W: WriteLines>(words: &str, out: &mut W) -> io::Result<()>
-    ensures { OnOk result (Appends (W.contents out.old) (W.contents out.new)
+    ensures told { OnOk result (Appends (W.contents out.old) (W.contents out.new)
         (words_end words.now)) }
+    ensures failed { OnErr result (W.failed out.new) }
+    ensures kept { W.failed out.old → W.failed out.new }
 {
     writeln!(out, ": {words}")
 }
 
 #[tactic(auto, unfolding(crate::specs::PlaceLines::name_end))]
 fn write_name_end<W: WriteLines>(text: &str, out: &mut W) -> io::Result<()>
-    ensures { OnOk result (Appends (W.contents out.old) (W.contents out.new) (name_end text.now)) }
+    ensures told { OnOk result (Appends (W.contents out.old) (W.contents out.new)
+        (name_end text.now)) }
+    ensures failed { OnErr result (W.failed out.new) }
+    ensures kept { W.failed out.old → W.failed out.new }
 {
     write!(out, ": no element is named ")?;
     write_quoted(text, out)?;
@@ -101,8 +119,10 @@ fn write_name_end<W: WriteLines>(text: &str, out: &mut W) -> io::Result<()>
 
 // What gives a plan the fault, and what is allowed.
 fn write_rule<W: WriteLines>(fault: PlanFault, place: &PlanPlace, out: &mut W) -> io::Result<()>
-    ensures { OnOk result (Appends (W.contents out.old) (W.contents out.new)
+    ensures told { OnOk result (Appends (W.contents out.old) (W.contents out.new)
         (rule_line fault place.now)) }
+    ensures failed { OnErr result (W.failed out.new) }
+    ensures kept { W.failed out.old → W.failed out.new }
 {
     let words = rule_words(fault);
     match place {
@@ -120,15 +140,19 @@ fn write_rule<W: WriteLines>(fault: PlanFault, place: &PlanPlace, out: &mut W) -
 
 #[tactic(auto, unfolding(crate::specs::PlaceLines::count_end))]
 fn write_count_end<W: WriteLines>(count: usize, words: &str, out: &mut W) -> io::Result<()>
-    ensures { OnOk result (Appends (W.contents out.old) (W.contents out.new)
+    ensures told { OnOk result (Appends (W.contents out.old) (W.contents out.new)
         (count_end count words.now)) }
+    ensures failed { OnErr result (W.failed out.new) }
+    ensures kept { W.failed out.old → W.failed out.new }
 {
     writeln!(out, ": {count} elements, {words}")
 }
 
 fn write_text_end<W: WriteLines>(text: &str, words: &str, out: &mut W) -> io::Result<()>
-    ensures { OnOk result (Appends (W.contents out.old) (W.contents out.new)
+    ensures told { OnOk result (Appends (W.contents out.old) (W.contents out.new)
         (text_end text.now words.now)) }
+    ensures failed { OnErr result (W.failed out.new) }
+    ensures kept { W.failed out.old → W.failed out.new }
 {
     write!(out, ": ")?;
     write_quoted(text, out)?;
@@ -136,8 +160,10 @@ fn write_text_end<W: WriteLines>(text: &str, words: &str, out: &mut W) -> io::Re
 }
 
 fn write_end<W: WriteLines>(words: &str, out: &mut W) -> io::Result<()>
-    ensures { OnOk result (Appends (W.contents out.old) (W.contents out.new)
+    ensures told { OnOk result (Appends (W.contents out.old) (W.contents out.new)
         (words.now ++ codes "\n")) }
+    ensures failed { OnErr result (W.failed out.new) }
+    ensures kept { W.failed out.old → W.failed out.new }
 {
     writeln!(out, "{words}")
 }

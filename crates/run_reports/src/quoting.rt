@@ -13,7 +13,10 @@ const MOST_SHOWN: usize = 64;
 
 /// Writes a text that a file gives between quotation marks, so that a terminal is safe.
 pub fn write_quoted<W: WriteLines>(text: &str, out: &mut W) -> io::Result<()>
-    ensures { OnOk result (Appends (W.contents out.old) (W.contents out.new) (quoted text.now)) }
+    ensures told { OnOk result (Appends (W.contents out.old) (W.contents out.new)
+        (quoted text.now)) }
+    ensures failed { OnErr result (W.failed out.new) }
+    ensures kept { W.failed out.old → W.failed out.new }
 {
     write!(out, "\"")?;
     write_shown(text.as_bytes(), out)?;
@@ -21,8 +24,10 @@ pub fn write_quoted<W: WriteLines>(text: &str, out: &mut W) -> io::Result<()>
 }
 
 fn write_shown<W: WriteLines>(text: &[u8], out: &mut W) -> io::Result<()>
-    ensures { OnOk result (Appends (W.contents out.old) (W.contents out.new)
+    ensures told { OnOk result (Appends (W.contents out.old) (W.contents out.new)
         (text_shown text.now)) }
+    ensures failed { OnErr result (W.failed out.new) }
+    ensures kept { W.failed out.old → W.failed out.new }
 {
     if text.len() > MOST_SHOWN {
         write_octets(&text[..MOST_SHOWN], out)?;

@@ -4,7 +4,7 @@ use Rattle.std.proofs.lemmas.Result.{on_ok_weaker}
 use Rattle.run_reports.specs.PlaceLines.{text_shown}
 use Rattle.run_reports.proofs.quoting.write_quoted.Goals as goal
 
-pub returns : goal.returns
-returns g c =
-    let name = rw c.as_bytes.ensures.value at c.in_ok-write_shown.ensures in
+pub returns-clause-told : goal.returns-clause-told
+returns-clause-told g c =
+    let name = rw c.as_bytes.ensures.value at c.in_ok-write_shown.ensures.told in
     on_ok_weaker c.write-2.result (λ h. Appends-trans _ _ _ (codes "\"") _ c.in_ok-write.ensures.bytes (Appends-trans _ _ _ (text_shown c.args.text.now) (codes "\"") name h)) c.write-2.ensures.bytes
