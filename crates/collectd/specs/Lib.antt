@@ -8,4 +8,5 @@ pub mod CollectLines
 pub mod MergeLines
 pub mod Told
 pub mod MergesTold
+pub mod PlansTold
 pub mod Limits

@@ -22,7 +22,7 @@ pub use full_run::run_in_full;
 pub use ipfix_dump::{DumpFault, dump, dump_json};
 pub use ipfix_session::MessageCounter;
 pub use limits::write_limit;
-pub use plan::{ReadText, load_plan};
+pub use plan::load_plan;
 pub use run_reports::{
     Origin, Reason, Remembering, Telling, write_dump_fault, write_export_fault, write_not_had,
     write_not_had_because, write_plan_fault, write_read_failed, write_reports, write_tally,
@@ -32,3 +32,4 @@ pub use sources::listening::{Listening, NotedPeer};
 pub use sources::noted::{Note, Noted};
 pub use sources::opening::{OpenSource, Opened, SystemFiles};
 pub use table::{Output, run};
+pub use text_files::ReadText;

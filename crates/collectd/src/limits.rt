@@ -1,25 +1,27 @@
 //! The line that says what a pool and a number of sessions may be.
 
-ghost use Rattle.std.specs.Prelude.{◌≡◌, OnOk};
+ghost use Rattle.std.specs.Prelude.{◌≡◌, OnErr, OnOk};
 ghost use Rattle.std.specs.Io.KnownBytes.{Appends};
 ghost use Rattle.flow_collect.specs.Refusals.{fault_of_arguments};
 ghost use Rattle.run_reports.specs.OpeningLines.{if_verbose};
 ghost use Rattle.collectd.specs.Limits.{limit_line, limit_lines, limit_text, limit_words as words_of};
 
 use flow_collect::{CollectFault, Pool, refusal};
-use run_reports::Telling;
-use std::io::{self, Write};
+use run_reports::{Telling, WriteLines};
+use std::io;
 
 /// Writes what is allowed, behind the fault, if `telling` is verbose and a run with this pool and so many
 /// sessions is refused for one of them. Otherwise nothing is written.
-pub fn write_limit<W: Write>(
+pub fn write_limit<W: WriteLines>(
     telling: Telling,
     pool: Pool,
     sessions: usize,
     out: &mut W,
 ) -> io::Result<()>
-    ensures { OnOk result (Appends (W.contents out.old) (W.contents out.new)
+    ensures told { OnOk result (Appends (W.contents out.old) (W.contents out.new)
         (limit_lines telling (fault_of_arguments pool sessions))) }
+    ensures failed { OnErr result (W.failed out.new) }
+    ensures kept { W.failed out.old → W.failed out.new }
 {
     match refusal(pool, sessions) {
         Some(fault) => write_if_verbose(telling, fault, out),
@@ -27,9 +29,15 @@ pub fn write_limit<W: Write>(
     }
 }
 
-fn write_if_verbose<W: Write>(telling: Telling, fault: CollectFault, out: &mut W) -> io::Result<()>
-    ensures { OnOk result (Appends (W.contents out.old) (W.contents out.new)
+fn write_if_verbose<W: WriteLines>(
+    telling: Telling,
+    fault: CollectFault,
+    out: &mut W,
+) -> io::Result<()>
+    ensures told { OnOk result (Appends (W.contents out.old) (W.contents out.new)
         (if_verbose telling (limit_line fault))) }
+    ensures failed { OnErr result (W.failed out.new) }
+    ensures kept { W.failed out.old → W.failed out.new }
 {
     if telling.verbose {
         write_words(fault.number(), fault.name(), limit_words(fault), out)
@@ -39,9 +47,11 @@ fn write_if_verbose<W: Write>(telling: Telling, fault: CollectFault, out: &mut W
 }
 
 #[tactic(auto, unfolding(crate::specs::Limits::limit_text))]
-fn write_words<W: Write>(number: u8, name: &str, words: &str, out: &mut W) -> io::Result<()>
-    ensures { OnOk result (Appends (W.contents out.old) (W.contents out.new)
+fn write_words<W: WriteLines>(number: u8, name: &str, words: &str, out: &mut W) -> io::Result<()>
+    ensures told { OnOk result (Appends (W.contents out.old) (W.contents out.new)
         (limit_text number name.now words.now)) }
+    ensures failed { OnErr result (W.failed out.new) }
+    ensures kept { W.failed out.old → W.failed out.new }
 {
     writeln!(out, "collectd: collect: fault {number} {name}{words}")
 }

@@ -1,6 +1,6 @@
 //! Plans that are read from texts in memory, and the lines of a plan's fault.
 
-ghost use Rattle.std.specs.Prelude.{◌≡◌, string_bytes};
+ghost use Rattle.std.specs.Prelude.{◌≡◌, ⊤, string_bytes};
 
 use super::sessions::BY_SOURCE;
 use collectd::{ReadText, Reason, Telling, load_plan, write_plan_fault};
@@ -17,6 +17,8 @@ struct OneText {
 
 impl ReadText for OneText {
     ghost has = { λ text path octets. (string_bytes text.path ≡ path) × (text.octets.items ≡ octets) };
+
+    ghost refuses = { λ _ _ _. ⊤ };
 
     fn read_text(&self, alloc: Global, path: &str) -> Result<Vec<u8>, Reason> {
         if self.path.as_str() != path {

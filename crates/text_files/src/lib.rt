@@ -1,0 +1,6 @@
+//! Texts of files.
+#![tactic(auto)]
+
+mod reading;
+
+pub use reading::ReadText;
