@@ -31,12 +31,12 @@ impl Model for Elements {
 }
 
 impl Elements {
-    ghost use Rattle.std.specs.Prelude.{◌≡◌, true, [], is_none, OnOk, IfErr, Ok};
+    ghost use Rattle.std.specs.Prelude.{◌≡◌, true, [], is_none, map, option_map, OnOk, OnErr, IfErr, Ok};
     ghost use Rattle.ipfix_elements.specs.Elements.{entry_of};
     ghost use Rattle.element_registry.specs.Faults.{Fails};
     ghost use Rattle.element_registry.specs.Files.{with_entry};
     ghost use Rattle.ipfix_elements.specs.Writers.{Writes};
-    ghost use Rattle.element_registry.specs.Registries.{shown, kind_under, name_under, element_under};
+    ghost use Rattle.element_registry.specs.Registries.{shown, kind_under, listed_name, name_under, element_under};
 
     /// The built-in elements alone.
     pub fn built_in(alloc: Global) -> Elements
@@ -47,12 +47,13 @@ impl Elements {
         }
     }
 
-    /// Adds an element, if none is known with its numbers or its name.
+    /// Adds an element, if none is known with its numbers or its name. At an `Err` nothing is added.
     #[tactic(auto, using(crate::proofs::Adding::added))]
     pub fn add(&mut self, entry: Entry) -> Result<(), ElementsFault>
         requires { is_none (entry_of entry.element) ≡ true }
         ensures ok { OnOk result (with_entry self.old (shown entry) ≡ Ok self.new) }
         ensures fault { IfErr result (λ fault. Fails fault (with_entry self.old (shown entry))) }
+        ensures kept { OnErr result (self.new ≡ self.old) }
     {
         if find_known(&self.entries, entry.element).is_some() {
             return Err(ElementsFault::NumberTwice);
@@ -67,6 +68,13 @@ impl Elements {
         Ok(())
     }
 
+    /// What the files say, in the order in which it was added: nothing of the built-in elements.
+    pub fn entries(&self) -> &[Entry]
+        ensures { map shown result.now ≡ self.now }
+    {
+        self.entries.as_slice()
+    }
+
     /// The kind that an element's fields are read by: octets for each element that is not known.
     pub fn kind_of(&self, element: ElementId) -> ElementKind
         ensures { result ≡ kind_under self.now element }
@@ -77,6 +85,16 @@ impl Elements {
         match find_known(&self.entries, element) {
             Some(entry) => entry.kind,
             None => ElementKind::Plain(Kind::Octets),
+        }
+    }
+
+    /// The name of an element, if it is known.
+    pub fn name_of(&self, element: ElementId) -> Option<&str>
+        ensures { option_map (λ name. name.now) result ≡ listed_name self.now element }
+    {
+        match name_of(element) {
+            Some(name) => Some(name),
+            None => Some(find_known(&self.entries, element)?.name.as_str()),
         }
     }
 

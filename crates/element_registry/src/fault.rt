@@ -127,7 +127,8 @@ pub struct ElementsError {
 impl ElementsError {
     /// The fault at a line.
     pub fn at(line: u64, fault: ElementsFault) -> ElementsError
-        ensures { fault_of result ≡ fault }
+        ensures fault { fault_of result ≡ fault }
+        ensures line { result.line ≡ line }
     {
         ElementsError { fault, line }
     }

@@ -17,6 +17,7 @@ mod types;
 
 pub use added::Added;
 pub use elements::Elements;
+pub use entry::Entry;
 pub use fault::{ElementsError, ElementsFault, Heading};
 pub use kind::ElementKind;
 pub use reading::add_file;

@@ -27,7 +27,7 @@ pub fn add_file(alloc: Global, elements: Elements, text: &[u8]) -> Result<Added,
 {
     match read_rows(alloc, text) {
         Ok(rows) => add_read(alloc, elements, text, &rows),
-        Err(_) => Err(ElementsError::at(0, ElementsFault::OutOfMemory)),
+        Err(fault) => Err(ElementsError::at(0, fault)),
     }
 }
 

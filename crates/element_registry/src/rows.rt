@@ -1,15 +1,19 @@
 //! The rows of a text of comma-separated values (RFC 4180).
 
-ghost use Rattle.std.specs.Prelude.{map, IfOk};
+ghost use Rattle.std.specs.Prelude.{◌≡◌, map, IfOk, IfErr, if◌then◌else◌};
+ghost use Rattle.csv.specs.Reading.{stops_reader};
 ghost use Rattle.csv.specs.Records.{fields_of};
 ghost use Rattle.element_registry.specs.Files.{AreRows};
+ghost use Rattle.element_registry.specs.declared.fault.ElementsFault.TheVariants.{NotCsv, OutOfMemory};
 
-use csv::{ByteRecord, Error, ReaderBuilder};
+use crate::fault::ElementsFault;
+use csv::{ByteRecord, ErrorKind, ReaderBuilder};
 use std::alloc::Global;
 
 /// The rows of a text, its first line among them. They may differ in length, so an `Err` is want of memory.
-pub fn read_rows(alloc: Global, text: &[u8]) -> Result<Vec<ByteRecord>, Error>
-    ensures { IfOk result (λ rows. AreRows text.now (map fields_of rows.items)) }
+pub fn read_rows(alloc: Global, text: &[u8]) -> Result<Vec<ByteRecord>, ElementsFault>
+    ensures ok { IfOk result (λ rows. AreRows text.now (map fields_of rows.items)) }
+    ensures err { IfErr result (λ fault. fault ≡ OutOfMemory) }
 {
     let reader = ReaderBuilder::new()
         .has_headers(false)
@@ -17,11 +21,22 @@ pub fn read_rows(alloc: Global, text: &[u8]) -> Result<Vec<ByteRecord>, Error>
         .from_reader(alloc, text);
     let mut rows = Vec::new(alloc);
     for row in reader.into_byte_records() {
-        if rows.push(row?).is_err() {
-            return Err(Error::out_of_memory());
+        match row {
+            Ok(row) => rows.push(row)?,
+            Err(error) => return Err(fault_of(error.kind())),
         }
     }
     Ok(rows)
+}
+
+// What stops the reader of a text is want of memory.
+fn fault_of(kind: &ErrorKind) -> ElementsFault
+    ensures { result ≡ (if stops_reader kind.now then OutOfMemory else NotCsv) }
+{
+    match kind {
+        ErrorKind::OutOfMemory | ErrorKind::Io(_) => ElementsFault::OutOfMemory,
+        _ => ElementsFault::NotCsv,
+    }
 }
 
 /// The line at which a row of a text begins, from 1.

@@ -20,6 +20,7 @@ loop-row-init c =
       rw (set, named) at made.trim ∙ c.new.ensures.trim,
       inr (inr (rw (set, named) at made.has_headers, made.headers)),
       left,
+      rw set at made.flexible,
       rw (set, named) at made.config ∙ c.new.ensures.config,
       strip_bom c.args.text.now,
       made.source,
@@ -29,14 +30,22 @@ loop-row-init c =
 pub loop-row-preserved : goal.loop-row-preserved
 loop-row-preserved c =
     let kept = c.loop-row.invariant in
-    let step = rw (c.in-Some.is, c.in_ok-row.was) at ((c.next.ensures.steps kept.2 kept.0).0 kept.1) in
+    let step = rw (c.in-Some.is, c.in-Ok.is) at ((c.next.ensures.steps kept.2 kept.0).0 kept.1) in
     let good : is_ok c.push.result ≡ true = search rules in
     let items = rw good at c.push.ensures.items in
-    let more = rows-more (λ (s : Bor (List ℕ)). Some s.now) c.loop-row.row-iterator.rdr c.next.new.self.rdr (fields_of c.in_ok-row.field-0) default_config StartRecord (strip_bom c.args.text.now) kept.4 (map fields_of c.loop-row.rows.items) kept.3 kept.5 kept.6 step.0 in
-    (step.0.3 ∙ kept.0, inl step.1, step.2, step.0.2 ∙ kept.3, more.0, more.1, rw (items, map-append fields_of c.loop-row.rows.items (c.in_ok-row.field-0 ∷ [])) more.2)
+    let more = rows-more (λ (s : Bor (List ℕ)). Some s.now) c.loop-row.row-iterator.rdr c.next.new.self.rdr (fields_of c.in-Ok.row) default_config StartRecord (strip_bom c.args.text.now) kept.5 (map fields_of c.loop-row.rows.items) kept.4 kept.6 kept.7 step.0 in (
+      step.0.3 ∙ kept.0,
+      inl step.1,
+      step.2,
+      (rw (c.in-Some.is, c.in-Ok.is) at ((c.next.ensures.steps kept.2 kept.0).3)) ∙ kept.3,
+      step.0.2 ∙ kept.4,
+      more.0,
+      more.1,
+      rw (items, map-append fields_of c.loop-row.rows.items (c.in-Ok.row ∷ [])) more.2,
+    )
 
-pub returns : goal.returns
-returns c =
+pub returns-clause-ok : goal.returns-clause-ok
+returns-clause-ok c =
     let kept = c.loop-row.invariant in
     let step = rw c.in-None.is at ((c.next.ensures.steps kept.2 kept.0).0 kept.1) in
-    (c.loop-row.row-iterator.rdr.state, kept.4, kept.6, rows-end (λ (s : Bor (List ℕ)). Some s.now) c.loop-row.row-iterator.rdr c.next.new.self.rdr [] default_config kept.4 kept.3 kept.5 step)
+    (c.loop-row.row-iterator.rdr.state, kept.5, kept.7, rows-end (λ (s : Bor (List ℕ)). Some s.now) c.loop-row.row-iterator.rdr c.next.new.self.rdr [] default_config kept.5 kept.4 kept.6 step)
