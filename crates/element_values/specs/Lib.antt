@@ -1,0 +1,5 @@
+-- What public contracts cite.
+pub mod Numbers
+pub mod Instants
+pub mod Strings
+pub mod FieldTexts
