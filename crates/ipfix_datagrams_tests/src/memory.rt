@@ -1,0 +1,33 @@
+//! What is answered where memory runs out.
+
+use crate::octets::CHANGES_256;
+use ipfix_datagrams::{DatagramFault, read_datagram};
+use ipfix_message::{Domains, MessageFault, header_of};
+use std::test::*;
+use worked_examples::flows::ONE_FLOW;
+
+// A refused allocation refuses the datagram, and the templates in force stay.
+#[test]
+fn reading_survives_refused_memory(rt: HostRuntime) -> Result<(), Fail> {
+    let mut domains = Domains::new(rt.alloc());
+    if domains.decode(rt.alloc(), ONE_FLOW).is_err() {
+        let _ = eprintln!(rt; "read: no memory before");
+        return Ok(());
+    }
+    let header = header_of(CHANGES_256)?;
+    match read_datagram(rt.alloc(), &domains, &header, CHANGES_256) {
+        Ok(ids) => {
+            assert_eq!(rt; ids.as_slice(), [256].as_slice());
+            let _ = eprintln!(rt; "read: right");
+        }
+        Err(fault) => {
+            assert_eq!(rt; fault, DatagramFault::Message(MessageFault::OutOfMemory));
+            let _ = eprintln!(rt; "read: OutOfMemory");
+        }
+    }
+    assert_eq!(rt;
+        domains.lookup(1, 256).map(|template| template.specs.len()),
+        Some(4)
+    );
+    Ok(())
+}

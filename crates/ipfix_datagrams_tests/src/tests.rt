@@ -1,0 +1,219 @@
+//! Which datagrams are taken over UDP, which ids they free, and why the others are refused (RFC 7011,
+//! sections 8, 8.1, 8.4 and 10.3).
+
+use crate::octets::*;
+use ipfix_datagrams::{DatagramFault, append_withdrawal, read_datagram};
+use ipfix_message::{Domains, MessageFault, header_of};
+use ipfix_wire::Header;
+use std::alloc::Global;
+use std::process::Abort;
+use std::test::*;
+use worked_examples::faults::VERSION_9;
+use worked_examples::flows::{
+    CUT_FLOW, FLOW_OF_DOMAIN_1, FLOW_OF_DOMAIN_2, NEXT_FLOW, ONE_FLOW, TEMPLATE_256,
+};
+use worked_examples::header;
+use worked_examples::templates::*;
+
+// What is answered of a datagram.
+fn answer(alloc: Global, domains: &Domains, datagram: &[u8]) -> Result<Vec<u16>, DatagramFault> {
+    let header = header_of(datagram)?;
+    read_datagram(alloc, domains, &header, datagram)
+}
+
+// The domains behind messages.
+fn domains_after(alloc: Global, messages: &[&[u8]]) -> Result<Domains, MessageFault> {
+    let mut domains = Domains::new(alloc);
+    for message in messages {
+        let _ = domains.decode(alloc, message)?;
+    }
+    Ok(domains)
+}
+
+// Asserts that a datagram is taken behind messages, and frees these ids.
+fn assert_taken(
+    rt: &impl Abort,
+    alloc: Global,
+    messages: &[&[u8]],
+    datagram: &[u8],
+    freed: &[u16],
+) -> Result<(), Fail> {
+    let domains = domains_after(alloc, messages)?;
+    let ids = answer(alloc, &domains, datagram)?;
+    assert_eq!(rt; ids.as_slice(), freed);
+    Ok(())
+}
+
+// Asserts that a datagram is refused behind messages with this fault.
+fn assert_refused(
+    rt: &impl Abort,
+    alloc: Global,
+    messages: &[&[u8]],
+    datagram: &[u8],
+    fault: DatagramFault,
+) -> Result<(), Fail> {
+    let domains = domains_after(alloc, messages)?;
+    let refused = answer(alloc, &domains, datagram).err();
+    assert_eq!(rt; refused, Some(fault));
+    Ok(())
+}
+
+// A datagram is one message: its length is that of its header, and its version is 10.
+#[test]
+fn a_datagram_is_one_message(rt: HostRuntime) -> Result<(), Fail> {
+    let length = DatagramFault::Message(MessageFault::MessageLength);
+    let mut longer = Vec::from_slice(rt.alloc(), ONE_FLOW)?;
+    longer.push(0)?;
+    assert_refused(&rt, rt.alloc(), &[], &longer, length)?;
+    assert_refused(&rt, rt.alloc(), &[], CUT_FLOW, length)?;
+    assert_refused(&rt, rt.alloc(), &[], &[], length)?;
+    let version = DatagramFault::Message(MessageFault::Version);
+    assert_refused(&rt, rt.alloc(), &[], VERSION_9, version)?;
+    assert_taken(&rt, rt.alloc(), &[], ONE_FLOW, &[])
+}
+
+// Exporters send templates again and again over UDP.
+#[test]
+fn a_template_that_is_sent_again_frees_nothing(rt: HostRuntime) -> Result<(), Fail> {
+    assert_taken(&rt, rt.alloc(), &[ONE_FLOW], TEMPLATE_256, &[])?;
+    assert_taken(&rt, rt.alloc(), &[ONE_FLOW, NEXT_FLOW], ONE_FLOW, &[])?;
+    assert_taken(&rt, rt.alloc(), &[OPTIONS_TEMPLATE], OPTIONS_TEMPLATE, &[])
+}
+
+// A definition replaces an older one of its id. All ids are freed that the datagram has templates for, in
+// ascending order.
+#[test]
+fn a_changed_template_frees_its_ids(rt: HostRuntime) -> Result<(), Fail> {
+    assert_taken(&rt, rt.alloc(), &[ONE_FLOW], CHANGES_256, &[256])?;
+    assert_taken(&rt, rt.alloc(), &[CHANGES_256], ONE_FLOW, &[256])?;
+    assert_taken(
+        &rt,
+        rt.alloc(),
+        &[ONE_FLOW],
+        DEFINES_300_AND_CHANGES_256,
+        &[256, 300],
+    )
+}
+
+#[test]
+fn an_options_template_replaces_a_template(rt: HostRuntime) -> Result<(), Fail> {
+    assert_taken(&rt, rt.alloc(), &[ONE_FLOW], OPTIONS_256, &[256])?;
+    assert_taken(&rt, rt.alloc(), &[OPTIONS_256], ONE_FLOW, &[256])
+}
+
+// One that defines an id in two ways is no datagram of one exporter.
+#[test]
+fn a_datagram_that_contradicts_itself_is_refused(rt: HostRuntime) -> Result<(), Fail> {
+    let fault = DatagramFault::Message(MessageFault::TemplateChanged);
+    assert_refused(&rt, rt.alloc(), &[], CHANGED_TEMPLATE, fault)?;
+    assert_refused(&rt, rt.alloc(), &[ONE_FLOW], CHANGED_TEMPLATE, fault)
+}
+
+// No exporter may withdraw over UDP; where a template would be gone, the datagram is refused. One that
+// withdraws what isn't there, or defines it anew, leaves no id without a template.
+#[test]
+fn a_withdrawal_is_refused(rt: HostRuntime) -> Result<(), Fail> {
+    let gone = DatagramFault::Withdrawal;
+    assert_refused(&rt, rt.alloc(), &[ONE_FLOW], WITHDRAWS_256, gone)?;
+    assert_refused(&rt, rt.alloc(), &[ONE_FLOW], WITHDRAWS_ALL, gone)?;
+    assert_taken(&rt, rt.alloc(), &[], WITHDRAWAL_OF_NOTHING, &[])?;
+    assert_taken(&rt, rt.alloc(), &[], WITHDRAWS_ALL, &[])?;
+    assert_taken(&rt, rt.alloc(), &[], EMPTY_SET_IN_FORCE_ONCE, &[])?;
+    assert_taken(&rt, rt.alloc(), &[OPTIONS_TEMPLATE], WITHDRAWS_ALL, &[])
+}
+
+// Its data set is passed over as unknown.
+#[test]
+fn records_before_their_template_are_taken(rt: HostRuntime) -> Result<(), Fail> {
+    assert_taken(&rt, rt.alloc(), &[], FLOW_OF_DOMAIN_1, &[])
+}
+
+// Template ids belong to a domain: another domain's templates change nothing.
+#[test]
+fn domains_are_apart(rt: HostRuntime) -> Result<(), Fail> {
+    assert_taken(&rt, rt.alloc(), &[FLOW_OF_DOMAIN_2], ONE_FLOW, &[])?;
+    assert_taken(
+        &rt,
+        rt.alloc(),
+        &[FLOW_OF_DOMAIN_2, CHANGES_256],
+        FLOW_OF_DOMAIN_2,
+        &[],
+    )?;
+    assert_taken(
+        &rt,
+        rt.alloc(),
+        &[FLOW_OF_DOMAIN_2, CHANGES_256],
+        ONE_FLOW,
+        &[256],
+    )
+}
+
+#[test]
+fn one_domain_too_many_is_refused(rt: HostRuntime) -> Result<(), Fail> {
+    let alloc: Global = rt.alloc();
+    let mut domains = Domains::new(alloc);
+    for domain in 0..1024 {
+        let _ = domains.decode(alloc, &header(16, 0, domain))?;
+    }
+    assert!(rt; answer(alloc, &domains, &header(16, 0, 1023)).is_ok());
+    assert_eq!(rt;
+        answer(alloc, &domains, &header(16, 0, 1024)).err(),
+        Some(DatagramFault::Message(MessageFault::TooManyDomains))
+    );
+    Ok(())
+}
+
+// A malformed datagram has its message's fault.
+#[test]
+fn a_malformed_datagram_is_refused(rt: HostRuntime) -> Result<(), Fail> {
+    let fault = DatagramFault::Message(MessageFault::ZeroLength);
+    assert_refused(&rt, rt.alloc(), &[ONE_FLOW], ZERO_LENGTH_TEMPLATE, fault)
+}
+
+// Nothing changes by asking.
+#[test]
+fn domains_stay_as_they_are(rt: HostRuntime) -> Result<(), Fail> {
+    let alloc: Global = rt.alloc();
+    let domains = domains_after(alloc, &[ONE_FLOW])?;
+    let _ = answer(alloc, &domains, CHANGES_256)?;
+    let _ = answer(alloc, &domains, WITHDRAWS_256);
+    let fields = domains.lookup(1, 256).map(|template| template.specs.len());
+    assert_eq!(rt; fields, Some(4));
+    assert!(rt; domains.lookup(1, 300).is_none());
+    Ok(())
+}
+
+// Both sets of a withdrawal (RFC 7011, section 8.1), and what they do.
+#[test]
+fn a_withdrawal_frees_an_id(rt: HostRuntime) -> Result<(), Fail> {
+    let alloc: Global = rt.alloc();
+    let mut octets = Vec::new(alloc);
+    let header = Header {
+        length: 16,
+        export_time: 1_700_000_000,
+        sequence: 5,
+        domain: 7,
+    };
+    append_withdrawal(&header, 256, &mut octets)?;
+    assert_eq!(rt; octets.as_slice(), WITHDRAWAL_OF_256);
+    for first in [ONE_FLOW, OPTIONS_256] {
+        let mut domains = domains_after(alloc, &[first])?;
+        octets.clear();
+        append_withdrawal(&header_of(first)?, 256, &mut octets)?;
+        let decoded = domains.decode(alloc, &octets)?;
+        assert_eq!(rt; decoded.records.len(), 0);
+        assert!(rt; domains.lookup(1, 256).is_none());
+    }
+    Ok(())
+}
+
+#[test]
+fn faults_have_texts(rt: HostRuntime) -> Result<(), Fail> {
+    let alloc: Global = rt.alloc();
+    let withdrawal = format!(in alloc; "{}", DatagramFault::Withdrawal)?;
+    assert_eq!(rt; withdrawal.as_str(), "a template is withdrawn over UDP");
+    let message = format!(in alloc; "{}", DatagramFault::Message(MessageFault::Version))?;
+    let fault = format!(in alloc; "{}", MessageFault::Version)?;
+    assert_eq!(rt; message.as_str(), fault.as_str());
+    Ok(())
+}

@@ -1,0 +1,6 @@
+pub mod FreedIds
+pub mod PeerFiles
+pub mod Taking
+pub mod Stopping
+pub mod FilesGive
+pub mod FilesKeep

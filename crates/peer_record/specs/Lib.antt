@@ -1,0 +1,6 @@
+-- What public contracts cite.
+pub mod Peers
+pub mod Recording
+-- What only inner functions and proofs need.
+pub mod Freeing
+pub mod Ready

@@ -1,0 +1,12 @@
+//! A peer that sends over UDP in files, each of which can be read by itself as a session: its datagrams as
+//! they came. A datagram that changes a template begins a file.
+#![tactic(auto)]
+
+mod filing;
+mod freeing;
+pub mod laws;
+mod peer_answer;
+mod peer_recorder;
+
+pub use peer_answer::PeerAnswer;
+pub use peer_recorder::PeerRecorder;

@@ -1,0 +1,8 @@
+//! A peer in files: where they begin, what each gives, and what refused datagrams and failed calls do.
+
+mod datagrams;
+mod endings;
+mod files;
+mod refusals;
+mod reports;
+mod running;

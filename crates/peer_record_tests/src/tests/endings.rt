@@ -1,0 +1,62 @@
+//! How a peer ends: where a file isn't written, and where memory runs out.
+
+use super::datagrams::*;
+use super::running::{take_all, told_by};
+use ipfix_datagrams::DatagramFault;
+use ipfix_message::MessageFault;
+use ipfix_record::{MemoryFiles, RecordFault};
+use ipfix_session::SessionFault;
+use peer_record::{PeerAnswer, PeerRecorder};
+use std::test::*;
+
+// Files that have room for 100 octets: the first datagram stands whole, and then the first octets of the
+// next. From then on each call answers the same, and writes nothing.
+#[test]
+fn a_full_place_ends_the_peer(rt: HostRuntime) -> Result<(), Fail> {
+    let mut peer = PeerRecorder::new(rt.alloc());
+    let mut files = MemoryFiles::new(rt.alloc(), 100);
+    take_all(&rt, rt.alloc(), &mut peer, &[FIRST_OF_1], &mut files);
+    for _ in 0..3 {
+        let answer = peer.take(rt.alloc(), FIRST_OF_2, &mut files);
+        assert_eq!(rt; answer, Err(RecordFault::NotWritten));
+        assert_eq!(rt; peer.finish_file(&mut files), Err(RecordFault::NotWritten));
+    }
+    assert_eq!(rt; (files.failed, files.finished.len()), (1, 0));
+    let mut whole = Vec::from_slice(rt.alloc(), FIRST_OF_1)?;
+    whole.extend_from_slice(&FIRST_OF_2[..29])?;
+    assert_eq!(rt; files.unfinished.as_slice(), whole.as_slice());
+    let session = peer.into_session();
+    assert_eq!(rt; session.ended, Err(RecordFault::NotWritten));
+    assert_eq!(rt; session.last.messages, 1);
+    let report = session.report.report;
+    assert_eq!(rt;
+        (report.messages, report.fault),
+        (1, Some(SessionFault::SinkClosed))
+    );
+    Ok(())
+}
+
+// A refused allocation refuses the datagram or ends the peer; what was recorded before stands whole.
+#[test]
+fn recording_survives_refused_memory(rt: HostRuntime) -> Result<(), Fail> {
+    let mut peer = PeerRecorder::new(rt.alloc());
+    let mut files = MemoryFiles::new(rt.alloc(), 100_000);
+    let mut recorded: u64 = 0;
+    for datagram in DATAGRAMS {
+        match peer.take(rt.alloc(), datagram, &mut files) {
+            Ok(PeerAnswer::Recorded) => recorded = recorded.saturating_add(1),
+            Ok(PeerAnswer::Refused(fault)) => {
+                assert_eq!(rt; fault, DatagramFault::Message(MessageFault::OutOfMemory));
+            }
+            Err(fault) => {
+                assert!(rt; fault != RecordFault::Truncated);
+                let _ = eprintln!(rt; "take: {fault}");
+            }
+        }
+    }
+    if recorded == 6 {
+        assert_eq!(rt; told_by(&rt, rt.alloc(), &files)?.as_slice(), TOLD);
+    }
+    assert!(rt; peer.into_session().report.report.messages == recorded);
+    Ok(())
+}

@@ -1,0 +1,83 @@
+//! Recording datagrams in memory, and reading a file.
+
+use ipfix_message::DataRecord;
+use ipfix_record::MemoryFiles;
+use ipfix_session::{FromReader, VecSink, drive_in_full};
+use peer_record::{PeerAnswer, PeerRecorder};
+use std::alloc::{AllocError, Global};
+use std::process::Abort;
+
+/// Takes datagrams, each of which is to be recorded.
+pub fn take_all(
+    rt: &impl Abort,
+    alloc: Global,
+    peer: &mut PeerRecorder,
+    datagrams: &[&[u8]],
+    files: &mut MemoryFiles,
+) {
+    for datagram in datagrams {
+        let answer = peer.take(alloc, datagram, files);
+        assert_eq!(rt; answer, Ok(PeerAnswer::Recorded));
+    }
+}
+
+/// The files that datagrams are recorded in, where the file is finished before the datagram of this number.
+pub fn files_of(
+    rt: &impl Abort,
+    alloc: Global,
+    datagrams: &[&[u8]],
+    finish_before: usize,
+) -> MemoryFiles {
+    let mut peer = PeerRecorder::new(alloc);
+    let mut files = MemoryFiles::new(alloc, 100_000);
+    for (number, datagram) in datagrams.iter().enumerate() {
+        if number == finish_before {
+            assert_eq!(rt; peer.finish_file(&mut files), Ok(()));
+        }
+        let answer = peer.take(alloc, datagram, &mut files);
+        assert_eq!(rt; answer, Ok(PeerAnswer::Recorded));
+    }
+    files
+}
+
+// Appends the domain of a record, its template and its fields.
+fn tell(record: &DataRecord, told: &mut Vec<u8>) -> Result<(), AllocError> {
+    let [_, _, _, domain] = record.domain.to_be_bytes();
+    told.push(domain)?;
+    told.extend_from_slice(&record.template.to_be_bytes())?;
+    for field in record.fields.iter() {
+        told.extend_from_slice(field.octets)?;
+    }
+    Ok(())
+}
+
+/// Reads a file by itself, and appends what its records are. It has no fault, and nothing that the strict
+/// profile does not have, but for losses.
+pub fn tell_file(
+    rt: &impl Abort,
+    alloc: Global,
+    file: &[u8],
+    told: &mut Vec<u8>,
+) -> Result<(), AllocError> {
+    let mut source = FromReader::new(file);
+    let mut sink = VecSink::new(alloc);
+    let full = drive_in_full(alloc, &mut source, &mut sink, 1000);
+    assert_eq!(rt; full.report.fault, None);
+    assert_eq!(rt; full.report.unknown_sets, 0);
+    assert_eq!(rt; full.report.skipped_sets, 0);
+    assert_eq!(rt; full.report.ignored_withdrawals, 0);
+    for record in sink.records.iter() {
+        tell(record, told)?;
+    }
+    Ok(())
+}
+
+/// The records of all files, each of which is read by itself.
+pub fn told_by(rt: &impl Abort, alloc: Global, files: &MemoryFiles) -> Result<Vec<u8>, AllocError> {
+    let mut told = Vec::new(alloc);
+    for file in files.finished.iter() {
+        tell_file(rt, alloc, file.as_slice(), &mut told)?;
+    }
+    tell_file(rt, alloc, files.unfinished.as_slice(), &mut told)?;
+    Ok(told)
+}
