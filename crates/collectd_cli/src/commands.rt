@@ -6,8 +6,8 @@ use crate::inputs::{
     read_telling, table_output,
 };
 use crate::refused::{
-    write_refused, write_refused_files, write_refused_output, write_refused_peers,
-    write_refused_pool,
+    write_refused, write_refused_exports, write_refused_files, write_refused_output,
+    write_refused_peers, write_refused_pool,
 };
 use clap::ArgMatches;
 use collectd::{
@@ -16,7 +16,6 @@ use collectd::{
     write_dump_fault, write_not_had_because,
 };
 use exit_status::Status;
-use fault_guide::run_explain;
 use ipfix_session::FromReader;
 use std::io::Stderr;
 use std::net::TcpListener;
@@ -163,21 +162,18 @@ pub fn merge(rt: &HostRuntime, chosen: &ArgMatches) -> Result<u8, Status> {
     let job = read_job(rt, chosen).ok_or(Status::NotOpened)?;
     let mut out = table_output(rt, &mut err)?;
     let mut files = SystemFiles::new(rt, rt.alloc());
+    let telling = read_telling(chosen);
     let status = run_merge_in_full(
         &mut files,
         rt.alloc(),
         paths,
         &job.plan,
         job.output,
-        read_telling(chosen),
+        telling,
         &mut out,
         &mut Remembering::new(rt.stderr()),
     );
-    write_refused_output(read_telling(chosen), &out, &mut err);
+    write_refused_output(telling, &out, &mut err);
+    write_refused_exports(telling, paths, files.notes(), &mut err);
     Ok(status)
-}
-
-/// `collectd explain`: what is told of a fault, or the list of all, to standard output.
-pub fn explain(rt: &HostRuntime, chosen: &ArgMatches) -> u8 {
-    run_explain(chosen.get_str("fault"), &mut rt.stdout(), &mut rt.stderr()).number()
 }

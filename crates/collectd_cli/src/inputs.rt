@@ -4,7 +4,7 @@ use crate::formats::table_format;
 use crate::progress_output::{ProgressOutput, open_terminal};
 use crate::timers::ask_for_short_sleeps;
 use clap::ArgMatches;
-use collectd::{Noted, Output, Telling, load_plan, write_export_fault};
+use collectd::{Noted, Output, Remembering, Telling, load_plan, write_export_fault};
 use exit_status::Status;
 use flow_collect::Pool;
 use flow_export::ExportFault;
@@ -44,7 +44,8 @@ pub struct Job {
 /// The plan, which is read here, and the options. If there is no plan, standard error has a line.
 pub fn read_job(rt: &HostRuntime, chosen: &ArgMatches) -> Option<Job> {
     let path = chosen.get_str("plan")?;
-    let plan = load_plan(rt, rt.alloc(), path, read_telling(chosen), &mut rt.stderr())?;
+    let mut err = Remembering::new(rt.stderr());
+    let plan = load_plan(rt, rt.alloc(), path, read_telling(chosen), &mut err)?;
     let time = chosen.get_one::<u32>("time")?;
     let format = table_format(chosen.get_str("format")?)?;
     Some(Job {

@@ -3,6 +3,7 @@
 
 mod commands;
 mod formats;
+mod guides;
 mod inputs;
 mod progress_output;
 mod record_command;
@@ -57,7 +58,8 @@ fn run_subcommand<R: Clock + Threads + Wait + Sync>(
         Some(Subcommand::Tcp) => commands::tcp(threads, rt, chosen),
         Some(Subcommand::Record) => record_command::record(threads, rt, chosen),
         Some(Subcommand::Merge) => commands::merge(rt, chosen),
-        Some(Subcommand::Explain) => Ok(commands::explain(rt, chosen)),
+        Some(Subcommand::Elements) => guides::elements(rt, chosen),
+        Some(Subcommand::Explain) => Ok(guides::explain(rt, chosen)),
         // (the parser lets no other word through)
         None => Err(Status::NotOpened),
     };

@@ -2,8 +2,9 @@
 
 use crate::commands::listen_on;
 use crate::inputs::read_idle;
+use crate::refused::WITH_REASONS;
 use clap::ArgMatches;
-use collectd::{Reason, Telling, write_not_had, write_not_had_because};
+use collectd::{Reason, write_not_had, write_not_had_because};
 use collectd_record::{FolderFault, PeerFilter, Prefix, RecordOrder, open_recordings, run_record};
 use exit_status::Status;
 use std::io::{Stderr, Write};
@@ -11,12 +12,6 @@ use std::num::NonZeroU64;
 use std::rt::Clock;
 use std::sync::Wait;
 use std::thread::Threads;
-
-/// The reason why a folder or an address can't be had always stands in its line.
-const TELLING: Telling = Telling {
-    verbose: true,
-    strict: false,
-};
 
 /// `collectd record`: what comes over connections to files in a folder, for ever.
 pub fn record<R: Clock + Threads + Wait + Sync>(
@@ -28,7 +23,7 @@ pub fn record<R: Clock + Threads + Wait + Sync>(
     let addr = chosen.get_str("listen").ok_or(Status::NotOpened)?;
     let path = chosen.get_str("into").ok_or(Status::NotOpened)?;
     let order = read_order(rt, chosen, &mut err)?;
-    let listener = listen_on(rt, addr, TELLING, &mut err)?;
+    let listener = listen_on(rt, addr, WITH_REASONS, &mut err)?;
     match open_recordings(rt, rt.alloc(), path, err) {
         Ok(folder) => {
             Ok(run_record(threads, rt, rt.alloc(), listener, &folder, &order, err).number())
@@ -45,7 +40,7 @@ fn tell_folder(path: &str, fault: &FolderFault, err: &mut Stderr) {
     let _ = match fault {
         FolderFault::InUse => write_not_had("folder in use", path, err),
         FolderFault::NotHad(error) => {
-            write_not_had_because(TELLING, "folder", path, Reason::of(error), err)
+            write_not_had_because(WITH_REASONS, "folder", path, Reason::of(error), err)
         }
     };
 }

@@ -7,6 +7,12 @@ use exit_status::Status;
 use flow_collect::Pool;
 use std::io::{BufWriter, Stderr, Stdout};
 
+/// For commands in whose lines the system's reason always stands.
+pub const WITH_REASONS: Telling = Telling {
+    verbose: true,
+    strict: false,
+};
+
 /// Why the system did not take octets of standard output, as `write_refused` says it.
 pub fn write_refused_output(telling: Telling, out: &BufWriter<Noted<Stdout>>, err: &mut Stderr) {
     let note = out.get_ref().note();
@@ -31,6 +37,13 @@ pub fn write_refused_pool(
 pub fn write_refused(telling: Telling, what: &str, name: &str, note: &Note, err: &mut Stderr) {
     if let (true, Some(reason)) = (telling.verbose, note.reason()) {
         let _ = write_not_had_because(telling, what, name, reason, err);
+    }
+}
+
+/// Why the system did not give octets of exports in files, as `write_refused` says it of each.
+pub fn write_refused_exports(telling: Telling, paths: &[&str], notes: &[Note], err: &mut Stderr) {
+    for (path, note) in paths.iter().zip(notes) {
+        write_refused(telling, "read", *path, note, err);
     }
 }
 

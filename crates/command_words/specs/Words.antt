@@ -1,7 +1,7 @@
 -- The words of the command line that name a command.
 use Rattle.std.specs.Prelude.{ℕ, List, codes}
 use Rattle.command_words.specs.declared.subcommands.Subcommand.{Subcommand}
-use Rattle.command_words.specs.declared.subcommands.Subcommand.TheVariants.{Dump, Files, Tcp, Record, Merge, Explain}
+use Rattle.command_words.specs.declared.subcommands.Subcommand.TheVariants.{Dump, Files, Tcp, Record, Merge, Elements, Explain}
 
 abbrev pub word_of : Subcommand → List ℕ
 word_of Dump = codes "dump"
@@ -9,4 +9,5 @@ word_of Files = codes "files"
 word_of Tcp = codes "tcp"
 word_of Record = codes "record"
 word_of Merge = codes "merge"
+word_of Elements = codes "elements"
 word_of Explain = codes "explain"

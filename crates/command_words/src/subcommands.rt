@@ -11,6 +11,7 @@ pub enum Subcommand {
     Tcp,
     Record,
     Merge,
+    Elements,
     Explain,
 }
 
@@ -25,6 +26,7 @@ impl Subcommand {
             Subcommand::Tcp => "tcp",
             Subcommand::Record => "record",
             Subcommand::Merge => "merge",
+            Subcommand::Elements => "elements",
             Subcommand::Explain => "explain",
         }
     }
@@ -39,6 +41,7 @@ impl Subcommand {
             "tcp" => Some(Subcommand::Tcp),
             "record" => Some(Subcommand::Record),
             "merge" => Some(Subcommand::Merge),
+            "elements" => Some(Subcommand::Elements),
             "explain" => Some(Subcommand::Explain),
             _ => None,
         }

@@ -6,7 +6,7 @@ use crate::options::{
 };
 use crate::record_options::with_recording;
 use crate::subcommands::Subcommand;
-use clap::{Arg, ArgMatches, Command, Error};
+use clap::{Arg, ArgAction, ArgMatches, Command, Error};
 use std::alloc::{AllocError, Global};
 
 /// The version, which `--version` prints and `CHANGELOG.md` describes.
@@ -28,6 +28,7 @@ fn command<'a>(alloc: Global) -> Result<Command<'a>, AllocError> {
         .subcommand(subcommand(alloc, Subcommand::Tcp)?)?
         .subcommand(subcommand(alloc, Subcommand::Record)?)?
         .subcommand(subcommand(alloc, Subcommand::Merge)?)?
+        .subcommand(subcommand(alloc, Subcommand::Elements)?)?
         .subcommand(subcommand(alloc, Subcommand::Explain)?)
 }
 
@@ -39,6 +40,7 @@ fn subcommand<'a>(alloc: Global, named: Subcommand) -> Result<Command<'a>, Alloc
         Subcommand::Tcp => with_tcp(alloc, command),
         Subcommand::Record => with_record(alloc, command),
         Subcommand::Merge => with_merge(alloc, command),
+        Subcommand::Elements => with_elements(alloc, command),
         Subcommand::Explain => with_explain(alloc, command),
     }
 }
@@ -101,6 +103,28 @@ fn with_merge<'a>(alloc: Global, command: Command<'a>) -> Result<Command<'a>, Al
         .about("Adds up tables that were written as IPFIX and writes the table of all of them")
         .after_help("Example:\n  collectd merge --plan plan.toml one.ipfix two.ipfix > table.csv");
     with_telling(alloc, with_output(alloc, with_plan(alloc, merge)?)?)?.arg(file)
+}
+
+fn with_elements<'a>(alloc: Global, command: Command<'a>) -> Result<Command<'a>, AllocError> {
+    let elements = option(
+        alloc,
+        "elements",
+        "FILE",
+        "A file of elements, with the columns of IANA's list; given several times, of all of them",
+    )
+    .action(ArgAction::Append);
+    let word = Arg::new(alloc, "word").value_name("WORD").help(
+        "The number of an element, or e<enterprise>.<number>, or a part of its name, in any letter case",
+    );
+    command
+        .about(
+            "Lists the elements that are known, or those that a word fits: number, type and name",
+        )
+        .after_help(
+            "Example:\n  collectd elements --elements /usr/share/collectd/elements/iana.csv port",
+        )
+        .arg(elements)?
+        .arg(word)
 }
 
 fn with_explain<'a>(alloc: Global, command: Command<'a>) -> Result<Command<'a>, AllocError> {

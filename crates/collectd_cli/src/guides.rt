@@ -1,0 +1,33 @@
+//! `collectd elements` and `collectd explain`, which read no flows.
+
+use crate::inputs::buffered_output;
+use crate::refused::WITH_REASONS;
+use clap::ArgMatches;
+use collectd::Remembering;
+use element_guide::{run_elements, write_out_of_memory};
+use exit_status::Status;
+use fault_guide::run_explain;
+
+/// `collectd elements`: the elements that are known, or those that a word fits, to standard output.
+pub fn elements(rt: &HostRuntime, chosen: &ArgMatches) -> Result<u8, Status> {
+    let mut err = Remembering::new(rt.stderr());
+    let Some(mut out) = buffered_output(rt) else {
+        let _ = write_out_of_memory(&mut err);
+        return Err(Status::Failed);
+    };
+    let status = run_elements(
+        rt,
+        rt.alloc(),
+        chosen.get_strs("elements").unwrap_or(&[]),
+        chosen.get_str("word"),
+        WITH_REASONS,
+        &mut out,
+        &mut err,
+    );
+    Ok(status.number())
+}
+
+/// `collectd explain`: what is told of a fault, or the list of all, to standard output.
+pub fn explain(rt: &HostRuntime, chosen: &ArgMatches) -> u8 {
+    run_explain(chosen.get_str("fault"), &mut rt.stdout(), &mut rt.stderr()).number()
+}

@@ -1,0 +1,4 @@
+pub mod BuiltIn
+pub mod Joined
+pub mod Telling
+pub mod Files
