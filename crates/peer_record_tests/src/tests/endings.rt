@@ -28,7 +28,7 @@ fn a_full_place_ends_the_peer(rt: HostRuntime) -> Result<(), Fail> {
     let session = peer.into_session();
     assert_eq!(rt; session.ended, Err(RecordFault::NotWritten));
     assert_eq!(rt; session.last.messages, 1);
-    let report = session.report.report;
+    let report = &session.report.report;
     assert_eq!(rt;
         (report.messages, report.fault),
         (1, Some(SessionFault::SinkClosed))

@@ -28,7 +28,7 @@ fn the_ledger_goes_on_in_the_next_file(rt: HostRuntime) -> Result<(), Fail> {
     let session = peer.into_session();
     assert_eq!(rt; session.ended, Ok(()));
     assert_eq!(rt; session.last, second);
-    let report = session.report.report;
+    let report = &session.report.report;
     assert_eq!(rt; (report.messages, report.delivered), (6, 10));
     let domains = report
         .domains
