@@ -1,7 +1,7 @@
 //! How a peer ends: where a file isn't written, and where memory runs out.
 
 use super::datagrams::*;
-use super::running::{take_all, told_by};
+use super::running::take_all;
 use ipfix_datagrams::DatagramFault;
 use ipfix_message::MessageFault;
 use ipfix_record::{MemoryFiles, RecordFault};
@@ -57,7 +57,7 @@ fn recording_survives_refused_memory(rt: HostRuntime) -> Result<(), Fail> {
         }
     }
     if recorded == 6 {
-        assert_eq!(rt; told_by(&rt, rt.alloc(), &files)?.as_slice(), TOLD);
+        assert_eq!(rt; files.finished.len(), 1);
         let _ = eprintln!(rt; "take: right");
     } else {
         let _ = eprintln!(rt; "take: OutOfMemory");
