@@ -1,6 +1,6 @@
 //! Threads that record one session after another.
 
-ghost use Rattle.std.specs.Prelude.{◌≡◌, ◌≢◌, ℕ};
+ghost use Rattle.std.specs.Prelude.{◌≡◌, ℕ};
 ghost use Rattle.std.specs.Net.Socket.{socket_ip};
 ghost use Rattle.collectd_record.specs.Peers.{LetsIn};
 ghost use Rattle.collectd_record.specs.Serving.{IsServed};
@@ -46,7 +46,7 @@ pub fn record_connections<
     threads: usize,
     err: E,
 ) -> Status
-    ensures { result ≢ Status.Well }
+    ensures { result ≡ Status.Failed }
 {
     let desk = Mutex::new(FrontDesk::new());
     let desk = &desk;
@@ -54,7 +54,7 @@ pub fn record_connections<
         thread::scope_env(),
         rt,
         |scope| -> Status
-            ensures { result ≢ Status.Well }
+            ensures { result ≡ Status.Failed }
         {
             run_all(
                 scope, rt, alloc, listener, place, filter, threads, desk, err,
@@ -85,7 +85,7 @@ fn run_all<
     desk: &'s Mutex<FrontDesk>,
     err: E,
 ) -> Status
-    ensures { result ≢ Status.Well }
+    ensures { result ≡ Status.Failed }
 {
     let mut log = Log::new(alloc, err);
     let mut started: usize = 0;

@@ -1,6 +1,6 @@
 //! Recording in a folder of the system.
 
-ghost use Rattle.std.specs.Prelude.{◌≢◌, ⊤};
+ghost use Rattle.std.specs.Prelude.{◌≡◌, ⊤};
 
 use crate::connection::PatientListener;
 use crate::log::Log;
@@ -110,7 +110,7 @@ pub fn run_record<E: Write + Copy + Send + Sync + Drop, R: Clock + Threads + Wai
     order: &RecordOrder,
     err: E,
 ) -> Status
-    ensures { result ≢ Status.Well }
+    ensures { result ≡ Status.Failed }
 {
     let listener = PatientListener {
         listener,
