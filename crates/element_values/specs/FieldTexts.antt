@@ -2,11 +2,9 @@
 use Rattle.std.specs.Prelude.{ℕ, ℤ, Bool, true, false, List, ◌++◌, codes, if◌then◌else◌, unsigned_abs}
 use Rattle.std.specs.Option.{option_map_or}
 use Rattle.std.specs.Fmt.{decimal, signed_decimal}
-use Rattle.ipfix_elements.specs.declared.kind.Kind.{Kind}
 use Rattle.ipfix_elements.specs.declared.kind.Kind.TheVariants as kinds
 use Rattle.ipfix_elements.specs.Texts.{value_text}
-use Rattle.ipfix_elements.specs.Values.{cell_in}
-use Rattle.ipfix_elements.specs.JsonValues.{in_quotes, is_exact, json_cell, json_number}
+use Rattle.ipfix_elements.specs.JsonValues.{in_quotes, is_exact, json_number, json_value}
 use Rattle.element_registry.specs.declared.kind.ElementKind.{ElementKind}
 use Rattle.element_registry.specs.declared.kind.ElementKind.TheVariants.{Plain, Boolean, Signed, Micros, Nanos, Text}
 use Rattle.element_values.specs.Numbers.{boolean_in, signed_in}
@@ -38,12 +36,9 @@ digits_by exact digits = if exact then digits else in_quotes digits
 abbrev pub json_signed : ℤ → List ℕ
 json_signed n = digits_by (is_exact (unsigned_abs n)) (signed_decimal n)
 
-abbrev pub json_plain : Kind → List ℕ → List ℕ
-json_plain kind octets = option_map_or json_cell (cell_in kind octets) (in_quotes (value_text kind octets))
-
 -- as a value of JSON
 abbrev pub json_under : ElementKind → List ℕ → List ℕ
-json_under (Plain kind) octets = json_plain kind octets
+json_under (Plain kind) octets = json_value kind octets
 json_under Boolean octets = option_map_or boolean_text (boolean_in octets) (in_quotes (misfit_text octets))
 json_under (Signed width) octets = option_map_or json_signed (signed_in width octets) (in_quotes (misfit_text octets))
 json_under Micros octets = option_map_or json_number (micros_in octets) (in_quotes (misfit_text octets))

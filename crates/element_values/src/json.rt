@@ -1,22 +1,19 @@
 //! Values as values of JSON (RFC 8259).
 
 ghost use Rattle.std.specs.Prelude.{◌≡◌, OnOk};
-ghost use Rattle.ipfix_elements.specs.JsonValues.{in_quotes};
+ghost use Rattle.ipfix_elements.specs.JsonValues.{in_quotes, json_value};
 ghost use Rattle.ipfix_elements.specs.Writers.{Writes};
-ghost use Rattle.element_values.specs.FieldTexts.{digits_by, json_plain, json_under, misfit_text};
+ghost use Rattle.element_values.specs.FieldTexts.{digits_by, json_under, misfit_text};
 
 use crate::instants::{read_micros, read_nanos};
 use crate::numbers::{read_boolean, read_signed};
 use crate::strings::{read_string, write_json_string};
 use crate::text::{boolean_text, write_misfit, write_number};
 use element_registry::ElementKind;
-use ipfix_elements::{Cell, Kind, read_cell, write_cell};
+use ipfix_elements::{Cell, EXACT_LIMIT, Kind, read_cell, write_cell};
 use itoa::Integer;
 use std::io;
 use std::io::Write;
-
-/// Every reader of JSON holds the whole numbers below this exactly (RFC 7493, section 2.2).
-const EXACT_LIMIT: u64 = 1 << 53;
 
 /// Writes the value of a field as a value of JSON: true or false, a number, or a string; numbers of
 /// 2^53 and more, addresses, and octets that are no value of the kind are strings. An `Err` is the
@@ -50,7 +47,7 @@ pub fn write_json_value<W: Write>(kind: ElementKind, octets: &[u8], out: &mut W)
 }
 
 fn write_plain<W: Write>(kind: Kind, octets: &[u8], out: &mut W) -> io::Result<()>
-    ensures { OnOk result (Writes W.contents out.old out.new (json_plain kind octets.now)) }
+    ensures { OnOk result (Writes W.contents out.old out.new (json_value kind octets.now)) }
 {
     match read_cell(kind, octets) {
         Some(Cell::Number(number)) => write_json_number(number < EXACT_LIMIT, number, out),

@@ -9,7 +9,7 @@ use itoa::Buffer;
 use std::alloc::AllocError;
 
 /// Every reader of JSON holds the whole numbers below this exactly (RFC 7493, section 2.2).
-const EXACT_LIMIT: u64 = 1 << 53;
+pub const EXACT_LIMIT: u64 = 1 << 53;
 
 /// Appends a number: its digits, between quotation marks from 2^53 on.
 pub fn append_json_number(number: u64, out: &mut Vec<u8>) -> Result<(), AllocError>

@@ -15,7 +15,7 @@ mod text;
 
 pub use cell::{Cell, read_cell, write_cell_octets};
 pub use element::{kind_of, name_of};
-pub use json_values::{append_json_cell, append_json_number};
+pub use json_values::{EXACT_LIMIT, append_json_cell, append_json_number};
 pub use kind::{Kind, Width};
 pub use name::{append_name, by_name, write_name};
 pub use number::read_number;

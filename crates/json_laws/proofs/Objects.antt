@@ -15,8 +15,8 @@ use Rattle.ipfix_elements.specs.declared.cell.Cell.TheVariants.{Number, Ipv4, Ip
 use Rattle.ipfix_message.specs.DataRecords.{HasOctets}
 use Rattle.ipfix_message.specs.Fields.{Field}
 use Rattle.ipfix_message.specs.declared.record.DataRecord.{DataRecord}
-use Rattle.ipfix_elements.specs.JsonValues.{in_quotes, json_cell}
-use Rattle.ipfix_dump.specs.JsonLines.{json_value, json_field, json_fields, json_line, comma_if}
+use Rattle.ipfix_elements.specs.JsonValues.{in_quotes, json_cell, json_value}
+use Rattle.ipfix_dump.specs.JsonLines.{json_field, json_fields, json_line, comma_if}
 use Rattle.json_laws.specs.Objects.{object_of, object_of_field, value_as, value_of}
 use Rattle.json_laws.proofs.Compact.{compact_text, items_text, comma_if as comma_before}
 use Rattle.json_laws.proofs.Plain.{IsPlain, value_plain, name_plain}

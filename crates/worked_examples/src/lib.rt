@@ -7,6 +7,7 @@
 mod building;
 pub mod faults;
 pub mod flows;
+pub mod recordings;
 pub mod sequences;
 pub mod templates;
 pub mod values;

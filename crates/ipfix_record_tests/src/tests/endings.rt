@@ -1,13 +1,14 @@
 //! How a recording ends: within a message, at a malformed one, at a read, and where a file isn't written.
 
 use super::running::{run, sums_of};
-use super::session::{FIRST_OF_1, SESSION_LENGTH, session};
+use super::session::{SESSION_LENGTH, session};
 use ipfix_message::MessageFault;
 use ipfix_record::{FileReport, MemoryFiles, RecordFault, ScriptClock, record};
 use ipfix_session::{ScriptSource, SessionFault};
 use std::alloc::Global;
 use std::test::*;
 use worked_examples::faults::VERSION_9;
+use worked_examples::recordings::FIRST_OF_1;
 use worked_examples::text_of;
 
 // The first octets of a text, or all if it has fewer.

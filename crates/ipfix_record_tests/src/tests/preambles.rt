@@ -5,6 +5,7 @@ use super::session::*;
 use std::alloc::{AllocError, Global};
 use std::test::*;
 use worked_examples::header;
+use worked_examples::recordings::{FIRST_OF_1, FIRST_OF_2};
 
 // A message of this length: its header, and its sets.
 fn append(

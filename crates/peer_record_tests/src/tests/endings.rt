@@ -8,6 +8,7 @@ use ipfix_record::{MemoryFiles, RecordFault};
 use ipfix_session::SessionFault;
 use peer_record::{PeerAnswer, PeerRecorder};
 use std::test::*;
+use worked_examples::recordings::{FIRST_OF_1, FIRST_OF_2};
 
 // Files that have room for 100 octets: the first datagram stands whole, and then the first octets of the
 // next. From then on each call answers the same, and writes nothing.

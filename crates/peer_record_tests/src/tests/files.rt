@@ -6,6 +6,7 @@ use ipfix_record::MemoryFiles;
 use peer_record::PeerRecorder;
 use std::alloc::{AllocError, Global};
 use std::test::*;
+use worked_examples::recordings::{FIRST_OF_1, FIRST_OF_2};
 use worked_examples::{header, text_of};
 
 // No file is finished before a datagram of this number.
