@@ -4,7 +4,7 @@ use Rattle.std.specs.Fmt.{decimal, digits}
 use Rattle.std.specs.Str.{bytes_eq, str_to_ascii_lowercase}
 use Rattle.ipfix_message.specs.declared.fault.MessageFault.TheVariants.{Version, MessageLength, SetHeader, SetLength, TemplateId, TemplateCut, Scope, ZeroLength, TemplateChanged, RecordCut, TooManyDomains, OutOfMemory, Spent}
 use Rattle.fault_guide.specs.declared.ending_fault.EndingFault.{EndingFault}
-use Rattle.fault_guide.specs.declared.ending_fault.EndingFault.TheVariants.{Session, NotWritten}
+use Rattle.fault_guide.specs.declared.ending_fault.EndingFault.TheVariants.{Session, NotWritten, Withdrawal}
 use Rattle.ipfix_session.specs.declared.fault.SessionFault.TheVariants.{Message, Truncated, ReadFailed, TooManyReads, SinkClosed}
 use Rattle.fault_guide.specs.EndingFaults.{number_of, name_of}
 use Rattle.fault_guide.specs.Explained.{named, IsWordOf}
@@ -34,6 +34,7 @@ by_number (Session ReadFailed) = refl
 by_number (Session TooManyReads) = refl
 by_number (Session SinkClosed) = refl
 by_number NotWritten = refl
+by_number Withdrawal = refl
 
 by_name : (fault : EndingFault) → found (str_to_ascii_lowercase (name_of fault)) ≡ Some fault
 unfolding found digits
@@ -55,6 +56,7 @@ by_name (Session ReadFailed) = refl
 by_name (Session TooManyReads) = refl
 by_name (Session SinkClosed) = refl
 by_name NotWritten = refl
+by_name Withdrawal = refl
 
 pub each : (word : List ℕ) (fault : EndingFault) → IsWordOf word fault → named word ≡ Some fault
 unfolding found named

@@ -2,7 +2,7 @@
 use Rattle.std.proofs.Common.{◌≡◌, ℕ, List, Option, Some, find, refl, sym, subst}
 use Rattle.std.specs.Str.{bytes_eq, str_to_ascii_lowercase}
 use Rattle.fault_guide.specs.declared.run_faults.RunFault.{RunFault}
-use Rattle.fault_guide.specs.declared.run_faults.RunFault.TheVariants.{NotToml, UnknownField, Missing, WrongKind, UnknownElement, Plan, Length, Spread, KeyCount, KeyKind, Prefix, CounterCount, CounterKind, Repeated, Workers, Sessions, Link, NoThread, SumTooLarge, Session, NotAnExport, Lost, Row, Template, Fields, Interval, Flows, WriteFailed, TooManyRows}
+use Rattle.fault_guide.specs.declared.run_faults.RunFault.TheVariants.{NotToml, UnknownField, Missing, WrongKind, UnknownElement, Plan, Length, Spread, KeyCount, KeyKind, Prefix, CounterCount, CounterKind, Repeated, NotCsv, Column, Number, Enterprise, Name, NumberTwice, NameTwice, TooMany, Workers, Sessions, Link, NoThread, SumTooLarge, Session, NotAnExport, Lost, Row, Template, Fields, Interval, Flows, WriteFailed, TooManyRows}
 use Rattle.fault_guide.specs.declared.run_faults.TheConstants.{RUN_FAULTS}
 use Rattle.fault_guide.specs.Explained.{IsSameWord}
 use Rattle.fault_guide.specs.RunFaults.{run_name, run_fault_of}
@@ -27,6 +27,14 @@ by_name Prefix = refl
 by_name CounterCount = refl
 by_name CounterKind = refl
 by_name Repeated = refl
+by_name NotCsv = refl
+by_name Column = refl
+by_name Number = refl
+by_name Enterprise = refl
+by_name Name = refl
+by_name NumberTwice = refl
+by_name NameTwice = refl
+by_name TooMany = refl
 by_name Workers = refl
 by_name Sessions = refl
 by_name Link = refl

@@ -1,17 +1,19 @@
-//! The faults that end a session, also one that is recorded.
+//! The faults that end a session, also one that is recorded, or for which a datagram is refused.
 
 ghost use Rattle.std.specs.Prelude.{◌≡◌};
 ghost use Rattle.fault_guide.specs.EndingFaults.{number_of, name_of};
 
 use ipfix_session::SessionFault;
 
-/// A fault that ends a session.
+/// A fault that ends a session, or for which a datagram is refused.
 #[derive(Clone, Copy, Debug, PartialEq, Eq)]
 pub enum EndingFault {
     /// One that any session may have.
     Session(SessionFault),
     /// A file of a recorded session could not be written, or not be finished.
     NotWritten,
+    /// A datagram withdraws a template over UDP; it alone is refused.
+    Withdrawal,
 }
 
 impl EndingFault {
@@ -22,6 +24,7 @@ impl EndingFault {
         match self {
             EndingFault::Session(fault) => fault.number(),
             EndingFault::NotWritten => 19,
+            EndingFault::Withdrawal => 20,
         }
     }
 
@@ -32,6 +35,7 @@ impl EndingFault {
         match self {
             EndingFault::Session(fault) => fault.name(),
             EndingFault::NotWritten => "NotWritten",
+            EndingFault::Withdrawal => "Withdrawal",
         }
     }
 }

@@ -1,6 +1,7 @@
 //! The faults that end a run.
 
-/// A fault of a plan, of collecting, of merging or of writing, none of which is a session's.
+/// A fault of a plan, of a file of elements, of collecting, of merging or of writing, none of which is a
+/// session's.
 #[derive(Clone, Copy, Debug)]
 pub enum RunFault {
     /// The file is no TOML document.
@@ -31,6 +32,22 @@ pub enum RunFault {
     CounterKind,
     /// An element twice among keys and counters.
     Repeated,
+    /// A row of a file of elements has more or fewer fields than the first line.
+    NotCsv,
+    /// The first line of a file of elements lacks a column.
+    Column,
+    /// The number of an element is not decimal, or above 32767.
+    Number,
+    /// An enterprise is not decimal, or above 4294967295.
+    Enterprise,
+    /// The name of an element has another form than names have.
+    Name,
+    /// Two rows have one element.
+    NumberTwice,
+    /// Two elements have one name.
+    NameTwice,
+    /// There are more elements than 16384.
+    TooMany,
     /// `--workers` is not 1 to 16.
     Workers,
     /// More than 64 sessions.
@@ -65,7 +82,7 @@ pub enum RunFault {
 
 /// Each of them, in the order of the lines that have them. OutOfMemory is a session's fault, too,
 /// and so is not among them.
-pub const RUN_FAULTS: [RunFault; 29] = [
+pub const RUN_FAULTS: [RunFault; 37] = [
     RunFault::NotToml,
     RunFault::UnknownField,
     RunFault::Missing,
@@ -80,6 +97,14 @@ pub const RUN_FAULTS: [RunFault; 29] = [
     RunFault::CounterCount,
     RunFault::CounterKind,
     RunFault::Repeated,
+    RunFault::NotCsv,
+    RunFault::Column,
+    RunFault::Number,
+    RunFault::Enterprise,
+    RunFault::Name,
+    RunFault::NumberTwice,
+    RunFault::NameTwice,
+    RunFault::TooMany,
     RunFault::Workers,
     RunFault::Sessions,
     RunFault::Link,

@@ -1,85 +1,11 @@
 //! The explanation of each fault that ends a run.
 
 ghost use Rattle.std.specs.Prelude.{◌≡◌};
-ghost use Rattle.fault_guide.specs.RunFaults.{run_name, run_place, run_found, run_advice};
+ghost use Rattle.fault_guide.specs.RunFaults.{run_found, run_advice};
 
 use crate::run_faults::RunFault;
 
 impl RunFault {
-    /// Its name, which no other fault of the list and of sessions has.
-    pub fn name(self) -> &'static str
-        ensures { result.now ≡ run_name self }
-    {
-        match self {
-            RunFault::NotToml => "NotToml",
-            RunFault::UnknownField => "UnknownField",
-            RunFault::Missing => "Missing",
-            RunFault::WrongKind => "WrongKind",
-            RunFault::UnknownElement => "UnknownElement",
-            RunFault::Plan => "Plan",
-            RunFault::Length => "Length",
-            RunFault::Spread => "Spread",
-            RunFault::KeyCount => "KeyCount",
-            RunFault::KeyKind => "KeyKind",
-            RunFault::Prefix => "Prefix",
-            RunFault::CounterCount => "CounterCount",
-            RunFault::CounterKind => "CounterKind",
-            RunFault::Repeated => "Repeated",
-            RunFault::Workers => "Workers",
-            RunFault::Sessions => "Sessions",
-            RunFault::Link => "Link",
-            RunFault::NoThread => "NoThread",
-            RunFault::SumTooLarge => "SumTooLarge",
-            RunFault::Session => "Session",
-            RunFault::NotAnExport => "NotAnExport",
-            RunFault::Lost => "Lost",
-            RunFault::Row => "Row",
-            RunFault::Template => "Template",
-            RunFault::Fields => "Fields",
-            RunFault::Interval => "Interval",
-            RunFault::Flows => "Flows",
-            RunFault::WriteFailed => "WriteFailed",
-            RunFault::TooManyRows => "TooManyRows",
-        }
-    }
-
-    /// How the lines on standard error begin that have it, with its number there.
-    pub fn place(self) -> &'static str
-        ensures { result.now ≡ run_place self }
-    {
-        match self {
-            RunFault::NotToml => "plan: fault 1",
-            RunFault::UnknownField => "plan: fault 2",
-            RunFault::Missing => "plan: fault 3",
-            RunFault::WrongKind => "plan: fault 4",
-            RunFault::UnknownElement => "plan: fault 5",
-            RunFault::Plan => "plan: fault 6",
-            RunFault::Length => "plan: fault 6 Plan: fault 1",
-            RunFault::Spread => "plan: fault 6 Plan: fault 2",
-            RunFault::KeyCount => "plan: fault 6 Plan: fault 3",
-            RunFault::KeyKind => "plan: fault 6 Plan: fault 4",
-            RunFault::Prefix => "plan: fault 6 Plan: fault 9; merge: fault 6 Row: fault 5",
-            RunFault::CounterCount => "plan: fault 6 Plan: fault 5",
-            RunFault::CounterKind => "plan: fault 6 Plan: fault 6",
-            RunFault::Repeated => "plan: fault 6 Plan: fault 7",
-            RunFault::Workers => "collect: fault 1",
-            RunFault::Sessions => "collect: fault 2",
-            RunFault::Link => "collect: fault 3",
-            RunFault::NoThread => "collect: fault 4",
-            RunFault::SumTooLarge => "collect: fault 6; merge: fault 2",
-            RunFault::Session => "merge: fault 3",
-            RunFault::NotAnExport => "merge: fault 4",
-            RunFault::Lost => "merge: fault 5",
-            RunFault::Row => "merge: fault 6",
-            RunFault::Template => "merge: fault 6 Row: fault 2",
-            RunFault::Fields => "merge: fault 6 Row: fault 3",
-            RunFault::Interval => "merge: fault 6 Row: fault 4",
-            RunFault::Flows => "merge: fault 6 Row: fault 6",
-            RunFault::WriteFailed => "export: fault 2; dump: fault 2; explain: fault 2",
-            RunFault::TooManyRows => "export: fault 3",
-        }
-    }
-
     /// What was found, without a capital letter and a full stop.
     pub fn found(self) -> &'static str
         ensures { result.now ≡ run_found self }
@@ -100,6 +26,15 @@ impl RunFault {
             RunFault::CounterCount => "no counter, or more than 4",
             RunFault::CounterKind => "a counter that is not added up",
             RunFault::Repeated => "an element twice among keys and counters",
+            RunFault::NotCsv => "a row has more or fewer fields than the first line",
+            RunFault::Column => "the first line lacks a column",
+            RunFault::Number => "the number is not decimal, or above 32767",
+            RunFault::Enterprise => "the enterprise is not decimal, or above 4294967295",
+            RunFault::Name =>
+                "the name is not a letter and then letters, digits, _ and -, 64 in all",
+            RunFault::NumberTwice => "an earlier row has the element",
+            RunFault::NameTwice => "another element has the name",
+            RunFault::TooMany => "there are more elements than 16384",
             RunFault::Workers => "--workers is not 1 to 16",
             RunFault::Sessions => "more than 64 sessions",
             RunFault::Link => "--ring is not 1 to 65536",
@@ -147,6 +82,19 @@ impl RunFault {
                 postPacketDeltaCount, droppedOctetDeltaCount and droppedPacketDeltaCount.",
             RunFault::Repeated =>
                 "Leave one of them out. An address with a prefix counts as the element of prefixes, too.",
+            RunFault::NotCsv =>
+                "The next line on standard error says in which line of the file the row begins.",
+            RunFault::Column =>
+                "The first line has ElementID, Name and Abstract Data Type, as that of IANA's file.",
+            RunFault::Number => "Write the element's number without its enterprise bit.",
+            RunFault::Enterprise =>
+                "Write the enterprise's number, or nothing for an element of IANA.",
+            RunFault::Name => "Give the element another name; start, end and flows are taken, too.",
+            RunFault::NumberTwice =>
+                "Leave one of the two rows out, also where they stand in two files.",
+            RunFault::NameTwice =>
+                "Give one of the two another name; those that are built in are taken, too.",
+            RunFault::TooMany => "Leave out those that no exporter sends.",
             RunFault::Workers => "Take no more than there are sessions or processors.",
             RunFault::Sessions =>
                 "Give up to 64 files to a run, and merge the tables of several runs.",
