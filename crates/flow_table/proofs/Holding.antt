@@ -225,6 +225,10 @@ pub no_fault : (o : Option TableFault) → o ≡ None → IsSome o → ⊥
 no_fault None is some = let h : false ≡ true = some in cc h
 no_fault (Some e) is some = cc is
 
+pub went_well : {X : Type 0} (o : Option TableFault) (x : X) → IfSome o (λ f. Ok x ≡ Err f) → o ≡ None
+went_well None x answer = refl
+went_well (Some e) x answer = absurd cc
+
 pub one_fault : (o : Option TableFault) (e : TableFault) → o ≡ Some e → o ≡ None → ⊥
 one_fault o e is none = cc (is, none)
 

@@ -24,6 +24,7 @@ pub mod Lacking
 pub mod OneTable
 pub mod AddedUp
 pub mod RowsHeld
+pub mod FlatTables
 pub mod RowsAdded
 pub mod Holding
 pub mod TablesAdded

@@ -22,3 +22,5 @@ pub mod LeftOut
 pub mod Readings
 pub mod Flows
 pub mod Finishing
+pub mod Vectors
+pub mod FlatTables

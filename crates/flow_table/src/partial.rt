@@ -12,6 +12,7 @@ ghost use Rattle.flow_table.specs.declared.table_fault.TableFault.TheVariants.{O
 use crate::adding::Room;
 use crate::class::Class;
 use crate::finishing::finish_table;
+use crate::flat_table::FlatTable;
 use crate::merging::join;
 use crate::missing::{Missing, missing_together};
 use crate::plan::Plan;
@@ -146,10 +147,10 @@ impl Partial {
         self.fault
     }
 
-    /// The table of all records.
+    /// The table of all records, whose rows are made as they are asked for.
     ///
     /// The fault is the earlier one, or `OutOfMemory` if an allocation was refused.
-    pub fn finish(self) -> Result<Table, TableFault>
+    pub fn finish_flat(self) -> Result<FlatTable, TableFault>
         ensures fault { IfSome (fault_of self) (λ fault. result ≡ Err fault) }
         ensures err { fault_of self ≡ None → IfErr result (λ e. e ≡ OutOfMemory) }
         ensures table { (rs : List DataRecord) → StandsFor self rs
@@ -172,7 +173,25 @@ impl Partial {
         } = self;
         match fault {
             Some(fault) => Err(fault),
-            None => finish_table(alloc, &plan, rows, tally, missing),
+            None => finish_table(alloc, plan, rows, tally, missing),
         }
+    }
+
+    /// The table of all records.
+    ///
+    /// The fault is the earlier one, or `OutOfMemory` if an allocation was refused.
+    pub fn finish(self) -> Result<Table, TableFault>
+        ensures fault { IfSome (fault_of self) (λ fault. result ≡ Err fault) }
+        ensures err { fault_of self ≡ None → IfErr result (λ e. e ≡ OutOfMemory) }
+        ensures table { (rs : List DataRecord) → StandsFor self rs
+            → IfOk result (IsTable (plan_of self) rs) }
+        ensures fits { (rs : List DataRecord) → StandsFor self rs
+            → IfOk result (FitsPlan (plan_of self)) }
+        ensures small { (rs : List DataRecord) → StandsFor self rs
+            → OnOk result (IsTooLarge (plan_of self) rs → ⊥) }
+        ensures large { (rs : List DataRecord) → StandsFor self rs
+            → IfErr result (λ e. e ≡ SumTooLarge → IsTooLarge (plan_of self) rs) }
+    {
+        Ok(self.finish_flat()?.into_table()?)
     }
 }

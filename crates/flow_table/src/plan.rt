@@ -123,6 +123,13 @@ impl Plan {
         &self.kinds
     }
 
+    /// What `kinds` gives, of a plan that is done with.
+    pub(crate) fn into_kinds(self) -> Vec<Kind>
+        ensures { result.items ≡ kinds_of self.keys }
+    {
+        self.kinds
+    }
+
     /// The counters of the table, 1 to [`MAX_COUNTERS`]: delta counters of octets, packets and flows.
     #[tactic(auto, using(crate::proofs::PlanKeys::counters_of_plan))]
     pub fn counters(&self) -> &[ElementId]
@@ -161,7 +168,6 @@ impl Plan {
     }
 }
 
-// The kinds that the fields of the keys are read by.
 fn kinds_of(alloc: Global, keys: &[Key]) -> Result<Vec<Kind>, AllocError>
     ensures { IfOk result (λ kinds. kinds.items ≡ kinds_in keys.now) }
 {

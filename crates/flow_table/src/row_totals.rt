@@ -1,17 +1,19 @@
 //! Rows that are added up.
 
 ghost use Rattle.std.specs.Prelude.{◌≡◌, ◌++◌, ◌∷◌, [], ◌<◌, List, map, IfOk, IfErr, OnOk};
-ghost use Rattle.flow_table.specs.AddedUp.{AddUpTooLarge, AreAddedUp};
+ghost use Rattle.flow_table.specs.AddedUp.{AddUpTooLarge, AreAddedUp, rows_in};
 ghost use Rattle.flow_table.specs.Fitting.{FitsRow};
 ghost use Rattle.flow_table.specs.RowTotals.{AreOf, totals_plan};
 ghost use Rattle.flow_table.specs.SameTables.{RowValue, value_of};
 ghost use Rattle.flow_table.specs.declared.table_fault.TableFault.TheVariants.{OutOfMemory, SumTooLarge};
 
-use crate::finishing::into_rows;
+use crate::flat_table::FlatTable;
+use crate::missing::Missing;
 use crate::plan::Plan;
 use crate::rows::Rows;
 use crate::table::Row;
 use crate::table_fault::TableFault;
+use crate::tally::Tally;
 use crate::words::write_words;
 use std::alloc::Global;
 
@@ -67,12 +69,14 @@ impl RowTotals {
             .add(row.interval, &self.words, row.flows, &row.sums)
     }
 
-    /// The rows in order: by interval, and then by key.
+    /// The table of the rows, which are made as they are asked for, with this tally and what records lack.
     ///
     /// The fault is `OutOfMemory`: an allocation was refused.
-    pub fn finish(self) -> Result<Vec<Row>, TableFault>
+    pub fn finish_flat(self, tally: Tally, missing: Missing) -> Result<FlatTable, TableFault>
         ensures sums { (rows : List RowValue) → AreOf self rows
-            → IfOk result (λ merged. AreAddedUp rows (map value_of merged.items)) }
+            → IfOk result (λ merged. AreAddedUp rows (rows_in merged)) }
+        ensures tally { IfOk result (λ merged. merged.tally ≡ tally) }
+        ensures missing { IfOk result (λ merged. merged.missing ≡ missing) }
         ensures small { (rows : List RowValue) → AreOf self rows → AddUpTooLarge rows → ⊥ }
         ensures err { IfErr result (λ e. e ≡ OutOfMemory) }
     {
@@ -82,6 +86,19 @@ impl RowTotals {
             rows,
             ..
         } = self;
-        Ok(into_rows(alloc, rows, plan.kinds(), plan.counters().len())?)
+        Ok(FlatTable::of(alloc, plan, rows, tally, missing)?)
+    }
+
+    /// The rows in order: by interval, and then by key.
+    ///
+    /// The fault is `OutOfMemory`: an allocation was refused.
+    pub fn finish(self) -> Result<Vec<Row>, TableFault>
+        ensures sums { (rows : List RowValue) → AreOf self rows
+            → IfOk result (λ merged. AreAddedUp rows (map value_of merged.items)) }
+        ensures small { (rows : List RowValue) → AreOf self rows → AddUpTooLarge rows → ⊥ }
+        ensures err { IfErr result (λ e. e ≡ OutOfMemory) }
+    {
+        let table = self.finish_flat(Tally::EMPTY, Missing::NONE)?.into_table()?;
+        Ok(table.rows)
     }
 }

@@ -1,17 +1,19 @@
 //! Rows of the totals under a plan, with no block of memory for each.
 
 ghost use Rattle.std.specs.Prelude.{◌≡◌, ◌+◌, ◌*◌, ◌^◌, ◌<◌, ◌≤◌, ◌∷◌, ℕ, suc, List, IfOk, IfErr, OnOk, OnErr, length, slice_index_or};
-ghost use Rattle.flat_rows.specs.Rows.{Small, SomeTooLarge, SomeTotalTooLarge, part, row, total_at};
+ghost use Rattle.flat_rows.specs.Rows.{IsRun, Small, SomeTooLarge, SomeTotalTooLarge, part, row, total_at};
+ghost use Rattle.flow_table.specs.FlatTables.{run_in};
 ghost use Rattle.flow_table.specs.Plans.{kinds_of};
 ghost use Rattle.flow_table.specs.Rows.{AddsRow, AreAlike, AreRowsOf, depth_of, number_at, padded_row, width_of};
 ghost use Rattle.flow_table.specs.Words.{padded};
 ghost use Rattle.flow_table.specs.declared.table_fault.TableFault.TheVariants.{SumTooLarge};
 
 use crate::plan::Plan;
+use crate::run::Run;
 use crate::table_fault::TableFault;
 use crate::words::{count_words, padded_words};
 use flat_rows::{AddError, FlatRows, Piece};
-use std::alloc::Global;
+use std::alloc::{AllocError, Global};
 
 /// Rows by the words of an interval and a key, in the smallest of four forms that has room for them.
 /// Their numbers are that of the flows, and then the sums of the counters.
@@ -137,6 +139,20 @@ impl Rows {
             (Rows::Nine(rows), Rows::Nine(others)) => Ok(Rows::Nine(merge_rows(rows, others)?)),
             (Rows::Most(rows), Rows::Most(others)) => Ok(Rows::Most(merge_rows(rows, others)?)),
             _ => Err(TableFault::OutOfMemory),
+        }
+    }
+
+    /// All rows, in order.
+    pub fn finish(self) -> Result<Run, AllocError>
+        ensures total { IfOk result (λ run. (q : List ℕ) (i : ℕ)
+            → total_at (run_in run) q i ≡ number_at self q i) }
+        ensures run { IfOk result (λ run. IsRun (run_in run)) }
+    {
+        match self {
+            Rows::Two(rows) => Ok(Run::Two(rows.finish()?)),
+            Rows::Six(rows) => Ok(Run::Six(rows.finish()?)),
+            Rows::Nine(rows) => Ok(Run::Nine(rows.finish()?)),
+            Rows::Most(rows) => Ok(Run::Most(rows.finish()?)),
         }
     }
 }

@@ -1,6 +1,6 @@
 //! The words of keys, which compare as their cells do.
 
-ghost use Rattle.std.specs.Prelude.{◌≡◌, ◌++◌, ◌∷◌, [], ◌≤◌, ℕ, List, Some, drop, length, slice_index_or, IfOk, OnOk};
+ghost use Rattle.std.specs.Prelude.{◌≡◌, ◌++◌, ◌∷◌, [], ◌≤◌, ℕ, List, Some, drop, length, slice_index_or, OnOk};
 ghost use Rattle.std.specs.List.{AllZip};
 ghost use Rattle.std.specs.Int.{to_be_bytes, w64};
 ghost use Rattle.ipfix_elements.specs.declared.cell.Cell.TheVariants as cells;
@@ -10,7 +10,7 @@ ghost use Rattle.flow_table.specs.Fitting.{IsCellOf};
 ghost use Rattle.flow_table.specs.Words.{cell_from as cell_in, cell_words, key_from, key_words, padded, word_count, words_of_kind};
 
 use ipfix_elements::{Cell, Kind};
-use std::alloc::{AllocError, Global};
+use std::alloc::AllocError;
 
 /// How many words the cells of a kind have.
 fn words_of_kind(kind: Kind) -> usize
@@ -157,15 +157,15 @@ fn cell_from(kind: Kind, first: u64, second: u64) -> Cell
     }
 }
 
-/// The cells of kinds, whose words are one after another.
-pub fn key_of_words(alloc: Global, kinds: &[Kind], words: &[u64]) -> Result<Vec<Cell>, AllocError>
-    ensures { IfOk result (λ cells. cells.items ≡ key_from kinds.now words.now) }
+/// Leaves the cells of kinds, whose words are one after another, in `cells`.
+pub fn write_cells(kinds: &[Kind], words: &[u64], cells: &mut Vec<Cell>) -> Result<(), AllocError>
+    ensures { OnOk result (cells.new.items ≡ key_from kinds.now words.now) }
 {
-    let mut cells = Vec::with_capacity(alloc, kinds.len())?;
+    cells.clear();
     let mut rest = words;
     for kind in kinds {
         cells.push(cell_from(*kind, word_at(rest, 0), word_at(rest, 1)))?;
         rest = words_after(rest, words_of_kind(*kind));
     }
-    Ok(cells)
+    Ok(())
 }

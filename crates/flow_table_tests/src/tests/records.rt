@@ -42,13 +42,18 @@ pub fn by_source(alloc: Global, method: Method) -> Result<Plan, PlanFault> {
 pub fn text_of(alloc: Global, rows: &[Row]) -> Result<String, AllocError> {
     let mut text = String::new(alloc);
     for row in rows {
-        let Some(Cell::Ipv4(address)) = row.key.first().copied() else {
-            continue;
-        };
-        let [a, b, c, d] = address;
-        let sum = row.sums.first().copied().unwrap_or(0);
-        let line = format!(in alloc; "{}:{a}.{b}.{c}.{d}={sum},{};", row.interval, row.flows)?;
-        text.push_str(&line)?;
+        push_row(alloc, row, &mut text)?;
     }
     Ok(text)
+}
+
+/// Appends a row as text.
+pub fn push_row(alloc: Global, row: &Row, text: &mut String) -> Result<(), AllocError> {
+    let Some(Cell::Ipv4(address)) = row.key.first().copied() else {
+        return Ok(());
+    };
+    let [a, b, c, d] = address;
+    let sum = row.sums.first().copied().unwrap_or(0);
+    let line = format!(in alloc; "{}:{a}.{b}.{c}.{d}={sum},{};", row.interval, row.flows)?;
+    text.push_str(&line)
 }

@@ -5,8 +5,8 @@ ghost use Rattle.flow_table.specs.Fitting.{FitsPlan};
 ghost use Rattle.flow_table.specs.RowTotals.{totals_plan};
 ghost use Rattle.flow_table.specs.declared.table.Row.{Row as RowRecord};
 
-use super::records::{by_source, flow, text_of};
-use flow_table::{Method, Partial, Plan, RowTotals, Table, TableFault};
+use super::records::{by_source, flow, push_row, text_of};
+use flow_table::{FlatTable, Method, Partial, Plan, Row, RowTotals, Table, TableFault};
 use std::alloc::Global;
 use std::test::Fail;
 
@@ -58,6 +58,32 @@ fn adds_up_rows_to_the_limit_and_refuses_more(rt: HostRuntime) -> Result<(), Fai
     ] {
         assert_eq!(rt; added_up(rt.alloc(), octets, others)?.as_str(), want);
     }
+    Ok(())
+}
+
+// The rows of a table, each of which is left in the same row.
+fn text_in_turn(alloc: Global, table: &FlatTable) -> Result<String, Fail> {
+    let mut text = String::new(alloc);
+    let mut row = Row::empty(alloc);
+    for index in 0..table.len() {
+        table.row_at(index, &mut row)?;
+        push_row(alloc, &row, &mut text)?;
+    }
+    Ok(text)
+}
+
+#[test]
+fn rows_come_one_by_one_or_all_at_once(rt: HostRuntime) -> Result<(), Fail> {
+    let alloc = rt.alloc();
+    let mut partial = Partial::new(alloc, &by_source(alloc, Method::Start)?)?;
+    for (start, octets) in [(61_000, 1), (1000, 7), (2000, 5)] {
+        let _ = partial.add(&flow(alloc, start, start, octets)?)?;
+    }
+    let table = partial.finish_flat()?;
+    let want = "0:192.0.2.1=12,2;1:192.0.2.1=1,1;";
+    assert_eq!(rt; text_in_turn(alloc, &table)?.as_str(), want);
+    assert_eq!(rt; table.tally().used, 3);
+    assert_eq!(rt; text_of(alloc, &table.into_table()?.rows)?.as_str(), want);
     Ok(())
 }
 

@@ -1,4 +1,4 @@
-use Rattle.std.proofs.Common.{rules}
+use Rattle.std.proofs.Common.{◌∙◌}
 use Rattle.flow_table.specs.Rows.{kept_at}
 use Rattle.flow_table.proofs.Finished.{finished}
 use Rattle.flow_table.proofs.RunLines.{lines_of}
@@ -6,5 +6,6 @@ use Rattle.flow_table.proofs.finishing.finish_table.Goals as goal
 
 pub returns-clause-table : goal.returns-clause-table
 returns-clause-table c = λ rs holds missing_is.
-    finished c.args.plan.now rs (kept_at c.args.plan.now c.args.rows) _ holds.totals_are
-    (lines_of c.args.plan.now c.args.rows holds.of_plan _ (search rules)) holds.tally_is missing_is
+    finished c.args.plan rs (kept_at c.args.plan c.args.rows) c.in_ok-of.field-0 holds.totals_are
+    (lines_of c.args.plan c.args.rows holds.of_plan _ c.in_ok-of.ensures.rows)
+    (c.in_ok-of.ensures.tally ∙ holds.tally_is) (c.in_ok-of.ensures.missing ∙ missing_is)

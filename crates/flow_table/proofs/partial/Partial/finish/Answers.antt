@@ -1,40 +1,18 @@
-use Rattle.std.proofs.Common.{refl}
-use Rattle.std.proofs.lemmas.Result.{IfOk-weaker}
-use Rattle.flow_table.specs.Partials.{plan_of, fault_of, StandsFor}
-use Rattle.flow_table.proofs.Fits.{table_fits}
-use Rattle.flow_table.proofs.Holding.{holds_of, large_of, one_fault, if_fault, if_none, on_ok}
+use Rattle.flow_table.specs.Partials.{plan_of, fault_of}
+use Rattle.flow_table.proofs.FlatTables.{is_same_table, fits_same_table}
+use Rattle.flow_table.proofs.Holding.{if_none, went_well}
 use Rattle.flow_table.proofs.partial.Partial.finish.Goals as goal
 
-pub returns-in-Some-clause-fault : goal.returns-in-Some-clause-fault
-unfolding fault_of
-returns-in-Some-clause-fault c = if_fault c.args.self.fault c.in-Some.fault _ c.in-Some.is refl
-
-pub returns-in-Some-clause-err : goal.returns-in-Some-clause-err
-unfolding fault_of
-returns-in-Some-clause-err c = λ none. absurd (one_fault c.args.self.fault c.in-Some.fault c.in-Some.is none)
-
-pub returns-in-Some-clause-large : goal.returns-in-Some-clause-large
-unfolding StandsFor plan_of
-returns-in-Some-clause-large c = λ rs stands same. large_of c.args.self.plan c.args.self.rows c.args.self.tally rs c.args.self.fault c.in-Some.fault c.in-Some.is same stands.0
-
 pub returns-clause-fault : goal.returns-clause-fault
-unfolding fault_of
-returns-clause-fault c = if_none c.args.self.fault c.finish_table.result c.in-None.is
+returns-clause-fault c = if_none (fault_of c.args.self) _ (went_well (fault_of c.args.self) c.in_ok-finish_flat.field-0 c.in_ok-finish_flat.ensures.fault)
 
 pub returns-clause-table : goal.returns-clause-table
-unfolding StandsFor plan_of
 returns-clause-table c = λ rs stands.
-    let holds = holds_of c.args.self.plan c.args.self.plan c.args.self.rows c.args.self.tally rs c.args.self.fault refl c.in-None.is stands.0 in
-    IfOk-weaker c.finish_table.result _ _ (λ table h. h rs holds (stands.1 c.in-None.is)) c.finish_table.ensures.table
+    is_same_table (plan_of c.args.self) rs c.in_ok-finish_flat.field-0 c.in_ok-into_table.field-0 c.in_ok-into_table.ensures (c.in_ok-finish_flat.ensures.table rs stands)
 
 pub returns-clause-fits : goal.returns-clause-fits
-unfolding StandsFor plan_of
 returns-clause-fits c = λ rs stands.
-    let holds = holds_of c.args.self.plan c.args.self.plan c.args.self.rows c.args.self.tally rs c.args.self.fault refl c.in-None.is stands.0 in
-    IfOk-weaker c.finish_table.result _ _ (λ table h. table_fits c.args.self.plan rs table holds.keys_fit holds.small (h rs holds (stands.1 c.in-None.is))) c.finish_table.ensures.table
+    fits_same_table (plan_of c.args.self) c.in_ok-finish_flat.field-0 c.in_ok-into_table.field-0 c.in_ok-into_table.ensures (c.in_ok-finish_flat.ensures.fits rs stands)
 
-pub returns-clause-small : goal.returns-clause-small
-unfolding StandsFor plan_of
-returns-clause-small c = λ rs stands.
-    let holds = holds_of c.args.self.plan c.args.self.plan c.args.self.rows c.args.self.tally rs c.args.self.fault refl c.in-None.is stands.0 in
-    on_ok c.finish_table.result holds.small
+pub returns-in_err-into_table-clause-fault : goal.returns-in_err-into_table-clause-fault
+returns-in_err-into_table-clause-fault c = if_none (fault_of c.args.self) _ (went_well (fault_of c.args.self) c.in_ok-finish_flat.field-0 c.in_ok-finish_flat.ensures.fault)
