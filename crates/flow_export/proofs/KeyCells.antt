@@ -9,15 +9,15 @@ use Rattle.ipfix_elements.specs.declared.cell.Cell.{Cell}
 use Rattle.ipfix_elements.specs.declared.kind.Kind.{Kind}
 use Rattle.ipfix_message.specs.Fields.{Field}
 use Rattle.flow_table.specs.declared.key.Key.{Key}
-use Rattle.flow_table.specs.Fitting.{IsCellOf, FitsKeys, FitsRow}
+use Rattle.flow_table.specs.Fitting.{IsCellOf, FitsKeys}
 use Rattle.flow_table.specs.Plans.{PlanValue, kinds_of}
 use Rattle.flow_table.specs.SameTables.{RowValue, value_of}
 use Rattle.flow_table.specs.declared.table.Row.{Row}
-use Rattle.flow_export.specs.Fitting.{FitsValue}
+use Rattle.flow_export.specs.Fitting.{FitsValue, IsExportable}
 use Rattle.flow_export.specs.IpfixText.{key_field, number_field, number_octets, row_octets}
 use Rattle.flow_export.specs.CsvText.{first_of, last_of}
 use Rattle.flow_export.specs.Placed.{Placed}
-use Rattle.flow_export.specs.RowOctets.{wide_octets, cells_octets, octets_of_row}
+use Rattle.flow_export.specs.RowOctets.{wide_octets, cells_octets}
 use Rattle.flow_export.proofs.Places.{placed_as, then_placed}
 
 -- ---- cells and their kinds
@@ -90,15 +90,12 @@ row_parts plan row fits =
     ∙ ap (λ (t : List ℕ). flat_map number_octets row.sums ++ t) (append-nil (number_octets row.flows))) in
     ap (λ (t : List ℕ). number_octets (first_of plan row) ++ (number_octets (last_of plan row) ++ t)) split
 
-pub fits_value : (plan : PlanValue) (row : Row) → FitsRow plan row → FitsValue plan (value_of row)
-fits_value plan row fits = record { key = fits.key; sums = fits.sums }
-
 -- its five parts, one after another
-pub row_placed : {a b c d e f : List ℕ} {i j k m n o : ℕ} (plan : PlanValue) (row : Row) (l : ℕ) (ks : List Kind) (cs : List Cell) (vs : List ℕ) → FitsRow plan row
+pub row_placed : {a b c d e f : List ℕ} {i j k m n o : ℕ} (plan : PlanValue) (row : Row) (l : ℕ) (ks : List Kind) (cs : List Cell) (vs : List ℕ) → IsExportable plan (value_of row)
     → l ≡ plan.length → ks ≡ kinds_of plan.keys → cs ≡ row.key.items → vs ≡ row.sums.items
     → Placed a b i (number_octets (row.interval * l)) j → Placed b c j (number_octets (row.interval * l + l - 1)) k → Placed c d k (cells_octets ks cs) m → Placed d e m (flat_map number_octets vs) n
-    → Placed e f n (number_octets row.flows) o → Placed a f i (octets_of_row plan row) o
+    → Placed e f n (number_octets row.flows) o → Placed a f i (row_octets plan (value_of row)) o
 row_placed plan row l ks cs vs fits is_l is_ks is_cs is_vs first last key sums flows =
-    let whole : number_octets (row.interval * l) ++ (number_octets (row.interval * l + l - 1) ++ (cells_octets ks cs ++ (flat_map number_octets vs ++ number_octets row.flows))) ≡ octets_of_row plan row =
-    rw (is_l, is_ks, is_cs, is_vs) (sym (row_parts plan (value_of row) (fits_value plan row fits))) in
+    let whole : number_octets (row.interval * l) ++ (number_octets (row.interval * l + l - 1) ++ (cells_octets ks cs ++ (flat_map number_octets vs ++ number_octets row.flows))) ≡ row_octets plan (value_of row) =
+    rw (is_l, is_ks, is_cs, is_vs) (sym (row_parts plan (value_of row) fits.fields)) in
     placed_as whole (then_placed first (then_placed last (then_placed key (then_placed sums flows))))

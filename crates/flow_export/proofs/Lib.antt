@@ -1,4 +1,6 @@
 pub mod InBlocks
+pub mod Exportable
+pub mod RowsInOrder
 pub mod Finding
 pub mod Plain
 pub mod AsWritten

@@ -1,45 +1,20 @@
 -- The messages of rows, one after another.
 use Rattle.std.proofs.Common.{◌≡◌, ℕ, zero, suc, ◌+◌, ◌-◌, ◌*◌, ◌≤◌, List, [], ◌∷◌, ◌++◌, ltb, length, map, take, drop, Option, refl, sym, ap, ap₂, subst, ◌∙◌, add-one, length-take-le, take-add, drop_at, arith, inl, inr}
-use Rattle.std.specs.Prelude.{min}
 use Rattle.std.specs.Io.KnownBytes.{Appends}
 use Rattle.std.specs.List.{flat_map, range_with_len}
-use Rattle.std.proofs.lemmas.Bool.{cases_Bool, ltb-true, ltb-false}
 use Rattle.std.proofs.KnownBytes.{Appends-trans}
-use Rattle.std.proofs.lemmas.List.{append-nil, take_all, take-map, drop-map, length-drop}
-use Rattle.std.proofs.lemmas.List.Folds.{flat_map-map}
+use Rattle.std.proofs.lemmas.List.{append-nil, drop-drop}
 use Rattle.std.proofs.lemmas.Grind.{flat_map-append}
-use Rattle.flow_table.specs.declared.table.Row.{Row}
 use Rattle.flow_table.specs.Plans.{PlanValue}
-use Rattle.flow_table.specs.SameTables.{value_of}
-use Rattle.ipfix_wire.specs.declared.set.TheConstants.{FIRST_TEMPLATE_ID}
+use Rattle.flow_table.specs.SameTables.{RowValue}
 use Rattle.flow_export.specs.declared.ipfix_text.rows.TheConstants.{ROWS_A_MESSAGE}
-use Rattle.flow_export.specs.IpfixText.{message, message_of_rows, row_octets, rows_of_message}
+use Rattle.flow_export.specs.IpfixText.{data_message, message, message_of_rows}
 use Rattle.flow_export.specs.Placed.{Placed}
-use Rattle.flow_export.specs.RowOctets.{headers_octets, octets_of_rows}
+use Rattle.flow_export.specs.RowOctets.{headers_octets}
 
 range_more : (a n : ℕ) → range_with_len a (suc n) ≡ range_with_len a n ++ (a + n) ∷ []
 range_more a zero = ap (λ (k : ℕ). k ∷ []) (omega arith)
 range_more a (suc n) = ap (λ (ks : List ℕ). a ∷ ks) (range_more (a + 1) n ∙ ap (λ (k : ℕ). range_with_len (a + 1) n ++ k ∷ []) (omega arith))
-
--- the part of a list from `first` on, up to a hundred or its end
-part_is : {X : Type 0} (xs : List X) (n first : ℕ) → take (min (length xs) (first + n) - first) (drop first xs) ≡ take n (drop first xs)
-part_is {X} xs n first = elim (cases_Bool (ltb (length xs) (first + n))) [
-  | inl t ↦ few (omega (arith, ltb-true (length xs) (first + n) t))
-  | inr f ↦ ap (λ (k : ℕ). take k (drop first xs)) (omega (arith, ltb-false (length xs) (first + n) f))
-]
-  where
-    few : length xs ≤ first + n → take (min (length xs) (first + n) - first) (drop first xs) ≡ take n (drop first xs)
-    few all = take_all _ (drop first xs) (omega (arith, length-drop first xs, all)) ∙ sym (take_all n (drop first xs) (omega (arith, length-drop first xs, all)))
-
--- the octets of the rows of a message
-part_octets : (plan : PlanValue) (rows : List Row) (i first last : ℕ) → first ≡ ROWS_A_MESSAGE * i → last ≡ min (length rows) (first + ROWS_A_MESSAGE)
-    → octets_of_rows plan (take (last - first) (drop first rows)) ≡ flat_map (row_octets plan) (rows_of_message (map value_of rows) i)
-part_octets plan rows i first last is_first is_last =
-    let those = take ROWS_A_MESSAGE (drop (ROWS_A_MESSAGE * i) rows) in
-    let taken : take (last - first) (drop first rows) ≡ those = rw is_last (part_is rows ROWS_A_MESSAGE first) ∙ ap (λ (k : ℕ). take ROWS_A_MESSAGE (drop k rows)) is_first in
-    let moved : rows_of_message (map value_of rows) i ≡ map value_of those =
-    ap (take ROWS_A_MESSAGE) (drop-map value_of (ROWS_A_MESSAGE * i) rows) ∙ take-map value_of ROWS_A_MESSAGE (drop (ROWS_A_MESSAGE * i) rows) in
-    ap (octets_of_rows plan) taken ∙ sym (flat_map-map (row_octets plan) value_of those) ∙ ap (flat_map (row_octets plan)) (sym moved)
 
 -- one more text, after those of the numbers below
 texts_more : (text : ℕ → List ℕ) (i : ℕ) (a b c : Option (List ℕ)) → Appends a b (flat_map text (range_with_len 0 i)) → Appends b c (text i) → Appends a c (flat_map text (range_with_len 0 (i + 1)))
@@ -56,15 +31,20 @@ message_written time sequence id a b out octets body text is_out is_octets is_bo
     subst (λ (t : List ℕ). Appends a b t) (is_out ∙ is_octets ∙ ap (message time sequence id) is_body) written
 
 -- one more message, after those before it
-pub message_more : (plan : PlanValue) (time : ℕ) (rows : List Row) (i first last : ℕ) (a b c : Option (List ℕ)) (out : List ℕ) → first ≡ ROWS_A_MESSAGE * i → last ≡ min (length rows) (first + ROWS_A_MESSAGE)
-    → out ≡ message time first FIRST_TEMPLATE_ID (octets_of_rows plan (take (last - first) (drop first rows)))
-    → Appends a b (flat_map (message_of_rows plan time (map value_of rows)) (range_with_len 0 i)) → Appends b c out
-    → Appends a c (flat_map (message_of_rows plan time (map value_of rows)) (range_with_len 0 (i + 1)))
-message_more plan time rows i first last a b c out is_first is_last is_message before here =
-    let body = octets_of_rows plan (take (last - first) (drop first rows)) in
-    let at_first : out ≡ message time (ROWS_A_MESSAGE * i) FIRST_TEMPLATE_ID body = is_message ∙ ap (λ (n : ℕ). message time n FIRST_TEMPLATE_ID body) is_first in
-    texts_more (message_of_rows plan time (map value_of rows)) i a b c before
-    (message_written time (ROWS_A_MESSAGE * i) FIRST_TEMPLATE_ID b c out out body _ refl at_first (part_octets plan rows i first last is_first is_last) here)
+pub message_more : (plan : PlanValue) (time : ℕ) (all left : List RowValue) (i sequence : ℕ) (a b c : Option (List ℕ)) (out : List ℕ) → sequence ≡ ROWS_A_MESSAGE * i → left ≡ drop (ROWS_A_MESSAGE * i) all
+    → out ≡ data_message plan time sequence (take ROWS_A_MESSAGE left)
+    → Appends a b (flat_map (message_of_rows plan time all) (range_with_len 0 i)) → Appends b c out
+    → Appends a c (flat_map (message_of_rows plan time all) (range_with_len 0 (i + 1)))
+message_more plan time all left i sequence a b c out is_sequence is_left is_message before here =
+    let next : out ≡ message_of_rows plan time all i =
+    is_message ∙ ap (λ (n : ℕ). data_message plan time n (take ROWS_A_MESSAGE left)) is_sequence
+    ∙ ap (λ (rows : List RowValue). data_message plan time (ROWS_A_MESSAGE * i) (take ROWS_A_MESSAGE rows)) is_left in
+    texts_more (message_of_rows plan time all) i a b c before (subst (λ (t : List ℕ). Appends b c t) next here)
+
+-- a hundred more were passed over
+pub hundred_more : (all left rest : List RowValue) (i : ℕ) → left ≡ drop (ROWS_A_MESSAGE * i) all → rest ≡ drop ROWS_A_MESSAGE left → rest ≡ drop (ROWS_A_MESSAGE * (i + 1)) all
+hundred_more all left rest i is_left is_rest =
+    is_rest ∙ ap (drop ROWS_A_MESSAGE) is_left ∙ drop-drop ROWS_A_MESSAGE (ROWS_A_MESSAGE * i) all ∙ ap (λ (n : ℕ). drop n all) (omega arith)
 
 -- the headers and the body of a message, one after the other
 pub headers_and_body : (time sequence id n : ℕ) (headers octets body : List ℕ) → n ≡ length body → headers ≡ headers_octets time sequence id n → octets ≡ headers ++ body → octets ≡ message time sequence id body

@@ -8,13 +8,13 @@ use Rattle.std.proofs.lemmas.Slice.Zip.{get_or-zip, length-zip}
 use Rattle.ipfix_elements.specs.Elements.{kind_of}
 use Rattle.ipfix_elements.specs.Names.{name_text}
 use Rattle.ipfix_elements.specs.declared.cell.Cell.{Cell}
-use Rattle.flow_table.specs.Fitting.{FitsRow}
 use Rattle.flow_table.specs.Plans.{PlanValue, kinds_of}
 use Rattle.flow_table.specs.SameTables.{value_of}
 use Rattle.flow_table.specs.declared.table.Row.{Row}
 use Rattle.flow_export.specs.CsvText.{first_of, key_text, last_of}
-use Rattle.flow_export.specs.JsonParts.{AreLabels, label, labelled, object_of, text_of}
-use Rattle.flow_export.specs.JsonText.{member}
+use Rattle.flow_export.specs.JsonParts.{AreLabels, label, labelled, text_of}
+use Rattle.flow_export.specs.Fitting.{IsExportable}
+use Rattle.flow_export.specs.JsonText.{member, row_object}
 use Rattle.ipfix_elements.specs.JsonValues.{json_cell, json_number}
 use Rattle.flow_export.specs.declared.json_text.labels.MemberLabel.{MemberLabel}
 use Rattle.flow_export.specs.declared.json_text.labels.RowLabels.{RowLabels}
@@ -74,14 +74,14 @@ abbrev pub sums_of : RowLabels → Row → List ℕ
 sums_of labels row = flat_map (labelled json_number) (zip labels.counters.items row.sums.items)
 
 -- a cell for each label of a key, and a sum for each of a counter
-pub same_counts : (plan : PlanValue) (labels : RowLabels) (row : Row) → AreLabels plan labels → FitsRow plan row
+pub same_counts : (plan : PlanValue) (labels : RowLabels) (row : Row) → AreLabels plan labels → IsExportable plan (value_of row)
     → (length labels.keys.items ≡ length row.key.items) × (length labels.counters.items ≡ length row.sums.items)
 same_counts plan labels row made fits =
     let keys = ap length made.keys in
     let counters = ap length made.counters in
-    let cells = same_length (kinds_of plan.keys) row.key.items (kinds_fit plan.keys row.key.items fits.key) in (
+    let cells = same_length (kinds_of plan.keys) row.key.items (kinds_fit plan.keys row.key.items fits.fields.key) in (
       omega (arith, keys, cells, length-map labels.keys.items text_of, length-map (map key_text plan.keys) label, length-map plan.keys key_text, length-map plan.keys (λ key. kind_of key.element)),
-      omega (arith, counters, fits.sums, length-map labels.counters.items text_of, length-map (map name_text plan.counters) label, length-map plan.counters name_text),
+      omega (arith, counters, fits.fields.sums, length-map labels.counters.items text_of, length-map (map name_text plan.counters) label, length-map plan.counters name_text),
     )
 
 three_parts : (ps qs : List (List ℕ × List ℕ)) (p : List ℕ × List ℕ)
@@ -94,7 +94,7 @@ three_parts ps qs p =
     ∙ ap (λ (t : List ℕ). flat_map next (map member qs) ++ t) (append-nil (next (member p))))
 
 -- the members behind the first two
-tail_members : (plan : PlanValue) (labels : RowLabels) (row : Row) → AreLabels plan labels → FitsRow plan row
+tail_members : (plan : PlanValue) (labels : RowLabels) (row : Row) → AreLabels plan labels → IsExportable plan (value_of row)
     → flat_map next (map member (zip (map key_text plan.keys ++ (map name_text plan.counters ++ codes "flows" ∷ [])) (map json_cell row.key.items ++ (map json_number row.sums.items ++ json_number row.flows ∷ []))))
     ≡ cells_of labels row ++ (sums_of labels row ++ (codes ",\"flows\":" ++ json_number row.flows))
 tail_members plan labels row made fits =
@@ -114,8 +114,8 @@ tail_members plan labels row made fits =
 joined : (m b c d e f : List ℕ) → (m ++ (b ++ (c ++ (d ++ e)))) ++ f ≡ m ++ (b ++ (c ++ (d ++ (e ++ f))))
 joined m b c d e f = simp append_assoc
 
-object_parts : (plan : PlanValue) (labels : RowLabels) (row : Row) → AreLabels plan labels → FitsRow plan row
-    → object_of plan row
+object_parts : (plan : PlanValue) (labels : RowLabels) (row : Row) → AreLabels plan labels → IsExportable plan (value_of row)
+    → row_object plan (value_of row)
     ≡ (codes "{\"start\":" ++ json_number (first_of plan (value_of row))) ++ ((codes ",\"end\":" ++ json_number (last_of plan (value_of row)))
     ++ (cells_of labels row ++ (sums_of labels row ++ ((codes ",\"flows\":" ++ json_number row.flows) ++ codes "}\n"))))
 object_parts plan labels row made fits =
@@ -127,11 +127,11 @@ object_parts plan labels row made fits =
     ∙ ap (λ (t : List ℕ). codes "{" ++ t) (joined first (next second) (cells_of labels row) (sums_of labels row) (codes ",\"flows\":" ++ json_number row.flows) (codes "}\n"))
 
 -- an object whose members were appended one after another
-pub object_appended : (plan : PlanValue) (labels : RowLabels) (row : Row) (l : ℕ) (ks counters : List MemberLabel) (cs : List Cell) (vs o p q r s t u : List ℕ) → AreLabels plan labels → FitsRow plan row
+pub object_appended : (plan : PlanValue) (labels : RowLabels) (row : Row) (l : ℕ) (ks counters : List MemberLabel) (cs : List Cell) (vs o p q r s t u : List ℕ) → AreLabels plan labels → IsExportable plan (value_of row)
     → l ≡ plan.length → ks ≡ labels.keys.items → counters ≡ labels.counters.items → cs ≡ row.key.items → vs ≡ row.sums.items
     → p ≡ o ++ (codes "{\"start\":" ++ json_number (row.interval * l)) → q ≡ p ++ (codes ",\"end\":" ++ json_number (row.interval * l + l - 1))
     → r ≡ q ++ flat_map (labelled json_cell) (zip ks cs) → s ≡ r ++ flat_map (labelled json_number) (zip counters vs) → t ≡ s ++ (codes ",\"flows\":" ++ json_number row.flows)
-    → u ≡ t ++ codes "}\n" → u ≡ o ++ object_of plan row
+    → u ≡ t ++ codes "}\n" → u ≡ o ++ row_object plan (value_of row)
 object_appended plan labels row l ks counters cs vs o p q r s t u made fits is_l is_ks is_counters is_cs is_vs is_p is_q is_r is_s is_t is_u =
     let first : p ≡ o ++ (codes "{\"start\":" ++ json_number (first_of plan (value_of row))) = is_p ∙ ap (λ (n : ℕ). o ++ (codes "{\"start\":" ++ json_number (row.interval * n))) is_l in
     let second : q ≡ p ++ (codes ",\"end\":" ++ json_number (last_of plan (value_of row))) = is_q ∙ ap (λ (n : ℕ). p ++ (codes ",\"end\":" ++ json_number (row.interval * n + n - 1))) is_l in

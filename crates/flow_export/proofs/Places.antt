@@ -1,5 +1,5 @@
 -- Pieces that are written at places, one after another.
-use Rattle.std.proofs.Common.{◌≡◌, ℕ, ◌+◌, ◌<◌, List, [], ◌∷◌, ◌++◌, length, get_or, take, sym, ap, ◌∙◌, append_assoc, length-append, arith}
+use Rattle.std.proofs.Common.{◌≡◌, ℕ, ◌+◌, ◌<◌, List, [], ◌∷◌, ◌++◌, length, get_or, take, drop, refl, sym, ap, ◌∙◌, append_assoc, length-append, take-add, arith}
 use Rattle.std.specs.List.{flat_map}
 use Rattle.std.proofs.lemmas.List.{append-nil, take_more}
 use Rattle.std.proofs.lemmas.Grind.{flat_map-append}
@@ -25,3 +25,19 @@ one_more_placed {X} text xs n d x inside is_x p q =
     let text_more : flat_map text (take n xs) ++ text x ≡ flat_map text (take (n + 1) xs) =
     ap (λ (t : List ℕ). flat_map text (take n xs) ++ t) (sym (append-nil (text x))) ∙ sym (flat_map-append text (take n xs) (x ∷ [])) ∙ ap (flat_map text) (sym more) in
     placed_as text_more (then_placed p q)
+
+-- no piece, where it begins
+pub none_placed : (octets : List ℕ) (at : ℕ) → Placed octets octets at [] at
+none_placed octets at = record { written = sym (append-nil (take at octets)); moved = omega arith; room = refl }
+
+-- one piece alone
+pub one_placed : {X : Type 0} {a b : List ℕ} {i j : ℕ} (text : X → List ℕ) (xs rest : List X) (x : X) → xs ≡ x ∷ rest → Placed a b i (text x) j → Placed a b i (flat_map text (take 1 xs)) j
+one_placed text xs rest x is p = placed_as (sym (append-nil (text x)) ∙ ap (λ ys. flat_map text (take 1 ys)) (sym is)) p
+
+-- the pieces of the next of what is left, after those that were written
+pub next_placed : {X : Type 0} {a b c : List ℕ} {i j k : ℕ} (text : X → List ℕ) (all left : List X) (n : ℕ) → left ≡ drop n all
+    → Placed a b i (flat_map text (take n all)) j → Placed b c j (flat_map text (take 1 left)) k → Placed a c i (flat_map text (take (n + 1) all)) k
+next_placed {X} text all left n is p q =
+    let more : flat_map text (take n all) ++ flat_map text (take 1 left) ≡ flat_map text (take (n + 1) all) =
+    ap (λ (xs : List X). flat_map text (take n all) ++ flat_map text (take 1 xs)) is ∙ sym (flat_map-append text (take n all) (take 1 (drop n all))) ∙ ap (flat_map text) (sym (take-add n 1 all)) in
+    placed_as more (then_placed p q)

@@ -5,10 +5,7 @@ use Rattle.ipfix_elements.specs.JsonValues.{json_cell, json_number}
 use Rattle.ipfix_elements.specs.Names.{name_text}
 use Rattle.ipfix_elements.specs.declared.cell.Cell.{Cell}
 use Rattle.flow_table.specs.Plans.{PlanValue}
-use Rattle.flow_table.specs.SameTables.{value_of}
-use Rattle.flow_table.specs.declared.table.Row.{Row}
 use Rattle.flow_export.specs.CsvText.{key_text}
-use Rattle.flow_export.specs.JsonText.{row_object}
 use Rattle.flow_export.specs.declared.json_text.labels.MemberLabel.{MemberLabel}
 use Rattle.flow_export.specs.declared.json_text.labels.RowLabels.{RowLabels}
 
@@ -41,6 +38,3 @@ labelled_cells labels cells = flat_map (labelled json_cell) (zip labels cells)
 
 abbrev pub labelled_numbers : List MemberLabel → List ℕ → List ℕ
 labelled_numbers labels numbers = flat_map (labelled json_number) (zip labels numbers)
-
-abbrev pub object_of : PlanValue → Row → List ℕ
-object_of plan row = row_object plan (value_of row)

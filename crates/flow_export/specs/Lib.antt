@@ -6,6 +6,9 @@ pub mod JsonText
 pub mod IpfixText
 pub mod Examples
 -- What only inner functions and proofs need.
+pub mod Made
+pub mod RowsLeft
+pub mod Passing
 pub mod Written
 pub mod JsonParts
 pub mod SpecOctets

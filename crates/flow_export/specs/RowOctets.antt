@@ -1,17 +1,16 @@
 -- The octets of rows and of their messages, and of the cells of a key.
-use Rattle.std.specs.Prelude.{◌≡◌, ℕ, ◌+◌, List, ◌++◌, map, take, zip, flat_map}
+use Rattle.std.specs.Prelude.{◌≡◌, ℕ, ◌+◌, List, ◌++◌, take, zip, flat_map}
 use Rattle.std.specs.List.{range_with_len}
 use Rattle.ipfix_wire.specs.MessageHeader.{header_octets}
 use Rattle.ipfix_wire.specs.SetHeader.{set_octets}
 use Rattle.ipfix_wire.specs.declared.header.TheConstants.{HEADER_LENGTH}
-use Rattle.ipfix_wire.specs.declared.set.TheConstants.{FIRST_TEMPLATE_ID, SET_HEADER_LENGTH}
+use Rattle.ipfix_wire.specs.declared.set.TheConstants.{SET_HEADER_LENGTH}
 use Rattle.ipfix_elements.specs.Cells.{cell_octets}
 use Rattle.ipfix_elements.specs.declared.cell.Cell.{Cell}
 use Rattle.ipfix_elements.specs.declared.kind.Kind.{Kind}
-use Rattle.flow_table.specs.declared.table.Row.{Row}
 use Rattle.flow_table.specs.Plans.{PlanValue}
-use Rattle.flow_table.specs.SameTables.{value_of}
-use Rattle.flow_export.specs.IpfixText.{message, message_count, message_of_rows, row_octets, width_of}
+use Rattle.flow_table.specs.SameTables.{RowValue}
+use Rattle.flow_export.specs.IpfixText.{data_message, message_count, message_of_rows, row_octets, width_of}
 
 -- a cell as wide as its kind says
 abbrev pub wide_octets : Kind × Cell → List ℕ
@@ -21,21 +20,17 @@ wide_octets p = cell_octets p.1 (width_of p.0)
 abbrev pub cells_octets : List Kind → List Cell → List ℕ
 cells_octets kinds cells = flat_map wide_octets (zip kinds cells)
 
--- a row, and rows one after another
-abbrev pub octets_of_row : PlanValue → Row → List ℕ
-octets_of_row plan row = row_octets plan (value_of row)
-
-abbrev pub octets_of_rows : PlanValue → List Row → List ℕ
-octets_of_rows plan rows = flat_map (octets_of_row plan) rows
+-- rows one after another
+abbrev pub octets_of_rows : PlanValue → List RowValue → List ℕ
+octets_of_rows plan rows = flat_map (row_octets plan) rows
 
 -- the messages of rows
-abbrev pub messages_of_rows : PlanValue → ℕ → List Row → List ℕ
-messages_of_rows plan time rows = flat_map (message_of_rows plan time (map value_of rows)) (range_with_len 0 (message_count (map value_of rows)))
+abbrev pub messages_of_rows : PlanValue → ℕ → List RowValue → List ℕ
+messages_of_rows plan time rows = flat_map (message_of_rows plan time rows) (range_with_len 0 (message_count rows))
 
 -- octets that begin with the message of these rows, and end there
-abbrev pub BeginsWithRows : PlanValue → ℕ → ℕ → List Row → List ℕ → ℕ → Type 0
-BeginsWithRows plan time sequence rows octets end =
-    take end octets ≡ message time sequence FIRST_TEMPLATE_ID (octets_of_rows plan rows)
+abbrev pub BeginsWithRows : PlanValue → ℕ → ℕ → List RowValue → List ℕ → ℕ → Type 0
+BeginsWithRows plan time sequence rows octets end = take end octets ≡ data_message plan time sequence rows
 
 -- the headers of a message of one set, whose body has so many octets
 abbrev pub headers_octets : ℕ → ℕ → ℕ → ℕ → List ℕ

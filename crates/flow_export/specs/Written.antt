@@ -1,5 +1,5 @@
--- A table's heading as the writer of `csv` writes it, and its lines as they are made.
-use Rattle.std.specs.Prelude.{◌≡◌, ℕ, List, ◌∷◌, ◌++◌, flat_map}
+-- A table's heading as the writer of `csv` writes it, and the fields of its lines.
+use Rattle.std.specs.Prelude.{◌≡◌, ℕ, List, ◌∷◌, ◌++◌}
 use Rattle.std.specs.Fmt.{decimal}
 use Rattle.csv.specs.Records.{fields_of}
 use Rattle.csv.specs.Records.{Row as CsvRecord}
@@ -7,9 +7,7 @@ use Rattle.csv.specs.Writing.{default_writer, row_text}
 use Rattle.ipfix_elements.specs.Texts.{cell_text}
 use Rattle.ipfix_elements.specs.declared.cell.Cell.{Cell}
 use Rattle.flow_table.specs.Plans.{PlanValue}
-use Rattle.flow_table.specs.declared.table.Row.{Row}
-use Rattle.flow_table.specs.SameTables.{value_of}
-use Rattle.flow_export.specs.CsvText.{comma, heading, row_line}
+use Rattle.flow_export.specs.CsvText.{comma, heading}
 
 abbrev pub written_heading : PlanValue → List ℕ
 written_heading plan = row_text default_writer (heading plan)
@@ -24,9 +22,3 @@ next_number n = comma ∷ decimal n
 
 abbrev pub next_cell : Cell → List ℕ
 next_cell cell = comma ∷ cell_text cell
-
-abbrev pub written_row : PlanValue → Row → List ℕ
-written_row plan row = row_line plan (value_of row)
-
-abbrev pub written_rows : PlanValue → List Row → List ℕ
-written_rows plan rows = flat_map (written_row plan) rows

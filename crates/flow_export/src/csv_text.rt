@@ -1,16 +1,18 @@
-//! Tables as CSV: the heading is a record of `csv`, and some hundred lines of rows are written at once.
+//! Tables as CSV: the heading is a record of `csv`, and many lines of rows are written at once.
 
-ghost use Rattle.std.specs.Prelude.{◌≡◌, ◌≢◌, IfOk, IfErr, OnOk};
+ghost use Rattle.std.specs.Prelude.{◌≡◌, ◌≢◌, All, IfOk, IfErr, OnOk};
 ghost use Rattle.ipfix_elements.specs.Writers.{Writes};
 ghost use Rattle.flow_table.specs.AddedUp.{rows_in};
 ghost use Rattle.flow_table.specs.Fitting.{FitsPlan};
 ghost use Rattle.flow_export.specs.CsvText.{csv_text};
+ghost use Rattle.flow_export.specs.Fitting.{IsExportable};
 ghost use Rattle.flow_export.specs.Written.{written_heading};
 
 use crate::fault::ExportFault;
 use crate::row_lines::write_lines;
+use crate::table_rows::TableRows;
 use csv::{ByteRecord, WriterBuilder};
-use flow_table::{Plan, Table};
+use flow_table::{FlatTable, Plan, Table};
 use heading::set_heading;
 use rows::CsvLines;
 use std::alloc::{AllocError, Global};
@@ -37,9 +39,38 @@ pub fn write_csv<W: Write>(
         (Writes W.contents out.old out.new (csv_text plan.now (rows_in table.now))) }
     ensures fault { IfErr result (λ fault. fault ≢ ExportFault.TooManyRows) }
 {
+    write_rows(alloc, plan, &mut TableRows::of(table), out)
+}
+
+/// Does as [`write_csv`], of a flat table.
+pub fn write_csv_flat<W: Write>(
+    alloc: Global,
+    plan: &Plan,
+    table: &FlatTable,
+    out: &mut W,
+) -> Result<(), ExportFault>
+    requires { FitsPlan plan.now table.now }
+    ensures ok { OnOk result
+        (Writes W.contents out.old out.new (csv_text plan.now (rows_in table.now))) }
+    ensures fault { IfErr result (λ fault. fault ≢ ExportFault.TooManyRows) }
+{
+    write_rows(alloc, plan, &mut TableRows::of_flat(alloc, table)?, out)
+}
+
+// Writes the heading, and then a line for each row.
+fn write_rows<W: Write>(
+    alloc: Global,
+    plan: &Plan,
+    rows: &mut TableRows,
+    out: &mut W,
+) -> Result<(), ExportFault>
+    requires { All (IsExportable plan.now) rows.old }
+    ensures ok { OnOk result (Writes W.contents out.old out.new (csv_text plan.now rows.old)) }
+    ensures fault { IfErr result (λ fault. fault ≢ ExportFault.TooManyRows) }
+{
     let heading = heading_text(alloc, plan)?;
     out.write_all(heading.as_slice())?;
-    write_lines(alloc, plan, &table.rows, &CsvLines, out)
+    write_lines(alloc, plan, rows, &CsvLines, out)
 }
 
 // The line with the names of the fields, as `csv` writes it.

@@ -3,12 +3,14 @@
 ghost use Rattle.std.specs.Prelude.{◌≡◌, ◌≢◌, ◌<◌, ◌≤◌, ◌^◌, ◌↔◌, All, length, IfOk, IfErr, IsErrOf, OnOk};
 ghost use Rattle.ipfix_elements.specs.Writers.{Writes};
 ghost use Rattle.flow_table.specs.AddedUp.{rows_in};
-ghost use Rattle.flow_table.specs.Fitting.{FitsPlan, FitsRow};
+ghost use Rattle.flow_table.specs.Fitting.{FitsPlan};
+ghost use Rattle.flow_export.specs.Fitting.{IsExportable};
 ghost use Rattle.flow_export.specs.IpfixText.{ipfix_text, template_message};
 ghost use Rattle.flow_export.specs.RowOctets.{messages_of_rows};
 
 use crate::fault::ExportFault;
-use flow_table::{Plan, Row, Table};
+use crate::table_rows::TableRows;
+use flow_table::{FlatTable, Plan, Table};
 use ipfix_wire::TEMPLATE_SET_ID;
 use messages::{MOST_OCTETS, place_message, set_message};
 use std::alloc::Global;
@@ -52,8 +54,28 @@ pub fn write_ipfix<W: Write>(
     if table.rows.len() >= ROW_LIMIT {
         return Err(ExportFault::TooManyRows);
     }
-    write_template(alloc, plan, export_time, out)?;
-    write_rows(alloc, plan, &table.rows, export_time, out)
+    write_messages(alloc, plan, &mut TableRows::of(table), export_time, out)
+}
+
+/// Does as [`write_ipfix`], of a flat table.
+pub fn write_ipfix_flat<W: Write>(
+    alloc: Global,
+    plan: &Plan,
+    table: &FlatTable,
+    export_time: u32,
+    out: &mut W,
+) -> Result<(), ExportFault>
+    requires { FitsPlan plan.now table.now }
+    ensures ok { OnOk result
+        (Writes W.contents out.old out.new (ipfix_text plan.now export_time (rows_in table.now))) }
+    ensures many { IsErrOf result ExportFault.TooManyRows ↔ (2 ^ 32 ≤ length table.now.rows.items) }
+    ensures untouched { IsErrOf result ExportFault.TooManyRows → out.new ≡ out.old }
+{
+    if table.len() >= ROW_LIMIT {
+        return Err(ExportFault::TooManyRows);
+    }
+    let mut rows = TableRows::of_flat(alloc, table)?;
+    write_messages(alloc, plan, &mut rows, export_time, out)
 }
 
 /// What `write_ipfix` writes, as a vector. An `Err` is `TooManyRows`, for a table of 2^32 rows or more,
@@ -77,6 +99,24 @@ pub fn ipfix_bytes(
         Err(ExportFault::OutOfMemory | ExportFault::WriteFailed) => Err(ExportFault::OutOfMemory),
         Err(ExportFault::TooManyRows) => Err(ExportFault::TooManyRows),
     }
+}
+
+// Writes the template, and then the rows.
+fn write_messages<W: Write>(
+    alloc: Global,
+    plan: &Plan,
+    rows: &mut TableRows,
+    export_time: u32,
+    out: &mut W,
+) -> Result<(), ExportFault>
+    requires fit { All (IsExportable plan.now) rows.old }
+    requires few { length rows.old < 2 ^ 32 }
+    ensures ok { OnOk result
+        (Writes W.contents out.old out.new (ipfix_text plan.now export_time rows.old)) }
+    ensures fault { IfErr result (λ fault. fault ≢ ExportFault.TooManyRows) }
+{
+    write_template(alloc, plan, export_time, out)?;
+    write_rows(alloc, plan, rows, export_time, out)
 }
 
 fn write_template<W: Write>(
@@ -107,14 +147,14 @@ fn write_template<W: Write>(
 fn write_rows<W: Write>(
     alloc: Global,
     plan: &Plan,
-    rows: &[Row],
+    rows: &mut TableRows,
     export_time: u32,
     out: &mut W,
 ) -> Result<(), ExportFault>
-    requires fit { All (FitsRow plan.now) rows.now }
-    requires few { length rows.now < 2 ^ 32 }
+    requires fit { All (IsExportable plan.now) rows.old }
+    requires few { length rows.old < 2 ^ 32 }
     ensures ok { OnOk result
-        (Writes W.contents out.old out.new (messages_of_rows plan.now export_time rows.now)) }
+        (Writes W.contents out.old out.new (messages_of_rows plan.now export_time rows.old)) }
     ensures fault { IfErr result (λ fault. fault ≢ ExportFault.TooManyRows) }
 {
     let mut headers = Vec::new(alloc);
@@ -122,16 +162,8 @@ fn write_rows<W: Write>(
     room.resize(MOST_OCTETS, 0)?;
     let message = room.as_mut_slice();
     for index in 0..rows.len().div_ceil(ROWS_A_MESSAGE) {
-        let first = ROWS_A_MESSAGE * index;
-        let last = rows.len().min(first + ROWS_A_MESSAGE);
-        let end = place_message(
-            plan,
-            &rows[first..last],
-            first as u32,
-            export_time,
-            &mut headers,
-            message,
-        )?;
+        let sequence = (ROWS_A_MESSAGE * index) as u32;
+        let end = place_message(plan, rows, sequence, export_time, &mut headers, message)?;
         out.write_all(&message[..end])?;
     }
     Ok(())

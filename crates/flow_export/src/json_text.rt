@@ -1,14 +1,16 @@
 //! Tables as lines of JSON.
 
-ghost use Rattle.std.specs.Prelude.{◌≢◌, IfErr, OnOk};
+ghost use Rattle.std.specs.Prelude.{◌≢◌, All, IfErr, OnOk};
 ghost use Rattle.ipfix_elements.specs.Writers.{Writes};
 ghost use Rattle.flow_table.specs.AddedUp.{rows_in};
 ghost use Rattle.flow_table.specs.Fitting.{FitsPlan};
+ghost use Rattle.flow_export.specs.Fitting.{IsExportable};
 ghost use Rattle.flow_export.specs.JsonText.{json_text};
 
 use crate::fault::ExportFault;
 use crate::row_lines::write_lines;
-use flow_table::{Plan, Table};
+use crate::table_rows::TableRows;
+use flow_table::{FlatTable, Plan, Table};
 use labels::RowLabels;
 use std::alloc::Global;
 use std::io::Write;
@@ -34,6 +36,35 @@ pub fn write_json<W: Write>(
         (Writes W.contents out.old out.new (json_text plan.now (rows_in table.now))) }
     ensures fault { IfErr result (λ fault. fault ≢ ExportFault.TooManyRows) }
 {
+    write_rows(alloc, plan, &mut TableRows::of(table), out)
+}
+
+/// Does as [`write_json`], of a flat table.
+pub fn write_json_flat<W: Write>(
+    alloc: Global,
+    plan: &Plan,
+    table: &FlatTable,
+    out: &mut W,
+) -> Result<(), ExportFault>
+    requires { FitsPlan plan.now table.now }
+    ensures ok { OnOk result
+        (Writes W.contents out.old out.new (json_text plan.now (rows_in table.now))) }
+    ensures fault { IfErr result (λ fault. fault ≢ ExportFault.TooManyRows) }
+{
+    write_rows(alloc, plan, &mut TableRows::of_flat(alloc, table)?, out)
+}
+
+// Writes an object for each row.
+fn write_rows<W: Write>(
+    alloc: Global,
+    plan: &Plan,
+    rows: &mut TableRows,
+    out: &mut W,
+) -> Result<(), ExportFault>
+    requires { All (IsExportable plan.now) rows.old }
+    ensures ok { OnOk result (Writes W.contents out.old out.new (json_text plan.now rows.old)) }
+    ensures fault { IfErr result (λ fault. fault ≢ ExportFault.TooManyRows) }
+{
     let labels = RowLabels::of(alloc, plan)?;
-    write_lines(alloc, plan, &table.rows, &labels, out)
+    write_lines(alloc, plan, rows, &labels, out)
 }

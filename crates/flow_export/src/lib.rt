@@ -9,10 +9,12 @@ mod ipfix_text;
 mod json_text;
 mod key_name;
 pub mod laws;
+mod made_rows;
 mod row_lines;
+mod table_rows;
 
-pub use csv_text::write_csv;
+pub use csv_text::{write_csv, write_csv_flat};
 pub use fault::ExportFault;
 pub use format::Format;
-pub use ipfix_text::{ROWS_A_MESSAGE, ipfix_bytes, write_ipfix};
-pub use json_text::write_json;
+pub use ipfix_text::{ROWS_A_MESSAGE, ipfix_bytes, write_ipfix, write_ipfix_flat};
+pub use json_text::{write_json, write_json_flat};

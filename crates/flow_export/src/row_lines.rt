@@ -1,60 +1,74 @@
-//! The lines of rows, some hundred of them written at once.
+//! The lines of rows, many of them written at once.
 
 ghost use Rattle.std.specs.Prelude.{◌≡◌, ◌≢◌, All, OnOk, IfErr, flat_map};
 ghost use Rattle.ipfix_elements.specs.Writers.{Writes};
-ghost use Rattle.flow_table.specs.Fitting.{FitsRow};
+ghost use Rattle.flow_export.specs.Fitting.{IsExportable};
+ghost use Rattle.flow_export.specs.Passing.{PassesOn};
 
 use crate::fault::ExportFault;
+use crate::table_rows::TableRows;
 use flow_table::{Plan, Row};
 use std::alloc::{AllocError, Global};
 use std::io::Write;
 
-/// The lines that are made before they are written at once.
-const LINES_A_BLOCK: usize = 256;
+/// Lines are written once they have so many octets.
+const BLOCK_LENGTH: usize = 32_768;
 
-/// Makes the lines of rows.
+/// Makes the line of a row.
 pub trait RowLines {
-    ghost use Rattle.std.specs.Prelude.{◌≡◌, ◌++◌, ℕ, List, All, OnOk, flat_map};
-    ghost use Rattle.flow_table.specs.Fitting.{FitsRow};
+    ghost use Rattle.std.specs.Prelude.{◌≡◌, ◌++◌, ℕ, List, OnOk};
     ghost use Rattle.flow_table.specs.Plans.{PlanValue};
-    ghost use Rattle.flow_table.specs.declared.table.Row.{Row};
+    ghost use Rattle.flow_table.specs.SameTables.{RowValue, value_of};
+    ghost use Rattle.flow_export.specs.Fitting.{IsExportable};
 
     /// That it was made for a plan.
     ghost is_for: { Self → PlanValue → Type 0 };
 
     /// The line of a row.
-    ghost line_of: { PlanValue → Row → List ℕ };
+    ghost line_of: { PlanValue → RowValue → List ℕ };
 
-    /// Appends the lines of rows.
-    fn append(&self, plan: &Plan, rows: &[Row], out: &mut Vec<u8>) -> Result<(), AllocError>
+    /// Appends the line of a row.
+    fn append(&self, plan: &Plan, row: &Row, out: &mut Vec<u8>) -> Result<(), AllocError>
         requires made { is_for self.now plan.now }
-        requires fit { All (FitsRow plan.now) rows.now }
+        requires fits { IsExportable plan.now (value_of row.now) }
         ensures { OnOk result
-            (out.new.items ≡ out.old.items ++ flat_map (line_of plan.now) rows.now) };
+            (out.new.items ≡ out.old.items ++ line_of plan.now (value_of row.now)) };
 }
 
 /// Writes the line of each row.
 pub fn write_lines<L: RowLines, W: Write>(
     alloc: Global,
     plan: &Plan,
-    rows: &[Row],
+    rows: &mut TableRows,
     lines: &L,
     out: &mut W,
 ) -> Result<(), ExportFault>
     requires made { L.is_for lines.now plan.now }
-    requires fit { All (FitsRow plan.now) rows.now }
+    requires fit { All (IsExportable plan.now) rows.old }
     ensures ok { OnOk result
-        (Writes W.contents out.old out.new (flat_map (L.line_of plan.now) rows.now)) }
+        (Writes W.contents out.old out.new (flat_map (L.line_of plan.now) rows.old)) }
     ensures fault { IfErr result (λ fault. fault ≢ ExportFault.TooManyRows) }
 {
     let mut text = Vec::new(alloc);
-    let mut rest = rows;
-    while !rest.is_empty() {
-        let (block, later) = rest.split_at(rest.len().min(LINES_A_BLOCK));
-        text.clear();
-        lines.append(plan, block, &mut text)?;
-        out.write_all(text.as_slice())?;
-        rest = later;
+    while let Some(row) = rows.first() {
+        lines.append(plan, row, &mut text)?;
+        rows.pass()?;
+        write_block(&mut text, out)?;
     }
+    out.write_all(text.as_slice())?;
+    Ok(())
+}
+
+// Writes text that is long enough for it, and leaves none of it then.
+fn write_block<W: Write>(text: &mut Vec<u8>, out: &mut W) -> Result<(), ExportFault>
+    ensures ok { OnOk result
+        (PassesOn W.contents text.old.items text.new.items out.old out.new) }
+    ensures fault { IfErr result (λ fault. fault ≢ ExportFault.TooManyRows) }
+{
+    if text.len() < BLOCK_LENGTH {
+        return Ok(());
+    }
+    out.write_all(text.as_slice())?;
+    text.clear();
     Ok(())
 }

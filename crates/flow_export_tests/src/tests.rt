@@ -1,4 +1,5 @@
 mod failing;
+mod flat;
 mod memory;
 mod messages;
 mod tables;

@@ -3,10 +3,8 @@
 
 ghost use Rattle.std.specs.Prelude.{◌≡◌, ◌++◌, OnOk, flat_map};
 ghost use Rattle.std.specs.Fmt.{decimal};
-ghost use Rattle.flow_table.specs.Fitting.{FitsRow};
-ghost use Rattle.flow_table.specs.SameTables.{value_of};
 ghost use Rattle.flow_export.specs.CsvText.{row_line};
-ghost use Rattle.flow_export.specs.Written.{next_cell, next_number, written_row};
+ghost use Rattle.flow_export.specs.Written.{next_cell, next_number};
 
 use crate::row_lines::RowLines;
 use flow_table::{Plan, Row};
@@ -20,30 +18,20 @@ pub struct CsvLines;
 impl RowLines for CsvLines {
     ghost is_for = { λ _ _. Unit {0} };
 
-    ghost line_of = { written_row };
+    ghost line_of = { row_line };
 
-    fn append(&self, plan: &Plan, rows: &[Row], out: &mut Vec<u8>) -> Result<(), AllocError> {
-        for row in rows {
-            append_line(plan, row, out)?;
-        }
+    // Its interval, its key, its sums and the number of its flows.
+    fn append(&self, plan: &Plan, row: &Row, out: &mut Vec<u8>) -> Result<(), AllocError> {
+        let length = u64::from(plan.length());
+        let first = row.interval * length;
+        append_number(first, out)?;
+        append_next_number(first + length - 1, out)?;
+        append_cells(&row.key, out)?;
+        append_numbers(&row.sums, out)?;
+        append_next_number(row.flows, out)?;
+        out.push(b'\n')?;
         Ok(())
     }
-}
-
-// Appends the line of a row: its interval, its key, its sums and the number of its flows.
-fn append_line(plan: &Plan, row: &Row, out: &mut Vec<u8>) -> Result<(), AllocError>
-    requires { FitsRow plan.now row.now }
-    ensures { OnOk result (out.new.items ≡ out.old.items ++ row_line plan.now (value_of row.now)) }
-{
-    let length = u64::from(plan.length());
-    let first = row.interval * length;
-    append_number(first, out)?;
-    append_next_number(first + length - 1, out)?;
-    append_cells(&row.key, out)?;
-    append_numbers(&row.sums, out)?;
-    append_next_number(row.flows, out)?;
-    out.push(b'\n')?;
-    Ok(())
 }
 
 // Appends a comma and a cell for each.

@@ -1,15 +1,16 @@
 //! Messages of one set (RFC 7011, sections 3.1 and 3.3).
 
-ghost use Rattle.std.specs.Prelude.{◌≡◌, ◌+◌, ◌*◌, ◌<◌, ◌≤◌, ◌^◌, All, length, IfOk, OnOk};
+ghost use Rattle.std.specs.Prelude.{◌≡◌, ◌+◌, ◌<◌, ◌≤◌, ◌^◌, All, drop, length, take, IfOk, OnOk};
 ghost use Rattle.ipfix_wire.specs.declared.header.TheConstants.{HEADER_LENGTH};
 ghost use Rattle.ipfix_wire.specs.declared.set.TheConstants.{SET_HEADER_LENGTH};
-ghost use Rattle.flow_table.specs.Fitting.{FitsRow};
+ghost use Rattle.flow_export.specs.Fitting.{IsExportable};
 ghost use Rattle.flow_export.specs.IpfixText.{message as message_octets};
 ghost use Rattle.flow_export.specs.RowOctets.{BeginsWithRows, headers_octets};
 
 use crate::ipfix_text::placing::place;
 use crate::ipfix_text::rows::{MOST_OCTETS_A_ROW, ROWS_A_MESSAGE, place_rows};
-use flow_table::{Plan, Row};
+use crate::table_rows::TableRows;
+use flow_table::Plan;
 use ipfix_wire::{
     FIRST_TEMPLATE_ID, HEADER_LENGTH, Header, SET_HEADER_LENGTH, write_header, write_set,
 };
@@ -41,25 +42,25 @@ pub fn set_message(
     Ok(())
 }
 
-/// Makes the message of rows in room for it, and answers how long it is. The headers are made in a
-/// vector of their own, since they say how long the rows are.
+/// Makes the message of the next rows in room for it, passes over them, and answers how long it is. The
+/// headers are made in a vector of their own, since they say how long the rows are.
 pub fn place_message(
     plan: &Plan,
-    rows: &[Row],
+    rows: &mut TableRows,
     sequence: u32,
     export_time: u32,
     headers: &mut Vec<u8>,
     octets: &mut [u8],
 ) -> Result<usize, AllocError>
-    requires fit { All (FitsRow plan.now) rows.now }
-    requires few { length rows.now ≤ ROWS_A_MESSAGE }
+    requires fit { All (IsExportable plan.now) rows.old }
     requires room { length octets.old ≡ MOST_OCTETS }
-    ensures message { IfOk result
-        (BeginsWithRows plan.now export_time sequence rows.now octets.new) }
+    ensures message { IfOk result (BeginsWithRows plan.now export_time sequence
+        (take ROWS_A_MESSAGE rows.old) octets.new) }
     ensures inside { IfOk result (λ end. end ≤ MOST_OCTETS) }
     ensures room { length octets.new ≡ MOST_OCTETS }
+    ensures passes { OnOk result (rows.new ≡ drop ROWS_A_MESSAGE rows.old) }
 {
-    let end = place_rows(plan, rows, octets, HEADERS_LENGTH);
+    let end = place_rows(plan, rows, octets, HEADERS_LENGTH)?;
     let body = end - HEADERS_LENGTH;
     set_headers(FIRST_TEMPLATE_ID, body, sequence, export_time, headers)?;
     place(headers.as_slice(), octets, 0);

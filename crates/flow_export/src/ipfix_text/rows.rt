@@ -1,16 +1,20 @@
 //! Rows as data records of IPFIX (RFC 7011, section 3.4.3).
 
-ghost use Rattle.std.specs.Prelude.{◌≡◌, ◌+◌, ◌*◌, ◌≤◌, All, flat_map, length};
+ghost use Rattle.std.specs.Prelude.{◌≡◌, ◌+◌, ◌*◌, ◌≤◌, All, IfOk, OnOk, drop, flat_map, length, take};
 ghost use Rattle.std.specs.List.{AllZip};
-ghost use Rattle.flow_table.specs.Fitting.{FitsRow, IsCellOf};
-ghost use Rattle.flow_export.specs.IpfixText.{number_octets};
+ghost use Rattle.flow_table.specs.Fitting.{IsCellOf};
+ghost use Rattle.flow_table.specs.SameTables.{value_of};
+ghost use Rattle.flow_export.specs.Fitting.{IsExportable};
+ghost use Rattle.flow_export.specs.IpfixText.{number_octets, row_octets};
 ghost use Rattle.flow_export.specs.Placed.{Placed};
-ghost use Rattle.flow_export.specs.RowOctets.{cells_octets, octets_of_row, octets_of_rows, wide_octets};
+ghost use Rattle.flow_export.specs.RowOctets.{cells_octets, octets_of_rows, wide_octets};
 
 use crate::ipfix_text::placing::{place, place_lowest, place_number};
 use crate::ipfix_text::widths::width_of;
+use crate::table_rows::TableRows;
 use flow_table::{Plan, Row};
 use ipfix_elements::{Cell, Kind};
+use std::alloc::AllocError;
 
 /// The rows in a message, but for the last one.
 pub const ROWS_A_MESSAGE: usize = 100;
@@ -18,25 +22,56 @@ pub const ROWS_A_MESSAGE: usize = 100;
 /// The most octets that a row has: two times, eight addresses, four sums and a number of flows.
 pub const MOST_OCTETS_A_ROW: usize = 184;
 
-/// Writes the octets of rows at a place, and answers where they end.
-pub fn place_rows(plan: &Plan, rows: &[Row], octets: &mut [u8], at: usize) -> usize
-    requires fit { All (FitsRow plan.now) rows.now }
-    requires room { at + MOST_OCTETS_A_ROW * length rows.now ≤ length octets.old }
-    ensures placed { Placed octets.old octets.new at (octets_of_rows plan.now rows.now) result }
-    ensures short { result ≤ at + MOST_OCTETS_A_ROW * length rows.now }
+/// Writes the octets of the next rows at a place, at most [`ROWS_A_MESSAGE`], passes over them, and answers
+/// where they end.
+pub fn place_rows(
+    plan: &Plan,
+    rows: &mut TableRows,
+    octets: &mut [u8],
+    at: usize,
+) -> Result<usize, AllocError>
+    requires fit { All (IsExportable plan.now) rows.old }
+    requires room { at + MOST_OCTETS_A_ROW * ROWS_A_MESSAGE ≤ length octets.old }
+    ensures placed { IfOk result (Placed octets.old octets.new at
+        (octets_of_rows plan.now (take ROWS_A_MESSAGE rows.old))) }
+    ensures short { IfOk result (λ end. end ≤ at + MOST_OCTETS_A_ROW * ROWS_A_MESSAGE) }
+    ensures passes { OnOk result (rows.new ≡ drop ROWS_A_MESSAGE rows.old) }
 {
     let mut end = at;
-    for row in rows {
-        end = place_row(plan, row, octets, end);
+    for _ in 0..ROWS_A_MESSAGE {
+        end = place_next(plan, rows, octets, end)?;
     }
-    end
+    Ok(end)
+}
+
+// Writes the octets of the next row, if there is one, and passes over it.
+fn place_next(
+    plan: &Plan,
+    rows: &mut TableRows,
+    octets: &mut [u8],
+    at: usize,
+) -> Result<usize, AllocError>
+    requires fit { All (IsExportable plan.now) rows.old }
+    requires room { at + MOST_OCTETS_A_ROW ≤ length octets.old }
+    ensures placed { IfOk result (Placed octets.old octets.new at
+        (octets_of_rows plan.now (take 1 rows.old))) }
+    ensures short { IfOk result (λ end. end ≤ at + MOST_OCTETS_A_ROW) }
+    ensures passes { OnOk result (rows.new ≡ drop 1 rows.old) }
+{
+    let Some(row) = rows.first() else {
+        return Ok(at);
+    };
+    let end = place_row(plan, row, octets, at);
+    rows.pass()?;
+    Ok(end)
 }
 
 // Writes the octets of a row: its interval, its key, its sums and the number of its flows.
 fn place_row(plan: &Plan, row: &Row, octets: &mut [u8], at: usize) -> usize
-    requires fits { FitsRow plan.now row.now }
+    requires fits { IsExportable plan.now (value_of row.now) }
     requires room { at + MOST_OCTETS_A_ROW ≤ length octets.old }
-    ensures placed { Placed octets.old octets.new at (octets_of_row plan.now row.now) result }
+    ensures placed { Placed octets.old octets.new at
+        (row_octets plan.now (value_of row.now)) result }
     ensures short { result ≤ at + MOST_OCTETS_A_ROW }
 {
     let length = u64::from(plan.length());

@@ -2,8 +2,8 @@
 //! `json_laws`), so what an object has is appended as it is.
 
 ghost use Rattle.std.specs.Prelude.{◌≡◌, ◌++◌, OnOk, length};
-ghost use Rattle.flow_table.specs.Fitting.{FitsRow};
-ghost use Rattle.flow_export.specs.JsonParts.{AreLabels, labelled_cell, labelled_cells, labelled_numbers, object_of};
+ghost use Rattle.flow_export.specs.JsonParts.{AreLabels, labelled_cell, labelled_cells, labelled_numbers};
+ghost use Rattle.flow_export.specs.JsonText.{row_object};
 ghost use Rattle.ipfix_elements.specs.JsonValues.{json_number};
 
 use crate::json_text::labels::{MemberLabel, RowLabels};
@@ -15,36 +15,20 @@ use std::alloc::AllocError;
 impl RowLines for RowLabels {
     ghost is_for = { λ labels plan. AreLabels plan labels };
 
-    ghost line_of = { object_of };
+    ghost line_of = { row_object };
 
-    fn append(&self, plan: &Plan, rows: &[Row], out: &mut Vec<u8>) -> Result<(), AllocError> {
-        for row in rows {
-            append_object(plan, self, row, out)?;
-        }
+    // Its interval, its key, its sums and the number of its flows.
+    fn append(&self, plan: &Plan, row: &Row, out: &mut Vec<u8>) -> Result<(), AllocError> {
+        let length = u64::from(plan.length());
+        let first = row.interval * length;
+        append_member(b"{\"start\":", first, out)?;
+        append_member(b",\"end\":", first + length - 1, out)?;
+        append_cells(&self.keys, &row.key, out)?;
+        append_sums(&self.counters, &row.sums, out)?;
+        append_member(b",\"flows\":", row.flows, out)?;
+        out.extend_from_slice(b"}\n")?;
         Ok(())
     }
-}
-
-// Appends the object of a row: its interval, its key, its sums and the number of its flows.
-fn append_object(
-    plan: &Plan,
-    labels: &RowLabels,
-    row: &Row,
-    out: &mut Vec<u8>,
-) -> Result<(), AllocError>
-    requires made { AreLabels plan.now labels.now }
-    requires fits { FitsRow plan.now row.now }
-    ensures { OnOk result (out.new.items ≡ out.old.items ++ object_of plan.now row.now) }
-{
-    let length = u64::from(plan.length());
-    let first = row.interval * length;
-    append_member(b"{\"start\":", first, out)?;
-    append_member(b",\"end\":", first + length - 1, out)?;
-    append_cells(&labels.keys, &row.key, out)?;
-    append_sums(&labels.counters, &row.sums, out)?;
-    append_member(b",\"flows\":", row.flows, out)?;
-    out.extend_from_slice(b"}\n")?;
-    Ok(())
 }
 
 // Appends what stands before a number, and the number.

@@ -1,9 +1,10 @@
 //! Records, plans and tables, as the tests make them.
 
-ghost use Rattle.std.specs.Prelude.{IfOk};
+ghost use Rattle.std.specs.Prelude.{◌≡◌, IfOk};
 ghost use Rattle.flow_table.specs.Fitting.{FitsPlan};
+ghost use Rattle.flow_table.specs.Partials.{StandsFor, plan_of};
 
-use flow_table::{Key, Method, Partial, Plan, PlanFault, Table, TableFault};
+use flow_table::{FlatTable, Key, Method, Partial, Plan, PlanFault, Table, TableFault};
 use ipfix_message::{DataRecord, Fields};
 use ipfix_wire::ElementId;
 use std::alloc::{AllocError, Global};
@@ -44,14 +45,29 @@ pub fn by_source(alloc: Global) -> Result<Plan, PlanFault> {
     )
 }
 
-fn table_of(alloc: Global, plan: &Plan, records: &[DataRecord]) -> Result<Table, TableFault>
-    ensures { IfOk result (FitsPlan plan.now) }
+fn partial_of(alloc: Global, plan: &Plan, records: &[DataRecord]) -> Result<Partial, TableFault>
+    ensures plan { IfOk result (λ partial. plan_of partial ≡ plan.now) }
+    ensures records { IfOk result (λ partial. StandsFor partial records.now) }
 {
     let mut partial = Partial::new(alloc, plan)?;
     for record in records {
         partial.add(record)?;
     }
+    Ok(partial)
+}
+
+fn table_of(alloc: Global, plan: &Plan, records: &[DataRecord]) -> Result<Table, TableFault>
+    ensures { IfOk result (FitsPlan plan.now) }
+{
+    let partial = partial_of(alloc, plan, records)?;
     partial.finish()
+}
+
+fn flat_of(alloc: Global, plan: &Plan, records: &[DataRecord]) -> Result<FlatTable, TableFault>
+    ensures { IfOk result (FitsPlan plan.now) }
+{
+    let partial = partial_of(alloc, plan, records)?;
+    partial.finish_flat()
 }
 
 fn flows(alloc: Global, count: u64) -> Result<Vec<DataRecord>, AllocError> {
@@ -68,4 +84,12 @@ pub fn table_of_minutes(alloc: Global, plan: &Plan, count: u64) -> Result<Table,
 {
     let records = flows(alloc, count)?;
     Ok(table_of(alloc, plan, &records)?)
+}
+
+/// The flat table of the same flows.
+pub fn flat_of_minutes(alloc: Global, plan: &Plan, count: u64) -> Result<FlatTable, Fail>
+    ensures { IfOk result (FitsPlan plan.now) }
+{
+    let records = flows(alloc, count)?;
+    Ok(flat_of(alloc, plan, &records)?)
 }

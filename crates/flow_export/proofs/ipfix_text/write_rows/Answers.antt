@@ -1,23 +1,27 @@
-use Rattle.std.proofs.Common.{◌≡◌, ◌∙◌, ℕ, map, ap, sym, subst, arith, rules}
-use Rattle.std.specs.Int.{div_ceil}
+use Rattle.std.proofs.Common.{◌≡◌, ◌*◌, ℕ, List, refl, sym, subst, arith, rules, All}
 use Rattle.std.specs.Io.KnownBytes.{Appends}
 use Rattle.std.specs.List.{flat_map, range_with_len}
-use Rattle.std.proofs.lemmas.List.{length-map}
-use Rattle.flow_table.specs.SameTables.{value_of}
+use Rattle.std.proofs.lemmas.List.Elements.{All-drop}
+use Rattle.flow_table.specs.SameTables.{RowValue}
 use Rattle.flow_export.specs.declared.ipfix_text.rows.TheConstants.{ROWS_A_MESSAGE}
+use Rattle.flow_export.specs.Fitting.{IsExportable}
 use Rattle.flow_export.specs.IpfixText.{message_count, message_of_rows}
-use Rattle.flow_export.proofs.MessageParts.{message_more}
+use Rattle.flow_export.proofs.MessageParts.{hundred_more, message_more}
 use Rattle.flow_export.proofs.ipfix_text.write_rows.Goals as goal
+
+pub place_message-requires-clause-fit : goal.place_message-requires-clause-fit
+place_message-requires-clause-fit g c =
+    subst (λ (rows : List RowValue). All (IsExportable c.args.plan.now) rows) (sym c.loop-index.invariant.left) (All-drop (IsExportable c.args.plan.now) (ROWS_A_MESSAGE * c.loop-index.index) c.args.rows.now c.requires.fit)
 
 pub loop-index-preserved : goal.loop-index-preserved
 loop-index-preserved g c = record {
-  written = message_more c.args.plan.now c.args.export_time c.args.rows.now c.loop-index.index _ c.min-last.result _ _ _ _ (search rules) c.min-last.ensures (search rules) c.loop-index.invariant.written c.in_ok-write_all.ensures.bytes;
+  written = message_more c.args.plan.now c.args.export_time c.args.rows.now c.loop-index.rows c.loop-index.index (ROWS_A_MESSAGE * c.loop-index.index) _ _ _ _ refl c.loop-index.invariant.left (search rules) c.loop-index.invariant.written c.in_ok-write_all.ensures.bytes;
   room = c.in_ok-end.ensures.room;
+  left = hundred_more c.args.rows.now c.loop-index.rows _ c.loop-index.index c.loop-index.invariant.left c.in_ok-end.ensures.passes;
 }
 
 pub returns-clause-ok : goal.returns-clause-ok
 returns-clause-ok g c =
     let rows = c.args.rows.now in
-    let count : c.div_ceil-index-end.result ≡ message_count (map value_of rows) = c.div_ceil-index-end.ensures ∙ ap (λ (n : ℕ). div_ceil n ROWS_A_MESSAGE) (sym (length-map rows value_of)) in
-    let all : c.loop-index.index ≡ c.div_ceil-index-end.result = omega arith in
-    subst (λ (n : ℕ). Appends (g.W.Write.contents c.args.out.now) (g.W.Write.contents c.loop-index.out) (flat_map (message_of_rows c.args.plan.now c.args.export_time (map value_of rows)) (range_with_len 0 n))) (all ∙ count) c.loop-index.invariant.written
+    let all : c.loop-index.index ≡ message_count rows = omega arith in
+    subst (λ (n : ℕ). Appends (g.W.Write.contents c.args.out.now) (g.W.Write.contents c.loop-index.out) (flat_map (message_of_rows c.args.plan.now c.args.export_time rows) (range_with_len 0 n))) all c.loop-index.invariant.written

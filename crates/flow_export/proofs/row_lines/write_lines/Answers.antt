@@ -1,19 +1,27 @@
-use Rattle.std.proofs.Common.{◌≡◌, ◌∙◌, ◌++◌, ap, sym, subst, All, List, ℕ}
-use Rattle.std.specs.List.{flat_map}
-use Rattle.std.proofs.lemmas.List.Elements.{All-drop}
-use Rattle.flow_table.specs.Fitting.{FitsRow}
-use Rattle.flow_table.specs.declared.table.Row.{Row}
-use Rattle.flow_export.proofs.InBlocks.{block_more}
+use Rattle.std.proofs.Common.{◌≡◌, ◌∙◌, ◌++◌, sym, ap, subst, All, List, ℕ}
+use Rattle.std.proofs.lemmas.List.Elements.{All-drop, All-head}
+use Rattle.flow_table.specs.SameTables.{RowValue, value_of}
+use Rattle.flow_export.specs.Fitting.{IsExportable}
+use Rattle.flow_export.proofs.InBlocks.{all_written, line_more, none_written}
 use Rattle.flow_export.proofs.row_lines.write_lines.Goals as goal
 
-pub loop-rest-preserved : goal.loop-rest-preserved
-loop-rest-preserved g c =
-    let at = c.split_at.ensures in
+pub loop-row-init : goal.loop-row-init
+loop-row-init g c = (c.requires.fit, none_written (g.L.RowLines.line_of c.args.plan.now) c.args.rows.now _ _ c.new-text.ensures.items)
+
+pub append-requires-clause-fits : goal.append-requires-clause-fits
+append-requires-clause-fits g c =
+    All-head (IsExportable c.args.plan.now) _ _ (subst (λ (rows : List RowValue). All (IsExportable c.args.plan.now) rows) c.in-Some.ensures c.loop-row.invariant.0)
+
+pub loop-row-preserved : goal.loop-row-preserved
+loop-row-preserved g c =
     let plan = c.args.plan.now in
-    let line_of = g.L.RowLines.line_of plan in
-    let rest = c.loop-rest.rest.now in
-    let block = c.split_at.result.0.now in
-    let text : c.as_slice.result.now ≡ flat_map line_of block = c.as_slice.ensures.value ∙ c.in_ok-append.ensures ∙ ap (λ (t : List ℕ). t ++ flat_map line_of block) c.clear.ensures.items in (
-      subst (λ (rows : List Row). All (FitsRow plan) rows) (sym at.back) (All-drop (FitsRow plan) _ rest c.loop-rest.invariant.0),
-      block_more line_of c.args.rows.now rest block c.split_at.result.1.now _ _ _ _ _ at.front at.back text c.in_ok-write_all.ensures.bytes c.loop-rest.invariant.1,
+    let left = c.loop-row.rows in
+    let block = c.in_ok-write_block.ensures.ok in (
+      subst (λ (rows : List RowValue). All (IsExportable plan) rows) (sym c.in_ok-pass.ensures) (All-drop (IsExportable plan) 1 left c.loop-row.invariant.0),
+      line_more (g.L.RowLines.line_of plan) c.args.rows.now left _ _ c.loop-row.text.items _ _ (g.W.Write.contents c.args.out.now) (g.W.Write.contents c.loop-row.out) _
+          c.in-Some.ensures c.in_ok-pass.ensures c.in_ok-append.ensures c.loop-row.invariant.1 block.0 block.1 block.2,
     )
+
+pub returns-clause-ok : goal.returns-clause-ok
+returns-clause-ok g c =
+    all_written (g.L.RowLines.line_of c.args.plan.now) c.args.rows.now c.loop-row.rows _ _ _ _ _ c.in_default.ensures c.as_slice.ensures.value c.loop-row.invariant.1 c.in_ok-write_all.ensures.bytes

@@ -1,10 +1,11 @@
 use Rattle.std.proofs.Common.{length, All}
-use Rattle.flow_table.specs.Fitting.{FitsRow}
+use Rattle.flow_export.specs.Fitting.{IsExportable}
 use Rattle.flow_export.proofs.InBlocks.{Written}
 use Rattle.flow_export.proofs.row_lines.write_lines.Given as goal
 
-abbrev pub invariant-loop-rest : goal.invariant-loop-rest
-invariant-loop-rest g l = All (FitsRow l.plan) l.rest × Written (g.L.RowLines.line_of l.plan) l.rows l.rest (g.W.Write.contents l.fn.out) (g.W.Write.contents l.out)
+abbrev pub invariant-loop-row : goal.invariant-loop-row
+invariant-loop-row g l =
+    All (IsExportable l.plan) l.rows × Written (g.L.RowLines.line_of l.plan) l.fn.rows l.rows l.text.items (g.W.Write.contents l.fn.out) (g.W.Write.contents l.out)
 
-abbrev pub decreases-loop-rest : goal.decreases-loop-rest
-decreases-loop-rest g l = length l.rest
+abbrev pub decreases-loop-row : goal.decreases-loop-row
+decreases-loop-row g l = length l.rows

@@ -11,7 +11,7 @@ use Rattle.flow_export.proofs.ipfix_text.rows.place_row.Goals as goal
 pub place_cells-key-requires-clause-fit : goal.place_cells-key-requires-clause-fit
 place_cells-key-requires-clause-fit c =
     subst (λ (kinds : List Kind). AllZip IsCellOf kinds c.deref.result.now) (sym c.kinds.ensures.value)
-    (subst (λ (cells : List Cell). AllZip IsCellOf (kinds_of c.args.plan.now.keys) cells) (sym c.deref.ensures.value) (kinds_fit c.args.plan.now.keys c.args.row.now.key.items c.requires.fits.key))
+    (subst (λ (cells : List Cell). AllZip IsCellOf (kinds_of c.args.plan.now.keys) cells) (sym c.deref.ensures.value) (kinds_fit c.args.plan.now.keys c.args.row.now.key.items c.requires.fits.fields.key))
 
 pub place_cells-key-requires-clause-room : goal.place_cells-key-requires-clause-room
 place_cells-key-requires-clause-room c =

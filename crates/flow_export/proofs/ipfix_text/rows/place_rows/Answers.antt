@@ -1,10 +1,19 @@
-use Rattle.std.proofs.Common.{arith}
-use Rattle.flow_export.specs.RowOctets.{octets_of_row}
-use Rattle.flow_export.proofs.Places.{one_more_placed}
+use Rattle.std.proofs.Common.{◌∙◌, List, ap, drop, sym, subst, All, arith}
+use Rattle.std.proofs.lemmas.List.{drop-drop}
+use Rattle.std.proofs.lemmas.List.Elements.{All-drop}
+use Rattle.flow_table.specs.SameTables.{RowValue}
+use Rattle.flow_export.specs.Fitting.{IsExportable}
+use Rattle.flow_export.specs.IpfixText.{row_octets}
+use Rattle.flow_export.proofs.Places.{next_placed}
 use Rattle.flow_export.proofs.ipfix_text.rows.place_rows.Goals as goal
 
-pub loop-row-preserved : goal.loop-row-preserved
-loop-row-preserved c = record {
-  placed = one_more_placed (octets_of_row c.args.plan.now) c.args.rows.now c.loop-row.row-index c.row-item.result c.row-item.result c.loop-row-test.true c.row-item.is c.loop-row.invariant.placed c.place_row-end.ensures.placed;
-  short = omega (arith, c.place_row-end.ensures.short, c.loop-row.invariant.short);
+pub place_next-requires-clause-fit : goal.place_next-requires-clause-fit
+place_next-requires-clause-fit c =
+    subst (λ (rows : List RowValue). All (IsExportable c.args.plan.now) rows) (sym c.loop.invariant.left) (All-drop (IsExportable c.args.plan.now) c.loop.counter c.args.rows.now c.requires.fit)
+
+pub loop-preserved : goal.loop-preserved
+loop-preserved c = record {
+  left = c.in_ok-end.ensures.passes ∙ ap (drop 1) c.loop.invariant.left ∙ drop-drop 1 c.loop.counter c.args.rows.now;
+  placed = next_placed (row_octets c.args.plan.now) c.args.rows.now c.loop.rows c.loop.counter c.loop.invariant.left c.loop.invariant.placed c.in_ok-end.ensures.placed;
+  short = omega (arith, c.in_ok-end.ensures.short, c.loop.invariant.short);
 }

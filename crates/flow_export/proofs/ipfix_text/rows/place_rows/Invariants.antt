@@ -1,10 +1,11 @@
-use Rattle.std.proofs.Common.{◌+◌, ◌*◌, ◌≤◌, take}
+use Rattle.std.proofs.Common.{◌≡◌, ◌+◌, ◌*◌, ◌≤◌, drop, take}
 use Rattle.flow_export.specs.Placed.{Placed}
 use Rattle.flow_export.specs.RowOctets.{octets_of_rows}
 use Rattle.flow_export.proofs.ipfix_text.rows.place_rows.Given as goal
 
-abbrev pub invariant-loop-row : goal.invariant-loop-row
-invariant-loop-row l = record {
-  placed : Placed l.fn.octets l.octets l.at (octets_of_rows l.plan (take l.row-index l.rows)) l.end;
-  short : l.end ≤ l.at + 184 * l.row-index;
+abbrev pub invariant-loop : goal.invariant-loop
+invariant-loop l = record {
+  left : l.rows ≡ drop l.counter l.fn.rows;
+  placed : Placed l.fn.octets l.octets l.at (octets_of_rows l.plan (take l.counter l.fn.rows)) l.end;
+  short : l.end ≤ l.at + 184 * l.counter;
 }

@@ -1,8 +1,17 @@
-use Rattle.flow_export.specs.JsonParts.{object_of}
-use Rattle.flow_export.proofs.Appending.{one_more}
+use Rattle.std.proofs.Common.{◌∙◌, ap, length, sym}
+use Rattle.flow_export.proofs.ObjectParts.{object_appended, same_counts}
 use Rattle.flow_export.proofs.json_text.rows.RowLabelsRowLines.append.Goals as goal
 
-pub loop-row-preserved : goal.loop-row-preserved
-loop-row-preserved c =
-    one_more (object_of c.args.plan.now) c.args.rows.now c.loop-row.row-index c.row-item.result c.args.out.now.items c.loop-row.out.items _ c.loop-row-test.true c.row-item.is
-    c.loop-row.invariant c.in_ok-append_object.ensures
+pub append_cells-requires : goal.append_cells-requires
+append_cells-requires c =
+    ap length c.deref.ensures.value ∙ (same_counts c.args.plan.now c.args.self.now c.args.row.now c.requires.made c.requires.fits).0 ∙ sym (ap length c.deref-2.ensures.value)
+
+pub append_sums-requires : goal.append_sums-requires
+append_sums-requires c =
+    ap length c.deref-3.ensures.value ∙ (same_counts c.args.plan.now c.args.self.now c.args.row.now c.requires.made c.requires.fits).1 ∙ sym (ap length c.deref-4.ensures.value)
+
+pub returns : goal.returns
+returns c =
+    object_appended c.args.plan.now c.args.self.now c.args.row.now c.from-length.result c.deref.result.now c.deref-3.result.now c.deref-2.result.now c.deref-4.result.now _ _ _ _ _ _ _
+    c.requires.made c.requires.fits (c.from-length.ensures ∙ c.length.ensures.value) c.deref.ensures.value c.deref-3.ensures.value c.deref-2.ensures.value c.deref-4.ensures.value
+    c.in_ok-append_member.ensures c.in_ok-append_member-2.ensures c.in_ok-append_cells.ensures c.in_ok-append_sums.ensures c.in_ok-append_member-3.ensures c.in_ok-extend_from_slice.ensures.items

@@ -2,7 +2,7 @@ use Rattle.std.proofs.Common.{◌+◌, List, [], ◌∷◌, ◌++◌, take, sym,
 use Rattle.std.proofs.lemmas.List.{take_more}
 use Rattle.ipfix_message.specs.declared.record.DataRecord.{DataRecord}
 use Rattle.flow_table.specs.Partials.{StandsFor}
-use Rattle.flow_export_tests.proofs.tests.tables.table_of.Goals as goal
+use Rattle.flow_export_tests.proofs.tests.tables.partial_of.Goals as goal
 
 pub loop-record-preserved : goal.loop-record-preserved
 loop-record-preserved c =

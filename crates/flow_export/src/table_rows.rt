@@ -1,0 +1,109 @@
+//! The rows of a table, one after another, however they are kept.
+
+ghost use Rattle.std.specs.Prelude.{◌≡◌, ◌∷◌, [], MatchOption, IfOk, OnOk, drop, length};
+ghost use Rattle.flow_table.specs.AddedUp.{rows_in};
+ghost use Rattle.flow_table.specs.SameTables.{value_of};
+
+use crate::made_rows::MadeRows;
+use flow_table::{FlatTable, Row, Table};
+use std::alloc::{AllocError, Global};
+use std::marker::Model;
+
+/// The rows of a table that are left, in order.
+#[derive(Drop)]
+pub struct TableRows<'a> {
+    left: RowsLeft<'a>,
+}
+
+/// Rows that are left.
+#[derive(Drop)]
+enum RowsLeft<'a> {
+    /// Those of a [`Table`].
+    Kept(&'a [Row]),
+    /// Those of a [`FlatTable`].
+    Made(MadeRows<'a>),
+}
+
+impl<'a> Model for TableRows<'a> {
+    ghost use Rattle.std.specs.Prelude.{List};
+    ghost use Rattle.flow_table.specs.SameTables.{RowValue};
+    ghost use Rattle.flow_export.specs.RowsLeft.{rows_left};
+
+    ghost Value = { List RowValue };
+
+    ghost view = { λ rows. rows_left rows.left };
+}
+
+impl<'a> TableRows<'a> {
+    /// All rows of a table.
+    pub fn of(table: &'a Table) -> TableRows<'a>
+        ensures { result ≡ rows_in table.now }
+    {
+        TableRows {
+            left: RowsLeft::Kept(&table.rows),
+        }
+    }
+
+    /// All rows of a flat table.
+    pub fn of_flat(alloc: Global, table: &'a FlatTable) -> Result<TableRows<'a>, AllocError>
+        ensures { IfOk result (λ rows. rows ≡ rows_in table.now) }
+    {
+        Ok(TableRows {
+            left: RowsLeft::Made(MadeRows::of(alloc, table)?),
+        })
+    }
+
+    /// How many are left.
+    pub fn len(&self) -> usize
+        ensures { result ≡ length self.now }
+    {
+        match &self.left {
+            RowsLeft::Kept(rows) => rows.len(),
+            RowsLeft::Made(rows) => rows.len(),
+        }
+    }
+
+    /// The first that is left.
+    pub fn first(&self) -> Option<&Row>
+        ensures { MatchOption result (self.now ≡ [])
+            (λ row. self.now ≡ value_of row.now ∷ drop 1 self.now) }
+    {
+        match &self.left {
+            RowsLeft::Kept(rows) => first_of(rows),
+            RowsLeft::Made(rows) => rows.first(),
+        }
+    }
+
+    /// Passes over the first that is left. After an `Err` it is open which are left.
+    pub fn pass(&mut self) -> Result<(), AllocError>
+        ensures { OnOk result (self.new ≡ drop 1 self.old) }
+    {
+        match &mut self.left {
+            RowsLeft::Kept(rows) => {
+                *rows = behind_first(*rows);
+                Ok(())
+            }
+            RowsLeft::Made(rows) => rows.pass(),
+        }
+    }
+}
+
+// The first row.
+fn first_of(rows: &[Row]) -> Option<&Row>
+    ensures { MatchOption result (rows.now ≡ []) (λ row. rows.now ≡ row.now ∷ drop 1 rows.now) }
+{
+    match rows {
+        [first, ..] => Some(first),
+        [] => None,
+    }
+}
+
+// The rows behind the first.
+fn behind_first<'a>(rows: &'a [Row]) -> &'a [Row]
+    ensures { result.now ≡ drop 1 rows.now }
+{
+    match rows {
+        [_, rest @ ..] => rest,
+        [] => rows,
+    }
+}
