@@ -66,18 +66,17 @@ impl Receiver {
             ≡ self.old.received ++ parcel ∷ []) }
         ensures none { UnlessGot result (self.new ≡ self.old) }
     {
-        if let Ok(parcel) = self.consumer.pop() {
-            self.patience.moved(1);
-            return Taken::Got(parcel);
+        if !self.consumer.is_empty() {
+            return Taken::Got(self.consumer.pop_known());
         }
         if !self.consumer.is_abandoned() {
             return Taken::Empty;
         }
         // The sender is gone: one more look finds what it left.
-        match self.consumer.pop() {
-            Ok(parcel) => Taken::Got(parcel),
-            Err(_) => Taken::Gone,
+        if self.consumer.is_empty() {
+            return Taken::Gone;
         }
+        Taken::Got(self.consumer.pop_known())
     }
 
     /// Takes the oldest parcel, and waits while the ring is empty. `None` if it is empty and the
@@ -90,7 +89,10 @@ impl Receiver {
     {
         for _ in rt.forever() {
             match self.try_recv() {
-                Taken::Got(parcel) => return Some(parcel),
+                Taken::Got(parcel) => {
+                    self.patience.moved(1);
+                    return Some(parcel);
+                }
                 Taken::Gone => return None,
                 Taken::Empty => self.patience.wait(rt),
             }

@@ -5,7 +5,7 @@ ghost use Rattle.flow_link.specs.Parcels.{is_last as is_last_parcel};
 
 use crate::parcel::Parcel;
 use crate::waiting::Patience;
-use rtrb::{Producer, PushError};
+use rtrb::Producer;
 use std::marker::Model;
 use std::sync::Wait;
 
@@ -62,15 +62,13 @@ impl Sender {
         ensures ok { OnOk result (self.new.sent ≡ self.old.sent ++ parcel ∷ []) }
         ensures err { IfErr result (λ back. (back ≡ parcel) × (self.new ≡ self.old)) }
     {
-        let last = is_last(&parcel);
-        match self.producer.push(parcel) {
-            Ok(()) => {
-                self.ended = last;
-                self.patience.moved(1);
-                Ok(())
-            }
-            Err(PushError::Full(back)) => Err(back),
+        if self.producer.is_full() {
+            return Err(parcel);
         }
+        self.ended = is_last(&parcel);
+        self.producer.push_reserved(parcel);
+        self.patience.moved(1);
+        Ok(())
     }
 
     /// Sends a parcel, and waits while the ring is full. It comes back if the receiver is gone.
@@ -80,14 +78,12 @@ impl Sender {
         ensures ok { OnOk result (self.new.sent ≡ self.old.sent ++ parcel ∷ []) }
         ensures err { IfErr result (λ back. (back ≡ parcel) × (self.new ≡ self.old)) }
     {
-        let mut parcel = parcel;
         for _ in rt.forever() {
             if self.producer.is_abandoned() {
                 return Err(parcel);
             }
-            match self.try_send(parcel) {
-                Ok(()) => return Ok(()),
-                Err(back) => parcel = back,
+            if !self.producer.is_full() {
+                return self.try_send(parcel);
             }
             self.patience.wait(rt);
         }

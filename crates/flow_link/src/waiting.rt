@@ -20,14 +20,18 @@ const SHORTEST_NAP: u32 = 10;
 const LONGEST_NAP: u32 = 1000;
 
 /// How one end of a link waits for the other: first it spins, and then it sleeps, for 1 ms at most. It
-/// learns how long: if no more than half of what the ring holds was moved since it slept, it sleeps
-/// twice as long, and if as much as the ring holds was, half as long.
+/// learns how long is usual: if no more than half of what the ring holds was moved since it slept, it
+/// sleeps twice as long, and if as much as the ring holds was, half as long. While the other end moves
+/// nothing at all each sleep is half as long again, and when it goes on, sleeps are as long as before.
 #[derive(Clone, Copy, Debug)]
 pub struct Patience {
     capacity: u64,
     tries: u32,
     moved: u64,
+    usual: u32,
     nap: u32,
+    ghost usual_not_too_short: { SHORTEST_NAP ≤ usual },
+    ghost usual_not_too_long: { usual ≤ LONGEST_NAP },
     ghost not_too_short: { SHORTEST_NAP ≤ nap },
     ghost not_too_long: { nap ≤ LONGEST_NAP },
 }
@@ -39,6 +43,7 @@ impl Patience {
             capacity: capacity as u64,
             tries: 0,
             moved: 0,
+            usual: SHORTEST_NAP,
             nap: SHORTEST_NAP,
         }
     }
@@ -56,10 +61,28 @@ impl Patience {
             spin_loop();
             return;
         }
+        self.usual = self.next_usual();
         self.nap = self.next_nap();
         self.moved = 0;
         // (a thread that only gave way would be put off for a whole slice of time by busy ones)
         Parker::new().park_timeout(rt, in_micros(self.nap));
+    }
+
+    // How long a sleep usually is from now on, in microseconds. One behind which nothing was moved says
+    // nothing of it.
+    fn next_usual(&self) -> u32
+        ensures shortest { SHORTEST_NAP ≤ result }
+        ensures longest { result ≤ LONGEST_NAP }
+    {
+        if self.moved == 0 {
+            self.usual
+        } else if self.moved <= self.capacity / 2 {
+            self.usual.saturating_mul(2).min(LONGEST_NAP)
+        } else if self.moved >= self.capacity {
+            (self.usual / 2).max(SHORTEST_NAP)
+        } else {
+            self.usual
+        }
     }
 
     // How long to sleep now, in microseconds.
@@ -67,12 +90,10 @@ impl Patience {
         ensures shortest { SHORTEST_NAP ≤ result }
         ensures longest { result ≤ LONGEST_NAP }
     {
-        if self.moved <= self.capacity / 2 {
-            self.nap.saturating_mul(2).min(LONGEST_NAP)
-        } else if self.moved >= self.capacity {
-            (self.nap / 2).max(SHORTEST_NAP)
+        if self.moved == 0 {
+            self.nap.saturating_add(self.nap / 2).min(LONGEST_NAP)
         } else {
-            self.nap
+            self.usual
         }
     }
 }
