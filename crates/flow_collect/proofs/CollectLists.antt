@@ -12,6 +12,7 @@ use Rattle.flow_link.specs.declared.settled.Settled.{Settled}
 use Rattle.flow_table.specs.Bags.{IsSameBag}
 use Rattle.flow_table.specs.Fitting.{FitsPlan}
 use Rattle.flow_table.specs.Plans.{PlanValue}
+use Rattle.flow_table.specs.declared.table.Table.{Table}
 use Rattle.flow_collect.specs.Dealt.{IsPaired, IsNewLot, IsNewStart, IsDealt, start_link}
 use Rattle.flow_collect.specs.Finished.{HasTaken, lanes_of, ended_link, SettlesEnds, CameOver, FinishedAs, IsOverfull}
 use Rattle.flow_collect.specs.Headline.{all_of}
@@ -115,7 +116,7 @@ module _ {S : Type 0} (seen : S → SourceView) where
   came_settled plan capacity sources starts lots ts reports links afters records d e came =
       rw (sym d.sources_are, came.settled.sources_are, came.settled.reports_are) (sessions_settled capacity starts ts came.lanes links e d.new_starts came.settled.links_are came.ended)
 
-  finished : (plan : PlanValue) (pool : Pool) (sources : List S) (starts : List (Start S)) (lots : List Lot) (ts : List (EndedSession S)) (c : CollectedInFull S)
+  finished : (plan : PlanValue) (pool : Pool) (sources : List S) (starts : List (Start S)) (lots : List Lot) (ts : List (EndedSession S)) (c : CollectedInFull S Table)
       → IsDealt plan pool.capacity sources starts lots → AllZip (SessionRan seen) starts ts → FinishedAs plan ts c
       → HeadlineInFull seen sources plan pool c × FitsPlan plan c.table
   finished plan pool sources starts lots ts c d e f =
@@ -130,7 +131,7 @@ module _ {S : Type 0} (seen : S → SourceView) where
       let same : IsSameBag f.records (all_of all.records) = subst (λ (x : List DataRecord). IsSameBag f.records x) all.all f.came.same in
       too_large_due seen plan sources f.sources (reports_in f.reports) all.records f.records (given_short seen sources f.sources f.reports all.records all.given) same f.large
 
-  pub answered : (plan : PlanValue) (pool : Pool) (sources : List S) (starts : List (Start S)) (lots : List Lot) (ts : List (EndedSession S)) (answer : Option (CollectedInFull S))
+  pub answered : (plan : PlanValue) (pool : Pool) (sources : List S) (starts : List (Start S)) (lots : List Lot) (ts : List (EndedSession S)) (answer : Option (CollectedInFull S Table))
       → IsDealt plan pool.capacity sources starts lots → AllZip (SessionRan seen) starts ts → MatchOption answer (IsOverfull plan ts) (λ c. FinishedAs plan ts c)
       → MatchOption answer (AreTooLarge seen plan sources) (λ c. HeadlineInFull seen sources plan pool c × FitsPlan plan c.table)
   answered plan pool sources starts lots ts None d e f = overfull plan pool.capacity sources starts lots ts d e f

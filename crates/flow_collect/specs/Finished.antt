@@ -10,6 +10,7 @@ use Rattle.flow_table.specs.Bags.{IsSameBag}
 use Rattle.flow_table.specs.Fitting.{FitsPlan}
 use Rattle.flow_table.specs.Partials.{plan_of}
 use Rattle.flow_table.specs.Plans.{PlanValue}
+use Rattle.flow_table.specs.declared.table.Table.{Table}
 use Rattle.flow_table.specs.Tables.{IsTable, IsTooLarge}
 use Rattle.flow_collect.specs.Lanes.{StandsForLanes, IsEnded}
 use Rattle.flow_collect.specs.Places.{Each3}
@@ -64,7 +65,7 @@ module _ {S : Type 0} where
     pub same : IsSameBag records (settled_records links)
 
   -- the table is of these records
-  pub record FinishedAs (plan : PlanValue) (ts : List (EndedSession S)) (c : CollectedInFull S) : Type 0 where
+  pub record FinishedAs (plan : PlanValue) (ts : List (EndedSession S)) (c : CollectedInFull S Table) : Type 0 where
     pub records : List DataRecord
     pub came : CameOver ts c.sessions.items c.links.items c.sources.items records
     pub table_is : IsTable plan records c.table

@@ -12,6 +12,8 @@ use Rattle.ipfix_session.specs.declared.report.DomainReport.{DomainReport}
 use Rattle.ipfix_session.specs.declared.report.FullReport.{FullReport}
 use Rattle.ipfix_session.specs.declared.report.SessionReport.{SessionReport}
 use Rattle.flow_table.specs.Plans.{PlanValue}
+use Rattle.flow_table.specs.SameTables.{IsSameTable}
+use Rattle.flow_table.specs.declared.table.Table.{Table}
 use Rattle.flow_collect.specs.Headline.{IsReceived, IsGivenBy, IsAddedUp, all_of}
 use Rattle.flow_collect.specs.Places.{Each4}
 use Rattle.flow_collect.specs.declared.collected.Collected.{Collected}
@@ -45,7 +47,7 @@ module _ {S : Type 0} (seen : S → SourceView) where
     pub balanced : AllZip (IsBalanced given.counted) full.report.domains.items full.balances.items
 
   -- of a run in threads: the headline, and each session's report is in full
-  pub record HeadlineInFull (sources : List S) (plan : PlanValue) (pool : Pool) (c : CollectedInFull S) : Type 0 where
+  pub record HeadlineInFull (sources : List S) (plan : PlanValue) (pool : Pool) (c : CollectedInFull S Table) : Type 0 where
     -- for each session there are records
     pub records : List (List DataRecord)
     -- which its worker received over its link, and nothing else
@@ -55,8 +57,15 @@ module _ {S : Type 0} (seen : S → SourceView) where
     -- and of which all together the table is the aggregate
     pub added_up : IsAddedUp plan (all_of records) c.table
 
+-- the same run, with a table that says the same
+pub record IsWithTable {S : Type 0} (c whole : CollectedInFull S Table) : Type 0 where
+  pub sessions_are : whole.sessions ≡ c.sessions
+  pub links_are : whole.links ≡ c.links
+  pub sources_are : whole.sources ≡ c.sources
+  pub same : IsSameTable c.table whole.table
+
 -- the same run, with reports that aren't in full
-pub record IsWithoutRest {S : Type 0} (c : CollectedInFull S) (short : Collected S) : Type 0 where
+pub record IsWithoutRest {S : Type 0} (c : CollectedInFull S Table) (short : Collected S) : Type 0 where
   pub sessions_are : short.sessions.items ≡ reports_in c.sessions.items
   pub links_are : short.links ≡ c.links
   pub sources_are : short.sources ≡ c.sources

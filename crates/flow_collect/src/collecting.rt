@@ -15,13 +15,13 @@
 //!              records;
 //!              makes of each EndedSession and its Lane a place in Parts: the report, the link, with
 //!              both ends settled, and the source;
-//!              makes of Parts and the table what `collect_in_full` answers, CollectedInFull.
+//!              makes of Parts and the table what `collect_flat` answers, CollectedInFull.
 //! ```
 
 ghost use Rattle.std.specs.Prelude.{◌≡◌, Err, IfOk, IfErr, IfSome, IfNone, IsErrOf, MatchOption, vec_len};
 ghost use Rattle.flow_table.specs.Fitting.{FitsPlan};
 ghost use Rattle.flow_collect.specs.Dealt.{IsCapacity};
-ghost use Rattle.flow_collect.specs.InFull.{HeadlineInFull};
+ghost use Rattle.flow_collect.specs.InFull.{HeadlineInFull, IsWithTable};
 ghost use Rattle.flow_collect.specs.Refusals.{fault_of_arguments, AreTooLarge, IsLate};
 
 use crate::collected::{CollectedInFull, MAX_SESSIONS, MAX_WORKERS, Pool};
@@ -32,9 +32,9 @@ use crate::settling::finish_all;
 use crate::shortage::Shortage;
 use crate::threads::in_threads;
 use flow_link::MAX_CAPACITY;
-use flow_table::Plan;
+use flow_table::{FlatTable, Plan};
 use ipfix_session::Source;
-use std::alloc::Global;
+use std::alloc::{AllocError, Global};
 use std::sync::Wait;
 use std::thread::Threads;
 
@@ -49,6 +49,54 @@ pub fn collect_in_full<S: Source + Send + Drop, G: Gate + Sync, R: Threads + Wai
     pool: Pool,
     gate: &G,
 ) -> Result<CollectedInFull<S>, CollectFault>
+    // The headline, and each report in full.
+    ensures ok { IfOk result (λ c. HeadlineInFull S.seen sources.items plan.now pool c) }
+    // The table fits the plan, as an export asks.
+    ensures fits { IfOk result (λ c. FitsPlan plan.now c.table) }
+    // `Workers`, `Sessions` and `Link` exactly for their arguments, in this order.
+    ensures arguments { IfSome (fault_of_arguments pool (vec_len sources))
+        (λ fault. result ≡ Err fault) }
+    ensures others { IfNone (fault_of_arguments pool (vec_len sources)) (IfErr result IsLate) }
+    // Only if the records of the sources' whole texts are too large.
+    ensures too_large { IsErrOf result CollectFault.SumTooLarge
+        → AreTooLarge S.seen plan.now sources.items }
+{
+    let collected = collect_flat(rt, alloc, sources, plan, pool, gate)?;
+    let whole = with_table(collected)?;
+    Ok(whole)
+}
+
+// The same with all rows of the table.
+fn with_table<S: Drop>(
+    collected: CollectedInFull<S, FlatTable>,
+) -> Result<CollectedInFull<S>, AllocError>
+    ensures { IfOk result (IsWithTable collected) }
+{
+    let CollectedInFull {
+        sessions,
+        links,
+        sources,
+        table,
+    } = collected;
+    let table = table.into_table()?;
+    Ok(CollectedInFull {
+        sessions,
+        links,
+        sources,
+        table,
+    })
+}
+
+/// Does what [`collect_in_full`] does, with a table whose rows are made as they are asked for. The faults are
+/// the same.
+pub fn collect_flat<S: Source + Send + Drop, G: Gate + Sync, R: Threads + Wait + Sync>(
+    rt: &R,
+    alloc: Global,
+    sources: Vec<S>,
+    plan: &Plan,
+    pool: Pool,
+    gate: &G,
+) -> Result<CollectedInFull<S, FlatTable>, CollectFault>
     // The headline, and each report in full.
     ensures ok { IfOk result (λ c. HeadlineInFull S.seen sources.items plan.now pool c) }
     // The table fits the plan, as an export asks.
@@ -105,7 +153,7 @@ fn collect_judged<S: Source + Send + Drop, G: Gate + Sync, R: Threads + Wait + S
     plan: &Plan,
     pool: Pool,
     gate: &G,
-) -> Result<Option<CollectedInFull<S>>, Shortage>
+) -> Result<Option<CollectedInFull<S, FlatTable>>, Shortage>
     requires { IsCapacity pool.capacity }
     ensures { IfOk result (λ answer. MatchOption answer (AreTooLarge S.seen plan.now sources.items)
         (λ c. HeadlineInFull S.seen sources.items plan.now pool c × FitsPlan plan.now c.table)) }

@@ -12,7 +12,7 @@ use crate::collected::CollectedInFull;
 use crate::session_thread::EndedSession;
 use crate::shortage::Shortage;
 use crate::worker::Lot;
-use flow_table::TableFault;
+use flow_table::{FlatTable, TableFault};
 use std::alloc::Global;
 use std::collections::VecDeque;
 use std::thread::Threads;
@@ -23,7 +23,7 @@ pub fn finish_all<S: Drop, R: Threads + Sync>(
     alloc: Global,
     ended: VecDeque<EndedSession<S>>,
     worked: VecDeque<Lot>,
-) -> Result<Option<CollectedInFull<S>>, Shortage>
+) -> Result<Option<CollectedInFull<S, FlatTable>>, Shortage>
     requires taken { (plan : PlanValue) × All (HasTaken plan) worked.items }
     requires paired { All (IsPaired (map ended_link ended.items)) (lanes_of worked.items) }
     ensures { (plan : PlanValue) → All (HasTaken plan) worked.items
@@ -33,7 +33,7 @@ pub fn finish_all<S: Drop, R: Threads + Sync>(
     let all = gather(rt, worked)?;
     let Lot { lanes, partial, .. } = all;
     let parts = settle_all(alloc, ended, VecDeque::from_vec(lanes))?;
-    let table = match partial.finish() {
+    let table = match partial.finish_flat() {
         Ok(table) => table,
         Err(TableFault::SumTooLarge) => return Ok(None),
         Err(TableFault::OutOfMemory) => return Err(Shortage::OutOfMemory),
