@@ -1,4 +1,2 @@
 pub mod BuiltIn
 pub mod Joined
-pub mod Telling
-pub mod Files

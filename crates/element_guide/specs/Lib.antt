@@ -2,6 +2,5 @@
 pub mod Listed
 pub mod Fitting
 pub mod Lines
-pub mod FileLines
-pub mod Loaded
+pub mod ErrorLines
 pub mod Runs

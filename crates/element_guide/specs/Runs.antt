@@ -1,7 +1,7 @@
 -- How the list of elements ended.
-use Rattle.std.specs.Prelude.{◌≡◌, ℕ, Bool, true, false, List, ◌++◌, Option, Some, None}
+use Rattle.std.specs.Prelude.{◌≡◌, ℕ, Bool, true, false, List, ◌++◌, Option, Some}
 use Rattle.element_registry.specs.Registries.{Known}
-use Rattle.element_guide.specs.FileLines.{failed_line, none_line}
+use Rattle.element_guide.specs.ErrorLines.{failed_line, none_line}
 use Rattle.element_guide.specs.Lines.{has_fitting, list_text}
 use Rattle.element_guide.specs.Listed.{all_listed}
 
@@ -24,12 +24,6 @@ pub record ListsNone (Loads : Option (List Known) → List ℕ → Type 0) (word
   pub lines : List ℕ
   pub finds : Finds Loads word false known lines
   pub told : AreTold (lines ++ none_line)
-
--- a file was not read, which was told
-pub record StopsAtFile (Loads : Option (List Known) → List ℕ → Type 0) (AreTold : List ℕ → Type 0) : Type 0 where
-  pub lines : List ℕ
-  pub stops : Loads None lines
-  pub told : AreTold lines
 
 -- files were read, and the list couldn't be written, which was told behind their lines
 pub record FailsToList (Loads : Option (List Known) → List ℕ → Type 0) (AreTold : List ℕ → Type 0) : Type 0 where

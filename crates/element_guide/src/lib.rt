@@ -1,17 +1,15 @@
 //! The elements that are known: those built in, those of files, and which of them a word fits.
 #![tactic(auto)]
 
-mod file_lines;
+mod error_lines;
 mod fitting;
 mod lines;
 mod listing;
-mod loading;
 mod running;
 mod type_names;
 
-pub use file_lines::write_out_of_memory;
+pub use error_lines::write_out_of_memory;
 pub use fitting::fits;
 pub use listing::list_elements;
-pub use loading::load_elements;
 pub use running::run_elements;
 pub use type_names::type_name;

@@ -3,15 +3,15 @@
 ghost use Rattle.std.specs.Prelude.{◌≡◌, ◌⊎◌, true, false, [], map, option_map};
 ghost use Rattle.std.specs.Io.KnownBytes.{Appends};
 ghost use Rattle.run_reports.specs.Told.{AreTold};
-ghost use Rattle.element_guide.specs.FileLines.{failed_line, none_line};
+ghost use Rattle.element_guide.specs.ErrorLines.{failed_line, none_line};
 ghost use Rattle.element_guide.specs.Lines.{has_fitting, list_text};
 ghost use Rattle.element_guide.specs.Listed.{all_listed};
-ghost use Rattle.element_guide.specs.Loaded.{Loads};
-ghost use Rattle.element_guide.specs.Runs.{FailsToList, Lists, ListsNone, StopsAtFile};
+ghost use Rattle.element_files.specs.Loaded.{Loads, StopsAtFile};
+ghost use Rattle.element_guide.specs.Runs.{FailsToList, Lists, ListsNone};
 
-use crate::file_lines::{write_failed, write_none};
+use crate::error_lines::{write_failed, write_none};
 use crate::listing::list_elements;
-use crate::loading::load_elements;
+use element_files::load_elements;
 use element_registry::Elements;
 use exit_status::Status;
 use run_reports::{Telling, WriteLines};

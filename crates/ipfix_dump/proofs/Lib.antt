@@ -1,3 +1,5 @@
 pub mod Writing
 mod InFull
 mod Joined
+pub mod Under
+mod Kept

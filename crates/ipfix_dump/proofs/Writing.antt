@@ -10,16 +10,18 @@ use Rattle.ipfix_session.specs.Sources.{SourceView}
 use Rattle.ipfix_session.proofs.Driven.{given_all_of}
 use Rattle.ipfix_dump.specs.Dumped.{DumpsBy, DumpsAllBy}
 
-module _ {K N : Type 0} (line_of : DataRecord → List ℕ) (name : K → N) (contents : K → Option (List ℕ)) where
-  -- a record's line is appended to the same writer
+module _ {K N : Type 0} (line_of : K → DataRecord → List ℕ) (name : K → N) (contents : K → Option (List ℕ)) where
+  -- a record's line is appended to the same writer, and the lines of others stay as they were
   abbrev pub WritesLine : K → DataRecord → K → Type 0
-  WritesLine before r after = (name after ≡ name before) × Appends (contents before) (contents after) (line_of r)
+  WritesLine before r after = (name after ≡ name before) × (line_of after ≡ line_of before) × Appends (contents before) (contents after) (line_of before r)
 
-  pub writes_lines : (first : K) (rs : List DataRecord) (last : K) → FoldsTo WritesLine first rs last → (name last ≡ name first) × Appends (contents first) (contents last) (flat_map line_of rs)
+  pub writes_lines : (first : K) (rs : List DataRecord) (last : K) → FoldsTo WritesLine first rs last
+      → (name last ≡ name first) × Appends (contents first) (contents last) (flat_map (line_of first) rs)
   writes_lines first [] last chain = subst (λ (k : K). (name k ≡ name first) × Appends (contents first) (contents k) []) chain (refl, Appends-nil (contents first))
   writes_lines first (r ∷ rs) last chain =
       let rest = writes_lines chain.0 rs last chain.2 in
-      (rest.0 ∙ chain.1.0, Appends-trans _ _ _ (line_of r) (flat_map line_of rs) chain.1.1 rest.1)
+      let later = subst (λ (text : DataRecord → List ℕ). Appends (contents chain.0) (contents last) (flat_map text rs)) chain.1.1 rest.1 in
+      (rest.0 ∙ chain.1.0, Appends-trans _ _ _ (line_of first r) (flat_map (line_of first) rs) chain.1.2 later)
 
 -- ---- a dump without a fault
 

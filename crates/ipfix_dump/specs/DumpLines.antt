@@ -6,10 +6,16 @@ use Rattle.ipfix_elements.specs.Names.{name_text}
 use Rattle.ipfix_elements.specs.Texts.{value_text}
 use Rattle.ipfix_message.specs.Fields.{Field}
 use Rattle.ipfix_message.specs.declared.record.DataRecord.{DataRecord}
+use Rattle.element_registry.specs.Registries.{Known, kind_under, name_under}
+use Rattle.element_values.specs.FieldTexts.{text_under}
 
 -- a space and a field: its element's name, and its value by the element's kind
 abbrev pub field_text : Field → List ℕ
 field_text f = codes " " ++ (name_text f.element ++ (codes "=" ++ value_text (kind_of f.element) f.octets))
+
+-- the same with the elements of files
+abbrev pub field_under : List Known → Field → List ℕ
+field_under known f = codes " " ++ (name_under known f.element ++ (codes "=" ++ text_under (kind_under known f.element) f.octets))
 
 -- a label and a number
 abbrev pub labelled : List ℕ → ℕ → List ℕ
@@ -20,3 +26,8 @@ unfoldable pub dump_line : DataRecord → List ℕ
 dump_line r =
     labelled (codes "d=") r.domain ++ (labelled (codes " t=") r.template ++ (labelled (codes " x=") r.export_time ++ (labelled (codes " s=") r.scope
     ++ (flat_map field_text r.fields ++ codes "\n"))))
+
+unfoldable pub dump_line_under : List Known → DataRecord → List ℕ
+dump_line_under known r =
+    labelled (codes "d=") r.domain ++ (labelled (codes " t=") r.template ++ (labelled (codes " x=") r.export_time ++ (labelled (codes " s=") r.scope
+    ++ (flat_map (field_under known) r.fields ++ codes "\n"))))

@@ -11,8 +11,9 @@ use Rattle.ipfix_session.specs.Sources.{SourceView}
 use Rattle.ipfix_session.specs.Drives.{IsGiven}
 use Rattle.ipfix_session.specs.Places.{ReportsInFull}
 use Rattle.ipfix_session.specs.declared.driver.TheConstants.{READ_LIMIT}
-use Rattle.ipfix_dump.specs.DumpLines.{dump_line}
-use Rattle.ipfix_dump.specs.JsonLines.{json_line}
+use Rattle.element_registry.specs.Registries.{Known}
+use Rattle.ipfix_dump.specs.DumpLines.{dump_line, dump_line_under}
+use Rattle.ipfix_dump.specs.JsonLines.{json_line, json_line_under}
 
 -- with the line of a record
 module _ (line_of : DataRecord → List ℕ) where
@@ -48,3 +49,10 @@ DumpsJson = DumpsBy json_line
 
 abbrev pub DumpsAllJson : Option (List ℕ) → Option (List ℕ) → Option (List ℕ) → Type 0
 DumpsAllJson = DumpsAllBy json_line
+
+-- with the elements of files
+abbrev pub DumpsUnder : List Known → {S : Type 0} → (S → SourceView) → S → S → Option (List ℕ) → Option (List ℕ) → SessionReport → Type 0
+DumpsUnder known = DumpsBy (dump_line_under known)
+
+abbrev pub DumpsJsonUnder : List Known → {S : Type 0} → (S → SourceView) → S → S → Option (List ℕ) → Option (List ℕ) → SessionReport → Type 0
+DumpsJsonUnder known = DumpsBy (json_line_under known)

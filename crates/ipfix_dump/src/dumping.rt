@@ -1,13 +1,14 @@
 //! Dumping a source: a line for each data record.
 
 ghost use Rattle.std.specs.Prelude.{IfOk};
-ghost use Rattle.ipfix_dump.specs.Dumped.{Dumps, DumpsBy, DumpsInFullBy, DumpsJson};
+ghost use Rattle.ipfix_dump.specs.Dumped.{Dumps, DumpsBy, DumpsInFullBy, DumpsJson, DumpsJsonUnder, DumpsUnder};
 
 use crate::fault::DumpFault;
 use crate::json_line::JsonLine;
 use crate::line::Line;
 use crate::line_sink::LineSink;
 use crate::record_line::RecordLine;
+use element_registry::Elements;
 use ipfix_session::{FullReport, READ_LIMIT, SessionReport, Source, drive_in_full};
 use std::alloc::Global;
 use std::io::Write;
@@ -26,7 +27,8 @@ pub fn dump<S: Source, W: Write>(
     ensures { IfOk result (λ report.
         Dumps S.seen source.old source.new (W.contents out.old) (W.contents out.new) report) }
 {
-    dump_by(alloc, &mut Line::new(alloc), source, out)
+    let elements = Elements::built_in(alloc);
+    dump_under(alloc, &elements, source, out)
 }
 
 /// Does the same with an object of JSON (RFC 8259) for each data record, on a line of its own.
@@ -38,7 +40,34 @@ pub fn dump_json<S: Source, W: Write>(
     ensures { IfOk result (λ report.
         DumpsJson S.seen source.old source.new (W.contents out.old) (W.contents out.new) report) }
 {
-    dump_by(alloc, &mut JsonLine::new(alloc), source, out)
+    let elements = Elements::built_in(alloc);
+    dump_json_under(alloc, &elements, source, out)
+}
+
+/// Does what [`dump`] does, and names elements and reads their values as `elements` says.
+pub fn dump_under<S: Source, W: Write>(
+    alloc: Global,
+    elements: &Elements,
+    source: &mut S,
+    out: &mut W,
+) -> Result<SessionReport, DumpFault>
+    ensures { IfOk result (λ report. DumpsUnder elements.now S.seen source.old source.new
+        (W.contents out.old) (W.contents out.new) report) }
+{
+    dump_by(alloc, &mut Line::new(alloc, elements), source, out)
+}
+
+/// Does what [`dump_json`] does, and names elements and reads their values as `elements` says.
+pub fn dump_json_under<S: Source, W: Write>(
+    alloc: Global,
+    elements: &Elements,
+    source: &mut S,
+    out: &mut W,
+) -> Result<SessionReport, DumpFault>
+    ensures { IfOk result (λ report. DumpsJsonUnder elements.now S.seen source.old source.new
+        (W.contents out.old) (W.contents out.new) report) }
+{
+    dump_by(alloc, &mut JsonLine::new(alloc, elements), source, out)
 }
 
 /// Does the same with lines that `line` makes.
@@ -48,7 +77,7 @@ pub fn dump_by<L: RecordLine, S: Source, W: Write>(
     source: &mut S,
     out: &mut W,
 ) -> Result<SessionReport, DumpFault>
-    ensures { IfOk result (λ report. DumpsBy L.line_of S.seen source.old source.new
+    ensures { IfOk result (λ report. DumpsBy (L.line_of line.old) S.seen source.old source.new
         (W.contents out.old) (W.contents out.new) report) }
 {
     Ok(dump_in_full_by(alloc, line, source, out)?.report)
@@ -62,7 +91,7 @@ pub fn dump_in_full_by<L: RecordLine, S: Source, W: Write>(
     source: &mut S,
     out: &mut W,
 ) -> Result<FullReport, DumpFault>
-    ensures { IfOk result (λ full. DumpsInFullBy L.line_of S.seen source.old source.new
+    ensures { IfOk result (λ full. DumpsInFullBy (L.line_of line.old) S.seen source.old source.new
         (W.contents out.old) (W.contents out.new) full) }
 {
     let mut sink = LineSink::new(line, out);

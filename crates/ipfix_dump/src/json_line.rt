@@ -2,40 +2,53 @@
 
 ghost use Rattle.std.specs.Prelude.{◌≡◌, ◌++◌, false, OnOk};
 ghost use Rattle.ipfix_message.specs.FieldViews.{field_of};
-ghost use Rattle.ipfix_dump.specs.JsonLines.{comma_if, json_field, json_fields, json_front, json_line, json_value};
+ghost use Rattle.ipfix_dump.specs.JsonLines.{comma_if, json_field_under, json_fields_by, json_front, json_line_under};
+ghost use Rattle.ipfix_dump.specs.declared.label.Form.TheVariants as forms;
 
+use crate::label::Form;
+use crate::labels::Labels;
 use crate::line_octets::LineOctets;
 use crate::record_line::RecordLine;
-use crate::text::{append_labelled, append_value};
-use ipfix_elements::{Kind, append_json_cell, append_name, kind_of, read_cell};
+use crate::text::{append_json_value, append_labelled};
+use element_registry::Elements;
 use ipfix_message::{DataRecord, FieldRef, Fields};
 use std::alloc::{AllocError, Global};
 
 /// Makes the lines of records as objects of JSON.
 #[derive(Drop)]
-pub struct JsonLine {
+pub struct JsonLine<'a> {
+    labels: Labels<'a>,
     line: LineOctets,
+    ghost of_json: { labels.form ≡ forms.Json },
 }
 
-impl JsonLine {
-    /// No line yet.
-    pub fn new(alloc: Global) -> Self {
+impl<'a> JsonLine<'a> {
+    /// No line yet. Elements are named, and their values read, as `elements` says.
+    pub fn new(alloc: Global, elements: &'a Elements) -> Self
+        ensures { result.labels.elements.now ≡ elements.now }
+    {
         JsonLine {
+            labels: Labels::new(alloc, elements, Form::Json),
             line: LineOctets::new(alloc),
         }
     }
 }
 
-impl RecordLine for JsonLine {
-    ghost line_of = { json_line };
+impl RecordLine for JsonLine<'_> {
+    ghost line_of = { λ line. json_line_under line.labels.elements.now };
 
-    #[tactic(auto, unfolding(crate::specs::JsonLines::json_line))]
-    fn make(&mut self, data_record: &DataRecord) -> Result<&[u8], AllocError> {
+    ghost made = { λ line. line.line.octets.items };
+
+    #[tactic(auto, unfolding(crate::specs::JsonLines::json_line_under))]
+    fn make(&mut self, data_record: &DataRecord) -> Result<(), AllocError> {
         self.line.octets.clear();
         append_front(data_record, &mut self.line.octets)?;
-        append_fields(&data_record.fields, &mut self.line)?;
-        self.line.octets.extend_from_slice(b"]}\n")?;
-        Ok(self.line.octets.as_slice())
+        append_fields(&data_record.fields, &mut self.labels, &mut self.line)?;
+        self.line.octets.extend_from_slice(b"]}\n")
+    }
+
+    fn line(&self) -> &[u8] {
+        self.line.octets.as_slice()
     }
 }
 
@@ -50,54 +63,59 @@ fn append_front(data_record: &DataRecord, out: &mut Vec<u8>) -> Result<(), Alloc
     Ok(())
 }
 
-fn append_fields(fields: &Fields, out: &mut LineOctets) -> Result<(), AllocError>
-    ensures { OnOk result
-        (out.new.octets.items ≡ out.old.octets.items ++ json_fields false fields.now) }
+fn append_fields(
+    fields: &Fields,
+    labels: &mut Labels,
+    out: &mut LineOctets,
+) -> Result<(), AllocError>
+    requires { labels.old.form ≡ forms.Json }
+    ensures fields { OnOk result (out.new.octets.items ≡ out.old.octets.items
+        ++ json_fields_by (json_field_under labels.old.elements.now) false fields.now) }
+    ensures elements { labels.new.elements.now ≡ labels.old.elements.now }
+    ensures form { labels.new.form ≡ labels.old.form }
 {
     let mut later = false;
     for field in fields.iter() {
-        append_next(later, field, out)?;
+        append_next(later, field, labels, out)?;
         later = true;
     }
     Ok(())
 }
 
 // Appends a field, with a comma before it if others stand there.
-fn append_next(later: bool, field: FieldRef, out: &mut LineOctets) -> Result<(), AllocError>
-    ensures { OnOk result (out.new.octets.items
-        ≡ out.old.octets.items ++ (comma_if later ++ json_field (field_of field.entry))) }
+fn append_next(
+    later: bool,
+    field: FieldRef,
+    labels: &mut Labels,
+    out: &mut LineOctets,
+) -> Result<(), AllocError>
+    requires { labels.old.form ≡ forms.Json }
+    ensures field { OnOk result (out.new.octets.items ≡ out.old.octets.items
+        ++ (comma_if later ++ json_field_under labels.old.elements.now (field_of field.entry))) }
+    ensures elements { labels.new.elements.now ≡ labels.old.elements.now }
+    ensures form { labels.new.form ≡ labels.old.form }
 {
     if later {
         out.octets.extend_from_slice(b",")?;
-        append_field(field, out)
+        append_field(field, labels, out)
     } else {
-        append_field(field, out)
+        append_field(field, labels, out)
     }
 }
 
-#[tactic(auto, unfolding(crate::specs::JsonLines::json_field))]
-fn append_field(field: FieldRef, out: &mut LineOctets) -> Result<(), AllocError>
-    ensures { OnOk result
-        (out.new.octets.items ≡ out.old.octets.items ++ json_field (field_of field.entry)) }
+#[tactic(auto, unfolding(crate::specs::JsonLines::json_field_under))]
+fn append_field(
+    field: FieldRef,
+    labels: &mut Labels,
+    out: &mut LineOctets,
+) -> Result<(), AllocError>
+    requires { labels.old.form ≡ forms.Json }
+    ensures field { OnOk result (out.new.octets.items ≡ out.old.octets.items
+        ++ json_field_under labels.old.elements.now (field_of field.entry)) }
+    ensures elements { labels.new.elements.now ≡ labels.old.elements.now }
+    ensures form { labels.new.form ≡ labels.old.form }
 {
-    out.octets.extend_from_slice(b"{\"name\":\"")?;
-    append_name(field.element, &mut out.octets)?;
-    out.octets.extend_from_slice(b"\",\"value\":")?;
-    append_json_value(kind_of(field.element), field.octets, out)?;
-    out.octets.extend_from_slice(b"}")?;
-    Ok(())
-}
-
-fn append_json_value(kind: Kind, octets: &[u8], out: &mut LineOctets) -> Result<(), AllocError>
-    ensures { OnOk result
-        (out.new.octets.items ≡ out.old.octets.items ++ json_value kind octets.now) }
-{
-    match read_cell(kind, octets) {
-        Some(cell) => append_json_cell(&cell, &mut out.octets),
-        None => {
-            out.octets.extend_from_slice(b"\"")?;
-            append_value(kind, octets, out)?;
-            out.octets.extend_from_slice(b"\"")
-        }
-    }
+    let kind = labels.append(field.element, &mut out.octets)?;
+    append_json_value(kind, field.octets, out)?;
+    out.octets.extend_from_slice(b"}")
 }

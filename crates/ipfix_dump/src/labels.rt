@@ -1,115 +1,137 @@
 //! What stands before the values of fields, kept for the records that follow.
 
-ghost use Rattle.std.specs.Prelude.{◌≡◌, ◌++◌, OnOk, IsTrue};
-ghost use Rattle.ipfix_elements.specs.Elements.{kind_of as kind_in};
-ghost use Rattle.ipfix_message.specs.FieldViews.{field_of};
-ghost use Rattle.ipfix_dump.specs.DumpLines.{field_text};
-ghost use Rattle.ipfix_dump.specs.LineParts.{label_text};
+ghost use Rattle.std.specs.Prelude.{◌≡◌, ◌++◌, All, None, IfOk, IfSome, OnOk, slice_set, vec_len, ◌<◌, Some};
+ghost use Rattle.element_registry.specs.Registries.{kind_under};
+ghost use Rattle.ipfix_dump.specs.LineParts.{label_text, IsKept, IsLabel};
 
-use crate::line_octets::LineOctets;
-use crate::text::{append_label, append_value};
-use ipfix_elements::{Kind, kind_of};
-use ipfix_message::FieldRef;
+use crate::label::{Form, Label};
+use element_registry::{ElementKind, Elements};
 use ipfix_wire::ElementId;
 use std::alloc::{AllocError, Global};
 
-/// The places of a record whose labels are kept. Behind them each label is made anew, so that what is
-/// kept doesn't grow with a template.
-const PLACES: usize = 256;
+/// As many labels are kept. Each of IANA's elements has a place of its own.
+const PLACES: u32 = 1024;
 
-/// Room for each name that an element has, with what stands around it.
-const TEXT_ROOM: usize = 32;
-
-/// What stands before the values of an element, and their kind.
+/// The labels of the fields that were appended, each in the place of its element, up to another one of this place.
 #[derive(Drop)]
-struct Label {
-    element: ElementId,
-    kind: Kind,
-    text: Vec<u8>,
-    ghost kind_is: { kind ≡ kind_in element },
-    ghost text_is: { text.items ≡ label_text element },
-}
-
-impl Label {
-    fn of(alloc: Global, element: ElementId) -> Result<Self, AllocError> {
-        let mut text = Vec::with_capacity(alloc, TEXT_ROOM)?;
-        append_label(element, &mut text)?;
-        Ok(Label {
-            element,
-            kind: kind_of(element),
-            text,
-        })
-    }
-
-    // Whether it is the label of an element.
-    fn is_of(&self, element: ElementId) -> bool
-        ensures text { IsTrue result → self.now.text.items ≡ label_text element }
-        ensures kind { IsTrue result → self.now.kind ≡ kind_in element }
-    {
-        self.element == element
-    }
-}
-
-/// The labels of the fields that were appended last, by their places in their records.
-#[derive(Drop)]
-pub struct Labels {
+pub struct Labels<'a> {
     alloc: Global,
-    kept: Vec<Label>,
+    pub elements: &'a Elements,
+    pub form: Form,
+    kept: Vec<Option<Label>>,
+    ghost labels_are: { All (IsKept form elements.now) kept.items },
 }
 
-impl Labels {
+impl<'a> Labels<'a> {
     /// None yet.
-    pub fn new(alloc: Global) -> Self {
+    pub fn new(alloc: Global, elements: &'a Elements, form: Form) -> Self
+        ensures elements { result.elements.now ≡ elements.now }
+        ensures form { result.form ≡ form }
+    {
         Labels {
             alloc,
+            elements,
+            form,
             kept: Vec::new(alloc),
         }
     }
 
-    /// Appends a space and a field: its element's name and its value. The label that is kept of its
-    /// place is taken if it is of the same element.
-    pub fn append_field(
+    /// Appends what stands before the value of an element, and answers the kind that it is read by.
+    #[inline(always)]
+    pub fn append(
         &mut self,
-        place: usize,
-        field: FieldRef,
-        out: &mut LineOctets,
-    ) -> Result<(), AllocError>
-        ensures { OnOk result
-            (out.new.octets.items ≡ out.old.octets.items ++ field_text (field_of field.entry)) }
+        element: ElementId,
+        out: &mut Vec<u8>,
+    ) -> Result<ElementKind, AllocError>
+        ensures kind { IfOk result (λ kind. kind ≡ kind_under self.old.elements.now element) }
+        ensures text { OnOk result (out.new.items
+            ≡ out.old.items ++ label_text self.old.form self.old.elements.now element) }
+        ensures elements { self.new.elements.now ≡ self.old.elements.now }
+        ensures form { self.new.form ≡ self.old.form }
     {
-        match self.kept.get(place) {
-            Some(label) if label.is_of(field.element) => {
-                out.octets.extend_from_slice(label.text.as_slice())?;
-                append_value(label.kind, field.octets, out)
+        match self.kept_of(element) {
+            Some(label) => {
+                out.extend_from_slice(label.text.as_slice())?;
+                Ok(label.kind)
             }
-            _ => self.append_new(place, field, out),
+            None => self.append_new(element, out),
         }
     }
 
-    // The same for an element that its place had not before. Its label is kept from now on.
+    // The label that is kept of an element.
+    fn kept_of(&self, element: ElementId) -> Option<&Label>
+        ensures { IfSome result (λ label.
+            IsLabel self.now.form self.now.elements.now element label.now) }
+    {
+        match self.kept.get(place_of(element)) {
+            Some(Some(label)) if label.element == element => Some(label),
+            _ => None,
+        }
+    }
+
+    // The same of an element of which no label is kept. It is from now on.
     #[inline(never)]
     fn append_new(
         &mut self,
-        place: usize,
-        field: FieldRef,
-        out: &mut LineOctets,
-    ) -> Result<(), AllocError>
-        ensures { OnOk result
-            (out.new.octets.items ≡ out.old.octets.items ++ field_text (field_of field.entry)) }
+        element: ElementId,
+        out: &mut Vec<u8>,
+    ) -> Result<ElementKind, AllocError>
+        ensures kind { IfOk result (λ kind. kind ≡ kind_under self.old.elements.now element) }
+        ensures text { OnOk result (out.new.items
+            ≡ out.old.items ++ label_text self.old.form self.old.elements.now element) }
+        ensures elements { self.new.elements.now ≡ self.old.elements.now }
+        ensures form { self.new.form ≡ self.old.form }
     {
-        if place < PLACES {
-            self.keep(place, field.element)?;
-        }
-        append_label(field.element, &mut out.octets)?;
-        append_value(kind_of(field.element), field.octets, out)
+        let label = Label::of(self.alloc, self.elements, self.form, element)?;
+        out.extend_from_slice(label.text.as_slice())?;
+        let kind = label.kind;
+        self.make_places()?;
+        self.keep(label);
+        Ok(kind)
     }
 
-    fn keep(&mut self, place: usize, element: ElementId) -> Result<(), AllocError> {
-        let label = Label::of(self.alloc, element)?;
-        match self.kept.get_mut(place) {
-            Some(kept) => *kept = label,
-            None => self.kept.push(label)?,
+    // Makes the places, before the first label is kept.
+    fn make_places(&mut self) -> Result<(), AllocError>
+        ensures elements { self.new.elements.now ≡ self.old.elements.now }
+        ensures form { self.new.form ≡ self.old.form }
+    {
+        if self.kept.is_empty() {
+            self.kept = places(self.alloc)?;
         }
         Ok(())
     }
+
+    // Keeps a label in the place of its element.
+    fn keep(&mut self, label: Label)
+        requires { IsLabel self.old.form self.old.elements.now label.element label }
+        ensures elements { self.new.elements.now ≡ self.old.elements.now }
+        ensures form { self.new.form ≡ self.old.form }
+    {
+        let place = place_of(label.element);
+        if place < self.kept.len() {
+            put(&mut self.kept, place, label);
+        }
+    }
+}
+
+fn place_of(element: ElementId) -> usize {
+    (element.pen.wrapping_add(u32::from(element.number)) % PLACES) as usize
+}
+
+// Places without labels.
+fn places(alloc: Global) -> Result<Vec<Option<Label>>, AllocError>
+    ensures { IfOk result (λ places. All (λ kept. kept ≡ None) places.items) }
+{
+    let mut places = Vec::new(alloc);
+    for _ in 0..PLACES {
+        places.push(None)?;
+    }
+    Ok(places)
+}
+
+fn put(kept: &mut Vec<Option<Label>>, place: usize, label: Label)
+    requires { place < vec_len kept.old }
+    ensures { kept.new.items ≡ slice_set kept.old.items place (Some label) }
+{
+    kept[place] = Some(label);
 }

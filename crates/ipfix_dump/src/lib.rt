@@ -5,14 +5,16 @@ mod dumping;
 mod fault;
 mod front;
 mod json_line;
+mod label;
 mod labels;
+pub mod laws;
 mod line;
 mod line_octets;
 mod line_sink;
 mod record_line;
 mod text;
 
-pub use dumping::{dump, dump_by, dump_in_full_by, dump_json};
+pub use dumping::{dump, dump_by, dump_in_full_by, dump_json, dump_json_under, dump_under};
 pub use fault::DumpFault;
 pub use json_line::JsonLine;
 pub use line::Line;

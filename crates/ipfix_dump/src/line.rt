@@ -2,40 +2,49 @@
 
 ghost use Rattle.std.specs.Prelude.{◌≡◌, ◌++◌, OnOk};
 ghost use Rattle.std.specs.List.{flat_map};
-ghost use Rattle.ipfix_dump.specs.DumpLines.{dump_line, field_text};
+ghost use Rattle.ipfix_message.specs.FieldViews.{field_of};
+ghost use Rattle.ipfix_dump.specs.DumpLines.{dump_line_under, field_under};
 ghost use Rattle.ipfix_dump.specs.LineParts.{front_of};
+ghost use Rattle.ipfix_dump.specs.declared.label.Form.TheVariants as forms;
 
 use crate::front::Front;
+use crate::label::Form;
 use crate::labels::Labels;
 use crate::line_octets::LineOctets;
 use crate::record_line::RecordLine;
-use ipfix_message::{DataRecord, Fields};
+use crate::text::append_value;
+use element_registry::Elements;
+use ipfix_message::{DataRecord, FieldRef, Fields};
 use std::alloc::{AllocError, Global};
 
 /// Makes the lines of records, one after another. What a record's line has in common with that of
 /// the record before it is not made anew.
 #[derive(Drop)]
-pub struct Line {
+pub struct Line<'a> {
     alloc: Global,
     front: Option<Front>,
-    labels: Labels,
+    labels: Labels<'a>,
     line: LineOctets,
+    ghost of_text: { labels.form ≡ forms.Text },
 }
 
-impl Line {
-    /// No line yet.
-    pub fn new(alloc: Global) -> Self {
+impl<'a> Line<'a> {
+    /// No line yet. Elements are named, and their values read, as `elements` says.
+    pub fn new(alloc: Global, elements: &'a Elements) -> Self
+        ensures { result.labels.elements.now ≡ elements.now }
+    {
         Line {
             alloc,
             front: None,
-            labels: Labels::new(alloc),
+            labels: Labels::new(alloc, elements, Form::Text),
             line: LineOctets::new(alloc),
         }
     }
 
     fn append_front(&mut self, data_record: &DataRecord) -> Result<(), AllocError>
-        ensures { OnOk result (self.new.line.octets.items
+        ensures front { OnOk result (self.new.line.octets.items
             ≡ self.old.line.octets.items ++ front_of data_record.now) }
+        ensures elements { self.new.labels.elements.now ≡ self.old.labels.elements.now }
     {
         match &self.front {
             Some(front) if front.is_of(data_record) => self
@@ -50,29 +59,54 @@ impl Line {
             }
         }
     }
+}
 
-    fn append_fields(&mut self, fields: &Fields) -> Result<(), AllocError>
-        ensures { OnOk result (self.new.line.octets.items
-            ≡ self.old.line.octets.items ++ flat_map field_text fields.now) }
-    {
-        let mut place: usize = 0;
-        for field in fields.iter() {
-            self.labels.append_field(place, field, &mut self.line)?;
-            place = place.saturating_add(1);
-        }
-        Ok(())
+impl RecordLine for Line<'_> {
+    ghost line_of = { λ line. dump_line_under line.labels.elements.now };
+
+    ghost made = { λ line. line.line.octets.items };
+
+    #[tactic(auto, unfolding(crate::specs::DumpLines::dump_line_under))]
+    fn make(&mut self, data_record: &DataRecord) -> Result<(), AllocError> {
+        self.line.octets.clear();
+        self.append_front(data_record)?;
+        append_fields(&data_record.fields, &mut self.labels, &mut self.line)?;
+        self.line.octets.extend_from_slice(b"\n")
+    }
+
+    fn line(&self) -> &[u8] {
+        self.line.octets.as_slice()
     }
 }
 
-impl RecordLine for Line {
-    ghost line_of = { dump_line };
-
-    #[tactic(auto, unfolding(crate::specs::DumpLines::dump_line))]
-    fn make(&mut self, data_record: &DataRecord) -> Result<&[u8], AllocError> {
-        self.line.octets.clear();
-        self.append_front(data_record)?;
-        self.append_fields(&data_record.fields)?;
-        self.line.octets.extend_from_slice(b"\n")?;
-        Ok(self.line.octets.as_slice())
+fn append_fields(
+    fields: &Fields,
+    labels: &mut Labels,
+    out: &mut LineOctets,
+) -> Result<(), AllocError>
+    requires { labels.old.form ≡ forms.Text }
+    ensures fields { OnOk result (out.new.octets.items
+        ≡ out.old.octets.items ++ flat_map (field_under labels.old.elements.now) fields.now) }
+    ensures elements { labels.new.elements.now ≡ labels.old.elements.now }
+    ensures form { labels.new.form ≡ labels.old.form }
+{
+    for field in fields.iter() {
+        append_field(field, labels, out)?;
     }
+    Ok(())
+}
+
+fn append_field(
+    field: FieldRef,
+    labels: &mut Labels,
+    out: &mut LineOctets,
+) -> Result<(), AllocError>
+    requires { labels.old.form ≡ forms.Text }
+    ensures field { OnOk result (out.new.octets.items
+        ≡ out.old.octets.items ++ field_under labels.old.elements.now (field_of field.entry)) }
+    ensures elements { labels.new.elements.now ≡ labels.old.elements.now }
+    ensures form { labels.new.form ≡ labels.old.form }
+{
+    let kind = labels.append(field.element, &mut out.octets)?;
+    append_value(kind, field.octets, out)
 }

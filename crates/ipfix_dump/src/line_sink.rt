@@ -23,6 +23,7 @@ pub struct LineSink<'a, L: RecordLine, W: Write> {
 impl<'a, L: RecordLine, W: Write> LineSink<'a, L, W> {
     /// A sink that makes its lines by `line`.
     pub fn new(line: &'a mut L, out: &'a mut W) -> Self
+        ensures same_line { result.line.now ≡ line.old }
         ensures same_writer { result.out.ghost_name ≡ out.entry.ghost_name }
         ensures nothing_written { result.out.now ≡ out.old }
     {
@@ -36,15 +37,16 @@ impl<'a, L: RecordLine, W: Write> LineSink<'a, L, W> {
 
     // Writes the line of a record in one piece.
     fn write_line(&mut self, data_record: &DataRecord) -> Result<(), DumpFault>
+        ensures same_lines { L.line_of self.new.line.now ≡ L.line_of self.old.line.now }
         ensures same_writer { self.new.out.ghost_name ≡ self.old.out.ghost_name }
         ensures none_refused { self.new.refused ≡ self.old.refused }
         ensures no_fault { self.new.fault ≡ self.old.fault }
         ensures ok { OnOk result
             (Appends (W.contents self.old.out.now) (W.contents self.new.out.now)
-            (L.line_of data_record.now)) }
+            (L.line_of self.old.line.now data_record.now)) }
     {
-        let line = self.line.make(data_record)?;
-        self.out.write_all(line)?;
+        self.line.make(data_record)?;
+        self.out.write_all(self.line.line())?;
         Ok(())
     }
 }
@@ -52,7 +54,8 @@ impl<'a, L: RecordLine, W: Write> LineSink<'a, L, W> {
 impl<L: RecordLine, W: Write> Sink for LineSink<'_, L, W> {
     ghost seen = { record {
       took = λ before item after. (after.out.ghost_name ≡ before.out.ghost_name)
-          × Appends (W.contents before.out.now) (W.contents after.out.now) (L.line_of item);
+          × (L.line_of after.line.now ≡ L.line_of before.line.now)
+          × Appends (W.contents before.out.now) (W.contents after.out.now) (L.line_of before.line.now item);
       refused = λ s. s.refused;
     } };
 

@@ -1,6 +1,6 @@
 //! Lines of records.
 
-ghost use Rattle.std.specs.Prelude.{◌≡◌, IfOk};
+ghost use Rattle.std.specs.Prelude.{◌≡◌, OnOk};
 
 use ipfix_message::DataRecord;
 use std::alloc::AllocError;
@@ -11,9 +11,17 @@ pub trait RecordLine {
     ghost use Rattle.ipfix_message.specs.declared.record.DataRecord.{DataRecord};
 
     /// The line of a record.
-    ghost line_of: { DataRecord → List ℕ };
+    ghost line_of: { Self → DataRecord → List ℕ };
 
-    /// Makes the line of a record.
-    fn make(&mut self, data_record: &DataRecord) -> Result<&[u8], AllocError>
-        ensures { IfOk result (λ line. line.now ≡ line_of data_record.now) };
+    /// The line that was made last.
+    ghost made: { Self → List ℕ };
+
+    /// Makes the line of a record. The lines of others stay as they were.
+    fn make(&mut self, data_record: &DataRecord) -> Result<(), AllocError>
+        ensures made { OnOk result (made self.new ≡ line_of self.old data_record.now) }
+        ensures kept { line_of self.new ≡ line_of self.old };
+
+    /// The line that was made last.
+    fn line(&self) -> &[u8]
+        ensures { result.now ≡ made self.now };
 }

@@ -1,8 +1,8 @@
 use Rattle.std.proofs.Common.{ℕ, List, [], ◌++◌, length, map, Option}
 use Rattle.run_reports.specs.Told.{AreTold}
 use Rattle.element_registry.specs.Registries.{Known}
-use Rattle.element_guide.specs.Loaded.{Loads}
-use Rattle.element_guide.proofs.loading.load_elements.Given as goal
+use Rattle.element_files.specs.Loaded.{Loads}
+use Rattle.element_files.proofs.loading.load_elements.Given as goal
 
 -- what is told of the files that are left is told behind what was told so far
 abbrev pub invariant-loop-paths : goal.invariant-loop-paths

@@ -5,7 +5,7 @@ use Rattle.std.proofs.Math.Seq.{take-length}
 use Rattle.element_registry.specs.Registries.{Known}
 use Rattle.run_reports.specs.declared.reason.Reason.{Reason}
 use Rattle.run_reports.specs.declared.telling.Telling.{Telling}
-use Rattle.element_guide.specs.Loaded.{Adds, Loads, Stops}
+use Rattle.element_files.specs.Loaded.{Adds, Loads, Stops}
 
 module _ (Has : List ℕ → List ℕ → Type 0) (Refuses : List ℕ → Reason → Type 0) (telling : Telling) where
   -- what there is to tell of the files behind one that was added is told behind its lines

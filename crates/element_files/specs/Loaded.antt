@@ -7,7 +7,7 @@ use Rattle.element_registry.specs.declared.fault.ElementsError.{ElementsError}
 use Rattle.run_reports.specs.OpeningLines.{not_had_lines}
 use Rattle.run_reports.specs.declared.reason.Reason.{Reason}
 use Rattle.run_reports.specs.declared.telling.Telling.{Telling}
-use Rattle.element_guide.specs.FileLines.{error_line, unknown_type_lines}
+use Rattle.element_files.specs.FileLines.{error_line, unknown_type_lines}
 
 -- a path has a text that is read so, behind those before it
 abbrev pub IsRead : (List ℕ → List ℕ → Type 0) → List Known → List ℕ → Result Added ElementsError → Type 0
@@ -31,3 +31,9 @@ Loads Has Refuses telling known (path ∷ paths) result lines =
     (Stops Has Refuses telling known path lines × (result ≡ None))
     ⊎ ((more : List Known) × (first : List ℕ) × (later : List ℕ) × Adds Has known path more first × Loads Has Refuses telling more paths result later
     × (lines ≡ first ++ later))
+
+-- a file was not read, which was told
+pub record StopsAtFile (Loads : Option (List Known) → List ℕ → Type 0) (AreTold : List ℕ → Type 0) : Type 0 where
+  pub lines : List ℕ
+  pub stops : Loads None lines
+  pub told : AreTold lines

@@ -1,9 +1,9 @@
 use Rattle.std.proofs.Common.{ℕ, List, [], ◌++◌, Option, Some, None, map, sym, subst, append_assoc, append-nil}
 use Rattle.element_registry.specs.Registries.{Known}
-use Rattle.element_guide.specs.Loaded.{Loads}
-use Rattle.element_guide.proofs.Files.{adds_then, none_left, stops_there}
-use Rattle.element_guide.proofs.Telling.{both_told}
-use Rattle.element_guide.proofs.loading.load_elements.Goals as goal
+use Rattle.element_files.specs.Loaded.{Loads}
+use Rattle.element_files.proofs.Files.{adds_then, none_left, stops_there}
+use Rattle.run_reports.proofs.LinesTold.{both_told}
+use Rattle.element_files.proofs.loading.load_elements.Goals as goal
 
 pub returns-in_err-elements-clause-loads : goal.returns-in_err-elements-clause-loads
 returns-in_err-elements-clause-loads g c =

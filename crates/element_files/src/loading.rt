@@ -2,8 +2,8 @@
 
 ghost use Rattle.std.specs.Prelude.{ℕ, List, [], map, IfNone, IfSome};
 ghost use Rattle.run_reports.specs.Told.{AreTold};
-ghost use Rattle.element_guide.specs.FileLines.{unknown_type_lines};
-ghost use Rattle.element_guide.specs.Loaded.{Adds, Loads, Stops};
+ghost use Rattle.element_files.specs.FileLines.{unknown_type_lines};
+ghost use Rattle.element_files.specs.Loaded.{Adds, Loads, Stops};
 
 use crate::file_lines::{write_error, write_unknown_type};
 use element_registry::{Elements, add_file};

@@ -3,7 +3,7 @@
 ghost use Rattle.std.specs.Prelude.{◌≡◌, ◌++◌, codes, OnErr, OnOk};
 ghost use Rattle.std.specs.Io.KnownBytes.{Appends};
 ghost use Rattle.run_reports.specs.ReportLines.{fault_text};
-ghost use Rattle.element_guide.specs.FileLines.{column_text, error_line, failed_line, fault_end, file_start, memory_line, none_line, place_of, place_text, unknown_type_line};
+ghost use Rattle.element_files.specs.FileLines.{column_text, error_line, fault_end, file_start, place_of, place_text, unknown_type_line};
 
 use element_registry::{ElementsError, ElementsFault};
 use run_reports::WriteLines;
@@ -95,34 +95,4 @@ fn write_number_and_name<W: WriteLines>(number: u8, name: &str, out: &mut W) -> 
     ensures kept { W.failed out.old → W.failed out.new }
 {
     writeln!(out, ": fault {number} {name}")
-}
-
-/// Writes the line that says that a word fits no element.
-pub fn write_none<W: WriteLines>(out: &mut W) -> io::Result<()>
-    ensures told { OnOk result (Appends (W.contents out.old) (W.contents out.new) none_line) }
-    ensures failed { OnErr result (W.failed out.new) }
-    ensures kept { W.failed out.old → W.failed out.new }
-{
-    writeln!(
-        out,
-        "error: no element has this number, or this text in its name; 'collectd elements' lists them"
-    )
-}
-
-/// Writes the line of a fault of writing, which has this number and name wherever something is written.
-pub fn write_failed<W: WriteLines>(out: &mut W) -> io::Result<()>
-    ensures told { OnOk result (Appends (W.contents out.old) (W.contents out.new) failed_line) }
-    ensures failed { OnErr result (W.failed out.new) }
-    ensures kept { W.failed out.old → W.failed out.new }
-{
-    writeln!(out, "collectd: elements: fault 2 WriteFailed")
-}
-
-/// Writes the line that says that there is no memory to begin with.
-pub fn write_out_of_memory<W: WriteLines>(out: &mut W) -> io::Result<()>
-    ensures told { OnOk result (Appends (W.contents out.old) (W.contents out.new) memory_line) }
-    ensures failed { OnErr result (W.failed out.new) }
-    ensures kept { W.failed out.old → W.failed out.new }
-{
-    writeln!(out, "collectd: elements: fault 10 OutOfMemory")
 }

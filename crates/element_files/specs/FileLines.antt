@@ -1,22 +1,10 @@
--- The lines on standard error: of the word, of the list, and of files.
+-- The lines on standard error that tell of files of elements.
 use Rattle.std.specs.Prelude.{ℕ, Bool, true, false, List, [], ◌++◌, codes, decimal, Option, Some, None, if◌then◌else◌}
 use Rattle.element_registry.specs.Faults.{column_name, number_of, name_of}
 use Rattle.element_registry.specs.declared.fault.ElementsError.{ElementsError}
 use Rattle.element_registry.specs.declared.fault.ElementsFault.{ElementsFault}
 use Rattle.element_registry.specs.declared.fault.ElementsFault.TheVariants.{Column, OutOfMemory}
 use Rattle.run_reports.specs.ReportLines.{fault_text}
-
--- no element fits a word
-abbrev pub none_line : List ℕ
-none_line = codes "error: no element has this number, or this text in its name; 'collectd elements' lists them\n"
-
--- the list couldn't be written: the same fault as that of a dump or of an export
-abbrev pub failed_line : List ℕ
-failed_line = codes "collectd: elements: fault 2 WriteFailed\n"
-
--- there is no memory to begin with
-abbrev pub memory_line : List ℕ
-memory_line = codes "collectd: elements: fault 10 OutOfMemory\n"
 
 -- a line begins with the file
 unfoldable pub file_start : List ℕ → List ℕ

@@ -1,0 +1,3 @@
+-- What public contracts cite.
+pub mod FileLines
+pub mod Loaded
