@@ -1,14 +1,16 @@
 -- What a run that reports in full wrote, and what it is without the rest.
-use Rattle.std.proofs.Common.{◌≡◌, ℕ, ◌+◌, ◌<◌, ◌≤◌, Bool, true, false, List, [], ◌∷◌, length, take, get_or, map, All, Option, Some, None, refl, sym, ap, ◌∙◌, subst, inl, inr, arith}
+use Rattle.std.proofs.Common.{◌≡◌, ℕ, ◌+◌, ◌<◌, ◌≤◌, Bool, true, false, List, [], ◌∷◌, length, take, get_or, All, Option, Some, None, refl, sym, ◌∙◌, subst}
 use Rattle.std.proofs.lemmas.List.{take_more, take_all}
 use Rattle.std.proofs.lemmas.List.Elements.{All-nil, All-cons, All-append, All-head, All-tail, All-map, All-weaker}
-use Rattle.std.specs.Prelude.{◌↔◌, IsTrue, ◌⊎◌, ◌≢◌, ◌||◌, is_some, if◌then◌else◌, ◌==◌, nat_lt, IfSome, IfNone}
+use Rattle.std.specs.Prelude.{◌↔◌, IsTrue, ◌≢◌, ◌||◌, is_some, if◌then◌else◌, ◌==◌, nat_lt, IfSome, IfNone}
 use Rattle.std.specs.Option.{ForSome}
 use Rattle.ipfix_session.specs.Sources.{SourceView}
 use Rattle.ipfix_session.specs.declared.report.FullReport.{FullReport}
 use Rattle.ipfix_session.specs.declared.report.SessionReport.{SessionReport}
 use Rattle.flow_table.specs.Plans.{PlanValue}
+use Rattle.flow_table.specs.declared.missing.Missing.{Missing}
 use Rattle.flow_table.specs.declared.table.Table.{Table}
+use Rattle.flow_table.specs.declared.tally.Tally.{Tally}
 use Rattle.flow_collect.specs.InFull.{HeadlineInFull, reports_in}
 use Rattle.flow_collect.specs.Refusals.{fault_of_arguments}
 use Rattle.flow_collect.specs.Texts.{HasNoFault}
@@ -21,7 +23,8 @@ use Rattle.flow_link.specs.declared.making.TheConstants.{MAX_CAPACITY}
 use Rattle.flow_collect.proofs.GivenLists.{first_each}
 use Rattle.flow_collect.proofs.InFull.{given_short, headline_short, short_run}
 use Rattle.run_reports.specs.Spotless.{IsSpotless, IsSpotlessSession}
-use Rattle.collectd.specs.Runs.{AddsUpWhole, IsUnread, RunsSources, WritesTable}
+use Rattle.collectd_inputs.specs.Had.{IsUnread}
+use Rattle.collectd.specs.Runs.{AddsUpWhole, RunsSources, WritesTable}
 use Rattle.collectd.specs.FullRuns.{RunsInFull, WentWell, WritesTableInFull}
 use Rattle.collectd.proofs.Ran.{adds_up_whole, not_some, writes_table}
 
@@ -52,9 +55,11 @@ well_no_fault true fulls table well = All-weaker IsSpotlessSession NoFault (λ f
 well_no_fault false fulls table well = well
 
 -- the tests of it
-pub tested_strict : (strict : Bool) (fulls : List FullReport) (table : Table) (passed : Bool) → strict ≡ true → (IsTrue passed ↔ IsSpotless fulls table.tally table.missing) → (IsTrue passed ↔ WentWell strict fulls table)
-tested_strict true fulls table passed is tested = tested
-tested_strict false fulls table passed is tested = absurd (cc is)
+pub tested_strict : (strict : Bool) (fulls : List FullReport) (table : Table) (tally : Tally) (missing : Missing) (passed : Bool) → strict ≡ true → tally ≡ table.tally → missing ≡ table.missing
+    → (IsTrue passed ↔ IsSpotless fulls tally missing) → (IsTrue passed ↔ WentWell strict fulls table)
+tested_strict true fulls table tally missing passed is t m tested =
+    subst (λ (x : Tally). IsTrue passed ↔ IsSpotless fulls x table.missing) t (subst (λ (y : Missing). IsTrue passed ↔ IsSpotless fulls tally y) m tested)
+tested_strict false fulls table tally missing passed is t m tested = absurd (cc is)
 
 pub tested_plain : (strict : Bool) (fulls : List FullReport) (table : Table) (passed : Bool) → strict ≡ false → (IsTrue passed ↔ All NoFault fulls) → (IsTrue passed ↔ WentWell strict fulls table)
 tested_plain true fulls table passed is tested = absurd (cc is)
@@ -63,7 +68,7 @@ tested_plain false fulls table passed is tested = tested
 -- ---- a run
 
 module _ {S : Type 0} (seen : S → SourceView) where
-  pub writes_in_full : (strict : Bool) (sources : List S) (plan : PlanValue) (pool : Pool) (status : ℕ) (Ends : List FullReport → Table → Type 0) (c : CollectedInFull S)
+  pub writes_in_full : (strict : Bool) (sources : List S) (plan : PlanValue) (pool : Pool) (status : ℕ) (Ends : List FullReport → Table → Type 0) (c : CollectedInFull S Table)
       → HeadlineInFull seen sources plan pool c → ((status ≡ 0) ↔ WentWell strict c.sessions.items c.table) → (status ≡ 0 → AddsUpWhole seen sources plan c.table) → Ends c.sessions.items c.table
       → WritesTableInFull seen strict sources plan pool status Ends
   writes_in_full strict sources plan pool status Ends c h status_is whole ends =
@@ -76,7 +81,7 @@ module _ {S : Type 0} (seen : S → SourceView) where
         ends = ends;
       }
 
-  pub adds_up_in_full : ((s : S) → (seen s).ended ≡ true → ForSome (seen s).text (λ xs. xs ≡ [])) → (c : CollectedInFull S) (sources : List S) (plan : PlanValue) (pool : Pool)
+  pub adds_up_in_full : ((s : S) → (seen s).ended ≡ true → ForSome (seen s).text (λ xs. xs ≡ [])) → (c : CollectedInFull S Table) (sources : List S) (plan : PlanValue) (pool : Pool)
       → HeadlineInFull seen sources plan pool c → All NoFault c.sessions.items → AddsUpWhole seen sources plan c.table
   adds_up_in_full at_end c sources plan pool h none =
       let short = short_run c in
@@ -167,20 +172,3 @@ not_if_some (Some x) P some = tt
 pub not_if_none : {X : Type 0} (o : Option X) (P : X → Type 0) → is_some o ≡ false → IfSome o P
 not_if_none None P none = tt
 not_if_none (Some x) P none = absurd (cc none)
-
--- a connection that was had is none with a limit that none can have
-pub has_limit : {X : Type 0} (limit : Option X) (Zero : X → Type 0) (P : Type 0) → IfSome limit (λ x. Zero x → false ≡ true) → IfSome limit (λ x. Zero x → P)
-has_limit None Zero P had = tt
-has_limit (Some x) Zero P had = λ zero. absurd (cc (had zero))
-
-pub at_start : {X : Type 0} (limit : Option X) (Zero : X → Type 0) → IfSome limit (λ x. Zero x → ◌≡◌ {A = ℕ} 0 0)
-at_start None Zero = tt
-at_start (Some x) Zero = λ zero. refl
-
-pub is_error : {X : Type 0} (limit : Option X) (Zero : X → Type 0) (some : Type 0) → IfSome limit (λ x. Zero x → some → true ≡ true)
-is_error None Zero some = tt
-is_error (Some x) Zero some = λ zero any. refl
-
-pub none_had : {X : Type 0} (limit : Option X) (Zero : X → Type 0) (number count : ℕ) → count ≤ number → IfSome limit (λ x. Zero x → number ≡ 0) → IfSome limit (λ x. Zero x → 0 < count → false ≡ true)
-none_had None Zero number count all had = tt
-none_had (Some x) Zero number count all had = λ zero some. let none = had zero in absurd (omega (arith, all, some, none))

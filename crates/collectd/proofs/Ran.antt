@@ -1,10 +1,7 @@
 -- What a run wrote, from the headline and from what the export wrote.
-use Rattle.std.proofs.Common.{◌≡◌, ℕ, ◌+◌, ◌<◌, ◌≤◌, true, false, List, [], ◌∷◌, ◌++◌, length, take, get_or, All, Option, Some, None, refl, sym, subst, inl, inr, arith}
-use Rattle.std.proofs.lemmas.List.{length-append, take_more, take_all}
-use Rattle.std.proofs.lemmas.List.Elements.{All-nil, All-cons, All-append}
+use Rattle.std.proofs.Common.{◌≡◌, ℕ, true, false, List, [], All, Option, Some, None, refl, subst, inl, inr}
 use Rattle.std.specs.Prelude.{◌↔◌, ◌⊎◌, is_some, IfSome}
 use Rattle.std.specs.Option.{ForSome}
-use Rattle.std.specs.List.{AllZip}
 use Rattle.ipfix_message.specs.declared.record.DataRecord.{DataRecord}
 use Rattle.ipfix_session.specs.Sources.{SourceView}
 use Rattle.ipfix_session.specs.declared.report.SessionReport.{SessionReport}
@@ -16,12 +13,8 @@ use Rattle.flow_collect.specs.Texts.{HasNoFault}
 use Rattle.flow_collect.specs.declared.collected.Collected.{Collected}
 use Rattle.flow_collect.specs.declared.collected.Pool.{Pool}
 use Rattle.flow_collect.specs.declared.fault.CollectFault.{CollectFault}
-use Rattle.flow_merge.proofs.RowsRead.{zip_more}
 use Rattle.flow_collect.proofs.GivenLists.{first_each, all_whole, whole_records, whole_clean}
 use Rattle.collectd.specs.Runs.{AddsUpWhole, WritesTable}
-use Rattle.exit_status.specs.Statuses.{number_of}
-use Rattle.exit_status.specs.declared.status.Status.{Status}
-use Rattle.exit_status.specs.declared.status.Status.TheVariants.{Well, SessionFault, NotOpened, Failed}
 
 module _ {S : Type 0} (seen : S → SourceView) where
   pub writes_table : (sources : List S) (plan : PlanValue) (pool : Pool) (status : ℕ) (Ends : List SessionReport → Table → Type 0) (c : Collected S)
@@ -62,15 +55,6 @@ pub refused_for : (pool : Pool) (sources count status : ℕ) (Untouched : Type 0
     → IfSome (fault_of_arguments pool count) (λ fault. ((status ≡ 2) ⊎ (status ≡ 3)) × Untouched)
 refused_for pool sources count status Untouched Told same refused =
     refused_if (fault_of_arguments pool count) status Untouched Told (subst (λ (n : ℕ). IfSome (fault_of_arguments pool n) (λ fault. (status ≡ 3) × Untouched × Told fault)) same refused)
-
--- the status is 0 exactly if all was well
-pub zero_if_well : (s : Status) (n : ℕ) (P : Type 0) → n ≡ number_of s → (s ≡ Well) ⊎ (s ≡ SessionFault) → ((s ≡ Well) ↔ P) → ((n ≡ 0) ↔ P)
-zero_if_well Well n P is ends well = (λ e. well.0 refl, λ p. is)
-zero_if_well SessionFault n P is ends well = (λ e. absurd (omega arith), λ p. absurd (cc (well.1 p)))
-zero_if_well NotOpened n P is (inl e) well = absurd cc
-zero_if_well NotOpened n P is (inr e) well = absurd cc
-zero_if_well Failed n P is (inl e) well = absurd cc
-zero_if_well Failed n P is (inr e) well = absurd cc
 
 -- ---- a test of a fault
 

@@ -1,5 +1,5 @@
 -- What a run of collecting that reports in full wrote, and when its status says that all was well.
-use Rattle.std.specs.Prelude.{◌≡◌, ◌≢◌, ◌↔◌, ℕ, Bool, true, false, List, ◌++◌, length, All, Option}
+use Rattle.std.specs.Prelude.{◌≡◌, ◌≢◌, ◌↔◌, ℕ, Bool, true, false, List, ◌++◌, All, Option}
 use Rattle.std.specs.List.{AllZip}
 use Rattle.ipfix_session.specs.Given.{records_of, IsPrefix}
 use Rattle.ipfix_session.specs.Sources.{SourceView}
@@ -14,13 +14,12 @@ use Rattle.flow_collect.specs.Texts.{AreTexts, HasNoFault}
 use Rattle.flow_collect.specs.declared.collected.CollectedInFull.{CollectedInFull}
 use Rattle.flow_collect.specs.declared.collected.Pool.{Pool}
 use Rattle.flow_collect.specs.declared.fault.CollectFault.{CollectFault}
-use Rattle.run_reports.specs.declared.origin.Origin.{Origin}
-use Rattle.run_reports.specs.declared.origin.Origin.TheVariants.{File, Peer, Unknown}
 use Rattle.run_reports.specs.declared.telling.Telling.{Telling}
 use Rattle.run_reports.specs.MissingLines.{missing_told}
 use Rattle.run_reports.specs.ReportLines.{tally_line}
 use Rattle.run_reports.specs.Spotless.{IsSpotless}
-use Rattle.collectd.specs.Runs.{AddsUpWhole, IsUnread}
+use Rattle.collectd_inputs.specs.Had.{IsUnread}
+use Rattle.collectd.specs.Runs.{AddsUpWhole}
 
 -- the fault that a pool has with however many sources
 abbrev pub fault_of_pool : Pool → Option CollectFault
@@ -36,28 +35,12 @@ WentWell false fulls table = All (λ (full : FullReport). HasNoFault full.report
 abbrev pub table_told : Telling → PlanValue → Table → List ℕ
 table_told telling plan table = tally_line table.tally ++ missing_told telling plan table.missing
 
--- the origin of a session is a file of this name
-abbrev pub IsFileNamed : List ℕ → Origin → Type 0
-IsFileNamed path (File name size) = name.now ≡ path
-IsFileNamed path (Peer address) = ⊥
-IsFileNamed path Unknown = ⊥
-
-abbrev pub IsPeer : Origin → Type 0
-IsPeer (File name size) = ⊥
-IsPeer (Peer address) = Unit {0}
-IsPeer Unknown = ⊥
-
--- so many connections
-pub record ArePeers (count : ℕ) (origins : List Origin) : Type 0 where
-  pub one_each : length origins ≡ count
-  pub peers : All IsPeer origins
-
 module _ {S : Type 0} (seen : S → SourceView) where
   -- what was collected ended as the last fact says it, of the sessions and their table; the status says that all was well
   -- exactly if it was
   pub record WritesTableInFull (strict : Bool) (sources : List S) (plan : PlanValue) (pool : Pool) (status : ℕ) (Ends : List FullReport → Table → Type 0) : Type 0 where
     -- what the headline says, with full reports
-    pub collected : CollectedInFull S
+    pub collected : CollectedInFull S Table
     pub headline : HeadlineInFull seen sources plan pool collected
     -- the records of each session are the first of those that its source's whole text gives
     pub first : (texts : List (List ℕ)) → AreTexts seen sources texts → AllZip (λ q t. IsPrefix q (records_of t)) headline.records texts

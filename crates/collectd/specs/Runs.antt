@@ -1,7 +1,6 @@
 -- What a run of collecting wrote.
-use Rattle.std.specs.Prelude.{◌≡◌, ◌≢◌, ◌↔◌, ℕ, false, List, map, All, Option}
+use Rattle.std.specs.Prelude.{◌≡◌, ◌≢◌, ◌↔◌, ℕ, List, All}
 use Rattle.std.specs.List.{AllZip, flat_map}
-use Rattle.std.specs.Io.KnownBytes.{Appends}
 use Rattle.ipfix_session.specs.Given.{records_of, stop_of, IsPrefix}
 use Rattle.ipfix_session.specs.Sources.{SourceView}
 use Rattle.ipfix_session.specs.declared.report.SessionReport.{SessionReport}
@@ -9,31 +8,12 @@ use Rattle.ipfix_session.specs.declared.stop.Stop.TheVariants.{Clean}
 use Rattle.exit_status.specs.Statuses.{number_of}
 use Rattle.exit_status.specs.declared.status.Status.TheVariants.{Well, Failed}
 use Rattle.flow_table.specs.Plans.{PlanValue}
-use Rattle.flow_table.specs.SameTables.{value_of}
 use Rattle.flow_table.specs.declared.table.Table.{Table}
-use Rattle.flow_export.specs.declared.format.Format.{Format}
-use Rattle.flow_export.specs.declared.format.Format.TheVariants.{Csv, Json, Ipfix}
-use Rattle.flow_export.specs.CsvText.{csv_text}
-use Rattle.flow_export.specs.IpfixText.{ipfix_text}
-use Rattle.flow_export.specs.JsonText.{json_text}
 use Rattle.flow_collect.specs.Headline.{Headline, IsAddedUp}
 use Rattle.flow_collect.specs.Texts.{AreTexts, HasNoFault}
 use Rattle.flow_collect.specs.declared.collected.Collected.{Collected}
 use Rattle.flow_collect.specs.declared.collected.Pool.{Pool}
-use Rattle.collectd.specs.declared.table.Output.{Output}
-
--- a table as it is written
-abbrev pub text_by : Format → ℕ → PlanValue → Table → List ℕ
-text_by Csv time plan table = csv_text plan (map value_of table.rows.items)
-text_by Json time plan table = json_text plan (map value_of table.rows.items)
-text_by Ipfix time plan table = ipfix_text plan time (map value_of table.rows.items)
-
-abbrev pub export_text : Output → PlanValue → Table → List ℕ
-export_text output plan table = text_by output.format output.time plan table
-
--- a table was written, and nothing else
-abbrev pub Writes : PlanValue → Output → Option (List ℕ) → Option (List ℕ) → Table → Type 0
-Writes plan output old new table = Appends old new (export_text output plan table)
+use Rattle.collectd_inputs.specs.Had.{IsUnread}
 
 module _ {S : Type 0} (seen : S → SourceView) where
   -- each of these texts ends with a whole message, and the table is that of all their records
@@ -64,16 +44,10 @@ module _ {S : Type 0} (seen : S → SourceView) where
     pub adds_up : AddsUpWhole sources plan table
     pub written : IsWritten table
 
-  -- nothing was read from it yet
-  pub record IsUnread (source : S) : Type 0 where
-    pub reads : (seen source).reads ≡ 0
-    pub failed : (seen source).failed ≡ 0
-    pub ended : (seen source).ended ≡ false
-
   -- sources were had as the first fact says it, none of which was read before, and a run of them ended as the last one says
   -- it, of their sessions and the table
   pub record RunsSources (AreHad : List S → Type 0) (plan : PlanValue) (pool : Pool) (status : ℕ) (Ends : List SessionReport → Table → Type 0) : Type 0 where
     pub sources : List S
     pub had : AreHad sources
-    pub unread : All IsUnread sources
+    pub unread : All (IsUnread seen) sources
     pub table : status ≢ number_of Failed → WritesTable sources plan pool status Ends

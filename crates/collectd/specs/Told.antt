@@ -1,27 +1,23 @@
 -- What a run tells on standard error.
-use Rattle.std.specs.Prelude.{◌≡◌, ◌⊎◌, ℕ, List, ◌∷◌, ◌++◌, All, codes}
-use Rattle.std.specs.List.{AllZip, flat_map, enumerate_from}
+use Rattle.std.specs.Prelude.{◌⊎◌, ℕ, List, ◌++◌, codes}
 use Rattle.ipfix_session.specs.declared.report.FullReport.{FullReport}
 use Rattle.flow_table.specs.Plans.{PlanValue}
 use Rattle.flow_table.specs.declared.table.Table.{Table}
 use Rattle.flow_export.specs.declared.fault.ExportFault.{ExportFault}
 use Rattle.flow_collect.specs.declared.fault.CollectFault.{CollectFault}
-use Rattle.run_reports.specs.OpeningLines.{if_verbose, not_had_lines, opened_line}
+use Rattle.run_reports.specs.OpeningLines.{not_had_lines}
 use Rattle.run_reports.specs.ReportLines.{export_fault_line}
 use Rattle.run_reports.specs.ToldLines.{told_lines}
 use Rattle.run_reports.specs.declared.origin.Origin.{Origin}
 use Rattle.run_reports.specs.declared.reason.Reason.{Reason}
 use Rattle.run_reports.specs.declared.telling.Telling.{Telling}
 use Rattle.collectd.specs.CollectLines.{collect_fault_line}
-use Rattle.collectd.specs.FullRuns.{IsFileNamed, IsPeer, table_told}
+use Rattle.collectd_inputs.specs.InputsTold.{opened_lines, StopsAt, TellsPeers}
+use Rattle.collectd.specs.FullRuns.{table_told}
 
 -- the sessions, in order, then how many records of each class there were, and what they lack
 abbrev pub run_lines : Telling → PlanValue → List Origin → List FullReport → Table → List ℕ
 run_lines telling plan origins fulls table = told_lines telling origins fulls ++ table_told telling plan table
-
--- what was opened or accepted, counted from 1
-abbrev pub opened_lines : Telling → List Origin → List ℕ
-opened_lines telling origins = flat_map (λ x. if_verbose telling (opened_line x.0 x.1)) (enumerate_from 1 origins)
 
 -- behind the first lines each session is told when it is had, with its origin, and at the end all of them in full
 pub record TellsRun (AreOrigins : List Origin → Type 0) (telling : Telling) (plan : PlanValue) (first : List ℕ) (AreTold : List ℕ → Type 0) (fulls : List FullReport) (table : Table) : Type 0 where
@@ -29,26 +25,11 @@ pub record TellsRun (AreOrigins : List Origin → Type 0) (telling : Telling) (p
   pub are_origins : AreOrigins origins
   pub told : AreTold (first ++ (opened_lines telling origins ++ run_lines telling plan origins fulls table))
 
--- all before this name were had, each of them was told, and nothing else
-pub record StopsAt (names : List (List ℕ)) (telling : Telling) (AreTold : List ℕ → Type 0) (name : List ℕ) : Type 0 where
-  pub before : List (List ℕ)
-  pub later : List (List ℕ)
-  pub place : names ≡ before ++ name ∷ later
-  pub origins : List Origin
-  pub named : AllZip IsFileNamed before origins
-  pub told : AreTold (opened_lines telling origins)
-
 -- and then that it can't be had
 pub record TellsNotOpened (names : List (List ℕ)) (telling : Telling) (AreTold : List ℕ → Type 0) : Type 0 where
   pub name : List ℕ
   pub reason : Reason
   pub stops : StopsAt names telling (λ lines. AreTold (lines ++ not_had_lines telling (codes "open") name reason)) name
-
--- connections were accepted, each of them was told, and nothing else
-pub record TellsPeers (telling : Telling) (AreTold : List ℕ → Type 0) : Type 0 where
-  pub origins : List Origin
-  pub peers : All IsPeer origins
-  pub told : AreTold (opened_lines telling origins)
 
 -- behind the first lines each connection that was accepted was told, and then that there is none at this address
 pub record TellsNotAccepted (telling : Telling) (first address : List ℕ) (AreTold : List ℕ → Type 0) : Type 0 where

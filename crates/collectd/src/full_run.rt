@@ -6,7 +6,8 @@ ghost use Rattle.exit_status.specs.Statuses.{number_of};
 ghost use Rattle.flow_collect.specs.Refusals.{fault_of_arguments};
 ghost use Rattle.flow_collect.specs.Texts.{HasNoFault};
 ghost use Rattle.run_reports.specs.Told.{AreTold};
-ghost use Rattle.collectd.specs.Runs.{AddsUpWhole, Writes, WritesWholeTable};
+ghost use Rattle.collectd_output.specs.TableTexts.{Writes};
+ghost use Rattle.collectd.specs.Runs.{AddsUpWhole, WritesWholeTable};
 ghost use Rattle.flow_collect.specs.InFull.{HeadlineInFull};
 ghost use Rattle.flow_table.specs.Plans.{PlanValue};
 ghost use Rattle.collectd.specs.CollectLines.{collect_fault_line};
@@ -14,10 +15,10 @@ ghost use Rattle.collectd.specs.FullRuns.{table_told, WentWell, WritesTableInFul
 ghost use Rattle.collectd.specs.Told.{run_lines, TellsFault};
 
 use crate::collect_fault::write_collect_fault;
-use crate::table::{Output, export};
+use collectd_output::{Output, export_flat};
 use exit_status::Status;
-use flow_collect::{CollectedInFull, OpenGate, Pool, collect_in_full};
-use flow_table::{Plan, Table};
+use flow_collect::{CollectedInFull, OpenGate, Pool, collect_flat};
+use flow_table::{FlatTable, Plan};
 use ipfix_session::{FullReport, Source};
 use run_reports::{
     Origin, Telling, WriteLines, is_spotless, write_export_fault, write_missing, write_tally,
@@ -27,12 +28,6 @@ use std::alloc::Global;
 use std::io::{self, Write};
 use std::sync::Wait;
 use std::thread::Threads;
-
-/// Nothing is told beside the lines that always stand.
-pub const NOTHING_MORE: Telling = Telling {
-    verbose: false,
-    strict: false,
-};
 
 /// Does as [`run`](crate::run), and tells more if `telling` asks for it: to `err` it writes the lines of the
 /// sessions in full, each with the origin that has the session's place. If `telling` is strict, the status is 1
@@ -74,14 +69,14 @@ pub fn run_in_full<S: Source + Send + Drop, W: Write, E: WriteLines, R: Threads 
         (collect_fault_line fault)) }
     ensures kept { E.failed err.old → E.failed err.new }
 {
-    let collected = match collect_in_full(rt, alloc, sources, plan, pool, &OpenGate) {
+    let collected = match collect_flat(rt, alloc, sources, plan, pool, &OpenGate) {
         Ok(collected) => collected,
         Err(fault) => {
             let _ = write_collect_fault(fault, err);
             return Status::Failed.number();
         }
     };
-    if let Err(fault) = export(alloc, plan, &collected.table, output, out) {
+    if let Err(fault) = export_flat(alloc, plan, &collected.table, output, out) {
         let _ = write_export_fault(fault, err);
         return Status::Failed.number();
     }
@@ -90,7 +85,7 @@ pub fn run_in_full<S: Source + Send + Drop, W: Write, E: WriteLines, R: Threads 
 }
 
 // How a run ended whose table is written.
-fn status_of<S: Source>(strict: bool, collected: &CollectedInFull<S>) -> Status
+fn status_of<S: Source>(strict: bool, collected: &CollectedInFull<S, FlatTable>) -> Status
     ensures ends { (result ≡ Status.Well) ⊎ (result ≡ Status.SessionFault) }
     ensures well { (result ≡ Status.Well)
         ↔ WentWell strict collected.now.sessions.items collected.now.table }
@@ -103,7 +98,7 @@ fn status_of<S: Source>(strict: bool, collected: &CollectedInFull<S>) -> Status
 }
 
 // How sessions and their records ended.
-fn end_of(strict: bool, reports: &[FullReport], table: &Table) -> Status
+fn end_of(strict: bool, reports: &[FullReport], table: &FlatTable) -> Status
     ensures ends { (result ≡ Status.Well) ⊎ (result ≡ Status.SessionFault) }
     ensures well { (result ≡ Status.Well) ↔ WentWell strict reports.now table.now }
 {
@@ -115,11 +110,11 @@ fn end_of(strict: bool, reports: &[FullReport], table: &Table) -> Status
 }
 
 #[tactic(auto, using(crate::proofs::FullRan::tested_strict, crate::proofs::FullRan::tested_plain))]
-fn went_well(strict: bool, reports: &[FullReport], table: &Table) -> bool
+fn went_well(strict: bool, reports: &[FullReport], table: &FlatTable) -> bool
     ensures { IsTrue result ↔ WentWell strict reports.now table.now }
 {
     if strict {
-        is_spotless(reports, &table.tally, &table.missing)
+        is_spotless(reports, &table.tally(), &table.missing())
     } else {
         have_no_fault(reports)
     }
@@ -141,7 +136,7 @@ fn tell<S, E: WriteLines>(
     telling: Telling,
     origins: &[Origin],
     plan: &Plan,
-    collected: &CollectedInFull<S>,
+    collected: &CollectedInFull<S, FlatTable>,
     err: &mut E,
 ) -> io::Result<()>
     ensures told { OnOk result (Appends (E.contents err.old) (E.contents err.new)
@@ -158,7 +153,7 @@ fn tell<S, E: WriteLines>(
 fn tell_table<E: WriteLines>(
     telling: Telling,
     plan: &Plan,
-    table: &Table,
+    table: &FlatTable,
     err: &mut E,
 ) -> io::Result<()>
     ensures told { OnOk result (Appends (E.contents err.old) (E.contents err.new)
@@ -166,6 +161,6 @@ fn tell_table<E: WriteLines>(
     ensures failed { OnErr result (E.failed err.new) }
     ensures kept { E.failed err.old → E.failed err.new }
 {
-    write_tally(&table.tally, err)?;
-    write_missing(telling, plan, &table.missing, err)
+    write_tally(&table.tally(), err)?;
+    write_missing(telling, plan, &table.missing(), err)
 }

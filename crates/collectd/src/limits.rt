@@ -7,7 +7,7 @@ ghost use Rattle.run_reports.specs.OpeningLines.{if_verbose};
 ghost use Rattle.collectd.specs.Limits.{limit_line, limit_lines, limit_text, limit_words as words_of};
 
 use flow_collect::{CollectFault, Pool, refusal};
-use run_reports::{Telling, WriteLines};
+use run_reports::{NOTHING_MORE, Telling, WriteLines};
 use std::io;
 
 /// Writes what is allowed, behind the fault, if `telling` is verbose and a run with this pool and so many

@@ -1,35 +1,26 @@
 //! Collecting and writing the table.
 
-ghost use Rattle.std.specs.Prelude.{◌≡◌, ◌≢◌, ◌⊎◌, ◌++◌, IfSome, OnOk, vec_len};
-ghost use Rattle.std.specs.Io.KnownBytes.{Appends};
-ghost use Rattle.flow_table.specs.Fitting.{FitsPlan};
+ghost use Rattle.std.specs.Prelude.{◌≡◌, ◌≢◌, ◌⊎◌, ◌++◌, IfSome, vec_len};
 ghost use Rattle.flow_collect.specs.Refusals.{fault_of_arguments};
 ghost use Rattle.exit_status.specs.Statuses.{number_of};
 ghost use Rattle.run_reports.specs.ReportLines.{report_lines, tally_line};
 ghost use Rattle.run_reports.specs.Told.{AreTold};
 ghost use Rattle.collectd.specs.CollectLines.{collect_fault_line};
 ghost use Rattle.collectd.specs.Told.{TellsFault};
-ghost use Rattle.collectd.specs.Runs.{export_text, Writes, WritesTable, WritesWholeTable};
+ghost use Rattle.collectd_output.specs.TableTexts.{Writes};
+ghost use Rattle.collectd.specs.Runs.{WritesTable, WritesWholeTable};
 
-use crate::full_run::{NOTHING_MORE, run_in_full};
+use crate::full_run::run_in_full;
+use collectd_output::Output;
 use exit_status::Status;
 use flow_collect::Pool;
-use flow_export::{ExportFault, Format, write_csv, write_ipfix, write_json};
-use flow_table::{Plan, Table};
+use flow_table::Plan;
 use ipfix_session::Source;
-use run_reports::WriteLines;
+use run_reports::{NOTHING_MORE, WriteLines};
 use std::alloc::Global;
 use std::io::Write;
 use std::sync::Wait;
 use std::thread::Threads;
-
-/// How a table is written.
-#[derive(Clone, Copy, Debug, PartialEq, Eq)]
-pub struct Output {
-    pub format: Format,
-    /// The export time of messages of IPFIX, in seconds since 1970-01-01 UTC. CSV and JSON have none.
-    pub time: u32,
-}
 
 /// Runs each source as a session, writes the table of all their records to `out`, and answers the exit
 /// status: 0 if all was well; 1 if some session ended with a fault, and the table is written; 3 if
@@ -84,25 +75,4 @@ pub fn run<S: Source + Send + Drop, W: Write, E: WriteLines, R: Threads + Wait +
         out,
         err,
     )
-}
-
-/// Writes a table, and sees to it that nothing is left in the writer's buffer.
-pub fn export<W: Write>(
-    alloc: Global,
-    plan: &Plan,
-    table: &Table,
-    output: Output,
-    out: &mut W,
-) -> Result<(), ExportFault>
-    requires { FitsPlan plan.now table.now }
-    ensures { OnOk result (Appends (W.contents out.old) (W.contents out.new)
-        (export_text output plan.now table.now)) }
-{
-    match output.format {
-        Format::Csv => write_csv(alloc, plan, table, out)?,
-        Format::Json => write_json(alloc, plan, table, out)?,
-        Format::Ipfix => write_ipfix(alloc, plan, table, output.time, out)?,
-    }
-    out.flush()?;
-    Ok(())
 }

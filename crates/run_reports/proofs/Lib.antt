@@ -1,3 +1,4 @@
 pub mod Numbering
+pub mod LinesTold
 pub mod Untold
 mod Stream

@@ -2,12 +2,13 @@
 
 ghost use Rattle.std.specs.Prelude.{◌≡◌, ◌++◌, codes, OnErr, OnOk};
 ghost use Rattle.std.specs.Io.KnownBytes.{Appends};
-ghost use Rattle.run_reports.specs.PlaceLines.{column_start, count_end, key_line, key_start, kind_words as words_of_kind, line_line, name_end, place_line, rule_line, rule_words as words_of_rule, text_end, toml_line, words_end};
+ghost use Rattle.run_reports.specs.PlaceLines.{column_start, count_end, key_line, key_start, line_line, name_end, place_line, rule_line, text_end, toml_line, words_end};
 
+use crate::place_words::{kind_words, rule_words};
 use crate::quoting::{write_octets, write_quoted};
 use crate::write_lines::WriteLines;
 use flow_table::PlanFault;
-use plan_file::{PlanKey, PlanPlace, PlanTextError};
+use plan_file::{PlanPlace, PlanTextError};
 use std::io;
 
 /// Writes the line that says where a plan has its fault: the line of the file, or the key and what is
@@ -166,36 +167,4 @@ fn write_end<W: WriteLines>(words: &str, out: &mut W) -> io::Result<()>
     ensures kept { W.failed out.old → W.failed out.new }
 {
     writeln!(out, "{words}")
-}
-
-// What a plan allows where it has the fault.
-fn rule_words(fault: PlanFault) -> &'static str
-    ensures { result.now ≡ words_of_rule fault }
-{
-    match fault {
-        PlanFault::Length => "must be 1 to 4294967295",
-        PlanFault::Spread => "must be 1 to 4096",
-        PlanFault::KeyCount => "at most 8",
-        PlanFault::KeyKind => {
-            ": only elements known as unsigned numbers or addresses (IPv4, IPv6, MAC) may be keys"
-        }
-        PlanFault::Prefix => ": only IPv4 addresses take a prefix, 0 to 32",
-        PlanFault::CounterCount => "must be 1 to 4",
-        PlanFault::CounterKind => {
-            ": only octetDeltaCount, packetDeltaCount, deltaFlowCount, postOctetDeltaCount, postPacketDeltaCount, droppedOctetDeltaCount and droppedPacketDeltaCount may be counters"
-        }
-        PlanFault::Repeated => " stands twice",
-        PlanFault::OutOfMemory => ": out of memory",
-    }
-}
-
-fn kind_words(key: PlanKey) -> &'static str
-    ensures { result.now ≡ words_of_kind key }
-{
-    match key {
-        PlanKey::IntervalMs => "not an integer from 1 to 4294967295",
-        PlanKey::MaxSpread => "not an integer from 1 to 4096",
-        PlanKey::Method => "not \"start\", \"end\", \"mid\", \"uniform\" or \"proportional\"",
-        PlanKey::Keys | PlanKey::Counters => "not an array of texts",
-    }
 }

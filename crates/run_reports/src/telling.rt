@@ -8,3 +8,9 @@ pub struct Telling {
     /// What wasn't counted.
     pub strict: bool,
 }
+
+/// Nothing is told beside them.
+pub const NOTHING_MORE: Telling = Telling {
+    verbose: false,
+    strict: false,
+};

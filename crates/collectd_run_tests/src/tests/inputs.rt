@@ -1,7 +1,7 @@
 //! Runs over files and connections that are in memory.
 
 ghost use Rattle.std.specs.Prelude.{◌≡◌, ⊤, None, IfSome, true};
-ghost use Rattle.collectd.specs.Runs.{IsUnread};
+ghost use Rattle.collectd_inputs.specs.Had.{IsUnread};
 
 use super::sessions::{BY_SOURCE, CSV, POOL};
 use collectd::{

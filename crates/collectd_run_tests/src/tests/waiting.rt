@@ -1,7 +1,7 @@
 //! Sources that wait in a queue, which tells what is still to come: contracts say which of them were had.
 
 ghost use Rattle.std.specs.Prelude.{◌≡◌, ◌≢◌, ◌++◌, ⊤, List, All, Some, length, true};
-ghost use Rattle.collectd.specs.Runs.{IsUnread};
+ghost use Rattle.collectd_inputs.specs.Had.{IsUnread};
 ghost use Rattle.exit_status.specs.Statuses.{number_of};
 ghost use Rattle.ipfix_session.specs.declared.script.ScriptSource.{ScriptSource as Script};
 

@@ -1,7 +1,8 @@
 use Rattle.std.proofs.Common.{inl, inr, rules}
-use Rattle.collectd.proofs.Ran.{zero_if_well}
+use Rattle.collectd_dump.proofs.Ended.{zero_if_well}
 use Rattle.collectd.proofs.FullRan.{writes_in_full}
-use Rattle.collectd.proofs.LinesTold.{is_told, refusal_told}
+use Rattle.run_reports.proofs.LinesTold.{is_told}
+use Rattle.collectd.proofs.LinesTold.{refusal_told}
 use Rattle.collectd.proofs.full_run.run_in_full.Goals as goal
 
 pub returns-in-Err-clause-failed : goal.returns-in-Err-clause-failed
@@ -12,9 +13,9 @@ pub returns-in-Err-clause-refused : goal.returns-in-Err-clause-refused
 returns-in-Err-clause-refused g c =
     refusal_told _ _ c.in-Err.fault _ _ _ c.in-Err.ensures.arguments (search rules) (search rules) (is_told _ _ _ c.write_collect_fault.result _ c.write_collect_fault.ensures.told c.write_collect_fault.ensures.failed)
 
-pub returns-in-Err-export-clause-failed : goal.returns-in-Err-export-clause-failed
-returns-in-Err-export-clause-failed g c = λ failed.
-    inr (c.in-Err-export.fault, is_told _ _ _ c.write_export_fault.result _ c.write_export_fault.ensures.told c.write_export_fault.ensures.failed)
+pub returns-in-Err-export_flat-clause-failed : goal.returns-in-Err-export_flat-clause-failed
+returns-in-Err-export_flat-clause-failed g c = λ failed.
+    inr (c.in-Err-export_flat.fault, is_told _ _ _ c.write_export_fault.result _ c.write_export_fault.ensures.told c.write_export_fault.ensures.failed)
 
 pub returns-clause-table : goal.returns-clause-table
 returns-clause-table g c = λ ran.

@@ -1,6 +1,6 @@
 use Rattle.std.proofs.Common.{List, [], ℕ, refl, subst}
 use Rattle.run_reports.specs.Told.{AreTold}
-use Rattle.collectd.specs.declared.full_run.TheConstants.{NOTHING_MORE}
+use Rattle.run_reports.specs.declared.telling.TheConstants.{NOTHING_MORE}
 use Rattle.collectd.proofs.FullRan.{table_short}
 use Rattle.collectd.proofs.LinesTold.{plain_alone}
 use Rattle.collectd.proofs.table.run.Goals as goal

@@ -1,8 +1,9 @@
 use Rattle.std.proofs.Common.{List, ℕ, ◌++◌, rules}
-use Rattle.collectd.specs.Told.{opened_lines}
+use Rattle.collectd_inputs.specs.InputsTold.{opened_lines}
 use Rattle.collectd.proofs.Ran.{one_of_four, refused_for}
 use Rattle.collectd.proofs.FullRan.{runs_in_full}
-use Rattle.collectd.proofs.LinesTold.{both_told, fault_told, is_told, never_two, peers_then}
+use Rattle.run_reports.proofs.LinesTold.{both_told, is_told}
+use Rattle.collectd.proofs.LinesTold.{fault_told, never_two, peers_then}
 use Rattle.collectd.proofs.commands.connections.run_connections.Goals as goal
 
 pub returns-in-Ok-clause-statuses : goal.returns-in-Ok-clause-statuses

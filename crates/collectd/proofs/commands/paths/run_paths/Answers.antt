@@ -1,8 +1,9 @@
 use Rattle.std.proofs.Common.{length, rules}
-use Rattle.collectd.proofs.Had.{one_for_each}
+use Rattle.collectd_inputs.proofs.Had.{one_for_each}
 use Rattle.collectd.proofs.Ran.{one_of_four, refused_for}
 use Rattle.collectd.proofs.FullRan.{runs_in_full}
-use Rattle.collectd.proofs.LinesTold.{both_told, fault_told, never_two, stops_then}
+use Rattle.run_reports.proofs.LinesTold.{both_told}
+use Rattle.collectd.proofs.LinesTold.{fault_told, never_two, stops_then}
 use Rattle.collectd.proofs.commands.paths.run_paths.Goals as goal
 
 pub returns-in-Ok-clause-statuses : goal.returns-in-Ok-clause-statuses

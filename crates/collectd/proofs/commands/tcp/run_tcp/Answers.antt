@@ -1,6 +1,6 @@
 use Rattle.std.proofs.Common.{List, ℕ, refl, subst}
 use Rattle.run_reports.specs.Told.{AreTold}
-use Rattle.collectd.specs.declared.full_run.TheConstants.{NOTHING_MORE}
+use Rattle.run_reports.specs.declared.telling.TheConstants.{NOTHING_MORE}
 use Rattle.collectd.proofs.FullRan.{runs_short}
 use Rattle.collectd.proofs.LinesTold.{plain_fault, plain_run}
 use Rattle.collectd.proofs.commands.tcp.run_tcp.Goals as goal

@@ -1,4 +1,4 @@
-use Rattle.collectd.proofs.Had.{one_for_each}
+use Rattle.collectd_inputs.proofs.Had.{one_for_each}
 use Rattle.collectd_run_tests.proofs.tests.waiting.run_paths.Goals as goal
 
 pub returns : goal.returns

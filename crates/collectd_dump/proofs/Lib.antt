@@ -1,0 +1,3 @@
+pub mod Ended
+mod FullDumped
+mod Loaded

@@ -1,0 +1,36 @@
+-- How a dump that reports in full ended.
+use Rattle.std.specs.Prelude.{◌≡◌, ◌↔◌, ℕ, Bool, true, false, List, Option, None}
+use Rattle.ipfix_message.specs.declared.record.DataRecord.{DataRecord}
+use Rattle.ipfix_session.specs.Sources.{SourceView}
+use Rattle.ipfix_session.specs.declared.report.FullReport.{FullReport}
+use Rattle.ipfix_session.specs.declared.report.SessionReport.{SessionReport}
+use Rattle.exit_status.specs.Statuses.{number_of}
+use Rattle.exit_status.specs.declared.status.Status.TheVariants.{Well}
+use Rattle.ipfix_dump.specs.Dumped.{DumpsBy, DumpsInFullBy}
+use Rattle.ipfix_dump.specs.declared.fault.DumpFault.{DumpFault}
+use Rattle.run_reports.specs.ReportLines.{dump_fault_line}
+use Rattle.run_reports.specs.Spotless.{IsSpotlessSession}
+
+-- a session ended well: it has no fault, and if the dump is strict, nothing shows that anything which was sent wasn't dumped
+abbrev pub EndedWell : Bool → FullReport → Type 0
+EndedWell true full = IsSpotlessSession full
+EndedWell false full = full.report.fault ≡ None
+
+-- the lines of a source's records were written, by the line of a record; its session was told as the last fact says it; and
+-- the status says that all was well exactly if it was
+pub record DumpsToEnd {S : Type 0} (line_of : DataRecord → List ℕ) (seen : S → SourceView) (strict : Bool) (before after : S) (old new : Option (List ℕ)) (status : ℕ) (IsTold : FullReport → Type 0) : Type 0 where
+  pub full : FullReport
+  pub dumps : DumpsInFullBy line_of seen before after old new full
+  pub told : IsTold full
+  pub status_is : (status ≡ number_of Well) ↔ EndedWell strict full
+
+-- the same without the rest
+pub record DumpsAlone {S : Type 0} (line_of : DataRecord → List ℕ) (seen : S → SourceView) (before after : S) (old new : Option (List ℕ)) (status : ℕ) (IsTold : SessionReport → Type 0) : Type 0 where
+  pub report : SessionReport
+  pub dumps : DumpsBy line_of seen before after old new report
+  pub told : IsTold report
+  pub status_is : (status ≡ number_of Well) ↔ (report.fault ≡ None)
+
+-- a dump that failed tells its fault
+abbrev pub TellsDumpFault : (List ℕ → Type 0) → Type 0
+TellsDumpFault AreTold = (fault : DumpFault) × AreTold (dump_fault_line fault)

@@ -1,0 +1,101 @@
+//! Dumping a source to its end, with the report in full.
+
+ghost use Rattle.std.specs.Prelude.{◌≡◌, ◌≢◌, ◌⊎◌, ◌↔◌, [], ◌∷◌, IfOk, IsTrue};
+ghost use Rattle.exit_status.specs.Statuses.{number_of};
+ghost use Rattle.ipfix_dump.specs.Dumped.{DumpsAllBy, DumpsInFullBy};
+ghost use Rattle.run_reports.specs.Told.{AreTold};
+ghost use Rattle.run_reports.specs.ToldLines.{told_lines};
+ghost use Rattle.collectd_dump.specs.Dumps.{DumpsToEnd, EndedWell, TellsDumpFault};
+
+use exit_status::Status;
+use ipfix_dump::{DumpFault, RecordLine, dump_in_full_by};
+use ipfix_session::{FullReport, Source};
+use run_reports::{
+    Origin, Telling, WriteLines, are_spotless, write_dump_fault, write_told_reports,
+};
+use std::alloc::Global;
+use std::io::Write;
+use std::slice;
+
+/// Dumps a source to `out` with lines that `line` makes, and answers the exit status. To `err` it writes what
+/// there is to tell of the session, or at status 3 the line of the fault alone. A fault of `err` is passed
+/// over.
+pub fn dump_to_end<L: RecordLine, S: Source, W: Write, E: WriteLines>(
+    alloc: Global,
+    line: &mut L,
+    source: &mut S,
+    origin: &Origin,
+    telling: Telling,
+    out: &mut W,
+    err: &mut E,
+) -> u8
+    ensures statuses { (result ≡ number_of Status.Well) ⊎ (result ≡ number_of Status.SessionFault)
+        ⊎ (result ≡ number_of Status.Failed) }
+    ensures all { result ≡ number_of Status.Well
+        → DumpsAllBy (L.line_of line.old) (S.seen source.old).text (W.contents out.old) (W.contents out.new) }
+    ensures dumped { result ≢ number_of Status.Failed
+        → DumpsToEnd (L.line_of line.old) S.seen telling.strict source.old source.new
+        (W.contents out.old) (W.contents out.new) result
+        (λ full. AreTold (E.contents err.old) (E.contents err.new) (E.failed err.new)
+        (told_lines telling (origin.now ∷ []) (full ∷ []))) }
+    // The line of a fault alone was told.
+    ensures failed { result ≡ number_of Status.Failed → TellsDumpFault
+        (AreTold (E.contents err.old) (E.contents err.new) (E.failed err.new)) }
+    ensures kept { E.failed err.old → E.failed err.new }
+{
+    match dump_whole(alloc, line, source, out) {
+        Ok(full) => {
+            let _ = write_told_reports(
+                telling,
+                slice::from_ref(origin),
+                slice::from_ref(&full),
+                err,
+            );
+            end_of(telling.strict, &full).number()
+        }
+        Err(fault) => {
+            let _ = write_dump_fault(fault, err);
+            Status::Failed.number()
+        }
+    }
+}
+
+// How a session that was dumped ended.
+fn end_of(strict: bool, full: &FullReport) -> Status
+    ensures ends { (result ≡ Status.Well) ⊎ (result ≡ Status.SessionFault) }
+    ensures well { (result ≡ Status.Well) ↔ EndedWell strict full.now }
+{
+    if ended_well(strict, full) {
+        Status::Well
+    } else {
+        Status::SessionFault
+    }
+}
+
+#[tactic(auto, using(crate::proofs::FullDumped::tested_strict, crate::proofs::FullDumped::tested_plain))]
+fn ended_well(strict: bool, full: &FullReport) -> bool
+    ensures { IsTrue result ↔ EndedWell strict full.now }
+{
+    if strict {
+        are_spotless(slice::from_ref(full))
+    } else {
+        full.report.fault.is_none()
+    }
+}
+
+// Dumps a source, and sees to it that nothing is left in the writer's buffer.
+fn dump_whole<L: RecordLine, S: Source, W: Write>(
+    alloc: Global,
+    line: &mut L,
+    source: &mut S,
+    out: &mut W,
+) -> Result<FullReport, DumpFault>
+    ensures { IfOk result (λ full. DumpsInFullBy (L.line_of line.old) S.seen source.old source.new
+        (W.contents out.old) (W.contents out.new) full) }
+{
+    let full = dump_in_full_by(alloc, line, source, out)?;
+    match out.flush() {
+        Ok(()) => Ok(full),
+        Err(error) => Err(DumpFault::from(error)),
+    }
+}

@@ -1,0 +1,3 @@
+pub mod Had
+pub mod InputsTold
+mod TimeLimits

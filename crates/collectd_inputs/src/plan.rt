@@ -1,0 +1,53 @@
+//! The plan that a text says.
+
+ghost use Rattle.std.specs.Prelude.{◌≡◌, ℕ, List, Ok, IfNone, IfSome};
+ghost use Rattle.std.specs.Option.{ForSome};
+ghost use Rattle.std.specs.Str.{IsUtf8};
+ghost use Rattle.flow_table.specs.Plans.{IsPlan};
+ghost use Rattle.plan_file.specs.PlanTexts.{plan_of_text};
+ghost use Rattle.run_reports.specs.Told.{AreTold};
+ghost use Rattle.collectd_inputs.specs.PlansTold.{TellsNoPlan};
+
+use flow_table::Plan;
+use plan_file::read_plan_octets;
+use run_reports::{Telling, WriteLines, write_not_had_because, write_plan_fault};
+use std::alloc::Global;
+use text_files::ReadText;
+
+/// Reads the plan in the text of a path. If there is no such text, or it is no plan, the answer is `None`
+/// and `err` has a line that says so, if `telling` is verbose with the system's reason; and for the fault of a
+/// text a second one that says where it is.
+pub fn load_plan<T: ReadText, E: WriteLines>(
+    files: &T,
+    alloc: Global,
+    path: &str,
+    telling: Telling,
+    err: &mut E,
+) -> Option<Plan>
+    // The plan is that of the text that the path has, which is UTF-8.
+    ensures text { ForSome result (λ plan. (octets : List ℕ)
+        × T.has files.now path.now octets × IsUtf8 octets × (plan_of_text octets ≡ Ok plan)) }
+    // No fault fits a plan that was read.
+    ensures sound { ForSome result IsPlan }
+    // Nothing is told if a plan was read.
+    ensures silent { IfSome result (λ _. err.new ≡ err.old) }
+    // Else why the path has none was told, and nothing else.
+    ensures told { IfNone result (TellsNoPlan (T.has files.now path.now) (T.refuses files.now path.now)
+        telling path.now (AreTold (E.contents err.old) (E.contents err.new) (E.failed err.new))) }
+    ensures kept { E.failed err.old → E.failed err.new }
+{
+    let octets = match files.read_text(alloc, path) {
+        Ok(octets) => octets,
+        Err(reason) => {
+            let _ = write_not_had_because(telling, "open", path, reason, err);
+            return None;
+        }
+    };
+    match read_plan_octets(alloc, &octets) {
+        Ok(plan) => Some(plan),
+        Err(error) => {
+            let _ = write_plan_fault(&error, err);
+            None
+        }
+    }
+}

@@ -1,0 +1,4 @@
+-- What public contracts cite.
+pub mod Merges
+pub mod MergeLines
+pub mod MergesTold

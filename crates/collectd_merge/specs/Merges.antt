@@ -1,0 +1,56 @@
+-- What merging the exports in files wrote.
+use Rattle.std.specs.Prelude.{◌≡◌, ℕ, List, [], All, Option}
+use Rattle.std.specs.Io.KnownBytes.{Appends}
+use Rattle.ipfix_session.specs.Sources.{SourceView}
+use Rattle.flow_table.specs.Plans.{PlanValue}
+use Rattle.flow_table.specs.SameTables.{RowValue}
+use Rattle.flow_table.specs.declared.table.Table.{Table}
+use Rattle.flow_merge.specs.Merging.{merging_plan, AddsAllUp, AddsExport, StandsFor}
+use Rattle.flow_merge.specs.declared.merging.Merging.{Merging}
+use Rattle.collectd_output.specs.TableTexts.{export_text}
+use Rattle.collectd_inputs.specs.Had.{IsUnread}
+use Rattle.ipfix_session.specs.declared.driver.TheConstants.{READ_LIMIT}
+use Rattle.run_reports.specs.OpeningLines.{if_verbose}
+use Rattle.run_reports.specs.declared.telling.Telling.{Telling}
+use Rattle.collectd_merge.specs.MergeLines.{file_opened_line, files_opened_lines}
+use Rattle.collectd_merge.specs.MergesTold.{StopsBehind}
+use Rattle.collectd_merge.specs.declared.not_merged.NotMerged.{NotMerged}
+use Rattle.collectd_merge.specs.declared.not_merged.NotMerged.TheVariants.{NotOpened, File, Whole}
+use Rattle.collectd_output.specs.declared.output.Output.{Output}
+
+module _ {S : Type 0} (seen : S → SourceView) where
+  -- sources were had as the first fact says it, none of which was read before; each gave an export, and the rows of all of
+  -- them, added up, are those of the table
+  pub record IsMerged (AreHad : List S → Type 0) (plan : PlanValue) (table : Table) : Type 0 where
+    pub sources : List S
+    pub had : AreHad sources
+    pub unread : All (IsUnread seen) sources
+    pub added_up : AddsAllUp seen READ_LIMIT plan sources table
+
+  -- that table was written, and nothing else, and it was told as the last fact says it
+  pub record WritesMerged (AreHad : List S → Type 0) (plan : PlanValue) (output : Output) (old new : Option (List ℕ)) (IsTold : Table → Type 0) : Type 0 where
+    pub table : Table
+    pub merged : IsMerged AreHad plan table
+    pub written : Appends old new (export_text output plan table)
+    pub told : IsTold table
+
+  -- the export of a source that was had as the first fact says it, and not read before, is added
+  pub record AddsFile (IsHad : S → Type 0) (old new : Merging) : Type 0 where
+    pub before : S
+    pub after : S
+    pub had : IsHad before
+    pub unread : IsUnread seen before
+    pub same_plan : merging_plan new ≡ merging_plan old
+    pub adds : (rows : List RowValue) → StandsFor old rows → AddsExport seen READ_LIMIT old before after rows new
+
+-- why the file of this name and number was not added, and what was told by then
+abbrev pub IsNotAdded : Telling → ℕ → List ℕ → (List ℕ → Type 0) → NotMerged → Type 0
+IsNotAdded telling file name AreTold (NotOpened path reason) = (path.now ≡ name) × AreTold []
+IsNotAdded telling file name AreTold (File number path fault) = (number ≡ file) × (path.now ≡ name) × AreTold (if_verbose telling (file_opened_line file name))
+IsNotAdded telling file name AreTold (Whole fault) = ⊥
+
+-- why files were not merged, and which of them were told as opened by then
+pub record StopsMerge (names : List (List ℕ)) (telling : Telling) (AreTold : List ℕ → Type 0) (not_merged : NotMerged) : Type 0 where
+  pub opened : List (List ℕ)
+  pub stops : StopsBehind names opened not_merged
+  pub told : AreTold (files_opened_lines telling opened)

@@ -1,0 +1,6 @@
+//! What a table is written as.
+#![tactic(auto)]
+
+mod output;
+
+pub use output::{Output, export, export_flat};
