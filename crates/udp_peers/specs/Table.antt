@@ -1,0 +1,44 @@
+-- Tables of peers, which have room for some of them (RFC 7011, section 10.3): in the order of their last datagrams, the latest
+-- first.
+use Rattle.std.specs.Prelude.{◌≡◌, ℕ, ◌-◌, Bool, List, [], ◌∷◌, take, Option, Some, None, is_some, unwrap_or, slice_get, if◌then◌else◌}
+use Rattle.std.specs.Map.{lookup, lookup_key, remove_entry}
+use Rattle.std.specs.declared.net.socket_addr.SocketAddr.{SocketAddr}
+use Rattle.std.specs.contracts.net.socket_addr.SocketAddrPartialEq.TheImpl as addresses
+
+-- whether an address and its port are a peer's
+abbrev pub same_peer : SocketAddr → SocketAddr → Bool
+same_peer = addresses.eq-value.it
+
+abbrev pub of_peer : {X : Type 0} → SocketAddr → List (SocketAddr × X) → Option X
+of_peer peer es = lookup (same_peer peer) es
+
+-- the others, beside a peer that is first; where a new one is one too many, the one that was silent for longest goes
+abbrev pub others_for : {X : Type 0} → ℕ → SocketAddr → List (SocketAddr × X) → List (SocketAddr × X)
+others_for most peer es = if is_some (of_peer peer es) then remove_entry (same_peer peer) es else take (most - 1) es
+
+-- that one
+abbrev pub gone_for : {X : Type 0} → ℕ → SocketAddr → List (SocketAddr × X) → Option (SocketAddr × X)
+gone_for most peer es = if is_some (of_peer peer es) then None else slice_get es (most - 1)
+
+-- a peer is first, with this, under the address that it was kept under
+abbrev pub with_first : {X : Type 0} → ℕ → SocketAddr → X → List (SocketAddr × X) → List (SocketAddr × X)
+with_first most peer x es = (unwrap_or (lookup_key (same_peer peer) es) peer, x) ∷ others_for most peer es
+
+-- ---- two tables of the same peers in the same order, whose values are related
+
+module _ {K V W : Type 0} (R : V → W → Type 0) where
+  abbrev pub Beside : K × V → K × W → Type 0
+  Beside e c = (e.0 ≡ c.0) × R e.1 c.1
+
+  abbrev pub Paired : List (K × V) → List (K × W) → Type 0
+  Paired [] [] = Unit {0}
+  Paired [] (c ∷ cs) = ⊥
+  Paired (e ∷ es) [] = ⊥
+  Paired (e ∷ es) (c ∷ cs) = Beside e c × Paired es cs
+
+-- both are there, and are related, or none is
+abbrev pub Both : {X Y : Type 0} → (X → Y → Type 0) → Option X → Option Y → Type 0
+Both Q None None = Unit {0}
+Both Q None (Some y) = ⊥
+Both Q (Some x) None = ⊥
+Both Q (Some x) (Some y) = Q x y

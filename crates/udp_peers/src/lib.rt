@@ -1,0 +1,25 @@
+//! Many peers that send datagrams into one port, each recorded by itself: a transport session over UDP is a
+//! peer's address and port (RFC 7011, section 10.3).
+#![tactic(auto)]
+
+mod datagram_source;
+mod in_turn;
+mod kept_peer;
+pub mod laws;
+mod outcome;
+mod peer_place;
+mod peers;
+mod receiving;
+mod refusals;
+mod script_datagrams;
+mod taking;
+
+pub use datagram_source::{Datagram, DatagramSource, NoDatagram};
+pub use in_turn::InTurn;
+pub use kept_peer::KeptPeer;
+pub use outcome::{Became, Outcome};
+pub use peer_place::PeerPlace;
+pub use peers::Peers;
+pub use receiving::{Received, receive};
+pub use refusals::Refusals;
+pub use script_datagrams::{ScriptDatagrams, ScriptedDatagram};

@@ -1,0 +1,27 @@
+//! What becomes of a datagram.
+
+use crate::kept_peer::KeptPeer;
+use ipfix_datagrams::DatagramFault;
+use std::net::SocketAddr;
+
+/// What became of a datagram.
+#[derive(Drop)]
+pub enum Became<F> {
+    /// It stands in its peer's file.
+    Recorded,
+    /// It was refused, counted, and changed nothing.
+    Refused(DatagramFault),
+    /// Its peer's session ended with a fault that its recorder tells. The next datagram begins another.
+    Ended(KeptPeer<F>),
+    /// There was no memory to begin a session of its peer, and nothing has changed.
+    NoMemory,
+}
+
+/// What a datagram led to.
+#[derive(Drop)]
+pub struct Outcome<F> {
+    /// What became of it.
+    pub became: Became<F>,
+    /// The peer that was silent for longest, which went, since there was no room for one more.
+    pub gone: Option<(SocketAddr, KeptPeer<F>)>,
+}
