@@ -1,3 +1,3 @@
 mod Shifts
-mod Told
+pub mod Told
 mod Words

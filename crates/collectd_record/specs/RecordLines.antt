@@ -52,6 +52,24 @@ refused_line count last = codes "collectd: refused " ++ (decimal count ++ (codes
 unfoldable pub not_accepted_line : ℕ → List ℕ
 not_accepted_line count = codes "collectd: record: accept failed " ++ (decimal count ++ codes " times\n")
 
+-- ---- peers that send datagrams
+
+-- datagrams of a peer that were refused, each alone, and the fault of the last
+unfoldable pub refused_datagrams_line : List ℕ → ℕ → ℕ → List ℕ → List ℕ
+refused_datagrams_line peer count number name =
+    codes "collectd: session " ++ (peer ++ (codes ": refused " ++ (decimal count ++ (codes " datagrams, last fault " ++ (decimal number ++ (codes " " ++ (name ++ codes "\n")))))))
+
+-- a peer that was ended, and why
+unfoldable pub peer_ended_line : List ℕ → List ℕ → List ℕ
+peer_ended_line peer why = codes "collectd: session " ++ (peer ++ (codes ": ended: " ++ (why ++ codes "\n")))
+
+-- datagrams of peers that have no session
+unfoldable pub turned_away_line : ℕ → List ℕ → List ℕ
+turned_away_line count last = codes "collectd: refused " ++ (decimal count ++ (codes " datagrams, last " ++ (last ++ codes "\n")))
+
+unfoldable pub not_received_line : ℕ → List ℕ
+not_received_line count = codes "collectd: record: receive failed " ++ (decimal count ++ codes " times\n")
+
 -- ---- files that an earlier run left
 
 unfoldable pub recovered_line : List ℕ → List ℕ

@@ -4,6 +4,8 @@
 
 mod address_bits;
 mod connection;
+mod datagram_lines;
+mod datagram_log;
 mod file_lines;
 mod front_desk;
 mod log;
@@ -27,5 +29,5 @@ pub use place::{Recording, RecordingFiles, SessionPlace};
 pub use prefix::{NotAPrefix, Prefix};
 pub use record_folder::FolderFault;
 pub use running::record_connections;
-pub use serving::record_connection;
+pub use serving::{record_connection, tell_session};
 pub use system::{LoggedPlace, RecordOrder, open_recordings, run_record};

@@ -9,20 +9,24 @@ ghost use Rattle.collectd_record.specs.RecordLines.{finished_line, not_accepted_
 use crate::file_lines::write_finished;
 use crate::notice_lines::{write_not_accepted, write_outcome, write_refused, write_threads};
 use crate::session_lines::{write_peer_fault, write_peer_loss};
+use arrayvec::ArrayVec;
 use ipfix_record::FileReport;
 use ipfix_session::DomainReport;
 use record_folder::Recovered;
-use std::alloc::Global;
 use std::io::{self, Write};
 use std::marker::Model;
 use std::net::SocketAddr;
 
+/// How many octets a line has at most. A path that the system takes has 4,095, one that it lists in such a
+/// folder 256 more, and what stands beside a path has 200.
+const LINE_ROOM: usize = 4608;
+
 /// Where lines go. Each is given to the writer in one piece, so that the lines of several threads stay
-/// whole. Contracts see the writer alone.
+/// whole. No line needs memory: its room is in the log. Contracts see the writer alone.
 #[derive(Drop)]
 pub struct Log<E: Write + Drop> {
-    line: Vec<u8>,
-    out: E,
+    pub(crate) line: ArrayVec<u8, LINE_ROOM>,
+    pub(crate) out: E,
 }
 
 impl<E: Write + Drop> Model for Log<E> {
@@ -33,11 +37,11 @@ impl<E: Write + Drop> Model for Log<E> {
 
 impl<E: Write + Drop> Log<E> {
     /// Lines that go to a writer.
-    pub fn new(alloc: Global, out: E) -> Self
+    pub fn new(out: E) -> Self
         ensures { result ≡ out }
     {
         Log {
-            line: Vec::new(alloc),
+            line: ArrayVec::new(),
             out,
         }
     }

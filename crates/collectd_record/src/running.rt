@@ -27,8 +27,9 @@ const PAUSE: u64 = 100;
 /// How many seconds it takes until peers that have no session are told.
 const BETWEEN_LINES: u64 = 1;
 
-/// Records what comes over connections in so many threads, each of which accepts one after another. Where
-/// none can be accepted that is told, and tried again. It ends only if no thread can be started.
+/// Records what comes over connections in so many threads, each of which accepts one after another. Sessions
+/// are numbered at the desk. Where no connection can be accepted that is told, and tried again. It ends only
+/// if no thread can be started.
 pub fn record_connections<
     S: Source + Send + Drop,
     F: RecordingFiles + Send,
@@ -44,12 +45,11 @@ pub fn record_connections<
     place: &P,
     filter: &PeerFilter,
     threads: usize,
+    desk: &Mutex<FrontDesk>,
     err: E,
 ) -> Status
     ensures { result ≡ Status.Failed }
 {
-    let desk = Mutex::new(FrontDesk::new());
-    let desk = &desk;
     thread::scope(
         thread::scope_env(),
         rt,
@@ -87,7 +87,7 @@ fn run_all<
 ) -> Status
     ensures { result ≡ Status.Failed }
 {
-    let mut log = Log::new(alloc, err);
+    let mut log = Log::new(err);
     let mut started: usize = 0;
     for _ in 0..threads {
         let run = move || accept_forever(rt, alloc, listener, place, filter, desk, err);
@@ -122,7 +122,7 @@ fn accept_forever<
     desk: &Mutex<FrontDesk>,
     err: E,
 ) {
-    let mut log = Log::new(alloc, err);
+    let mut log = Log::new(err);
     for _ in rt.forever() {
         match listener.next_connection() {
             Ok(connection) => {

@@ -64,9 +64,9 @@ fn record_source<S: Source, F: RecordingFiles, C: PeriodClock + Drop, E: Write +
     tell_session(peer, &session, finished, log)
 }
 
-// Tells what the sequence numbers of the session say, and its fault; and that its last file could not be
-// finished, if that is not its fault already.
-fn tell_session<E: Write + Drop>(
+/// Tells what the sequence numbers of a session that has ended say, and its fault; and that its last file
+/// could not be finished, if that is not its fault already.
+pub fn tell_session<E: Write + Drop>(
     peer: SocketAddr,
     session: &RecordedSession,
     finished: Result<(), NotWritten>,

@@ -3,6 +3,7 @@
 ghost use Rattle.std.specs.Prelude.{◌≡◌, ⊤};
 
 use crate::connection::PatientListener;
+use crate::front_desk::FrontDesk;
 use crate::log::Log;
 use crate::peer_filter::PeerFilter;
 use crate::place::{Recording, RecordingFiles, SessionPlace};
@@ -19,7 +20,7 @@ use std::io::Write;
 use std::net::{SocketAddr, TcpListener};
 use std::num::NonZeroU64;
 use std::rt::Clock;
-use std::sync::Wait;
+use std::sync::{Mutex, Wait};
 use std::thread::Threads;
 use std::time::Duration;
 
@@ -61,7 +62,7 @@ impl<'a, R: Files + Clock, E: Write + Copy + Drop> SessionPlace<
         peer: SocketAddr,
         number: u64,
     ) -> Result<Recording<SessionFiles<'a, R, Log<E>>, SystemPeriods<'a, R>>, AllocError> {
-        let log = Log::new(alloc, self.err);
+        let log = Log::new(self.err);
         match self.place.session(alloc, peer, number, log) {
             Ok(SystemSession { files, periods }) => Ok(Recording {
                 files,
@@ -94,13 +95,14 @@ pub fn open_recordings<E: Write + Drop, H: Files<File = File> + Alloc<A = Global
     err: E,
 ) -> Result<Folder, FolderFault> {
     let folder = open_folder(rt, alloc, path)?;
-    match recover(rt, &folder, &mut Log::new(alloc, err)) {
+    match recover(rt, &folder, &mut Log::new(err)) {
         Ok(()) => Ok(folder),
         Err(error) => Err(FolderFault::NotHad(error)),
     }
 }
 
-/// Records in a folder what comes over connections, for ever. It ends only if no thread can be started.
+/// Records in a folder what comes over connections, for ever. Sessions are numbered at the desk. It ends only
+/// if no thread can be started.
 pub fn run_record<E: Write + Copy + Send + Sync + Drop, R: Clock + Threads + Wait + Sync>(
     threads: &R,
     rt: &HostRuntime,
@@ -108,6 +110,7 @@ pub fn run_record<E: Write + Copy + Send + Sync + Drop, R: Clock + Threads + Wai
     listener: TcpListener,
     folder: &Folder,
     order: &RecordOrder,
+    desk: &Mutex<FrontDesk>,
     err: E,
 ) -> Status
     ensures { result ≡ Status.Failed }
@@ -128,6 +131,7 @@ pub fn run_record<E: Write + Copy + Send + Sync + Drop, R: Clock + Threads + Wai
         &place,
         &order.filter,
         order.sessions,
+        desk,
         err,
     )
 }

@@ -79,10 +79,34 @@ fn each_line_is_one_write(rt: HostRuntime) -> Result<(), Fail> {
     let alloc: Global = rt.alloc();
     for calls in 0..12 {
         let mut out = FailingWriter::new(alloc, 1000, calls);
-        let told = tell_all(&mut Log::new(alloc, &mut out));
+        let told = tell_all(&mut Log::new(&mut out));
         assert_eq!(rt; told.is_ok(), calls == 11);
         let wanted = first_lines(alloc, LINES, calls)?;
         assert!(rt; out.taken.as_slice() == wanted.as_bytes(), "{calls}");
     }
+    Ok(())
+}
+
+// Tells the longest lines: of the longest path that the system takes, and of one that it lists.
+fn tell_longest(alloc: Global, log: &mut Log<&mut FailingWriter>) -> io::Result<()> {
+    let most = FileReport {
+        messages: u64::MAX,
+        records: u64::MAX,
+        lost: u64::MAX,
+        backward: u64::MAX,
+        unknown_sets: u64::MAX,
+        unaccounted: u64::MAX,
+    };
+    log.tell_finished("a".repeat(alloc, 4095)?.as_str(), &most)?;
+    log.tell_recovered("a".repeat(alloc, 4351)?.as_str(), Recovered::Stayed)
+}
+
+// There is room for them, and they are told whole.
+#[test]
+fn longest_lines(rt: HostRuntime) -> Result<(), Fail> {
+    let alloc: Global = rt.alloc();
+    let mut out = FailingWriter::new(alloc, 10_000, 2);
+    tell_longest(alloc, &mut Log::new(&mut out))?;
+    assert_eq!(rt; out.taken.len(), 4095 + 199 + 4351 + 26);
     Ok(())
 }

@@ -1,12 +1,15 @@
 //! The lines of sessions that end in several ways.
 
 use super::places::{NoConnections, SmallPlace};
-use collectd_record::{Connection, Log, PeerFilter, record_connection, record_connections};
+use collectd_record::{
+    Connection, FrontDesk, Log, PeerFilter, record_connection, record_connections,
+};
 use exit_status::Status;
 use ipfix_session::ScriptSource;
 use std::alloc::Global;
 use std::io;
 use std::net::{IpAddr, Ipv4Addr, SocketAddr};
+use std::sync::Mutex;
 use std::test::*;
 use worked_examples::faults::VERSION_9;
 use worked_examples::{FailingWriter, Flow, message_of_flows, text_of};
@@ -36,7 +39,7 @@ fn told_of(
         peer: SocketAddr::new(IpAddr::V4(Ipv4Addr::new(192, 0, 2, 1)), 4739),
     };
     let mut out = FailingWriter::new(alloc, 1000, 1000);
-    let told = record_connection(alloc, connection, 1, &place, &mut Log::new(alloc, &mut out));
+    let told = record_connection(alloc, connection, 1, &place, &mut Log::new(&mut out));
     told?;
     Ok(out.taken)
 }
@@ -103,7 +106,16 @@ fn no_threads(rt: HostRuntime) -> Result<(), Fail> {
     let filter = PeerFilter {
         prefixes: Vec::new(alloc),
     };
-    let status = record_connections(&rt, alloc, &NoConnections, &PLACE, &filter, 0, rt.stderr());
+    let status = record_connections(
+        &rt,
+        alloc,
+        &NoConnections,
+        &PLACE,
+        &filter,
+        0,
+        &Mutex::new(FrontDesk::new()),
+        rt.stderr(),
+    );
     assert_eq!(rt; status, Status::Failed);
     Ok(())
 }

@@ -6,6 +6,7 @@ ghost use Rattle.ipfix_record.specs.Periods.{ClockView};
 use crate::period::{Period, period_of};
 use crate::told_period::ToldPeriod;
 use ipfix_record::PeriodClock;
+use std::alloc::AllocError;
 use std::rt::Clock;
 use std::sync::Arc;
 use std::time::SystemTime;
@@ -32,7 +33,7 @@ impl LatestPeriod {
     }
 }
 
-/// The clock of a session, over the system's. The session's files see its latest period.
+/// The clock of a session, or of several, over the system's. Their files see its latest period.
 #[derive(Drop)]
 pub struct SystemPeriods<'a, R: Clock> {
     rt: &'a R,
@@ -60,6 +61,11 @@ impl<'a, R: Clock> SystemPeriods<'a, R> {
             asked: 0,
             over: 0,
         }
+    }
+
+    // The period that it told last, as files see it.
+    pub(crate) fn told(&self) -> Result<Arc<ToldPeriod>, AllocError> {
+        self.told.clone()
     }
 }
 

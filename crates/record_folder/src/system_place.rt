@@ -55,12 +55,37 @@ impl<'a, R: Files + Clock> SystemPlace<'a, R> {
             ⟦<SystemPeriods<'a, R> as PeriodClock>⟧.asked session.periods
             ≡ record { asked = 0; over = 0 }) }
     {
-        let name = session_name(alloc, peer, number)?;
+        let periods = self.periods(alloc)?;
+        let files = self.files(alloc, peer, number, &periods, log)?;
+        Ok(SystemSession { files, periods })
+    }
+
+    /// A clock whose period begins now.
+    pub fn periods(&self, alloc: Global) -> Result<SystemPeriods<'a, R>, AllocError>
+        ensures { IfOk result (λ periods.
+            ⟦<SystemPeriods<'a, R> as PeriodClock>⟧.asked periods
+            ≡ record { asked = 0; over = 0 }) }
+    {
         let told = Arc::new(alloc, ToldPeriod::new(period_now(self.rt, self.every)))?;
-        let seen = told.clone()?;
-        Ok(SystemSession {
-            files: SessionFiles::new(self.rt, alloc, self.folder, name, seen, log),
-            periods: SystemPeriods::new(self.rt, self.every, told),
-        })
+        Ok(SystemPeriods::new(self.rt, self.every, told))
+    }
+
+    /// The files of a session, of which none is there yet. Each is made in the period that the clock told last,
+    /// which several sessions may share.
+    pub fn files<L: FinishedFiles>(
+        &self,
+        alloc: Global,
+        peer: SocketAddr,
+        number: u64,
+        periods: &SystemPeriods<'a, R>,
+        log: L,
+    ) -> Result<SessionFiles<'a, R, L>, AllocError>
+        ensures { IfOk result (λ files.
+            ⟦<SessionFiles<'a, R, L> as FileSeries>⟧.seen files
+            ≡ record { contents = None; failed = 0 }) }
+    {
+        let name = session_name(alloc, peer, number)?;
+        let told = periods.told()?;
+        Ok(SessionFiles::new(self.rt, alloc, self.folder, name, told, log))
     }
 }
