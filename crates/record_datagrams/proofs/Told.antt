@@ -1,0 +1,14 @@
+-- Texts one after another, and none.
+use Rattle.std.proofs.Common.{ℕ, List, [], ◌++◌, Option, Some, None, Result, Ok, Err, sym, append-nil}
+use Rattle.std.specs.Prelude.{OnOk}
+use Rattle.std.specs.Io.KnownBytes.{Appends}
+use Rattle.collectd_record.proofs.Told.{both_told}
+
+-- what was told first is answered last
+pub told_back : {T E : Type 0} (r : Result T E) (old mid new : Option (List ℕ)) (a b : List ℕ) → OnOk r (Appends old mid a) → Appends mid new b → OnOk r (Appends old new (a ++ b))
+told_back {T} {E} (Err e) old mid new a b h k = tt
+told_back {T} {E} (Ok x) old mid new a b h k = both_told {T = T} {E = E} (Ok x) old mid new a b h k
+
+pub told_nothing : (o : Option (List ℕ)) → Appends o o []
+told_nothing None = tt
+told_nothing (Some xs) = sym (append-nil xs)

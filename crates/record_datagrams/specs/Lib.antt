@@ -1,0 +1,5 @@
+-- What public contracts cite.
+pub mod DatagramFaults
+pub mod Ending
+pub mod Taking
+pub mod Turns

@@ -1,0 +1,23 @@
+//! Recording datagrams of UDP: what is told of the peers that send them, and the thread that takes them,
+//! beside connections or alone.
+#![tactic(auto)]
+
+mod datagram_faults;
+mod ending;
+mod peer_folder;
+mod reception;
+mod running;
+mod system;
+mod system_socket;
+mod taking;
+mod ticking;
+
+pub use datagram_faults::{fault_name, fault_number};
+pub use ending::{EndCause, end_peer, tell_refusals};
+pub use peer_folder::PeerFolder;
+pub use reception::Reception;
+pub use running::record_datagrams;
+pub use system::{Entrances, PeerLimits, run_recorder};
+pub use system_socket::SystemSocket;
+pub use taking::take_datagram;
+pub use ticking::{end_silent, go_over, tell_unserved};

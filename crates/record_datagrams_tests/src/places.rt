@@ -1,0 +1,58 @@
+//! A place with little room.
+
+use collectd_record::RecordingFiles;
+use ipfix_record::{FileReport, FileSeries, NotWritten};
+use std::alloc::{AllocError, Global};
+use std::net::SocketAddr;
+use udp_peers::PeerPlace;
+
+/// Files that have room for a number of octets.
+#[derive(Drop)]
+pub struct SmallFiles {
+    room: usize,
+    failed: u64,
+}
+
+impl FileSeries for SmallFiles {
+    ghost use Rattle.std.specs.Prelude.{None};
+
+    ghost seen = { λ f. record { contents = None; failed = f.failed } };
+
+    fn append(&mut self, octets: &[u8]) -> Result<(), NotWritten> {
+        if octets.len() > self.room {
+            self.failed = self.failed.saturating_add(1);
+            return Err(NotWritten);
+        }
+        self.room -= octets.len();
+        Ok(())
+    }
+
+    fn turn(&mut self, _report: &FileReport) -> Result<(), NotWritten> {
+        Ok(())
+    }
+}
+
+impl RecordingFiles for SmallFiles {
+    ghost use Rattle.std.specs.Prelude.{⊤};
+
+    ghost finishes = { λ _ _ _. ⊤ };
+
+    fn finish(self, _last: &FileReport) -> Result<(), NotWritten> {
+        Ok(())
+    }
+}
+
+/// Gives each peer files with this room.
+#[derive(Clone, Copy)]
+pub struct SmallPlace {
+    pub room: usize,
+}
+
+impl PeerPlace<SmallFiles> for SmallPlace {
+    fn files(&mut self, _alloc: Global, _peer: SocketAddr) -> Result<SmallFiles, AllocError> {
+        Ok(SmallFiles {
+            room: self.room,
+            failed: 0,
+        })
+    }
+}
