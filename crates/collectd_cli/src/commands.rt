@@ -12,12 +12,12 @@ use crate::refused::{
 use clap::ArgMatches;
 use collectd::{
     DumpFault, Listening, Noted, Origin, Reason, Remembering, SystemFiles, Telling,
-    run_dump_in_full, run_dump_json_in_full, run_files_in_full, run_merge_in_full, run_tcp_in_full,
+    run_dump_json_under, run_dump_under, run_files_in_full, run_merge_in_full, run_tcp_in_full,
     write_dump_fault, write_not_had_because,
 };
 use exit_status::Status;
-use ipfix_session::FromReader;
-use std::io::Stderr;
+use ipfix_session::{FromReader, Source};
+use std::io::{Stderr, Write};
 use std::net::TcpListener;
 use std::rt::Clock;
 use std::sync::Wait;
@@ -31,28 +31,14 @@ pub fn dump(rt: &HostRuntime, chosen: &ArgMatches) -> Result<u8, Status> {
         let _ = write_dump_fault(DumpFault::OutOfMemory, &mut err);
         return Err(Status::Failed);
     };
-    let mut source = FromReader::new(&mut input);
     let telling = read_telling(chosen);
-    let status = match chosen.get_str("format").and_then(dump_format) {
-        Some(DumpFormat::Text) => run_dump_in_full(
-            rt.alloc(),
-            &mut source,
-            &Origin::Unknown,
-            telling,
-            &mut out,
-            &mut err,
-        ),
-        Some(DumpFormat::Json) => run_dump_json_in_full(
-            rt.alloc(),
-            &mut source,
-            &Origin::Unknown,
-            telling,
-            &mut out,
-            &mut err,
-        ),
-        // (the parser lets no other word through)
-        None => return Err(Status::NotOpened),
-    };
+    let status = dump_source(
+        rt,
+        chosen,
+        &mut FromReader::new(&mut input),
+        &mut out,
+        &mut err,
+    )?;
     write_refused(
         telling,
         "read",
@@ -62,6 +48,30 @@ pub fn dump(rt: &HostRuntime, chosen: &ArgMatches) -> Result<u8, Status> {
     );
     write_refused_output(telling, &out, &mut rt.stderr());
     Ok(status)
+}
+
+// Dumps a source as the words say it.
+fn dump_source<S: Source, W: Write>(
+    rt: &HostRuntime,
+    chosen: &ArgMatches,
+    source: &mut S,
+    out: &mut W,
+    err: &mut Remembering<Stderr>,
+) -> Result<u8, Status> {
+    let elements = chosen.get_strs("elements").unwrap_or(&[]);
+    let telling = read_telling(chosen);
+    let alloc = rt.alloc();
+    let origin = Origin::Unknown;
+    match chosen.get_str("format").and_then(dump_format) {
+        Some(DumpFormat::Text) => Ok(run_dump_under(
+            rt, alloc, elements, source, &origin, telling, out, err,
+        )),
+        Some(DumpFormat::Json) => Ok(run_dump_json_under(
+            rt, alloc, elements, source, &origin, telling, out, err,
+        )),
+        // (the parser lets no other word through)
+        None => Err(Status::NotOpened),
+    }
 }
 
 /// `collectd files`: the table of the sessions in files to standard output.

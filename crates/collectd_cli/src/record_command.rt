@@ -5,34 +5,94 @@ use crate::inputs::read_idle;
 use crate::refused::WITH_REASONS;
 use clap::ArgMatches;
 use collectd::{Reason, write_not_had, write_not_had_because};
-use collectd_record::{FolderFault, PeerFilter, Prefix, RecordOrder, open_recordings, run_record};
+use collectd_record::{FolderFault, PeerFilter, Prefix, RecordOrder, open_recordings};
 use exit_status::Status;
+use record_datagrams::{Entrances, PeerLimits, SystemSocket, run_recorder};
 use std::io::{Stderr, Write};
-use std::num::NonZeroU64;
+use std::net::TcpListener;
+use std::num::{NonZeroU64, NonZeroUsize};
 use std::rt::Clock;
 use std::sync::Wait;
 use std::thread::Threads;
 
-/// `collectd record`: what comes over connections to files in a folder, for ever.
+/// How many seconds a peer that sends datagrams may be silent, if no time is given.
+const IDLE: u64 = 1800;
+
+/// `collectd record`: what comes over connections and in datagrams to files in a folder, for ever.
 pub fn record<R: Clock + Threads + Wait + Sync>(
     threads: &R,
     rt: &HostRuntime,
     chosen: &ArgMatches,
 ) -> Result<u8, Status> {
     let mut err = rt.stderr();
-    let addr = chosen.get_str("listen").ok_or(Status::NotOpened)?;
     let path = chosen.get_str("into").ok_or(Status::NotOpened)?;
     let order = read_order(rt, chosen, &mut err)?;
-    let listener = listen_on(rt, addr, WITH_REASONS, &mut err)?;
+    let limits = read_limits(chosen).ok_or(Status::NotOpened)?;
+    let entrances = Entrances {
+        listener: read_listener(rt, chosen, &mut err)?,
+        socket: read_socket(rt, chosen, &mut err)?,
+    };
     match open_recordings(rt, rt.alloc(), path, err) {
-        Ok(folder) => {
-            Ok(run_record(threads, rt, rt.alloc(), listener, &folder, &order, err).number())
-        }
+        Ok(folder) => Ok(run_recorder(
+            threads,
+            rt,
+            rt.alloc(),
+            entrances,
+            &folder,
+            &order,
+            limits,
+            err,
+        )
+        .number()),
         Err(fault) => {
             tell_folder(path, &fault, &mut err);
             Err(Status::NotOpened)
         }
     }
+}
+
+// The listener for connections, if they are taken.
+fn read_listener(
+    rt: &HostRuntime,
+    chosen: &ArgMatches,
+    err: &mut Stderr,
+) -> Result<Option<TcpListener>, Status> {
+    match chosen.get_str("listen") {
+        Some(addr) => Ok(Some(listen_on(rt, addr, WITH_REASONS, err)?)),
+        None => Ok(None),
+    }
+}
+
+// The socket for datagrams, if they are taken. If it can't be had, `err` has a line.
+fn read_socket(
+    rt: &HostRuntime,
+    chosen: &ArgMatches,
+    err: &mut Stderr,
+) -> Result<Option<SystemSocket>, Status> {
+    let Some(addr) = chosen.get_str("udp") else {
+        return Ok(None);
+    };
+    match SystemSocket::bind(rt, addr) {
+        Ok(socket) => Ok(Some(socket)),
+        Err(error) => {
+            let reason = Reason::of(&error);
+            let _ = write_not_had_because(WITH_REASONS, "udp", addr, reason, err);
+            Err(Status::NotOpened)
+        }
+    }
+}
+
+// How many peers that send datagrams are kept, and how long each may be silent.
+fn read_limits(chosen: &ArgMatches) -> Option<PeerLimits> {
+    let most = chosen.get_one::<u32>("peers")?;
+    let idle = match chosen.get_one::<u32>("idle") {
+        Some(seconds) => u64::from(seconds),
+        None => IDLE,
+    };
+    Some(PeerLimits {
+        most: NonZeroUsize::new(most as usize)?,
+        idle,
+    })
 }
 
 // The line of a folder that can't be had.
@@ -75,7 +135,8 @@ fn read_filter(
                 return Err(Status::NotOpened);
             };
             if prefixes.push(prefix).is_err() {
-                return Err(Status::Failed);
+                let _ = writeln!(err, "error: out of memory");
+                return Err(Status::NotOpened);
             }
         }
     }

@@ -80,6 +80,21 @@ pub fn with_output<'a>(alloc: Global, command: Command<'a>) -> Result<Command<'a
     command.arg(format)?.arg(time)
 }
 
+/// The files of elements.
+pub fn with_element_files<'a>(
+    alloc: Global,
+    command: Command<'a>,
+) -> Result<Command<'a>, AllocError> {
+    let elements = option(
+        alloc,
+        "elements",
+        "FILE",
+        "A file of elements, with the columns of IANA's list; given several times, of all of them",
+    )
+    .action(ArgAction::Append);
+    command.arg(elements)
+}
+
 /// Where connections come from, how many, and how long each may be silent.
 pub fn with_connections<'a>(
     alloc: Global,

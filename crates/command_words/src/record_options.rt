@@ -4,8 +4,8 @@ use crate::options::option;
 use clap::{ArgAction, Command, value_parser};
 use std::alloc::{AllocError, Global};
 
-/// Where connections are recorded, where they come from and whose they may be, how long a file's period
-/// is, and how long each connection may be silent.
+/// Where sessions are recorded, where they come from and whose they may be, how long a file's period is,
+/// and how many there may be and for how long each may be silent.
 pub fn with_recording<'a>(alloc: Global, command: Command<'a>) -> Result<Command<'a>, AllocError> {
     let into = option(
         alloc,
@@ -13,11 +13,27 @@ pub fn with_recording<'a>(alloc: Global, command: Command<'a>) -> Result<Command
         "FOLDER",
         "The folder of the files, which is made if it isn't there",
     );
-    let listen = option(alloc, "listen", "ADDR", "The address and port to listen on");
-    let command = command
-        .arg(into.required(true))?
-        .arg(listen.required(true))?;
-    with_peers(alloc, with_limits(alloc, command)?)
+    let command = with_addresses(alloc, command.arg(into.required(true))?)?;
+    with_idle(alloc, with_peers(alloc, with_limits(alloc, command)?)?)
+}
+
+// Where connections and datagrams come from: at least one of both.
+fn with_addresses<'a>(alloc: Global, command: Command<'a>) -> Result<Command<'a>, AllocError> {
+    let listen = option(
+        alloc,
+        "listen",
+        "ADDR",
+        "The address and port to listen on for connections",
+    );
+    let udp = option(
+        alloc,
+        "udp",
+        "ADDR",
+        "The address and port to take datagrams at, beside connections or alone",
+    );
+    command
+        .arg(listen.required_unless_present("udp")?)?
+        .arg(udp.required_unless_present("listen")?)
 }
 
 fn with_limits<'a>(alloc: Global, command: Command<'a>) -> Result<Command<'a>, AllocError> {
@@ -37,14 +53,26 @@ fn with_limits<'a>(alloc: Global, command: Command<'a>) -> Result<Command<'a>, A
     )
     .default_value("64")
     .value_parser(value_parser!(u32).range(1..=64));
+    let peers = option(
+        alloc,
+        "peers",
+        "N",
+        "How many peers that send datagrams are kept at once, 1 to 65536; for one more the longest silent ends",
+    )
+    .default_value("1024")
+    .value_parser(value_parser!(u32).range(1..=65536));
+    command.arg(every)?.arg(sessions)?.arg(peers)
+}
+
+fn with_idle<'a>(alloc: Global, command: Command<'a>) -> Result<Command<'a>, AllocError> {
     let idle = option(
         alloc,
         "idle",
         "SECONDS",
-        "How long a connection may send nothing, from 1; then its session ends with fault 15",
+        "How long a peer may send nothing, from 1; by default 1800 over UDP, and no limit over a connection",
     )
     .value_parser(value_parser!(u32).range(1..));
-    command.arg(every)?.arg(sessions)?.arg(idle)
+    command.arg(idle)
 }
 
 fn with_peers<'a>(alloc: Global, command: Command<'a>) -> Result<Command<'a>, AllocError> {

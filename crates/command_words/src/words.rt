@@ -2,11 +2,12 @@
 
 use crate::format_words::DUMP_FORMATS;
 use crate::options::{
-    files, option, with_connections, with_options, with_output, with_plan, with_telling,
+    files, option, with_connections, with_element_files, with_options, with_output, with_plan,
+    with_telling,
 };
 use crate::record_options::with_recording;
 use crate::subcommands::Subcommand;
-use clap::{Arg, ArgAction, ArgMatches, Command, Error};
+use clap::{Arg, ArgMatches, Command, Error};
 use std::alloc::{AllocError, Global};
 
 /// The version, which `--version` prints and `CHANGELOG.md` describes.
@@ -53,7 +54,7 @@ fn with_dump<'a>(alloc: Global, command: Command<'a>) -> Result<Command<'a>, All
         .about("Reads IPFIX messages from standard input and writes a line for each data record")
         .after_help("Example:\n  collectd dump < flows.ipfix")
         .arg(format)?;
-    with_telling(alloc, dump)
+    with_telling(alloc, with_element_files(alloc, dump)?)
 }
 
 fn with_files<'a>(alloc: Global, command: Command<'a>) -> Result<Command<'a>, AllocError> {
@@ -84,12 +85,12 @@ fn with_tcp<'a>(alloc: Global, command: Command<'a>) -> Result<Command<'a>, Allo
 
 fn with_record<'a>(alloc: Global, command: Command<'a>) -> Result<Command<'a>, AllocError> {
     let record = command
-        .about("Records what connections send in files, one a session and period, and never ends")
+        .about("Records what exporters send in files, one a session and period, and never ends")
         .after_help(
             "A finished file is FOLDER/YYYY-MM-DD/HHMMSS/NAME, the beginning of its period in UTC, and can be\n\
              read by itself. Whatever stops the program, nothing is lost that was written: the next start\n\
              finishes what this one left.\n\n\
-             Example:\n  collectd record --into recordings --listen 0.0.0.0:4739 --from 192.0.2.0/24",
+             Example:\n  collectd record --into recordings --listen 0.0.0.0:4739 --udp 0.0.0.0:4739",
         );
     with_recording(alloc, record)
 }
@@ -106,25 +107,17 @@ fn with_merge<'a>(alloc: Global, command: Command<'a>) -> Result<Command<'a>, Al
 }
 
 fn with_elements<'a>(alloc: Global, command: Command<'a>) -> Result<Command<'a>, AllocError> {
-    let elements = option(
-        alloc,
-        "elements",
-        "FILE",
-        "A file of elements, with the columns of IANA's list; given several times, of all of them",
-    )
-    .action(ArgAction::Append);
     let word = Arg::new(alloc, "word").value_name("WORD").help(
         "The number of an element, or e<enterprise>.<number>, or a part of its name, in any letter case",
     );
-    command
+    let elements = command
         .about(
             "Lists the elements that are known, or those that a word fits: number, type and name",
         )
         .after_help(
             "Example:\n  collectd elements --elements /usr/share/collectd/elements/iana.csv port",
-        )
-        .arg(elements)?
-        .arg(word)
+        );
+    with_element_files(alloc, elements)?.arg(word)
 }
 
 fn with_explain<'a>(alloc: Global, command: Command<'a>) -> Result<Command<'a>, AllocError> {

@@ -1,5 +1,6 @@
 //! What is told of sessions in full, of what was opened and of what was not had, and which runs are spotless.
 
+use element_registry::Elements;
 use flow_table::{Missing, Tally};
 use ipfix_dump::{Line, dump_in_full_by};
 use ipfix_session::{FromReader, FullReport};
@@ -30,7 +31,9 @@ const STRICT: Telling = Telling {
 fn report_of(alloc: Global, text: &[u8]) -> Result<FullReport, Fail> {
     let mut source = FromReader::new(text);
     let mut out = Vec::new(alloc);
-    Ok(dump_in_full_by(alloc, &mut Line::new(alloc), &mut source, &mut out)?)
+    let elements = Elements::built_in(alloc);
+    let mut line = Line::new(alloc, &elements);
+    Ok(dump_in_full_by(alloc, &mut line, &mut source, &mut out)?)
 }
 
 // Two sessions. In the first a data set comes before its template, and the third message is cut.
