@@ -1,6 +1,5 @@
 -- The lines that tell of recordings.
-use Rattle.std.specs.Prelude.{ℕ, List, [], ◌++◌, codes, decimal, ◌==◌, ◌&&◌, if◌then◌else◌, Option, Some, None}
-use Rattle.std.specs.List.{flat_map}
+use Rattle.std.specs.Prelude.{ℕ, List, [], ◌++◌, codes, decimal, ◌==◌, ◌&&◌, if◌then◌else◌}
 use Rattle.std.specs.Net.Text.{socket_text}
 use Rattle.std.specs.declared.net.socket_addr.SocketAddr.{SocketAddr}
 use Rattle.ipfix_session.specs.declared.report.DomainReport.{DomainReport}
@@ -62,6 +61,11 @@ refused_datagrams_line peer count number name =
 -- a peer that was ended, and why
 unfoldable pub peer_ended_line : List ℕ → List ℕ → List ℕ
 peer_ended_line peer why = codes "collectd: session " ++ (peer ++ (codes ": ended: " ++ (why ++ codes "\n")))
+
+-- how far the sequence number of a domain advanced, and the data records that came
+unfoldable pub advance_line : List ℕ → ℕ → ℕ → ℕ → List ℕ
+advance_line peer domain advance records =
+    codes "collectd: session " ++ (peer ++ (codes ": domain " ++ (decimal domain ++ (codes ": sequence numbers advanced by " ++ (decimal advance ++ (codes ", records " ++ (decimal records ++ codes "\n")))))))
 
 -- datagrams of peers that have no session
 unfoldable pub turned_away_line : ℕ → List ℕ → List ℕ

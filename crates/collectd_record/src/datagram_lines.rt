@@ -3,7 +3,7 @@
 ghost use Rattle.std.specs.Prelude.{OnOk};
 ghost use Rattle.std.specs.Net.Text.{socket_text};
 ghost use Rattle.std.specs.Io.KnownBytes.{Appends};
-ghost use Rattle.collectd_record.specs.RecordLines.{not_received_line, peer_ended_line, refused_datagrams_line, turned_away_line};
+ghost use Rattle.collectd_record.specs.RecordLines.{advance_line, not_received_line, peer_ended_line, refused_datagrams_line, turned_away_line};
 
 use std::io::{self, Write};
 use std::net::SocketAddr;
@@ -33,6 +33,24 @@ pub fn write_peer_ended<W: Write>(peer: SocketAddr, why: &str, out: &mut W) -> i
         (peer_ended_line (socket_text peer) why.now)) }
 {
     writeln!(out, "collectd: session {peer}: ended: {why}")
+}
+
+/// Writes how far the sequence number of a domain advanced, and how many data records came.
+#[tactic(auto, unfolding(crate::specs::RecordLines::advance_line))]
+pub fn write_advance<W: Write>(
+    peer: SocketAddr,
+    domain: u32,
+    advance: u64,
+    records: u64,
+    out: &mut W,
+) -> io::Result<()>
+    ensures { OnOk result (Appends (W.contents out.old) (W.contents out.new)
+        (advance_line (socket_text peer) domain advance records)) }
+{
+    writeln!(
+        out,
+        "collectd: session {peer}: domain {domain}: sequence numbers advanced by {advance}, records {records}"
+    )
 }
 
 /// Writes how many datagrams of peers that have no session were refused, and which peer sent the last.

@@ -3,10 +3,10 @@
 ghost use Rattle.std.specs.Prelude.{OnOk};
 ghost use Rattle.std.specs.Net.Text.{socket_text};
 ghost use Rattle.std.specs.Io.KnownBytes.{Appends};
-ghost use Rattle.collectd_record.specs.RecordLines.{not_received_line, peer_ended_line, refused_datagrams_line, turned_away_line};
+ghost use Rattle.collectd_record.specs.RecordLines.{advance_line, not_received_line, peer_ended_line, refused_datagrams_line, turned_away_line};
 
 use crate::datagram_lines::{
-    write_not_received, write_peer_ended, write_refused_datagrams, write_turned_away,
+    write_advance, write_not_received, write_peer_ended, write_refused_datagrams, write_turned_away,
 };
 use crate::log::Log;
 use std::io::{self, Write};
@@ -36,6 +36,22 @@ impl<E: Write + Drop> Log<E> {
     {
         self.line.clear();
         write_peer_ended(peer, why, &mut self.line)?;
+        self.out.write_all(self.line.as_slice())
+    }
+
+    /// Tells how far the sequence number of a peer's domain advanced, and how many data records came.
+    pub fn tell_advance(
+        &mut self,
+        peer: SocketAddr,
+        domain: u32,
+        advance: u64,
+        records: u64,
+    ) -> io::Result<()>
+        ensures { OnOk result (Appends (E.contents self.old) (E.contents self.new)
+            (advance_line (socket_text peer) domain advance records)) }
+    {
+        self.line.clear();
+        write_advance(peer, domain, advance, records, &mut self.line)?;
         self.out.write_all(self.line.as_slice())
     }
 

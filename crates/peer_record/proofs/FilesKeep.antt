@@ -11,13 +11,12 @@ use Rattle.ipfix_session.specs.Given.{records_in, records_of, stop_of, octets_of
 use Rattle.ipfix_session.proofs.Giving.{records_of-prefix}
 use Rattle.ipfix_record.specs.declared.record_fault.RecordFault.{RecordFault}
 use Rattle.ipfix_record.specs.Recordings.{Part}
-use Rattle.ipfix_record.specs.Recorders.{Told}
 use Rattle.ipfix_record.specs.Faithful.{IsReadAlone, all_given}
 use Rattle.ipfix_record.specs.Files.{Contents, FilesView, all_of}
 use Rattle.ipfix_record.specs.Sessions.{file_octets}
 use Rattle.ipfix_record.proofs.FilesGive.{kept, all_records, contents_are}
 use Rattle.peer_record.specs.Peers.{Taken, AreTaken, PeerFile, records_over_udp, givens}
-use Rattle.peer_record.specs.Recording.{Holds, IsCutOff, StopsAt, HasStopped, KeepsWhole, all_taken, finished_now, part_of}
+use Rattle.peer_record.specs.Recording.{Holds, IsCutOff, StopsAt, HasStopped, KeepsWhole, PeerTold, all_taken, finished_now, part_of}
 use Rattle.peer_record.proofs.PeerFiles.{files-push, flat_given}
 use Rattle.peer_record.proofs.Taking.{all_taken-now}
 use Rattle.peer_record.proofs.FilesGive.{read_alone, files_give}
@@ -88,14 +87,14 @@ keeps_cut first after start now finished here m k is none there =
       at_most = (whole.1.0, ap records_over_udp (sym behind) ∙ ap records_in (sym given) ∙ whole.1.1 ∙ ap (λ (ws : List (List ℕ)). flat_map records_of ws ++ whole.1.0) (sym are));
     }
 
-keeps_at : (first after : FilesView) (start now : Contents) (c : Told) (finished : List (List Taken)) (here : List Taken) (m : List ℕ) → StopsAt first after c finished here m → first.contents ≡ Some start → start.finished ≡ [] → after.contents ≡ Some now
+keeps_at : (first after : FilesView) (start now : Contents) (c : PeerTold) (finished : List (List Taken)) (here : List Taken) (m : List ℕ) → StopsAt first after c finished here m → first.contents ≡ Some start → start.finished ≡ [] → after.contents ≡ Some now
     → KeepsWhole (all_taken finished here) m (all_of now)
 keeps_at first after start now c finished here m s is none there = elim s.there [
   | inl h ↦ keeps_all first after start now finished here m h is none there
   | inr k ↦ keeps_cut first after start now finished here m k is none there
 ]
 
-pub keeps_whole : (fault : RecordFault) (first after : FilesView) (start now : Contents) (c : Told) (finished : List (List Taken)) (here : List Taken) (m : List ℕ) → HasStopped fault first after c finished here m → first.contents ≡ Some start → start.finished ≡ [] → after.contents ≡ Some now
+pub keeps_whole : (fault : RecordFault) (first after : FilesView) (start now : Contents) (c : PeerTold) (finished : List (List Taken)) (here : List Taken) (m : List ℕ) → HasStopped fault first after c finished here m → first.contents ≡ Some start → start.finished ≡ [] → after.contents ≡ Some now
     → KeepsWhole (all_taken finished here) m (all_of now)
 keeps_whole fault first after start now c finished here m h is none there = elim h.stops [
   | inl s ↦ keeps_at first after start now c finished here m s is none there

@@ -4,3 +4,4 @@ pub mod Taking
 pub mod Stopping
 pub mod FilesGive
 pub mod FilesKeep
+pub mod Adding

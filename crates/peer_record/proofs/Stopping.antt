@@ -13,12 +13,12 @@ use Rattle.ipfix_record.specs.declared.file_report.FileReport.{FileReport}
 use Rattle.ipfix_record.specs.declared.message_count.MessageCount.{MessageCount}
 use Rattle.ipfix_record.specs.Files.{Contents, FilesView, with_more, with_next, failing}
 use Rattle.ipfix_record.specs.Sessions.{Stands}
-use Rattle.ipfix_record.specs.Recorders.{Told, Records}
+use Rattle.ipfix_record.specs.Recorders.{Records}
 use Rattle.ipfix_record.proofs.Going.{stands_cut}
 use Rattle.ipfix_datagrams.specs.Datagrams.{IsTaken}
 use Rattle.ipfix_datagrams.proofs.Readings.{only_memory}
 use Rattle.peer_record.specs.Peers.{Taken, givens, all_before, PeerFile}
-use Rattle.peer_record.specs.Recording.{PeerView, part_of, all_taken, Holds, Counts, IsPeer, finished_now, HasStopped}
+use Rattle.peer_record.specs.Recording.{PeerTold, PeerView, part_of, all_taken, Holds, Counts, IsPeer, finished_now, HasStopped}
 use Rattle.peer_record.specs.Ready.{IsReady}
 use Rattle.peer_record.proofs.Taking.{holds_turned, taken_as, read_so, file_with, octets_with, taken_with}
 
@@ -37,12 +37,12 @@ holds_same first v after finished here h is = record {
 }
 
 -- a call to finish the file failed
-pub stops_turning : (first v after : FilesView) (s : PeerView) (finished : List (List Taken)) (here : List Taken) (report : FileReport) (c : Told) → IsPeer first v s finished here → here ≢ [] → report ≡ s.told.file → c ≡ s.told
+pub stops_turning : (first v after : FilesView) (s : PeerView) (finished : List (List Taken)) (here : List Taken) (report : FileReport) (c : PeerTold) → IsPeer first v s finished here → here ≢ [] → report ≡ s.told.counts.file → c ≡ s.told
     → (after ≡ failing v) ⊎ (after ≡ failing (with_next v report)) → (m : List ℕ) → HasStopped NotWritten first after c finished here m
 stops_turning first v after s finished here report c p some reported told (inl is) m =
     record {
       fails = ap (λ (u : FilesView). u.failed) is ∙ ap one_more p.not_failed;
-      stops = inl (record { there = inl (holds_same first v after finished here p.holds (ap (λ (u : FilesView). u.contents) is)); counted = subst (λ (k : Told). Counts k finished here) (sym told) p.counted });
+      stops = inl (record { there = inl (holds_same first v after finished here p.holds (ap (λ (u : FilesView). u.contents) is)); counted = subst (λ (k : PeerTold). Counts k finished here) (sym told) p.counted });
     }
 stops_turning first v after s finished [] report c p some reported told (inr is) m = absurd (some refl)
 stops_turning first v after s finished (x ∷ xs) report c p some reported told (inr is) m =
@@ -50,23 +50,23 @@ stops_turning first v after s finished (x ∷ xs) report c p some reported told 
       fails = ap (λ (u : FilesView). u.failed) is ∙ ap one_more p.not_failed;
       stops = inr (inr (record {
         holds = holds_turned first v after finished (x ∷ xs) s.told p.holds p.counted some (ap (λ (u : FilesView). u.contents) is ∙ ap (λ (r : FileReport). (with_next v r).contents) reported);
-        counted = subst (λ (k : Told). Counts k finished (x ∷ xs)) (sym told) p.counted;
+        counted = subst (λ (k : PeerTold). Counts k finished (x ∷ xs)) (sym told) p.counted;
       }));
     }
 
 -- memory ran out, and nothing was written
-pub stops_out : (fault : MessageFault) (first v : FilesView) (s : PeerView) (finished : List (List Taken)) (here : List Taken) (c : Told) (m : List ℕ) → fault ≡ OutOfMemory → Holds first v finished here [] → v.failed ≡ first.failed → Counts s.told finished here → c ≡ s.told
+pub stops_out : (fault : MessageFault) (first v : FilesView) (s : PeerView) (finished : List (List Taken)) (here : List Taken) (c : PeerTold) (m : List ℕ) → fault ≡ OutOfMemory → Holds first v finished here [] → v.failed ≡ first.failed → Counts s.told finished here → c ≡ s.told
     → HasStopped (OfMessage fault) first v c finished here m
 stops_out fault first v s finished here c m memory holds same counted told = record {
   fails = (ap (λ (f : MessageFault). of_message f) memory, same);
-  stops = inl (record { there = inl holds; counted = subst (λ (k : Told). Counts k finished here) (sym told) counted });
+  stops = inl (record { there = inl holds; counted = subst (λ (k : PeerTold). Counts k finished here) (sym told) counted });
 }
   where
     of_message : MessageFault → RecordFault
     of_message f = OfMessage f
 
 -- a call to write failed
-pub stops_cut : (first v after : FilesView) (s t : PeerView) (finished : List (List Taken)) (here : List Taken) (ids m octets front : List ℕ) (count : MessageCount) (c : Told) (x : Message) (r : IsReady first v s finished here x.header ids)
+pub stops_cut : (first v after : FilesView) (s t : PeerView) (finished : List (List Taken)) (here : List Taken) (ids m octets front : List ℕ) (count : MessageCount) (c : PeerTold) (x : Message) (r : IsReady first v s finished here x.header ids)
     → IsTaken (known_after [] (givens (all_taken finished here))) m ids x → (k : Records (all_before r.holds.files ++ r.freed.given) (givens here) t.recorder m octets count)
     → IsPrefix front octets → after ≡ failing (with_more v front) → c ≡ s.told → HasStopped NotWritten first after c finished here m
 stops_cut first v after s t finished here ids m octets front count c x r taken k p is told =
@@ -96,7 +96,7 @@ stops_cut first v after s t finished here ids m octets front count c x r taken k
           whole = file_with first v s t finished here ids m octets count x r taken k;
           front = (p.0, octets_with r.holds.file k.lead m octets k.octets_are ∙ ap (λ (w : List ℕ). octets_of r.holds.file ++ w) p.1 ∙ sym (append_assoc (octets_of r.holds.file) front p.0));
         });
-        counted = subst (λ (w : Told). Counts w finished here) (sym told) r.counted;
+        counted = subst (λ (w : PeerTold). Counts w finished here) (sym told) r.counted;
       });
     }
 
@@ -107,7 +107,7 @@ only_out first v s finished here ids m x fault r taken fails =
     only_memory fault (message_gives (known_after [] ((all_before r.holds.files ++ r.freed.given) ++ givens here)) m) x fails (ap (λ ds. message_gives ds m) r.known ∙ taken.read)
 
 -- a file was finished before
-pub stops_behind : (fault : RecordFault) (first after : FilesView) (c : Told) (finished : List (List Taken)) (here : List Taken) (m : List ℕ) → HasStopped fault first after c (finished_now finished here) [] m → HasStopped fault first after c finished here m
+pub stops_behind : (fault : RecordFault) (first after : FilesView) (c : PeerTold) (finished : List (List Taken)) (here : List Taken) (m : List ℕ) → HasStopped fault first after c (finished_now finished here) [] m → HasStopped fault first after c finished here m
 stops_behind fault first after c finished here m h = record {
   fails = h.fails;
   stops = elim h.stops [

@@ -17,7 +17,7 @@ use Rattle.ipfix_record.specs.FileReports.{file_report}
 use Rattle.ipfix_record.specs.Faithful.{all_given}
 use Rattle.ipfix_record.specs.Files.{FilesView, IsEmpty, with_more, with_next}
 use Rattle.ipfix_record.specs.Recordings.{Part, Writes}
-use Rattle.ipfix_record.specs.Recorders.{Keeps, Told, Counted, Records}
+use Rattle.ipfix_record.specs.Recorders.{Keeps, Counted, Records}
 use Rattle.ipfix_record.specs.Sessions.{Stands}
 use Rattle.ipfix_record.proofs.Gatherings.{octets-append, octets-push}
 use Rattle.ipfix_record.proofs.Growing.{writes_more}
@@ -27,15 +27,16 @@ use Rattle.ipfix_datagrams.proofs.Answered.{freed_knows}
 use Rattle.ipfix_datagrams.specs.Withdrawals.{withdrawal_message}
 use Rattle.ipfix_datagrams.proofs.Readings.{header_same}
 use Rattle.peer_record.specs.Peers.{Taken, AreTaken, PeerFile, datagrams, givens, all_before, freeing_header, Frees, IsFile}
-use Rattle.peer_record.specs.Recording.{PeerView, part_of, all_taken, HasDatagram, Holds, Counts, IsPeer, finished_now, finished_before, here_before}
+use Rattle.peer_record.specs.Recording.{PeerTold, PeerView, part_of, all_taken, HasDatagram, Holds, Counts, IsPeer, finished_now, finished_before, here_before}
 use Rattle.peer_record.specs.Freeing.{BeginsFreed}
+use Rattle.sequence_advance.specs.Reaches.{reaches_of}
 use Rattle.peer_record.specs.Ready.{IsReady}
 use Rattle.peer_record.proofs.PeerFiles.{givens-append, datagrams-append, taken-push, all_taken-push, all_taken-turned, givens-turned, frees_none, files-push, all_before-push, given_is}
 
 -- ---- the first file
 
-pub peer_first : (v : FilesView) (s : PeerView) → IsEmpty v.contents → s.ended ≡ None → Keeps s.recorder [] [] → Counted s.told [] [] → IsPeer v v s [] []
-peer_first v s empty on keeps counted = record {
+pub peer_first : (v : FilesView) (s : PeerView) → IsEmpty v.contents → s.ended ≡ None → Keeps s.recorder [] [] → Counted s.told.counts [] [] → s.told.advances ≡ [] → IsPeer v v s [] []
+peer_first v s empty on keeps counted none = record {
   holds = record {
     taken = tt;
     files = [];
@@ -49,7 +50,7 @@ peer_first v s empty on keeps counted = record {
   };
   not_failed = refl;
   goes_on = on;
-  counted = counted;
+  counted = record { counted = counted; noted = none };
   keeps = keeps;
   known = refl;
 }
@@ -70,12 +71,12 @@ before_turned first v finished here h =
     append-nil (all_before (files_now first v finished here h)) ∙ all_before-push h.files (file_now first v finished here h) ∙ sym (append_assoc (all_before h.files) h.freed.given (givens here))
 
 -- what is counted of the file is what is to be told of it
-pub reported : (first v : FilesView) (finished : List (List Taken)) (here : List Taken) (c : Told) (h : Holds first v finished here []) → Counts c finished here → c.file ≡ file_report (all_given (map part_of h.files)) (givens here)
+pub reported : (first v : FilesView) (finished : List (List Taken)) (here : List Taken) (c : PeerTold) (h : Holds first v finished here []) → Counts c finished here → c.counts.file ≡ file_report (all_given (map part_of h.files)) (givens here)
 reported first v finished here c h counted =
-    counted.file ∙ ap (λ (ms : List Message). file_report ms (givens here)) (sym (given_is h.files ∙ ap (λ (tss : List (List Taken)). givens (flat_map (λ (ts : List Taken). ts) tss)) h.are))
+    counted.counted.file ∙ ap (λ (ms : List Message). file_report ms (givens here)) (sym (given_is h.files ∙ ap (λ (tss : List (List Taken)). givens (flat_map (λ (ts : List Taken). ts) tss)) h.are))
 
 -- it is finished
-pub holds_turned : (first v after : FilesView) (finished : List (List Taken)) (here : List Taken) (c : Told) → Holds first v finished here [] → Counts c finished here → here ≢ [] → after.contents ≡ (with_next v c.file).contents
+pub holds_turned : (first v after : FilesView) (finished : List (List Taken)) (here : List Taken) (c : PeerTold) → Holds first v finished here [] → Counts c finished here → here ≢ [] → after.contents ≡ (with_next v c.counts.file).contents
     → Holds first after (finished ++ here ∷ []) [] []
 holds_turned first v after finished here c h counted some is = record {
   taken = subst (AreTaken []) (sym (all_taken-turned finished here)) h.taken;
@@ -87,32 +88,35 @@ holds_turned first v after finished here c h counted some is = record {
   file = [];
   last = record { frees = refl; freed = refl; writes = refl };
   stands = subst (λ (ps : List Part). Stands first.contents after.contents ps empty_part []) (sym (map-append part_of h.files (file_now first v finished here h ∷ [])))
-      (stands_turned first.contents v.contents after.contents (map part_of h.files) (part_of (file_now first v finished here h)) c.file is (reported first v finished here c h counted) h.stands);
+      (stands_turned first.contents v.contents after.contents (map part_of h.files) (part_of (file_now first v finished here h)) c.counts.file is (reported first v finished here c h counted) h.stands);
 }
 
-counts_turned : (c : Told) (finished : List (List Taken)) (here : List Taken) → Counted c (givens (flat_map (λ (ts : List Taken). ts) finished) ++ givens here) [] → Counts c (finished ++ here ∷ []) []
-counts_turned c finished here counted = subst (λ (ms : List Message). Counted c ms []) (sym (givens-turned finished here)) counted
+counts_turned : (c : PeerTold) (finished : List (List Taken)) (here : List Taken) → Counted c.counts (givens (flat_map (λ (ts : List Taken). ts) finished) ++ givens here) [] → c.advances ≡ reaches_of (givens (all_taken finished here)) → Counts c (finished ++ here ∷ []) []
+counts_turned c finished here counted noted = record {
+  counted = subst (λ (ms : List Message). Counted c.counts ms []) (sym (givens-turned finished here)) counted;
+  noted = noted ∙ ap (λ (ts : List Taken). reaches_of (givens ts)) (sym (all_taken-turned finished here));
+}
 
-turned : (first v after : FilesView) (s t : PeerView) (finished : List (List Taken)) (here : List Taken) (p : IsPeer first v s finished here) → here ≢ [] → after ≡ with_next v s.told.file
-    → Keeps t.recorder ((all_before p.holds.files ++ p.holds.freed.given) ++ givens here) [] → Counted t.told (givens (flat_map (λ (ts : List Taken). ts) finished) ++ givens here) [] → t.ended ≡ None
+turned : (first v after : FilesView) (s t : PeerView) (finished : List (List Taken)) (here : List Taken) (p : IsPeer first v s finished here) → here ≢ [] → after ≡ with_next v s.told.counts.file
+    → Keeps t.recorder ((all_before p.holds.files ++ p.holds.freed.given) ++ givens here) [] → Counted t.told.counts (givens (flat_map (λ (ts : List Taken). ts) finished) ++ givens here) [] → t.told.advances ≡ s.told.advances → t.ended ≡ None
     → IsPeer first after t (finished ++ here ∷ []) []
 unfolding holds_turned
-turned first v after s t finished here p some is keeps counted on =
+turned first v after s t finished here p some is keeps counted same on =
     let before = before_turned first v finished here p.holds in
     record {
       holds = holds_turned first v after finished here s.told p.holds p.counted some (ap (λ (u : FilesView). u.contents) is);
       not_failed = ap (λ (u : FilesView). u.failed) is ∙ p.not_failed;
       goes_on = on;
-      counted = counts_turned t.told finished here counted;
+      counted = counts_turned t.told finished here counted (same ∙ p.counted.noted);
       keeps = subst (λ (ms : List Message). Keeps t.recorder ms []) (sym before) keeps;
       known = ap (known_after []) (append-nil (all_before (files_now first v finished here p.holds) ++ []) ∙ before) ∙ p.known ∙ ap (λ (ts : List Taken). known_after [] (givens ts)) (sym (all_taken-turned finished here));
     }
 
-pub peer_turned : (first v after : FilesView) (s t : PeerView) (finished : List (List Taken)) (here : List Taken) (p : IsPeer first v s finished here) → here ≢ [] → after ≡ with_next v s.told.file
-    → Keeps t.recorder ((all_before p.holds.files ++ p.holds.freed.given) ++ givens here) [] → Counted t.told (givens (flat_map (λ (ts : List Taken). ts) finished) ++ givens here) [] → t.ended ≡ None
+pub peer_turned : (first v after : FilesView) (s t : PeerView) (finished : List (List Taken)) (here : List Taken) (p : IsPeer first v s finished here) → here ≢ [] → after ≡ with_next v s.told.counts.file
+    → Keeps t.recorder ((all_before p.holds.files ++ p.holds.freed.given) ++ givens here) [] → Counted t.told.counts (givens (flat_map (λ (ts : List Taken). ts) finished) ++ givens here) [] → t.told.advances ≡ s.told.advances → t.ended ≡ None
     → IsPeer first after t (finished_now finished here) []
-peer_turned first v after s t finished [] p some is keeps counted on = absurd (some refl)
-peer_turned first v after s t finished (x ∷ xs) p some is keeps counted on = turned first v after s t finished (x ∷ xs) p some is keeps counted on
+peer_turned first v after s t finished [] p some is keeps counted same on = absurd (some refl)
+peer_turned first v after s t finished (x ∷ xs) p some is keeps counted same on = turned first v after s t finished (x ∷ xs) p some is keeps counted same on
 
 no_given : (ts : List Taken) → givens ts ≡ [] → ts ≡ []
 no_given [] none = refl
@@ -174,7 +178,7 @@ ready_freed first v s t finished h ids p f told ended =
       holds = p.holds;
       not_failed = p.not_failed;
       goes_on = ended ∙ p.goes_on;
-      counted = subst (λ (c : Told). Counts c finished []) (sym told) p.counted;
+      counted = subst (λ (c : PeerTold). Counts c finished []) (sym told) p.counted;
       freed = f.are.part;
       frees = λ x same is. first_frees before h ids f.are.part.messages x f.are.messages same is;
       freed_writes = f.are.writes;
@@ -223,9 +227,10 @@ taken_with first v s finished here ids m x y r taken same =
 
 pub peer_with : (first v after : FilesView) (s t : PeerView) (finished : List (List Taken)) (here : List Taken) (ids m octets : List ℕ) (c : MessageCount) (x : Message) (r : IsReady first v s finished here x.header ids)
     → IsTaken (known_after [] (givens (all_taken finished here))) m ids x → (k : Records (all_before r.holds.files ++ r.freed.given) (givens here) t.recorder m octets c)
-    → after ≡ with_more v octets → Counted t.told (givens (flat_map (λ (ts : List Taken). ts) finished)) (givens here ++ k.given ∷ []) → t.ended ≡ None
+    → after ≡ with_more v octets → Counted t.told.counts (givens (flat_map (λ (ts : List Taken). ts) finished)) (givens here ++ k.given ∷ [])
+    → t.told.advances ≡ reaches_of (givens (all_taken finished here) ++ k.given ∷ []) → t.ended ≡ None
     → IsPeer first after t finished (here ++ taken_as m ids k.given ∷ [])
-peer_with first v after s t finished here ids m octets c x r taken k is counted on =
+peer_with first v after s t finished here ids m octets c x r taken k is counted noted on =
     let before = all_before r.holds.files ++ r.freed.given in
     let u = taken_as m ids k.given in
     let same = read_so first v s finished here ids m x k.given r taken k.read in
@@ -248,7 +253,10 @@ peer_with first v after s t finished here ids m octets c x r taken k is counted 
       };
       not_failed = ap (λ (w : FilesView). w.failed) is ∙ r.not_failed;
       goes_on = on;
-      counted = subst (λ (ms : List Message). Counted t.told (givens (flat_map (λ (ts : List Taken). ts) finished)) ms) (sym more) counted;
+      counted = record {
+        counted = subst (λ (ms : List Message). Counted t.told.counts (givens (flat_map (λ (ts : List Taken). ts) finished)) ms) (sym more) counted;
+        noted = noted ∙ ap reaches_of (sym all);
+      };
       keeps = subst (λ (ms : List Message). Keeps t.recorder before ms) (sym more) k.keeps;
       known = ap (λ (ms : List Message). known_after [] (before ++ ms)) more ∙ ap (known_after []) (sym (append_assoc before (givens here) (k.given ∷ []))) ∙ known_after-push [] (before ++ givens here) k.given
           ∙ sym (ap (known_after []) all ∙ known_after-push [] (givens (all_taken finished here)) k.given);

@@ -8,16 +8,25 @@ use Rattle.ipfix_record.specs.declared.record_fault.RecordFault.TheVariants.{Mes
 use Rattle.ipfix_record.specs.Recordings.{Part}
 use Rattle.ipfix_record.specs.Recorders.{State, Keeps, Told, Counted}
 use Rattle.ipfix_record.specs.Files.{FilesView}
-use Rattle.ipfix_record.specs.Sessions.{Stands}
+use Rattle.ipfix_record.specs.Sessions.{Stands, IsTold}
+use Rattle.sequence_advance.specs.declared.reach.Reach.{Reach}
+use Rattle.sequence_advance.specs.Reaches.{reaches_of, told_of}
+use Rattle.sequence_advance.specs.Advances.{advances_of}
 use Rattle.ipfix_datagrams.specs.Datagrams.{IsRefused}
 use Rattle.peer_record.specs.declared.peer_answer.PeerAnswer.{PeerAnswer}
 use Rattle.peer_record.specs.declared.peer_answer.PeerAnswer.TheVariants.{Recorded, Refused}
+use Rattle.peer_record.specs.declared.peer_session.PeerSession.{PeerSession}
 use Rattle.peer_record.specs.Peers.{Taken, AreTaken, PeerFile, datagrams, givens, records_over_udp, all_before, IsFile, AreFiles}
+
+-- the counts, and how far the sequence numbers of each domain reach
+pub record PeerTold : Type 0 where
+  pub counts : Told
+  pub advances : List (ℕ × Reach)
 
 -- what contracts see of a recorder: what it keeps, what it counted, and why it ended, if it has
 pub record PeerView : Type 0 where
   pub recorder : State
-  pub told : Told
+  pub told : PeerTold
   pub ended : Option RecordFault
 
 -- ---- the files of a peer
@@ -48,8 +57,11 @@ pub record Holds (first after : FilesView) (finished : List (List Taken)) (here 
   pub last : IsFile (all_before files) (record { freed = freed; taken = here; file = file })
   pub stands : Stands first.contents after.contents (map part_of files) (part_of (record { freed = freed; taken = here; file = file })) cut_off
 
-abbrev pub Counts : Told → List (List Taken) → List Taken → Type 0
-Counts c finished here = Counted c (givens (flat_map (λ ts. ts) finished)) (givens here)
+-- the datagrams of finished files are counted, and those of the file that isn't finished; and of all of them it is noted how far
+-- they reach
+pub record Counts (c : PeerTold) (finished : List (List Taken)) (here : List Taken) : Type 0 where
+  pub counted : Counted c.counts (givens (flat_map (λ ts. ts) finished)) (givens here)
+  pub noted : c.advances ≡ reaches_of (givens (all_taken finished here))
 
 -- the recorder stands for them
 pub record IsPeer (first after : FilesView) (s : PeerView) (finished : List (List Taken)) (here : List Taken) : Type 0 where
@@ -90,12 +102,12 @@ pub record IsCutOff (first after : FilesView) (finished : List (List Taken)) (he
   pub front : IsPrefix (octets_of holds.file ++ cut_off) (octets_of file)
 
 -- the files have these datagrams, and at most some octets of the next, and they are counted
-pub record StopsAt (first after : FilesView) (c : Told) (finished : List (List Taken)) (here : List Taken) (m : List ℕ) : Type 0 where
+pub record StopsAt (first after : FilesView) (c : PeerTold) (finished : List (List Taken)) (here : List Taken) (m : List ℕ) : Type 0 where
   pub there : Holds first after finished here [] ⊎ IsCutOff first after finished here m
   pub counted : Counts c finished here
 
 -- a file was finished, but the answer was that it wasn't: its datagrams are told as those of the file that isn't finished
-pub record TurnedUnknown (first after : FilesView) (c : Told) (finished : List (List Taken)) (here : List Taken) : Type 0 where
+pub record TurnedUnknown (first after : FilesView) (c : PeerTold) (finished : List (List Taken)) (here : List Taken) : Type 0 where
   pub holds : Holds first after (finished_now finished here) [] []
   pub counted : Counts c finished here
 
@@ -105,7 +117,7 @@ FailsBy NotWritten before after = after ≡ one_more before
 FailsBy fault before after = (fault ≡ OfMessage OutOfMemory) × (after ≡ before)
 
 -- it ended with a fault, in this file, or behind it before the next has a datagram
-pub record HasStopped (fault : RecordFault) (first after : FilesView) (c : Told) (finished : List (List Taken)) (here : List Taken) (m : List ℕ) : Type 0 where
+pub record HasStopped (fault : RecordFault) (first after : FilesView) (c : PeerTold) (finished : List (List Taken)) (here : List Taken) (m : List ℕ) : Type 0 where
   pub fails : FailsBy fault first.failed after.failed
   pub stops : StopsAt first after c finished here m ⊎ (StopsAt first after c (finished_now finished here) [] m ⊎ TurnedUnknown first after c finished here)
 
@@ -131,3 +143,12 @@ Answers (Err fault) m first before after s t finished here = (t.ended ≡ Some f
 abbrev pub answer_of : Option RecordFault → Result (Unit {0}) RecordFault
 answer_of None = Ok tt
 answer_of (Some fault) = Err fault
+
+-- what is told of it: its reports, and the advance in each domain of exactly the datagrams that were recorded, over all files
+pub record IsPeerTold (r : PeerSession) (finished : List (List Taken)) (here : List Taken) : Type 0 where
+  pub session : IsTold r.session (givens (flat_map (λ ts. ts) finished)) (givens here)
+  pub advances : told_of r.advances.reaches ≡ advances_of (givens (all_taken finished here))
+
+-- and so of whatever was counted
+abbrev pub Tells : PeerTold → PeerSession → Type 0
+Tells c r = (finished : List (List Taken)) (here : List Taken) → Counts c finished here → IsPeerTold r finished here

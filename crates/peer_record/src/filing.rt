@@ -70,7 +70,7 @@ impl PeerRecorder {
         Ok(())
     }
 
-    // Writes a datagram, and counts it then.
+    // Writes a datagram, and counts and notes it then.
     fn append<F: FileSeries>(
         &mut self,
         alloc: Global,
@@ -91,8 +91,12 @@ impl PeerRecorder {
         let count = self.recorder.take_message(alloc, datagram, &mut self.out)?;
         self.out.extend_from_slice(datagram)?;
         self.counts.wait_for(count)?;
+        self.advances.make_room()?;
         files.append(&self.out)?;
         self.counts.count_waiting();
+        let header = count.header;
+        self.advances
+            .note(header.domain, header.sequence, count.records);
         Ok(())
     }
 

@@ -7,6 +7,8 @@ mod freeing;
 pub mod laws;
 mod peer_answer;
 mod peer_recorder;
+mod peer_session;
 
 pub use peer_answer::PeerAnswer;
 pub use peer_recorder::PeerRecorder;
+pub use peer_session::PeerSession;

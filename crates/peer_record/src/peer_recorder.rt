@@ -1,18 +1,17 @@
 //! Recording the datagrams of a peer.
 
 ghost use Rattle.std.specs.Prelude.{◌≡◌, [], ℕ, List, Some, Err, MatchResult};
-ghost use Rattle.ipfix_message.specs.Domains.{Message};
 ghost use Rattle.ipfix_record.specs.Files.{FilesView, IsEmpty};
-ghost use Rattle.ipfix_record.specs.Recorders.{Counted};
-ghost use Rattle.ipfix_record.specs.Sessions.{IsTold};
 ghost use Rattle.ipfix_record.specs.declared.record_fault.RecordFault.{RecordFault as Fault};
 ghost use Rattle.peer_record.specs.Peers.{Taken};
-ghost use Rattle.peer_record.specs.Recording.{IsPeer, HasStopped, Answers, finished_now, answer_of};
+ghost use Rattle.peer_record.specs.Recording.{IsPeer, HasStopped, Answers, Tells, finished_now, answer_of};
 
 use crate::peer_answer::PeerAnswer;
+use crate::peer_session::PeerSession;
 use ipfix_datagrams::{DatagramFault, read_datagram};
 use ipfix_message::header_of;
-use ipfix_record::{FileSeries, RecordFault, RecordedSession, Recorder, SessionCounts};
+use ipfix_record::{FileSeries, RecordFault, Recorder, SessionCounts};
+use sequence_advance::SequenceAdvances;
 use std::alloc::Global;
 use std::marker::Model;
 
@@ -22,6 +21,7 @@ use std::marker::Model;
 pub struct PeerRecorder {
     pub(crate) recorder: Recorder,
     pub(crate) counts: SessionCounts,
+    pub(crate) advances: SequenceAdvances,
     pub(crate) ended: Option<RecordFault>,
     pub(crate) out: Vec<u8>,
 }
@@ -33,7 +33,7 @@ impl Model for PeerRecorder {
 
     ghost view = { λ r. record {
       recorder = r.recorder;
-      told = r.counts.told;
+      told = record { counts = r.counts.told; advances = r.advances.reaches };
       ended = r.ended;
     } };
 }
@@ -46,6 +46,7 @@ impl PeerRecorder {
         PeerRecorder {
             recorder: Recorder::new(alloc),
             counts: SessionCounts::new(alloc),
+            advances: SequenceAdvances::new(alloc),
             ended: None,
             out: Vec::new(alloc),
         }
@@ -119,21 +120,31 @@ impl PeerRecorder {
     }
 
     /// What is told of the peer, which has ended: the report of its datagrams, and that of the file that
-    /// isn't finished. This takes no memory.
-    pub fn into_session(self) -> RecordedSession
-        ensures told { (before here : List Message) → Counted self.told before here
-            → IsTold result before here }
-        ensures ended { result.ended ≡ answer_of self.ended }
+    /// isn't finished; and how far the sequence numbers advanced, over all its files. A datagram that wasn't
+    /// recorded is in none of them. This takes no memory.
+    pub fn into_session(self) -> PeerSession
+        ensures told { Tells self.told result }
+        ensures ended { result.session.ended ≡ answer_of self.ended }
     {
         let PeerRecorder {
             recorder: _,
             counts,
+            advances,
             ended,
             out: _,
         } = self;
-        match ended {
-            Some(fault) => counts.into_session(Err(fault)),
-            None => counts.into_session(Ok(())),
+        PeerSession {
+            session: counts.into_session(how_it_ended(ended)),
+            advances,
         }
+    }
+}
+
+fn how_it_ended(ended: Option<RecordFault>) -> Result<(), RecordFault>
+    ensures { result ≡ answer_of ended }
+{
+    match ended {
+        Some(fault) => Err(fault),
+        None => Ok(()),
     }
 }

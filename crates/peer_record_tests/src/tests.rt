@@ -6,3 +6,4 @@ mod files;
 mod refusals;
 mod reports;
 mod running;
+mod told;

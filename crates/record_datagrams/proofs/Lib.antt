@@ -1,1 +1,5 @@
 mod Told
+mod GoingOver
+mod RoundLemmas
+mod OwnDatagrams
+mod HeardLast

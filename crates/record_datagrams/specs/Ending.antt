@@ -1,18 +1,18 @@
 -- A peer's session that has ended: its last file is finished, and its lines are told.
 use Rattle.std.specs.Prelude.{◌≡◌, ℕ, List, [], ◌++◌, codes, Option, Some, None, Result, OnOk}
+use Rattle.std.specs.List.{flat_map}
 use Rattle.std.specs.Net.Text.{socket_text}
 use Rattle.std.specs.Io.KnownBytes.{Appends}
 use Rattle.std.specs.declared.net.socket_addr.SocketAddr.{SocketAddr}
-use Rattle.ipfix_message.specs.Domains.{Message}
-use Rattle.ipfix_record.specs.Recorders.{Counted}
-use Rattle.ipfix_record.specs.Sessions.{IsTold}
 use Rattle.ipfix_record.specs.declared.file_report.FileReport.{FileReport}
 use Rattle.ipfix_record.specs.declared.file_series.NotWritten.{NotWritten}
-use Rattle.ipfix_record.specs.declared.recorded_session.RecordedSession.{RecordedSession}
-use Rattle.peer_record.specs.Recording.{answer_of}
+use Rattle.sequence_advance.specs.Reaches.{AdvancesView, told_of}
+use Rattle.sequence_advance.specs.declared.domain_advance.DomainAdvance.{DomainAdvance}
+use Rattle.peer_record.specs.Recording.{Tells, answer_of}
+use Rattle.peer_record.specs.declared.peer_session.PeerSession.{PeerSession}
 use Rattle.udp_peers.specs.declared.kept_peer.KeptPeer.{KeptPeer}
 use Rattle.udp_peers.specs.declared.refusals.Refusals.{Refusals}
-use Rattle.collectd_record.specs.RecordLines.{peer_ended_line, refused_datagrams_line}
+use Rattle.collectd_record.specs.RecordLines.{advance_line, peer_ended_line, refused_datagrams_line}
 use Rattle.collectd_record.specs.Serving.{session_lines}
 use Rattle.record_datagrams.specs.DatagramFaults.{number_of, name_of}
 use Rattle.record_datagrams.specs.declared.ending.EndCause.{EndCause}
@@ -32,19 +32,30 @@ abbrev pub cause_lines : SocketAddr → Option EndCause → List ℕ
 cause_lines peer None = []
 cause_lines peer (Some cause) = peer_ended_line (socket_text peer) (text_of cause)
 
--- both, and the lines that a session of a connection has
-abbrev pub ending_lines : SocketAddr → Option Refusals → Option EndCause → RecordedSession → Result (Unit {0}) NotWritten → List ℕ
-ending_lines peer refused cause session finished = refusal_lines peer refused ++ (cause_lines peer cause ++ session_lines peer session finished)
+-- a line for each domain, in order of first appearance
+abbrev pub domain_advance_line : SocketAddr → DomainAdvance → List ℕ
+domain_advance_line peer d = advance_line (socket_text peer) d.domain d.advance d.came
 
--- the last file of a peer was finished with its report, and the session's report is of the datagrams that its recorder counted;
--- these lines tell it
+abbrev pub advance_lines : SocketAddr → AdvancesView → List ℕ
+advance_lines peer advances = flat_map (domain_advance_line peer) (told_of advances.reaches)
+
+-- these, and the lines that a session of a connection has
+abbrev pub told_lines : SocketAddr → PeerSession → Result (Unit {0}) NotWritten → List ℕ
+told_lines peer session finished = advance_lines peer session.advances ++ session_lines peer session.session finished
+
+-- what was refused, why it ends, and those
+abbrev pub ending_lines : SocketAddr → Option Refusals → Option EndCause → PeerSession → Result (Unit {0}) NotWritten → List ℕ
+ending_lines peer refused cause session finished = refusal_lines peer refused ++ (cause_lines peer cause ++ told_lines peer session finished)
+
+-- the last file of a peer was finished with its report, and the session's reports and advances are of the datagrams that its
+-- recorder counted; these lines tell it
 pub record Ends {F : Type 0} (finishes : F → FileReport → Result (Unit {0}) NotWritten → Type 0) (peer : SocketAddr) (kept : KeptPeer F)
     (cause : Option EndCause) (lines : List ℕ) : Type 0 where
-  pub session : RecordedSession
-  pub reports : (before here : List Message) → Counted kept.recorder.told before here → IsTold session before here
-  pub fault : session.ended ≡ answer_of kept.recorder.ended
+  pub session : PeerSession
+  pub reports : Tells kept.recorder.told session
+  pub fault : session.session.ended ≡ answer_of kept.recorder.ended
   pub finished : Result (Unit {0}) NotWritten
-  pub is_finished : finishes kept.files session.last finished
+  pub is_finished : finishes kept.files session.session.last finished
   pub lines_are : lines ≡ ending_lines peer kept.refused cause session finished
 
 -- there are such lines, and where the log took them they stand there

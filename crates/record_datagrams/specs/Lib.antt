@@ -3,3 +3,5 @@ pub mod DatagramFaults
 pub mod Ending
 pub mod Taking
 pub mod Turns
+pub mod Rounds
+pub mod Standing

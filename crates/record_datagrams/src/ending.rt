@@ -2,12 +2,13 @@
 
 ghost use Rattle.std.specs.Prelude.{◌≡◌, ◌++◌, OnOk};
 ghost use Rattle.std.specs.Io.KnownBytes.{Appends};
-ghost use Rattle.collectd_record.specs.Serving.{session_lines};
-ghost use Rattle.record_datagrams.specs.Ending.{cause_lines, ending_lines, IsEnded, refusal_lines, text_of};
+ghost use Rattle.record_datagrams.specs.Ending.{advance_lines, cause_lines, ending_lines, IsEnded, refusal_lines, text_of, told_lines};
 
 use crate::datagram_faults::{fault_name, fault_number};
 use collectd_record::{Log, RecordingFiles, tell_session};
-use ipfix_record::{NotWritten, RecordedSession};
+use ipfix_record::NotWritten;
+use peer_record::PeerSession;
+use sequence_advance::{DomainAdvance, SequenceAdvances};
 use std::io::{self, Write};
 use std::net::SocketAddr;
 use udp_peers::{KeptPeer, Refusals};
@@ -34,7 +35,8 @@ impl EndCause {
 }
 
 /// Ends a peer's session: finishes its last file with its report, and tells what was refused of it, why it
-/// ends if it has no fault, what its sequence numbers say, and its faults.
+/// ends if it has no fault, how far its sequence numbers advanced beside the records that came, what its
+/// ledger says, and its faults.
 pub fn end_peer<F: RecordingFiles, E: Write + Drop>(
     peer: SocketAddr,
     kept: KeptPeer<F>,
@@ -50,7 +52,7 @@ pub fn end_peer<F: RecordingFiles, E: Write + Drop>(
         refused,
     } = kept;
     let session = recorder.into_session();
-    let finished = files.finish(&session.last);
+    let finished = files.finish(&session.session.last);
     tell_end(peer, refused, cause, &session, finished, log)
 }
 
@@ -59,7 +61,7 @@ fn tell_end<E: Write + Drop>(
     peer: SocketAddr,
     refused: Option<Refusals>,
     cause: Option<EndCause>,
-    session: &RecordedSession,
+    session: &PeerSession,
     finished: Result<(), NotWritten>,
     log: &mut Log<E>,
 ) -> io::Result<()>
@@ -70,19 +72,53 @@ fn tell_end<E: Write + Drop>(
     tell_rest(peer, cause, session, finished, log)
 }
 
-// Tells why it ended, what its sequence numbers say, and its faults.
+// Tells why it ended, and the rest.
 fn tell_rest<E: Write + Drop>(
     peer: SocketAddr,
     cause: Option<EndCause>,
-    session: &RecordedSession,
+    session: &PeerSession,
     finished: Result<(), NotWritten>,
     log: &mut Log<E>,
 ) -> io::Result<()>
     ensures { OnOk result (Appends (E.contents log.old) (E.contents log.new)
-        (cause_lines peer cause ++ session_lines peer session.now finished)) }
+        (cause_lines peer cause ++ told_lines peer session.now finished)) }
 {
     tell_cause(peer, cause, log)?;
-    tell_session(peer, session, finished, log)
+    tell_counts(peer, session, finished, log)
+}
+
+// Tells what its sequence numbers say, and its faults.
+fn tell_counts<E: Write + Drop>(
+    peer: SocketAddr,
+    session: &PeerSession,
+    finished: Result<(), NotWritten>,
+    log: &mut Log<E>,
+) -> io::Result<()>
+    ensures { OnOk result (Appends (E.contents log.old) (E.contents log.new)
+        (told_lines peer session.now finished)) }
+{
+    tell_advances(peer, &session.advances, log)?;
+    tell_session(peer, &session.session, finished, log)
+}
+
+// Tells how far the sequence number of each domain advanced, and how many records came.
+fn tell_advances<E: Write + Drop>(
+    peer: SocketAddr,
+    advances: &SequenceAdvances,
+    log: &mut Log<E>,
+) -> io::Result<()>
+    ensures { OnOk result (Appends (E.contents log.old) (E.contents log.new)
+        (advance_lines peer advances.now)) }
+{
+    for index in 0..advances.len() {
+        let DomainAdvance {
+            domain,
+            advance,
+            came,
+        } = advances.at(index);
+        log.tell_advance(peer, domain, advance, came)?;
+    }
+    Ok(())
 }
 
 /// Tells how many datagrams of a peer were refused that aren't told yet, if there are any.

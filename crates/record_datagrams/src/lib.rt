@@ -4,6 +4,7 @@
 
 mod datagram_faults;
 mod ending;
+pub mod laws;
 mod peer_folder;
 mod reception;
 mod running;

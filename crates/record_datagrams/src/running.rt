@@ -1,45 +1,73 @@
-//! Taking datagrams for ever.
+//! Taking datagrams, round after round.
+
+ghost use Rattle.std.specs.Prelude.{◌≡◌};
+ghost use Rattle.record_datagrams.specs.Rounds.{TakesRound, TakesRounds};
 
 use crate::reception::Reception;
 use collectd_record::RecordingFiles;
 use ipfix_record::PeriodClock;
-use std::io::Write;
+use std::io::{self, Write};
 use std::rt::Clock;
 use std::sync::Wait;
 use std::thread;
 use std::time::{Duration, Instant};
-use udp_peers::{Datagram, DatagramSource, NoDatagram, PeerPlace};
+use udp_peers::{DatagramSource, NoDatagram, PeerPlace};
 
 /// How many milliseconds it waits if no datagram can be received.
 const PAUSE: u64 = 100;
 
-/// Takes the datagrams of a source, for ever. Of one that is longer than the buffer the first octets are taken.
+/// Takes what a source gives in so many rounds: in each it is asked once. Of a datagram that is longer than
+/// the buffer the first octets are taken. Seconds are counted from the start; if a time isn't known the last
+/// one stays. A log that can't be written stops nothing; its first error is the answer.
 pub fn record_datagrams<
     D: DatagramSource,
     F: RecordingFiles + Drop,
     P: PeerPlace<F> + PeriodClock,
     E: Write + Drop,
     R: Clock + Wait,
->(rt: &R, source: &mut D, buffer: &mut [u8], reception: &mut Reception<F, P, E>) {
-    let start = Instant::now(rt).ok();
-    let mut second: u64 = 0;
-    for _ in rt.forever() {
-        let received = source.receive(buffer);
-        let now = seconds_since(rt, start);
-        reception.keep_to_periods();
-        match received {
-            Ok(Datagram { length, peer }) => reception.take(peer, &buffer[..length], now),
-            Err(NoDatagram::Tick) => {}
-            Err(NoDatagram::Failed) => {
-                reception.unserved.count_not_accepted();
-                thread::sleep(rt, Duration::from_millis(PAUSE));
-            }
-        }
-        if now != second {
-            second = now;
-            reception.tell_and_end(now);
-        }
+>(
+    rt: &R,
+    start: Option<Instant>,
+    source: &mut D,
+    buffer: &mut [u8],
+    reception: &mut Reception<F, P, E>,
+    rounds: u64,
+) -> io::Result<()>
+    ensures { TakesRounds F.seen F.finishes P.asked E.contents rounds
+        (D.given source.old) (D.given source.new) reception.old reception.new result }
+{
+    let mut told: io::Result<()> = Ok(());
+    for _ in 0..rounds {
+        told = told.and(take_round(rt, start, source, buffer, reception));
     }
+    told
+}
+
+// One round. It pauses if no datagram can be received.
+fn take_round<
+    D: DatagramSource,
+    F: RecordingFiles + Drop,
+    P: PeerPlace<F> + PeriodClock,
+    E: Write + Drop,
+    R: Clock + Wait,
+>(
+    rt: &R,
+    start: Option<Instant>,
+    source: &mut D,
+    buffer: &mut [u8],
+    reception: &mut Reception<F, P, E>,
+) -> io::Result<()>
+    ensures { TakesRound F.seen F.finishes P.asked E.contents
+        (D.given source.old) (D.given source.new) reception.old reception.new result }
+{
+    let received = source.receive(buffer);
+    if received == Err(NoDatagram::Failed) {
+        thread::sleep(rt, Duration::from_millis(PAUSE));
+    }
+    let now = seconds_since(rt, start).max(reception.second);
+    let kept = reception.keep_to_periods();
+    let taken = reception.take(received, buffer, now);
+    kept.and(taken.and(reception.go_on_to(now)))
 }
 
 // How many seconds have passed since then; 0 if a time isn't known.

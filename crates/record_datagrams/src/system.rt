@@ -17,6 +17,7 @@ use std::num::NonZeroUsize;
 use std::rt::Clock;
 use std::sync::{Mutex, Wait};
 use std::thread::{self, Threads};
+use std::time::Instant;
 use udp_peers::Peers;
 
 /// How many octets a datagram has at most.
@@ -147,9 +148,22 @@ fn take_all<E: Write + Copy + Drop, R: Clock + Wait>(
         },
         filter: &order.filter,
         idle: limits.idle,
+        second: 0,
         unserved: FrontDesk::new(),
         log: Log::new(err),
     };
-    record_datagrams(waiting, &mut socket, buffer.as_mut_slice(), &mut reception);
+    let start = Instant::now(waiting).ok();
+    let buffer = buffer.as_mut_slice();
+    for _ in waiting.forever() {
+        // (a log that can't be written stops nothing)
+        let _ = record_datagrams(
+            waiting,
+            start,
+            &mut socket,
+            buffer,
+            &mut reception,
+            u64::MAX,
+        );
+    }
     Ok(())
 }

@@ -1,14 +1,12 @@
 //! One datagram: it is refused, or recorded, and what that leads to is told.
 
-ghost use Rattle.std.specs.Prelude.{◌≡◌, OnOk};
-ghost use Rattle.std.specs.Net.Socket.{socket_ip};
+ghost use Rattle.std.specs.Prelude.{Bool, OnOk};
 ghost use Rattle.std.specs.Io.KnownBytes.{Appends};
-ghost use Rattle.collectd_record.specs.Peers.{LetsIn};
 ghost use Rattle.collectd_record.specs.Serving.{fault_line};
 ghost use Rattle.ipfix_message.specs.declared.fault.MessageFault.TheVariants.{OutOfMemory};
 ghost use Rattle.ipfix_record.specs.declared.record_fault.RecordFault.TheVariants as faults;
 ghost use Rattle.record_datagrams.specs.Ending.{AreTold};
-ghost use Rattle.record_datagrams.specs.Taking.{Becomes, Goes, IsTaken, IsTurnedAway};
+ghost use Rattle.record_datagrams.specs.Taking.{Arrives, Becomes, Goes, IsTaken};
 
 use crate::ending::{EndCause, end_peer};
 use collectd_record::{FrontDesk, Log, PeerFilter, RecordingFiles};
@@ -33,11 +31,9 @@ pub fn take_datagram<F: RecordingFiles + Drop, P: PeerPlace<F>, E: Write + Drop>
     now: u64,
     log: &mut Log<E>,
 ) -> io::Result<()>
-    ensures refused { ¬ LetsIn filter.now (socket_ip from)
-        → (peers.new ≡ peers.old) × (log.new ≡ log.old)
-        × IsTurnedAway unserved.old unserved.new from }
-    ensures taken { LetsIn filter.now (socket_ip from) → (unserved.new ≡ unserved.old)
-        × IsTaken F.seen F.finishes E.contents peers.old.kept peers.new.kept from datagram.now now
+    ensures { (may_send : Bool) × AreTold E.contents
+        (Arrives F.seen F.finishes peers.old.kept peers.new.kept filter.now unserved.old
+        unserved.new (record { peer = from; octets = datagram.now; may_send = may_send }) now)
         log.old log.new result }
 {
     if !filter.lets_in(from.ip()) {
@@ -57,13 +53,13 @@ fn record_and_tell<F: RecordingFiles + Drop, P: PeerPlace<F>, E: Write + Drop>(
     now: u64,
     log: &mut Log<E>,
 ) -> io::Result<()>
-    ensures { IsTaken F.seen F.finishes E.contents peers.old.kept peers.new.kept from datagram.now
-        now log.old log.new result }
+    ensures { AreTold E.contents
+        (IsTaken F.seen F.finishes peers.old.kept peers.new.kept from datagram.now now)
+        log.old log.new result }
 {
     let Outcome { became, gone } = peers.record(alloc, place, from, datagram, now);
     let told = tell_gone(gone, log);
-    tell_became(from, became, log)?;
-    told
+    told.and(tell_became(from, became, log))
 }
 
 // Ends the session of a peer that went, since there was no room for one more.

@@ -5,4 +5,6 @@
 #[cfg(test)]
 mod places;
 #[cfg(test)]
+mod rounds;
+#[cfg(test)]
 mod telling;

@@ -1,7 +1,7 @@
 //! A place with little room.
 
 use collectd_record::RecordingFiles;
-use ipfix_record::{FileReport, FileSeries, NotWritten};
+use ipfix_record::{FileReport, FileSeries, NotWritten, PeriodClock, ScriptClock};
 use std::alloc::{AllocError, Global};
 use std::net::SocketAddr;
 use udp_peers::PeerPlace;
@@ -9,7 +9,7 @@ use udp_peers::PeerPlace;
 /// Files that have room for a number of octets.
 #[derive(Drop)]
 pub struct SmallFiles {
-    room: usize,
+    pub room: usize,
     failed: u64,
 }
 
@@ -54,5 +54,26 @@ impl PeerPlace<SmallFiles> for SmallPlace {
             room: self.room,
             failed: 0,
         })
+    }
+}
+
+/// The same in the periods of a script.
+#[derive(Drop)]
+pub struct PlaceInPeriods {
+    pub place: SmallPlace,
+    pub clock: ScriptClock,
+}
+
+impl PeerPlace<SmallFiles> for PlaceInPeriods {
+    fn files(&mut self, alloc: Global, peer: SocketAddr) -> Result<SmallFiles, AllocError> {
+        self.place.files(alloc, peer)
+    }
+}
+
+impl PeriodClock for PlaceInPeriods {
+    ghost asked = { λ p. ⟦<ScriptClock as PeriodClock>⟧.asked p.clock };
+
+    fn is_over(&mut self) -> bool {
+        self.clock.is_over()
     }
 }

@@ -12,22 +12,25 @@ use udp_peers::Peers;
 use worked_examples::faults::VERSION_9;
 use worked_examples::{FailingWriter, Flow, message_of_flows};
 
-const FLOW: Flow = Flow {
+pub const FLOW: Flow = Flow {
     start: 1000,
     end: 2000,
     octets: 1500,
 };
 
 const LINES: &str = "collectd: session 192.0.2.1:4739: ended: longest silent
+collectd: session 192.0.2.1:4739: domain 1: sequence numbers advanced by 1, records 1
 collectd: session 192.0.2.2:4739: refused 2 datagrams, last fault 1 Version
+collectd: session 192.0.2.2:4739: domain 1: sequence numbers advanced by 1, records 1
 collectd: session 192.0.2.2:4739: fault 19 NotWritten
 collectd: session 192.0.2.3:4739: refused 1 datagrams, last fault 1 Version
 collectd: session 192.0.2.3:4739: ended: idle
+collectd: session 192.0.2.3:4739: domain 1: sequence numbers advanced by 1, records 1
 collectd: refused 1 datagrams, last 192.0.3.1:4739
 ";
 
-// Peers of a prefix alone may send.
-fn only_from(alloc: Global, word: &str) -> Result<PeerFilter, Fail> {
+/// Peers of a prefix alone may send.
+pub fn only_from(alloc: Global, word: &str) -> Result<PeerFilter, Fail> {
     let mut prefixes = Vec::new(alloc);
     if let Ok(prefix) = Prefix::parse(word) {
         prefixes.push(prefix)?;
@@ -72,10 +75,10 @@ fn tell_all(rt: &HostRuntime, out: &mut FailingWriter) -> Result<(), Fail> {
             &mut log,
         )?;
     }
-    go_over(&mut peers, false, &mut log);
-    end_silent(&mut peers, 3, &mut log);
-    end_silent(&mut peers, 4, &mut log);
-    tell_unserved(&mut unserved, &mut log);
+    go_over(&mut peers, false, &mut log)?;
+    end_silent(&mut peers, 3, &mut log)?;
+    end_silent(&mut peers, 4, &mut log)?;
+    tell_unserved(&mut unserved, &mut log)?;
     Ok(())
 }
 

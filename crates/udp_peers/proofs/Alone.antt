@@ -32,7 +32,7 @@ module _ {K X : Type 0} (test : K → Bool) where
     ]) g
   ]) refl h
 
-  key_passes : (es : List (K × X)) (k : K) → lookup_key test es ≡ Some k → test k ≡ true
+  pub key_passes : (es : List (K × X)) (k : K) → lookup_key test es ≡ Some k → test k ≡ true
   key_passes [] k h = absurd cc
   key_passes (e ∷ es) k h = (elim (test e.0) as (λ b. test e.0 ≡ b → cond b (Some e.0) (lookup_key test es) ≡ Some k → test k ≡ true) [
     | true ↦ λ t g. let same : e.0 ≡ k = cc in subst (λ x. test x ≡ true) same t
@@ -41,7 +41,7 @@ module _ {K X : Type 0} (test : K → Bool) where
 
 module _ (peer other : SocketAddr) where
   -- the key of the other one
-  key_of : (o : Option SocketAddr) → ((k : SocketAddr) → o ≡ Some k → same_peer other k ≡ true) → same_peer other (unwrap_or o other) ≡ true
+  pub key_of : (o : Option SocketAddr) → ((k : SocketAddr) → o ≡ Some k → same_peer other k ≡ true) → same_peer other (unwrap_or o other) ≡ true
   key_of None h = laws-law.refl other
   key_of (Some k) h = h k refl
 
@@ -117,7 +117,7 @@ module _ {F : Type 0} (peer : SocketAddr) (most : ℕ) where
       ∙ ap (λ ms. came_of peer cs ++ ms) (sym (own_cons r rs))
 
 module _ {F : Type 0} (seen : F → FilesView) (most : ℕ) where
-  stand_by : (became : Became F) (leaving : Option (SocketAddr × KeptPeer F)) (after : List (SocketAddr × KeptPeer F)) (cs : Came) (peer : SocketAddr) (m : List ℕ) → StandBehind seen became leaving most after cs peer m → StandFor seen after (came_by became most peer m cs)
+  pub stand_by : (became : Became F) (leaving : Option (SocketAddr × KeptPeer F)) (after : List (SocketAddr × KeptPeer F)) (cs : Came) (peer : SocketAddr) (m : List ℕ) → StandBehind seen became leaving most after cs peer m → StandFor seen after (came_by became most peer m cs)
   stand_by Recorded leaving after cs peer m s = s.0
   stand_by (Refused fault) leaving after cs peer m s = s.0
   stand_by (Ended k) leaving after cs peer m s = s.0

@@ -14,15 +14,15 @@ use Rattle.udp_peers.proofs.Paired.{paired_get, paired_take, paired_length}
 use Rattle.udp_peers.proofs.Settling.{finished_session, ended_session}
 
 module _ {F : Type 0} (seen : F → FilesView) where
-  told_session : (k : KeptPeer F) (came : List (List ℕ)) → IsSession seen k came → IsSession seen (record k { refused = None }) came
+  pub told_session : (k : KeptPeer F) (came : List (List ℕ)) → IsSession seen k came → IsSession seen (record k { refused = None }) came
   told_session k came s = record { first = s.first; empty = s.empty; finished = s.finished; here = s.here; is = s.is; settles = s.settles }
 
   -- by the answer
-  abbrev TurnsTo : Result (Unit {0}) RecordFault → KeptPeer F → List (List ℕ) → Type 0
+  abbrev pub TurnsTo : Result (Unit {0}) RecordFault → KeptPeer F → List (List ℕ) → Type 0
   TurnsTo (Ok x) new came = IsSession seen new came
   TurnsTo (Err fault) new came = HasEnded seen new came []
 
-  turns : (is_over : Bool) (answer : Result (Unit {0}) RecordFault) (old new : KeptPeer F) (came : List (List ℕ)) → IsSession seen old came → FinishesIf is_over seen old new answer → TurnsTo answer new came
+  pub turns : (is_over : Bool) (answer : Result (Unit {0}) RecordFault) (old new : KeptPeer F) (came : List (List ℕ)) → IsSession seen old came → FinishesIf is_over seen old new answer → TurnsTo answer new came
   turns false (Ok x) old new came s f = subst (λ k. IsSession seen k came) (sym f.1) s
   turns false (Err fault) old new came s f = let none = f.0 in absurd cc
   turns true (Ok x) old new came s f = finished_session seen old new came s f

@@ -2,6 +2,7 @@
 
 use super::datagrams::*;
 use super::running::take_all;
+use super::told::{end, finish, take};
 use ipfix_datagrams::DatagramFault;
 use ipfix_message::MessageFault;
 use ipfix_record::{MemoryFiles, RecordFault};
@@ -18,20 +19,21 @@ fn a_full_place_ends_the_peer(rt: HostRuntime) -> Result<(), Fail> {
     let mut files = MemoryFiles::new(rt.alloc(), 100);
     take_all(&rt, rt.alloc(), &mut peer, &[FIRST_OF_1], &mut files);
     for _ in 0..3 {
-        let answer = peer.take(rt.alloc(), FIRST_OF_2, &mut files);
+        let answer = take(rt.alloc(), &mut peer, FIRST_OF_2, &mut files);
         assert_eq!(rt; answer, Err(RecordFault::NotWritten));
-        assert_eq!(rt; peer.finish_file(&mut files), Err(RecordFault::NotWritten));
+        assert_eq!(rt; finish(&mut peer, &mut files), Err(RecordFault::NotWritten));
     }
     assert_eq!(rt; (files.failed, files.finished.len()), (1, 0));
     let mut whole = Vec::from_slice(rt.alloc(), FIRST_OF_1)?;
     whole.extend_from_slice(&FIRST_OF_2[..29])?;
     assert_eq!(rt; files.unfinished.as_slice(), whole.as_slice());
-    let session = peer.into_session();
-    assert_eq!(rt; session.ended, Err(RecordFault::NotWritten));
-    assert_eq!(rt; session.last.messages, 1);
-    let report = &session.report.report;
+    let told = end(peer);
     assert_eq!(rt;
-        (report.messages, report.fault),
+        (told.ended, told.last.messages),
+        (Err(RecordFault::NotWritten), 1)
+    );
+    assert_eq!(rt;
+        (told.messages, told.fault),
         (1, Some(SessionFault::SinkClosed))
     );
     Ok(())
@@ -45,7 +47,7 @@ fn recording_survives_refused_memory(rt: HostRuntime) -> Result<(), Fail> {
     let mut files = MemoryFiles::new(rt.alloc(), 100_000);
     let mut recorded: u64 = 0;
     for datagram in DATAGRAMS {
-        match peer.take(rt.alloc(), datagram, &mut files) {
+        match take(rt.alloc(), &mut peer, datagram, &mut files) {
             Ok(PeerAnswer::Recorded) => recorded = recorded.saturating_add(1),
             Ok(PeerAnswer::Refused(fault)) => {
                 assert_eq!(rt; fault, DatagramFault::Message(MessageFault::OutOfMemory));
@@ -63,6 +65,6 @@ fn recording_survives_refused_memory(rt: HostRuntime) -> Result<(), Fail> {
     } else {
         let _ = eprintln!(rt; "take: OutOfMemory");
     }
-    assert!(rt; peer.into_session().report.report.messages == recorded);
+    assert_eq!(rt; end(peer).messages, recorded);
     Ok(())
 }

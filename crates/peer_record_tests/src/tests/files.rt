@@ -2,6 +2,7 @@
 
 use super::datagrams::*;
 use super::running::{files_of, take_all, told_by};
+use super::told::finish;
 use ipfix_record::MemoryFiles;
 use peer_record::PeerRecorder;
 use std::alloc::{AllocError, Global};
@@ -76,10 +77,10 @@ fn a_file_is_finished_before_any_datagram(rt: HostRuntime) -> Result<(), Fail> {
 fn no_file_is_empty(rt: HostRuntime) -> Result<(), Fail> {
     let mut peer = PeerRecorder::new(rt.alloc());
     let mut files = MemoryFiles::new(rt.alloc(), 1000);
-    assert_eq!(rt; peer.finish_file(&mut files), Ok(()));
+    assert_eq!(rt; finish(&mut peer, &mut files), Ok(()));
     take_all(&rt, rt.alloc(), &mut peer, &[FIRST_OF_1], &mut files);
-    assert_eq!(rt; peer.finish_file(&mut files), Ok(()));
-    assert_eq!(rt; peer.finish_file(&mut files), Ok(()));
+    assert_eq!(rt; finish(&mut peer, &mut files), Ok(()));
+    assert_eq!(rt; finish(&mut peer, &mut files), Ok(()));
     assert_eq!(rt; files.finished.len(), 1);
     assert_eq!(rt; files.unfinished.len(), 0);
     Ok(())

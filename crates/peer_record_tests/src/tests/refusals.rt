@@ -2,6 +2,7 @@
 
 use super::datagrams::*;
 use super::running::{files_of, told_by};
+use super::told::{end, take};
 use ipfix_datagrams::DatagramFault;
 use ipfix_message::MessageFault;
 use ipfix_record::MemoryFiles;
@@ -34,12 +35,12 @@ fn refused_datagrams_change_nothing(rt: HostRuntime) -> Result<(), Fail> {
     let mut files = MemoryFiles::new(rt.alloc(), 100_000);
     for datagram in DATAGRAMS {
         for (other, fault) in refused {
-            let answer = peer.take(rt.alloc(), other, &mut files);
+            let answer = take(rt.alloc(), &mut peer, other, &mut files);
             assert_eq!(rt; answer, Ok(PeerAnswer::Refused(fault)));
         }
-        let answer = peer.take(rt.alloc(), datagram, &mut files);
+        let answer = take(rt.alloc(), &mut peer, datagram, &mut files);
         assert_eq!(rt; answer, Ok(PeerAnswer::Recorded));
-        let answer = peer.take(rt.alloc(), WITHDRAWS_256, &mut files);
+        let answer = take(rt.alloc(), &mut peer, WITHDRAWS_256, &mut files);
         assert_eq!(rt; answer, Ok(PeerAnswer::Refused(DatagramFault::Withdrawal)));
     }
     let same = files_of(&rt, rt.alloc(), &DATAGRAMS, 100);
@@ -49,6 +50,6 @@ fn refused_datagrams_change_nothing(rt: HostRuntime) -> Result<(), Fail> {
     }
     assert_eq!(rt; files.unfinished.as_slice(), same.unfinished.as_slice());
     assert_eq!(rt; told_by(&rt, rt.alloc(), &files)?.as_slice(), TOLD);
-    assert_eq!(rt; peer.into_session().report.report.messages, 6);
+    assert_eq!(rt; end(peer).messages, 6);
     Ok(())
 }

@@ -2,17 +2,26 @@
 
 use super::datagrams::*;
 use super::running::take_all;
+use super::told::{domain_of, end};
 use ipfix_record::{FileReport, MemoryFiles};
 use peer_record::PeerRecorder;
+use sequence_advance::DomainAdvance;
+use std::alloc::Global;
+use std::process::Abort;
 use std::test::*;
+use worked_examples::recordings::FIRST_OF_1;
 
-// The losses of domain 1 are told, though a file begins between its datagrams: its sequence number advanced
-// by nine before the third, and five records came (RFC 7011, section 3.1).
+// A peer behind all datagrams, and its files.
+fn recorded(rt: &impl Abort, alloc: Global) -> (PeerRecorder, MemoryFiles) {
+    let mut peer = PeerRecorder::new(alloc);
+    let mut files = MemoryFiles::new(alloc, 100_000);
+    take_all(rt, alloc, &mut peer, &DATAGRAMS, &mut files);
+    (peer, files)
+}
+
+// The changed template begins the second file.
 #[test]
-fn the_ledger_goes_on_in_the_next_file(rt: HostRuntime) -> Result<(), Fail> {
-    let mut peer = PeerRecorder::new(rt.alloc());
-    let mut files = MemoryFiles::new(rt.alloc(), 100_000);
-    take_all(&rt, rt.alloc(), &mut peer, &DATAGRAMS, &mut files);
+fn each_file_has_its_report(rt: HostRuntime) -> Result<(), Fail> {
     let first = FileReport {
         messages: 3,
         records: 6,
@@ -24,19 +33,65 @@ fn the_ledger_goes_on_in_the_next_file(rt: HostRuntime) -> Result<(), Fail> {
         lost: 4,
         ..FileReport::EMPTY
     };
+    let (peer, files) = recorded(&rt, rt.alloc());
     assert_eq!(rt; files.reports.as_slice(), [first].as_slice());
-    let session = peer.into_session();
-    assert_eq!(rt; session.ended, Ok(()));
-    assert_eq!(rt; session.last, second);
-    let report = &session.report.report;
-    assert_eq!(rt; (report.messages, report.delivered), (6, 10));
-    let domains = report
-        .domains
-        .iter()
-        .map(|of| (of.domain, of.count, of.lost, of.backward));
-    for (told, expected) in domains.zip([(1, 8, 4, 0), (2, 2, 0, 0)]) {
-        assert_eq!(rt; told, expected);
+    let told = end(peer);
+    assert_eq!(rt; (told.ended, told.last), (Ok(()), second));
+    assert_eq!(rt; (told.messages, told.delivered, told.domains), (6, 10, 2));
+    Ok(())
+}
+
+// The losses of domain 1 are told, though a file begins between its datagrams: its sequence number advanced
+// by nine before the third, and five records came (RFC 7011, section 3.1).
+#[test]
+fn the_ledger_goes_on_in_the_next_file(rt: HostRuntime) -> Result<(), Fail> {
+    for (index, expected) in [(0, (1, 8, 4, 0)), (1, (2, 2, 0, 0))] {
+        let (peer, _) = recorded(&rt, rt.alloc());
+        assert_eq!(rt; domain_of(peer, index), Some(expected));
     }
-    assert_eq!(rt; report.domains.len(), 2);
+    Ok(())
+}
+
+/// What is told of the advance in a domain, over the files of these datagrams; nothing where there are not so
+/// many domains.
+fn advance_of(
+    rt: &impl Abort,
+    alloc: Global,
+    datagrams: &[&[u8]],
+    index: usize,
+) -> Option<DomainAdvance> {
+    let mut peer = PeerRecorder::new(alloc);
+    let mut files = MemoryFiles::new(alloc, 100_000);
+    take_all(rt, alloc, &mut peer, datagrams, &mut files);
+    let advances = peer.into_session().advances;
+    if index < advances.len() {
+        Some(advances.at(index))
+    } else {
+        None
+    }
+}
+
+// Over both files: of twelve records eight came.
+#[test]
+fn the_advance_goes_over_all_files(rt: HostRuntime) -> Result<(), Fail> {
+    let expected = DomainAdvance {
+        domain: 1,
+        advance: 12,
+        came: 8,
+    };
+    assert_eq!(rt; advance_of(&rt, rt.alloc(), &DATAGRAMS, 0), Some(expected));
+    Ok(())
+}
+
+// The second datagram of domain 1 comes last, behind the one that it was sent before, and twice.
+#[test]
+fn late_and_doubled_datagrams_came(rt: HostRuntime) -> Result<(), Fail> {
+    let datagrams = [FIRST_OF_1, CHANGES_257, SECOND_OF_1, SECOND_OF_1];
+    let expected = DomainAdvance {
+        domain: 1,
+        advance: 10,
+        came: 8,
+    };
+    assert_eq!(rt; advance_of(&rt, rt.alloc(), &datagrams, 0), Some(expected));
     Ok(())
 }

@@ -1,5 +1,6 @@
 //! Recording datagrams in memory, and reading a file.
 
+use super::told::{finish, take};
 use ipfix_message::DataRecord;
 use ipfix_record::MemoryFiles;
 use ipfix_session::{FromReader, VecSink, drive_in_full};
@@ -16,7 +17,7 @@ pub fn take_all(
     files: &mut MemoryFiles,
 ) {
     for datagram in datagrams {
-        let answer = peer.take(alloc, datagram, files);
+        let answer = take(alloc, peer, datagram, files);
         assert_eq!(rt; answer, Ok(PeerAnswer::Recorded));
     }
 }
@@ -32,9 +33,9 @@ pub fn files_of(
     let mut files = MemoryFiles::new(alloc, 100_000);
     for (number, datagram) in datagrams.iter().enumerate() {
         if number == finish_before {
-            assert_eq!(rt; peer.finish_file(&mut files), Ok(()));
+            assert_eq!(rt; finish(&mut peer, &mut files), Ok(()));
         }
-        let answer = peer.take(alloc, datagram, &mut files);
+        let answer = take(alloc, &mut peer, datagram, &mut files);
         assert_eq!(rt; answer, Ok(PeerAnswer::Recorded));
     }
     files

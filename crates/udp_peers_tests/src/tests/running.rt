@@ -8,7 +8,8 @@ use std::net::{IpAddr, Ipv4Addr, SocketAddr};
 use std::num::NonZeroUsize;
 use std::test::*;
 use udp_peers::{
-    Became, KeptPeer, Outcome, PeerPlace, Peers, ScriptDatagrams, ScriptedDatagram, receive,
+    Became, Datagram, DatagramSource, KeptPeer, Outcome, PeerPlace, Peers, ScriptDatagrams,
+    ScriptedDatagram,
 };
 
 /// Files in memory for each peer, with room for so many octets.
@@ -107,7 +108,8 @@ pub fn receive_all(
     let mut buffer = [0; 200];
     let mut count: usize = 0;
     for now in 0..4 {
-        if receive(alloc, source, &mut buffer, peers, &mut place, now).is_ok() {
+        if let Ok(Datagram { length, peer }) = source.receive(&mut buffer) {
+            peers.record(alloc, &mut place, peer, &buffer[..length], now);
             count = count.saturating_add(1);
         }
     }

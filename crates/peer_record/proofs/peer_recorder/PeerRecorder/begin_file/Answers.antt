@@ -25,7 +25,7 @@ returns-in_err-free_ids g c = λ first finished here m x some good p taken.
     let h = c.args.header.now in
     let v = g.F.FileSeries.seen c.turn.new.files in
     let files = finished_now finished here in
-    let inside : PeerView = record { recorder = c.self.inside.recorder; told = c.self.inside.counts.told; ended = c.self.inside.ended } in
+    let inside : PeerView = record { recorder = c.self.inside.recorder; told = record { counts = c.self.inside.counts.told; advances = c.self.inside.advances.reaches }; ended = c.self.inside.ended } in
     let now : IsPeer first v inside files [] = subst (λ (s : PeerView). IsPeer first v s files []) (sym c.self.view_is) (c.in_ok-turn.ensures first finished here p) in
     let before = all_before now.holds.files in
     let same : known_after [] before ≡ known_after [] (givens (all_taken finished here)) = known_before first v inside files now ∙ ap (λ (ts : List Taken). known_after [] (givens ts)) (all_taken-now finished here) in
@@ -41,7 +41,7 @@ returns g c = λ first finished here m x some good p taken.
     let ids = c.args.ids.now in
     let v = g.F.FileSeries.seen c.turn.new.files in
     let files = finished_now finished here in
-    let inside : PeerView = record { recorder = c.self.inside.recorder; told = c.self.inside.counts.told; ended = c.self.inside.ended } in
+    let inside : PeerView = record { recorder = c.self.inside.recorder; told = record { counts = c.self.inside.counts.told; advances = c.self.inside.advances.reaches }; ended = c.self.inside.ended } in
     let now : IsPeer first v inside files [] = subst (λ (s : PeerView). IsPeer first v s files []) (sym c.self.view_is) (c.in_ok-turn.ensures first finished here p) in
     let before = all_before now.holds.files in
     let keeps = keeps_before first v inside files now in

@@ -1,0 +1,30 @@
+//! Laws of the rounds. Each is a function that does nothing, and its contract is the theorem.
+
+ghost use Rattle.std.specs.Prelude.{◌≡◌, ◌<◌, ◌-◌, List, []};
+ghost use Rattle.udp_peers.specs.Sessions.{Came, StandFor};
+ghost use Rattle.record_datagrams.specs.Rounds.{Round, AreRounds, IsRound};
+ghost use Rattle.record_datagrams.specs.Standing.{AreHeard, HaveLast, own_of};
+ghost use Rattle.record_datagrams.specs.declared.reception.Reception.{Reception};
+
+use collectd_record::RecordingFiles;
+use ipfix_record::PeriodClock;
+use std::io::Write;
+
+/// Where no peer was kept at first: behind any rounds the session of each peer that is kept stands for the last
+/// ones of the datagrams of that peer alone, those that came since it began, each in its order; whatever came
+/// from others, and whatever periods were over, sessions ended and peers were silent.
+pub fn sessions_stand_behind_rounds<F: RecordingFiles, P: PeriodClock, E: Write + Drop>()
+    ensures { (rs : List Round) (old new : Reception F P E) → old.peers.kept.entries ≡ []
+        → AreRounds F.seen F.finishes P.asked rs old new
+        → (cs : Came) × StandFor F.seen new.peers.kept.entries cs
+        × HaveLast (λ peer. own_of peer rs) cs }
+{}
+
+/// Where no peer was kept at first: behind a round in a new second nobody is kept that has been silent for
+/// longer than a peer may be.
+pub fn nobody_stays_silent<F: RecordingFiles, P: PeriodClock, E: Write + Drop>()
+    ensures { (rs : List Round) (r : Round) (old mid new : Reception F P E)
+        → old.peers.kept.entries ≡ [] → AreRounds F.seen F.finishes P.asked rs old mid
+        → IsRound F.seen F.finishes P.asked r mid new → mid.second < r.second
+        → AreHeard (r.second - mid.idle) new.peers.kept.entries }
+{}

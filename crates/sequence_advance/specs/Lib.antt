@@ -1,0 +1,4 @@
+-- What public contracts cite.
+pub mod Advances
+pub mod Reaches
+pub mod Streams

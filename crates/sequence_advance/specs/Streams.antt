@@ -1,0 +1,62 @@
+-- The messages of a stream, as the exporter sent them, and those that came (RFC 7011, section 3.1).
+use Rattle.std.specs.Prelude.{◌≡◌, ℕ, ◌+◌, ◌%◌, ◌^◌, ◌<◌, ◌≤◌, Bool, max, not, List, [], ◌∷◌, map, filter}
+use Rattle.ipfix_message.specs.Domains.{Message}
+use Rattle.ipfix_session.specs.Ledger.{count_in}
+
+-- ---- messages that came
+
+-- a message, and its place: how many data records were sent before it
+pub record Placed : Type 0 where
+  pub place : ℕ
+  pub message : Message
+
+abbrev pub messages : List Placed → List Message
+messages ps = map (λ p. p.message) ps
+
+-- its sequence number is that, modulo 2^32
+abbrev pub IsNumbered : Placed → Type 0
+IsNumbered p = p.message.header.sequence ≡ p.place % 2 ^ 32
+
+-- the place behind it
+abbrev pub place_behind : Placed → ℕ
+place_behind p = p.place + count_in p.message
+
+-- the furthest place behind any
+abbrev pub furthest_place : ℕ → List Placed → ℕ
+furthest_place n [] = n
+furthest_place n (p ∷ ps) = furthest_place (max n (place_behind p)) ps
+
+-- each is numbered, and ends less than half of all sequence numbers off the furthest before it
+abbrev pub AreNear : ℕ → List Placed → Type 0
+AreNear n [] = Unit {0}
+AreNear n (p ∷ ps) = IsNumbered p × (place_behind p < n + 2 ^ 31) × (n < place_behind p + 2 ^ 31) × AreNear (max n (place_behind p)) ps
+
+-- each is numbered, and they lie within half of all sequence numbers from a place on
+abbrev pub AreWithin : ℕ → List Placed → Type 0
+AreWithin low [] = Unit {0}
+AreWithin low (p ∷ ps) = IsNumbered p × (low ≤ p.place) × (place_behind p < low + 2 ^ 31) × AreWithin low ps
+
+-- ---- messages that were sent
+
+-- each has the number of data records before it, where so many were sent before the first
+abbrev pub AreNumbered : ℕ → List Message → Type 0
+AreNumbered n [] = Unit {0}
+AreNumbered n (m ∷ ms) = (m.header.sequence ≡ n % 2 ^ 32) × AreNumbered (n + count_in m) ms
+
+-- none has half as many records as there are sequence numbers
+abbrev pub AreFew : List Message → Type 0
+AreFew [] = Unit {0}
+AreFew (m ∷ ms) = (count_in m < 2 ^ 31) × AreFew ms
+
+-- messages that were sent, each with whether it came
+abbrev pub Sent : Type 0
+Sent = List (Message × Bool)
+
+abbrev pub sent : Sent → List Message
+sent es = map (λ e. e.0) es
+
+abbrev pub came : Sent → List Message
+came es = map (λ e. e.0) (filter (λ e. e.1) es)
+
+abbrev pub not_come : Sent → List Message
+not_come es = map (λ e. e.0) (filter (λ e. not e.1) es)
