@@ -5,6 +5,7 @@ use Rattle.std.specs.List.{flat_map, enumerate_from}
 use Rattle.std.specs.Io.KnownBytes.{Appends}
 use Rattle.std.proofs.KnownBytes.{Appends-trans}
 use Rattle.ipfix_session.specs.declared.report.FullReport.{FullReport}
+use Rattle.element_registry.specs.Registries.{Known}
 use Rattle.flow_collect.specs.InFull.{reports_in}
 use Rattle.flow_table.specs.declared.missing.Missing.{Missing}
 use Rattle.flow_table.specs.declared.table.Table.{Table}
@@ -30,12 +31,12 @@ fault_told old mid new Before After IsUntouched xs behind first (inl collect) ke
 fault_told old mid new Before After IsUntouched xs behind first (inr export) kept = inr (export.0, both_told old mid new Before After xs _ first export.1 kept)
 
 -- what is told of a table, by its tally and by what records lack
-pub table_lines : {T E : Type 0} (answer : Result T E) (telling : Telling) (plan : PlanValue) (table : Table) (tally : Tally) (missing : Missing) (old mid new : Option (List ℕ)) → tally ≡ table.tally → missing ≡ table.missing
-    → Appends old mid (tally_line tally) → OnOk answer (Appends mid new (missing_told telling plan missing)) → OnOk answer (Appends old new (table_told telling plan table))
-table_lines (Ok x) telling plan table tally missing old mid new is_tally is_missing first rest =
-    subst (λ (l : List ℕ). Appends old new l) (ap₂ (λ (x : Tally) (y : Missing). tally_line x ++ missing_told telling plan y) is_tally is_missing)
-    (Appends-trans old mid new (tally_line tally) (missing_told telling plan missing) first rest)
-table_lines (Err e) telling plan table tally missing old mid new is_tally is_missing first rest = tt
+pub table_lines : {T E : Type 0} (answer : Result T E) (telling : Telling) (known : List Known) (plan : PlanValue) (table : Table) (tally : Tally) (missing : Missing) (old mid new : Option (List ℕ)) → tally ≡ table.tally → missing ≡ table.missing
+    → Appends old mid (tally_line tally) → OnOk answer (Appends mid new (missing_told telling known plan missing)) → OnOk answer (Appends old new (table_told telling known plan table))
+table_lines (Ok x) telling known plan table tally missing old mid new is_tally is_missing first rest =
+    subst (λ (l : List ℕ). Appends old new l) (ap₂ (λ (x : Tally) (y : Missing). tally_line x ++ missing_told telling known plan y) is_tally is_missing)
+    (Appends-trans old mid new (tally_line tally) (missing_told telling known plan missing) first rest)
+table_lines (Err e) telling known plan table tally missing old mid new is_tally is_missing first rest = tt
 
 -- without options nothing is told of it
 none_opened : (telling : Telling) → telling.verbose ≡ false → (n : ℕ) (origins : List Origin) → flat_map (λ (x : ℕ × Origin). if_verbose telling (opened_line x.0 x.1)) (enumerate_from n origins) ≡ []
@@ -44,20 +45,20 @@ none_opened telling plain n (o ∷ origins) =
     let nothing : if_verbose telling (opened_line n o) ≡ [] = rw plain refl in
     ap (λ (l : List ℕ). l ++ flat_map (λ (x : ℕ × Origin). if_verbose telling (opened_line x.0 x.1)) (enumerate_from (n + 1) origins)) nothing ∙ none_opened telling plain (n + 1) origins
 
-plain_table : (telling : Telling) → telling.verbose ≡ false → telling.strict ≡ false → (plan : PlanValue) (table : Table) → table_told telling plan table ≡ tally_line table.tally
-plain_table telling verbose strict plan table =
-    let nothing : missing_told telling plan table.missing ≡ [] = rw (verbose, strict) refl in
+plain_table : (telling : Telling) → telling.verbose ≡ false → telling.strict ≡ false → (known : List Known) (plan : PlanValue) (table : Table) → table_told telling known plan table ≡ tally_line table.tally
+plain_table telling verbose strict known plan table =
+    let nothing : missing_told telling known plan table.missing ≡ [] = rw (verbose, strict) refl in
     ap (λ (l : List ℕ). tally_line table.tally ++ l) nothing ∙ append-nil _
 
-pub plain_alone : (telling : Telling) → telling.verbose ≡ false → telling.strict ≡ false → (plan : PlanValue) (origins : List Origin) (fulls : List FullReport) (table : Table)
-    → run_lines telling plan origins fulls table ≡ report_lines (reports_in fulls) ++ tally_line table.tally
-plain_alone telling verbose strict plan origins fulls table =
-    ap (λ (l : List ℕ). l ++ table_told telling plan table) (told_plain telling verbose strict origins fulls) ∙ ap (λ (l : List ℕ). report_lines (reports_in fulls) ++ l) (plain_table telling verbose strict plan table)
+pub plain_alone : (telling : Telling) → telling.verbose ≡ false → telling.strict ≡ false → (known : List Known) (plan : PlanValue) (origins : List Origin) (fulls : List FullReport) (table : Table)
+    → run_lines telling known plan origins fulls table ≡ report_lines (reports_in fulls) ++ tally_line table.tally
+plain_alone telling verbose strict known plan origins fulls table =
+    ap (λ (l : List ℕ). l ++ table_told telling known plan table) (told_plain telling verbose strict origins fulls) ∙ ap (λ (l : List ℕ). report_lines (reports_in fulls) ++ l) (plain_table telling verbose strict known plan table)
 
-pub plain_run : (telling : Telling) → telling.verbose ≡ false → telling.strict ≡ false → (plan : PlanValue) (origins : List Origin) (fulls : List FullReport) (table : Table)
-    → opened_lines telling origins ++ run_lines telling plan origins fulls table ≡ report_lines (reports_in fulls) ++ tally_line table.tally
-plain_run telling verbose strict plan origins fulls table =
-    ap (λ (l : List ℕ). l ++ run_lines telling plan origins fulls table) (none_opened telling verbose 1 origins) ∙ plain_alone telling verbose strict plan origins fulls table
+pub plain_run : (telling : Telling) → telling.verbose ≡ false → telling.strict ≡ false → (known : List Known) (plan : PlanValue) (origins : List Origin) (fulls : List FullReport) (table : Table)
+    → opened_lines telling origins ++ run_lines telling known plan origins fulls table ≡ report_lines (reports_in fulls) ++ tally_line table.tally
+plain_run telling verbose strict known plan origins fulls table =
+    ap (λ (l : List ℕ). l ++ run_lines telling known plan origins fulls table) (none_opened telling verbose 1 origins) ∙ plain_alone telling verbose strict known plan origins fulls table
 
 -- ---- arguments that have a fault
 

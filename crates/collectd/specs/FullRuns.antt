@@ -4,6 +4,7 @@ use Rattle.std.specs.List.{AllZip}
 use Rattle.ipfix_session.specs.Given.{records_of, IsPrefix}
 use Rattle.ipfix_session.specs.Sources.{SourceView}
 use Rattle.ipfix_session.specs.declared.report.FullReport.{FullReport}
+use Rattle.element_registry.specs.Registries.{Known}
 use Rattle.exit_status.specs.Statuses.{number_of}
 use Rattle.exit_status.specs.declared.status.Status.TheVariants.{Well, Failed}
 use Rattle.flow_table.specs.Plans.{PlanValue}
@@ -31,9 +32,9 @@ abbrev pub WentWell : Bool → List FullReport → Table → Type 0
 WentWell true fulls table = IsSpotless fulls table.tally table.missing
 WentWell false fulls table = All (λ (full : FullReport). HasNoFault full.report) fulls
 
--- what is told of a table: how many records there were of each class, and what they lack
-abbrev pub table_told : Telling → PlanValue → Table → List ℕ
-table_told telling plan table = tally_line table.tally ++ missing_told telling plan table.missing
+-- what is told of a table: how many records there were of each class, and what they lack, by its name under files
+abbrev pub table_told : Telling → List Known → PlanValue → Table → List ℕ
+table_told telling known plan table = tally_line table.tally ++ missing_told telling known plan table.missing
 
 module _ {S : Type 0} (seen : S → SourceView) where
   -- what was collected ended as the last fact says it, of the sessions and their table; the status says that all was well

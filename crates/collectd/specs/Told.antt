@@ -1,5 +1,6 @@
 -- What a run tells on standard error.
 use Rattle.std.specs.Prelude.{◌⊎◌, ℕ, List, ◌++◌, codes}
+use Rattle.element_registry.specs.Registries.{Known}
 use Rattle.ipfix_session.specs.declared.report.FullReport.{FullReport}
 use Rattle.flow_table.specs.Plans.{PlanValue}
 use Rattle.flow_table.specs.declared.table.Table.{Table}
@@ -15,15 +16,15 @@ use Rattle.collectd.specs.CollectLines.{collect_fault_line}
 use Rattle.collectd_inputs.specs.InputsTold.{opened_lines, StopsAt, TellsPeers}
 use Rattle.collectd.specs.FullRuns.{table_told}
 
--- the sessions, in order, then how many records of each class there were, and what they lack
-abbrev pub run_lines : Telling → PlanValue → List Origin → List FullReport → Table → List ℕ
-run_lines telling plan origins fulls table = told_lines telling origins fulls ++ table_told telling plan table
+-- the sessions, in order, then how many records of each class there were, and what they lack, by its name under files
+abbrev pub run_lines : Telling → List Known → PlanValue → List Origin → List FullReport → Table → List ℕ
+run_lines telling known plan origins fulls table = told_lines telling origins fulls ++ table_told telling known plan table
 
 -- behind the first lines each session is told when it is had, with its origin, and at the end all of them in full
-pub record TellsRun (AreOrigins : List Origin → Type 0) (telling : Telling) (plan : PlanValue) (first : List ℕ) (AreTold : List ℕ → Type 0) (fulls : List FullReport) (table : Table) : Type 0 where
+pub record TellsRun (AreOrigins : List Origin → Type 0) (telling : Telling) (known : List Known) (plan : PlanValue) (first : List ℕ) (AreTold : List ℕ → Type 0) (fulls : List FullReport) (table : Table) : Type 0 where
   pub origins : List Origin
   pub are_origins : AreOrigins origins
-  pub told : AreTold (first ++ (opened_lines telling origins ++ run_lines telling plan origins fulls table))
+  pub told : AreTold (first ++ (opened_lines telling origins ++ run_lines telling known plan origins fulls table))
 
 -- and then that it can't be had
 pub record TellsNotOpened (names : List (List ℕ)) (telling : Telling) (AreTold : List ℕ → Type 0) : Type 0 where

@@ -6,7 +6,7 @@ ghost use Rattle.exit_status.specs.Statuses.{number_of};
 ghost use Rattle.flow_collect.specs.Refusals.{fault_of_arguments};
 ghost use Rattle.flow_collect.specs.Texts.{HasNoFault};
 ghost use Rattle.run_reports.specs.Told.{AreTold};
-ghost use Rattle.collectd_output.specs.TableTexts.{Writes};
+ghost use Rattle.collectd_output.specs.TableTexts.{WritesUnder};
 ghost use Rattle.collectd.specs.Runs.{AddsUpWhole, WritesWholeTable};
 ghost use Rattle.flow_collect.specs.InFull.{HeadlineInFull};
 ghost use Rattle.flow_table.specs.Plans.{PlanValue};
@@ -15,7 +15,8 @@ ghost use Rattle.collectd.specs.FullRuns.{table_told, WentWell, WritesTableInFul
 ghost use Rattle.collectd.specs.Told.{run_lines, TellsFault};
 
 use crate::collect_fault::write_collect_fault;
-use collectd_output::{Output, export_flat};
+use collectd_output::{Output, export_flat_under};
+use element_registry::Elements;
 use exit_status::Status;
 use flow_collect::{CollectedInFull, OpenGate, Pool, collect_flat};
 use flow_table::{FlatTable, Plan};
@@ -30,7 +31,8 @@ use std::sync::Wait;
 use std::thread::Threads;
 
 /// Does as [`run`](crate::run), and tells more if `telling` asks for it: to `err` it writes the lines of the
-/// sessions in full, each with the origin that has the session's place. If `telling` is strict, the status is 1
+/// sessions in full, each with the origin that has the session's place. Keys and counters have the names that
+/// `elements` gives them. If `telling` is strict, the status is 1
 /// also if anything shows that something which was sent isn't in the table
 /// ([`is_spotless`](run_reports::is_spotless)).
 pub fn run_in_full<S: Source + Send + Drop, W: Write, E: WriteLines, R: Threads + Wait + Sync>(
@@ -38,6 +40,7 @@ pub fn run_in_full<S: Source + Send + Drop, W: Write, E: WriteLines, R: Threads 
     alloc: Global,
     sources: Vec<S>,
     origins: &[Origin],
+    elements: &Elements,
     plan: &Plan,
     pool: Pool,
     output: Output,
@@ -52,13 +55,14 @@ pub fn run_in_full<S: Source + Send + Drop, W: Write, E: WriteLines, R: Threads 
     // a fault, and if the run is strict exactly if it was spotless.
     ensures table { result ≢ number_of Status.Failed
         → WritesTableInFull S.seen telling.strict sources.items plan.now pool result
-        (λ fulls table. Writes plan.now output (W.contents out.old) (W.contents out.new) table
+        (λ fulls table.
+        WritesUnder elements.now plan.now output (W.contents out.old) (W.contents out.new) table
         × AreTold (E.contents err.old) (E.contents err.new) (E.failed err.new)
-        (run_lines telling plan.now origins.now fulls table)) }
+        (run_lines telling elements.now plan.now origins.now fulls table)) }
     // The table of all whole texts was written, and each of them ends with a whole message.
     ensures all { result ≡ number_of Status.Well
         → WritesWholeTable S.seen sources.items plan.now
-        (Writes plan.now output (W.contents out.old) (W.contents out.new)) }
+        (WritesUnder elements.now plan.now output (W.contents out.old) (W.contents out.new)) }
     // The line of a fault alone was told; and nothing was written, if it is one of collecting.
     ensures failed { result ≡ number_of Status.Failed → TellsFault (out.new ≡ out.old)
         (AreTold (E.contents err.old) (E.contents err.new) (E.failed err.new)) }
@@ -76,11 +80,11 @@ pub fn run_in_full<S: Source + Send + Drop, W: Write, E: WriteLines, R: Threads 
             return Status::Failed.number();
         }
     };
-    if let Err(fault) = export_flat(alloc, plan, &collected.table, output, out) {
+    if let Err(fault) = export_flat_under(alloc, elements, plan, &collected.table, output, out) {
         let _ = write_export_fault(fault, err);
         return Status::Failed.number();
     }
-    let _ = tell(telling, origins, plan, &collected, err);
+    let _ = tell(telling, origins, elements, plan, &collected, err);
     status_of(telling.strict, &collected).number()
 }
 
@@ -135,32 +139,34 @@ fn have_no_fault(reports: &[FullReport]) -> bool
 fn tell<S, E: WriteLines>(
     telling: Telling,
     origins: &[Origin],
+    elements: &Elements,
     plan: &Plan,
     collected: &CollectedInFull<S, FlatTable>,
     err: &mut E,
 ) -> io::Result<()>
     ensures told { OnOk result (Appends (E.contents err.old) (E.contents err.new)
-        (run_lines telling plan.now origins.now collected.now.sessions.items
+        (run_lines telling elements.now plan.now origins.now collected.now.sessions.items
         collected.now.table)) }
     ensures failed { OnErr result (E.failed err.new) }
     ensures kept { E.failed err.old → E.failed err.new }
 {
     write_told_reports(telling, origins, &collected.sessions, err)?;
-    tell_table(telling, plan, &collected.table, err)
+    tell_table(telling, elements, plan, &collected.table, err)
 }
 
 // How many records there were of each class, and what of them lacked something.
 fn tell_table<E: WriteLines>(
     telling: Telling,
+    elements: &Elements,
     plan: &Plan,
     table: &FlatTable,
     err: &mut E,
 ) -> io::Result<()>
     ensures told { OnOk result (Appends (E.contents err.old) (E.contents err.new)
-        (table_told telling plan.now table.now)) }
+        (table_told telling elements.now plan.now table.now)) }
     ensures failed { OnErr result (E.failed err.new) }
     ensures kept { E.failed err.old → E.failed err.new }
 {
     write_tally(&table.tally(), err)?;
-    write_missing(telling, plan, &table.missing(), err)
+    write_missing(telling, elements, plan, &table.missing(), err)
 }

@@ -15,7 +15,7 @@ pub use collectd_dump::{
 };
 pub use collectd_inputs::{
     Accepted, Listener, Listening, Note, Noted, NotedPeer, OpenSource, Opened, SystemFiles,
-    load_plan,
+    load_plan, load_plan_under,
 };
 pub use collectd_merge::{run_merge, run_merge_in_full};
 pub use collectd_output::Output;

@@ -12,6 +12,7 @@ ghost use Rattle.collectd.specs.Runs.{WritesTable, WritesWholeTable};
 
 use crate::full_run::run_in_full;
 use collectd_output::Output;
+use element_registry::Elements;
 use exit_status::Status;
 use flow_collect::Pool;
 use flow_table::Plan;
@@ -63,11 +64,13 @@ pub fn run<S: Source + Send + Drop, W: Write, E: WriteLines, R: Threads + Wait +
         (collect_fault_line fault)) }
     ensures kept { E.failed err.old → E.failed err.new }
 {
+    let elements = Elements::built_in(alloc);
     run_in_full(
         rt,
         alloc,
         sources,
         &[],
+        &elements,
         plan,
         pool,
         output,

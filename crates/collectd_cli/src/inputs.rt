@@ -4,7 +4,9 @@ use crate::formats::table_format;
 use crate::progress_output::{ProgressOutput, open_terminal};
 use crate::timers::ask_for_short_sleeps;
 use clap::ArgMatches;
-use collectd::{Noted, Output, Remembering, Telling, load_plan, write_export_fault};
+use collectd::{Noted, Output, Remembering, Telling, load_plan_under, write_export_fault};
+use element_files::load_elements;
+use element_registry::Elements;
 use exit_status::Status;
 use flow_collect::Pool;
 use flow_export::ExportFault;
@@ -37,18 +39,25 @@ pub fn table_output(
 /// What all commands with a plan are told alike.
 #[derive(Drop)]
 pub struct Job {
+    /// By which the plan names its keys and counters, and texts name them again.
+    pub elements: Elements,
     pub plan: Plan,
     pub output: Output,
 }
 
-/// The plan, which is read here, and the options. If there is no plan, standard error has a line.
+/// The files of elements and the plan, which are read here, and the options. If a file has a fault, or there
+/// is no plan, standard error has a line.
 pub fn read_job(rt: &HostRuntime, chosen: &ArgMatches) -> Option<Job> {
-    let path = chosen.get_str("plan")?;
+    let telling = read_telling(chosen);
     let mut err = Remembering::new(rt.stderr());
-    let plan = load_plan(rt, rt.alloc(), path, read_telling(chosen), &mut err)?;
+    let files = chosen.get_strs("elements").unwrap_or(&[]);
+    let elements = load_elements(rt, rt.alloc(), files, telling, &mut err)?;
+    let path = chosen.get_str("plan")?;
+    let plan = load_plan_under(rt, rt.alloc(), &elements, path, telling, &mut err)?;
     let time = chosen.get_one::<u32>("time")?;
     let format = table_format(chosen.get_str("format")?)?;
     Some(Job {
+        elements,
         plan,
         output: Output { format, time },
     })

@@ -1,3 +1,4 @@
 pub mod Had
 pub mod InputsTold
 mod TimeLimits
+mod PlansUnder

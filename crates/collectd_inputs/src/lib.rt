@@ -15,5 +15,5 @@ pub use listening::{Listening, NotedPeer};
 pub use noted::{Note, Noted};
 pub use opening::{OpenSource, Opened, SystemFiles};
 pub use opening_all::{NotOpened, OpenedAll, open_all};
-pub use plan::load_plan;
+pub use plan::{load_plan, load_plan_under};
 pub use unread::Unread;

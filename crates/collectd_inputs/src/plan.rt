@@ -5,11 +5,14 @@ ghost use Rattle.std.specs.Option.{ForSome};
 ghost use Rattle.std.specs.Str.{IsUtf8};
 ghost use Rattle.flow_table.specs.Plans.{IsPlan};
 ghost use Rattle.plan_file.specs.PlanTexts.{plan_of_text};
+ghost use Rattle.plan_file.specs.PlanTextsUnder.{plan_of_text_under};
 ghost use Rattle.run_reports.specs.Told.{AreTold};
-ghost use Rattle.collectd_inputs.specs.PlansTold.{TellsNoPlan};
+ghost use Rattle.collectd_inputs.specs.PlansTold.{TellsNoPlan, TellsNoPlanUnder};
 
+use element_registry::Elements;
 use flow_table::Plan;
-use plan_file::read_plan_octets;
+use plan_file::laws::no_files;
+use plan_file::read_plan_octets_under;
 use run_reports::{Telling, WriteLines, write_not_had_because, write_plan_fault};
 use std::alloc::Global;
 use text_files::ReadText;
@@ -36,6 +39,35 @@ pub fn load_plan<T: ReadText, E: WriteLines>(
         telling path.now (AreTold (E.contents err.old) (E.contents err.new) (E.failed err.new))) }
     ensures kept { E.failed err.old → E.failed err.new }
 {
+    // (what a text says under no files is what it says without any)
+    no_files();
+    let elements = Elements::built_in(alloc);
+    load_plan_under(files, alloc, &elements, path, telling, err)
+}
+
+/// Does as [`load_plan`] with a text that may name elements of files, too.
+pub fn load_plan_under<T: ReadText, E: WriteLines>(
+    files: &T,
+    alloc: Global,
+    elements: &Elements,
+    path: &str,
+    telling: Telling,
+    err: &mut E,
+) -> Option<Plan>
+    // The plan is that of the text that the path has, which is UTF-8.
+    ensures text { ForSome result (λ plan. (octets : List ℕ)
+        × T.has files.now path.now octets × IsUtf8 octets
+        × (plan_of_text_under elements.now octets ≡ Ok plan)) }
+    // No fault fits a plan that was read.
+    ensures sound { ForSome result IsPlan }
+    // Nothing is told if a plan was read.
+    ensures silent { IfSome result (λ _. err.new ≡ err.old) }
+    // Else why the path has none was told, and nothing else.
+    ensures told { IfNone result (TellsNoPlanUnder elements.now (T.has files.now path.now)
+        (T.refuses files.now path.now) telling path.now
+        (AreTold (E.contents err.old) (E.contents err.new) (E.failed err.new))) }
+    ensures kept { E.failed err.old → E.failed err.new }
+{
     let octets = match files.read_text(alloc, path) {
         Ok(octets) => octets,
         Err(reason) => {
@@ -43,7 +75,7 @@ pub fn load_plan<T: ReadText, E: WriteLines>(
             return None;
         }
     };
-    match read_plan_octets(alloc, &octets) {
+    match read_plan_octets_under(alloc, elements, &octets) {
         Ok(plan) => Some(plan),
         Err(error) => {
             let _ = write_plan_fault(&error, err);

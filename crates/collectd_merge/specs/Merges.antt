@@ -1,13 +1,13 @@
 -- What merging the exports in files wrote.
 use Rattle.std.specs.Prelude.{◌≡◌, ℕ, List, [], All, Option}
-use Rattle.std.specs.Io.KnownBytes.{Appends}
 use Rattle.ipfix_session.specs.Sources.{SourceView}
+use Rattle.element_registry.specs.Registries.{Known}
 use Rattle.flow_table.specs.Plans.{PlanValue}
 use Rattle.flow_table.specs.SameTables.{RowValue}
 use Rattle.flow_table.specs.declared.table.Table.{Table}
 use Rattle.flow_merge.specs.Merging.{merging_plan, AddsAllUp, AddsExport, StandsFor}
 use Rattle.flow_merge.specs.declared.merging.Merging.{Merging}
-use Rattle.collectd_output.specs.TableTexts.{export_text}
+use Rattle.collectd_output.specs.TableTexts.{Writes, WritesUnder}
 use Rattle.collectd_inputs.specs.Had.{IsUnread}
 use Rattle.ipfix_session.specs.declared.driver.TheConstants.{READ_LIMIT}
 use Rattle.run_reports.specs.OpeningLines.{if_verbose}
@@ -27,12 +27,20 @@ module _ {S : Type 0} (seen : S → SourceView) where
     pub unread : All (IsUnread seen) sources
     pub added_up : AddsAllUp seen READ_LIMIT plan sources table
 
-  -- that table was written, and nothing else, and it was told as the last fact says it
-  pub record WritesMerged (AreHad : List S → Type 0) (plan : PlanValue) (output : Output) (old new : Option (List ℕ)) (IsTold : Table → Type 0) : Type 0 where
+  -- that table was written and told as the last two facts say it
+  pub record EndsMerged (AreHad : List S → Type 0) (plan : PlanValue) (IsWritten IsTold : Table → Type 0) : Type 0 where
     pub table : Table
     pub merged : IsMerged AreHad plan table
-    pub written : Appends old new (export_text output plan table)
+    pub written : IsWritten table
     pub told : IsTold table
+
+  -- it was written, and nothing else
+  abbrev pub WritesMerged : (List S → Type 0) → PlanValue → Output → Option (List ℕ) → Option (List ℕ) → (Table → Type 0) → Type 0
+  WritesMerged AreHad plan output old new IsTold = EndsMerged AreHad plan (Writes plan output old new) IsTold
+
+  -- the same with the names that elements have under files
+  abbrev pub WritesMergedUnder : List Known → (List S → Type 0) → PlanValue → Output → Option (List ℕ) → Option (List ℕ) → (Table → Type 0) → Type 0
+  WritesMergedUnder known AreHad plan output old new IsTold = EndsMerged AreHad plan (WritesUnder known plan output old new) IsTold
 
   -- the export of a source that was had as the first fact says it, and not read before, is added
   pub record AddsFile (IsHad : S → Type 0) (old new : Merging) : Type 0 where

@@ -7,14 +7,15 @@ ghost use Rattle.flow_table.specs.declared.table.Table.{Table as TableValue};
 ghost use Rattle.run_reports.specs.OpeningLines.{if_verbose};
 ghost use Rattle.run_reports.specs.Told.{AreTold};
 ghost use Rattle.collectd_merge.specs.MergeLines.{file_opened_line, files_opened_lines};
-ghost use Rattle.collectd_merge.specs.Merges.{AddsFile, IsMerged, IsNotAdded, StopsMerge, WritesMerged};
+ghost use Rattle.collectd_merge.specs.Merges.{AddsFile, IsMerged, IsNotAdded, StopsMerge, WritesMerged, WritesMergedUnder};
 ghost use Rattle.collectd_merge.specs.MergesTold.{merge_lines, TellsNotExported, TellsNotMerged};
 ghost use Rattle.collectd_inputs.specs.Had.{AreOpened, IsOpened};
 
 use crate::not_merged::NotMerged;
 use crate::reports::{write_file_opened, write_merged, write_not_merged};
 use collectd_inputs::OpenSource;
-use collectd_output::{Output, export};
+use collectd_output::{Output, export_under};
+use element_registry::Elements;
 use exit_status::Status;
 use flow_merge::Merging;
 use flow_table::{Plan, Table};
@@ -64,16 +65,28 @@ pub fn run_merge<S: Source + Drop, O: OpenSource<S>, W: Write, E: WriteLines>(
         (AreTold (E.contents err.old) (E.contents err.new) (E.failed err.new))) }
     ensures kept { E.failed err.old → E.failed err.new }
 {
-    run_merge_in_full(files, alloc, paths, plan, output, NOTHING_MORE, out, err)
+    let elements = Elements::built_in(alloc);
+    run_merge_in_full(
+        files,
+        alloc,
+        paths,
+        &elements,
+        plan,
+        output,
+        NOTHING_MORE,
+        out,
+        err,
+    )
 }
 
 /// Does as [`run_merge`], and tells more if `telling` is verbose: each file that is opened or not merged, by its
 /// number and name, and the system's reason behind one that can't be opened. A strict merge is none other, since nothing is
-/// merged in which anything was lost or passed over.
+/// merged in which anything was lost or passed over. Keys and counters have the names that `elements` gives them.
 pub fn run_merge_in_full<S: Source + Drop, O: OpenSource<S>, W: Write, E: WriteLines>(
     files: &mut O,
     alloc: Global,
     paths: &[&str],
+    elements: &Elements,
     plan: &Plan,
     output: Output,
     telling: Telling,
@@ -85,7 +98,7 @@ pub fn run_merge_in_full<S: Source + Drop, O: OpenSource<S>, W: Write, E: WriteL
     // The source of each path, in their order, each opened once, gave an export; the rows of all of them,
     // added up, were written, and nothing else; how many files and rows there are was told, and nothing else.
     ensures table { result ≡ number_of Status.Well
-        → WritesMerged S.seen (AreOpened (λ path. O.opens files.old path.now)
+        → WritesMergedUnder S.seen elements.now (AreOpened (λ path. O.opens files.old path.now)
         paths.now (O.coming files.old) (O.coming files.new))
         plan.now output (W.contents out.old) (W.contents out.new)
         (λ table. AreTold (E.contents err.old) (E.contents err.new) (E.failed err.new)
@@ -111,7 +124,7 @@ pub fn run_merge_in_full<S: Source + Drop, O: OpenSource<S>, W: Write, E: WriteL
             return not_merged.status().number();
         }
     };
-    if let Err(fault) = export(alloc, plan, &table, output, out) {
+    if let Err(fault) = export_under(alloc, elements, plan, &table, output, out) {
         let _ = write_export_fault(fault, err);
         return Status::Failed.number();
     }

@@ -36,7 +36,7 @@ fn with_progress<'a>(alloc: Global, command: Command<'a>) -> Result<Command<'a>,
     command.arg(progress)
 }
 
-/// The plan.
+/// The plan, and the files of elements that it may name.
 pub fn with_plan<'a>(alloc: Global, command: Command<'a>) -> Result<Command<'a>, AllocError> {
     let plan = option(
         alloc,
@@ -44,7 +44,7 @@ pub fn with_plan<'a>(alloc: Global, command: Command<'a>) -> Result<Command<'a>,
         "P",
         "The plan of the aggregation, a TOML file",
     );
-    command.arg(plan.required(true))
+    with_element_files(alloc, command.arg(plan.required(true))?)
 }
 
 fn with_pool<'a>(alloc: Global, command: Command<'a>) -> Result<Command<'a>, AllocError> {

@@ -16,6 +16,17 @@ pub enum Subcommand {
 }
 
 impl Subcommand {
+    /// All of them, in the order of the help.
+    pub const ALL: [Subcommand; 7] = [
+        Subcommand::Dump,
+        Subcommand::Files,
+        Subcommand::Tcp,
+        Subcommand::Record,
+        Subcommand::Merge,
+        Subcommand::Elements,
+        Subcommand::Explain,
+    ];
+
     /// The word that names it.
     pub fn word<'a>(self) -> &'a str
         ensures { result.now ≡ word_of self }

@@ -19,18 +19,15 @@ pub fn matches_of<'a>(alloc: Global, words: &'a [String]) -> Result<ArgMatches<'
 }
 
 fn command<'a>(alloc: Global) -> Result<Command<'a>, AllocError> {
-    Command::new(alloc, "collectd")
+    let mut command = Command::new(alloc, "collectd")
         .version(VERSION)
         .about("Collects flow records sent as IPFIX and adds them up")
         .subcommand_required(true)
-        .arg_required_else_help(true)
-        .subcommand(subcommand(alloc, Subcommand::Dump)?)?
-        .subcommand(subcommand(alloc, Subcommand::Files)?)?
-        .subcommand(subcommand(alloc, Subcommand::Tcp)?)?
-        .subcommand(subcommand(alloc, Subcommand::Record)?)?
-        .subcommand(subcommand(alloc, Subcommand::Merge)?)?
-        .subcommand(subcommand(alloc, Subcommand::Elements)?)?
-        .subcommand(subcommand(alloc, Subcommand::Explain)?)
+        .arg_required_else_help(true);
+    for named in Subcommand::ALL {
+        command = command.subcommand(subcommand(alloc, named)?)?;
+    }
+    Ok(command)
 }
 
 fn subcommand<'a>(alloc: Global, named: Subcommand) -> Result<Command<'a>, AllocError> {

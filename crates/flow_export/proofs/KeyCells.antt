@@ -4,13 +4,12 @@ use Rattle.std.specs.List.{zip, flat_map, AllZip}
 use Rattle.std.proofs.lemmas.List.{append-nil, take_all}
 use Rattle.std.proofs.lemmas.Grind.{flat_map-append}
 use Rattle.ipfix_wire.specs.declared.specifier.ElementId.{ElementId}
-use Rattle.ipfix_elements.specs.Elements.{kind_of}
 use Rattle.ipfix_elements.specs.declared.cell.Cell.{Cell}
 use Rattle.ipfix_elements.specs.declared.kind.Kind.{Kind}
 use Rattle.ipfix_message.specs.Fields.{Field}
 use Rattle.flow_table.specs.declared.key.Key.{Key}
-use Rattle.flow_table.specs.Fitting.{IsCellOf, FitsKeys}
-use Rattle.flow_table.specs.Plans.{PlanValue, kinds_of}
+use Rattle.flow_table.specs.Fitting.{IsCellOf}
+use Rattle.flow_table.specs.Plans.{PlanValue, keys_and_kinds}
 use Rattle.flow_table.specs.SameTables.{RowValue, value_of}
 use Rattle.flow_table.specs.declared.table.Row.{Row}
 use Rattle.flow_export.specs.Fitting.{FitsValue, IsExportable}
@@ -21,12 +20,6 @@ use Rattle.flow_export.specs.RowOctets.{wide_octets, cells_octets}
 use Rattle.flow_export.proofs.Places.{placed_as, then_placed}
 
 -- ---- cells and their kinds
-
-pub kinds_fit : (ks : List Key) (cs : List Cell) → FitsKeys ks cs → AllZip IsCellOf (kinds_of ks) cs
-kinds_fit [] [] fits = tt
-kinds_fit [] (c ∷ cs) fits = absurd fits
-kinds_fit (k ∷ ks) [] fits = absurd fits
-kinds_fit (k ∷ ks) (c ∷ cs) fits = (fits.0, kinds_fit ks cs fits.1)
 
 pub same_length : (ks : List Kind) (cs : List Cell) → AllZip IsCellOf ks cs → length ks ≡ length cs
 same_length [] [] fits = refl
@@ -64,10 +57,12 @@ cells_placed ks cs i fits all p = rw (take_all i cs all, take_all i ks (omega (a
 abbrev octets_in : List Field → List ℕ
 octets_in fields = flat_map (λ f. f.octets) fields
 
-key_parts : (ks : List Key) (cs : List Cell) → octets_in (map key_field (zip ks cs)) ≡ cells_octets (kinds_of ks) cs
-key_parts [] cs = refl
-key_parts (k ∷ ks) [] = refl
-key_parts (k ∷ ks) (c ∷ cs) = ap (λ (t : List ℕ). wide_octets (kind_of k.element, c) ++ t) (key_parts ks cs)
+key_parts : (ks : List Key) (kinds : List Kind) (cs : List Cell) → length kinds ≡ length ks → octets_in (map key_field (zip (zip ks kinds) cs)) ≡ cells_octets kinds cs
+key_parts [] [] cs beside = refl
+key_parts [] (kind ∷ kinds) cs beside = absurd (omega (arith, beside))
+key_parts (k ∷ ks) [] cs beside = absurd (omega (arith, beside))
+key_parts (k ∷ ks) (kind ∷ kinds) [] beside = refl
+key_parts (k ∷ ks) (kind ∷ kinds) (c ∷ cs) beside = ap (λ (t : List ℕ). wide_octets (kind, c) ++ t) (key_parts ks kinds cs (omega (arith, beside)))
 
 sum_parts : (es : List ElementId) (vs : List ℕ) → length vs ≡ length es → octets_in (map number_field (zip es vs)) ≡ flat_map number_octets vs
 sum_parts [] [] same = refl
@@ -77,14 +72,14 @@ sum_parts (e ∷ es) (v ∷ vs) same = ap (λ (t : List ℕ). number_octets v ++
 
 -- the times, the cells of the key, the sums and the number of flows
 pub row_parts : (plan : PlanValue) (row : RowValue) → FitsValue plan row
-    → row_octets plan row ≡ number_octets (first_of plan row) ++ (number_octets (last_of plan row) ++ (cells_octets (kinds_of plan.keys) row.key ++ (flat_map number_octets row.sums ++ number_octets row.flows)))
+    → row_octets plan row ≡ number_octets (first_of plan row) ++ (number_octets (last_of plan row) ++ (cells_octets plan.kinds row.key ++ (flat_map number_octets row.sums ++ number_octets row.flows)))
 row_parts plan row fits =
-    let keys = map key_field (zip plan.keys row.key) in
+    let keys = map key_field (zip (keys_and_kinds plan) row.key) in
     let sums = map number_field (zip plan.counters row.sums) in
-    let split : octets_in (keys ++ (sums ++ number_field (record { pen = 0; number = 375 }, row.flows) ∷ [])) ≡ cells_octets (kinds_of plan.keys) row.key ++ (flat_map number_octets row.sums ++ number_octets row.flows) =
+    let split : octets_in (keys ++ (sums ++ number_field (record { pen = 0; number = 375 }, row.flows) ∷ [])) ≡ cells_octets plan.kinds row.key ++ (flat_map number_octets row.sums ++ number_octets row.flows) =
     flat_map-append (λ f. f.octets) keys (sums ++ number_field (record { pen = 0; number = 375 }, row.flows) ∷ [])
-    ∙ ap (λ (t : List ℕ). t ++ octets_in (sums ++ number_field (record { pen = 0; number = 375 }, row.flows) ∷ [])) (key_parts plan.keys row.key)
-    ∙ ap (λ (t : List ℕ). cells_octets (kinds_of plan.keys) row.key ++ t)
+    ∙ ap (λ (t : List ℕ). t ++ octets_in (sums ++ number_field (record { pen = 0; number = 375 }, row.flows) ∷ [])) (key_parts plan.keys plan.kinds row.key fits.key.beside)
+    ∙ ap (λ (t : List ℕ). cells_octets plan.kinds row.key ++ t)
     (flat_map-append (λ f. f.octets) sums (number_field (record { pen = 0; number = 375 }, row.flows) ∷ [])
     ∙ ap (λ (t : List ℕ). t ++ (number_octets row.flows ++ [])) (sum_parts plan.counters row.sums fits.sums)
     ∙ ap (λ (t : List ℕ). flat_map number_octets row.sums ++ t) (append-nil (number_octets row.flows))) in
@@ -92,7 +87,7 @@ row_parts plan row fits =
 
 -- its five parts, one after another
 pub row_placed : {a b c d e f : List ℕ} {i j k m n o : ℕ} (plan : PlanValue) (row : Row) (l : ℕ) (ks : List Kind) (cs : List Cell) (vs : List ℕ) → IsExportable plan (value_of row)
-    → l ≡ plan.length → ks ≡ kinds_of plan.keys → cs ≡ row.key.items → vs ≡ row.sums.items
+    → l ≡ plan.length → ks ≡ plan.kinds → cs ≡ row.key.items → vs ≡ row.sums.items
     → Placed a b i (number_octets (row.interval * l)) j → Placed b c j (number_octets (row.interval * l + l - 1)) k → Placed c d k (cells_octets ks cs) m → Placed d e m (flat_map number_octets vs) n
     → Placed e f n (number_octets row.flows) o → Placed a f i (row_octets plan (value_of row)) o
 row_placed plan row l ks cs vs fits is_l is_ks is_cs is_vs first last key sums flows =

@@ -1,17 +1,16 @@
 -- A row has at most 184 octets, and a template at most 124.
 use Rattle.std.proofs.Common.{◌≡◌, ◌+◌, ◌*◌, ◌^◌, ◌≤◌, Bool, true, false, cond, eqb, List, [], ◌∷◌, ◌++◌, length, arith}
 use Rattle.std.specs.List.{flat_map}
-use Rattle.std.proofs.lemmas.List.{length-append, length-map}
+use Rattle.std.proofs.lemmas.List.{length-append}
 use Rattle.byteorder.specs.Endian.{big_bytes}
 use Rattle.ipfix_wire.specs.FieldSpecifier.{spec_octets}
 use Rattle.ipfix_wire.specs.declared.specifier.Spec.{Spec}
-use Rattle.ipfix_elements.specs.Elements.{kind_of}
-use Rattle.flow_table.specs.Plans.{PlanValue, IsPlan, kinds_of}
+use Rattle.flow_table.specs.Plans.{PlanValue, IsPlan}
 use Rattle.flow_table.specs.SameTables.{value_of}
 use Rattle.flow_table.specs.declared.table.Row.{Row}
 use Rattle.flow_export.specs.Fitting.{IsExportable}
 use Rattle.flow_export.specs.IpfixText.{row_octets, field_specs, template, template_octets}
-use Rattle.flow_export.proofs.KeyCells.{kinds_fit, same_length}
+use Rattle.flow_export.proofs.KeyCells.{same_length}
 use Rattle.flow_export.proofs.PlanFacts.{few_keys, has_room}
 use Rattle.flow_export.proofs.Room.{HasRoom}
 use Rattle.flow_export.proofs.RowFields.{length-row_octets}
@@ -23,7 +22,7 @@ row_short plan row is fits = omega (arith, length-row_octets plan (value_of row)
 pub few_parts : (plan : PlanValue) (row : Row) → IsPlan plan → IsExportable plan (value_of row) → (length row.key.items ≤ 8) × (length row.sums.items ≤ 4)
 few_parts plan row is fits =
     let few = few_keys plan is in
-    (omega (arith, few.0, same_length (kinds_of plan.keys) row.key.items (kinds_fit plan.keys row.key.items fits.fields.key), length-map plan.keys (λ key. kind_of key.element)), omega (arith, few.1, fits.fields.sums))
+    (omega (arith, few.0, same_length plan.kinds row.key.items fits.fields.key.fit, fits.fields.key.beside), omega (arith, few.1, fits.fields.sums))
 
 -- a specifier has four octets, or eight with an enterprise number
 length-spec : (s : Spec) → length (spec_octets s) ≤ 8

@@ -5,21 +5,21 @@ use Rattle.std.specs.List.{flat_map, zip}
 use Rattle.std.proofs.lemmas.List.{append-nil, get_or_default, take_all, length-map, map-append}
 use Rattle.std.proofs.lemmas.Grind.{flat_map-append}
 use Rattle.std.proofs.lemmas.Slice.Zip.{get_or-zip, length-zip}
-use Rattle.ipfix_elements.specs.Elements.{kind_of}
-use Rattle.ipfix_elements.specs.Names.{name_text}
+use Rattle.element_registry.specs.Registries.{name_under}
 use Rattle.ipfix_elements.specs.declared.cell.Cell.{Cell}
-use Rattle.flow_table.specs.Plans.{PlanValue, kinds_of}
+use Rattle.flow_table.specs.Plans.{PlanValue}
 use Rattle.flow_table.specs.SameTables.{value_of}
 use Rattle.flow_table.specs.declared.table.Row.{Row}
-use Rattle.flow_export.specs.CsvText.{first_of, key_text, last_of}
+use Rattle.flow_export.specs.CsvText.{first_of, last_of}
 use Rattle.flow_export.specs.JsonParts.{AreLabels, label, labelled, text_of}
 use Rattle.flow_export.specs.Fitting.{IsExportable}
-use Rattle.flow_export.specs.JsonText.{member, row_object}
+use Rattle.flow_export.specs.JsonText.{member}
+use Rattle.flow_export.specs.TextsUnder.{key_text_under, row_object_under}
 use Rattle.ipfix_elements.specs.JsonValues.{json_cell, json_number}
 use Rattle.flow_export.specs.declared.json_text.labels.MemberLabel.{MemberLabel}
 use Rattle.flow_export.specs.declared.json_text.labels.RowLabels.{RowLabels}
 use Rattle.flow_export.proofs.Appending.{one_more}
-use Rattle.flow_export.proofs.KeyCells.{kinds_fit, same_length}
+use Rattle.flow_export.proofs.KeyCells.{same_length}
 use Rattle.flow_export.proofs.Lines.{behind_commas, next, six_parts}
 
 -- ---- values behind their labels, one after another
@@ -79,9 +79,9 @@ pub same_counts : (plan : PlanValue) (labels : RowLabels) (row : Row) → AreLab
 same_counts plan labels row made fits =
     let keys = ap length made.keys in
     let counters = ap length made.counters in
-    let cells = same_length (kinds_of plan.keys) row.key.items (kinds_fit plan.keys row.key.items fits.fields.key) in (
-      omega (arith, keys, cells, length-map labels.keys.items text_of, length-map (map key_text plan.keys) label, length-map plan.keys key_text, length-map plan.keys (λ key. kind_of key.element)),
-      omega (arith, counters, fits.fields.sums, length-map labels.counters.items text_of, length-map (map name_text plan.counters) label, length-map plan.counters name_text),
+    let cells = same_length plan.kinds row.key.items fits.fields.key.fit in (
+      omega (arith, keys, cells, length-map labels.keys.items text_of, length-map (map (key_text_under labels.elements.now) plan.keys) label, length-map plan.keys (key_text_under labels.elements.now), fits.fields.key.beside),
+      omega (arith, counters, fits.fields.sums, length-map labels.counters.items text_of, length-map (map (name_under labels.elements.now) plan.counters) label, length-map plan.counters (name_under labels.elements.now)),
     )
 
 three_parts : (ps qs : List (List ℕ × List ℕ)) (p : List ℕ × List ℕ)
@@ -95,12 +95,12 @@ three_parts ps qs p =
 
 -- the members behind the first two
 tail_members : (plan : PlanValue) (labels : RowLabels) (row : Row) → AreLabels plan labels → IsExportable plan (value_of row)
-    → flat_map next (map member (zip (map key_text plan.keys ++ (map name_text plan.counters ++ codes "flows" ∷ [])) (map json_cell row.key.items ++ (map json_number row.sums.items ++ json_number row.flows ∷ []))))
+    → flat_map next (map member (zip (map (key_text_under labels.elements.now) plan.keys ++ (map (name_under labels.elements.now) plan.counters ++ codes "flows" ∷ [])) (map json_cell row.key.items ++ (map json_number row.sums.items ++ json_number row.flows ∷ []))))
     ≡ cells_of labels row ++ (sums_of labels row ++ (codes ",\"flows\":" ++ json_number row.flows))
 tail_members plan labels row made fits =
     let counts = same_counts plan labels row made fits in
-    let names = map key_text plan.keys in
-    let more_names = map name_text plan.counters in
+    let names = map (key_text_under labels.elements.now) plan.keys in
+    let more_names = map (name_under labels.elements.now) plan.counters in
     let values = map json_cell row.key.items in
     let more_values = map json_number row.sums.items in
     let keys : length names ≡ length values = omega (arith, counts.0, ap length made.keys, length-map labels.keys.items text_of, length-map names label, length-map row.key.items json_cell) in
@@ -115,13 +115,13 @@ joined : (m b c d e f : List ℕ) → (m ++ (b ++ (c ++ (d ++ e)))) ++ f ≡ m +
 joined m b c d e f = simp append_assoc
 
 object_parts : (plan : PlanValue) (labels : RowLabels) (row : Row) → AreLabels plan labels → IsExportable plan (value_of row)
-    → row_object plan (value_of row)
+    → row_object_under labels.elements.now plan (value_of row)
     ≡ (codes "{\"start\":" ++ json_number (first_of plan (value_of row))) ++ ((codes ",\"end\":" ++ json_number (last_of plan (value_of row)))
     ++ (cells_of labels row ++ (sums_of labels row ++ ((codes ",\"flows\":" ++ json_number row.flows) ++ codes "}\n"))))
 object_parts plan labels row made fits =
     let first = member (codes "start", json_number (first_of plan (value_of row))) in
     let second = member (codes "end", json_number (last_of plan (value_of row))) in
-    let rest = map member (zip (map key_text plan.keys ++ (map name_text plan.counters ++ codes "flows" ∷ [])) (map json_cell row.key.items ++ (map json_number row.sums.items ++ json_number row.flows ∷ []))) in
+    let rest = map member (zip (map (key_text_under labels.elements.now) plan.keys ++ (map (name_under labels.elements.now) plan.counters ++ codes "flows" ∷ [])) (map json_cell row.key.items ++ (map json_number row.sums.items ++ json_number row.flows ∷ []))) in
     ap (λ (t : List ℕ). codes "{" ++ (t ++ codes "}\n"))
     (behind_commas first (second ∷ rest) ∙ ap (λ (t : List ℕ). first ++ (next second ++ t)) (tail_members plan labels row made fits))
     ∙ ap (λ (t : List ℕ). codes "{" ++ t) (joined first (next second) (cells_of labels row) (sums_of labels row) (codes ",\"flows\":" ++ json_number row.flows) (codes "}\n"))
@@ -131,7 +131,7 @@ pub object_appended : (plan : PlanValue) (labels : RowLabels) (row : Row) (l : �
     → l ≡ plan.length → ks ≡ labels.keys.items → counters ≡ labels.counters.items → cs ≡ row.key.items → vs ≡ row.sums.items
     → p ≡ o ++ (codes "{\"start\":" ++ json_number (row.interval * l)) → q ≡ p ++ (codes ",\"end\":" ++ json_number (row.interval * l + l - 1))
     → r ≡ q ++ flat_map (labelled json_cell) (zip ks cs) → s ≡ r ++ flat_map (labelled json_number) (zip counters vs) → t ≡ s ++ (codes ",\"flows\":" ++ json_number row.flows)
-    → u ≡ t ++ codes "}\n" → u ≡ o ++ row_object plan (value_of row)
+    → u ≡ t ++ codes "}\n" → u ≡ o ++ row_object_under labels.elements.now plan (value_of row)
 object_appended plan labels row l ks counters cs vs o p q r s t u made fits is_l is_ks is_counters is_cs is_vs is_p is_q is_r is_s is_t is_u =
     let first : p ≡ o ++ (codes "{\"start\":" ++ json_number (first_of plan (value_of row))) = is_p ∙ ap (λ (n : ℕ). o ++ (codes "{\"start\":" ++ json_number (row.interval * n))) is_l in
     let second : q ≡ p ++ (codes ",\"end\":" ++ json_number (last_of plan (value_of row))) = is_q ∙ ap (λ (n : ℕ). p ++ (codes ",\"end\":" ++ json_number (row.interval * n + n - 1))) is_l in

@@ -7,7 +7,6 @@ use Rattle.byteorder.specs.Numbers.{length-bytes_high_first}
 use Rattle.ipfix_wire.specs.declared.specifier.ElementId.{ElementId}
 use Rattle.ipfix_wire.specs.declared.specifier.Spec.{Spec}
 use Rattle.ipfix_elements.specs.Cells.{cell_octets}
-use Rattle.ipfix_elements.specs.Elements.{kind_of}
 use Rattle.ipfix_elements.specs.Values.{octets_of}
 use Rattle.ipfix_elements.specs.declared.cell.Cell.{Cell}
 use Rattle.ipfix_elements.specs.declared.cell.Cell.TheVariants as cells
@@ -19,8 +18,8 @@ use Rattle.ipfix_message.specs.Fields.{Field}
 use Rattle.ipfix_message.specs.DataRecords.{Spells, least}
 use Rattle.ipfix_wire.proofs.Choices.{different}
 use Rattle.flow_table.specs.declared.key.Key.{Key}
-use Rattle.flow_table.specs.Plans.{PlanValue}
-use Rattle.flow_table.specs.Fitting.{IsCellOf, FitsKeys}
+use Rattle.flow_table.specs.Plans.{PlanValue, keys_and_kinds}
+use Rattle.flow_table.specs.Fitting.{IsCellOf}
 use Rattle.flow_table.specs.SameTables.{RowValue}
 use Rattle.flow_export.specs.IpfixText.{width_of, key_spec, number_spec, field_specs, key_field, number_field, row_fields, row_octets}
 use Rattle.flow_export.specs.Fitting.{FitsValue}
@@ -95,13 +94,16 @@ cell_narrow Seconds cell fits = omega arith
 cell_narrow Millis cell fits = omega arith
 cell_narrow Octets cell fits = absurd fits
 
-key_fields : (keys : List Key) (cells : List Cell) → FitsKeys keys cells → AllZip IsFieldOf (map key_spec keys) (map key_field (zip keys cells))
-key_fields [] [] fits = tt
-key_fields [] (c ∷ cs) fits = absurd fits
-key_fields (k ∷ ks) [] fits = absurd fits
-key_fields (k ∷ ks) (c ∷ cs) fits =
-    let narrow = cell_narrow (kind_of k.element) c fits.0 in
-    (record { element = refl; fixed = λ e. omega (arith, narrow, e); size = cell_width (kind_of k.element) c fits.0 }, key_fields ks cs fits.1)
+key_fields : (keys : List Key) (kinds : List Kind) (cells : List Cell) → length kinds ≡ length keys → AllZip IsCellOf kinds cells
+    → AllZip IsFieldOf (map key_spec (zip keys kinds)) (map key_field (zip (zip keys kinds) cells))
+key_fields [] [] [] beside fits = tt
+key_fields [] [] (c ∷ cs) beside fits = absurd fits
+key_fields [] (kind ∷ kinds) cs beside fits = absurd (omega (arith, beside))
+key_fields (k ∷ ks) [] cs beside fits = absurd (omega (arith, beside))
+key_fields (k ∷ ks) (kind ∷ kinds) [] beside fits = absurd fits
+key_fields (k ∷ ks) (kind ∷ kinds) (c ∷ cs) beside fits =
+    let narrow = cell_narrow kind c fits.0 in
+    (record { element = refl; fixed = λ e. omega (arith, narrow, e); size = cell_width kind c fits.0 }, key_fields ks kinds cs (omega (arith, beside)) fits.1)
 
 counter_fields : (counters : List ElementId) (sums : List ℕ) → length sums ≡ length counters → AllZip IsFieldOf (map number_spec counters) (map number_field (zip counters sums))
 counter_fields [] [] same = tt
@@ -117,7 +119,7 @@ row_is_fields plan row fits =
       record { element = refl; fixed = eight; size = refl },
       (
         record { element = refl; fixed = eight; size = refl },
-        AllZip-append IsFieldOf (map key_spec plan.keys) (map key_field (zip plan.keys row.key)) _ _ (key_fields plan.keys row.key fits.key)
+        AllZip-append IsFieldOf (map key_spec (keys_and_kinds plan)) (map key_field (zip (keys_and_kinds plan) row.key)) _ _ (key_fields plan.keys plan.kinds row.key fits.key.beside fits.key.fit)
             (AllZip-append IsFieldOf (map number_spec plan.counters) (map number_field (zip plan.counters row.sums)) _ _ (counter_fields plan.counters row.sums fits.sums)
             (record { element = refl; fixed = eight; size = refl }, tt)),
       ),

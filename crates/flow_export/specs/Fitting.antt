@@ -7,7 +7,7 @@ use Rattle.flow_table.specs.SameTables.{RowValue}
 
 -- a cell for each key, of its kind, and a sum for each counter
 pub record FitsValue (plan : PlanValue) (row : RowValue) : Type 0 where
-  pub key : FitsKeys plan.keys row.key
+  pub key : FitsKeys plan row.key
   pub sums : length row.sums ≡ length plan.counters
 
 -- a row that has an export: an interval that begins in time, and the fields of the plan

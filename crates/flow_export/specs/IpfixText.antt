@@ -16,12 +16,12 @@ use Rattle.ipfix_elements.specs.declared.iana.TheConstants.{FLOW_START_MILLISECO
 use Rattle.ipfix_elements.specs.declared.kind.Kind.{Kind}
 use Rattle.ipfix_elements.specs.declared.kind.Kind.TheVariants as kinds
 use Rattle.ipfix_elements.specs.Cells.{cell_octets}
-use Rattle.ipfix_elements.specs.Elements.{iana, kind_of}
+use Rattle.ipfix_elements.specs.Elements.{iana}
 use Rattle.ipfix_elements.specs.Values.{octets_of}
 use Rattle.ipfix_message.specs.Fields.{Field}
 use Rattle.ipfix_message.specs.declared.record.Template.{Template}
 use Rattle.flow_table.specs.declared.key.Key.{Key}
-use Rattle.flow_table.specs.Plans.{PlanValue, exported_element}
+use Rattle.flow_table.specs.Plans.{PlanValue, exported_element, keys_and_kinds}
 use Rattle.flow_table.specs.SameTables.{RowValue}
 use Rattle.flow_export.specs.declared.ipfix_text.rows.TheConstants.{ROWS_A_MESSAGE}
 use Rattle.flow_export.specs.CsvText.{first_of, last_of}
@@ -41,12 +41,9 @@ width_of kinds.Seconds = 4
 width_of kinds.Millis = 8
 width_of kinds.Octets = VARIABLE_WIDTH
 
-abbrev pub key_width : Key → ℕ
-key_width key = width_of (kind_of key.element)
-
--- a prefix is exported as an element of its own
-abbrev pub key_spec : Key → Spec
-key_spec key = spec (exported_element key) (key_width key)
+-- as wide as the key's kind says; a prefix is exported as an element of its own
+abbrev pub key_spec : Key × Kind → Spec
+key_spec p = spec (exported_element p.0) (width_of p.1)
 
 -- times in milliseconds, sums and numbers of flows are numbers of 64 bits
 abbrev pub number_width : ℕ
@@ -59,7 +56,7 @@ number_spec element = spec element number_width
 abbrev pub field_specs : PlanValue → List Spec
 field_specs plan =
     number_spec (iana FLOW_START_MILLISECONDS) ∷ number_spec (iana FLOW_END_MILLISECONDS) ∷
-    (map key_spec plan.keys ++ (map number_spec plan.counters ++ number_spec (iana ORIGINAL_FLOWS_PRESENT) ∷ []))
+    (map key_spec (keys_and_kinds plan) ++ (map number_spec plan.counters ++ number_spec (iana ORIGINAL_FLOWS_PRESENT) ∷ []))
 
 abbrev pub template : PlanValue → Template
 template plan = record { id = FIRST_TEMPLATE_ID; scope = 0; specs = field_specs plan }
@@ -78,14 +75,14 @@ number_octets n = big_bytes number_width n
 abbrev pub number_field : ElementId × ℕ → Field
 number_field p = field p.0 (number_octets p.1)
 
-abbrev pub key_field : Key × Cell → Field
-key_field p = field (exported_element p.0) (cell_octets p.1 (key_width p.0))
+abbrev pub key_field : (Key × Kind) × Cell → Field
+key_field p = field (exported_element p.0.0) (cell_octets p.1 (width_of p.0.1))
 
 -- two times in milliseconds, a cell for each key, a sum for each counter, and a number of flows
 abbrev pub fields_of : PlanValue → ℕ → ℕ → List Cell → List ℕ → ℕ → List Field
 fields_of plan start end key sums flows =
     number_field (iana FLOW_START_MILLISECONDS, start) ∷ number_field (iana FLOW_END_MILLISECONDS, end) ∷
-    (map key_field (zip plan.keys key) ++ (map number_field (zip plan.counters sums) ++ number_field (iana ORIGINAL_FLOWS_PRESENT, flows) ∷ []))
+    (map key_field (zip (keys_and_kinds plan) key) ++ (map number_field (zip plan.counters sums) ++ number_field (iana ORIGINAL_FLOWS_PRESENT, flows) ∷ []))
 
 -- those of a row: the first and the last millisecond of its interval, its key, its sums and its number of flows
 abbrev pub row_fields : PlanValue → RowValue → List Field

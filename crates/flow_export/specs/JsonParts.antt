@@ -2,10 +2,10 @@
 use Rattle.std.specs.Prelude.{◌≡◌, ℕ, List, ◌++◌, codes, flat_map, map}
 use Rattle.std.specs.List.{zip}
 use Rattle.ipfix_elements.specs.JsonValues.{json_cell, json_number}
-use Rattle.ipfix_elements.specs.Names.{name_text}
+use Rattle.element_registry.specs.Registries.{name_under}
 use Rattle.ipfix_elements.specs.declared.cell.Cell.{Cell}
 use Rattle.flow_table.specs.Plans.{PlanValue}
-use Rattle.flow_export.specs.CsvText.{key_text}
+use Rattle.flow_export.specs.TextsUnder.{key_text_under}
 use Rattle.flow_export.specs.declared.json_text.labels.MemberLabel.{MemberLabel}
 use Rattle.flow_export.specs.declared.json_text.labels.RowLabels.{RowLabels}
 
@@ -20,10 +20,10 @@ text_of made = made.text.items
 abbrev pub AreLabelsOf : List (List ℕ) → List MemberLabel → Type 0
 AreLabelsOf names labels = map text_of labels ≡ map label names
 
--- the labels of a plan's keys and counters
+-- the labels of a plan's keys and counters, by the names that elements have there
 pub record AreLabels (plan : PlanValue) (labels : RowLabels) : Type 0 where
-  pub keys : AreLabelsOf (map key_text plan.keys) labels.keys.items
-  pub counters : AreLabelsOf (map name_text plan.counters) labels.counters.items
+  pub keys : AreLabelsOf (map (key_text_under labels.elements.now) plan.keys) labels.keys.items
+  pub counters : AreLabelsOf (map (name_under labels.elements.now) plan.counters) labels.counters.items
 
 -- a value behind its label
 abbrev pub labelled : {X : Type 0} → (X → List ℕ) → MemberLabel × X → List ℕ

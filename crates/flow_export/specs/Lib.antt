@@ -3,6 +3,7 @@ pub mod Faults
 pub mod Fitting
 pub mod CsvText
 pub mod JsonText
+pub mod TextsUnder
 pub mod IpfixText
 pub mod Examples
 -- What only inner functions and proofs need.

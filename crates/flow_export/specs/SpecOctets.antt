@@ -4,14 +4,15 @@ use Rattle.byteorder.specs.Endian.{big_bytes}
 use Rattle.ipfix_wire.specs.FieldSpecifier.{spec_octets}
 use Rattle.ipfix_wire.specs.declared.set.TheConstants.{FIRST_TEMPLATE_ID}
 use Rattle.ipfix_wire.specs.declared.specifier.ElementId.{ElementId}
+use Rattle.ipfix_elements.specs.declared.kind.Kind.{Kind}
 use Rattle.flow_table.specs.declared.key.Key.{Key}
 use Rattle.flow_table.specs.Plans.{PlanValue}
 use Rattle.flow_export.specs.IpfixText.{key_spec, number_spec, template, template_octets}
 
-abbrev pub key_octets : Key → List ℕ
+abbrev pub key_octets : Key × Kind → List ℕ
 key_octets key = spec_octets (key_spec key)
 
-abbrev pub keys_octets : List Key → List ℕ
+abbrev pub keys_octets : List (Key × Kind) → List ℕ
 keys_octets keys = flat_map key_octets keys
 
 abbrev pub counter_octets : ElementId → List ℕ

@@ -1,18 +1,32 @@
-//! The names of keys, which the heading of CSV and the objects of JSON share.
+//! The names of elements and keys, which the heading of CSV and the objects of JSON share.
 
 ghost use Rattle.std.specs.Prelude.{◌≡◌, ◌++◌, OnOk};
-ghost use Rattle.flow_export.specs.CsvText.{key_text};
+ghost use Rattle.element_registry.specs.Registries.{name_under};
+ghost use Rattle.flow_export.specs.TextsUnder.{key_text_under};
 
+use element_registry::Elements;
 use flow_table::Key;
-use ipfix_elements::append_name;
+use ipfix_wire::ElementId;
 use std::alloc::AllocError;
 use std::io::Write;
 
-/// Appends a key's name: that of its element, and its prefix if it has one.
-pub fn append_key(key: Key, text: &mut Vec<u8>) -> Result<(), AllocError>
-    ensures { OnOk result (text.new.items ≡ text.old.items ++ key_text key) }
+/// Appends an element's name.
+pub fn append_name(
+    elements: &Elements,
+    element: ElementId,
+    text: &mut Vec<u8>,
+) -> Result<(), AllocError>
+    ensures { OnOk result (text.new.items ≡ text.old.items ++ name_under elements.now element) }
 {
-    append_name(key.element, text)?;
+    // A vector fails only if memory runs out.
+    elements.write_name(element, text).map_err(|_| AllocError)
+}
+
+/// Appends a key's name: that of its element, and its prefix if it has one.
+pub fn append_key(elements: &Elements, key: Key, text: &mut Vec<u8>) -> Result<(), AllocError>
+    ensures { OnOk result (text.new.items ≡ text.old.items ++ key_text_under elements.now key) }
+{
+    append_name(elements, key.element, text)?;
     match key.prefix {
         // A vector fails only if memory runs out.
         Some(bits) => write!(text, "/{bits}").map_err(|_| AllocError),

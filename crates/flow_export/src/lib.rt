@@ -13,8 +13,8 @@ mod made_rows;
 mod row_lines;
 mod table_rows;
 
-pub use csv_text::{write_csv, write_csv_flat};
+pub use csv_text::{write_csv, write_csv_flat, write_csv_flat_under, write_csv_under};
 pub use fault::ExportFault;
 pub use format::Format;
 pub use ipfix_text::{ROWS_A_MESSAGE, ipfix_bytes, write_ipfix, write_ipfix_flat};
-pub use json_text::{write_json, write_json_flat};
+pub use json_text::{write_json, write_json_flat, write_json_flat_under, write_json_under};

@@ -25,14 +25,14 @@ pub trait RowLines {
     ghost is_for: { Self → PlanValue → Type 0 };
 
     /// The line of a row.
-    ghost line_of: { PlanValue → RowValue → List ℕ };
+    ghost line_of: { Self → PlanValue → RowValue → List ℕ };
 
     /// Appends the line of a row.
     fn append(&self, plan: &Plan, row: &Row, out: &mut Vec<u8>) -> Result<(), AllocError>
         requires made { is_for self.now plan.now }
         requires fits { IsExportable plan.now (value_of row.now) }
         ensures { OnOk result
-            (out.new.items ≡ out.old.items ++ line_of plan.now (value_of row.now)) };
+            (out.new.items ≡ out.old.items ++ line_of self.now plan.now (value_of row.now)) };
 }
 
 /// Writes the line of each row.
@@ -46,7 +46,7 @@ pub fn write_lines<L: RowLines, W: Write>(
     requires made { L.is_for lines.now plan.now }
     requires fit { All (IsExportable plan.now) rows.old }
     ensures ok { OnOk result
-        (Writes W.contents out.old out.new (flat_map (L.line_of plan.now) rows.old)) }
+        (Writes W.contents out.old out.new (flat_map (L.line_of lines.now plan.now) rows.old)) }
     ensures fault { IfErr result (λ fault. fault ≢ ExportFault.TooManyRows) }
 {
     let mut text = Vec::new(alloc);

@@ -1,6 +1,7 @@
 -- The times, the key and the counters of a row's record are those of the row.
 use Rattle.std.proofs.Common.{◌≡◌, ℕ, ◌*◌, ◌^◌, ◌<◌, List, [], ◌∷◌, length, map, All, Option, Some, unwrap_or, option_map, option_and_then, refl, sym, ap, ◌∙◌, arith}
 use Rattle.std.specs.Prelude.{zip}
+use Rattle.std.specs.List.{AllZip}
 use Rattle.std.specs.Option.{option_or}
 use Rattle.std.proofs.lemmas.Bool.{eq-eqb, lt-ltb}
 use Rattle.std.proofs.lemmas.List.{append-nil}
@@ -9,7 +10,7 @@ use Rattle.byteorder.specs.Endian.{big_bytes, big_number}
 use Rattle.byteorder.specs.Numbers.{big_number-reads_back}
 use Rattle.ipfix_wire.specs.declared.specifier.ElementId.{ElementId}
 use Rattle.ipfix_elements.specs.Cells.{cell_octets}
-use Rattle.ipfix_elements.specs.Elements.{kind_of, elements, iana}
+use Rattle.ipfix_elements.specs.Elements.{elements, iana}
 use Rattle.ipfix_elements.specs.Values.{octets_of as width_in, number_in, cell_in}
 use Rattle.ipfix_elements.specs.declared.cell.Cell.{Cell}
 use Rattle.ipfix_elements.specs.declared.cell.Cell.TheVariants as cells
@@ -21,7 +22,7 @@ use Rattle.ipfix_message.specs.Fields.{octets_of}
 use Rattle.ipfix_message.specs.declared.record.DataRecord.{DataRecord}
 use Rattle.flow_table.specs.declared.key.Key.{Key}
 use Rattle.flow_table.specs.Plans.{PlanValue}
-use Rattle.flow_table.specs.Fitting.{IsCellOf, FitsKeys}
+use Rattle.flow_table.specs.Fitting.{IsCellOf}
 use Rattle.flow_table.specs.Reading.{start_of, end_of, time_in, time_of, number_of, cell_of, cells_of, counter_of}
 use Rattle.flow_table.specs.SameTables.{RowValue}
 use Rattle.flow_export.specs.CsvText.{first_of, last_of}
@@ -81,38 +82,40 @@ end_again plan time row small = ap (λ (o : Option ℕ). option_or o (time_of (i
 
 -- ---- keys
 
-cell_read : (k : Key) (c : Cell) (r : DataRecord) → IsWhole k → IsCellOf (kind_of k.element) c → IsFound r.fields (key_field (k, c)) → cell_of k r ≡ Some c
+cell_read : (k : Key) (kind : Kind) (c : Cell) (r : DataRecord) → IsWhole k → IsCellOf kind c → IsFound r.fields (key_field ((k, kind), c)) → cell_of k kind r ≡ Some c
 unfolding cell_of
-cell_read k c r whole fits found =
-    let at : octets_of k.element r.fields ≡ Some (cell_octets c (width_of (kind_of k.element))) = rw whole at found in
-    rw (whole, at) (ap (λ (o : Option Cell). option_map (λ x. x) o) (cell_again (kind_of k.element) c fits))
+cell_read k kind c r whole fits found =
+    let at : octets_of k.element r.fields ≡ Some (cell_octets c (width_of kind)) = rw whole at found in
+    rw (whole, at) (ap (λ (o : Option Cell). option_map (λ x. x) o) (cell_again kind c fits))
 
-pub cells_read : (ks : List Key) (cs : List Cell) (r : DataRecord) → FitsKeys ks cs → All IsWhole ks → All (IsFound r.fields) (map key_field (zip ks cs)) → cells_of ks r ≡ Some cs
-cells_read [] [] r fits whole found = refl
-cells_read [] (c ∷ cs) r fits whole found = absurd fits
-cells_read (k ∷ ks) [] r fits whole found = absurd fits
-cells_read (k ∷ ks) (c ∷ cs) r fits whole found =
-    let first = cell_read k c r (All-head IsWhole k ks whole) fits.0 (All-head (IsFound r.fields) (key_field (k, c)) (map key_field (zip ks cs)) found) in
-    let others = cells_read ks cs r fits.1 (All-tail IsWhole k ks whole) (All-tail (IsFound r.fields) (key_field (k, c)) (map key_field (zip ks cs)) found) in
+pub cells_read : (ks : List Key) (kinds : List Kind) (cs : List Cell) (r : DataRecord) → length kinds ≡ length ks → AllZip IsCellOf kinds cs → All IsWhole ks
+    → All (IsFound r.fields) (map key_field (zip (zip ks kinds) cs)) → cells_of ks kinds r ≡ Some cs
+cells_read [] [] [] r beside fits whole found = refl
+cells_read [] [] (c ∷ cs) r beside fits whole found = absurd fits
+cells_read [] (kind ∷ kinds) cs r beside fits whole found = absurd (omega (arith, beside))
+cells_read (k ∷ ks) [] cs r beside fits whole found = absurd (omega (arith, beside))
+cells_read (k ∷ ks) (kind ∷ kinds) [] r beside fits whole found = absurd fits
+cells_read (k ∷ ks) (kind ∷ kinds) (c ∷ cs) r beside fits whole found =
+    let here = key_field ((k, kind), c) in
+    let rest = map key_field (zip (zip ks kinds) cs) in
+    let first = cell_read k kind c r (All-head IsWhole k ks whole) fits.0 (All-head (IsFound r.fields) here rest found) in
+    let others = cells_read ks kinds cs r (omega (arith, beside)) fits.1 (All-tail IsWhole k ks whole) (All-tail (IsFound r.fields) here rest found) in
     rw (first, others) refl
 
 -- ---- counters
 
-abbrev pub IsWide : ElementId → Type 0
-IsWide e = kind_of e ≡ Unsigned Eight
-
-counter_read : (c : ElementId) (v : ℕ) (r : DataRecord) → IsWide c → v < 2 ^ 64 → IsFound r.fields (number_field (c, v)) → counter_of c r ≡ v
-counter_read c v r wide small found =
+counter_read : (c : ElementId) (v : ℕ) (r : DataRecord) → v < 2 ^ 64 → IsFound r.fields (number_field (c, v)) → counter_of c r ≡ v
+counter_read c v r small found =
     let at : number_of c r ≡ Some v =
-    ap (λ (o : Option (List ℕ)). option_and_then (number_in (kind_of c)) o) found ∙ ap (λ (k : Kind). number_in k (big_bytes 8 v)) wide ∙ unsigned_again Eight v (omega (arith, small)) in
+    ap (λ (o : Option (List ℕ)). option_and_then (number_in (Unsigned Eight)) o) found ∙ unsigned_again Eight v (omega (arith, small)) in
     ap (λ (o : Option ℕ). unwrap_or o 0) at
 
-pub counters_read : (cs : List ElementId) (vs : List ℕ) (r : DataRecord) → length vs ≡ length cs → All IsWide cs → All (λ v. v < 2 ^ 64) vs → All (IsFound r.fields) (map number_field (zip cs vs))
+pub counters_read : (cs : List ElementId) (vs : List ℕ) (r : DataRecord) → length vs ≡ length cs → All (λ v. v < 2 ^ 64) vs → All (IsFound r.fields) (map number_field (zip cs vs))
     → map (λ c. counter_of c r) cs ≡ vs
-counters_read [] [] r same wide small found = refl
-counters_read [] (v ∷ vs) r same wide small found = absurd (omega (arith, same))
-counters_read (c ∷ cs) [] r same wide small found = absurd (omega (arith, same))
-counters_read (c ∷ cs) (v ∷ vs) r same wide small found =
-    let first = counter_read c v r (All-head IsWide c cs wide) (All-head (λ n. n < 2 ^ 64) v vs small) (All-head (IsFound r.fields) (number_field (c, v)) (map number_field (zip cs vs)) found) in
-    let others = counters_read cs vs r (omega (arith, same)) (All-tail IsWide c cs wide) (All-tail (λ n. n < 2 ^ 64) v vs small) (All-tail (IsFound r.fields) (number_field (c, v)) (map number_field (zip cs vs)) found) in
+counters_read [] [] r same small found = refl
+counters_read [] (v ∷ vs) r same small found = absurd (omega (arith, same))
+counters_read (c ∷ cs) [] r same small found = absurd (omega (arith, same))
+counters_read (c ∷ cs) (v ∷ vs) r same small found =
+    let first = counter_read c v r (All-head (λ n. n < 2 ^ 64) v vs small) (All-head (IsFound r.fields) (number_field (c, v)) (map number_field (zip cs vs)) found) in
+    let others = counters_read cs vs r (omega (arith, same)) (All-tail (λ n. n < 2 ^ 64) v vs small) (All-tail (IsFound r.fields) (number_field (c, v)) (map number_field (zip cs vs)) found) in
     rw (first, others) refl

@@ -1,4 +1,5 @@
 pub mod Beginnings
+pub mod Zipped
 pub mod Pairs
 pub mod Telling
 pub mod RowsRead

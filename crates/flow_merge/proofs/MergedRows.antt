@@ -31,7 +31,7 @@ module _ (plan : PlanValue) where
   -- what rows of the plan have at a place
   record FitsAt (k : ℕ) (key : List Cell) (t : Total) : Type 0 where
     interval : k * plan.length < 2 ^ 50
-    fits : FitsKeys plan.keys key
+    fits : FitsKeys plan key
     sums : length t.sums ≡ length plan.counters
 
   abbrev Fits : ℕ → List Cell → Option Total → Type 0

@@ -3,7 +3,7 @@ use Rattle.std.specs.Prelude.{◌≡◌, ℕ, ◌^◌, ◌<◌, List, ◌∷◌,
 use Rattle.std.specs.List.{AllZip}
 use Rattle.ipfix_wire.specs.declared.specifier.ElementId.{ElementId}
 use Rattle.ipfix_elements.specs.declared.cell.Cell.{Cell}
-use Rattle.ipfix_elements.specs.Elements.{kind_of}
+use Rattle.ipfix_elements.specs.declared.kind.Kind.{Kind}
 use Rattle.ipfix_message.specs.Fields.{Field}
 use Rattle.flow_table.specs.declared.key.Key.{Key}
 use Rattle.flow_table.specs.Fitting.{IsCellOf}
@@ -23,9 +23,9 @@ pub record BeginEach {A B : Type 0} (telling : A × B → Field) (Fits : A → B
   pub are : fields ≡ map telling (zip as' bs) ++ rest
   pub fit : AllZip Fits as' bs
 
--- a key's cell, and a number of 64 bits of an element
-abbrev pub FitsKey : Key → Cell → Type 0
-FitsKey key cell = IsCellOf (kind_of key.element) cell
+-- a key's cell, of the key's kind, and a number of 64 bits of an element
+abbrev pub FitsKey : Key × Kind → Cell → Type 0
+FitsKey key cell = IsCellOf key.1 cell
 
 abbrev pub FitsNumber : ElementId → ℕ → Type 0
 FitsNumber element n = n < 2 ^ 64
@@ -38,14 +38,14 @@ TellsOctets element fields octets rest = fields ≡ field element octets ∷ res
 abbrev pub TellsNumber : ElementId → List Field → ℕ → List Field → Type 0
 TellsNumber element fields n rest = Begin number_field FitsNumber element fields n rest
 
-abbrev pub TellsCell : Key → List Field → Cell → List Field → Type 0
+abbrev pub TellsCell : Key × Kind → List Field → Cell → List Field → Type 0
 TellsCell key fields cell rest = Begin key_field FitsKey key fields cell rest
 
 -- the same of numbers and of cells, one after another
 abbrev pub TellsNumbers : List ElementId → List Field → List ℕ → List Field → Type 0
 TellsNumbers elements fields ns rest = BeginEach number_field FitsNumber elements fields ns rest
 
-abbrev pub TellsCells : List Key → List Field → List Cell → List Field → Type 0
+abbrev pub TellsCells : List (Key × Kind) → List Field → List Cell → List Field → Type 0
 TellsCells keys fields cells rest = BeginEach key_field FitsKey keys fields cells rest
 
 -- something is told, and nothing is

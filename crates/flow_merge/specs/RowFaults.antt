@@ -22,7 +22,7 @@ pub record FieldValues : Type 0 where
 -- the fields tell them, in the order of the plan's exports and in their full width
 pub record Tell (plan : PlanValue) (fields : List Field) (v : FieldValues) : Type 0 where
   pub told : fields ≡ fields_of plan v.start v.end v.key v.sums v.flows
-  pub key : FitsKeys plan.keys v.key
+  pub key : FitsKeys plan v.key
   pub sums : length v.sums ≡ length plan.counters
   pub start : v.start < 2 ^ 64
   pub end : v.end < 2 ^ 64

@@ -1,11 +1,10 @@
 //! Fields read one after another, each in its full width (RFC 7011, section 6.1).
 
-ghost use Rattle.std.specs.Prelude.{◌≡◌, ℕ, true, None, IfOk, IfErr, IfSome};
+ghost use Rattle.std.specs.Prelude.{◌≡◌, ℕ, true, None, length, zip, IfOk, IfErr, IfSome};
 ghost use Rattle.std.specs.List.{AllPass};
 ghost use Rattle.ipfix_elements.specs.Cells.{cell_octets};
-ghost use Rattle.ipfix_elements.specs.Elements.{kind_of as kind_in};
 ghost use Rattle.flow_table.specs.Fitting.{IsCellOf};
-ghost use Rattle.flow_table.specs.Plans.{kinds_of, is_key_kind};
+ghost use Rattle.flow_table.specs.Plans.{is_key_kind};
 ghost use Rattle.flow_export.specs.IpfixText.{number_octets, width_of};
 ghost use Rattle.flow_merge.specs.InnerReading.{Refuses, TellsCell, TellsCells, TellsNone, TellsNumber, TellsNumbers, TellsOctets, TellsSome};
 
@@ -64,10 +63,9 @@ pub(crate) fn next_number(fields: &mut FieldIter, element: ElementId) -> Option<
 
 // The cell that the next field tells, if that is one of the key.
 fn next_cell(fields: &mut FieldIter, key: Key, kind: Kind) -> Option<Cell>
-    requires kind { kind ≡ kind_in key.element }
-    requires comparable { is_key_kind kind ≡ true }
-    ensures some { IfSome result (λ cell. TellsCell key fields.old cell fields.new) }
-    ensures none { result ≡ None → TellsNone (TellsCell key fields.old) }
+    requires { is_key_kind kind ≡ true }
+    ensures some { IfSome result (λ cell. TellsCell (key, kind) fields.old cell fields.new) }
+    ensures none { result ≡ None → TellsNone (TellsCell (key, kind) fields.old) }
 {
     read_full_cell(kind, next_octets(fields, key.exported_element())?)
 }
@@ -79,10 +77,12 @@ pub(crate) fn next_cells(
     kinds: &[Kind],
     fields: &mut FieldIter,
 ) -> Result<Vec<Cell>, RowFault>
-    requires kinds { kinds.now ≡ kinds_of keys.now }
+    requires beside { length kinds.now ≡ length keys.now }
     requires comparable { AllPass is_key_kind kinds.now }
-    ensures ok { IfOk result (λ cells. TellsCells keys.now fields.old cells.items fields.new) }
-    ensures fault { IfErr result (Refuses (TellsSome (TellsCells keys.now fields.old))) }
+    ensures ok { IfOk result (λ cells.
+        TellsCells (zip keys.now kinds.now) fields.old cells.items fields.new) }
+    ensures fault { IfErr result
+        (Refuses (TellsSome (TellsCells (zip keys.now kinds.now) fields.old))) }
 {
     let mut cells = Vec::with_capacity(alloc, keys.len())?;
     for (key, kind) in keys.iter().zip(kinds) {

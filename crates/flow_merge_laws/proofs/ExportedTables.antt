@@ -43,11 +43,11 @@ some_passes p (x ∷ xs) some =
           some_passes p xs (rw others at some)
     ]
 
-key_projected : (plan : PlanValue) (rs : List DataRecord) (k : ℕ) (key : List Cell) → 0 < flows_at plan rs k key → AreProjected plan.keys key
+key_projected : (plan : PlanValue) (rs : List DataRecord) (k : ℕ) (key : List Cell) → length plan.kinds ≡ length plan.keys → 0 < flows_at plan rs k key → AreProjected plan.keys key
 unfolding flows_at
-key_projected plan rs k key some =
+key_projected plan rs k key beside some =
     let one = some_passes (contributes plan k key) rs some in
-    cells_projected plan.keys one.0 key (contributes_at plan k key one.0 one.1).2
+    cells_projected plan.keys plan.kinds one.0 key beside (contributes_at plan k key one.0 one.1).2
 
 row_of_plan : (plan : PlanValue) (rs : List DataRecord) (row : Row) → plan.length < 2 ^ 32 → FitsRow plan row → IsRow plan rs row → IsRowOf plan (value_of row)
 row_of_plan plan rs row short fits is =
@@ -55,7 +55,7 @@ row_of_plan plan rs row short fits is =
       interval = fits.interval;
       end = let begins = fits.interval in omega (arith, begins, short);
       fits = record { key = fits.key; sums = fits.sums };
-      projected = key_projected plan rs row.interval row.key.items is.some;
+      projected = key_projected plan rs row.interval row.key.items fits.key.beside is.some;
       small = fits.small;
       some = let flows = is.flows in let some = is.some in omega (arith, flows, some);
       few = fits.few;

@@ -1,5 +1,5 @@
 -- A key that was projected to its prefixes is the same when it is projected again.
-use Rattle.std.proofs.Common.{◌≡◌, ℕ, zero, suc, ◌+◌, ◌-◌, ◌*◌, ◌/◌, ◌%◌, ◌^◌, ◌<◌, List, [], ◌∷◌, Option, Some, None, refl, sym, ap, subst, ◌∙◌, option_map, option_and_then, add-zero, arith}
+use Rattle.std.proofs.Common.{◌≡◌, ℕ, zero, suc, ◌+◌, ◌-◌, ◌*◌, ◌/◌, ◌%◌, ◌^◌, ◌<◌, List, [], ◌∷◌, length, Option, Some, None, refl, sym, ap, subst, ◌∙◌, option_map, option_and_then, add-zero, arith}
 use Rattle.std.specs.Int.{byte_at, bytes_high_first}
 use Rattle.std.proofs.Math.Nat.{div-add-mod', div-one, mul-add-div_right, mul-add-mod_self_right, mul-div_cancel, mul-mod_left, mul_assoc, one-le-pow, pow-succ'}
 use Rattle.std.proofs.lemmas.Nat.{mod-pow-add}
@@ -7,7 +7,7 @@ use Rattle.std.proofs.lemmas.Option.{option_and_then_some}
 use Rattle.byteorder.specs.Endian.{big_bytes, big_number}
 use Rattle.byteorder.specs.Numbers.{big_from-bytes}
 use Rattle.ipfix_elements.proofs.Lookups.{mapped}
-use Rattle.ipfix_elements.specs.Elements.{kind_of}
+use Rattle.ipfix_elements.specs.declared.kind.Kind.{Kind}
 use Rattle.ipfix_elements.specs.Prefixes.{masked}
 use Rattle.ipfix_elements.specs.Values.{cell_in}
 use Rattle.ipfix_elements.specs.declared.cell.Cell.{Cell}
@@ -66,15 +66,16 @@ projected_again (Some bits) (Mac address) = refl
 
 -- ---- a key
 
-cell_projected : (key : Key) (r : DataRecord) (cell : Cell) → cell_of key r ≡ Some cell → projected key.prefix cell ≡ cell
+cell_projected : (key : Key) (kind : Kind) (r : DataRecord) (cell : Cell) → cell_of key kind r ≡ Some cell → projected key.prefix cell ≡ cell
 unfolding cell_of
-cell_projected key r cell is =
-    let whole = mapped (projected key.prefix) (option_and_then (cell_in (kind_of key.element)) (octets_of key.element r.fields)) cell is in
+cell_projected key kind r cell is =
+    let whole = mapped (projected key.prefix) (option_and_then (cell_in kind) (octets_of key.element r.fields)) cell is in
     subst (λ (c : Cell). projected key.prefix c ≡ c) whole.2 (projected_again key.prefix whole.0)
 
-pub cells_projected : (keys : List Key) (r : DataRecord) (cells : List Cell) → cells_of keys r ≡ Some cells → AreProjected keys cells
-cells_projected [] r cells is = let none : [] ≡ cells = cc in subst (AreProjected []) none tt
-cells_projected (key ∷ keys) r cells is =
-    option_and_then_some (λ cell. option_map (λ others. cell ∷ others) (cells_of keys r)) (cell_of key r) cells is (λ cell first rest.
-    let others = mapped (λ (cs : List Cell). cell ∷ cs) (cells_of keys r) cells rest in
-    subst (AreProjected (key ∷ keys)) others.2 (cell_projected key r cell first, cells_projected keys r others.0 others.1))
+pub cells_projected : (keys : List Key) (kinds : List Kind) (r : DataRecord) (cells : List Cell) → length kinds ≡ length keys → cells_of keys kinds r ≡ Some cells → AreProjected keys cells
+cells_projected [] kinds r cells beside is = let none : [] ≡ cells = cc in subst (AreProjected []) none tt
+cells_projected (key ∷ keys) [] r cells beside is = absurd (omega (arith, beside))
+cells_projected (key ∷ keys) (kind ∷ kinds) r cells beside is =
+    option_and_then_some (λ cell. option_map (λ others. cell ∷ others) (cells_of keys kinds r)) (cell_of key kind r) cells is (λ cell first rest.
+    let others = mapped (λ (cs : List Cell). cell ∷ cs) (cells_of keys kinds r) cells rest in
+    subst (AreProjected (key ∷ keys)) others.2 (cell_projected key kind r cell first, cells_projected keys kinds r others.0 (omega (arith, beside)) others.1))

@@ -1,12 +1,12 @@
 -- Rows that are added one after another come to the sums over those of an interval and a key.
-use Rattle.std.proofs.Common.{◌≡◌, ℕ, zero, suc, ◌+◌, Bool, true, false, cond, not, List, [], ◌∷◌, length, get_or, All, Option, Some, None, is_none, refl, sym, ap, ◌∙◌, subst, arith}
+use Rattle.std.proofs.Common.{◌≡◌, ℕ, zero, suc, ◌+◌, Bool, true, false, cond, List, [], ◌∷◌, length, get_or, All, Option, Some, None, is_none, refl, sym, ap, ◌∙◌, subst, arith}
 use Rattle.std.specs.Prelude.{◌&&◌, ◌==◌, IfSome, slice_index, sum_by}
 use Rattle.std.specs.Ordering.{nat_cmp, is_eq}
 use Rattle.std.proofs.Math.Dec.{eqb-suc-zero}
 use Rattle.std.proofs.lemmas.List.Elements.{All-head, All-tail}
 use Rattle.std.proofs.lemmas.List.Sums.{sum_by-cons}
 use Rattle.ipfix_elements.specs.declared.cell.Cell.{Cell}
-use Rattle.flow_table.specs.AddedUp.{part_of, total_of, added_to, added_up}
+use Rattle.flow_table.specs.AddedUp.{part_of, total_of, added_to}
 use Rattle.flow_table.specs.SameTables.{RowValue}
 use Rattle.flow_table.specs.Tables.{key_cmp}
 use Rattle.flow_table.specs.Totals.{Total, added, joined, sum_of}

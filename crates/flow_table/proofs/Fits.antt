@@ -1,6 +1,6 @@
 -- The cells of keys are of their kinds, and every table fits its plan.
 use Rattle.std.proofs.Common.{◌≡◌, ℕ, zero, suc, ◌+◌, ◌*◌, ◌^◌, ◌<◌, ◌≤◌, inl, inr, Bool, true, false, nat_eq, ◌&&◌, unwrap_or, eqb, leb, ltb, cond, length, List, [], ◌∷◌, ◌++◌, map, find, filter, All, slice_index, Option, Some, None, option_map, option_and_then, refl, sym, ap, ◌∙◌, subst, arith}
-use Rattle.std.specs.List.{list_all, list_any, Contains}
+use Rattle.std.specs.List.{list_all, list_any, AllZip, Contains}
 use Rattle.std.specs.Option.{IfSome}
 use Rattle.std.proofs.lemmas.Bool.{cases_Bool, cases_lt, cond-true, cond-false, and_parts, eqb-true, leb-true}
 use Rattle.std.proofs.lemmas.List.{length-map}
@@ -10,7 +10,6 @@ use Rattle.std.proofs.Math.Nat.{pow-suc, pow-le-pow_right}
 use Rattle.byteorder.specs.Endian.{big_from, big_number}
 use Rattle.ipfix_wire.specs.declared.specifier.ElementId.{ElementId}
 use Rattle.ipfix_elements.proofs.Lookups.{mapped}
-use Rattle.ipfix_elements.specs.Elements.{kind_of}
 use Rattle.ipfix_elements.specs.Values.{octets_of as width_of, is_number_length, number_in, cell_in}
 use Rattle.ipfix_elements.specs.declared.cell.Cell.{Cell}
 use Rattle.ipfix_elements.specs.declared.cell.Cell.TheVariants as cells
@@ -35,7 +34,6 @@ use Rattle.flow_table.specs.declared.reading.Reading.TheVariants as readings
 use Rattle.flow_table.specs.Tables.{begin_of, finish_of, key_cmp, is_key, contributes, sum_at, flows_at, IsRow, IsTable, IsTooLarge}
 use Rattle.flow_table.proofs.Places.{equal_from, key_equal}
 use Rattle.flow_table.proofs.Lacking.{not_used}
-use Rattle.flow_table.proofs.PlanKeys.{key_kinds_of_plan}
 use Rattle.flow_table.proofs.Sums.{flows_at-append}
 use Rattle.flow_table.proofs.UsedFlows.{used_as, begins_in_time}
 
@@ -127,25 +125,26 @@ found_has {X} p P (y ∷ ys) x all h =
       | inr doesnt ↦ found_has p P ys x (All-tail P y ys all) (sym (cond-false (p y) (Some y) (find p ys) doesnt) ∙ h)
     ]
 
-cell_of_fits : (key : Key) (r : DataRecord) (cell : Cell) → is_key_kind (kind_of key.element) ≡ true → HasOctets r → cell_of key r ≡ Some cell → IsCellOf (kind_of key.element) cell
+cell_of_fits : (key : Key) (kind : Kind) (r : DataRecord) (cell : Cell) → is_key_kind kind ≡ true → HasOctets r → cell_of key kind r ≡ Some cell → IsCellOf kind cell
 unfolding cell_of
-cell_of_fits key r cell ok small h =
-    let kind = kind_of key.element in
+cell_of_fits key kind r cell ok small h =
     let whole = mapped (projected key.prefix) (option_and_then (cell_in kind) (octets_of key.element r.fields)) cell h in
     let octets = read_further (cell_in kind) (octets_of key.element r.fields) whole.0 whole.1 in
     let field = mapped (λ (f : Field). f.octets) (find (λ (f : Field). same_element f.element key.element) r.fields) octets.0 octets.1 in
     let are_octets = found_has (λ (f : Field). same_element f.element key.element) (λ (f : Field). IsOctets f.octets) r.fields field.0 small field.1 in
     subst (IsCellOf kind) whole.2 (projected_fits kind key.prefix whole.0 (cell_fits kind octets.0 whole.0 ok (subst IsOctets field.2 are_octets) octets.2))
 
-keys_fit : (keys : List Key) (r : DataRecord) (found : List Cell) → list_all (λ k. is_key_kind (kind_of k.element)) keys ≡ true → HasOctets r → cells_of keys r ≡ Some found → FitsKeys keys found
-keys_fit [] r found ok small h =
+keys_fit : (keys : List Key) (kinds : List Kind) (r : DataRecord) (found : List Cell) → length kinds ≡ length keys → list_all is_key_kind kinds ≡ true → HasOctets r → cells_of keys kinds r ≡ Some found → AllZip IsCellOf kinds found
+keys_fit [] [] r found beside ok small h =
     let is : [] ≡ found = cc in
-    subst (FitsKeys []) is tt
-keys_fit (k ∷ ks) r found ok small h =
-    let both = and_parts (is_key_kind (kind_of k.element)) (list_all (λ k. is_key_kind (kind_of k.element)) ks) ok in
-    let first = read_further (λ cell. option_map (λ others. cell ∷ others) (cells_of ks r)) (cell_of k r) found h in
-    let others = mapped (λ (cs : List Cell). first.0 ∷ cs) (cells_of ks r) found first.2 in
-    subst (FitsKeys (k ∷ ks)) others.2 (cell_of_fits k r first.0 both.0 small first.1, keys_fit ks r others.0 both.1 small others.1)
+    subst (AllZip IsCellOf []) is tt
+keys_fit [] (kind ∷ kinds) r found beside ok small h = absurd (omega (arith, beside))
+keys_fit (k ∷ ks) [] r found beside ok small h = absurd (omega (arith, beside))
+keys_fit (k ∷ ks) (kind ∷ kinds) r found beside ok small h =
+    let both = and_parts (is_key_kind kind) (list_all is_key_kind kinds) ok in
+    let first = read_further (λ cell. option_map (λ others. cell ∷ others) (cells_of ks kinds r)) (cell_of k kind r) found h in
+    let others = mapped (λ (cs : List Cell). first.0 ∷ cs) (cells_of ks kinds r) found first.2 in
+    subst (AllZip IsCellOf (kind ∷ kinds)) others.2 (cell_of_fits k kind r first.0 both.0 small first.1, keys_fit ks kinds r others.0 (omega (arith, beside)) both.1 small others.1)
 
 -- ---- rows
 
@@ -232,8 +231,8 @@ table_fits plan rs table fit not_large is_table =
 
 octets_keys_fit : (plan : PlanValue) (rs : List DataRecord) → IsPlan plan → All HasOctets rs → KeysFit plan rs
 octets_keys_fit plan rs is_plan octets k key some =
-    from_flow plan HasOctets (FitsKeys plan.keys key) rs k key
-    (λ r small does. keys_fit plan.keys r key (key_kinds_of_plan plan is_plan) small (contributes_at plan k key r does).2) octets some
+    from_flow plan HasOctets (FitsKeys plan key) rs k key
+    (λ r small does. record { beside = is_plan.beside; fit = keys_fit plan.keys plan.kinds r key is_plan.beside is_plan.kinds small (contributes_at plan k key r does).2 }) octets some
 
 pub tables_fit_of : (plan : PlanValue) (rs : List DataRecord) (table : Table) → IsPlan plan → All HasOctets rs → (IsTooLarge plan rs → ⊥) → IsTable plan rs table → FitsPlan plan table
 tables_fit_of plan rs table is_plan octets = table_fits plan rs table (octets_keys_fit plan rs is_plan octets)
@@ -245,22 +244,22 @@ no_flows plan k key some = omega arith
 pub no_keys_fit : (plan : PlanValue) → KeysFit plan []
 no_keys_fit plan k key some = absurd (no_flows plan k key some)
 
-key_fits : (plan : PlanValue) (r : DataRecord) (key q : List Cell) (reading : Reading) → ReadsAs plan r key reading → class_of plan r ≡ classes.Used → key_of plan r ≡ Some q → FitsKeys plan.keys q
+key_fits : (plan : PlanValue) (r : DataRecord) (key q : List Cell) (reading : Reading) → ReadsAs plan r key reading → class_of plan r ≡ classes.Used → key_of plan r ≡ Some q → FitsKeys plan q
 key_fits plan r key q (readings.Left left_out) reads used found = absurd (not_used left_out (sym reads.class ∙ used))
 key_fits plan r key q (readings.Used span) reads used found =
     let cells = reads.0.cells in
     let same : key ≡ q = cc in
-    subst (FitsKeys plan.keys) same reads.1
+    subst (FitsKeys plan) same reads.1
 
 -- the key of a record that was read
 pub read_keys_fit : (plan : PlanValue) (r : DataRecord) (key : List Cell) (reading : Reading) → ReadsAs plan r key reading → KeysFit plan (r ∷ [])
 read_keys_fit plan r key reading reads k q some =
-    from_flow plan (λ x. r ≡ x) (FitsKeys plan.keys q) (r ∷ []) k q
+    from_flow plan (λ x. r ≡ x) (FitsKeys plan q) (r ∷ []) k q
     (λ x is does. let at = contributes_at plan k q r (subst (λ (y : DataRecord). contributes plan k q y ≡ true) (sym is) does) in key_fits plan r key q reading reads at.0 at.2)
     (All-cons (λ x. r ≡ x) r [] refl (All-nil (λ x. r ≡ x))) some
 
 pub both_keys_fit : (plan : PlanValue) (rs qs : List DataRecord) → KeysFit plan rs → KeysFit plan qs → KeysFit plan (rs ++ qs)
 both_keys_fit plan rs qs fit others k key some =
     let sum : flows_at plan (rs ++ qs) k key ≡ flows_at plan rs k key + flows_at plan qs k key = flows_at-append plan rs qs k key in
-    elim (cases_lt 0 (flows_at plan rs k key)) as (λ _. FitsKeys plan.keys key)
+    elim (cases_lt 0 (flows_at plan rs k key)) as (λ _. FitsKeys plan key)
     [ inl here ↦ fit k key here | inr none ↦ others k key (omega arith) ]

@@ -110,7 +110,7 @@ module _ (t : Inside) (few : t.counters < 2 ^ 63) where
 -- ---- rows of the same value
 
 abbrev FitsValue : PlanValue → RowValue → Type 0
-FitsValue plan v = (v.interval * plan.length < 2 ^ 50) × FitsKeys plan.keys v.key × (length v.sums ≡ length plan.counters) × All (λ sum. sum < 2 ^ 64) v.sums × (v.flows < 2 ^ 64)
+FitsValue plan v = (v.interval * plan.length < 2 ^ 50) × FitsKeys plan v.key × (length v.sums ≡ length plan.counters) × All (λ sum. sum < 2 ^ 64) v.sums × (v.flows < 2 ^ 64)
 
 fits_by_value : (plan : PlanValue) (a b : Row) → value_of a ≡ value_of b → FitsRow plan a → FitsRow plan b
 fits_by_value plan a b same h =

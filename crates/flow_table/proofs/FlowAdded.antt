@@ -5,7 +5,7 @@ use Rattle.flat_rows.specs.Rows.{SomeTooLarge}
 use Rattle.ipfix_elements.specs.declared.cell.Cell.{Cell}
 use Rattle.flow_table.specs.Flows.{flow_total, shares_of}
 use Rattle.flow_table.specs.Intervals.{share}
-use Rattle.flow_table.specs.Plans.{PlanValue, kinds_of}
+use Rattle.flow_table.specs.Plans.{PlanValue}
 use Rattle.flow_table.specs.Rows.{AddsRow, AreAlike, AreRowsOf, depth_of, kept_at, number_at, place_part, width_of}
 use Rattle.flow_table.specs.Totals.{total, joined, IsLargeAt}
 use Rattle.flow_table.specs.Words.{key_words, padded, place_words}
@@ -14,7 +14,7 @@ use Rattle.flow_table.specs.declared.table_fault.TableFault.{TableFault}
 use Rattle.flow_table.specs.declared.table_fault.TableFault.TheVariants.{SumTooLarge}
 use Rattle.flow_table.proofs.Kept.{add_joins, add_keeps, add_large}
 
-pub words_of_place : (plan : PlanValue) (k : ℕ) (key : List Cell) (words : List ℕ) → key_words (kinds_of plan.keys) key ≡ Some words → place_words plan k key ≡ Some (k ∷ words)
+pub words_of_place : (plan : PlanValue) (k : ℕ) (key : List Cell) (words : List ℕ) → key_words plan.kinds key ≡ Some words → place_words plan k key ≡ Some (k ∷ words)
 words_of_place plan k key words h = ap (λ (o : Option (List ℕ)). option_map (λ (ws : List ℕ). k ∷ ws) o) h
 
 -- what changes no number changes nothing else
@@ -28,7 +28,7 @@ unchanged plan old new alike same of =
       none_behind = λ q i l. omega (arith, same q i, of.none_behind q i l);
     }
 
-module _ (plan : PlanValue) (old new : Rows) (k : ℕ) (key : List Cell) (words : List ℕ) (flows : ℕ) (sums : List ℕ) (r : Result (Unit {0}) TableFault) (are : key_words (kinds_of plan.keys) key ≡ Some words) (some : 0 < flows) (long : length sums ≡ length plan.counters) (alike : AreAlike new old) where
+module _ (plan : PlanValue) (old new : Rows) (k : ℕ) (key : List Cell) (words : List ℕ) (flows : ℕ) (sums : List ℕ) (r : Result (Unit {0}) TableFault) (are : key_words plan.kinds key ≡ Some words) (some : 0 < flows) (long : length sums ≡ length plan.counters) (alike : AreAlike new old) where
   pub add_of_plan : OnOk r (AddsRow old (k ∷ words) (flows ∷ sums) new) → OnErr r ((q : List ℕ) (i : ℕ) → number_at new q i ≡ number_at old q i) → AreRowsOf plan old → AreRowsOf plan new
   add_of_plan = by r
     where

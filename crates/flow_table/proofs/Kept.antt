@@ -12,7 +12,7 @@ use Rattle.flat_rows.proofs.Found.{part_other}
 use Rattle.flat_rows.proofs.Within.{part_own}
 use Rattle.ipfix_elements.proofs.Lookups.{mapped}
 use Rattle.ipfix_elements.specs.declared.cell.Cell.{Cell}
-use Rattle.flow_table.specs.Plans.{PlanValue, kinds_of}
+use Rattle.flow_table.specs.Plans.{PlanValue}
 use Rattle.flow_table.specs.Rows.{AddsRow, AreAlike, AreRowsOf, IsPlace, depth_of, is_same_interval, is_same_key, kept_at, kept_by, number_at, padded_row, place_part, total_of_numbers, width_of}
 use Rattle.flow_table.specs.Tables.{key_cmp, place_cmp}
 use Rattle.flow_table.specs.Totals.{Total, total, added, joined, HasLarge, IsLarge, IsLargeAt}
@@ -110,40 +110,40 @@ pad_drop w k us l = padded_is w (k ∷ us) l
 
 module _ (plan : PlanValue) where
   -- the words behind the interval
-  behind : (k : ℕ) (q : List Cell) (ws : List ℕ) → place_words plan k q ≡ Some ws → (us : List ℕ) × (key_words (kinds_of plan.keys) q ≡ Some us) × (k ∷ us ≡ ws)
-  behind k q ws h = mapped (λ (us : List ℕ). k ∷ us) (key_words (kinds_of plan.keys) q) ws h
+  behind : (k : ℕ) (q : List Cell) (ws : List ℕ) → place_words plan k q ≡ Some ws → (us : List ℕ) × (key_words plan.kinds q ≡ Some us) × (k ∷ us ≡ ws)
+  behind k q ws h = mapped (λ (us : List ℕ). k ∷ us) (key_words plan.kinds q) ws h
 
-  spread_out : (w k : ℕ) (q : List Cell) (ws : List ℕ) → suc (word_count (kinds_of plan.keys)) ≤ w → place_words plan k q ≡ Some ws
-      → (us : List ℕ) × (key_words (kinds_of plan.keys) q ≡ Some us) × (padded w ws ≡ k ∷ us ++ padded (w - suc (word_count (kinds_of plan.keys))) [])
+  spread_out : (w k : ℕ) (q : List Cell) (ws : List ℕ) → suc (word_count plan.kinds) ≤ w → place_words plan k q ≡ Some ws
+      → (us : List ℕ) × (key_words plan.kinds q ≡ Some us) × (padded w ws ≡ k ∷ us ++ padded (w - suc (word_count plan.kinds)) [])
   spread_out w k q ws l h =
       let b = behind k q ws h in
-      let n : length b.0 ≡ word_count (kinds_of plan.keys) = key_long (kinds_of plan.keys) q b.0 b.1 in
+      let n : length b.0 ≡ word_count plan.kinds = key_long plan.kinds q b.0 b.1 in
       (b.0, b.1, ap (padded w) (sym b.2) ∙ pad_drop w k b.0 (omega arith) ∙ ap (λ (m : ℕ). k ∷ b.0 ++ padded (w - suc m) []) n)
 
   -- a place is read back from its words
-  pub interval_back : (w k : ℕ) (q : List Cell) (ws : List ℕ) → suc (word_count (kinds_of plan.keys)) ≤ w → place_words plan k q ≡ Some ws → get_or (padded w ws) 0 0 ≡ k
+  pub interval_back : (w k : ℕ) (q : List Cell) (ws : List ℕ) → suc (word_count plan.kinds) ≤ w → place_words plan k q ≡ Some ws → get_or (padded w ws) 0 0 ≡ k
   interval_back w k q ws l h = let s = spread_out w k q ws l h in ap (λ (xs : List ℕ). get_or xs 0 0) s.2
 
-  pub key_of_place : (w k : ℕ) (q : List Cell) (ws : List ℕ) → suc (word_count (kinds_of plan.keys)) ≤ w → place_words plan k q ≡ Some ws → key_from (kinds_of plan.keys) (drop 1 (padded w ws)) ≡ q
+  pub key_of_place : (w k : ℕ) (q : List Cell) (ws : List ℕ) → suc (word_count plan.kinds) ≤ w → place_words plan k q ≡ Some ws → key_from plan.kinds (drop 1 (padded w ws)) ≡ q
   key_of_place w k q ws l h =
       let s = spread_out w k q ws l h in
-      ap (λ (xs : List ℕ). key_from (kinds_of plan.keys) (drop 1 xs)) s.2 ∙ key_back (kinds_of plan.keys) q s.0 (padded (w - suc (word_count (kinds_of plan.keys))) []) s.1
+      ap (λ (xs : List ℕ). key_from plan.kinds (drop 1 xs)) s.2 ∙ key_back plan.kinds q s.0 (padded (w - suc (word_count plan.kinds)) []) s.1
 
   -- words tell their places
-  pub words_tell : (w k j : ℕ) (q p : List Cell) (ws vs : List ℕ) → suc (word_count (kinds_of plan.keys)) ≤ w → place_words plan k q ≡ Some ws → place_words plan j p ≡ Some vs → padded w ws ≡ padded w vs → SamePlace k q j p
+  pub words_tell : (w k j : ℕ) (q p : List Cell) (ws vs : List ℕ) → suc (word_count plan.kinds) ≤ w → place_words plan k q ≡ Some ws → place_words plan j p ≡ Some vs → padded w ws ≡ padded w vs → SamePlace k q j p
   words_tell w k j q p ws vs l h i e =
       place_same k j q p
       (sym (interval_back w k q ws l h) ∙ ap (λ (xs : List ℕ). get_or xs 0 0) e ∙ interval_back w j p vs l i)
-      (sym (key_of_place w k q ws l h) ∙ ap (λ (xs : List ℕ). key_from (kinds_of plan.keys) (drop 1 xs)) e ∙ key_of_place w j p vs l i)
+      (sym (key_of_place w k q ws l h) ∙ ap (λ (xs : List ℕ). key_from plan.kinds (drop 1 xs)) e ∙ key_of_place w j p vs l i)
 
   -- words compare as places
-  pub words_rank : (w k j : ℕ) (q p : List Cell) (ws vs : List ℕ) → suc (word_count (kinds_of plan.keys)) ≤ w → place_words plan k q ≡ Some ws → place_words plan j p ≡ Some vs → words_cmp (padded w ws) (padded w vs) ≡ place_cmp (k, q) (j, p)
+  pub words_rank : (w k j : ℕ) (q p : List Cell) (ws vs : List ℕ) → suc (word_count plan.kinds) ≤ w → place_words plan k q ≡ Some ws → place_words plan j p ≡ Some vs → words_cmp (padded w ws) (padded w vs) ≡ place_cmp (k, q) (j, p)
   words_rank w k j q p ws vs l h i =
       let s = spread_out w k q ws l h in
       let t = spread_out w j p vs l i in
-      let r = padded (w - suc (word_count (kinds_of plan.keys))) [] in
+      let r = padded (w - suc (word_count plan.kinds)) [] in
       ap (λ (xs : List ℕ). words_cmp xs (padded w vs)) s.2 ∙ ap (λ (ys : List ℕ). words_cmp (k ∷ s.0 ++ r) ys) t.2
-      ∙ ap (λ (o : Ordering). ordering_then (nat_cmp k j) o) (key_rank (kinds_of plan.keys) q p s.0 t.0 s.1 t.1 r r
+      ∙ ap (λ (o : Ordering). ordering_then (nat_cmp k j) o) (key_rank plan.kinds q p s.0 t.0 s.1 t.1 r r
       ∙ ap (λ (o : Ordering). ordering_then (key_cmp q p) o) (tied_itself nat_list_cmp_total r) ∙ sym (then_equal (key_cmp q p)))
 
 -- ---- nothing yet
@@ -156,7 +156,7 @@ none_kept plan rows z k q = by (place_words plan k q)
     by None = refl
     by (Some ws) = numbers_none (length plan.counters) (number_at rows (padded (width_of rows) ws)) (z (padded (width_of rows) ws) 0)
 
-pub none_of_plan : (plan : PlanValue) (rows : Rows) → suc (word_count (kinds_of plan.keys)) ≤ width_of rows → suc (length plan.counters) ≤ depth_of rows → ((q : List ℕ) (i : ℕ) → number_at rows q i ≡ 0) → AreRowsOf plan rows
+pub none_of_plan : (plan : PlanValue) (rows : Rows) → suc (word_count plan.kinds) ≤ width_of rows → suc (length plan.counters) ≤ depth_of rows → ((q : List ℕ) (i : ℕ) → number_at rows q i ≡ 0) → AreRowsOf plan rows
 none_of_plan plan rows w d z =
     record {
       wide = w;

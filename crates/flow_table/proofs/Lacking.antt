@@ -8,6 +8,7 @@ use Rattle.std.proofs.lemmas.List.Elements.{All-nil, All-cons, All-head, All-tai
 use Rattle.std.proofs.lemmas.List.Sums.{sum_by-cons}
 use Rattle.std.proofs.lemmas.List.FromFn.{get_or-map-range_with_len, length-map-range_with_len}
 use Rattle.ipfix_elements.specs.declared.cell.Cell.{Cell}
+use Rattle.ipfix_elements.specs.declared.kind.Kind.{Kind}
 use Rattle.ipfix_wire.specs.declared.specifier.ElementId.{ElementId}
 use Rattle.ipfix_message.specs.declared.record.DataRecord.{DataRecord}
 use Rattle.flow_table.specs.declared.class.Class.{Class}
@@ -25,7 +26,6 @@ use Rattle.flow_table.specs.Reading.{cell_of, cells_of, class_of, end_of, flow_c
 use Rattle.flow_table.specs.Readings.{Notes}
 use Rattle.flow_table.specs.Tables.{count_of, tally_of, IsTooLarge}
 use Rattle.flow_table.specs.Totals.{added}
-use Rattle.flow_table.proofs.PlanKeys.{passed_tests}
 use Rattle.flow_table.proofs.Sums.{added_map, same_map, count-append}
 
 abbrev pub missing : ℕ → ℕ → List ℕ → List ℕ → Missing
@@ -131,7 +131,7 @@ missing_small plan rs small =
     record {
       start = omega (arith, in_class plan classes.Untimed (λ r. is_none (start_of r)) rs, count_small plan rs classes.Untimed small);
       end = omega (arith, in_class plan classes.Untimed (λ r. is_some (start_of r)) rs, count_small plan rs classes.Untimed small);
-      keys = all_map (λ n. n < 2 ^ 64) (λ k. how_many (lacks_key plan k) rs) (λ k. omega (arith, in_class plan classes.Unkeyed (λ r. is_place k (first_without plan.keys r)) rs, count_small plan rs classes.Unkeyed small)) (range_with_len 0 MAX_KEYS);
+      keys = all_map (λ n. n < 2 ^ 64) (λ k. how_many (lacks_key plan k) rs) (λ k. omega (arith, in_class plan classes.Unkeyed (λ r. is_place k (first_without plan.keys plan.kinds r)) rs, count_small plan rs classes.Unkeyed small)) (range_with_len 0 MAX_KEYS);
       counters = all_map (λ n. n < 2 ^ 64) (λ c. how_many (lacks_counter plan c) rs) (λ c. omega (arith, in_class plan classes.Used (λ r. is_absent_at plan.counters c r) rs, count_small plan rs classes.Used small)) (range_with_len 0 MAX_COUNTERS);
     }
 
@@ -145,7 +145,7 @@ one_of_test test r = elim (test r) as (λ b. length (cond b (r ∷ []) []) ≡ c
 abbrev of_class : PlanValue → DataRecord → Class → Missing
 of_class plan r class =
     missing (cond (is_class classes.Untimed class && is_none (start_of r)) 1 0) (cond (is_class classes.Untimed class && is_some (start_of r)) 1 0)
-    (by_place MAX_KEYS (λ k. cond (is_class classes.Unkeyed class && is_place k (first_without plan.keys r)) 1 0))
+    (by_place MAX_KEYS (λ k. cond (is_class classes.Unkeyed class && is_place k (first_without plan.keys plan.kinds r)) 1 0))
     (by_place MAX_COUNTERS (λ c. cond (is_class classes.Used class && is_absent_at plan.counters c r) 1 0))
 
 of_one : (plan : PlanValue) (r : DataRecord) → missing_of plan (r ∷ []) ≡ of_class plan r (class_of plan r)
@@ -439,19 +439,21 @@ still_none : (cell : Cell) (o : Option (List Cell)) → is_none (option_map (λ 
 still_none cell None h = refl
 still_none cell (Some cells) h = h
 
-step_within : (keys : List Key) (r : DataRecord) (o : Option Cell) → is_none (option_and_then (λ (cell : Cell). option_map (λ (cells : List Cell). cell ∷ cells) (cells_of keys r)) o) ≡ true
-    → (is_none (cells_of keys r) ≡ true → (k : ℕ) × (k < length keys) × (first_without keys r ≡ Some k))
-    → (k : ℕ) × (k < suc (length keys)) × (cond (is_none o) (Some 0) (option_map (λ (j : ℕ). suc j) (first_without keys r)) ≡ Some k)
-step_within keys r None h others = (0, omega arith, refl)
-step_within keys r (Some cell) h others =
-    let at = others (still_none cell (cells_of keys r) h) in
+step_within : (keys : List Key) (kinds : List Kind) (r : DataRecord) (o : Option Cell)
+    → is_none (option_and_then (λ (cell : Cell). option_map (λ (cells : List Cell). cell ∷ cells) (cells_of keys kinds r)) o) ≡ true
+    → (is_none (cells_of keys kinds r) ≡ true → (k : ℕ) × (k < length keys) × (first_without keys kinds r ≡ Some k))
+    → (k : ℕ) × (k < suc (length keys)) × (cond (is_none o) (Some 0) (option_map (λ (j : ℕ). suc j) (first_without keys kinds r)) ≡ Some k)
+step_within keys kinds r None h others = (0, omega arith, refl)
+step_within keys kinds r (Some cell) h others =
+    let at = others (still_none cell (cells_of keys kinds r) h) in
     let inside : at.0 < length keys = at.1 in
     (suc at.0, omega arith, ap (option_map (λ (j : ℕ). suc j)) at.2)
 
 -- a record that has no key lacks a first one
-first_within : (keys : List Key) (r : DataRecord) → is_none (cells_of keys r) ≡ true → (k : ℕ) × (k < length keys) × (first_without keys r ≡ Some k)
-first_within [] r h = cc h
-first_within (key ∷ keys) r h = step_within keys r (cell_of key r) h (first_within keys r)
+first_within : (keys : List Key) (kinds : List Kind) (r : DataRecord) → is_none (cells_of keys kinds r) ≡ true → (k : ℕ) × (k < length keys) × (first_without keys kinds r ≡ Some k)
+first_within [] kinds r h = cc h
+first_within (key ∷ keys) [] r h = cc h
+first_within (key ∷ keys) (kind ∷ kinds) r h = step_within keys kinds r (cell_of key kind r) h (first_within keys kinds r)
 
 by_test : (a b c : Bool) → is_class classes.Unkeyed (cond a classes.Backward (cond b classes.Unkeyed (cond c classes.TooLong classes.Used))) ≡ true → b ≡ true
 by_test a true c h = refl
@@ -474,9 +476,9 @@ keyless plan r h = of_scope (nat_lt 0 r.scope) (flow_class plan r (start_of r) (
 pub keys_add_up : (plan : PlanValue) (rs : List DataRecord) → IsPlan plan → sum (missing_of plan rs).keys ≡ (tally_of plan rs).unkeyed
 unfolding missing_of how_many count_of
 keys_add_up plan rs is =
-    counted_by_place MAX_KEYS (λ r. is_class classes.Unkeyed (class_of plan r)) (λ r. first_without plan.keys r)
+    counted_by_place MAX_KEYS (λ r. is_class classes.Unkeyed (class_of plan r)) (λ r. first_without plan.keys plan.kinds r)
     (λ r unkeyed.
-    let at = first_within plan.keys r (keyless plan r unkeyed) in
-    let few : length plan.keys ≤ 8 = leb-true (length plan.keys) 8 (passed_tests plan is).few in
+    let at = first_within plan.keys plan.kinds r (keyless plan r unkeyed) in
+    let few : length plan.keys ≤ 8 = leb-true (length plan.keys) 8 is.few in
     let inside : at.0 < length plan.keys = at.1 in
     (at.0, omega arith, at.2)) rs

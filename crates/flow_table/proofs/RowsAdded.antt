@@ -2,7 +2,7 @@
 use Rattle.std.proofs.Common.{◌≡◌, ℕ, ◌+◌, ◌<◌, List, [], ◌∷◌, ◌++◌, length, Some, Result, Ok, Err, OnOk, IfErr, get_or}
 use Rattle.flat_rows.specs.Rows.{Small, SomeTooLarge}
 use Rattle.flow_table.specs.AddedUp.{AddUpTooLarge}
-use Rattle.flow_table.specs.Plans.{PlanValue, kinds_of}
+use Rattle.flow_table.specs.Plans.{PlanValue}
 use Rattle.flow_table.specs.RowTotals.{HoldsRows}
 use Rattle.flow_table.specs.Rows.{AddsRow, AreAlike, depth_of, number_at, width_of}
 use Rattle.flow_table.specs.SameTables.{RowValue}
@@ -14,7 +14,7 @@ use Rattle.flow_table.proofs.FlowAdded.{words_of_place}
 use Rattle.flow_table.proofs.Kept.{add_joins, add_keeps, add_large, kept_small}
 use Rattle.flow_table.proofs.RowsHeld.{held_large, held_more}
 
-module _ (plan : PlanValue) (old new : Rows) (rows : List RowValue) (row : RowValue) (words : List ℕ) (are : key_words (kinds_of plan.keys) row.key ≡ Some words) (some : 0 < row.flows) (long : length row.sums ≡ length plan.counters) (held : HoldsRows plan old rows) where
+module _ (plan : PlanValue) (old new : Rows) (rows : List RowValue) (row : RowValue) (words : List ℕ) (are : key_words plan.kinds row.key ≡ Some words) (some : 0 < row.flows) (long : length row.sums ≡ length plan.counters) (held : HoldsRows plan old rows) where
   pub held_ok : (r : Result (Unit {0}) TableFault) → AreAlike new old → Small (number_at new) → OnOk r (AddsRow old (row.interval ∷ words) (row.flows ∷ row.sums) new) → OnOk r (HoldsRows plan new (rows ++ row ∷ []))
   held_ok (Ok x) alike small adds =
       held_more plan old new rows row held

@@ -10,7 +10,7 @@ use Rattle.flat_rows.specs.Rows.{Row as FlatRow, Above, Ascends, Counted, IsRun,
 use Rattle.flat_rows.proofs.Found.{total_here}
 use Rattle.ipfix_elements.specs.declared.cell.Cell.{Cell}
 use Rattle.flow_table.specs.Finishing.{AreLinesOf, AreRunLines, Line, line_cmp, line_from}
-use Rattle.flow_table.specs.Plans.{PlanValue, kinds_of}
+use Rattle.flow_table.specs.Plans.{PlanValue}
 use Rattle.flow_table.specs.Rows.{AreRowsOf, IsPlace, kept_at, kept_by, number_at, rows_in, total_of_numbers, width_of}
 use Rattle.flow_table.specs.Tables.{place_cmp}
 use Rattle.flow_table.specs.Totals.{Total}
@@ -27,7 +27,7 @@ module _ (plan : PlanValue) (rows : Rows) (of : AreRowsOf plan rows) where
   n0 = length plan.counters
 
   abbrev line : FlatRow → Line
-  line = line_from (kinds_of plan.keys) n0
+  line = line_from plan.kinds n0
 
   -- a row of a place, with the numbers that the rows have there, some flow among them
   record IsLine (x : FlatRow) : Type 0 where
@@ -41,8 +41,8 @@ module _ (plan : PlanValue) (rows : Rows) (of : AreRowsOf plan rows) where
 
   place_is : (x : FlatRow) (p : IsPlace plan rows x.key) → (line x).0 ≡ (p.interval, p.key)
   place_is x p =
-      ap (λ (q : List ℕ). (get_or q 0 0, key_from (kinds_of plan.keys) (drop 1 q))) p.padded_are
-      ∙ place_same (get_or (padded (width_of rows) p.words) 0 0) p.interval (key_from (kinds_of plan.keys) (drop 1 (padded (width_of rows) p.words))) p.key
+      ap (λ (q : List ℕ). (get_or q 0 0, key_from plan.kinds (drop 1 q))) p.padded_are
+      ∙ place_same (get_or (padded (width_of rows) p.words) 0 0) p.interval (key_from plan.kinds (drop 1 (padded (width_of rows) p.words))) p.key
       (interval_back plan (width_of rows) p.interval p.key p.words of.wide p.are) (key_of_place plan (width_of rows) p.interval p.key p.words of.wide p.are)
 
   kept_of : (k : ℕ) (q : List Cell) (ws : List ℕ) → place_words plan k q ≡ Some ws → kept_at plan rows k q ≡ total_of_numbers n0 (number_at rows (padded (width_of rows) ws))
@@ -121,5 +121,5 @@ module _ (plan : PlanValue) (rows : Rows) (of : AreRowsOf plan rows) where
         complete = λ k q t is. found_at k q t xs are same is;
       }
 
-  pub lines_of : (lines : List Line) → AreRunLines (kinds_of plan.keys) n0 (rows_in rows) lines → AreLinesOf (kept_at plan rows) lines
+  pub lines_of : (lines : List Line) → AreRunLines plan.kinds n0 (rows_in rows) lines → AreLinesOf (kept_at plan rows) lines
   lines_of lines are = subst (AreLinesOf (kept_at plan rows)) (sym are.are) (run_lines_of are.run are.ascends are.same)

@@ -14,8 +14,8 @@ use Rattle.flow_table.specs.declared.method.Method.{Method}
 use Rattle.flow_table.specs.declared.method.Method.TheVariants.{Start, End, Mid, Uniform, Proportional}
 use Rattle.flow_table.specs.Intervals.{covered_by, covers_by}
 use Rattle.flow_table.specs.Plans.{PlanValue}
-use Rattle.ipfix_elements.specs.Elements.{iana}
-use Rattle.flow_table.specs.Reading.{number_of, time_in, time_of, start_of, end_of, key_of, is_too_long, flow_class, class_of, IsUsed}
+use Rattle.ipfix_elements.specs.Elements.{iana, kind_of}
+use Rattle.flow_table.specs.Reading.{number_as, time_in, time_of, start_of, end_of, key_of, is_too_long, flow_class, class_of, IsUsed}
 use Rattle.flow_table.proofs.UsedRecords.{is_used}
 
 -- ---- times
@@ -43,7 +43,8 @@ or_small (Some t) p h k = h
 end_small : (r : DataRecord) → ForSome (end_of r) (λ u. u < 2 ^ 50)
 unfolding end_of
 end_small r =
-    or_small (time_of (iana FLOW_END_MILLISECONDS) 1 r) (time_of (iana FLOW_END_SECONDS) 1000 r) (some_time (number_of (iana FLOW_END_MILLISECONDS) r) 1) (some_time (number_of (iana FLOW_END_SECONDS) r) 1000)
+    or_small (time_of (iana FLOW_END_MILLISECONDS) 1 r) (time_of (iana FLOW_END_SECONDS) 1000 r) (some_time (number_as (kind_of (iana FLOW_END_MILLISECONDS)) (iana FLOW_END_MILLISECONDS) r) 1)
+    (some_time (number_as (kind_of (iana FLOW_END_SECONDS)) (iana FLOW_END_SECONDS) r) 1000)
 
 -- ---- a used record
 

@@ -3,17 +3,14 @@ use Rattle.std.proofs.Common.{◌≡◌, ℕ, zero, suc, ◌+◌, ◌*◌, ◌<�
 use Rattle.std.specs.Int.{from_be_bytes, w64}
 use Rattle.std.specs.List.{AllZip}
 use Rattle.std.proofs.lemmas.Bool.{leb-true}
-use Rattle.std.proofs.lemmas.List.{drop_more, drop_all, length-map}
-use Rattle.ipfix_elements.specs.Elements.{kind_of}
+use Rattle.std.proofs.lemmas.List.{drop_more, drop_all}
 use Rattle.ipfix_elements.specs.declared.cell.Cell.{Cell}
 use Rattle.ipfix_elements.specs.declared.kind.Kind.{Kind}
-use Rattle.flow_table.specs.Fitting.{FitsKeys, IsCellOf}
+use Rattle.flow_table.specs.Fitting.{IsCellOf}
 use Rattle.ipfix_elements.specs.declared.kind.Kind.TheVariants.{Unsigned, Ipv4, Ipv6, Mac, Seconds, Millis, Octets}
-use Rattle.flow_table.specs.Plans.{IsPlan, PlanValue, kinds_of}
+use Rattle.flow_table.specs.Plans.{IsPlan, PlanValue}
 use Rattle.flow_table.specs.Words.{address_words, spelled, both_words, cell_words, first_of, key_words, word_count, words_of_kind}
-use Rattle.flow_table.specs.declared.key.Key.{Key}
 use Rattle.flow_table.proofs.Octets.{eight_spell, octets_pass}
-use Rattle.flow_table.proofs.PlanKeys.{passed_tests}
 
 split_at : {X : Type 0} (xs : List X) (i : ℕ) (x : X) → i < length xs → x ≡ get_or xs i x → drop i xs ≡ x ∷ drop (i + 1) xs
 split_at {X} xs i x l e = drop_more xs i x l ∙ ap (λ (y : X). y ∷ drop (i + 1) xs) (sym e)
@@ -34,13 +31,11 @@ count_few (kind ∷ kinds) = let rest = count_few kinds in let first = one_few k
     one_few Octets = omega arith
 
 -- a plan has up to eight keys
-pub kinds_few : (plan : PlanValue) → IsPlan plan → length (kinds_of plan.keys) ≤ 8
-kinds_few plan h = let few = leb-true (length plan.keys) 8 (passed_tests plan h).few in omega (arith, length-map plan.keys (λ (k : Key). kind_of k.element))
+pub kinds_few : (plan : PlanValue) → IsPlan plan → length plan.kinds ≤ 8
+kinds_few plan h = let few = leb-true (length plan.keys) 8 h.few in omega (arith, h.beside)
 
-pub words_few : (plan : PlanValue) → IsPlan plan → word_count (kinds_of plan.keys) ≤ 16
-words_few plan h = let few = kinds_few plan h in let count = count_few (kinds_of plan.keys) in omega arith
-
--- ---- reading
+pub words_few : (plan : PlanValue) → IsPlan plan → word_count plan.kinds ≤ 16
+words_few plan h = let few = kinds_few plan h in let count = count_few plan.kinds in omega arith
 
 -- ---- writing
 
@@ -101,13 +96,6 @@ words_done cells i ws l so_far kinds fits =
     let none = drop_all i cells l in
     s.0 ∙ ap (λ (cs : List Cell). both_words (Some ws) (key_words (drop i kinds) cs)) none
     ∙ no_more (drop i kinds) ws (subst (λ (cs : List Cell). AllZip IsCellOf (drop i kinds) cs) none s.1)
-
--- in the words of keys
-pub fits_kinds : (keys : List Key) (cells : List Cell) → FitsKeys keys cells → AllZip IsCellOf (kinds_of keys) cells
-fits_kinds [] [] h = tt
-fits_kinds [] (c ∷ cs) h = absurd h
-fits_kinds (k ∷ ks) [] h = absurd h
-fits_kinds (k ∷ ks) (c ∷ cs) h = (h.0, fits_kinds ks cs h.1)
 
 -- ---- numbers
 

@@ -44,7 +44,7 @@ Lacks plan r Options = Unit {0}
 Lacks plan r WithoutStart = start_of r ≡ None
 Lacks plan r WithoutEnd = is_some (start_of r) ≡ true
 Lacks plan r Backward = Unit {0}
-Lacks plan r (WithoutKey place) = first_without plan.keys r ≡ Some place
+Lacks plan r (WithoutKey place) = first_without plan.keys plan.kinds r ≡ Some place
 Lacks plan r TooLong = Unit {0}
 
 -- a record is left out for this reason

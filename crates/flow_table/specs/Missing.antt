@@ -2,6 +2,7 @@
 use Rattle.std.specs.Prelude.{ℕ, zero, suc, ◌+◌, ◌^◌, ◌<◌, ◌==◌, ◌&&◌, Bool, false, is_none, is_some, if◌then◌else◌, List, [], ◌∷◌, length, map, filter, All, Option, Some, None, option_map}
 use Rattle.std.specs.List.{range_with_len}
 use Rattle.ipfix_wire.specs.declared.specifier.ElementId.{ElementId}
+use Rattle.ipfix_elements.specs.declared.kind.Kind.{Kind}
 use Rattle.ipfix_message.specs.declared.record.DataRecord.{DataRecord}
 use Rattle.flow_table.specs.declared.class.Class.TheVariants.{Untimed, Unkeyed, Used}
 use Rattle.flow_table.specs.declared.key.Key.{Key}
@@ -24,9 +25,9 @@ abbrev pub lacks_end : PlanValue → DataRecord → Bool
 lacks_end plan r = is_class Untimed (class_of plan r) && is_some (start_of r)
 
 -- the place of the first key that a record has no cell of, from 0
-abbrev pub first_without : List Key → DataRecord → Option ℕ
-first_without [] r = None
-first_without (key ∷ keys) r = if is_none (cell_of key r) then Some 0 else option_map (λ (k : ℕ). suc k) (first_without keys r)
+abbrev pub first_without : List Key → List Kind → DataRecord → Option ℕ
+first_without (key ∷ keys) (kind ∷ kinds) r = if is_none (cell_of key kind r) then Some 0 else option_map (λ (k : ℕ). suc k) (first_without keys kinds r)
+first_without keys kinds r = None
 
 abbrev pub is_place : ℕ → Option ℕ → Bool
 is_place k None = false
@@ -34,7 +35,7 @@ is_place k (Some place) = k == place
 
 -- an unkeyed record whose first missing key is the k-th one, from 0
 abbrev pub lacks_key : PlanValue → ℕ → DataRecord → Bool
-lacks_key plan k r = is_class Unkeyed (class_of plan r) && is_place k (first_without plan.keys r)
+lacks_key plan k r = is_class Unkeyed (class_of plan r) && is_place k (first_without plan.keys plan.kinds r)
 
 -- the c-th of some elements, from 0, is missing in a record, or its field holds no number
 abbrev pub is_absent_at : List ElementId → ℕ → DataRecord → Bool

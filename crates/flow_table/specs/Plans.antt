@@ -1,9 +1,9 @@
 -- Plans of an aggregation (RFC 7015, section 5), and what makes arguments no plan.
-use Rattle.std.specs.Prelude.{◌≡◌, ℕ, ◌≤◌, ◌==◌, ◌&&◌, ◌||◌, not, Bool, true, false, nat_lt, nat_le, List, [], ◌∷◌, ◌++◌, length, map, Option, Some, None, is_some, if◌then◌else◌}
+use Rattle.std.specs.Prelude.{◌≡◌, ℕ, ◌≤◌, ◌^◌, ◌==◌, ◌&&◌, ◌||◌, not, Bool, true, false, nat_lt, nat_le, List, [], ◌∷◌, ◌++◌, length, map, zip, Option, Some, None, is_some, if◌then◌else◌}
 use Rattle.std.specs.List.{list_any, list_all}
 use Rattle.std.specs.Option.{ForSome}
 use Rattle.ipfix_wire.specs.declared.specifier.ElementId.{ElementId}
-use Rattle.ipfix_elements.specs.declared.iana.TheConstants.{OCTET_DELTA_COUNT, PACKET_DELTA_COUNT, DELTA_FLOW_COUNT, POST_OCTET_DELTA_COUNT, POST_PACKET_DELTA_COUNT, DROPPED_OCTET_DELTA_COUNT, DROPPED_PACKET_DELTA_COUNT, SOURCE_IPV4_ADDRESS, DESTINATION_IPV4_ADDRESS, SOURCE_IPV4_PREFIX, DESTINATION_IPV4_PREFIX}
+use Rattle.ipfix_elements.specs.declared.iana.TheConstants.{OCTET_DELTA_COUNT, PACKET_DELTA_COUNT, DELTA_FLOW_COUNT, POST_OCTET_DELTA_COUNT, POST_PACKET_DELTA_COUNT, DROPPED_OCTET_DELTA_COUNT, DROPPED_PACKET_DELTA_COUNT, SOURCE_IPV4_ADDRESS, DESTINATION_IPV4_ADDRESS, SOURCE_IPV4_PREFIX, DESTINATION_IPV4_PREFIX, FLOW_START_SECONDS, FLOW_END_SECONDS, FLOW_START_MILLISECONDS, FLOW_END_MILLISECONDS}
 use Rattle.ipfix_elements.specs.Elements.{kind_of}
 use Rattle.ipfix_elements.specs.declared.kind.Kind.{Kind}
 use Rattle.ipfix_elements.specs.declared.kind.Kind.TheVariants as kinds
@@ -15,21 +15,31 @@ use Rattle.flow_table.specs.declared.plan.TheConstants.{MAX_KEYS, MAX_COUNTERS, 
 use Rattle.flow_table.specs.declared.plan_fault.PlanFault.{PlanFault}
 use Rattle.flow_table.specs.declared.plan_fault.PlanFault.TheVariants.{Length, Spread, KeyCount, KeyKind, Prefix, CounterCount, CounterKind, Repeated}
 
--- the length of an interval in milliseconds, how a flow's counters are distributed, the keys and counters of the
--- table, and the most intervals that a flow may cover if it is spread over them
+-- the length of an interval in milliseconds, how a flow's counters are distributed, the keys of the table, the kinds
+-- that their fields are read by, its counters, and the most intervals that a flow may cover if it is spread over them
 pub record PlanValue : Type 0 where
   pub length : ℕ
   pub method : Method
   pub keys : List Key
+  pub kinds : List Kind
   pub counters : List ElementId
   pub max_spread : ℕ
 
-abbrev pub plan_value : ℕ → Method → List Key → List ElementId → ℕ → PlanValue
-plan_value length method keys counters max_spread = record { length = length; method = method; keys = keys; counters = counters; max_spread = max_spread }
-
--- the kinds that the fields of keys are read by
+-- the kinds of built-in elements that are keys
 abbrev pub kinds_of : List Key → List Kind
 kinds_of keys = map (λ k. kind_of k.element) keys
+
+abbrev pub plan_with : ℕ → Method → List Key → List Kind → List ElementId → ℕ → PlanValue
+plan_with length method keys kinds counters max_spread =
+    record { length = length; method = method; keys = keys; kinds = kinds; counters = counters; max_spread = max_spread }
+
+-- a plan of built-in elements
+abbrev pub plan_value : ℕ → Method → List Key → List ElementId → ℕ → PlanValue
+plan_value length method keys counters max_spread = plan_with length method keys (kinds_of keys) counters max_spread
+
+-- the keys of a plan, each with its kind
+abbrev pub keys_and_kinds : PlanValue → List (Key × Kind)
+keys_and_kinds plan = zip plan.keys plan.kinds
 
 abbrev pub is_between : ℕ → ℕ → ℕ → Bool
 is_between low high n = nat_le low n && nat_le n high
@@ -130,6 +140,29 @@ first_fault length keys counters max_spread =
 abbrev pub first_fault_of : PlanValue → Option PlanFault
 first_fault_of p = first_fault p.length p.keys p.counters p.max_spread
 
--- a plan that no fault fits
-abbrev pub IsPlan : PlanValue → Type 0
-IsPlan p = first_fault_of p ≡ None
+-- ---- what holds of every plan
+
+-- numbers that are in range (RFC 7011, section 3.2)
+abbrev pub is_element : ElementId → Bool
+is_element e = nat_lt e.pen (2 ^ 32) && nat_lt e.number (2 ^ 15)
+
+-- a flow's start or end
+abbrev pub is_time : ElementId → Bool
+is_time e = is_of_iana (FLOW_START_SECONDS ∷ FLOW_END_SECONDS ∷ FLOW_START_MILLISECONDS ∷ FLOW_END_MILLISECONDS ∷ []) e
+
+-- an element that isn't a flow's time
+abbrev pub is_value : ElementId → Bool
+is_value e = is_element e && not (is_time e)
+
+-- a plan: a kind that can be compared for each of its keys, and no time among the elements of its keys and counters
+pub record IsPlan (p : PlanValue) : Type 0 where
+  pub positive : nat_lt 0 p.length ≡ true
+  pub spread : is_between 1 MAX_SPREAD p.max_spread ≡ true
+  pub few : nat_le (length p.keys) MAX_KEYS ≡ true
+  pub beside : length p.kinds ≡ length p.keys
+  pub kinds : list_all is_key_kind p.kinds ≡ true
+  pub values : list_all (λ k. is_value k.element) p.keys ≡ true
+  pub prefixes : list_all (λ k. is_prefix_of k.element k.prefix) p.keys ≡ true
+  pub some : is_between 1 MAX_COUNTERS (length p.counters) ≡ true
+  pub counters : list_all is_value p.counters ≡ true
+  pub apart : not (has_twice (elements_in Read p.keys p.counters) || has_twice (elements_in Exported p.keys p.counters)) ≡ true

@@ -5,6 +5,9 @@ use Rattle.ipfix_wire.specs.declared.specifier.ElementId.{ElementId}
 use Rattle.ipfix_elements.specs.declared.cell.Cell.{Cell}
 use Rattle.ipfix_elements.specs.declared.cell.Cell.TheVariants.{Number, Ipv4, Ipv6, Mac}
 use Rattle.ipfix_elements.specs.declared.iana.TheConstants.{FLOW_START_SECONDS, FLOW_END_SECONDS, FLOW_START_MILLISECONDS, FLOW_END_MILLISECONDS}
+use Rattle.ipfix_elements.specs.declared.kind.Kind.{Kind}
+use Rattle.ipfix_elements.specs.declared.kind.Kind.TheVariants.{Unsigned}
+use Rattle.ipfix_elements.specs.declared.kind.Width.TheVariants.{Eight}
 use Rattle.ipfix_elements.specs.Elements.{iana, kind_of}
 use Rattle.ipfix_elements.specs.Prefixes.{masked}
 use Rattle.ipfix_elements.specs.Values.{number_in, cell_in}
@@ -20,9 +23,13 @@ use Rattle.flow_table.specs.Plans.{PlanValue}
 
 -- ---- numbers
 
--- the number in the first field of an element, by the element's kind
+-- the number in the first field of an element, by a kind
+abbrev pub number_as : Kind → ElementId → DataRecord → Option ℕ
+number_as kind element r = option_and_then (number_in kind) (octets_of element r.fields)
+
+-- a counter is an unsigned number of up to 8 octets
 abbrev pub number_of : ElementId → DataRecord → Option ℕ
-number_of element r = option_and_then (number_in (kind_of element)) (octets_of element r.fields)
+number_of element r = number_as (Unsigned Eight) element r
 
 -- a counter that is missing or absent is 0
 abbrev pub counter_of : ElementId → DataRecord → ℕ
@@ -36,7 +43,7 @@ time_in t = if nat_lt t (2 ^ 50) then Some t else None
 
 -- the time in ms that an element tells in so many of them
 abbrev pub time_of : ElementId → ℕ → DataRecord → Option ℕ
-time_of element unit r = option_and_then (λ n. time_in (n * unit)) (number_of element r)
+time_of element unit r = option_and_then (λ n. time_in (n * unit)) (number_as (kind_of element) element r)
 
 -- the start: in milliseconds, or else in seconds
 unfoldable pub start_of : DataRecord → Option ℕ
@@ -56,17 +63,17 @@ projected (Some bits) (Ipv4 address) = Ipv4 (masked address bits)
 projected (Some bits) (Ipv6 address) = Ipv6 address
 projected (Some bits) (Mac address) = Mac address
 
--- the cell in the first field of a key's element, by the element's kind
-unfoldable pub cell_of : Key → DataRecord → Option Cell
-cell_of key r = option_map (projected key.prefix) (option_and_then (cell_in (kind_of key.element)) (octets_of key.element r.fields))
+-- the cell in the first field of a key's element, by the key's kind
+unfoldable pub cell_of : Key → Kind → DataRecord → Option Cell
+cell_of key kind r = option_map (projected key.prefix) (option_and_then (cell_in kind) (octets_of key.element r.fields))
 
 -- a cell for each of the keys, none if one is missing or absent
-abbrev pub cells_of : List Key → DataRecord → Option (List Cell)
-cells_of [] r = Some []
-cells_of (key ∷ keys) r = option_and_then (λ cell. option_map (λ cells. cell ∷ cells) (cells_of keys r)) (cell_of key r)
+abbrev pub cells_of : List Key → List Kind → DataRecord → Option (List Cell)
+cells_of (key ∷ keys) (kind ∷ kinds) r = option_and_then (λ cell. option_map (λ cells. cell ∷ cells) (cells_of keys kinds r)) (cell_of key kind r)
+cells_of keys kinds r = Some []
 
 abbrev pub key_of : PlanValue → DataRecord → Option (List Cell)
-key_of plan r = cells_of plan.keys r
+key_of plan r = cells_of plan.keys plan.kinds r
 
 -- ---- classes
 

@@ -14,7 +14,7 @@ use Rattle.flow_table.specs.Reading.{IsUsed}
 -- why a record is left out, or start, end and key of a used one, whose cells are of their keys' kinds
 abbrev pub ReadsAs : PlanValue → DataRecord → List Cell → Reading → Type 0
 ReadsAs plan r key (Left left_out) = IsLeftOut plan r left_out
-ReadsAs plan r key (Used span) = IsUsed plan r span.start span.end key × FitsKeys plan.keys key
+ReadsAs plan r key (Used span) = IsUsed plan r span.start span.end key × FitsKeys plan key
 
 -- one more at the place of each element that is missing or absent, but at most 2^64 - 1
 pub record Notes (before : List ℕ) (elements : List ElementId) (r : DataRecord) (after : List ℕ) : Type 0 where

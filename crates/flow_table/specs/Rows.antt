@@ -5,7 +5,7 @@ use Rattle.flat_rows.specs.Rows.{Row, part, row, total_at}
 use Rattle.ipfix_elements.specs.declared.cell.Cell.{Cell}
 use Rattle.flow_table.specs.declared.rows.Rows.{Rows}
 use Rattle.flow_table.specs.declared.rows.Rows.TheVariants.{Two, Six, Nine, Most}
-use Rattle.flow_table.specs.Plans.{PlanValue, kinds_of}
+use Rattle.flow_table.specs.Plans.{PlanValue}
 use Rattle.flow_table.specs.Tables.{key_cmp}
 use Rattle.flow_table.specs.Totals.{Total, total}
 use Rattle.flow_table.specs.Words.{first_of, padded, place_words, word_count}
@@ -89,7 +89,7 @@ pub record IsPlace (plan : PlanValue) (rows : Rows) (q : List ℕ) : Type 0 wher
 -- rows that have room for what a plan has, and keep nothing else: each key is a place, some flow is counted where there is any
 -- number, and there is none behind those of the counters
 pub record AreRowsOf (plan : PlanValue) (rows : Rows) : Type 0 where
-  pub wide : suc (word_count (kinds_of plan.keys)) ≤ width_of rows
+  pub wide : suc (word_count plan.kinds) ≤ width_of rows
   pub deep : suc (length plan.counters) ≤ depth_of rows
   pub places : (q : List ℕ) → 0 < number_at rows q 0 → IsPlace plan rows q
   pub counted : (q : List ℕ) (i : ℕ) → number_at rows q 0 ≡ 0 → number_at rows q i ≡ 0

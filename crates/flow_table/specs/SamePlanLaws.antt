@@ -6,11 +6,14 @@ use Rattle.std.specs.Cmp.Lexicographic.{pointwise}
 use Rattle.std.proofs.Common.{zero, suc, refl, sym, ap, subst, ◌∙◌}
 use Rattle.std.proofs.lemmas.Bool.{eqb-true, eq-eqb}
 use Rattle.ipfix_wire.specs.declared.specifier.ElementId.{ElementId}
+use Rattle.ipfix_elements.specs.declared.kind.Kind.{Kind}
+use Rattle.ipfix_elements.specs.declared.kind.Kind.TheVariants.{Unsigned, Ipv4, Ipv6, Mac, Seconds, Millis, Octets}
+use Rattle.ipfix_elements.specs.declared.kind.Width.TheVariants.{One, Two, Four, Eight}
 use Rattle.flow_table.specs.declared.method.Method.{Method}
 use Rattle.flow_table.specs.declared.method.Method.TheVariants.{Start, End, Mid, Uniform, Proportional}
 use Rattle.flow_table.specs.declared.key.Key.{Key}
 use Rattle.flow_table.specs.Plans.{PlanValue, same_element}
-use Rattle.flow_table.specs.SamePlans.{method_number, same_method, same_key, same_plan}
+use Rattle.flow_table.specs.SamePlans.{method_number, same_method, same_key, kind_number, same_kind, same_plan}
 
 -- ---- a test that tells what is equal
 
@@ -104,25 +107,58 @@ keys_tell = record {
   same = λ x y h. key_from x y (elements_tell.same _ _ (left _ _ h)) ((options_tell ◌==◌ numbers_tell).same _ _ (right (same_element x.element y.element) _ h));
 }
 
-plan_from : (a b : PlanValue) → a.length ≡ b.length → a.method ≡ b.method → a.keys ≡ b.keys → a.counters ≡ b.counters → a.max_spread ≡ b.max_spread → a ≡ b
-plan_from a b h i j k l = rw (h, i, j, k, l) refl
+abbrev kind_at : ℕ → Kind
+kind_at zero = Unsigned One
+kind_at (suc zero) = Unsigned Two
+kind_at (suc (suc zero)) = Unsigned Four
+kind_at (suc (suc (suc zero))) = Unsigned Eight
+kind_at (suc (suc (suc (suc zero)))) = Ipv4
+kind_at (suc (suc (suc (suc (suc zero))))) = Ipv6
+kind_at (suc (suc (suc (suc (suc (suc zero)))))) = Mac
+kind_at (suc (suc (suc (suc (suc (suc (suc zero))))))) = Seconds
+kind_at (suc (suc (suc (suc (suc (suc (suc (suc zero)))))))) = Millis
+kind_at (suc (suc (suc (suc (suc (suc (suc (suc (suc n))))))))) = Octets
+
+kind_there : (k : Kind) → kind_at (kind_number k) ≡ k
+kind_there (Unsigned One) = refl
+kind_there (Unsigned Two) = refl
+kind_there (Unsigned Four) = refl
+kind_there (Unsigned Eight) = refl
+kind_there Ipv4 = refl
+kind_there Ipv6 = refl
+kind_there Mac = refl
+kind_there Seconds = refl
+kind_there Millis = refl
+kind_there Octets = refl
+
+kinds_tell : Tells same_kind
+kinds_tell = record {
+  found = λ x. numbers_tell.found (kind_number x);
+  same = λ x y h. sym (kind_there x) ∙ ap kind_at (numbers_tell.same _ _ h) ∙ kind_there y;
+}
+
+plan_from : (a b : PlanValue) → a.length ≡ b.length → a.method ≡ b.method → a.keys ≡ b.keys → a.kinds ≡ b.kinds → a.counters ≡ b.counters → a.max_spread ≡ b.max_spread → a ≡ b
+plan_from a b h i j k l m = rw (h, i, j, k, l, m) refl
 
 plans_tell : Tells same_plan
 plans_tell = record { found = found; same = same } where
   found : (x : PlanValue) → same_plan x x ≡ true
   found x =
-      both _ _ (numbers_tell.found x.length)
+      both _ _ ((lists_tell same_kind kinds_tell).found x.kinds)
+      (both _ _ (numbers_tell.found x.length)
       (both _ _ (methods_tell.found x.method)
       (both _ _ ((lists_tell same_key keys_tell).found x.keys)
-      (both _ _ ((lists_tell same_element elements_tell).found x.counters) (numbers_tell.found x.max_spread))))
+      (both _ _ ((lists_tell same_element elements_tell).found x.counters) (numbers_tell.found x.max_spread)))))
 
   same : (x y : PlanValue) → same_plan x y ≡ true → x ≡ y
   same x y h =
-      let after_length = right (x.length == y.length) _ h in
+      let after_kinds = right (pointwise same_kind x.kinds y.kinds) _ h in
+      let after_length = right (x.length == y.length) _ after_kinds in
       let after_method = right (same_method x.method y.method) _ after_length in
       let after_keys = right (pointwise same_key x.keys y.keys) _ after_method in
-      plan_from x y (numbers_tell.same _ _ (left _ _ h)) (methods_tell.same _ _ (left _ _ after_length))
+      plan_from x y (numbers_tell.same _ _ (left _ _ after_kinds)) (methods_tell.same _ _ (left _ _ after_length))
       ((lists_tell same_key keys_tell).same _ _ (left _ _ after_method))
+      ((lists_tell same_kind kinds_tell).same _ _ (left _ _ h))
       ((lists_tell same_element elements_tell).same _ _ (left _ _ after_keys))
       (numbers_tell.same _ _ (right (pointwise same_element x.counters y.counters) _ after_keys))
 

@@ -2,6 +2,9 @@
 use Rattle.std.specs.Prelude.{ℕ, ◌==◌, ◌&&◌, Bool}
 use Rattle.std.specs.Option.{option_eq}
 use Rattle.std.specs.Cmp.Lexicographic.{pointwise}
+use Rattle.ipfix_elements.specs.declared.kind.Kind.{Kind}
+use Rattle.ipfix_elements.specs.declared.kind.Kind.TheVariants.{Unsigned, Ipv4, Ipv6, Mac, Seconds, Millis, Octets}
+use Rattle.ipfix_elements.specs.declared.kind.Width.TheVariants.{One, Two, Four, Eight}
 use Rattle.flow_table.specs.declared.method.Method.{Method}
 use Rattle.flow_table.specs.declared.method.Method.TheVariants.{Start, End, Mid, Uniform, Proportional}
 use Rattle.flow_table.specs.declared.key.Key.{Key}
@@ -21,7 +24,26 @@ same_method a b = method_number a == method_number b
 abbrev pub same_key : Key → Key → Bool
 same_key a b = same_element a.element b.element && option_eq ◌==◌ a.prefix b.prefix
 
-abbrev pub same_plan : PlanValue → PlanValue → Bool
-same_plan a b =
+-- the place of a kind among the ten
+abbrev pub kind_number : Kind → ℕ
+kind_number (Unsigned One) = 0
+kind_number (Unsigned Two) = 1
+kind_number (Unsigned Four) = 2
+kind_number (Unsigned Eight) = 3
+kind_number Ipv4 = 4
+kind_number Ipv6 = 5
+kind_number Mac = 6
+kind_number Seconds = 7
+kind_number Millis = 8
+kind_number Octets = 9
+
+abbrev pub same_kind : Kind → Kind → Bool
+same_kind a b = kind_number a == kind_number b
+
+abbrev pub same_parts : PlanValue → PlanValue → Bool
+same_parts a b =
     (a.length == b.length) && (same_method a.method b.method && (pointwise same_key a.keys b.keys
     && (pointwise same_element a.counters b.counters && (a.max_spread == b.max_spread))))
+
+abbrev pub same_plan : PlanValue → PlanValue → Bool
+same_plan a b = pointwise same_kind a.kinds b.kinds && same_parts a b

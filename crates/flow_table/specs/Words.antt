@@ -6,7 +6,7 @@ use Rattle.ipfix_elements.specs.declared.cell.Cell.{Cell}
 use Rattle.ipfix_elements.specs.declared.cell.Cell.TheVariants as cells
 use Rattle.ipfix_elements.specs.declared.kind.Kind.{Kind}
 use Rattle.ipfix_elements.specs.declared.kind.Kind.TheVariants as kinds
-use Rattle.flow_table.specs.Plans.{PlanValue, kinds_of}
+use Rattle.flow_table.specs.Plans.{PlanValue}
 
 -- the number that octets spell behind those of another number, the highest first
 abbrev pub spelled : ℕ → List ℕ → ℕ
@@ -44,7 +44,7 @@ key_words (kind ∷ kinds) (cell ∷ cells) = both_words (cell_words kind cell) 
 
 -- the words of an interval and a key, none if the key doesn't fit the plan
 abbrev pub place_words : PlanValue → ℕ → List Cell → Option (List ℕ)
-place_words plan k key = option_map (λ (ws : List ℕ). k ∷ ws) (key_words (kinds_of plan.keys) key)
+place_words plan k key = option_map (λ (ws : List ℕ). k ∷ ws) (key_words plan.kinds key)
 
 -- how many words a cell of a kind has
 abbrev pub words_of_kind : Kind → ℕ

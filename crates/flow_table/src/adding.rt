@@ -3,7 +3,6 @@
 ghost use Rattle.std.specs.Prelude.{◌≡◌, ℕ, List, Some, OnOk, IfErr, length};
 ghost use Rattle.ipfix_elements.specs.declared.cell.Cell.{Cell as CellValue};
 ghost use Rattle.flow_table.specs.Flows.{flow_total, flow_part};
-ghost use Rattle.flow_table.specs.Plans.{kinds_of};
 ghost use Rattle.flow_table.specs.Totals.{IsLargeAt, joined};
 ghost use Rattle.flow_table.specs.Rows.{AreRowsOf, kept_at, place_part};
 ghost use Rattle.flow_table.specs.Words.{key_words};
@@ -35,7 +34,7 @@ fn add_at(
     interval: u64,
     room: &mut Room,
 ) -> Result<(), TableFault>
-    requires words { key_words (kinds_of plan.now.keys) room.old.key.items
+    requires words { key_words plan.now.kinds room.old.key.items
         ≡ Some room.old.words.items }
     requires counters { length room.old.counters.items ≡ length plan.now.counters }
     ensures rows { AreRowsOf plan.now rows.old → AreRowsOf plan.now rows.new }
@@ -60,7 +59,7 @@ fn add_at(
 /// Adds the shares of a flow, whose key and counters were read, to the totals of its key at all
 /// intervals that it contributes to.
 pub fn add_flow(plan: &Plan, rows: &mut Rows, span: Span, room: &mut Room) -> Result<(), TableFault>
-    requires words { key_words (kinds_of plan.now.keys) room.old.key.items
+    requires words { key_words plan.now.kinds room.old.key.items
         ≡ Some room.old.words.items }
     requires counters { length room.old.counters.items ≡ length plan.now.counters }
     ensures rows { AreRowsOf plan.now rows.old → AreRowsOf plan.now rows.new }

@@ -4,7 +4,7 @@ ghost use Rattle.std.specs.Prelude.{◌≡◌, ◌<◌, length, map, slice_index
 ghost use Rattle.flow_table.specs.AddedUp.{rows_in as rows_of};
 ghost use Rattle.flow_table.specs.Finishing.{AreRunLines, line_of};
 ghost use Rattle.flow_table.specs.Fitting.{FitsPlan, FitsRow};
-ghost use Rattle.flow_table.specs.Plans.{PlanValue, kinds_of};
+ghost use Rattle.flow_table.specs.Plans.{PlanValue};
 ghost use Rattle.flow_table.specs.Rows.{rows_in};
 ghost use Rattle.flow_table.specs.SameTables.{IsSameTable, RowValue, value_of};
 
@@ -50,7 +50,7 @@ impl FlatTable {
         tally: Tally,
         missing: Missing,
     ) -> Result<FlatTable, AllocError>
-        ensures rows { IfOk result (λ table. AreRunLines (kinds_of plan.keys)
+        ensures rows { IfOk result (λ table. AreRunLines plan.kinds
             (length plan.counters) (rows_in rows) (map line_of table.rows.items)) }
         ensures tally { IfOk result (λ table. table.tally ≡ tally) }
         ensures missing { IfOk result (λ table. table.missing ≡ missing) }

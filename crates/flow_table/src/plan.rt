@@ -1,13 +1,17 @@
 //! Plans of an aggregation.
 
 ghost use Rattle.std.specs.Prelude.{◌≡◌, IfOk};
-ghost use Rattle.flow_table.specs.Plans.{kinds_of as kinds_in};
+ghost use Rattle.std.specs.Cmp.Lexicographic.{pointwise};
+ghost use Rattle.flow_table.specs.PlansUnder.{kinds_under};
+ghost use Rattle.flow_table.specs.SamePlans.{kind_number as kind_number_in, same_kind, same_parts};
 
 use crate::checking::first_fault;
 use crate::key::Key;
 use crate::method::Method;
 use crate::plan_fault::PlanFault;
-use ipfix_elements::{Kind, kind_of};
+use crate::roles::key_kind;
+use element_registry::Elements;
+use ipfix_elements::{Kind, Width};
 use ipfix_wire::ElementId;
 use std::alloc::{AllocError, Global};
 use std::marker::Model;
@@ -35,20 +39,20 @@ pub struct Plan {
 }
 
 impl Model for Plan {
-    ghost use Rattle.flow_table.specs.Plans.{PlanValue, plan_value, kinds_of, IsPlan};
-    ghost use Rattle.std.specs.Prelude.{◌≡◌};
+    ghost use Rattle.flow_table.specs.Plans.{PlanValue, plan_with, IsPlan};
 
     ghost Value = { PlanValue };
 
-    ghost view = { λ p. plan_value p.length p.method p.keys.items p.counters.items p.max_spread };
+    ghost view = { λ p. plan_with p.length p.method p.keys.items p.kinds.items p.counters.items p.max_spread };
 
-    ghost invariant = { λ p. IsPlan (plan_value p.length p.method p.keys.items p.counters.items p.max_spread) × (p.kinds.items ≡ kinds_of p.keys.items) };
+    ghost invariant = { λ p. IsPlan (plan_with p.length p.method p.keys.items p.kinds.items p.counters.items p.max_spread) };
 }
 
 impl Plan {
-    ghost use Rattle.std.specs.Prelude.{◌≡◌, ◌≢◌, ◌≤◌, ◌<◌, Some, length, All, IfOk, IfErr, OnOk, IsErrOf};
+    ghost use Rattle.std.specs.Prelude.{◌≡◌, ◌≢◌, ◌≤◌, ◌<◌, Some, None, length, All, IfOk, IfErr, OnOk, IsErrOf};
     ghost use Rattle.std.specs.List.{AllPass};
-    ghost use Rattle.flow_table.specs.Plans.{IsPlan, HasPrefix, is_counter, is_key_kind, plan_value, kinds_of, first_fault_of};
+    ghost use Rattle.flow_table.specs.Plans.{IsPlan, HasPrefix, is_value, is_key_kind, plan_value, first_fault_of};
+    ghost use Rattle.flow_table.specs.PlansUnder.{plan_under, first_fault_under};
 
     /// The plan of the arguments, or the first fault that fits them, in this order: `Length`,
     /// `Spread`, `KeyCount`, `KeyKind`, `Prefix`, `CounterCount`, `CounterKind`, `Repeated`.
@@ -65,17 +69,46 @@ impl Plan {
             ≡ plan_value length method keys.now counters.now max_spread) }
         ensures sound { OnOk result
             (IsPlan (plan_value length method keys.now counters.now max_spread)) }
+        ensures faultless { OnOk result
+            (first_fault_of (plan_value length method keys.now counters.now max_spread) ≡ None) }
         ensures fault { IfErr result (λ fault. fault ≢ PlanFault.OutOfMemory
             → first_fault_of (plan_value length method keys.now counters.now max_spread)
             ≡ Some fault) }
         ensures memory { IsErrOf result PlanFault.OutOfMemory
-            → IsPlan (plan_value length method keys.now counters.now max_spread) }
+            → first_fault_of (plan_value length method keys.now counters.now max_spread) ≡ None }
     {
-        if let Some(fault) = first_fault(length, keys, counters, max_spread) {
+        let elements = Elements::built_in(alloc);
+        Plan::under(alloc, &elements, length, method, keys, counters, max_spread)
+    }
+
+    /// The plan of the arguments, whose elements may be built in or known from files, or the first
+    /// fault that fits them, in the order of [`Plan::new`]. A truth value may be a key: it is read
+    /// as a number of one octet. A counter of a file is an unsigned number and a delta counter.
+    /// `OutOfMemory` comes only if no fault fits.
+    pub fn under(
+        alloc: Global,
+        elements: &Elements,
+        length: u32,
+        method: Method,
+        keys: &[Key],
+        counters: &[ElementId],
+        max_spread: u32,
+    ) -> Result<Plan, PlanFault>
+        ensures ok { IfOk result (λ plan. plan
+            ≡ plan_under elements.now length method keys.now counters.now max_spread) }
+        ensures faultless { OnOk result
+            (first_fault_under elements.now length keys.now counters.now max_spread ≡ None) }
+        ensures fault { IfErr result (λ fault. fault ≢ PlanFault.OutOfMemory
+            → first_fault_under elements.now length keys.now counters.now max_spread
+            ≡ Some fault) }
+        ensures memory { IsErrOf result PlanFault.OutOfMemory
+            → first_fault_under elements.now length keys.now counters.now max_spread ≡ None }
+    {
+        if let Some(fault) = first_fault(elements, length, keys, counters, max_spread) {
             return Err(fault);
         }
         let keys = keys.to_vec(alloc)?;
-        let kinds = kinds_of(alloc, &keys)?;
+        let kinds = kinds_of(alloc, elements, &keys)?;
         let counters = counters.to_vec(alloc)?;
         Ok(Plan {
             length,
@@ -91,7 +124,6 @@ impl Plan {
     pub fn length(&self) -> u32
         ensures value { result ≡ self.now.length }
         ensures positive { 0 < result }
-        // No fault fits a plan that was made.
         ensures sound { IsPlan self.now }
     {
         self.length
@@ -116,8 +148,10 @@ impl Plan {
 
     /// The kinds that the fields of the keys are read by, in the order of the keys: numbers and
     /// addresses.
+    #[tactic(auto, using(crate::proofs::PlanKeys::kinds_of_plan))]
     pub fn kinds(&self) -> &[Kind]
-        ensures value { result.now ≡ kinds_of self.now.keys }
+        ensures value { result.now ≡ self.now.kinds }
+        ensures beside { length result.now ≡ length self.now.keys }
         ensures comparable { AllPass is_key_kind result.now }
     {
         &self.kinds
@@ -125,19 +159,18 @@ impl Plan {
 
     /// What `kinds` gives, of a plan that is done with.
     pub(crate) fn into_kinds(self) -> Vec<Kind>
-        ensures { result.items ≡ kinds_of self.keys }
+        ensures { result.items ≡ self.kinds }
     {
         self.kinds
     }
 
-    /// The counters of the table, 1 to [`MAX_COUNTERS`]: delta counters of octets, packets and flows.
+    /// The counters of the table, 1 to [`MAX_COUNTERS`].
     #[tactic(auto, using(crate::proofs::PlanKeys::counters_of_plan))]
     pub fn counters(&self) -> &[ElementId]
         ensures value { result.now ≡ self.now.counters }
         ensures some { 1 ≤ length result.now }
         ensures few { length result.now ≤ MAX_COUNTERS }
-        ensures countable { AllPass is_counter result.now }
-        // No fault fits a plan that was made.
+        ensures values { AllPass is_value result.now }
         ensures sound { IsPlan self.now }
     {
         &self.counters
@@ -168,10 +201,57 @@ impl Plan {
     }
 }
 
-fn kinds_of(alloc: Global, keys: &[Key]) -> Result<Vec<Kind>, AllocError>
-    ensures { IfOk result (λ kinds. kinds.items ≡ kinds_in keys.now) }
+fn kinds_of(alloc: Global, elements: &Elements, keys: &[Key]) -> Result<Vec<Kind>, AllocError>
+    ensures { IfOk result (λ kinds. kinds.items ≡ kinds_under elements.now keys.now) }
 {
-    keys.iter().map(|key| kind_of(key.element)).collect(alloc)
+    keys.iter()
+        .map(|key| key_kind(elements, key.element))
+        .collect(alloc)
+}
+
+// The place of a kind among the ten.
+fn kind_number(kind: Kind) -> u8
+    ensures { result ≡ kind_number_in kind }
+{
+    match kind {
+        Kind::Unsigned(Width::One) => 0,
+        Kind::Unsigned(Width::Two) => 1,
+        Kind::Unsigned(Width::Four) => 2,
+        Kind::Unsigned(Width::Eight) => 3,
+        Kind::Ipv4 => 4,
+        Kind::Ipv6 => 5,
+        Kind::Mac => 6,
+        Kind::Seconds => 7,
+        Kind::Millis => 8,
+        Kind::Octets => 9,
+    }
+}
+
+fn same_kinds(mut a: &[Kind], mut b: &[Kind]) -> bool
+    ensures { result ≡ pointwise same_kind a.entry.now b.entry.now }
+{
+    while let [kind, kinds @ ..] = a {
+        let [other, others @ ..] = b else {
+            return false;
+        };
+        if kind_number(*kind) != kind_number(*other) {
+            return false;
+        }
+        a = kinds;
+        b = others;
+    }
+    b.is_empty()
+}
+
+// Whether all but the kinds are the same.
+fn have_same_parts(a: &Plan, b: &Plan) -> bool
+    ensures { result ≡ same_parts a.now b.now }
+{
+    a.length == b.length
+        && a.method == b.method
+        && a.keys.as_slice() == b.keys.as_slice()
+        && a.counters.as_slice() == b.counters.as_slice()
+        && a.max_spread == b.max_spread
 }
 
 impl PartialEq for Plan {
@@ -184,11 +264,7 @@ impl PartialEq for Plan {
     ghost laws = { partial_equiv_from_equiv same_plan_laws };
 
     fn eq(&self, other: &Plan) -> bool {
-        self.length == other.length
-            && self.method == other.method
-            && self.keys.as_slice() == other.keys.as_slice()
-            && self.counters.as_slice() == other.counters.as_slice()
-            && self.max_spread == other.max_spread
+        same_kinds(&self.kinds, &other.kinds) && have_same_parts(self, other)
     }
 }
 

@@ -19,7 +19,8 @@ pub enum PlanFault {
     /// There are more than [`MAX_KEYS`](crate::MAX_KEYS) keys.
     #[error("a plan has at most 8 keys")]
     KeyCount,
-    /// The element of a key is neither a number nor an address.
+    /// The element of a key is neither a number, a truth value nor an address, or its number is above
+    /// 32767.
     #[error("a key is neither a number nor an address")]
     KeyKind,
     /// A key has a prefix, and its element is no IPv4 address of a flow's ends or the prefix is above
@@ -29,7 +30,8 @@ pub enum PlanFault {
     /// There are no counters, or more than [`MAX_COUNTERS`](crate::MAX_COUNTERS).
     #[error("a plan has 1 to 4 counters")]
     CounterCount,
-    /// A counter is no delta counter of octets, packets or flows.
+    /// A counter is no delta counter of octets, packets or flows, nor one that a file of elements names
+    /// and that is an unsigned number; or its number is above 32767.
     #[error("a counter is no delta counter")]
     CounterKind,
     /// An element stands twice among keys and counters, or among those that are exported for them.

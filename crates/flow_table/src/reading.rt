@@ -1,12 +1,11 @@
 //! Data records read under a plan (RFC 7015, section 5).
 
 ghost use Rattle.std.specs.Prelude.{◌≡◌, ◌<◌, ◌≤◌, true, Some, None, is_none, OnOk, IfOk, IfSome, All, length, map, if◌then◌else◌};
-ghost use Rattle.std.specs.List.{AllPass};
-ghost use Rattle.ipfix_elements.specs.Elements.{kind_of as kind_in};
+ghost use Rattle.std.specs.List.{AllPass, AllZip};
 ghost use Rattle.ipfix_elements.specs.Values.{cell_in};
-ghost use Rattle.flow_table.specs.Fitting.{FitsKeys, IsCellOf};
+ghost use Rattle.flow_table.specs.Fitting.{IsCellOf};
 ghost use Rattle.flow_table.specs.Missing.{first_without};
-ghost use Rattle.flow_table.specs.Plans.{HasPrefix, kinds_of, is_counter, is_key_kind};
+ghost use Rattle.flow_table.specs.Plans.{HasPrefix, is_key_kind};
 ghost use Rattle.flow_table.specs.Reading.{counter_of, number_of, cell_of, cells_of, projected, is_too_long as is_too_long_in};
 ghost use Rattle.flow_table.specs.Readings.{Notes, ReadsAs};
 
@@ -21,7 +20,7 @@ use ipfix_message::DataRecord;
 use ipfix_wire::ElementId;
 use std::alloc::AllocError;
 
-/// The kind of all elements that may be counters (IANA, "IPFIX Information Elements").
+/// The kind that all counters are read by: numbers of up to 8 octets (RFC 7011, section 6.2).
 const COUNTER_KIND: Kind = Kind::Unsigned(Width::Eight);
 
 /// A data record as a plan sees it.
@@ -86,12 +85,12 @@ fn read_key(
     cells: &mut Vec<Cell>,
 ) -> Result<Option<usize>, AllocError>
     requires prefixes { All HasPrefix keys.now }
-    requires kinds { kinds.now ≡ kinds_of keys.now }
+    requires beside { length kinds.now ≡ length keys.now }
     requires comparable { AllPass is_key_kind kinds.now }
-    ensures place { IfOk result (λ place. place ≡ first_without keys.now data_record.now) }
-    ensures cells { IfOk result (λ place. cells_of keys.now data_record.now
+    ensures place { IfOk result (λ place. place ≡ first_without keys.now kinds.now data_record.now) }
+    ensures cells { IfOk result (λ place. cells_of keys.now kinds.now data_record.now
         ≡ (if is_none place then Some cells.new.items else None)) }
-    ensures fits { IfOk result (λ place. place ≡ None → FitsKeys keys.now cells.new.items) }
+    ensures fits { IfOk result (λ place. place ≡ None → AllZip IsCellOf kinds.now cells.new.items) }
 {
     cells.clear();
     for (key, kind) in keys.iter().zip(kinds) {
@@ -107,9 +106,8 @@ fn read_key(
 #[tactic(auto, unfolding(crate::specs::Reading::cell_of), using(crate::proofs::Fits::projected_fits))]
 fn read_cell_of(key: Key, kind: Kind, data_record: &DataRecord) -> Option<Cell>
     requires prefix { HasPrefix key }
-    requires kind { kind ≡ kind_in key.element }
     requires comparable { is_key_kind kind ≡ true }
-    ensures value { result ≡ cell_of key data_record.now }
+    ensures value { result ≡ cell_of key kind data_record.now }
     ensures fits { IfSome result (IsCellOf kind) }
 {
     let octets = data_record.fields.find(key.element)?;
@@ -139,7 +137,6 @@ fn project(key: Key, cell: Cell) -> Cell
 
 // The counter in the first field of an element, if that isn't missing and is a number.
 fn counter(data_record: &DataRecord, element: ElementId) -> Option<u64>
-    requires { is_counter element ≡ true }
     ensures { result ≡ number_of element data_record.now }
 {
     let octets = data_record.fields.find(element)?;
@@ -154,7 +151,6 @@ pub(crate) fn read_counters(
     counters: &mut Vec<u64>,
     missing: &mut [u64; MAX_COUNTERS],
 ) -> Result<(), AllocError>
-    requires countable { AllPass is_counter elements.now }
     requires few { length elements.now ≤ MAX_COUNTERS }
     ensures counters { OnOk result (counters.new.items
         ≡ map (λ c. counter_of c data_record.now) elements.now) }

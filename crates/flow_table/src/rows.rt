@@ -3,7 +3,6 @@
 ghost use Rattle.std.specs.Prelude.{◌≡◌, ◌+◌, ◌*◌, ◌^◌, ◌<◌, ◌≤◌, ◌∷◌, ℕ, suc, List, IfOk, IfErr, OnOk, OnErr, length, slice_index_or};
 ghost use Rattle.flat_rows.specs.Rows.{IsRun, Small, SomeTooLarge, SomeTotalTooLarge, part, row, total_at};
 ghost use Rattle.flow_table.specs.FlatTables.{run_in};
-ghost use Rattle.flow_table.specs.Plans.{kinds_of};
 ghost use Rattle.flow_table.specs.Rows.{AddsRow, AreAlike, AreRowsOf, depth_of, number_at, padded_row, width_of};
 ghost use Rattle.flow_table.specs.Words.{padded};
 ghost use Rattle.flow_table.specs.declared.table_fault.TableFault.TheVariants.{SumTooLarge};

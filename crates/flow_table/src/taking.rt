@@ -33,7 +33,7 @@ fn take_flow(
     span: Span,
 ) -> Result<(), TableFault>
     requires used { IsUsed plan.now data_record.now span.start span.end room.old.key.items }
-    requires fits { FitsKeys plan.now.keys room.old.key.items }
+    requires fits { FitsKeys plan.now room.old.key.items }
     ensures rows { AreRowsOf plan.now rows.old → AreRowsOf plan.now rows.new }
     ensures ok { AreRowsOf plan.now rows.old → OnOk result ((k : ℕ) (q : List Cell)
         → kept_at plan.now rows.new k q ≡ joined (kept_at plan.now rows.old k q)

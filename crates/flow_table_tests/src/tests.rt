@@ -3,3 +3,4 @@ mod memory;
 mod plans;
 mod records;
 mod tables;
+mod under;

@@ -9,13 +9,11 @@ use Rattle.std.proofs.lemmas.List.Elements.{All-append, All-cons, All-head, All-
 use Rattle.std.proofs.lemmas.Slice.Eq.{bytes_eq-Decides}
 use Rattle.json.specs.Find.{get_member}
 use Rattle.json.specs.Json.{Json, Members, member, object}
-use Rattle.ipfix_elements.specs.Elements.{kind_of}
 use Rattle.ipfix_elements.specs.declared.kind.Kind.{Kind}
 use Rattle.ipfix_elements.specs.declared.kind.Kind.TheVariants as kinds
 use Rattle.ipfix_elements.specs.declared.kind.Width.TheVariants.{One, Two, Four, Eight}
 use Rattle.ipfix_elements.specs.declared.cell.Cell.{Cell}
 use Rattle.ipfix_elements.specs.declared.cell.Cell.TheVariants.{Number, Ipv4, Ipv6, Mac}
-use Rattle.flow_table.specs.declared.key.Key.{Key}
 use Rattle.flow_table.specs.declared.table.Row.{Row}
 use Rattle.flow_table.specs.Fitting.{FitsKeys, FitsRow, IsCellOf}
 use Rattle.flow_table.specs.Plans.{IsPlan, PlanValue}
@@ -92,13 +90,18 @@ cell_room kind (Ipv4 address) fits = tt
 cell_room kind (Ipv6 address) fits = tt
 cell_room kind (Mac address) fits = tt
 
-key_room : (ks : List Key) (cs : List Cell) → FitsKeys ks cs → All HasRoom cs × (length ks ≡ length cs)
-key_room [] [] fits = (All-nil HasRoom, refl)
-key_room [] (c ∷ cs) fits = absurd fits
-key_room (k ∷ ks) [] fits = absurd fits
-key_room (k ∷ ks) (c ∷ cs) fits =
-    let rest = key_room ks cs fits.1 in
-    (All-cons HasRoom c cs (cell_room (kind_of k.element) c fits.0) rest.0, omega (arith, rest.1))
+kinds_room : (kinds : List Kind) (cs : List Cell) → AllZip IsCellOf kinds cs → All HasRoom cs × (length kinds ≡ length cs)
+kinds_room [] [] fits = (All-nil HasRoom, refl)
+kinds_room [] (c ∷ cs) fits = absurd fits
+kinds_room (kind ∷ kinds) [] fits = absurd fits
+kinds_room (kind ∷ kinds) (c ∷ cs) fits =
+    let rest = kinds_room kinds cs fits.1 in
+    (All-cons HasRoom c cs (cell_room kind c fits.0) rest.0, omega (arith, rest.1))
+
+key_room : (plan : PlanValue) (cs : List Cell) → FitsKeys plan cs → All HasRoom cs × (length plan.keys ≡ length cs)
+key_room plan cs fits =
+    let room = kinds_room plan.kinds cs fits.fit in
+    (room.0, omega (arith, fits.beside, room.1))
 
 numbers_room : (ns : List ℕ) (last : ℕ) → All (λ n. n < 2 ^ 64) ns → last < 2 ^ 64 → All HasRoom (map (λ n. Number n) ns ++ Number last ∷ [])
 numbers_room [] last small fits = All-cons HasRoom (Number last) [] fits (All-nil HasRoom)
@@ -113,7 +116,7 @@ times_room (suc i) l start small =
 
 pub row_tells : (plan : PlanValue) (row : Row) → IsPlan plan → plan.length < 2 ^ 64 → FitsRow plan row → TellsRow plan (value_of row) (object_of_row plan (value_of row))
 row_tells plan row is small fits =
-    let key = key_room plan.keys row.key.items fits.key in
+    let key = key_room plan row.key.items fits.key in
     let times = times_room row.interval plan.length fits.interval small in
     let numbers = numbers_room row.sums.items row.flows fits.small fits.few in
     let last : List Cell = map (λ n. Number n) row.sums.items ++ Number row.flows ∷ [] in

@@ -9,16 +9,15 @@ use Rattle.std.proofs.lemmas.List.Elements.{All-append, All-cons, All-nil}
 use Rattle.std.proofs.lemmas.List.Folds.{list_all-append}
 use Rattle.std.proofs.lemmas.Option.{none-some, same_Some}
 use Rattle.ipfix_wire.specs.declared.specifier.ElementId.{ElementId}
-use Rattle.ipfix_elements.specs.Elements.{Entry, elements, entry_of, kind_of}
-use Rattle.ipfix_elements.specs.Names.{IsElement, element_named, name_text, numbered_text, numbers_in}
+use Rattle.ipfix_elements.specs.Elements.{Entry, elements, entry_of}
+use Rattle.ipfix_elements.specs.Names.{element_named, name_text, numbered_text, numbers_in}
 use Rattle.ipfix_elements.proofs.Named.{named_only, written_name}
 use Rattle.ipfix_elements.proofs.Numbered.{numbered_parts}
 use Rattle.flow_table.specs.declared.key.Key.{Key}
-use Rattle.flow_table.specs.Plans.{PlanValue, IsPlan, has_twice, is_counter, is_key_kind, same_element}
-use Rattle.flow_table.proofs.PlanKeys.{passed_tests}
+use Rattle.flow_table.specs.Plans.{PlanValue, IsPlan, has_twice, is_value, same_element}
 use Rattle.flow_export.specs.CsvText.{heading, key_text, prefix_text}
 use Rattle.flow_export.proofs.Finding.{find_all}
-use Rattle.flow_export.proofs.PlanFacts.{counter_is_value, IsValue, key_is_value}
+use Rattle.flow_export.proofs.PlanFacts.{value_is_element}
 use Rattle.json_laws.proofs.OneLine.{decimal_passes}
 
 -- ---- what stands before the first slash
@@ -82,33 +81,29 @@ name_has_none e = found_has_none e (entry_of e) (entry_has_none e)
 abbrev element_in : List ℕ → Option ElementId
 element_in text = element_named (base text)
 
-value_is_element : (e : ElementId) → IsValue e → IsElement e
-value_is_element e value = record { pen = omega (arith, value.iana); number = value.number }
-
-name_tells : (e : ElementId) → IsValue e → element_named (name_text e) ≡ Some e
+name_tells : (e : ElementId) → is_value e ≡ true → element_named (name_text e) ≡ Some e
 name_tells e value = named_only (name_text e) e (written_name e (value_is_element e value))
 
-key_tells : (k : Key) → is_key_kind (kind_of k.element) ≡ true → element_in (key_text k) ≡ Some k.element
-key_tells k key = ap element_named (base_of (name_text k.element) k.prefix (name_has_none k.element)) ∙ name_tells k.element (key_is_value k.element key)
+key_tells : (k : Key) → is_value k.element ≡ true → element_in (key_text k) ≡ Some k.element
+key_tells k value = ap element_named (base_of (name_text k.element) k.prefix (name_has_none k.element)) ∙ name_tells k.element value
 
-counter_tells : (e : ElementId) → is_counter e ≡ true → element_in (name_text e) ≡ Some e
-counter_tells e counter =
-    ap element_named (ap base (sym (append_nil (name_text e))) ∙ base_of (name_text e) None (name_has_none e)) ∙ name_tells e (counter_is_value e counter).1
+counter_tells : (e : ElementId) → is_value e ≡ true → element_in (name_text e) ≡ Some e
+counter_tells e value = ap element_named (ap base (sym (append_nil (name_text e))) ∙ base_of (name_text e) None (name_has_none e)) ∙ name_tells e value
   where
     append_nil : (t : List ℕ) → t ++ [] ≡ t
     append_nil [] = refl
     append_nil (b ∷ bs) = ap (λ (r : List ℕ). b ∷ r) (append_nil bs)
 
-keys_tell : (ks : List Key) → list_all (λ k. is_key_kind (kind_of k.element)) ks ≡ true → map element_in (map key_text ks) ≡ map (λ e. Some e) (map (λ k. k.element) ks)
+keys_tell : (ks : List Key) → list_all (λ k. is_value k.element) ks ≡ true → map element_in (map key_text ks) ≡ map (λ e. Some e) (map (λ k. k.element) ks)
 keys_tell [] h = refl
 keys_tell (k ∷ ks) h =
-    let parts = and_parts (is_key_kind (kind_of k.element)) _ h in
+    let parts = and_parts (is_value k.element) _ h in
     ap₂ (λ (o : Option ElementId) (os : List (Option ElementId)). o ∷ os) (key_tells k parts.0) (keys_tell ks parts.1)
 
-counters_tell : (es : List ElementId) → list_all is_counter es ≡ true → map element_in (map name_text es) ≡ map (λ e. Some e) es
+counters_tell : (es : List ElementId) → list_all is_value es ≡ true → map element_in (map name_text es) ≡ map (λ e. Some e) es
 counters_tell [] h = refl
 counters_tell (e ∷ es) h =
-    let parts = and_parts (is_counter e) _ h in
+    let parts = and_parts (is_value e) _ h in
     ap₂ (λ (o : Option ElementId) (os : List (Option ElementId)). o ∷ os) (counter_tells e parts.0) (counters_tell es parts.1)
 
 start_tells : element_in (codes "start") ≡ None
@@ -193,15 +188,14 @@ end_flows same = let no : 101 ≡ 102 = ap first same in absurd (omega (arith, n
 
 pub names_differ : (plan : PlanValue) → IsPlan plan → AllPairs differs (heading plan)
 names_differ plan is =
-    let tests = passed_tests plan is in
     let keys = map key_text plan.keys in
     let counters = map name_text plan.counters in
     let es = map (λ (k : Key). k.element) plan.keys ++ plan.counters in
     let flows = codes "flows" in
     let tell : map element_in (keys ++ counters) ≡ map (λ e. Some e) es =
-    map-append element_in keys counters ∙ ap₂ (λ (xs ys : List (Option ElementId)). xs ++ ys) (keys_tell plan.keys tests.kinds) (counters_tell plan.counters tests.counters)
+    map-append element_in keys counters ∙ ap₂ (λ (xs ys : List (Option ElementId)). xs ++ ys) (keys_tell plan.keys is.values) (counters_tell plan.counters is.counters)
     ∙ sym (map-append (λ (e : ElementId). Some e) (map (λ (k : Key). k.element) plan.keys) plan.counters) in
-    let once : has_twice es ≡ false = (no_both (has_twice es) _ tests.apart) in
+    let once : has_twice es ≡ false = (no_both (has_twice es) _ is.apart) in
     let names : List (List ℕ) = (keys ++ counters) ++ flows ∷ [] in
     let among : (name : List ℕ) → element_in name ≡ None → name ≢ flows → All (differs name) names =
     λ name none other. All-append (differs name) (keys ++ counters) (flows ∷ []) (no_element name (keys ++ counters) es none tell) (single name flows other) in

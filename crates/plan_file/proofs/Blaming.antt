@@ -9,19 +9,21 @@ use Rattle.std.proofs.lemmas.Bool.{false≢true}
 use Rattle.std.proofs.lemmas.List.{length-map}
 use Rattle.std.proofs.lemmas.Option.{none-some, same_Some}
 use Rattle.ipfix_wire.specs.declared.specifier.ElementId.{ElementId}
-use Rattle.ipfix_elements.specs.Elements.{kind_of}
+use Rattle.element_registry.specs.Registries.{Known}
 use Rattle.flow_table.specs.declared.key.Key.{Key}
 use Rattle.flow_table.specs.declared.plan.TheConstants.{MAX_KEYS, MAX_COUNTERS, MAX_SPREAD}
 use Rattle.flow_table.specs.declared.plan_fault.PlanFault.{PlanFault}
 use Rattle.flow_table.specs.declared.plan_fault.PlanFault.TheVariants.{Length, Spread, KeyCount, KeyKind, Prefix, CounterCount, CounterKind, Repeated, OutOfMemory}
-use Rattle.flow_table.specs.Plans.{is_between, is_key_kind, is_prefix_of, is_counter, exported_element, has_twice, or_else, fault_unless, first_fault}
+use Rattle.flow_table.specs.Plans.{is_between, is_prefix_of, exported_element, has_twice, or_else, fault_unless}
+use Rattle.flow_table.specs.PlansUnder.{is_key_under, is_counter_under, first_fault_under}
 use Rattle.plan_file.specs.declared.error.PlanKey.{PlanKey}
 use Rattle.plan_file.specs.declared.error.PlanPlace.{PlanPlace}
 use Rattle.plan_file.specs.declared.error.PlanPlace.TheVariants.{Value, Count, Text}
 use Rattle.plan_file.specs.declared.error.PlanKey.TheVariants.{Keys, Counters}
 use Rattle.plan_file.specs.declared.fault.PlanTextFault.TheVariants.{UnknownElement}
 use Rattle.plan_file.specs.PlanTexts.{Fields, all_of}
-use Rattle.plan_file.specs.Blames.{again_from, blamed, elements_of, is_unfit_counter, is_unfit_key, is_unfit_prefix, place_after, texts_at, NamesAll, IsPlace}
+use Rattle.plan_file.specs.Blames.{again_from, elements_of, is_unfit_prefix, place_after, texts_at}
+use Rattle.plan_file.specs.BlamesUnder.{blamed_under, is_unfit_counter_under, is_unfit_key_under, NamesAllUnder, IsPlaceUnder}
 use Rattle.plan_file.specs.Shown.{shown_all, IsTextAt}
 use Rattle.plan_file.proofs.Told.{given}
 
@@ -58,8 +60,8 @@ fails fault true true true true true true false h is = subst (λ x. test_of x tr
 fails fault true true true true true true true false is = subst (λ x. test_of x true true true true true true true false ≡ false) (same_Some Repeated fault is) refl
 fails fault true true true true true true true true is = absurd (none-some fault is)
 
-abbrev are_key_kinds : List Key → Bool
-are_key_kinds keys = list_all (λ k. is_key_kind (kind_of k.element)) keys
+abbrev are_keys : List Known → List Key → Bool
+are_keys known keys = list_all (λ k. is_key_under known k.element) keys
 
 abbrev have_prefixes : List Key → Bool
 have_prefixes keys = list_all (λ k. is_prefix_of k.element k.prefix) keys
@@ -67,10 +69,10 @@ have_prefixes keys = list_all (λ k. is_prefix_of k.element k.prefix) keys
 abbrev are_apart : List Key → List ElementId → Bool
 are_apart keys counters = not (has_twice (map (λ k. k.element) keys ++ counters) || has_twice (map exported_element keys ++ counters))
 
-test_fails : (fault : PlanFault) (len : ℕ) (keys : List Key) (counters : List ElementId) (spread : ℕ) → first_fault len keys counters spread ≡ Some fault
-    → test_of fault (nat_lt 0 len) (is_between 1 MAX_SPREAD spread) (nat_le (length keys) MAX_KEYS) (are_key_kinds keys) (have_prefixes keys)
-    (is_between 1 MAX_COUNTERS (length counters)) (list_all is_counter counters) (are_apart keys counters) ≡ false
-test_fails fault len keys counters spread is = fails fault _ _ _ _ _ _ _ _ is
+test_fails : (known : List Known) (fault : PlanFault) (len : ℕ) (keys : List Key) (counters : List ElementId) (spread : ℕ) → first_fault_under known len keys counters spread ≡ Some fault
+    → test_of fault (nat_lt 0 len) (is_between 1 MAX_SPREAD spread) (nat_le (length keys) MAX_KEYS) (are_keys known keys) (have_prefixes keys)
+    (is_between 1 MAX_COUNTERS (length counters)) (list_all (is_counter_under known) counters) (are_apart keys counters) ≡ false
+test_fails known fault len keys counters spread is = fails fault _ _ _ _ _ _ _ _ is
 
 -- ---- the first that fails a test
 
@@ -130,37 +132,37 @@ within f texts xs place o n named is found chosen =
 
 -- ---- the first that has the fault
 
-pub key_found : (len : ℕ) (keys : List Key) (counters : List ElementId) (spread : ℕ) (fault : PlanFault) → fault ≡ KeyKind
-    → (fault ≢ OutOfMemory → first_fault len keys counters spread ≡ Some fault) → (i : ℕ) × (position_from is_unfit_key 0 keys ≡ Some i) × (i < length keys)
-key_found len keys counters spread fault is first =
-    let fits : first_fault len keys counters spread ≡ Some KeyKind = first (λ e. let d : KeyKind ≡ OutOfMemory = sym is ∙ e in cc) ∙ ap (λ (f : PlanFault). Some f) is in
-    first_failing (λ k. is_key_kind (kind_of k.element)) keys (test_fails KeyKind len keys counters spread fits)
+pub key_found : (known : List Known) (len : ℕ) (keys : List Key) (counters : List ElementId) (spread : ℕ) (fault : PlanFault) → fault ≡ KeyKind
+    → (fault ≢ OutOfMemory → first_fault_under known len keys counters spread ≡ Some fault) → (i : ℕ) × (position_from (is_unfit_key_under known) 0 keys ≡ Some i) × (i < length keys)
+key_found known len keys counters spread fault is first =
+    let fits : first_fault_under known len keys counters spread ≡ Some KeyKind = first (λ e. let d : KeyKind ≡ OutOfMemory = sym is ∙ e in cc) ∙ ap (λ (f : PlanFault). Some f) is in
+    first_failing (λ k. is_key_under known k.element) keys (test_fails known KeyKind len keys counters spread fits)
 
-pub prefix_found : (len : ℕ) (keys : List Key) (counters : List ElementId) (spread : ℕ) (fault : PlanFault) → fault ≡ Prefix
-    → (fault ≢ OutOfMemory → first_fault len keys counters spread ≡ Some fault) → (i : ℕ) × (position_from is_unfit_prefix 0 keys ≡ Some i) × (i < length keys)
-prefix_found len keys counters spread fault is first =
-    let fits : first_fault len keys counters spread ≡ Some Prefix = first (λ e. let d : Prefix ≡ OutOfMemory = sym is ∙ e in cc) ∙ ap (λ (f : PlanFault). Some f) is in
-    first_failing (λ k. is_prefix_of k.element k.prefix) keys (test_fails Prefix len keys counters spread fits)
+pub prefix_found : (known : List Known) (len : ℕ) (keys : List Key) (counters : List ElementId) (spread : ℕ) (fault : PlanFault) → fault ≡ Prefix
+    → (fault ≢ OutOfMemory → first_fault_under known len keys counters spread ≡ Some fault) → (i : ℕ) × (position_from is_unfit_prefix 0 keys ≡ Some i) × (i < length keys)
+prefix_found known len keys counters spread fault is first =
+    let fits : first_fault_under known len keys counters spread ≡ Some Prefix = first (λ e. let d : Prefix ≡ OutOfMemory = sym is ∙ e in cc) ∙ ap (λ (f : PlanFault). Some f) is in
+    first_failing (λ k. is_prefix_of k.element k.prefix) keys (test_fails known Prefix len keys counters spread fits)
 
-pub counter_found : (len : ℕ) (keys : List Key) (counters : List ElementId) (spread : ℕ) (fault : PlanFault) → fault ≡ CounterKind
-    → (fault ≢ OutOfMemory → first_fault len keys counters spread ≡ Some fault) → (i : ℕ) × (position_from is_unfit_counter 0 counters ≡ Some i) × (i < length counters)
-counter_found len keys counters spread fault is first =
-    let fits : first_fault len keys counters spread ≡ Some CounterKind = first (λ e. let d : CounterKind ≡ OutOfMemory = sym is ∙ e in cc) ∙ ap (λ (f : PlanFault). Some f) is in
-    first_failing is_counter counters (test_fails CounterKind len keys counters spread fits)
+pub counter_found : (known : List Known) (len : ℕ) (keys : List Key) (counters : List ElementId) (spread : ℕ) (fault : PlanFault) → fault ≡ CounterKind
+    → (fault ≢ OutOfMemory → first_fault_under known len keys counters spread ≡ Some fault) → (i : ℕ) × (position_from (is_unfit_counter_under known) 0 counters ≡ Some i) × (i < length counters)
+counter_found known len keys counters spread fault is first =
+    let fits : first_fault_under known len keys counters spread ≡ Some CounterKind = first (λ e. let d : CounterKind ≡ OutOfMemory = sym is ∙ e in cc) ∙ ap (λ (f : PlanFault). Some f) is in
+    first_failing (is_counter_under known) counters (test_fails known CounterKind len keys counters spread fits)
 
 -- ---- the text at the place that is blamed
 
-blames : (f : Fields) (fault : PlanFault) (keys : List Key) (counters : List ElementId) (key : PlanKey) (n : ℕ) (place : PlanPlace) → NamesAll f keys counters
-    → blamed fault keys counters ≡ Some (key, n) → IsTextAt key (texts_at key f) n place → IsPlace f fault place
-blames f fault keys counters key n (Text k text) named is here =
-    subst (λ x. IsPlace f fault (Text x text)) here.0 (keys, counters, n, named, is, here.1)
-blames f fault keys counters key n (Value k) named is here = absurd here
-blames f fault keys counters key n (Count k count) named is here = absurd here
+blames : (known : List Known) (f : Fields) (fault : PlanFault) (keys : List Key) (counters : List ElementId) (key : PlanKey) (n : ℕ) (place : PlanPlace) → NamesAllUnder known f keys counters
+    → blamed_under known fault keys counters ≡ Some (key, n) → IsTextAt key (texts_at key f) n place → IsPlaceUnder known f fault place
+blames known f fault keys counters key n (Text k text) named is here =
+    subst (λ x. IsPlaceUnder known f fault (Text x text)) here.0 (keys, counters, n, named, is, here.1)
+blames known f fault keys counters key n (Value k) named is here = absurd here
+blames known f fault keys counters key n (Count k count) named is here = absurd here
 
 -- a counter that stands again
-pub counter_again : {E : Type 0} (f : Fields) (keys : List Key) (counters : List ElementId) (n : ℕ) (r : Result PlanPlace E) → NamesAll f keys counters
-    → again_from [] 0 (elements_of keys counters) ≡ Some n → nat_lt n (length keys) ≡ false → IfOk r (IsTextAt Counters f.counters (n - length keys)) → IfOk r (IsPlace f Repeated)
-counter_again f keys counters n (Ok place) named is after here =
-    blames f Repeated keys counters Counters (n - length keys) place named
+pub counter_again : {E : Type 0} (known : List Known) (f : Fields) (keys : List Key) (counters : List ElementId) (n : ℕ) (r : Result PlanPlace E) → NamesAllUnder known f keys counters
+    → again_from [] 0 (elements_of keys counters) ≡ Some n → nat_lt n (length keys) ≡ false → IfOk r (IsTextAt Counters f.counters (n - length keys)) → IfOk r (IsPlaceUnder known f Repeated)
+counter_again known f keys counters n (Ok place) named is after here =
+    blames known f Repeated keys counters Counters (n - length keys) place named
     (ap (option_map (place_after (length keys))) is ∙ ap (λ (b : Bool). Some (cond b (Keys, n) (Counters, n - length keys))) after) here
-counter_again f keys counters n (Err e) named is after here = tt
+counter_again known f keys counters n (Err e) named is after here = tt

@@ -4,4 +4,5 @@ mod Blaming
 mod Listed
 mod Slashes
 mod Told
+mod UnderFiles
 mod Values

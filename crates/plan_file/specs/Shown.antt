@@ -2,6 +2,7 @@
 use Rattle.std.specs.Prelude.{◌≡◌, ℕ, List, map, Vec, Option, Some, Result, Ok, Err, slice_get, string_bytes}
 use denote.Bor.{Bor}
 use Rattle.std.specs.declared.alloc.Global.{Global}
+use Rattle.element_registry.specs.Registries.{Known}
 use Rattle.plan_file.specs.declared.error.PlanKey.{PlanKey}
 use Rattle.plan_file.specs.declared.error.PlanPlace.{PlanPlace}
 use Rattle.plan_file.specs.declared.error.PlanPlace.TheVariants.{Text}
@@ -9,8 +10,9 @@ use Rattle.plan_file.specs.declared.error.PlanTextError.{PlanTextError}
 use Rattle.plan_file.specs.declared.error.PlanTextError.TheVariants.{Missing, WrongKind, UnknownElement, Plan, OutOfMemory}
 use Rattle.plan_file.specs.declared.fields.Fields.{Fields}
 use Rattle.plan_file.specs.Faults.{Read, Fails}
-use Rattle.plan_file.specs.Blames.{IsPlace}
-use Rattle.plan_file.specs.Places.{fault_of, IsUnknown}
+use Rattle.plan_file.specs.BlamesUnder.{IsPlaceUnder}
+use Rattle.plan_file.specs.Places.{fault_of}
+use Rattle.plan_file.specs.PlacesUnder.{IsUnknownUnder}
 use Rattle.plan_file.specs.PlanTexts as plan
 
 abbrev pub shown_all : List (Bor (List ℕ)) → List (List ℕ)
@@ -41,11 +43,11 @@ IsOfText k unknown OutOfMemory = Unit {0}
 IsOfText k unknown _ = ⊥
 
 -- the values of a document make no plan
-abbrev pub IsOfValues : plan.Fields → PlanTextError → Type 0
-IsOfValues f (UnknownElement key text) = IsUnknown f key (string_bytes text)
-IsOfValues f (Plan fault place) = IsPlace f fault place
-IsOfValues f OutOfMemory = Unit {0}
-IsOfValues f _ = ⊥
+abbrev pub IsOfValues : List Known → plan.Fields → PlanTextError → Type 0
+IsOfValues known f (UnknownElement key text) = IsUnknownUnder known f key (string_bytes text)
+IsOfValues known f (Plan fault place) = IsPlaceUnder known f fault place
+IsOfValues known f OutOfMemory = Unit {0}
+IsOfValues known f _ = ⊥
 
 -- the text at this place among those of this key
 abbrev pub IsTextAt : PlanKey → List (List ℕ) → ℕ → PlanPlace → Type 0

@@ -5,6 +5,7 @@ mod blame;
 mod error;
 mod fault;
 mod fields;
+pub mod laws;
 mod lines;
 mod named;
 mod reading;
@@ -12,4 +13,4 @@ mod repeats;
 
 pub use error::{PlanKey, PlanPlace, PlanTextError};
 pub use fault::PlanTextFault;
-pub use reading::{read_plan, read_plan_octets};
+pub use reading::{read_plan, read_plan_octets, read_plan_octets_under, read_plan_under};

@@ -1,25 +1,31 @@
 //! The elements that texts name.
 
 ghost use Rattle.std.specs.Prelude.{◌≡◌};
-ghost use Rattle.plan_file.specs.Places.{no_key_in, no_counter_in};
-ghost use Rattle.plan_file.specs.PlanTexts.{bits_in, counters_in, key_named as key_named_by, keys_in};
+ghost use Rattle.plan_file.specs.PlacesUnder.{no_key_under, no_counter_under};
+ghost use Rattle.plan_file.specs.PlanTexts.{bits_in};
+ghost use Rattle.plan_file.specs.PlanTextsUnder.{counters_under, key_under, keys_under};
 ghost use Rattle.plan_file.specs.Shown.{shown_all, GivesOr, IsOfText};
 
 use crate::error::{PlanKey, PlanTextError};
+use element_registry::Elements;
 use flow_table::Key;
-use ipfix_elements::by_name;
 use ipfix_wire::ElementId;
 use itoa::Buffer;
 use std::alloc::Global;
 
 /// The keys that texts name.
-pub fn keys_named(alloc: Global, texts: &[&str]) -> Result<Vec<Key>, PlanTextError>
-    ensures { GivesOr (λ keys. keys.items) (IsOfText PlanKey.Keys (no_key_in (shown_all texts.now)))
-        result (keys_in (shown_all texts.now)) }
+pub fn keys_named(
+    alloc: Global,
+    elements: &Elements,
+    texts: &[&str],
+) -> Result<Vec<Key>, PlanTextError>
+    ensures { GivesOr (λ keys. keys.items)
+        (IsOfText PlanKey.Keys (no_key_under elements.now (shown_all texts.now)))
+        result (keys_under elements.now (shown_all texts.now)) }
 {
     let mut keys = Vec::new(alloc);
     for text in texts {
-        match key_named(text) {
+        match key_named(elements, text) {
             Some(key) => keys.push(key)?,
             None => {
                 return Err(PlanTextError::UnknownElement {
@@ -33,14 +39,18 @@ pub fn keys_named(alloc: Global, texts: &[&str]) -> Result<Vec<Key>, PlanTextErr
 }
 
 /// The counters that texts name.
-pub fn counters_named(alloc: Global, texts: &[&str]) -> Result<Vec<ElementId>, PlanTextError>
+pub fn counters_named(
+    alloc: Global,
+    elements: &Elements,
+    texts: &[&str],
+) -> Result<Vec<ElementId>, PlanTextError>
     ensures { GivesOr (λ counters. counters.items)
-        (IsOfText PlanKey.Counters (no_counter_in (shown_all texts.now)))
-        result (counters_in (shown_all texts.now)) }
+        (IsOfText PlanKey.Counters (no_counter_under elements.now (shown_all texts.now)))
+        result (counters_under elements.now (shown_all texts.now)) }
 {
     let mut counters = Vec::new(alloc);
     for text in texts {
-        match by_name(text) {
+        match elements.by_name(text) {
             Some(element) => counters.push(element)?,
             None => {
                 return Err(PlanTextError::UnknownElement {
@@ -54,16 +64,16 @@ pub fn counters_named(alloc: Global, texts: &[&str]) -> Result<Vec<ElementId>, P
 }
 
 // A key is NAME, or NAME/BITS.
-fn key_named(text: &str) -> Option<Key>
-    ensures { result ≡ key_named_by text.now }
+fn key_named(elements: &Elements, text: &str) -> Option<Key>
+    ensures { result ≡ key_under elements.now text.now }
 {
     match text.split_once('/') {
         None => Some(Key {
-            element: by_name(text)?,
+            element: elements.by_name(text)?,
             prefix: None,
         }),
         Some((name, bits)) => Some(Key {
-            element: by_name(name)?,
+            element: elements.by_name(name)?,
             prefix: Some(prefix_bits(bits)?),
         }),
     }

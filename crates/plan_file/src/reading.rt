@@ -4,8 +4,10 @@ ghost use Rattle.std.specs.Prelude.{◌≡◌, ◌≢◌, Ok, Err, IfOk, IfErr};
 ghost use Rattle.flow_table.specs.Plans.{IsPlan};
 ghost use Rattle.std.specs.Str.{IsUtf8};
 ghost use Rattle.toml.specs.View.{table_view};
-ghost use Rattle.plan_file.specs.PlanTexts.{plan_of_text, plan_of_document, plan_of_fields};
-ghost use Rattle.plan_file.specs.Places.{Tells, TellsKey, fault_of};
+ghost use Rattle.plan_file.specs.PlanTexts.{plan_of_text};
+ghost use Rattle.plan_file.specs.PlanTextsUnder.{plan_of_text_under, plan_of_document_under, plan_of_fields_under};
+ghost use Rattle.plan_file.specs.Places.{Tells, fault_of};
+ghost use Rattle.plan_file.specs.PlacesUnder.{TellsUnder, TellsKeyUnder};
 ghost use Rattle.plan_file.specs.Shown.{shown, GivesOr, IsOfValues};
 
 use crate::blame::place_of;
@@ -14,6 +16,7 @@ use crate::fault::PlanTextFault;
 use crate::fields::{Fields, read_fields, unknown_field};
 use crate::lines::{column_at, line_at};
 use crate::named::{counters_named, keys_named};
+use element_registry::Elements;
 use flow_table::Plan;
 use std::alloc::Global;
 use std::str;
@@ -38,7 +41,24 @@ pub fn read_plan(alloc: Global, text: &str) -> Result<Plan, PlanTextFault>
     // No fault fits a plan that was read.
     ensures sound { IfOk result IsPlan }
 {
-    match read_text(alloc, text) {
+    let elements = Elements::built_in(alloc);
+    read_plan_under(alloc, &elements, text)
+}
+
+/// As [`read_plan`], where the texts of `keys` and `counters` may name elements of files, too, and
+/// the faults of a plan are those of [`Plan::under`](flow_table::Plan::under).
+pub fn read_plan_under(
+    alloc: Global,
+    elements: &Elements,
+    text: &str,
+) -> Result<Plan, PlanTextFault>
+    ensures ok { IfOk result (λ plan. plan_of_text_under elements.now text.now ≡ Ok plan) }
+    ensures fault { IfErr result (λ fault. fault ≢ PlanTextFault.OutOfMemory
+        → plan_of_text_under elements.now text.now ≡ Err fault) }
+    // No fault fits a plan that was read.
+    ensures sound { IfOk result IsPlan }
+{
+    match read_text(alloc, elements, text) {
         Ok(plan) => Ok(plan),
         Err(error) => Err(error.fault()),
     }
@@ -59,19 +79,42 @@ pub fn read_plan_octets(alloc: Global, octets: &[u8]) -> Result<Plan, PlanTextEr
     // No fault fits a plan that was read.
     ensures sound { IfOk result IsPlan }
 {
+    let elements = Elements::built_in(alloc);
+    read_plan_octets_under(alloc, &elements, octets)
+}
+
+/// As [`read_plan_octets`], where the texts of `keys` and `counters` may name elements of files, too,
+/// and the faults of a plan are those of [`Plan::under`](flow_table::Plan::under).
+pub fn read_plan_octets_under(
+    alloc: Global,
+    elements: &Elements,
+    octets: &[u8],
+) -> Result<Plan, PlanTextError>
+    ensures ok { IfOk result (λ plan. IsUtf8 octets.now
+        × (plan_of_text_under elements.now octets.now ≡ Ok plan)) }
+    ensures fault { IfErr result (λ error. fault_of error ≢ PlanTextFault.OutOfMemory
+        → IsUtf8 octets.now
+        → plan_of_text_under elements.now octets.now ≡ Err (fault_of error)) }
+    ensures not_utf8 { IfErr result (λ error. ¬ (IsUtf8 octets.now)
+        → fault_of error ≡ PlanTextFault.NotToml) }
+    ensures place { IfErr result (TellsUnder elements.now octets.now) }
+    // No fault fits a plan that was read.
+    ensures sound { IfOk result IsPlan }
+{
     match str::from_utf8(octets) {
-        Ok(text) => read_text(alloc, text),
+        Ok(text) => read_text(alloc, elements, text),
         Err(error) => Err(PlanTextError::NotUtf8 {
             line: line_at(octets, error.valid_up_to()),
         }),
     }
 }
 
-fn read_text(alloc: Global, text: &str) -> Result<Plan, PlanTextError>
-    ensures { GivesOr (λ plan. plan) (Tells text.now) result (plan_of_text text.now) }
+fn read_text(alloc: Global, elements: &Elements, text: &str) -> Result<Plan, PlanTextError>
+    ensures { GivesOr (λ plan. plan) (TellsUnder elements.now text.now) result
+        (plan_of_text_under elements.now text.now) }
 {
     let error = match toml::table_from_str(alloc, text) {
-        Ok(table) => return read_document(alloc, &table),
+        Ok(table) => return read_document(alloc, elements, &table),
         Err(error) => error,
     };
     match error.span() {
@@ -85,25 +128,26 @@ fn read_text(alloc: Global, text: &str) -> Result<Plan, PlanTextError>
     }
 }
 
-fn read_document(alloc: Global, table: &Table) -> Result<Plan, PlanTextError>
-    ensures { GivesOr (λ plan. plan) (TellsKey (table_view table.now)) result
-        (plan_of_document (table_view table.now)) }
+fn read_document(alloc: Global, elements: &Elements, table: &Table) -> Result<Plan, PlanTextError>
+    ensures { GivesOr (λ plan. plan) (TellsKeyUnder elements.now (table_view table.now)) result
+        (plan_of_document_under elements.now (table_view table.now)) }
 {
     if let Some(key) = unknown_field(table) {
         return Err(PlanTextError::UnknownField { key: key.clone()? });
     }
     let fields = read_fields(alloc, table)?;
-    make_plan(alloc, &fields)
+    make_plan(alloc, elements, &fields)
 }
 
-fn make_plan(alloc: Global, fields: &Fields) -> Result<Plan, PlanTextError>
-    ensures { GivesOr (λ plan. plan) (IsOfValues (shown fields.now)) result
-        (plan_of_fields (shown fields.now)) }
+fn make_plan(alloc: Global, elements: &Elements, fields: &Fields) -> Result<Plan, PlanTextError>
+    ensures { GivesOr (λ plan. plan) (IsOfValues elements.now (shown fields.now)) result
+        (plan_of_fields_under elements.now (shown fields.now)) }
 {
-    let keys = keys_named(alloc, &fields.keys)?;
-    let counters = counters_named(alloc, &fields.counters)?;
-    match Plan::new(
+    let keys = keys_named(alloc, elements, &fields.keys)?;
+    let counters = counters_named(alloc, elements, &fields.counters)?;
+    match Plan::under(
         alloc,
+        elements,
         fields.length,
         fields.method,
         &keys,
@@ -113,7 +157,7 @@ fn make_plan(alloc: Global, fields: &Fields) -> Result<Plan, PlanTextError>
         Ok(plan) => Ok(plan),
         Err(fault) => Err(PlanTextError::Plan {
             fault,
-            place: place_of(alloc, fields, &keys, &counters, fault)?,
+            place: place_of(alloc, elements, fields, &keys, &counters, fault)?,
         }),
     }
 }

@@ -7,4 +7,6 @@ mod memory;
 #[cfg(test)]
 mod tests;
 #[cfg(test)]
+mod under;
+#[cfg(test)]
 mod values;

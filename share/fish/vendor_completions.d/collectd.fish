@@ -14,7 +14,7 @@ complete -c collectd -l help -d 'Print help'
 complete -c collectd -n '__fish_seen_subcommand_from help' -a 'dump files tcp record merge elements explain'
 # (the names of the faults, as the program lists them)
 complete -c collectd -n '__fish_seen_subcommand_from explain' -a "(command -q collectd; and collectd explain 2> /dev/null | string replace -r '^(?:\d+ )?(\w+):? ' '\$1\t')"
-complete -c collectd -n '__fish_seen_subcommand_from dump elements' -l elements -r -F -d 'A file of elements'
+complete -c collectd -n '__fish_seen_subcommand_from dump files tcp merge elements' -l elements -r -F -d 'A file of elements'
 complete -c collectd -n '__fish_seen_subcommand_from dump' -l format -x -a 'text json' -d 'How a data record is written'
 complete -c collectd -n '__fish_seen_subcommand_from files merge' -F
 complete -c collectd -n '__fish_seen_subcommand_from files tcp merge' -l plan -r -F -d 'The plan of the aggregation'

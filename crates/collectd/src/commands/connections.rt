@@ -6,7 +6,7 @@ ghost use Rattle.exit_status.specs.Statuses.{number_of};
 ghost use Rattle.flow_collect.specs.Refusals.{fault_of_arguments};
 ghost use Rattle.run_reports.specs.OpeningLines.{if_verbose, listening_line};
 ghost use Rattle.run_reports.specs.Told.{AreTold};
-ghost use Rattle.collectd_output.specs.TableTexts.{Writes};
+ghost use Rattle.collectd_output.specs.TableTexts.{WritesUnder};
 ghost use Rattle.collectd_inputs.specs.Origins.{ArePeers};
 ghost use Rattle.collectd.specs.FullRuns.{RunsInFull};
 ghost use Rattle.collectd_inputs.specs.Had.{AreAccepted};
@@ -15,6 +15,7 @@ ghost use Rattle.collectd.specs.Told.{TellsFailedRun, TellsNotAccepted, TellsRun
 use crate::full_run::run_in_full;
 use collectd_inputs::{AcceptedAll, Listener, accept_all};
 use collectd_output::Output;
+use element_registry::Elements;
 use exit_status::Status;
 use flow_collect::Pool;
 use flow_table::Plan;
@@ -43,6 +44,7 @@ pub fn run_connections<
     addr: &str,
     count: usize,
     idle: Option<Duration>,
+    elements: &Elements,
     plan: &Plan,
     pool: Pool,
     output: Output,
@@ -58,8 +60,9 @@ pub fn run_connections<
         (AreAccepted (L.gives listener.old idle) count
         (L.coming listener.old) (L.coming listener.new))
         telling.strict plan.now pool result
-        (λ fulls table. Writes plan.now output (W.contents out.old) (W.contents out.new) table
-        × TellsRun (ArePeers count) telling plan.now
+        (λ fulls table.
+        WritesUnder elements.now plan.now output (W.contents out.old) (W.contents out.new) table
+        × TellsRun (ArePeers count) telling elements.now plan.now
         (if_verbose telling (listening_line addr.now count))
         (AreTold (E.contents err.old) (E.contents err.new) (E.failed err.new)) fulls table) }
     ensures closed { L.is_closed listener.new }
@@ -86,6 +89,7 @@ pub fn run_connections<
             alloc,
             sources.into_sources(),
             &origins,
+            elements,
             plan,
             pool,
             output,

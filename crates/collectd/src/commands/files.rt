@@ -6,7 +6,7 @@ ghost use Rattle.exit_status.specs.Statuses.{number_of};
 ghost use Rattle.flow_collect.specs.Refusals.{fault_of_arguments};
 ghost use Rattle.run_reports.specs.ReportLines.{report_lines, tally_line};
 ghost use Rattle.run_reports.specs.Told.{AreTold};
-ghost use Rattle.collectd_output.specs.TableTexts.{Writes};
+ghost use Rattle.collectd_output.specs.TableTexts.{Writes, WritesUnder};
 ghost use Rattle.collectd.specs.Runs.{RunsSources};
 ghost use Rattle.collectd_inputs.specs.Origins.{IsFileNamed};
 ghost use Rattle.collectd.specs.FullRuns.{fault_of_pool, RunsInFull};
@@ -18,6 +18,7 @@ use crate::collect_fault::write_collect_fault;
 use crate::early::refused_early;
 use collectd_inputs::OpenSource;
 use collectd_output::Output;
+use element_registry::Elements;
 use exit_status::Status;
 use flow_collect::Pool;
 use flow_table::Plan;
@@ -78,11 +79,13 @@ pub fn run_files<
         (AreTold (E.contents err.old) (E.contents err.new) (E.failed err.new)) }
     ensures kept { E.failed err.old → E.failed err.new }
 {
+    let elements = Elements::built_in(alloc);
     run_paths(
         rt,
         alloc,
         files,
         paths,
+        &elements,
         plan,
         pool,
         output,
@@ -109,6 +112,7 @@ pub fn run_files_in_full<
     alloc: Global,
     files: &mut O,
     paths: &[&str],
+    elements: &Elements,
     plan: &Plan,
     pool: Pool,
     output: Output,
@@ -125,8 +129,10 @@ pub fn run_files_in_full<
         → RunsInFull S.seen (AreOpened (λ path. O.opens files.old path.now)
         paths.now (O.coming files.old) (O.coming files.new))
         telling.strict plan.now pool result
-        (λ fulls table. Writes plan.now output (W.contents out.old) (W.contents out.new) table
-        × TellsRun (AllZip (λ path. IsFileNamed path.now) paths.now) telling plan.now []
+        (λ fulls table.
+        WritesUnder elements.now plan.now output (W.contents out.old) (W.contents out.new) table
+        × TellsRun (AllZip (λ path. IsFileNamed path.now) paths.now) telling elements.now
+        plan.now []
         (AreTold (E.contents err.old) (E.contents err.new) (E.failed err.new)) fulls table)) }
     // Nothing was written unless all were opened.
     ensures not_opened { result ≡ number_of Status.NotOpened → out.new ≡ out.old }
@@ -155,6 +161,6 @@ pub fn run_files_in_full<
         return Status::Failed.number();
     }
     run_paths(
-        rt, alloc, files, paths, plan, pool, output, progress, telling, out, err,
+        rt, alloc, files, paths, elements, plan, pool, output, progress, telling, out, err,
     )
 }

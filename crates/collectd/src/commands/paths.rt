@@ -5,7 +5,7 @@ ghost use Rattle.std.specs.List.{AllZip};
 ghost use Rattle.exit_status.specs.Statuses.{number_of};
 ghost use Rattle.flow_collect.specs.Refusals.{fault_of_arguments};
 ghost use Rattle.run_reports.specs.Told.{AreTold};
-ghost use Rattle.collectd_output.specs.TableTexts.{Writes};
+ghost use Rattle.collectd_output.specs.TableTexts.{WritesUnder};
 ghost use Rattle.collectd_inputs.specs.Origins.{IsFileNamed};
 ghost use Rattle.collectd.specs.FullRuns.{RunsInFull};
 ghost use Rattle.collectd_inputs.specs.Had.{AreOpened};
@@ -14,6 +14,7 @@ ghost use Rattle.collectd.specs.Told.{TellsFailedRun, TellsNotOpened, TellsRun};
 use crate::full_run::run_in_full;
 use collectd_inputs::{NotOpened, OpenSource, OpenedAll, open_all};
 use collectd_output::Output;
+use element_registry::Elements;
 use exit_status::Status;
 use flow_collect::Pool;
 use flow_table::Plan;
@@ -39,6 +40,7 @@ pub fn run_paths<
     alloc: Global,
     files: &mut O,
     paths: &[&str],
+    elements: &Elements,
     plan: &Plan,
     pool: Pool,
     output: Output,
@@ -53,8 +55,10 @@ pub fn run_paths<
         → RunsInFull S.seen (AreOpened (λ path. O.opens files.old path.now)
         paths.now (O.coming files.old) (O.coming files.new))
         telling.strict plan.now pool result
-        (λ fulls table. Writes plan.now output (W.contents out.old) (W.contents out.new) table
-        × TellsRun (AllZip (λ path. IsFileNamed path.now) paths.now) telling plan.now []
+        (λ fulls table.
+        WritesUnder elements.now plan.now output (W.contents out.old) (W.contents out.new) table
+        × TellsRun (AllZip (λ path. IsFileNamed path.now) paths.now) telling elements.now
+        plan.now []
         (AreTold (E.contents err.old) (E.contents err.new) (E.failed err.new)) fulls table) }
     ensures not_opened { result ≡ number_of Status.NotOpened → out.new ≡ out.old }
     ensures refused { IfSome (fault_of_arguments pool (length paths.now))
@@ -76,6 +80,7 @@ pub fn run_paths<
             alloc,
             sources.into_sources(),
             &origins,
+            elements,
             plan,
             pool,
             output,

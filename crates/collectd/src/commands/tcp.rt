@@ -7,7 +7,7 @@ ghost use Rattle.flow_collect.specs.Refusals.{fault_of_arguments};
 ghost use Rattle.run_reports.specs.OpeningLines.{if_verbose, listening_line};
 ghost use Rattle.run_reports.specs.ReportLines.{report_lines, tally_line};
 ghost use Rattle.run_reports.specs.Told.{AreTold};
-ghost use Rattle.collectd_output.specs.TableTexts.{Writes};
+ghost use Rattle.collectd_output.specs.TableTexts.{Writes, WritesUnder};
 ghost use Rattle.collectd.specs.Runs.{RunsSources};
 ghost use Rattle.collectd_inputs.specs.Origins.{ArePeers};
 ghost use Rattle.collectd.specs.FullRuns.{fault_of_pool, RunsInFull};
@@ -19,6 +19,7 @@ use crate::collect_fault::write_collect_fault;
 use crate::early::refused_early;
 use collectd_inputs::Listener;
 use collectd_output::Output;
+use element_registry::Elements;
 use exit_status::Status;
 use flow_collect::Pool;
 use flow_table::Plan;
@@ -92,6 +93,7 @@ pub fn run_tcp<
         (AreTold (E.contents err.old) (E.contents err.new) (E.failed err.new)) }
     ensures kept { E.failed err.old → E.failed err.new }
 {
+    let elements = Elements::built_in(alloc);
     run_connections(
         rt,
         alloc,
@@ -99,6 +101,7 @@ pub fn run_tcp<
         addr,
         count,
         idle,
+        &elements,
         plan,
         pool,
         output,
@@ -128,6 +131,7 @@ pub fn run_tcp_in_full<
     addr: &str,
     count: usize,
     idle: Option<Duration>,
+    elements: &Elements,
     plan: &Plan,
     pool: Pool,
     output: Output,
@@ -144,8 +148,9 @@ pub fn run_tcp_in_full<
         (AreAccepted (L.gives listener.old idle) count
         (L.coming listener.old) (L.coming listener.new))
         telling.strict plan.now pool result
-        (λ fulls table. Writes plan.now output (W.contents out.old) (W.contents out.new) table
-        × TellsRun (ArePeers count) telling plan.now
+        (λ fulls table.
+        WritesUnder elements.now plan.now output (W.contents out.old) (W.contents out.new) table
+        × TellsRun (ArePeers count) telling elements.now plan.now
         (if_verbose telling (listening_line addr.now count))
         (AreTold (E.contents err.old) (E.contents err.new) (E.failed err.new)) fulls table)) }
     ensures closed { L.is_closed listener.new }
@@ -180,6 +185,7 @@ pub fn run_tcp_in_full<
         return Status::Failed.number();
     }
     run_connections(
-        rt, alloc, listener, addr, count, idle, plan, pool, output, progress, telling, out, err,
+        rt, alloc, listener, addr, count, idle, elements, plan, pool, output, progress, telling,
+        out, err,
     )
 }

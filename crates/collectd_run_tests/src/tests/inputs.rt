@@ -8,6 +8,7 @@ use collectd::{
     Accepted, Listener, OpenSource, Opened, Reason, Telling, run_files, run_files_in_full,
     run_merge, run_tcp, run_tcp_in_full,
 };
+use element_registry::Elements;
 use flow_collect::Pool;
 use ipfix_session::{ScriptSource, Source};
 use plan_file::read_plan;
@@ -173,6 +174,7 @@ fn run_told<R: Clock + Threads + Wait + Sync>(
         alloc,
         &mut inputs,
         paths,
+        &Elements::built_in(alloc),
         &plan,
         pool,
         CSV,
@@ -297,6 +299,7 @@ fn tells_connections_by_their_peers(rt: HostRuntime) -> Result<(), Fail> {
         "peers",
         1,
         None,
+        &Elements::built_in(rt.alloc()),
         &plan,
         POOL,
         CSV,

@@ -2,56 +2,68 @@
 
 ghost use Rattle.std.specs.Prelude.{◌≡◌, [], OnOk, map};
 ghost use Rattle.csv.specs.Records.{fields_of, partial_of};
-ghost use Rattle.ipfix_elements.specs.Names.{name_text};
-ghost use Rattle.flow_export.specs.CsvText.{heading, key_text};
+ghost use Rattle.element_registry.specs.Registries.{name_under};
+ghost use Rattle.flow_export.specs.TextsUnder.{heading_under, key_text_under};
 ghost use Rattle.flow_export.specs.Written.{AddsFields};
 
-use crate::key_name::append_key;
+use crate::key_name::{append_key, append_name};
 use csv::ByteRecord;
+use element_registry::Elements;
 use flow_table::{Key, Plan};
-use ipfix_elements::append_name;
 use ipfix_wire::ElementId;
 use std::alloc::AllocError;
 
 /// The names of the fields. `text` is room to write in.
-pub fn set_heading(plan: &Plan, text: &mut Vec<u8>, line: &mut ByteRecord) -> Result<(), AllocError>
-    ensures { OnOk result (fields_of line.new ≡ heading plan.now) }
+pub fn set_heading(
+    elements: &Elements,
+    plan: &Plan,
+    text: &mut Vec<u8>,
+    line: &mut ByteRecord,
+) -> Result<(), AllocError>
+    ensures { OnOk result (fields_of line.new ≡ heading_under elements.now plan.now) }
 {
     line.clear();
     line.push_field("start".as_bytes())?;
     line.push_field("end".as_bytes())?;
-    push_keys(plan.keys(), text, line)?;
-    push_names(plan.counters(), text, line)?;
+    push_keys(elements, plan.keys(), text, line)?;
+    push_names(elements, plan.counters(), text, line)?;
     line.push_field("flows".as_bytes())
 }
 
 // Adds the names of keys to the fields.
-fn push_keys(keys: &[Key], text: &mut Vec<u8>, line: &mut ByteRecord) -> Result<(), AllocError>
+fn push_keys(
+    elements: &Elements,
+    keys: &[Key],
+    text: &mut Vec<u8>,
+    line: &mut ByteRecord,
+) -> Result<(), AllocError>
     requires { partial_of line.old ≡ [] }
-    ensures fields { OnOk result (AddsFields line.old line.new (map key_text keys.now)) }
+    ensures fields { OnOk result (AddsFields line.old line.new (map (key_text_under elements.now) keys.now)) }
     ensures partial { OnOk result (partial_of line.new ≡ []) }
 {
     for key in keys {
         text.clear();
-        append_key(*key, text)?;
+        append_key(elements, *key, text)?;
         line.push_field(text.as_slice())?;
     }
     Ok(())
 }
 
-// Adds the names of elements to the fields.
+// Adds the names of counters to the fields.
 fn push_names(
-    elements: &[ElementId],
+    elements: &Elements,
+    counters: &[ElementId],
     text: &mut Vec<u8>,
     line: &mut ByteRecord,
 ) -> Result<(), AllocError>
     requires { partial_of line.old ≡ [] }
-    ensures fields { OnOk result (AddsFields line.old line.new (map name_text elements.now)) }
+    ensures fields { OnOk result
+        (AddsFields line.old line.new (map (name_under elements.now) counters.now)) }
     ensures partial { OnOk result (partial_of line.new ≡ []) }
 {
-    for element in elements {
+    for counter in counters {
         text.clear();
-        append_name(*element, text)?;
+        append_name(elements, *counter, text)?;
         line.push_field(text.as_slice())?;
     }
     Ok(())

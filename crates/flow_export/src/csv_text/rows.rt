@@ -18,7 +18,7 @@ pub struct CsvLines;
 impl RowLines for CsvLines {
     ghost is_for = { λ _ _. Unit {0} };
 
-    ghost line_of = { row_line };
+    ghost line_of = { λ _. row_line };
 
     // Its interval, its key, its sums and the number of its flows.
     fn append(&self, plan: &Plan, row: &Row, out: &mut Vec<u8>) -> Result<(), AllocError> {

@@ -1,6 +1,6 @@
 //! The template of the rows (RFC 7011, section 3.4.1).
 
-ghost use Rattle.std.specs.Prelude.{◌≡◌, ◌+◌, ◌++◌, ◌≤◌, All, length, OnOk};
+ghost use Rattle.std.specs.Prelude.{◌≡◌, ◌+◌, ◌++◌, ◌≤◌, All, length, zip, OnOk};
 ghost use Rattle.flow_table.specs.Plans.{exported_element};
 ghost use Rattle.flow_export.specs.Fitting.{HasNumber};
 ghost use Rattle.flow_export.specs.SpecOctets.{counter_octets, counters_octets, ids_octets, keys_octets, octets_of_template};
@@ -8,7 +8,7 @@ ghost use Rattle.flow_export.specs.SpecOctets.{counter_octets, counters_octets, 
 use crate::ipfix_text::widths::{NUMBER_WIDTH, width_of};
 use byteorder::{BigEndian, ByteOrder};
 use flow_table::{Key, Plan};
-use ipfix_elements::{iana, kind_of};
+use ipfix_elements::{Kind, iana};
 use ipfix_wire::{ElementId, FIRST_TEMPLATE_ID, Spec, write_spec};
 use std::alloc::AllocError;
 
@@ -23,7 +23,7 @@ pub fn append_template(plan: &Plan, out: &mut Vec<u8>) -> Result<(), AllocError>
     append_ids((3 + keys.len() + counters.len()) as u16, out)?;
     append_number_spec(ElementId::iana(iana::FLOW_START_MILLISECONDS), out)?;
     append_number_spec(ElementId::iana(iana::FLOW_END_MILLISECONDS), out)?;
-    append_key_specs(keys, out)?;
+    append_key_specs(keys, plan.kinds(), out)?;
     append_counter_specs(counters, out)?;
     append_number_spec(ElementId::iana(iana::ORIGINAL_FLOWS_PRESENT), out)?;
     Ok(())
@@ -40,14 +40,16 @@ fn append_ids(fields: u16, out: &mut Vec<u8>) -> Result<(), AllocError>
 }
 
 // Appends the specifiers of keys: a prefix has an element of its own.
-fn append_key_specs(keys: &[Key], out: &mut Vec<u8>) -> Result<(), AllocError>
-    requires { All (λ key. HasNumber (exported_element key)) keys.now }
-    ensures { OnOk result (out.new.items ≡ out.old.items ++ keys_octets keys.now) }
+fn append_key_specs(keys: &[Key], kinds: &[Kind], out: &mut Vec<u8>) -> Result<(), AllocError>
+    requires beside { length kinds.now ≡ length keys.now }
+    requires numbers { All (λ key. HasNumber (exported_element key)) keys.now }
+    ensures { OnOk result (out.new.items
+        ≡ out.old.items ++ keys_octets (zip keys.now kinds.now)) }
 {
-    for key in keys {
+    for (key, kind) in keys.iter().zip(kinds) {
         let spec = Spec {
             element: key.exported_element(),
-            width: width_of(kind_of(key.element)),
+            width: width_of(*kind),
         };
         write_spec(&spec, out)?;
     }

@@ -1,13 +1,13 @@
 //! The names of a row's members, as they stand before the values. They are the same in each row.
 
 ghost use Rattle.std.specs.Prelude.{◌≡◌, IfOk, map};
-ghost use Rattle.ipfix_elements.specs.Names.{name_text};
-ghost use Rattle.flow_export.specs.CsvText.{key_text};
+ghost use Rattle.element_registry.specs.Registries.{name_under};
 ghost use Rattle.flow_export.specs.JsonParts.{AreLabels, AreLabelsOf, label, text_of};
+ghost use Rattle.flow_export.specs.TextsUnder.{key_text_under};
 
-use crate::key_name::append_key;
+use crate::key_name::{append_key, append_name};
+use element_registry::Elements;
 use flow_table::{Key, Plan};
-use ipfix_elements::append_name;
 use ipfix_wire::ElementId;
 use std::alloc::{AllocError, Global};
 
@@ -17,62 +17,82 @@ pub struct MemberLabel {
     pub text: Vec<u8>,
 }
 
-/// The labels of a plan's keys and counters.
+/// The labels of a plan's keys and counters, by the names that elements have there.
 #[derive(Drop)]
-pub struct RowLabels {
+pub struct RowLabels<'a> {
+    pub elements: &'a Elements,
     pub keys: Vec<MemberLabel>,
     pub counters: Vec<MemberLabel>,
 }
 
-impl RowLabels {
+impl<'a> RowLabels<'a> {
     /// The labels of a plan.
-    pub fn of(alloc: Global, plan: &Plan) -> Result<Self, AllocError>
-        ensures { IfOk result (AreLabels plan.now) }
+    pub fn of(alloc: Global, elements: &'a Elements, plan: &Plan) -> Result<Self, AllocError>
+        ensures labels { IfOk result (AreLabels plan.now) }
+        ensures elements { IfOk result (λ labels. labels.elements.now ≡ elements.now) }
     {
-        let keys = key_labels(alloc, plan.keys())?;
-        let counters = counter_labels(alloc, plan.counters())?;
-        Ok(RowLabels { keys, counters })
+        let keys = key_labels(alloc, elements, plan.keys())?;
+        let counters = counter_labels(alloc, elements, plan.counters())?;
+        Ok(RowLabels {
+            elements,
+            keys,
+            counters,
+        })
     }
 }
 
-fn key_labels(alloc: Global, keys: &[Key]) -> Result<Vec<MemberLabel>, AllocError>
-    ensures { IfOk result (λ labels. AreLabelsOf (map key_text keys.now) labels.items) }
+fn key_labels(
+    alloc: Global,
+    elements: &Elements,
+    keys: &[Key],
+) -> Result<Vec<MemberLabel>, AllocError>
+    ensures { IfOk result (λ labels.
+        AreLabelsOf (map (key_text_under elements.now) keys.now) labels.items) }
 {
     let mut labels = Vec::new(alloc);
     for key in keys {
-        labels.push(key_label(alloc, *key)?)?;
+        labels.push(key_label(alloc, elements, *key)?)?;
     }
     Ok(labels)
 }
 
-fn counter_labels(alloc: Global, counters: &[ElementId]) -> Result<Vec<MemberLabel>, AllocError>
-    ensures { IfOk result (λ labels. AreLabelsOf (map name_text counters.now) labels.items) }
+fn counter_labels(
+    alloc: Global,
+    elements: &Elements,
+    counters: &[ElementId],
+) -> Result<Vec<MemberLabel>, AllocError>
+    ensures { IfOk result (λ labels.
+        AreLabelsOf (map (name_under elements.now) counters.now) labels.items) }
 {
     let mut labels = Vec::new(alloc);
     for counter in counters {
-        labels.push(counter_label(alloc, *counter)?)?;
+        labels.push(counter_label(alloc, elements, *counter)?)?;
     }
     Ok(labels)
 }
 
 // A key's name, as it stands before its value.
-fn key_label(alloc: Global, key: Key) -> Result<MemberLabel, AllocError>
-    ensures { IfOk result (λ made. text_of made ≡ label (key_text key)) }
+fn key_label(alloc: Global, elements: &Elements, key: Key) -> Result<MemberLabel, AllocError>
+    ensures { IfOk result (λ made. text_of made ≡ label (key_text_under elements.now key)) }
 {
     let mut text = Vec::new(alloc);
     text.extend_from_slice(b",\"")?;
-    append_key(key, &mut text)?;
+    append_key(elements, key, &mut text)?;
     text.extend_from_slice(b"\":")?;
     Ok(MemberLabel { text })
 }
 
 // A counter's name, as it stands before its value.
-fn counter_label(alloc: Global, counter: ElementId) -> Result<MemberLabel, AllocError>
-    ensures { IfOk result (λ made. text_of made ≡ label (name_text counter)) }
+fn counter_label(
+    alloc: Global,
+    elements: &Elements,
+    counter: ElementId,
+) -> Result<MemberLabel, AllocError>
+    ensures { IfOk result (λ made. text_of made ≡ label (name_under elements.now counter)) }
 {
     let mut text = Vec::new(alloc);
     text.extend_from_slice(b",\"")?;
-    append_name(counter, &mut text)?;
+    append_name(elements, counter, &mut text)?;
     text.extend_from_slice(b"\":")?;
     Ok(MemberLabel { text })
 }

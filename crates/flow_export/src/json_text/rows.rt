@@ -3,7 +3,7 @@
 
 ghost use Rattle.std.specs.Prelude.{◌≡◌, ◌++◌, OnOk, length};
 ghost use Rattle.flow_export.specs.JsonParts.{AreLabels, labelled_cell, labelled_cells, labelled_numbers};
-ghost use Rattle.flow_export.specs.JsonText.{row_object};
+ghost use Rattle.flow_export.specs.TextsUnder.{row_object_under};
 ghost use Rattle.ipfix_elements.specs.JsonValues.{json_number};
 
 use crate::json_text::labels::{MemberLabel, RowLabels};
@@ -12,10 +12,10 @@ use flow_table::{Plan, Row};
 use ipfix_elements::{Cell, append_json_cell, append_json_number};
 use std::alloc::AllocError;
 
-impl RowLines for RowLabels {
+impl RowLines for RowLabels<'_> {
     ghost is_for = { λ labels plan. AreLabels plan labels };
 
-    ghost line_of = { row_object };
+    ghost line_of = { λ labels. row_object_under labels.elements.now };
 
     // Its interval, its key, its sums and the number of its flows.
     fn append(&self, plan: &Plan, row: &Row, out: &mut Vec<u8>) -> Result<(), AllocError> {

@@ -1,6 +1,7 @@
 use Rattle.std.proofs.Common.{List, [], ℕ, refl, subst}
 use Rattle.run_reports.specs.Told.{AreTold}
 use Rattle.run_reports.specs.declared.telling.TheConstants.{NOTHING_MORE}
+use Rattle.collectd_output.proofs.UnderFiles.{written_without}
 use Rattle.collectd.proofs.FullRan.{table_short}
 use Rattle.collectd.proofs.LinesTold.{plain_alone}
 use Rattle.collectd.proofs.table.run.Goals as goal
@@ -8,4 +9,13 @@ use Rattle.collectd.proofs.table.run.Goals as goal
 pub returns-clause-table : goal.returns-clause-table
 returns-clause-table g c = λ ran.
     table_short g.S.Source.seen _ c.args.sources.items c.args.plan.now c.args.pool c.run_in_full.result _ _ refl
-    (λ fulls table ends. (ends.0, subst (λ (l : List ℕ). AreTold (g.E.WriteLines.contents c.args.err.now) (g.E.WriteLines.contents c.run_in_full.new.err) (g.E.WriteLines.failed c.run_in_full.new.err) l) (plain_alone NOTHING_MORE refl refl c.args.plan.now [] fulls table) ends.1)) (c.run_in_full.ensures.table ran)
+    (λ fulls table ends. (written_without c.built_in-elements.result c.args.plan.now c.args.output _ _ table c.built_in-elements.ensures ends.0, subst (λ (l : List ℕ). AreTold (g.E.WriteLines.contents c.args.err.now) (g.E.WriteLines.contents c.run_in_full.new.err) (g.E.WriteLines.failed c.run_in_full.new.err) l) (plain_alone NOTHING_MORE refl refl c.built_in-elements.result c.args.plan.now [] fulls table) ends.1)) (c.run_in_full.ensures.table ran)
+
+pub returns-clause-all : goal.returns-clause-all
+returns-clause-all g c = λ zero.
+    let w = c.run_in_full.ensures.all zero in
+    record {
+      table = w.table;
+      adds_up = w.adds_up;
+      written = written_without c.built_in-elements.result c.args.plan.now c.args.output _ _ w.table c.built_in-elements.ensures w.written;
+    }

@@ -1,15 +1,14 @@
-use Rattle.std.proofs.Common.{inl, inr}
-use Rattle.collectd_inputs.specs.PlansTold.{IsPlanError}
-use Rattle.run_reports.proofs.LinesTold.{is_told}
+use Rattle.run_reports.specs.Told.{AreTold}
+use Rattle.collectd_inputs.proofs.PlansUnder.{no_plan_without, plan_without}
 use Rattle.collectd_inputs.proofs.plan.load_plan.Goals as goal
 
-pub returns-in-Err-clause-told : goal.returns-in-Err-clause-told
-returns-in-Err-clause-told g c =
-    inl (c.in-Err.reason, c.in-Err.ensures.refused, is_told _ _ _ c.write_not_had_because.result _ c.write_not_had_because.ensures.told c.write_not_had_because.ensures.failed)
+pub returns-clause-text : goal.returns-clause-text
+returns-clause-text g c = λ plan is.
+    let read = c.load_plan_under.ensures.text plan is in
+    (read.0, read.1, read.2, plan_without c.no_files.ensures.plan c.built_in-elements.result c.built_in-elements.ensures read.0 plan read.3)
 
 pub returns-clause-told : goal.returns-clause-told
 returns-clause-told g c =
-    let read = rw c.deref.ensures.value at c.in-Err-read_plan_octets.ensures in
-    let is : IsPlanError c.in-Ok.octets.items c.in-Err-read_plan_octets.error = record { place = read.place; fault = read.fault; not_utf8 = read.not_utf8 } in
-    let told = is_told _ _ _ c.write_plan_fault.result _ c.write_plan_fault.ensures.told c.write_plan_fault.ensures.failed in
-    inr (c.in-Ok.octets.items, c.in-Ok.ensures.text, (c.in-Err-read_plan_octets.error, is, told))
+    no_plan_without c.no_files.ensures.plan c.no_files.ensures.place c.built_in-elements.result c.built_in-elements.ensures c.load_plan_under.result
+    (g.T.ReadText.has c.args.files.now c.args.path.now) (g.T.ReadText.refuses c.args.files.now c.args.path.now) c.args.telling c.args.path.now
+    (AreTold (g.E.WriteLines.contents c.args.err.now) (g.E.WriteLines.contents c.load_plan_under.new.err) (g.E.WriteLines.failed c.load_plan_under.new.err)) c.load_plan_under.ensures.told

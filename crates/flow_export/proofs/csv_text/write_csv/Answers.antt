@@ -1,5 +1,11 @@
-use Rattle.flow_export.proofs.Exportable.{rows_exportable}
+use Rattle.std.proofs.Common.{List, ℕ, subst}
+use Rattle.std.specs.Prelude.{OnOk}
+use Rattle.ipfix_elements.specs.Writers.{Writes}
+use Rattle.flow_table.specs.AddedUp.{rows_in}
+use Rattle.flow_export.proofs.UnderFiles.{csv_built_in}
 use Rattle.flow_export.proofs.csv_text.write_csv.Goals as goal
 
-pub write_rows-requires : goal.write_rows-requires
-write_rows-requires g c = rows_exportable c.args.plan.now c.args.table.now _ c.of.ensures c.requires
+pub returns-clause-ok : goal.returns-clause-ok
+returns-clause-ok g c =
+    subst (λ (text : List ℕ). OnOk c.write_csv_under.result (Writes g.W.Write.contents c.args.out.now c.write_csv_under.new.out text))
+    (csv_built_in c.built_in-elements.result c.args.plan.now (rows_in c.args.table.now) c.built_in-elements.ensures) c.write_csv_under.ensures.ok

@@ -5,7 +5,7 @@ use Rattle.flow_export.proofs.row_lines.write_lines.Given as goal
 
 abbrev pub invariant-loop-row : goal.invariant-loop-row
 invariant-loop-row g l =
-    All (IsExportable l.plan) l.rows × Written (g.L.RowLines.line_of l.plan) l.fn.rows l.rows l.text.items (g.W.Write.contents l.fn.out) (g.W.Write.contents l.out)
+    All (IsExportable l.plan) l.rows × Written (g.L.RowLines.line_of l.lines l.plan) l.fn.rows l.rows l.text.items (g.W.Write.contents l.fn.out) (g.W.Write.contents l.out)
 
 abbrev pub decreases-loop-row : goal.decreases-loop-row
 decreases-loop-row g l = length l.rows

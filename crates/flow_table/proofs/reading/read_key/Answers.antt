@@ -27,12 +27,13 @@ loop-key-preserved c =
     let first : iter_rest (zip_first c.into_iter-key-iterator.result) ≡ keys = search in
     let second : iter_rest (zip_second c.into_iter-key-iterator.result) ≡ kinds = search in
     let turn = zip_turn keys kinds c.loop-key.yielded _ _ c.next.new.self _ first second c.loop-key.yielded_by (c.in-Some.key, c.in-Some.kind) c.in-Some.is c.next.ensures.steps in
-    let here : Some cell ≡ cell_of (get_or keys i no_key) r = subst (λ (k : Key). Some cell ≡ cell_of k r) (turn.2 no_key) c.in-Some-read_cell_of.ensures.value in
+    let key : Some cell ≡ cell_of (get_or keys i no_key) c.in-Some.kind.now r = subst (λ (k : Key). Some cell ≡ cell_of k c.in-Some.kind.now r) (turn.2 no_key) c.in-Some-read_cell_of.ensures.value in
+    let here : Some cell ≡ cell_of (get_or keys i no_key) (get_or kinds i (Unsigned One)) r = subst (λ (k : Kind). Some cell ≡ cell_of (get_or keys i no_key) k r) (turn.3 (Unsigned One)) key in
     let fits : IsCellOf (get_or kinds i (Unsigned One)) cell = subst (λ (k : Kind). IsCellOf k cell) (turn.3 (Unsigned One)) c.in-Some-read_cell_of.ensures.fits in
     let next : length (c.loop-key.yielded ++ (c.in-Some.key, c.in-Some.kind) ∷ []) ≡ i + 1 = length-append c.loop-key.yielded ((c.in-Some.key, c.in-Some.kind) ∷ []) in
     record {
       many = omega (arith, next, ap length c.in_ok-push.ensures.items, length-append found (cell ∷ []), c.loop-key.invariant.many);
-      place = rw next (place_more keys r i no_key cell _ turn.0 here c.loop-key.invariant.place);
-      cells = rw next (cells_more keys r found news i no_key cell turn.0 here c.in_ok-push.ensures.items c.loop-key.invariant.cells);
-      fits = rw next (more_fit keys kinds found news i no_key (Unsigned One) cell turn.0 c.requires.kinds c.loop-key.invariant.fits fits c.in_ok-push.ensures.items);
+      place = rw next (place_more keys kinds r i no_key (Unsigned One) cell _ turn.0 turn.1 here c.loop-key.invariant.place);
+      cells = rw next (cells_more keys kinds r found news i no_key (Unsigned One) cell turn.0 turn.1 here c.in_ok-push.ensures.items c.loop-key.invariant.cells);
+      fits = rw next (more_fit kinds found news i (Unsigned One) cell turn.1 c.loop-key.invariant.fits fits c.in_ok-push.ensures.items);
     }

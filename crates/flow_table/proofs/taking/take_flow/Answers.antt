@@ -8,17 +8,15 @@ use Rattle.ipfix_wire.specs.declared.specifier.ElementId.{ElementId}
 use Rattle.flow_table.specs.Reading.{counter_of}
 use Rattle.flow_table.specs.Readings.{Notes}
 use Rattle.flow_table.specs.Rows.{kept_at}
-use Rattle.flow_table.specs.Plans.{kinds_of}
 use Rattle.flow_table.proofs.Holding.{flow_ok, flow_large, on_ok}
 use Rattle.flow_table.proofs.Lacking.{used_noted}
-use Rattle.flow_table.proofs.WordSteps.{fits_kinds}
 use Rattle.flow_table.proofs.taking.take_flow.Goals as goal
 
 pub add_flow-requires : goal.add_flow-requires
 add_flow-requires c =
-    let kinds = kinds_of c.args.plan.now.keys in
+    let kinds = c.args.plan.now.kinds in
     let same = c.deref.ensures.value in
-    let fits : AllZip IsCellOf kinds c.deref.result.now = subst (λ (cs : List Cell). AllZip IsCellOf kinds cs) (sym same) (fits_kinds c.args.plan.now.keys c.args.room.now.key.items c.requires.fits) in
+    let fits : AllZip IsCellOf kinds c.deref.result.now = subst (λ (cs : List Cell). AllZip IsCellOf kinds cs) (sym same) c.requires.fits.fit in
     record {
       words = ap (key_words kinds) (sym same) ∙ c.in_ok-write_words.ensures kinds fits;
       counters = ap length (c.in_ok-read_counters.ensures.counters ∙ ap (λ (cs : List ElementId). map (λ e. counter_of e c.args.data_record.now) cs) c.counters.ensures.value) ∙ length-map c.args.plan.now.counters (λ e. counter_of e c.args.data_record.now);

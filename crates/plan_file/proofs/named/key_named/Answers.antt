@@ -7,4 +7,4 @@ use Rattle.plan_file.proofs.named.key_named.Goals as goal
 pub returns-in_ok-by_name-in-None : goal.returns-in_ok-by_name-in-None
 returns-in_ok-by_name-in-None c =
     let none = no_slash c.args.text.now c.split_once.result _ (split_parts 47 c.args.text.now c.split_once.result c.split_once.ensures.cases (omega arith)) c.in-None.is in
-    rw none (ap (λ o. option_map whole_key o) (sym c.in_ok-by_name-in-None.was ∙ c.by_name.ensures.exact))
+    rw none (ap (λ o. option_map whole_key o) (sym c.in_ok-by_name-in-None.was ∙ c.by_name.ensures))

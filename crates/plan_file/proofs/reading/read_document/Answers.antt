@@ -18,10 +18,10 @@ returns-in_err-fields c =
     let d = table_view c.args.table.now in
     let known = all_known d (sym (rw c.in_default.is at c.unknown_field.ensures)) in
     let p = err_from_is_err_and c.from_residual-in_err-fields.result c.from_residual-in_err-fields.ensures.1 in
-    rw (p.1 ∙ ap (λ (e : PlanTextError). Err e) p.2) (of_key d c.in_err-fields.field-0.0 known c.in_err-fields.ensures)
+    rw (p.1 ∙ ap (λ (e : PlanTextError). Err e) p.2) (of_key c.args.elements.now d c.in_err-fields.field-0.0 known c.in_err-fields.ensures)
 
 pub returns : goal.returns
 returns c =
     let d = table_view c.args.table.now in
     let known = all_known d (sym (rw c.in_default.is at c.unknown_field.ensures)) in
-    of_fields d (shown c.in_ok-fields.fields) c.make_plan.result known c.in_ok-fields.ensures c.make_plan.ensures
+    of_fields c.args.elements.now d (shown c.in_ok-fields.fields) c.make_plan.result known c.in_ok-fields.ensures c.make_plan.ensures

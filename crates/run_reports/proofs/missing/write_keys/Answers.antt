@@ -12,10 +12,10 @@ loop-place-preserved g c =
     let keys = c.args.keys.now in
     let counts = c.args.counts.now in
     let place = c.loop-place.place in
-    let lines = λ (n : ℕ) (key : Key). key_line key (get_or counts n 0) in
+    let lines = λ (n : ℕ) (key : Key). key_line c.args.elements.now key (get_or counts n 0) in
     let more = numbered_from lines 0 keys place place (record { element = record { pen = 0; number = 0 }; prefix = None }) c.loop-place-test.true (omega arith) in
     record {
       told = subst (λ l. Appends (held c.args.out.now) (held c.write_lacking_key.new.out) l) (sym more)
-          (Appends-trans _ _ _ (key_lines (take place keys) counts) _ c.loop-place.invariant.told c.in_ok-write_lacking_key.ensures.told);
+          (Appends-trans _ _ _ (key_lines c.args.elements.now (take place keys) counts) _ c.loop-place.invariant.told c.in_ok-write_lacking_key.ensures.told);
       kept = λ failed. c.write_lacking_key.ensures.kept (c.loop-place.invariant.kept failed);
     }

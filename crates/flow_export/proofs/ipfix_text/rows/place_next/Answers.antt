@@ -1,10 +1,7 @@
-use Rattle.std.proofs.Common.{List, subst, ap, take, sym, All}
+use Rattle.std.proofs.Common.{List, subst, All}
 use Rattle.std.proofs.lemmas.List.Elements.{All-head}
 use Rattle.flow_table.specs.SameTables.{RowValue}
 use Rattle.flow_export.specs.Fitting.{IsExportable}
-use Rattle.flow_export.specs.IpfixText.{row_octets}
-use Rattle.flow_export.specs.RowOctets.{octets_of_rows}
-use Rattle.flow_export.proofs.Places.{none_placed, one_placed, placed_as}
 use Rattle.flow_export.proofs.ipfix_text.rows.place_next.Goals as goal
 
 pub place_row-end-requires-clause-fits : goal.place_row-end-requires-clause-fits

@@ -3,15 +3,14 @@ use Rattle.std.specs.List.{AllZip}
 use Rattle.ipfix_elements.specs.declared.cell.Cell.{Cell}
 use Rattle.ipfix_elements.specs.declared.kind.Kind.{Kind}
 use Rattle.flow_table.specs.Fitting.{IsCellOf}
-use Rattle.flow_table.specs.Plans.{kinds_of}
-use Rattle.flow_export.proofs.KeyCells.{kinds_fit, row_placed}
+use Rattle.flow_export.proofs.KeyCells.{row_placed}
 use Rattle.flow_export.proofs.Lengths.{few_parts, row_short}
 use Rattle.flow_export.proofs.ipfix_text.rows.place_row.Goals as goal
 
 pub place_cells-key-requires-clause-fit : goal.place_cells-key-requires-clause-fit
 place_cells-key-requires-clause-fit c =
     subst (λ (kinds : List Kind). AllZip IsCellOf kinds c.deref.result.now) (sym c.kinds.ensures.value)
-    (subst (λ (cells : List Cell). AllZip IsCellOf (kinds_of c.args.plan.now.keys) cells) (sym c.deref.ensures.value) (kinds_fit c.args.plan.now.keys c.args.row.now.key.items c.requires.fits.fields.key))
+    (subst (λ (cells : List Cell). AllZip IsCellOf c.args.plan.now.kinds cells) (sym c.deref.ensures.value) c.requires.fits.fields.key.fit)
 
 pub place_cells-key-requires-clause-room : goal.place_cells-key-requires-clause-room
 place_cells-key-requires-clause-room c =

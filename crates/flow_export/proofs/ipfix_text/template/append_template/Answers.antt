@@ -10,8 +10,8 @@ use Rattle.flow_export.proofs.PlanFacts.{counter_numbers, has_room, key_numbers}
 use Rattle.flow_export.proofs.TemplateParts.{template_appended}
 use Rattle.flow_export.proofs.ipfix_text.template.append_template.Goals as goal
 
-pub append_key_specs-requires : goal.append_key_specs-requires
-append_key_specs-requires c =
+pub append_key_specs-requires-clause-numbers : goal.append_key_specs-requires-clause-numbers
+append_key_specs-requires-clause-numbers c =
     subst (λ (keys : List Key). All (λ key. HasNumber (exported_element key)) keys) (sym c.keys-keys.ensures.value) (key_numbers c.args.plan.now c.counters-counters.ensures.sound)
 
 pub append_counter_specs-requires : goal.append_counter_specs-requires
@@ -20,8 +20,8 @@ append_counter_specs-requires c =
 
 pub returns-clause-octets : goal.returns-clause-octets
 returns-clause-octets c =
-    template_appended c.args.plan.now _ c.keys-keys.result.now c.counters-counters.result.now c.iana.result c.iana-2.result c.iana-3.result _ _ _ _ _ _ _
-    refl c.keys-keys.ensures.value c.counters-counters.ensures.value c.iana.ensures c.iana-2.ensures c.iana-3.ensures
+    template_appended c.args.plan.now _ c.keys-keys.result.now c.kinds.result.now c.counters-counters.result.now c.iana.result c.iana-2.result c.iana-3.result _ _ _ _ _ _ _
+    c.counters-counters.ensures.sound.beside refl c.keys-keys.ensures.value c.kinds.ensures.value c.counters-counters.ensures.value c.iana.ensures c.iana-2.ensures c.iana-3.ensures
     c.in_ok-append_ids.ensures c.in_ok-append_number_spec.ensures c.in_ok-append_number_spec-2.ensures c.in_ok-append_key_specs.ensures c.in_ok-append_counter_specs.ensures c.in_ok-append_number_spec-3.ensures
 
 pub returns-clause-short : goal.returns-clause-short

@@ -1,0 +1,125 @@
+//! What an element may be in a plan: a key or a counter, built in or known from files.
+
+ghost use Rattle.std.specs.Prelude.{◌≡◌, map};
+ghost use Rattle.std.specs.List.{list_any};
+ghost use Rattle.element_registry.specs.Registries.{shown};
+ghost use Rattle.flow_table.specs.Plans.{is_element as is_element_in, is_key_kind as is_key_kind_in, is_prefix_of as is_prefix_of_in, is_counter as is_counter_in};
+ghost use Rattle.flow_table.specs.PlansUnder.{field_kind as field_kind_in, key_kind_under, is_key_under, is_unsigned as is_unsigned_in, is_delta_of as is_delta_of_in, is_counter_under};
+
+use element_registry::{ElementKind, Elements, Entry};
+use ipfix_elements::{Kind, Width, iana, name_of};
+use ipfix_wire::ElementId;
+
+/// The numbers of elements are below this one: its bit tells an element of an enterprise (RFC 7011,
+/// section 3.2).
+const NUMBER_LIMIT: u16 = 1 << 15;
+
+/// The addresses that may have a prefix.
+const ADDRESSES: [u16; 2] = [iana::SOURCE_IPV4_ADDRESS, iana::DESTINATION_IPV4_ADDRESS];
+
+/// The delta counters of octets, packets and flows.
+const COUNTERS: [u16; 7] = [
+    iana::OCTET_DELTA_COUNT,
+    iana::PACKET_DELTA_COUNT,
+    iana::DELTA_FLOW_COUNT,
+    iana::POST_OCTET_DELTA_COUNT,
+    iana::POST_PACKET_DELTA_COUNT,
+    iana::DROPPED_OCTET_DELTA_COUNT,
+    iana::DROPPED_PACKET_DELTA_COUNT,
+];
+
+fn is_element(element: ElementId) -> bool
+    ensures { result ≡ is_element_in element }
+{
+    element.number < NUMBER_LIMIT
+}
+
+fn is_key_kind(kind: Kind) -> bool
+    ensures { result ≡ is_key_kind_in kind }
+{
+    match kind {
+        Kind::Unsigned(_) | Kind::Ipv4 | Kind::Ipv6 | Kind::Mac => true,
+        Kind::Seconds | Kind::Millis | Kind::Octets => false,
+    }
+}
+
+// The kind that a key is read by: that of octets, if it can be no key.
+fn field_kind(kind: ElementKind) -> Kind
+    ensures { result ≡ field_kind_in kind }
+{
+    match kind {
+        ElementKind::Plain(kind) => kind,
+        ElementKind::Boolean => Kind::Unsigned(Width::One),
+        ElementKind::Signed(_) | ElementKind::Micros | ElementKind::Nanos | ElementKind::Text =>
+            Kind::Octets,
+    }
+}
+
+/// The kind that an element's fields are read by as those of a key.
+pub fn key_kind(elements: &Elements, element: ElementId) -> Kind
+    ensures { result ≡ key_kind_under elements.now element }
+{
+    field_kind(elements.kind_of(element))
+}
+
+/// Whether an element may be a key of a plan: a number, a truth value or an address, built in or named
+/// by a file, and with a number up to 32767 (RFC 7011, section 3.2).
+pub fn is_key(elements: &Elements, element: ElementId) -> bool
+    ensures { result ≡ is_key_under elements.now element }
+{
+    is_element(element) && is_key_kind(key_kind(elements, element))
+}
+
+/// Whether a key of the element may have the prefix: the IPv4 addresses of a flow's ends may, of up to
+/// 32 bits.
+pub fn is_prefix_of(element: ElementId, prefix: Option<u8>) -> bool
+    ensures { result ≡ is_prefix_of_in element prefix }
+{
+    match prefix {
+        None => true,
+        Some(bits) => element.pen == 0 && ADDRESSES.contains(&element.number) && bits <= 32,
+    }
+}
+
+fn is_built_in_counter(element: ElementId) -> bool
+    ensures { result ≡ is_counter_in element }
+{
+    element.pen == 0 && COUNTERS.contains(&element.number)
+}
+
+fn is_unsigned(kind: ElementKind) -> bool
+    ensures { result ≡ is_unsigned_in kind }
+{
+    matches!(kind, ElementKind::Plain(Kind::Unsigned(_)))
+}
+
+// Whether what a file says makes the element a counter.
+fn is_delta_of(element: ElementId, entry: &Entry) -> bool
+    ensures { result ≡ is_delta_of_in element (shown entry.now) }
+{
+    entry.element == element && entry.is_delta && is_unsigned(entry.kind)
+}
+
+// Whether one of these makes the element a counter.
+fn is_delta(mut entries: &[Entry], element: ElementId) -> bool
+    ensures { result ≡ list_any (is_delta_of_in element) (map shown entries.entry.now) }
+{
+    while let [entry, rest @ ..] = entries {
+        if is_delta_of(element, entry) {
+            return true;
+        }
+        entries = rest;
+    }
+    false
+}
+
+/// Whether an element may be a counter of a plan: a delta counter of octets, packets or flows that is
+/// built in, or an unsigned number that a file names as a delta counter (RFC 7012, section 3.2.3).
+pub fn is_counter(elements: &Elements, element: ElementId) -> bool
+    ensures { result ≡ is_counter_under elements.now element }
+{
+    is_built_in_counter(element)
+        || is_element(element)
+            && name_of(element).is_none()
+            && is_delta(elements.entries(), element)
+}

@@ -1,0 +1,180 @@
+//! Plans whose elements a file names: those of IANA's registry, and of RFC 5103 for a flow's way back.
+
+use element_registry::{Elements, ElementsFault, add_file};
+use flow_table::{Key, Method, Partial, Plan, PlanFault, Row};
+use ipfix_elements::{Cell, Kind, Width};
+use ipfix_message::{DataRecord, Fields};
+use ipfix_wire::ElementId;
+use std::alloc::{AllocError, Global};
+use std::test::Fail;
+
+/// A truth value, a text, a delta counter and a total, and a counter, a port and an address of the way
+/// back.
+const FILE: &str = "Enterprise,ElementID,Name,Abstract Data Type,Data Type Semantics
+,276,dataRecordsReliability,boolean,default
+,82,interfaceName,string,default
+,278,newConnectionDeltaCount,unsigned32,deltaCounter
+,85,octetTotalCount,unsigned64,totalCounter
+29305,1,reverseOctetDeltaCount,unsigned64,deltaCounter
+29305,7,reverseSourceTransportPort,unsigned16,identifier
+29305,8,reverseSourceIPv4Address,ipv4Address,default
+";
+
+/// The enterprise of a flow's way back.
+const REVERSE: u32 = 29305;
+
+const RELIABLE: ElementId = ElementId {
+    pen: 0,
+    number: 276,
+};
+
+const CONNECTIONS: ElementId = ElementId {
+    pen: 0,
+    number: 278,
+};
+
+const fn reverse(number: u16) -> ElementId {
+    ElementId {
+        pen: REVERSE,
+        number,
+    }
+}
+
+fn known(alloc: Global) -> Result<Elements, ElementsFault> {
+    match add_file(alloc, Elements::built_in(alloc), FILE.as_bytes()) {
+        Ok(added) => Ok(added.elements),
+        Err(error) => Err(error.fault),
+    }
+}
+
+// The plan of one key and one counter.
+fn plan_of(
+    alloc: Global,
+    elements: &Elements,
+    element: ElementId,
+    prefix: Option<u8>,
+    counter: ElementId,
+) -> Result<Plan, PlanFault> {
+    let key = Key { element, prefix };
+    Plan::under(
+        alloc,
+        elements,
+        60_000,
+        Method::Start,
+        &[key],
+        &[counter],
+        4096,
+    )
+}
+
+fn fault_of(
+    alloc: Global,
+    elements: &Elements,
+    element: ElementId,
+    prefix: Option<u8>,
+    counter: ElementId,
+) -> &'static str {
+    match plan_of(alloc, elements, element, prefix, counter) {
+        Ok(_) => "none",
+        Err(fault) => fault.name(),
+    }
+}
+
+#[test]
+fn what_a_file_names_may_be_a_key_or_a_counter(rt: HostRuntime) -> Result<(), Fail> {
+    let elements = known(rt.alloc())?;
+    for (key, prefix, counter, want) in [
+        (RELIABLE, None, CONNECTIONS, "none"),
+        (reverse(7), None, reverse(1), "none"),
+        (ElementId::iana(8), Some(24), reverse(1), "none"),
+        // A text, an element without a row, and a number that is none of an element's.
+        (ElementId::iana(82), None, CONNECTIONS, "KeyKind"),
+        (reverse(9), None, CONNECTIONS, "KeyKind"),
+        (ElementId::iana(0x8000 + 7), None, CONNECTIONS, "KeyKind"),
+        // A time stays one.
+        (ElementId::iana(152), None, CONNECTIONS, "KeyKind"),
+        (reverse(8), Some(24), CONNECTIONS, "Prefix"),
+        // A total, and a number that is no counter.
+        (RELIABLE, None, ElementId::iana(85), "CounterKind"),
+        (RELIABLE, None, reverse(7), "CounterKind"),
+        (CONNECTIONS, None, CONNECTIONS, "Repeated"),
+    ] {
+        let fault = fault_of(rt.alloc(), &elements, key, prefix, counter);
+        assert_eq!(rt; fault, want, "{}.{}", key.pen, key.number);
+    }
+    Ok(())
+}
+
+#[test]
+fn without_files_there_are_built_in_elements_alone(rt: HostRuntime) {
+    let elements = Elements::built_in(rt.alloc());
+    for (key, counter, want) in [
+        (RELIABLE, ElementId::iana(1), "KeyKind"),
+        (ElementId::iana(7), CONNECTIONS, "CounterKind"),
+        (ElementId::iana(7), ElementId::iana(1), "none"),
+    ] {
+        let fault = fault_of(rt.alloc(), &elements, key, None, counter);
+        assert_eq!(rt; fault, want);
+    }
+}
+
+#[test]
+fn a_plan_tells_the_kinds_of_its_keys(rt: HostRuntime) -> Result<(), Fail> {
+    let elements = known(rt.alloc())?;
+    let octet = Kind::Unsigned(Width::One);
+    let port = Kind::Unsigned(Width::Two);
+    for (key, want) in [
+        (RELIABLE, octet),
+        (reverse(7), port),
+        (reverse(8), Kind::Ipv4),
+    ] {
+        let plan = plan_of(rt.alloc(), &elements, key, None, ElementId::iana(1))?;
+        let kind = plan.kinds().first().copied();
+        assert_eq!(rt; kind, Some(want));
+    }
+    Ok(())
+}
+
+// A flow of the first minute with a truth value, and connections in four octets.
+fn flow(alloc: Global, reliable: u8, connections: u32) -> Result<DataRecord, AllocError> {
+    let mut fields = Fields::new(alloc);
+    fields.push(ElementId::iana(152), &1000u64.to_be_bytes())?;
+    fields.push(ElementId::iana(153), &2000u64.to_be_bytes())?;
+    fields.push(RELIABLE, &[reliable])?;
+    fields.push(CONNECTIONS, &connections.to_be_bytes())?;
+    Ok(DataRecord {
+        domain: 1,
+        export_time: 1_700_000_000,
+        template: 256,
+        scope: 0,
+        fields,
+    })
+}
+
+fn parts_of(row: &Row) -> (Option<Cell>, Option<u64>, u64) {
+    (
+        row.key.first().copied(),
+        row.sums.first().copied(),
+        row.flows,
+    )
+}
+
+#[test]
+fn truth_values_are_told_apart_and_deltas_added_up(rt: HostRuntime) -> Result<(), Fail> {
+    let elements = known(rt.alloc())?;
+    let plan = plan_of(rt.alloc(), &elements, RELIABLE, None, CONNECTIONS)?;
+    let mut partial = Partial::new(rt.alloc(), &plan)?;
+    for (reliable, connections) in [(1, 10), (2, 5), (1, 7)] {
+        partial.add(&flow(rt.alloc(), reliable, connections)?)?;
+    }
+    let table = partial.finish()?;
+    assert_eq!(rt; table.rows.len(), 2);
+    let want = [
+        (Some(Cell::Number(1)), Some(17), 2),
+        (Some(Cell::Number(2)), Some(5), 1),
+    ];
+    for (row, parts) in table.rows.iter().zip(want) {
+        assert_eq!(rt; parts_of(row), parts);
+    }
+    Ok(())
+}
