@@ -16,13 +16,13 @@ edits: ; @tests/more/try_edits
 
 bench: bin/collectd ; @for run in bench/*/run; do $$run || exit 1; done
 
-interop: bin/collectd ; @tests/interoperability/run
+interop: bin/collectd ; @tests/interoperability/run && tests/interoperability/datagrams
 
 refusals: bin/collectd ; @tests/gate/refusals
 
 compare: bin/collectd ; @tests/more/compare && tests/more/stress && tests/more/examples
 
-hostile: bin/collectd ; @tests/more/peers
+hostile: bin/collectd ; @tests/more/peers && tests/more/datagrams
 
 soak: bin/collectd ; @tests/more/soak && tests/more/soak_recordings
 

@@ -1,14 +1,16 @@
 /* IPFIX as libfixbuf writes and reads it.
  *
- *     fixbuf write FILE         writes a session to a file,
- *     fixbuf send HOST PORT     or over TCP; both print the lines that `collectd dump` owes for it
- *     fixbuf read FILE          prints the table that it has as `--format csv` does, but for the heading
+ *     fixbuf write FILE           writes a session to a file,
+ *     fixbuf send HOST PORT       or over TCP,
+ *     fixbuf datagrams HOST PORT  or over UDP; each prints the lines that `collectd dump` owes for it
+ *     fixbuf read FILE            prints the table that it has as `--format csv` does, but for the heading
  */
 #include <fixbuf/public.h>
 #include <inttypes.h>
 #include <stdio.h>
 #include <stdlib.h>
 #include <string.h>
+#include <unistd.h>
 
 #define TRY(call) \
     do { if (!(call)) { fprintf(stderr, "%s: %s\n", #call, err ? err->message : "no message"); exit(1); } } while (0)
@@ -17,6 +19,7 @@
 static GError *err;
 static fbInfoModel_t *model;
 static fbSession_t *session;
+static useconds_t waits; /* behind each record; datagrams that come faster than they are read are lost */
 
 /* What stands in memory, and in the messages: a flow over IPv4, one over IPv6, an interface. */
 struct flow4 {
@@ -68,6 +71,7 @@ static void append(fBuf_t *buffer, uint16_t id, void *record, size_t size)
     TRY(fBufSetInternalTemplate(buffer, id, &err));
     TRY(fBufSetExportTemplate(buffer, id, &err));
     TRY(fBufAppend(buffer, record, size, &err));
+    if (waits) usleep(waits);
 }
 
 static void print_octets(const char *name, const fbVarfield_t *field)
@@ -223,13 +227,15 @@ int main(int count, char **words)
     session = fbSessionAlloc(model);
     if (count == 3 && !strcmp(words[1], "write")) {
         write_session(fbExporterAllocFile(words[2]));
-    } else if (count == 4 && !strcmp(words[1], "send")) {
-        fbConnSpec_t target = {.transport = FB_TCP, .host = words[2], .svc = words[3]};
+    } else if (count == 4 && (!strcmp(words[1], "send") || !strcmp(words[1], "datagrams"))) {
+        fbConnSpec_t target = {
+            .transport = words[1][0] == 's' ? FB_TCP : FB_UDP, .host = words[2], .svc = words[3]};
+        waits = target.transport == FB_UDP ? 1000 : 0;
         write_session(fbExporterAllocNet(&target));
     } else if (count == 3 && !strcmp(words[1], "read")) {
         read_table(words[2]);
     } else {
-        fputs("fixbuf write FILE | send HOST PORT | read FILE\n", stderr);
+        fputs("fixbuf write FILE | send HOST PORT | datagrams HOST PORT | read FILE\n", stderr);
         return 2;
     }
 }

@@ -98,6 +98,10 @@ long recv(int from, void *to, size_t size, int flags) {
   return is_refused('r', DEVICE) || is_interrupted() ? -1 : syscall(RECEIVE, from, to, moved(size), flags, 0, 0);
 }
 
+long recvfrom(int from, void *to, size_t size, int flags, void *peer, void *length) {
+  return is_refused('r', DEVICE) || is_interrupted() ? -1 : syscall(RECEIVE, from, to, size, flags, peer, length);
+}
+
 long write(int to, const void *from, size_t size) {
   return is_refused('w', DEVICE) || is_interrupted() ? -1 : syscall(WRITE, to, from, moved(size));
 }
