@@ -16,8 +16,8 @@ use Rattle.flow_table.specs.declared.plan_fault.PlanFault.{PlanFault}
 use Rattle.flow_table.specs.declared.plan_fault.PlanFault.TheVariants.{KeyCount, KeyKind, Prefix, CounterCount, CounterKind}
 use Rattle.flow_table.specs.Plans.{PlanValue, plan_with, is_between, is_element, is_key_kind, is_prefix_of, is_counter, or_else, fault_unless, length_fault, spread_fault, repeat_fault}
 
--- the kind that a key is read by: a truth value is a number of one octet, 1 or 2 (RFC 7011, section 6.1.5), and
--- what has a sign, is a time or a text is no key
+-- the kind that a key is read by: a truth value is a number of one octet, whichever it is (1 and 2 are those of RFC 7011,
+-- section 6.1.5), and what has a sign, is a time or a text is no key
 abbrev pub field_kind : ElementKind → Kind
 field_kind (Plain kind) = kind
 field_kind Boolean = kinds.Unsigned One
