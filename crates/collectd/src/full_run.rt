@@ -15,7 +15,7 @@ ghost use Rattle.collectd.specs.FullRuns.{table_told, WentWell, WritesTableInFul
 ghost use Rattle.collectd.specs.Told.{run_lines, TellsFault};
 
 use crate::collect_fault::write_collect_fault;
-use collectd_output::{Output, export_flat_under};
+use collectd_output::{Output, export};
 use element_registry::Elements;
 use exit_status::Status;
 use flow_collect::{CollectedInFull, OpenGate, Pool, collect_flat};
@@ -80,7 +80,7 @@ pub fn run_in_full<S: Source + Send + Drop, W: Write, E: WriteLines, R: Threads 
             return Status::Failed.number();
         }
     };
-    if let Err(fault) = export_flat_under(alloc, elements, plan, &collected.table, output, out) {
+    if let Err(fault) = export(alloc, elements, plan, &collected.table, output, out) {
         let _ = write_export_fault(fault, err);
         return Status::Failed.number();
     }

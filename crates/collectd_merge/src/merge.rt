@@ -14,11 +14,11 @@ ghost use Rattle.collectd_inputs.specs.Had.{AreOpened, IsOpened};
 use crate::not_merged::NotMerged;
 use crate::reports::{write_file_opened, write_merged, write_not_merged};
 use collectd_inputs::OpenSource;
-use collectd_output::{Output, export_under};
+use collectd_output::{Output, export};
 use element_registry::Elements;
 use exit_status::Status;
 use flow_merge::Merging;
-use flow_table::{Plan, Table};
+use flow_table::{FlatTable, Plan};
 use ipfix_session::{READ_LIMIT, Source};
 use run_reports::{NOTHING_MORE, Telling, WriteLines, write_export_fault};
 use std::alloc::Global;
@@ -124,11 +124,11 @@ pub fn run_merge_in_full<S: Source + Drop, O: OpenSource<S>, W: Write, E: WriteL
             return not_merged.status().number();
         }
     };
-    if let Err(fault) = export_under(alloc, elements, plan, &table, output, out) {
+    if let Err(fault) = export(alloc, elements, plan, &table, output, out) {
         let _ = write_export_fault(fault, err);
         return Status::Failed.number();
     }
-    let _ = write_merged(paths.len(), table.rows.len(), err);
+    let _ = write_merged(paths.len(), table.len(), err);
     Status::Well.number()
 }
 
@@ -140,7 +140,7 @@ fn merge_files<'a, S: Source + Drop, O: OpenSource<S>, E: WriteLines>(
     plan: &Plan,
     telling: Telling,
     err: &mut E,
-) -> Result<Table, NotMerged<'a>>
+) -> Result<FlatTable, NotMerged<'a>>
     ensures merged { IfOk result
         (IsMerged S.seen (AreOpened (λ path. O.opens files.old path.now)
         paths.now (O.coming files.old) (O.coming files.new)) plan.now) }

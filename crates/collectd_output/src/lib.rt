@@ -3,4 +3,4 @@
 
 mod output;
 
-pub use output::{Output, export, export_flat, export_flat_under, export_under};
+pub use output::{Output, export};

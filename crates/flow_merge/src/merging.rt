@@ -17,7 +17,7 @@ use crate::judging::judge;
 use crate::merge_fault::MergeFault;
 use crate::row_reading::read_row;
 use crate::row_sink::RowSink;
-use flow_table::{Missing, Plan, RowTotals, Table, Tally};
+use flow_table::{FlatTable, Missing, Plan, RowTotals, Tally};
 use ipfix_message::DataRecord;
 use ipfix_session::{Source, drive};
 use std::alloc::Global;
@@ -89,7 +89,7 @@ impl Merging {
     /// records by class, nor what they lack.
     ///
     /// The fault is `OutOfMemory`: an allocation was refused.
-    pub fn finish(self) -> Result<Table, MergeFault>
+    pub fn finish(self) -> Result<FlatTable, MergeFault>
         ensures rows { (rows : List RowValue) → StandsFor self rows
             → IfOk result (λ table. AreAddedUp rows (rows_in table)) }
         // The table fits the plan, as an export asks.
@@ -106,10 +106,6 @@ impl Merging {
         ensures err { IfErr result (λ e. e ≡ OutOfMemory) }
     {
         let Merging { totals, .. } = self;
-        Ok(Table {
-            rows: totals.finish()?,
-            tally: Tally::EMPTY,
-            missing: Missing::NONE,
-        })
+        Ok(totals.finish(Tally::EMPTY, Missing::NONE)?)
     }
 }

@@ -10,7 +10,7 @@ ghost use Rattle.flow_merge.specs.declared.merge_fault.MergeFault.TheVariants.{O
 ghost use Rattle.flow_merge_laws.specs.Exports.{AreExportsOf, IsExportFault, StopsAt};
 
 use flow_merge::{MergeFault, Merging};
-use flow_table::{Plan, Table};
+use flow_table::{FlatTable, Plan};
 use ipfix_session::Source;
 use std::alloc::Global;
 use std::collections::VecDeque;
@@ -26,7 +26,7 @@ pub fn merge<S: Source + Drop>(
     plan: &Plan,
     sources: Vec<S>,
     limit: u64,
-) -> Result<Table, MergeFault>
+) -> Result<FlatTable, MergeFault>
     // Each source gave an export, and the rows of all of them are added up.
     ensures read { IfOk result (AddsAllUp S.seen limit plan.now sources.items) }
     // Else the fault is want of memory, or that of the first source that has one.

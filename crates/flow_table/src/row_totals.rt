@@ -1,6 +1,6 @@
 //! Rows that are added up.
 
-ghost use Rattle.std.specs.Prelude.{◌≡◌, ◌++◌, ◌∷◌, [], ◌<◌, List, map, IfOk, IfErr, OnOk};
+ghost use Rattle.std.specs.Prelude.{◌≡◌, ◌++◌, ◌∷◌, [], ◌<◌, List, IfOk, IfErr, OnOk};
 ghost use Rattle.flow_table.specs.AddedUp.{AddUpTooLarge, AreAddedUp, rows_in};
 ghost use Rattle.flow_table.specs.Fitting.{FitsRow};
 ghost use Rattle.flow_table.specs.RowTotals.{AreOf, totals_plan};
@@ -72,7 +72,7 @@ impl RowTotals {
     /// The table of the rows, which are made as they are asked for, with this tally and what records lack.
     ///
     /// The fault is `OutOfMemory`: an allocation was refused.
-    pub fn finish_flat(self, tally: Tally, missing: Missing) -> Result<FlatTable, TableFault>
+    pub fn finish(self, tally: Tally, missing: Missing) -> Result<FlatTable, TableFault>
         ensures sums { (rows : List RowValue) → AreOf self rows
             → IfOk result (λ merged. AreAddedUp rows (rows_in merged)) }
         ensures tally { IfOk result (λ merged. merged.tally ≡ tally) }
@@ -87,18 +87,5 @@ impl RowTotals {
             ..
         } = self;
         Ok(FlatTable::of(alloc, plan, rows, tally, missing)?)
-    }
-
-    /// The rows in order: by interval, and then by key.
-    ///
-    /// The fault is `OutOfMemory`: an allocation was refused.
-    pub fn finish(self) -> Result<Vec<Row>, TableFault>
-        ensures sums { (rows : List RowValue) → AreOf self rows
-            → IfOk result (λ merged. AreAddedUp rows (map value_of merged.items)) }
-        ensures small { (rows : List RowValue) → AreOf self rows → AddUpTooLarge rows → ⊥ }
-        ensures err { IfErr result (λ e. e ≡ OutOfMemory) }
-    {
-        let table = self.finish_flat(Tally::EMPTY, Missing::NONE)?.into_table()?;
-        Ok(table.rows)
     }
 }

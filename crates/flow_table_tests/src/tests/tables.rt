@@ -6,7 +6,9 @@ ghost use Rattle.flow_table.specs.RowTotals.{totals_plan};
 ghost use Rattle.flow_table.specs.declared.table.Row.{Row as RowRecord};
 
 use super::records::{by_source, flow, push_row, text_of};
-use flow_table::{FlatTable, Method, Partial, Plan, Row, RowTotals, Table, TableFault};
+use flow_table::{
+    FlatTable, Method, Missing, Partial, Plan, Row, RowTotals, Table, TableFault, Tally,
+};
 use std::alloc::Global;
 use std::test::Fail;
 
@@ -42,7 +44,8 @@ fn added_up(alloc: Global, octets: u64, others: u64) -> Result<String, Fail> {
     if let Err(fault) = add_all(&mut totals, &second) {
         return Ok(String::from_str(alloc, fault.name())?);
     }
-    Ok(text_of(alloc, &totals.finish()?)?)
+    let table = totals.finish(Tally::EMPTY, Missing::NONE)?.into_table()?;
+    Ok(text_of(alloc, &table.rows)?)
 }
 
 #[test]

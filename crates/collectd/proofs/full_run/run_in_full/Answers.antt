@@ -13,9 +13,9 @@ pub returns-in-Err-clause-refused : goal.returns-in-Err-clause-refused
 returns-in-Err-clause-refused g c =
     refusal_told _ _ c.in-Err.fault _ _ _ c.in-Err.ensures.arguments (search rules) (search rules) (is_told _ _ _ c.write_collect_fault.result _ c.write_collect_fault.ensures.told c.write_collect_fault.ensures.failed)
 
-pub returns-in-Err-export_flat_under-clause-failed : goal.returns-in-Err-export_flat_under-clause-failed
-returns-in-Err-export_flat_under-clause-failed g c = λ failed.
-    inr (c.in-Err-export_flat_under.fault, is_told _ _ _ c.write_export_fault.result _ c.write_export_fault.ensures.told c.write_export_fault.ensures.failed)
+pub returns-in-Err-export-clause-failed : goal.returns-in-Err-export-clause-failed
+returns-in-Err-export-clause-failed g c = λ failed.
+    inr (c.in-Err-export.fault, is_told _ _ _ c.write_export_fault.result _ c.write_export_fault.ensures.told c.write_export_fault.ensures.failed)
 
 pub returns-clause-table : goal.returns-clause-table
 returns-clause-table g c = λ ran.

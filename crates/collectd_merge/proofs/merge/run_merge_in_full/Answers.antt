@@ -15,10 +15,10 @@ returns-in-Err-clause-failed g c = λ three. inl (
   tells_not_merged _ c.args.telling _ _ _ _ _ c.in-Err.not_merged _ c.write_not_merged.result c.in-Err.ensures.stops c.write_not_merged.ensures.told c.write_not_merged.ensures.failed c.write_not_merged.ensures.kept (search rules),
 )
 
-pub returns-in-Err-export_under-clause-failed : goal.returns-in-Err-export_under-clause-failed
-returns-in-Err-export_under-clause-failed g c = λ failed. inr (
+pub returns-in-Err-export-clause-failed : goal.returns-in-Err-export-clause-failed
+returns-in-Err-export-clause-failed g c = λ failed. inr (
   (c.in-Ok.table, c.in-Ok.ensures.merged),
-  (c.in-Err-export_under.fault, told_then _ _ _ _ _ c.write_export_fault.result _ _ c.in-Ok.ensures.told c.write_export_fault.ensures.told c.write_export_fault.ensures.failed c.write_export_fault.ensures.kept),
+  (c.in-Err-export.fault, told_then _ _ _ _ _ c.write_export_fault.result _ _ c.in-Ok.ensures.told c.write_export_fault.ensures.told c.write_export_fault.ensures.failed c.write_export_fault.ensures.kept),
 )
 
 pub returns-clause-table : goal.returns-clause-table

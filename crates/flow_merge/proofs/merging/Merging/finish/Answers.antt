@@ -19,7 +19,7 @@ returns-clause-rows c = λ rows stands. c.in_ok-finish.ensures.sums rows stands.
 
 pub returns-clause-fits : goal.returns-clause-fits
 unfolding StandsFor merging_plan
-returns-clause-fits c = λ rows stands. merged_fits (totals_plan c.args.self.totals) rows stands.1 (c.finish.ensures.small rows stands.0) _ (c.in_ok-finish.ensures.sums rows stands.0)
+returns-clause-fits c = λ rows stands. merged_fits (totals_plan c.args.self.totals) rows stands.1 (c.finish.ensures.small rows stands.0) c.in_ok-finish.field-0 (c.in_ok-finish.ensures.sums rows stands.0)
 
 pub returns-clause-small : goal.returns-clause-small
 unfolding StandsFor
@@ -29,4 +29,4 @@ pub returns-clause-tables : goal.returns-clause-tables
 unfolding StandsFor merging_plan
 returns-clause-tables c = λ lists tables stands are.
     let plan = (totals_plan c.args.self.totals) in
-    tables_are_added plan lists tables (record { rows = c.in_ok-finish.field-0; tally = tally_of plan (all_of lists); missing = missing_of plan (all_of lists) }) are (c.in_ok-finish.ensures.sums (flat_map rows_in tables) stands.0) refl refl
+    tables_are_added plan lists tables (record { rows = c.in_ok-finish.field-0.rows; tally = tally_of plan (all_of lists); missing = missing_of plan (all_of lists) }) are (c.in_ok-finish.ensures.sums (flat_map rows_in tables) stands.0) refl refl
