@@ -34,7 +34,7 @@ fn lines_of(alloc: Global, table: &Table) -> Result<String, AllocError> {
 fn merged(alloc: Global, count: u64, reads: u64) -> Result<String, Fail> {
     let plan = by_source(alloc, None)?;
     match merge(alloc, &plan, sources_of(alloc, count)?, reads) {
-        Ok(table) => Ok(lines_of(alloc, &table)?),
+        Ok(table) => Ok(lines_of(alloc, &table.into_table()?)?),
         Err(fault) => Ok(format!(in alloc; "{} {}", fault.number(), fault.name())?),
     }
 }
