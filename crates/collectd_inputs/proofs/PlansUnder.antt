@@ -8,6 +8,7 @@ use Rattle.plan_file.specs.PlanTextsUnder.{plan_of_text_under}
 use Rattle.plan_file.specs.Places.{Tells}
 use Rattle.plan_file.specs.PlacesUnder.{TellsUnder}
 use Rattle.plan_file.specs.declared.error.PlanTextError.{PlanTextError}
+use Rattle.run_reports.specs.PlaceLines.{plan_lines_under}
 use Rattle.run_reports.specs.declared.reason.Reason.{Reason}
 use Rattle.run_reports.specs.declared.telling.Telling.{Telling}
 use Rattle.collectd_inputs.specs.PlansTold.{IsPlanError, IsPlanErrorUnder, TellsNoPlan, TellsNoPlanUnder}
@@ -31,7 +32,8 @@ module _ (plans : (text : List ℕ) → plan_of_text_under [] text ≡ plan_of_t
     told_without : (Has : List ℕ → Type 0) (Refuses : Reason → Type 0) (telling : Telling) (path : List ℕ) (AreTold : List ℕ → Type 0)
         → TellsNoPlanUnder known Has Refuses telling path AreTold → TellsNoPlan Has Refuses telling path AreTold
     told_without Has Refuses telling path AreTold (inl refused) = inl refused
-    told_without Has Refuses telling path AreTold (inr read) = inr (read.0, read.1, (read.2.0, error_without read.0 read.2.0 read.2.1, read.2.2))
+    told_without Has Refuses telling path AreTold (inr read) =
+        inr (read.0, read.1, (read.2.0, error_without read.0 read.2.0 read.2.1, subst (λ (k : List Known). AreTold (plan_lines_under k read.2.0)) none read.2.2))
 
     pub no_plan_without : {X : Type 0} (o : Option X) (Has : List ℕ → Type 0) (Refuses : Reason → Type 0) (telling : Telling) (path : List ℕ) (AreTold : List ℕ → Type 0)
         → IfNone o (TellsNoPlanUnder known Has Refuses telling path AreTold) → IfNone o (TellsNoPlan Has Refuses telling path AreTold)

@@ -9,7 +9,7 @@ use Rattle.plan_file.specs.PlacesUnder.{TellsUnder}
 use Rattle.plan_file.specs.declared.error.PlanTextError.{PlanTextError}
 use Rattle.plan_file.specs.declared.fault.PlanTextFault.TheVariants.{NotToml, OutOfMemory}
 use Rattle.run_reports.specs.OpeningLines.{not_had_lines}
-use Rattle.run_reports.specs.PlaceLines.{plan_lines}
+use Rattle.run_reports.specs.PlaceLines.{plan_lines, plan_lines_under}
 use Rattle.run_reports.specs.declared.reason.Reason.{Reason}
 use Rattle.run_reports.specs.declared.telling.Telling.{Telling}
 
@@ -35,4 +35,4 @@ TellsNoPlan Has Refuses telling path AreTold =
 abbrev pub TellsNoPlanUnder : List Known → (List ℕ → Type 0) → (Reason → Type 0) → Telling → List ℕ → (List ℕ → Type 0) → Type 0
 TellsNoPlanUnder known Has Refuses telling path AreTold =
     ((reason : Reason) × Refuses reason × AreTold (not_had_lines telling (codes "open") path reason))
-    ⊎ ((octets : List ℕ) × Has octets × ((error : PlanTextError) × IsPlanErrorUnder known octets error × AreTold (plan_lines error)))
+    ⊎ ((octets : List ℕ) × Has octets × ((error : PlanTextError) × IsPlanErrorUnder known octets error × AreTold (plan_lines_under known error)))

@@ -78,7 +78,7 @@ pub fn load_plan_under<T: ReadText, E: WriteLines>(
     match read_plan_octets_under(alloc, elements, &octets) {
         Ok(plan) => Some(plan),
         Err(error) => {
-            let _ = write_plan_fault(&error, err);
+            let _ = write_plan_fault(elements, &error, err);
             None
         }
     }

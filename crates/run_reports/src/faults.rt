@@ -4,11 +4,12 @@ ghost use Rattle.std.specs.Prelude.{◌++◌, codes, OnErr, OnOk};
 ghost use Rattle.std.specs.Io.KnownBytes.{Appends};
 ghost use Rattle.flow_table.specs.PlanFaults as plan;
 ghost use Rattle.plan_file.specs.Faults as text;
-ghost use Rattle.run_reports.specs.PlaceLines.{plan_lines};
+ghost use Rattle.run_reports.specs.PlaceLines.{plan_lines_under};
 ghost use Rattle.run_reports.specs.ReportLines.{dump_fault_line, export_fault_line, fault_text, not_had_line, plan_fault_text};
 
 use crate::places::write_place;
 use crate::write_lines::WriteLines;
+use element_registry::Elements;
 use flow_export::ExportFault;
 use flow_table::PlanFault;
 use ipfix_dump::DumpFault;
@@ -58,16 +59,20 @@ pub fn write_export_fault<W: WriteLines>(fault: ExportFault, out: &mut W) -> io:
     write_fault("export", fault.number(), fault.name(), out)
 }
 
-/// Writes the line of a fault of a plan's text, with the plan's own fault if it has one, and then the
-/// line that tells where it is. For want of memory there is no such line.
-pub fn write_plan_fault<W: WriteLines>(error: &PlanTextError, out: &mut W) -> io::Result<()>
+/// Writes the line of a fault of the text of a plan under these elements, with the plan's own fault if it
+/// has one, and then the line that tells where it is. For want of memory there is no such line.
+pub fn write_plan_fault<W: WriteLines>(
+    elements: &Elements,
+    error: &PlanTextError,
+    out: &mut W,
+) -> io::Result<()>
     ensures told { OnOk result (Appends (W.contents out.old) (W.contents out.new)
-        (plan_lines error.now)) }
+        (plan_lines_under elements.now error.now)) }
     ensures failed { OnErr result (W.failed out.new) }
     ensures kept { W.failed out.old → W.failed out.new }
 {
     write_plan_fault_line(error.fault(), out)?;
-    write_place(error, out)
+    write_place(elements, error, out)
 }
 
 fn write_plan_fault_line<W: WriteLines>(fault: PlanTextFault, out: &mut W) -> io::Result<()>

@@ -1,13 +1,24 @@
 //! What a plan allows, in words.
 
 ghost use Rattle.std.specs.Prelude.{◌≡◌};
-ghost use Rattle.run_reports.specs.PlaceLines.{kind_words as words_of_kind, rule_words as words_of_rule};
+ghost use Rattle.run_reports.specs.PlaceLines.{file_rule_words, kind_words as words_of_kind, rule_words as words_of_rule, rule_words_under};
 
+use element_registry::Elements;
 use flow_table::PlanFault;
 use plan_file::PlanKey;
 
-/// What a plan allows where it has the fault.
-pub fn rule_words(fault: PlanFault) -> &'static str
+/// What a plan allows where it has the fault: under files more may be keys and counters.
+pub fn rule_words(elements: &Elements, fault: PlanFault) -> &'static str
+    ensures { result.now ≡ rule_words_under elements.now fault }
+{
+    match elements.entries() {
+        [] => built_in_words(fault),
+        [..] => file_words(fault),
+    }
+}
+
+// What it allows of built-in elements.
+fn built_in_words(fault: PlanFault) -> &'static str
     ensures { result.now ≡ words_of_rule fault }
 {
     match fault {
@@ -24,6 +35,24 @@ pub fn rule_words(fault: PlanFault) -> &'static str
         }
         PlanFault::Repeated => " stands twice",
         PlanFault::OutOfMemory => ": out of memory",
+    }
+}
+
+// What it allows where files name elements, too.
+fn file_words(fault: PlanFault) -> &'static str
+    ensures { result.now ≡ file_rule_words fault }
+{
+    match fault {
+        PlanFault::KeyKind => {
+            ": only elements known as unsigned numbers, addresses (IPv4, IPv6, MAC) or booleans may be keys"
+        }
+        PlanFault::Prefix => {
+            ": only sourceIPv4Address and destinationIPv4Address take a prefix, 0 to 32"
+        }
+        PlanFault::CounterKind => {
+            ": only octetDeltaCount, packetDeltaCount, deltaFlowCount, postOctetDeltaCount, postPacketDeltaCount, droppedOctetDeltaCount, droppedPacketDeltaCount and elements of files with an unsigned type and the semantics deltaCounter may be counters; a total is none: adding a flow's totals up counts it twice"
+        }
+        _ => built_in_words(fault),
     }
 }
 

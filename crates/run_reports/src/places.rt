@@ -7,15 +7,20 @@ ghost use Rattle.run_reports.specs.PlaceLines.{column_start, count_end, key_line
 use crate::place_words::{kind_words, rule_words};
 use crate::quoting::{write_octets, write_quoted};
 use crate::write_lines::WriteLines;
+use element_registry::Elements;
 use flow_table::PlanFault;
 use plan_file::{PlanPlace, PlanTextError};
 use std::io;
 
 /// Writes the line that says where a plan has its fault: the line of the file, or the key and what is
-/// wrong with it, or what a plan allows there. For want of memory there is none.
-pub fn write_place<W: WriteLines>(error: &PlanTextError, out: &mut W) -> io::Result<()>
+/// wrong with it, or what a plan under these elements allows there. For want of memory there is none.
+pub fn write_place<W: WriteLines>(
+    elements: &Elements,
+    error: &PlanTextError,
+    out: &mut W,
+) -> io::Result<()>
     ensures told { OnOk result (Appends (W.contents out.old) (W.contents out.new)
-        (place_line error.now)) }
+        (place_line elements.now error.now)) }
     ensures failed { OnErr result (W.failed out.new) }
     ensures kept { W.failed out.old → W.failed out.new }
 {
@@ -34,7 +39,7 @@ pub fn write_place<W: WriteLines>(error: &PlanTextError, out: &mut W) -> io::Res
             write_key(key.name(), out)?;
             write_name_end(text.as_str(), out)
         }
-        PlanTextError::Plan { fault, place } => write_rule(*fault, place, out),
+        PlanTextError::Plan { fault, place } => write_rule(elements, *fault, place, out),
         PlanTextError::OutOfMemory => Ok(()),
     }
 }
@@ -119,13 +124,18 @@ fn write_name_end<W: WriteLines>(text: &str, out: &mut W) -> io::Result<()>
 }
 
 // What gives a plan the fault, and what is allowed.
-fn write_rule<W: WriteLines>(fault: PlanFault, place: &PlanPlace, out: &mut W) -> io::Result<()>
+fn write_rule<W: WriteLines>(
+    elements: &Elements,
+    fault: PlanFault,
+    place: &PlanPlace,
+    out: &mut W,
+) -> io::Result<()>
     ensures told { OnOk result (Appends (W.contents out.old) (W.contents out.new)
-        (rule_line fault place.now)) }
+        (rule_line elements.now fault place.now)) }
     ensures failed { OnErr result (W.failed out.new) }
     ensures kept { W.failed out.old → W.failed out.new }
 {
-    let words = rule_words(fault);
+    let words = rule_words(elements, fault);
     match place {
         PlanPlace::Value { key } => write_key_line(key.name(), words, out),
         PlanPlace::Count { key, count } => {

@@ -4,6 +4,7 @@ ghost use Rattle.std.specs.Prelude.{◌≡◌, ⊤, string_bytes};
 
 use super::sessions::BY_SOURCE;
 use collectd::{ReadText, Reason, Telling, load_plan, write_plan_fault};
+use element_registry::Elements;
 use plan_file::PlanTextError;
 use std::alloc::Global;
 use std::test::Fail;
@@ -70,7 +71,8 @@ fn loads_plans_of_texts(rt: HostRuntime) -> Result<(), Fail> {
 #[test]
 fn want_of_memory_has_one_line(rt: HostRuntime) -> Result<(), Fail> {
     let mut out = Vec::new(rt.alloc());
-    write_plan_fault(&PlanTextError::OutOfMemory, &mut out)?;
+    let elements = Elements::built_in(rt.alloc());
+    write_plan_fault(&elements, &PlanTextError::OutOfMemory, &mut out)?;
     assert_eq!(rt;
         out.as_slice(),
         b"collectd: plan: fault 7 OutOfMemory\n".as_slice()
