@@ -4,12 +4,13 @@ ghost use Rattle.std.specs.Prelude.{◌≡◌, ◌-◌, ◌++◌, length, replic
 ghost use Rattle.std.specs.Io.KnownBytes.{Appends};
 ghost use Rattle.ipfix_elements.specs.Names.{numbered_text};
 ghost use Rattle.element_guide.specs.Fitting.{fits as fits_in};
-ghost use Rattle.element_guide.specs.Lines.{column, element_line, line_if_fits};
+ghost use Rattle.element_guide.specs.Lines.{column, element_line, line_if_fits, uses};
 ghost use Rattle.element_guide.specs.Listed.{element_named_so as named_so, type_name as type_in};
 
 use crate::fitting::fits;
 use crate::type_names::type_name;
-use element_registry::ElementKind;
+use element_registry::{ElementKind, Elements};
+use flow_table::{is_counter, is_key};
 use ipfix_wire::ElementId;
 use itoa::Buffer;
 use std::io::{self, Write};
@@ -20,8 +21,10 @@ const NUMBER_WIDTH: usize = 12;
 /// As wide is the column of types.
 const TYPE_WIDTH: usize = 20;
 
-/// Writes the line of an element that has this name and kind, if a word fits it. Answers whether it does.
+/// Writes the line of an element that has this name and kind, with what it may be in a plan under `elements`, if
+/// a word fits it. Answers whether it does.
 pub fn write_if_fits<W: Write>(
+    elements: &Elements,
     word: Option<&str>,
     element: ElementId,
     name: &str,
@@ -29,29 +32,47 @@ pub fn write_if_fits<W: Write>(
     out: &mut W,
 ) -> io::Result<bool>
     ensures told { OnOk result (Appends (W.contents out.old) (W.contents out.new)
-        (line_if_fits (option_map (λ w. w.now) word.entry) (named_so element name.now kind))) }
+        (line_if_fits elements.now (option_map (λ w. w.now) word.entry)
+        (named_so element name.now kind))) }
     ensures found { IfOk result (λ found.
         found ≡ fits_in (option_map (λ w. w.now) word.entry) element name.now) }
 {
     let found = fits(word, element, name);
     if found {
-        write_line(element, name, kind, out)?;
+        write_line(elements, element, name, kind, out)?;
     }
     Ok(found)
 }
 
 fn write_line<W: Write>(
+    elements: &Elements,
     element: ElementId,
     name: &str,
     kind: ElementKind,
     out: &mut W,
 ) -> io::Result<()>
     ensures { OnOk result (Appends (W.contents out.old) (W.contents out.new)
-        (element_line (named_so element name.now kind))) }
+        (element_line elements.now (named_so element name.now kind))) }
 {
     write_numbers(element, out)?;
     write_column(type_name(kind), TYPE_WIDTH, out)?;
-    writeln!(out, "{name}")
+    write!(out, "{name}")?;
+    write_uses(elements, element, out)?;
+    writeln!(out)
+}
+
+// Writes what an element may be in a plan.
+fn write_uses<W: Write>(elements: &Elements, element: ElementId, out: &mut W) -> io::Result<()>
+    ensures { OnOk result (Appends (W.contents out.old) (W.contents out.new)
+        (uses elements.now element)) }
+{
+    if is_key(elements, element) {
+        write!(out, " key")?;
+    }
+    if is_counter(elements, element) {
+        write!(out, " counter")?;
+    }
+    Ok(())
 }
 
 // Writes the numbers of an element and blanks behind them.

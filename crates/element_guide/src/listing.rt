@@ -18,8 +18,8 @@ use std::io::{self, Write};
 const NUMBER_LIMIT: u16 = 0x8000;
 
 /// Writes a line for each element that is known and that a word fits, as [`fits`](crate::fits) says: the built-in ones
-/// by their numbers, and then those of files as they stand there. Answers whether there is any, and flushes the
-/// writer.
+/// by their numbers, and then those of files as they stand there; each with what it may be in a plan, a key or a
+/// counter. Answers whether there is any, and flushes the writer.
 pub fn list_elements<W: Write>(
     elements: &Elements,
     word: Option<&str>,
@@ -41,28 +41,37 @@ fn write_listed<W: Write>(elements: &Elements, word: Option<&str>, out: &mut W) 
     ensures found { IfOk result (λ found.
         found ≡ has_fitting (option_map (λ w. w.now) word.entry) (all_listed elements.now)) }
 {
-    let is_built_in = write_built_in(word, out)?;
-    let is_of_file = write_entries(word, elements.entries(), out)?;
+    let is_built_in = write_built_in(elements, word, out)?;
+    let is_of_file = write_entries(elements, word, elements.entries(), out)?;
     Ok(is_built_in || is_of_file)
 }
 
-fn write_built_in<W: Write>(word: Option<&str>, out: &mut W) -> io::Result<bool>
+fn write_built_in<W: Write>(
+    elements: &Elements,
+    word: Option<&str>,
+    out: &mut W,
+) -> io::Result<bool>
     ensures told { OnOk result (Appends (W.contents out.old) (W.contents out.new)
-        (lines_of (option_map (λ w. w.now) word.entry) (map of_entry built_in))) }
+        (lines_of elements.now (option_map (λ w. w.now) word.entry) (map of_entry built_in))) }
     ensures found { IfOk result (λ found.
         found ≡ has_fitting (option_map (λ w. w.now) word.entry) (map of_entry built_in)) }
 {
     let mut is_any = false;
     for number in 0..NUMBER_LIMIT {
-        is_any = write_number(word, number, out)? || is_any;
+        is_any = write_number(elements, word, number, out)? || is_any;
     }
     Ok(is_any)
 }
 
 // Writes the line of a built-in element, if there is one of this number and a word fits it.
-fn write_number<W: Write>(word: Option<&str>, number: u16, out: &mut W) -> io::Result<bool>
+fn write_number<W: Write>(
+    elements: &Elements,
+    word: Option<&str>,
+    number: u16,
+    out: &mut W,
+) -> io::Result<bool>
     ensures told { OnOk result (Appends (W.contents out.old) (W.contents out.new)
-        (lines_of (option_map (λ w. w.now) word.entry)
+        (lines_of elements.now (option_map (λ w. w.now) word.entry)
         (map of_entry (option_to_list (entry_of (iana number)))))) }
     ensures found { IfOk result (λ found.
         found ≡ has_fitting (option_map (λ w. w.now) word.entry)
@@ -72,6 +81,7 @@ fn write_number<W: Write>(word: Option<&str>, number: u16, out: &mut W) -> io::R
     match name_of(element) {
         Some(name) => {
             write_if_fits(
+                elements,
                 word,
                 element,
                 name,
@@ -83,25 +93,42 @@ fn write_number<W: Write>(word: Option<&str>, number: u16, out: &mut W) -> io::R
     }
 }
 
-fn write_entries<W: Write>(word: Option<&str>, entries: &[Entry], out: &mut W) -> io::Result<bool>
+fn write_entries<W: Write>(
+    elements: &Elements,
+    word: Option<&str>,
+    entries: &[Entry],
+    out: &mut W,
+) -> io::Result<bool>
     ensures told { OnOk result (Appends (W.contents out.old) (W.contents out.new)
-        (lines_of (option_map (λ w. w.now) word.entry) (map (λ k. of_known (shown k)) entries.now))) }
+        (lines_of elements.now (option_map (λ w. w.now) word.entry) (map (λ k. of_known (shown k)) entries.now))) }
     ensures found { IfOk result (λ found.
         found ≡ has_fitting (option_map (λ w. w.now) word.entry)
         (map (λ k. of_known (shown k)) entries.now)) }
 {
     let mut is_any = false;
     for entry in entries {
-        is_any = write_entry(word, entry, out)? || is_any;
+        is_any = write_entry(elements, word, entry, out)? || is_any;
     }
     Ok(is_any)
 }
 
-fn write_entry<W: Write>(word: Option<&str>, entry: &Entry, out: &mut W) -> io::Result<bool>
+fn write_entry<W: Write>(
+    elements: &Elements,
+    word: Option<&str>,
+    entry: &Entry,
+    out: &mut W,
+) -> io::Result<bool>
     ensures told { OnOk result (Appends (W.contents out.old) (W.contents out.new)
-        (lines_of (option_map (λ w. w.now) word.entry) (of_known (shown entry.now) ∷ []))) }
+        (lines_of elements.now (option_map (λ w. w.now) word.entry) (of_known (shown entry.now) ∷ []))) }
     ensures found { IfOk result (λ found.
         found ≡ has_fitting (option_map (λ w. w.now) word.entry) (of_known (shown entry.now) ∷ [])) }
 {
-    write_if_fits(word, entry.element, entry.name.as_str(), entry.kind, out)
+    write_if_fits(
+        elements,
+        word,
+        entry.element,
+        entry.name.as_str(),
+        entry.kind,
+        out,
+    )
 }

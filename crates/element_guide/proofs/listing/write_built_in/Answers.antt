@@ -15,7 +15,7 @@ loop-number-init g c =
     let word = option_map (λ w. w.now) c.args.word in
     let held = g.W.Write.contents c.args.out.now in
     record {
-      told = subst (λ (rs : List Entry). Appends held held (lines_of word (map of_entry rs))) (sym at_first) (Appends-nil _);
+      told = subst (λ (rs : List Entry). Appends held held (lines_of c.args.elements.now word (map of_entry rs))) (sym at_first) (Appends-nil _);
       found = ap (λ (rs : List Entry). has_fitting word (map of_entry rs)) (sym at_first);
     }
 
@@ -23,11 +23,11 @@ pub loop-number-preserved : goal.loop-number-preserved
 loop-number-preserved g c =
     let word = option_map (λ w. w.now) c.args.word in
     let n = c.loop-number.number in
-    let next = fitting_next word n in
+    let next = fitting_next c.args.elements.now word n in
     let this = c.in_ok-is_any.ensures.found in
     let before = c.loop-number.invariant.found in
     record {
-      told = subst (λ (t : List ℕ). Appends (g.W.Write.contents c.args.out.now) (g.W.Write.contents c.write_number.new.out) t) (sym (lines_next word n))
+      told = subst (λ (t : List ℕ). Appends (g.W.Write.contents c.args.out.now) (g.W.Write.contents c.write_number.new.out) t) (sym (lines_next c.args.elements.now word n))
           (Appends-trans _ _ _ _ _ c.loop-number.invariant.told c.in_ok-is_any.ensures.told);
       found = elim c.if-branch.branch [ then-branch w ↦ grind (arith, next, this, before) | else-branch w ↦ grind (arith, next, this, before) ];
     }
@@ -35,7 +35,7 @@ loop-number-preserved g c =
 pub returns-clause-told : goal.returns-clause-told
 returns-clause-told g c =
     let word = option_map (λ w. w.now) c.args.word in
-    subst (λ (rs : List Entry). Appends (g.W.Write.contents c.args.out.now) (g.W.Write.contents c.loop-number.out) (lines_of word (map of_entry rs)))
+    subst (λ (rs : List Entry). Appends (g.W.Write.contents c.args.out.now) (g.W.Write.contents c.loop-number.out) (lines_of c.args.elements.now word (map of_entry rs)))
     (all_below c.loop-number.number (omega arith)) c.loop-number.invariant.told
 
 pub returns-clause-found : goal.returns-clause-found

@@ -10,6 +10,6 @@ use Rattle.element_guide.proofs.listing.write_built_in.Given as goal
 -- the elements with smaller numbers were looked at
 abbrev pub invariant-loop-number : goal.invariant-loop-number
 invariant-loop-number g l = record {
-  told : Appends (g.W.Write.contents l.initial.out) (g.W.Write.contents l.out) (lines_of (option_map (λ w. w.now) l.word) (map of_entry (below l.number elements)));
+  told : Appends (g.W.Write.contents l.initial.out) (g.W.Write.contents l.out) (lines_of l.elements (option_map (λ w. w.now) l.word) (map of_entry (below l.number elements)));
   found : l.is_any ≡ has_fitting (option_map (λ w. w.now) l.word) (map of_entry (below l.number elements));
 }

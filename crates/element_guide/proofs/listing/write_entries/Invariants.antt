@@ -9,6 +9,6 @@ use Rattle.element_guide.proofs.listing.write_entries.Given as goal
 -- the first entries were looked at
 abbrev pub invariant-loop-entry : goal.invariant-loop-entry
 invariant-loop-entry g l = record {
-  told : Appends (g.W.Write.contents l.initial.out) (g.W.Write.contents l.out) (lines_of (option_map (λ w. w.now) l.word) (map (λ k. of_known (shown k)) (take l.entry-index l.entries)));
+  told : Appends (g.W.Write.contents l.initial.out) (g.W.Write.contents l.out) (lines_of l.elements (option_map (λ w. w.now) l.word) (map (λ k. of_known (shown k)) (take l.entry-index l.entries)));
   found : l.is_any ≡ has_fitting (option_map (λ w. w.now) l.word) (map (λ k. of_known (shown k)) (take l.entry-index l.entries));
 }

@@ -11,17 +11,17 @@ use Rattle.element_guide.proofs.listing.write_listed.Goals as goal
 pub returns-then-is_built_in-clause-told : goal.returns-then-is_built_in-clause-told
 returns-then-is_built_in-clause-told g c =
     subst (λ (t : List ℕ). Appends (g.W.Write.contents c.args.out.now) (g.W.Write.contents c.write_entries.new.out) t)
-    (sym (lines_all (option_map (λ w. w.now) c.args.word) c.entries.result.now c.args.elements.now c.entries.ensures))
+    (sym (lines_all c.args.elements.now (option_map (λ w. w.now) c.args.word) c.entries.result.now c.entries.ensures))
     (Appends-trans _ _ _ _ _ c.in_ok-is_built_in.ensures.told c.in_ok-is_of_file.ensures.told)
 
 pub returns-else-is_built_in-clause-told : goal.returns-else-is_built_in-clause-told
 returns-else-is_built_in-clause-told g c =
     subst (λ (t : List ℕ). Appends (g.W.Write.contents c.args.out.now) (g.W.Write.contents c.write_entries.new.out) t)
-    (sym (lines_all (option_map (λ w. w.now) c.args.word) c.entries.result.now c.args.elements.now c.entries.ensures))
+    (sym (lines_all c.args.elements.now (option_map (λ w. w.now) c.args.word) c.entries.result.now c.entries.ensures))
     (Appends-trans _ _ _ _ _ c.in_ok-is_built_in.ensures.told c.in_ok-is_of_file.ensures.told)
 
 pub returns-else-is_built_in-clause-found : goal.returns-else-is_built_in-clause-found
 returns-else-is_built_in-clause-found g c =
-    let all = fitting_all (option_map (λ w. w.now) c.args.word) c.entries.result.now c.args.elements.now c.entries.ensures in
+    let all = fitting_all c.args.elements.now (option_map (λ w. w.now) c.args.word) c.entries.result.now c.entries.ensures in
     let none = sym c.in_ok-is_built_in.ensures.found ∙ c.if-is_built_in.false in
     c.in_ok-is_of_file.ensures.found ∙ sym (all ∙ ap (λ (b : Bool). b || has_fitting (option_map (λ w. w.now) c.args.word) (map (λ k. of_known (shown k)) c.entries.result.now)) none)
