@@ -9,3 +9,4 @@ mod Told
 mod Columns
 mod LinesRead
 mod RowsRead
+mod RowsUnder

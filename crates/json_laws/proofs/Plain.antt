@@ -39,10 +39,10 @@ AllPlain (s ∷ ss) = IsPlain s × AllPlain ss
 abbrev is_octet : ℕ → Type 0
 is_octet b = b < 256
 
-IsPlain-cons : (b : ℕ) (bs : List ℕ) → escape_byte b ≡ b ∷ [] → IsPlain bs → IsPlain (b ∷ bs)
+pub IsPlain-cons : (b : ℕ) (bs : List ℕ) → escape_byte b ≡ b ∷ [] → IsPlain bs → IsPlain (b ∷ bs)
 IsPlain-cons b bs p q = rw (p, q) refl
 
-IsPlain-append : (xs ys : List ℕ) → IsPlain xs → IsPlain ys → IsPlain (xs ++ ys)
+pub IsPlain-append : (xs ys : List ℕ) → IsPlain xs → IsPlain ys → IsPlain (xs ++ ys)
 IsPlain-append xs ys p q = flat_map-append escape_byte xs ys ∙ rw (p, q) refl
 
 not_equal : (a b : ℕ) → b < a → eqb a b ≡ false
@@ -196,7 +196,7 @@ cell_plain (cells.Mac a) all = mac_plain a all
 
 -- ---- names
 
-abbrev has_plain_name : Entry → Bool
+abbrev pub has_plain_name : Entry → Bool
 has_plain_name r = bytes_eq (escape r.name) r.name
 
 names_plain : list_all has_plain_name elements ≡ true
@@ -207,7 +207,7 @@ letter_stays : escape_byte 101 ≡ 101 ∷ []
 unfolding escape_byte
 letter_stays = refl
 
-numbered_plain : (e : ElementId) → IsPlain (numbered_text e)
+pub numbered_plain : (e : ElementId) → IsPlain (numbered_text e)
 numbered_plain e =
     subst IsPlain (sym (numbered_parts e))
     (IsPlain-cons 101 _ letter_stays (IsPlain-append (decimal e.pen) (46 ∷ decimal e.number) (decimal_plain e.pen) (IsPlain-cons 46 _ dot_stays (decimal_plain e.number))))
@@ -216,7 +216,7 @@ found_plain : (e : ElementId) (o : Option Entry) → ((r : Entry) → o ≡ Some
 found_plain e None h = numbered_plain e
 found_plain e (Some r) h = (bytes_eq-Decides (escape r.name) r.name).0 (h r refl)
 
-in_elements : (e : ElementId) (r : Entry) → entry_of e ≡ Some r → has_plain_name r ≡ true
+pub in_elements : (e : ElementId) (r : Entry) → entry_of e ≡ Some r → has_plain_name r ≡ true
 in_elements e r h = by (eqb e.pen 0) h
   where
     by : (b : Bool) → cond b (find (λ x. eqb x.number e.number) elements) None ≡ Some r → has_plain_name r ≡ true
@@ -230,7 +230,7 @@ slash_stays : escape_byte 47 ≡ 47 ∷ []
 unfolding escape_byte
 slash_stays = refl
 
-prefix_plain : (o : Option ℕ) → IsPlain (prefix_text o)
+pub prefix_plain : (o : Option ℕ) → IsPlain (prefix_text o)
 prefix_plain None = refl
 prefix_plain (Some bits) = IsPlain-cons 47 (decimal bits) slash_stays (decimal_plain bits)
 

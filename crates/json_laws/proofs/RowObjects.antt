@@ -56,7 +56,7 @@ columns_are plan row =
     ap (λ (t : List (List ℕ)). json_number (first_of plan row) ∷ json_number (last_of plan row) ∷ t)
     (map-append json_cell row.key (map (λ n. Number n) row.sums ++ Number row.flows ∷ []) ∙ ap (λ (t : List (List ℕ)). map json_cell row.key ++ t) (number_cells row.sums row.flows))
 
-values_are : (plan : PlanValue) (row : RowValue) → HasAddresses row → map compact_text (map value_of_cell (columns plan row)) ≡ row_values plan row
+pub values_are : (plan : PlanValue) (row : RowValue) → HasAddresses row → map compact_text (map value_of_cell (columns plan row)) ≡ row_values plan row
 values_are plan row all = cells_are (columns plan row) (columns_have plan row all) ∙ columns_are plan row
 
 -- ---- names
@@ -97,7 +97,7 @@ joined : (q n v rest given : List ℕ) → q ≡ in_quotes n → given ≡ rest 
     → codes "{" ++ ((member (n, v) ++ rest) ++ codes "}\n") ≡ (codes "{" ++ (q ++ (codes ":" ++ (v ++ given)))) ++ codes "\n"
 joined q n v rest given is_q is_given = rw (is_q, is_given) (line_end (123 ∷ 34 ∷ (n ++ 34 ∷ [])) (58 ∷ []) v rest (125 ∷ []) (10 ∷ []))
 
-line_is : (n : List ℕ) (ns : List (List ℕ)) (v : Json) (vs : List Json) → AllPlain (n ∷ ns)
+pub line_is : (n : List ℕ) (ns : List (List ℕ)) (v : Json) (vs : List Json) → AllPlain (n ∷ ns)
     → object_line (zip (n ∷ ns) (map compact_text (v ∷ vs))) ≡ compact_text (object (members_of (zip (n ∷ ns) (v ∷ vs)))) ++ codes "\n"
 line_is n ns v vs all =
     ap (λ (t : List ℕ). codes "{" ++ (t ++ codes "}\n")) (behind_commas (member (n, compact_text v)) (map member (zip ns (map compact_text vs))))

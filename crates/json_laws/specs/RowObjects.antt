@@ -3,11 +3,13 @@ use Rattle.std.specs.Prelude.{ℕ, ◌<◌, List, [], ◌∷◌, ◌++◌, map, 
 use Rattle.std.specs.List.{zip}
 use Rattle.json.specs.Json.{Json}
 use Rattle.ipfix_elements.specs.Texts.{cell_text}
+use Rattle.element_registry.specs.Registries.{Known}
 use Rattle.ipfix_elements.specs.declared.cell.Cell.{Cell}
 use Rattle.ipfix_elements.specs.declared.cell.Cell.TheVariants.{Number, Ipv4, Ipv6, Mac}
 use Rattle.flow_table.specs.Plans.{PlanValue}
 use Rattle.flow_table.specs.SameTables.{RowValue}
 use Rattle.flow_export.specs.CsvText.{first_of, heading, last_of}
+use Rattle.flow_export.specs.TextsUnder.{heading_under}
 use Rattle.json_laws.specs.Objects.{object_with, value_as}
 
 -- what the columns of a row hold, in the order of the heading
@@ -22,6 +24,10 @@ value_of_cell cell = value_as (Some cell) (cell_text cell)
 -- each name of the heading with the value of its column, in the order of the heading
 abbrev pub object_of_row : PlanValue → RowValue → Json
 object_of_row plan row = object_with (zip (heading plan) (map value_of_cell (columns plan row)))
+
+-- the same under files of elements
+abbrev pub object_of_row_under : List Known → PlanValue → RowValue → Json
+object_of_row_under known plan row = object_with (zip (heading_under known plan) (map value_of_cell (columns plan row)))
 
 -- the octets of an address
 abbrev pub address_of : Cell → List ℕ

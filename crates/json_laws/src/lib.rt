@@ -8,4 +8,7 @@ mod rows;
 
 pub use examples::{one_record_as_json, one_row_as_json};
 pub use lines::{lines_are_apart, lines_are_objects, lines_have_exact_numbers, lines_tell_records};
-pub use rows::{names_are_different, rows_are_apart, rows_are_objects, rows_tell_columns};
+pub use rows::{
+    names_are_different, rows_are_apart, rows_are_objects, rows_tell_columns,
+    rows_under_files_are_objects,
+};
