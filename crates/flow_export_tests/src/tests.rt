@@ -2,4 +2,5 @@ mod failing;
 mod flat;
 mod memory;
 mod messages;
+mod named;
 mod tables;
