@@ -10,8 +10,8 @@ use crate::piece::Piece;
 use crate::stack::push_run;
 use std::alloc::{AllocError, Global};
 
-/// So many rows wait before they are sorted.
-const WAITING: usize = 16_384;
+/// Rows of so many words wait before they are sorted: 4 MB, however wide they are.
+const WAITING: usize = 524_288;
 
 /// Makes a run of the rows that wait.
 pub fn flush<const K: usize, const C: usize>(
@@ -48,7 +48,7 @@ fn make_room<const K: usize, const C: usize>(
     ensures counted { Counted buffer.new.items }
     ensures runs { AreRuns runs.new.items }
 {
-    if buffer.len() < WAITING {
+    if buffer.len() < WAITING / K.saturating_add(C).max(1) {
         return Ok(());
     }
     flush(alloc, buffer, runs)
