@@ -3,3 +3,4 @@ mod GoingOver
 mod RoundLemmas
 mod OwnDatagrams
 mod HeardLast
+mod AllOwn

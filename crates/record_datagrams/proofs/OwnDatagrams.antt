@@ -33,18 +33,22 @@ use Rattle.record_datagrams.specs.declared.reception.Reception.{Reception}
 
 -- ---- tables in which no peer stands twice
 
-abbrev AreApart : Came → Type 0
+abbrev pub AreApart : Came → Type 0
 AreApart [] = Unit {0}
 AreApart (c ∷ cs) = (of_peer c.0 cs ≡ None) × AreApart cs
 
 -- none is this peer's
-abbrev AreOthers : SocketAddr → Came → Type 0
+abbrev pub AreOthers : SocketAddr → Came → Type 0
 AreOthers peer [] = Unit {0}
 AreOthers peer (c ∷ cs) = (same_peer peer c.0 ≡ false) × AreOthers peer cs
 
 -- a peer that isn't in one isn't in the other
-abbrev AreAmong : Came → Came → Type 0
+abbrev pub AreAmong : Came → Came → Type 0
 AreAmong ds cs = (peer : SocketAddr) → of_peer peer cs ≡ None → of_peer peer ds ≡ None
+
+-- a peer that is in one has the same in the other
+abbrev pub HaveSame : Came → Came → Type 0
+HaveSame ds cs = (peer : SocketAddr) (ms : List (List ℕ)) → of_peer peer ds ≡ Some ms → of_peer peer cs ≡ Some ms
 
 among_first : (c : SocketAddr × List (List ℕ)) (ds cs : Came) → AreAmong ds cs → AreAmong (c ∷ ds) (c ∷ cs)
 among_first c ds cs k peer h = (elim (same_peer peer c.0) as (λ b. cond b (Some c.1) (of_peer peer cs) ≡ None → cond b (Some c.1) (of_peer peer ds) ≡ None) [
@@ -65,34 +69,47 @@ not_found peer (c ∷ cs) h = (elim (same_peer peer c.0) as (λ b. same_peer pee
   | false ↦ λ e g. (e, not_found peer cs g)
 ]) refl h
 
-found_none : (peer : SocketAddr) (cs : Came) → AreOthers peer cs → of_peer peer cs ≡ None
+pub found_none : (peer : SocketAddr) (cs : Came) → AreOthers peer cs → of_peer peer cs ≡ None
 found_none peer [] h = refl
 found_none peer (c ∷ cs) h = rw h.0 (found_none peer cs h.1)
 
-others_of : (peer other : SocketAddr) (cs : Came) → same_peer peer other ≡ true → AreOthers other cs → AreOthers peer cs
+pub others_of : (peer other : SocketAddr) (cs : Came) → same_peer peer other ≡ true → AreOthers other cs → AreOthers peer cs
 others_of peer other [] e h = tt
 others_of peer other (c ∷ cs) e h = (laws-law.congr peer other c.0 e ∙ h.0, others_of peer other cs e h.1)
 
 -- ---- a table without some
 
+same_first : (c : SocketAddr × List (List ℕ)) (ds cs : Came) → HaveSame ds cs → HaveSame (c ∷ ds) (c ∷ cs)
+same_first c ds cs k peer ms h = (elim (same_peer peer c.0) as (λ b. cond b (Some c.1) (of_peer peer ds) ≡ Some ms → cond b (Some c.1) (of_peer peer cs) ≡ Some ms) [
+  | true ↦ λ g. g
+  | false ↦ λ g. k peer ms g
+]) h
+
+same_rest : (c : SocketAddr × List (List ℕ)) (ds cs : Came) → of_peer c.0 cs ≡ None → HaveSame ds cs → HaveSame ds (c ∷ cs)
+same_rest c ds cs apart k peer ms h = (elim (same_peer peer c.0) as (λ b. same_peer peer c.0 ≡ b → cond b (Some c.1) (of_peer peer cs) ≡ Some ms) [
+  | true ↦ λ e. let none = found_none peer cs (others_of peer c.0 cs e (not_found c.0 cs apart)) in let some = k peer ms h in absurd cc
+  | false ↦ λ e. k peer ms h
+]) refl
+
 -- the last ones of their own, of peers among others
-record Less (own : SocketAddr → List (List ℕ)) (ds cs : Came) : Type 0 where
-  apart : AreApart ds
-  last : HaveLast own ds
-  among : AreAmong ds cs
+pub record Less (own : SocketAddr → List (List ℕ)) (ds cs : Came) : Type 0 where
+  pub apart : AreApart ds
+  pub last : HaveLast own ds
+  pub among : AreAmong ds cs
+  pub same : HaveSame ds cs
 
 module _ (own : SocketAddr → List (List ℕ)) where
   less_first : (c : SocketAddr × List (List ℕ)) (ds cs : Came) → AreApart (c ∷ cs) → HaveLast own (c ∷ cs) → Less own ds cs → Less own (c ∷ ds) (c ∷ cs)
-  less_first c ds cs a h l = record { apart = (l.among c.0 a.0, l.apart); last = (h.0, l.last); among = among_first c ds cs l.among }
+  less_first c ds cs a h l = record { apart = (l.among c.0 a.0, l.apart); last = (h.0, l.last); among = among_first c ds cs l.among; same = same_first c ds cs l.same }
 
-  less_rest : (c : SocketAddr × List (List ℕ)) (ds cs : Came) → Less own ds cs → Less own ds (c ∷ cs)
-  less_rest c ds cs l = record { apart = l.apart; last = l.last; among = among_rest c ds cs l.among }
+  less_rest : (c : SocketAddr × List (List ℕ)) (ds cs : Came) → AreApart (c ∷ cs) → Less own ds cs → Less own ds (c ∷ cs)
+  less_rest c ds cs a l = record { apart = l.apart; last = l.last; among = among_rest c ds cs l.among; same = same_rest c ds cs a.0 l.same }
 
   less_none : (cs : Came) → Less own [] cs
-  less_none cs = record { apart = tt; last = tt; among = λ peer h. refl }
+  less_none cs = record { apart = tt; last = tt; among = λ peer h. refl; same = λ peer ms h. absurd cc }
 
   less_same : (cs : Came) → AreApart cs → HaveLast own cs → Less own cs cs
-  less_same cs a h = record { apart = a; last = h; among = λ peer e. e }
+  less_same cs a h = record { apart = a; last = h; among = λ peer e. e; same = λ peer ms e. e }
 
   less_take : (n : ℕ) (cs : Came) → AreApart cs → HaveLast own cs → Less own (take n cs) cs
   less_take zero cs a h = less_none cs
@@ -102,7 +119,7 @@ module _ (own : SocketAddr → List (List ℕ)) where
   less_removed : (peer : SocketAddr) (cs : Came) → AreApart cs → HaveLast own cs → Less own (remove_entry (same_peer peer) cs) cs
   less_removed peer [] a h = less_none []
   less_removed peer (c ∷ cs) a h = elim (same_peer peer c.0) as (λ b. Less own (cond b cs (c ∷ remove_entry (same_peer peer) cs)) (c ∷ cs)) [
-    | true ↦ less_rest c cs cs (less_same cs a.1 h.1)
+    | true ↦ less_rest c cs cs a (less_same cs a.1 h.1)
     | false ↦ less_first c (remove_entry (same_peer peer) cs) cs a h (less_removed peer cs a.1 h.1)
   ]
 
@@ -124,7 +141,7 @@ others_taken peer zero cs h = tt
 others_taken peer (suc n) [] h = tt
 others_taken peer (suc n) (c ∷ cs) h = (h.0, others_taken peer n cs h.1)
 
-others_are : (most : ℕ) (peer : SocketAddr) (cs : Came) → AreApart cs → AreOthers peer (others_for most peer cs)
+pub others_are : (most : ℕ) (peer : SocketAddr) (cs : Came) → AreApart cs → AreOthers peer (others_for most peer cs)
 others_are most peer cs a = (elim (of_peer peer cs) as (λ o. of_peer peer cs ≡ o → AreOthers peer (cond (is_some o) (remove_entry (same_peer peer) cs) (take (most - 1) cs))) [
   | Some ms ↦ λ e. others_removed peer cs a
   | None ↦ λ e. others_taken peer (most - 1) cs (not_found peer cs e)
@@ -133,7 +150,7 @@ others_are most peer cs a = (elim (of_peer peer cs) as (λ o. of_peer peer cs �
 -- ---- one more datagram
 
 -- a peer's own, with one that came of a peer
-abbrev own_with : (SocketAddr → List (List ℕ)) → SocketAddr → List ℕ → SocketAddr → List (List ℕ)
+abbrev pub own_with : (SocketAddr → List (List ℕ)) → SocketAddr → List ℕ → SocketAddr → List (List ℕ)
 own_with own from m peer = own peer ++ cond (same_peer peer from) (m ∷ []) []
 
 module _ (own : SocketAddr → List (List ℕ)) (from : SocketAddr) (m : List ℕ) where
@@ -167,7 +184,7 @@ record Stands {F : Type 0} (seen : F → FilesView) (own : SocketAddr → List (
   apart : AreApart cs
   last : HaveLast own cs
 
-last_same : (own all : SocketAddr → List (List ℕ)) (cs : Came) → ((peer : SocketAddr) → own peer ≡ all peer) → HaveLast own cs → HaveLast all cs
+pub last_same : (own all : SocketAddr → List (List ℕ)) (cs : Came) → ((peer : SocketAddr) → own peer ≡ all peer) → HaveLast own cs → HaveLast all cs
 last_same own all [] e h = tt
 last_same own all (c ∷ cs) e h = (record { before = h.0.before; are = sym (e c.0) ∙ h.0.are }, last_same own all cs e h.1)
 
@@ -196,36 +213,34 @@ module _ {F : Type 0} (seen : F → FilesView) where
     none_of (Some k) q b e = absurd cc
 
     -- behind a datagram of a peer
+    pub next_stands : (most now : ℕ) (es after : List (SocketAddr × KeptPeer F)) (from : SocketAddr) (m : List ℕ) (became : Became F) (leaving : Option (SocketAddr × KeptPeer F)) (cs : Came) → StandFor seen es cs → AreApart cs → HaveLast own cs
+        → Records seen became leaving most es after from m now → AreApart (came_by became most from m cs) × HaveLast (own_with own from m) (came_by became most from m cs)
+    next_stands most now es after from m Recorded leaving cs p a h r = first_stands most from m cs a h
+    next_stands most now es after from m (Refused fault) leaving cs p a h r = first_stands most from m cs a h
+    next_stands most now es after from m (Ended k) leaving cs p a h r = rest_stands most from m cs a h
+    next_stands most now es after from m NoMemory leaving cs p a h r =
+        let none = none_of (of_peer from es) (of_peer from cs) (paired_lookup (IsSession seen) (same_peer from) es cs p) r.0.begins in
+        (a, last_of_others own from m cs (not_found from cs none) h)
+
     behind_datagram : (most now : ℕ) (es after : List (SocketAddr × KeptPeer F)) (from : SocketAddr) (m : List ℕ) (became : Became F) (leaving : Option (SocketAddr × KeptPeer F))
         → Stands seen own es → Records seen became leaving most es after from m now → Stands seen (own_with own from m) after
-    behind_datagram most now es after from m Recorded leaving s r =
-        let stand = stand_by seen most Recorded leaving after s.cs from m (stand_behind seen most now es after s.cs from m Recorded leaving s.stand r) in
-        let first = first_stands most from m s.cs s.apart s.last in
-        record { cs = came_by {F = F} Recorded most from m s.cs; stand = stand; apart = first.0; last = first.1 }
-    behind_datagram most now es after from m (Refused fault) leaving s r =
-        let stand = stand_by seen most (Refused fault) leaving after s.cs from m (stand_behind seen most now es after s.cs from m (Refused fault) leaving s.stand r) in
-        let first = first_stands most from m s.cs s.apart s.last in
-        record { cs = came_by {F = F} Recorded most from m s.cs; stand = stand; apart = first.0; last = first.1 }
-    behind_datagram most now es after from m (Ended k) leaving s r =
-        let stand = stand_by seen most (Ended k) leaving after s.cs from m (stand_behind seen most now es after s.cs from m (Ended k) leaving s.stand r) in
-        let rest = rest_stands most from m s.cs s.apart s.last in
-        record { cs = others_for most from s.cs; stand = stand; apart = rest.0; last = rest.1 }
-    behind_datagram most now es after from m NoMemory leaving s r =
-        let none = none_of (of_peer from es) (of_peer from s.cs) (paired_lookup (IsSession seen) (same_peer from) es s.cs s.stand) r.0.begins in
-        record { cs = s.cs; stand = subst (λ (l : List (SocketAddr × KeptPeer F)). StandFor seen l s.cs) (sym r.0.same) s.stand; apart = s.apart; last = last_of_others own from m s.cs (not_found from s.cs none) s.last }
+    behind_datagram most now es after from m became leaving s r =
+        let stand = stand_by seen most became leaving after s.cs from m (stand_behind seen most now es after s.cs from m became leaving s.stand r) in
+        let next = next_stands most now es after from m became leaving s.cs s.stand s.apart s.last r in
+        record { cs = came_by became most from m s.cs; stand = stand; apart = next.0; last = next.1 }
 
     -- behind the turns of all peers
-    abbrev BehindTurns : Came → List (SocketAddr × KeptPeer F) → Type 0
+    abbrev pub BehindTurns : Came → List (SocketAddr × KeptPeer F) → Type 0
     BehindTurns cs after = (ds : Came) × StandFor seen after ds × Less own ds cs
 
     turned_by : (answer : Result (Unit {0}) RecordFault) (peer : SocketAddr) (new : KeptPeer F) (others after : List (SocketAddr × KeptPeer F)) (c : SocketAddr × List (List ℕ)) (cs : Came) → AreApart (c ∷ cs) → HaveLast own (c ∷ cs)
         → peer ≡ c.0 → TurnsTo seen answer new c.1 → after ≡ first_by answer peer new others → BehindTurns cs others → BehindTurns (c ∷ cs) after
     turned_by (Ok x) peer new others after c cs a h same t e b =
         (c ∷ b.0, subst (λ (l : List (SocketAddr × KeptPeer F)). StandFor seen l (c ∷ b.0)) (sym e) ((same, t), b.1), less_first own c b.0 cs a h b.2)
-    turned_by (Err fault) peer new others after c cs a h same t e b = (b.0, subst (λ (l : List (SocketAddr × KeptPeer F)). StandFor seen l b.0) (sym e) b.1, less_rest own c b.0 cs b.2)
+    turned_by (Err fault) peer new others after c cs a h same t e b = (b.0, subst (λ (l : List (SocketAddr × KeptPeer F)). StandFor seen l b.0) (sym e) b.1, less_rest own c b.0 cs a b.2)
 
     module _ (finishes : F → FileReport → Result (Unit {0}) NotWritten → Type 0) where
-      behind_turns : (is_over : Bool) (es after : List (SocketAddr × KeptPeer F)) (cs : Came) (lines : List ℕ) → StandFor seen es cs → AreApart cs → HaveLast own cs → HadTurns seen finishes is_over es after lines → BehindTurns cs after
+      pub behind_turns : (is_over : Bool) (es after : List (SocketAddr × KeptPeer F)) (cs : Came) (lines : List ℕ) → StandFor seen es cs → AreApart cs → HaveLast own cs → HadTurns seen finishes is_over es after lines → BehindTurns cs after
       behind_turns is_over [] after [] lines p a h t = ([], subst (λ (l : List (SocketAddr × KeptPeer F)). StandFor seen l []) (sym t.0) tt, less_none own [])
       behind_turns is_over [] after (c ∷ cs) lines p a h t = absurd p
       behind_turns is_over (e ∷ es) after [] lines p a h t = absurd p
@@ -238,7 +253,7 @@ module _ {F : Type 0} (seen : F → FilesView) where
       turns_stand is_over es after lines s t = let b = behind_turns is_over es after s.cs lines s.stand s.apart s.last t in record { cs = b.0; stand = b.1; apart = b.2.apart; last = b.2.last }
 
     -- those in front
-    front_of : (after gone : List (SocketAddr × KeptPeer F)) (cs : Came) → StandFor seen (after ++ gone) cs → AreApart cs → HaveLast own cs → BehindTurns cs after
+    pub front_of : (after gone : List (SocketAddr × KeptPeer F)) (cs : Came) → StandFor seen (after ++ gone) cs → AreApart cs → HaveLast own cs → BehindTurns cs after
     front_of [] gone cs p a h = ([], tt, less_none own cs)
     front_of (e ∷ after) gone [] p a h = absurd p
     front_of (e ∷ after) gone (c ∷ cs) p a h = let on = front_of after gone cs p.1 a.1 h.1 in (c ∷ on.0, (p.0, on.1), less_first own c on.0 cs a h on.2)
@@ -249,7 +264,7 @@ module _ {F : Type 0} (seen : F → FilesView) where
 -- ---- rounds
 
 -- a peer's own, with those of rounds
-abbrev own_behind : (SocketAddr → List (List ℕ)) → Result Arrival NoDatagram → SocketAddr → List (List ℕ)
+abbrev pub own_behind : (SocketAddr → List (List ℕ)) → Result Arrival NoDatagram → SocketAddr → List (List ℕ)
 own_behind own given peer = own peer ++ own_in peer given
 
 module _ {F : Type 0} (seen : F → FilesView) (finishes : F → FileReport → Result (Unit {0}) NotWritten → Type 0) where

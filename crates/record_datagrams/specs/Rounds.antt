@@ -1,6 +1,5 @@
 -- Rounds of taking datagrams: what each had, and what it did.
-use Rattle.std.specs.Prelude.{◌≡◌, ◌≤◌, ◌<◌, ◌-◌, ◌⊎◌, ℕ, Bool, true, false, List, [], ◌∷◌, ◌++◌, length, take, flat_map, Option, Result, Ok, Err, OnOk}
-use Rattle.std.specs.Option.{option_map}
+use Rattle.std.specs.Prelude.{◌≡◌, ◌≤◌, ◌<◌, ◌-◌, ◌⊎◌, ℕ, Bool, true, false, List, [], ◌∷◌, ◌++◌, length, map, flat_map, Option, Result, Ok, Err, OnOk}
 use Rattle.std.specs.Io.KnownBytes.{Appends}
 use Rattle.std.specs.declared.net.socket_addr.SocketAddr.{SocketAddr}
 use Rattle.ipfix_session.specs.Sources.{one_more}
@@ -8,7 +7,7 @@ use Rattle.ipfix_record.specs.Files.{FilesView}
 use Rattle.ipfix_record.specs.Periods.{ClockView, IsAnswer}
 use Rattle.ipfix_record.specs.declared.file_report.FileReport.{FileReport}
 use Rattle.ipfix_record.specs.declared.file_series.NotWritten.{NotWritten}
-use Rattle.udp_peers.specs.declared.datagram_source.Datagram.{Datagram}
+use Rattle.udp_peers.specs.Answers.{Answer, Gives}
 use Rattle.udp_peers.specs.declared.datagram_source.NoDatagram.{NoDatagram}
 use Rattle.udp_peers.specs.declared.datagram_source.NoDatagram.TheVariants.{Tick, Failed}
 use Rattle.udp_peers.specs.declared.kept_peer.KeptPeer.{KeptPeer}
@@ -28,25 +27,14 @@ pub record Round : Type 0 where
   -- what was told
   pub lines : List ℕ
 
--- ---- what the source gave
+-- ---- what the source answered
 
-abbrev pub datagram_in : Result Arrival NoDatagram → List (SocketAddr × List ℕ)
-datagram_in (Ok a) = (a.peer, a.octets) ∷ []
-datagram_in (Err e) = []
+abbrev pub answer_in : Result Arrival NoDatagram → Answer
+answer_in (Ok a) = Ok (a.peer, a.octets)
+answer_in (Err why) = Err why
 
-abbrev pub datagrams_of : List Round → List (SocketAddr × List ℕ)
-datagrams_of rs = flat_map (λ r. datagram_in r.given) rs
-
--- a datagram, the first octets of a buffer, came from its peer; or none did
-abbrev pub IsGiven : Result Datagram NoDatagram → List ℕ → Result Arrival NoDatagram → Type 0
-IsGiven (Ok d) buffer (Ok a) = (a.peer ≡ d.peer) × (a.octets ≡ take d.length buffer)
-IsGiven (Ok d) buffer (Err e) = ⊥
-IsGiven (Err e) buffer (Ok a) = ⊥
-IsGiven (Err e) buffer (Err f) = f ≡ e
-
--- these more
-abbrev pub with_all : List (SocketAddr × List ℕ) → Option (List (SocketAddr × List ℕ)) → Option (List (SocketAddr × List ℕ))
-with_all ds given = option_map (λ before. before ++ ds) given
+abbrev pub answers_of : List Round → List Answer
+answers_of rs = map (λ r. answer_in r.given) rs
 
 abbrev pub lines_of : List Round → List ℕ
 lines_of rs = flat_map (λ r. r.lines) rs
@@ -116,20 +104,20 @@ module _ {F P E : Type 0} (seen : F → FilesView) (finishes : F → FileReport 
   AreRounds [] old new = new ≡ old
   AreRounds (r ∷ rs) old new = (between : Reception F P E) × IsRound r old between × AreRounds rs between new
 
-  -- one of them, of what the source gave then
-  pub record TakesRound {A : Type 0} (contents : E → Option (List ℕ)) (before after : Option (List (SocketAddr × List ℕ)))
+  -- one of them: the source was asked once, and its answer is that of the round
+  pub record TakesRound {D A : Type 0} (answered : D → List Answer → Type 0) (contents : E → Option (List ℕ)) (before after : D)
       (old new : Reception F P E) (answer : Result (Unit {0}) A) : Type 0 where
     pub round : Round
     pub is : IsRound round old new
-    pub given : after ≡ with_all (datagram_in round.given) before
+    pub given : Gives answered (answer_in round.given ∷ []) before after
     pub told : OnOk answer (Appends (contents old.log) (contents new.log) round.lines)
 
-  -- so many rounds: what the source gave is what was taken in them, each datagram once and in its order; and all their lines are
-  -- told, unless the log failed
-  pub record TakesRounds {A : Type 0} (contents : E → Option (List ℕ)) (count : ℕ) (before after : Option (List (SocketAddr × List ℕ)))
+  -- so many rounds: the source was asked once in each, and what it answered is what was taken in them, each datagram once and in
+  -- its order; and all their lines are told, unless the log failed
+  pub record TakesRounds {D A : Type 0} (answered : D → List Answer → Type 0) (contents : E → Option (List ℕ)) (count : ℕ) (before after : D)
       (old new : Reception F P E) (answer : Result (Unit {0}) A) : Type 0 where
     pub rounds : List Round
     pub as_many : length rounds ≡ count
     pub are : AreRounds rounds old new
-    pub given : after ≡ with_all (datagrams_of rounds) before
+    pub given : Gives answered (answers_of rounds) before after
     pub told : OnOk answer (Appends (contents old.log) (contents new.log) (lines_of rounds))

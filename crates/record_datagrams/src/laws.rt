@@ -1,9 +1,11 @@
 //! Laws of the rounds. Each is a function that does nothing, and its contract is the theorem.
 
 ghost use Rattle.std.specs.Prelude.{◌≡◌, ◌<◌, ◌-◌, List, []};
+ghost use Rattle.std.specs.declared.net.socket_addr.SocketAddr.{SocketAddr};
 ghost use Rattle.udp_peers.specs.Sessions.{Came, StandFor};
+ghost use Rattle.udp_peers.specs.Table.{of_peer};
 ghost use Rattle.record_datagrams.specs.Rounds.{Round, AreRounds, IsRound};
-ghost use Rattle.record_datagrams.specs.Standing.{AreHeard, HaveLast, own_of};
+ghost use Rattle.record_datagrams.specs.Standing.{AreHeard, StaysThrough, HaveLast, StandsForAll, own_of};
 ghost use Rattle.record_datagrams.specs.declared.reception.Reception.{Reception};
 
 use collectd_record::RecordingFiles;
@@ -18,6 +20,15 @@ pub fn sessions_stand_behind_rounds<F: RecordingFiles, P: PeriodClock, E: Write 
         → AreRounds F.seen F.finishes P.asked rs old new
         → (cs : Came) × StandFor F.seen new.peers.kept.entries cs
         × HaveLast (λ peer. own_of peer rs) cs }
+{}
+
+/// Where no peer was kept at first: a session of a peer that didn't end in any of these rounds stands for all
+/// datagrams of that peer in them, in their order, whatever came from others. If it isn't kept, none came.
+pub fn session_that_stays_stands_for_all<F: RecordingFiles, P: PeriodClock, E: Write + Drop>()
+    ensures { (rs : List Round) (old new : Reception F P E) (peer : SocketAddr)
+        (are : AreRounds F.seen F.finishes P.asked rs old new) → old.peers.kept.entries ≡ []
+        → StaysThrough F.seen F.finishes P.asked peer rs old new are
+        → StandsForAll F.seen (of_peer peer new.peers.kept.entries) (own_of peer rs) }
 {}
 
 /// Where no peer was kept at first: behind a round in a new second nobody is kept that has been silent for

@@ -34,11 +34,12 @@ impl<'a, F: RecordingFiles + Drop, P: PeerPlace<F> + PeriodClock, E: Write + Dro
     P,
     E,
 > {
-    ghost use Rattle.std.specs.Prelude.{◌≤◌, Bool, Result, IfOk, length};
+    ghost use Rattle.std.specs.Prelude.{◌≡◌, ◌≤◌, Bool, Result, IfOk, length};
+    ghost use Rattle.udp_peers.specs.Answers.{answer_of};
     ghost use Rattle.udp_peers.specs.declared.datagram_source.Datagram.{Datagram};
     ghost use Rattle.udp_peers.specs.declared.datagram_source.NoDatagram.{NoDatagram};
     ghost use Rattle.record_datagrams.specs.Ending.{AreTold};
-    ghost use Rattle.record_datagrams.specs.Rounds.{GoesOnTo, KeepsToPeriods, TakesArrival, TakesGiven, TellsAndEnds, IsGiven};
+    ghost use Rattle.record_datagrams.specs.Rounds.{GoesOnTo, KeepsToPeriods, TakesArrival, TakesGiven, TellsAndEnds, answer_in};
     ghost use Rattle.record_datagrams.specs.Taking.{Arrival};
 
     /// Finishes the files of all peers, if the period of the place is over.
@@ -63,7 +64,8 @@ impl<'a, F: RecordingFiles + Drop, P: PeerPlace<F> + PeriodClock, E: Write + Dro
         now: u64,
     ) -> io::Result<()>
         requires { IfOk received (λ d. d.length ≤ length buffer.now) }
-        ensures { (given : Result Arrival NoDatagram) × IsGiven received buffer.now given
+        ensures { (given : Result Arrival NoDatagram)
+            × (answer_in given ≡ answer_of received buffer.now)
             × AreTold E.contents (TakesGiven F.seen F.finishes P.asked given now self.old self.new)
             self.old.log self.new.log result }
     {

@@ -1,6 +1,7 @@
 //! Taking datagrams, round after round.
 
-ghost use Rattle.std.specs.Prelude.{◌≡◌};
+ghost use Rattle.std.specs.Prelude.{◌≡◌, ◌≤◌, [], ◌∷◌, length, IfOk};
+ghost use Rattle.udp_peers.specs.Answers.{Gives, answer_of};
 ghost use Rattle.record_datagrams.specs.Rounds.{TakesRound, TakesRounds};
 
 use crate::reception::Reception;
@@ -11,7 +12,7 @@ use std::rt::Clock;
 use std::sync::Wait;
 use std::thread;
 use std::time::{Duration, Instant};
-use udp_peers::{DatagramSource, NoDatagram, PeerPlace};
+use udp_peers::{Datagram, DatagramSource, NoDatagram, PeerPlace};
 
 /// How many milliseconds it waits if no datagram can be received.
 const PAUSE: u64 = 100;
@@ -33,8 +34,8 @@ pub fn record_datagrams<
     reception: &mut Reception<F, P, E>,
     rounds: u64,
 ) -> io::Result<()>
-    ensures { TakesRounds F.seen F.finishes P.asked E.contents rounds
-        (D.given source.old) (D.given source.new) reception.old reception.new result }
+    ensures { TakesRounds F.seen F.finishes P.asked D.answered E.contents rounds
+        source.old source.new reception.old reception.new result }
 {
     let mut told: io::Result<()> = Ok(());
     for _ in 0..rounds {
@@ -43,7 +44,23 @@ pub fn record_datagrams<
     told
 }
 
-// One round. It pauses if no datagram can be received.
+// Asks a source once, and pauses if no datagram can be received.
+fn ask<D: DatagramSource, R: Clock + Wait>(
+    rt: &R,
+    source: &mut D,
+    buffer: &mut [u8],
+) -> Result<Datagram, NoDatagram>
+    ensures fits { IfOk result (λ d. d.length ≤ length buffer.new) }
+    ensures gives { Gives D.answered (answer_of result buffer.new ∷ []) source.old source.new }
+{
+    let received = source.receive(buffer);
+    if received == Err(NoDatagram::Failed) {
+        thread::sleep(rt, Duration::from_millis(PAUSE));
+    }
+    received
+}
+
+// One round.
 fn take_round<
     D: DatagramSource,
     F: RecordingFiles + Drop,
@@ -57,13 +74,10 @@ fn take_round<
     buffer: &mut [u8],
     reception: &mut Reception<F, P, E>,
 ) -> io::Result<()>
-    ensures { TakesRound F.seen F.finishes P.asked E.contents
-        (D.given source.old) (D.given source.new) reception.old reception.new result }
+    ensures { TakesRound F.seen F.finishes P.asked D.answered E.contents
+        source.old source.new reception.old reception.new result }
 {
-    let received = source.receive(buffer);
-    if received == Err(NoDatagram::Failed) {
-        thread::sleep(rt, Duration::from_millis(PAUSE));
-    }
+    let received = ask(rt, source, buffer);
     let now = seconds_since(rt, start).max(reception.second);
     let kept = reception.keep_to_periods();
     let taken = reception.take(received, buffer, now);

@@ -1,6 +1,6 @@
 //! The system's socket as a source of datagrams.
 
-ghost use Rattle.std.specs.Prelude.{◌≡◌, ◌⊎◌, ◌↔◌, None};
+ghost use Rattle.std.specs.Prelude.{◌≡◌, ◌⊎◌, ◌↔◌, ⊤};
 ghost use Rattle.std.specs.IoError.{error_kind};
 
 use std::io::{self, ErrorKind};
@@ -11,7 +11,7 @@ use udp_peers::{Datagram, DatagramSource, NoDatagram};
 /// How many seconds a call waits before it is a tick.
 const TICK: u64 = 1;
 
-/// A socket of the system. A call that waits for a second is a tick. What it gives isn't seen by contracts.
+/// A socket of the system. A call that waits for a second is a tick. What it answers isn't seen by contracts.
 #[derive(Drop)]
 pub struct SystemSocket {
     socket: UdpSocket,
@@ -27,7 +27,7 @@ impl SystemSocket {
 }
 
 impl DatagramSource for SystemSocket {
-    ghost given = { λ _. None };
+    ghost answered = { λ _ _. ⊤ };
 
     fn receive(&mut self, buffer: &mut [u8]) -> Result<Datagram, NoDatagram> {
         match self.socket.recv_from(buffer) {

@@ -10,26 +10,27 @@ use std::hash::RandomState;
 use std::net::{IpAddr, Ipv4Addr, SocketAddr};
 use std::num::NonZeroUsize;
 use std::test::*;
-use udp_peers::{Peers, ScriptDatagrams, ScriptedDatagram};
+use udp_peers::{NoDatagram, Peers, ScriptDatagrams, ScriptedDatagram};
 use worked_examples::{FailingWriter, message_of_flows};
 
 fn peer(number: u8) -> SocketAddr {
     SocketAddr::new(IpAddr::V4(Ipv4Addr::new(192, 0, 2, number)), 4739)
 }
 
-// A datagram of each of these peers.
+// A failure, and then a datagram of each of these peers.
 fn source_of(alloc: Global, numbers: &[u8]) -> Result<ScriptDatagrams, AllocError> {
     let mut script = Vec::new(alloc);
+    script.push(Err(NoDatagram::Failed))?;
     for number in numbers {
-        script.push(ScriptedDatagram {
+        script.push(Ok(ScriptedDatagram {
             peer: peer(*number),
             octets: message_of_flows(alloc, 0, 1, &[FLOW])?,
-        })?;
+        }))?;
     }
     Ok(ScriptDatagrams::new(script))
 }
 
-// Two peers, one of which sends twice, and a tick: each datagram takes the room of its octets once.
+// A failure, two peers, one of which sends twice, and a tick: each datagram takes the room of its octets once.
 #[test]
 fn each_datagram_is_taken_once(rt: HostRuntime) -> Result<(), Fail> {
     let alloc: Global = rt.alloc();
@@ -50,7 +51,7 @@ fn each_datagram_is_taken_once(rt: HostRuntime) -> Result<(), Fail> {
         log: Log::new(&mut out),
     };
     let mut buffer = [0; 200];
-    record_datagrams(&rt, None, &mut source, &mut buffer, &mut reception, 4)?;
+    record_datagrams(&rt, None, &mut source, &mut buffer, &mut reception, 5)?;
     let length = message_of_flows(alloc, 0, 1, &[FLOW])?.len();
     let left = |number: u8| match reception.peers.kept.peek(&peer(number)) {
         Some(kept) => kept.files.room,
@@ -58,5 +59,6 @@ fn each_datagram_is_taken_once(rt: HostRuntime) -> Result<(), Fail> {
     };
     let one = 1000_usize.saturating_sub(length);
     assert_eq!(rt; (left(1), left(2)), (one.saturating_sub(length), one));
+    assert_eq!(rt; reception.unserved.not_accepted, 1);
     Ok(())
 }

@@ -66,10 +66,10 @@ module _ {X : Type 0} (most : ℕ) (peer other : SocketAddr) where
       let key = key_of peer other (lookup_key (same_peer other) es) (key_passes (same_peer other) es) in
       rw (laws-law.congr peer other (unwrap_or (lookup_key (same_peer other) es) other) e ∙ key)
 
-  same_of : (es : List (SocketAddr × X)) → same_peer peer other ≡ true → of_peer other es ≡ of_peer peer es
+  pub same_of : (es : List (SocketAddr × X)) → same_peer peer other ≡ true → of_peer other es ≡ of_peer peer es
   same_of es e = λ i. lookup (λ k. sym (laws-law.congr peer other k e) i) es
 
-same_option : {X : Type 0} (o q : Option X) → ((v : X) → o ≡ Some v → q ≡ Some v) → (IsSome q → IsSome o) → o ≡ q
+pub same_option : {X : Type 0} (o q : Option X) → ((v : X) → o ≡ Some v → q ≡ Some v) → (IsSome q → IsSome o) → o ≡ q
 same_option None None h k = refl
 same_option None (Some w) h k = let no_value = k refl in absurd cc
 same_option (Some v) q h k = sym (h v refl)
@@ -101,7 +101,7 @@ module _ {F : Type 0} (peer : SocketAddr) (most : ℕ) where
   its (Ended k) q m cs e s = absurd s
   its NoMemory q m cs e s = absurd s
 
-  one : (r : Reception F) (cs : Came) → (same_peer peer r.peer ≡ true → IsSettled r.became) → (IsSome (of_peer peer cs) → IsSome (of_peer peer (came_by r.became most r.peer r.octets cs)))
+  pub one : (r : Reception F) (cs : Came) → (same_peer peer r.peer ≡ true → IsSettled r.became) → (IsSome (of_peer peer cs) → IsSome (of_peer peer (came_by r.became most r.peer r.octets cs)))
       → came_of peer (came_by r.became most r.peer r.octets cs) ≡ came_of peer cs ++ cond (same_peer peer r.peer) (r.octets ∷ []) []
   one r cs s k = (elim (same_peer peer r.peer) as (λ b. same_peer peer r.peer ≡ b → came_of peer (came_by r.became most r.peer r.octets cs) ≡ came_of peer cs ++ cond b (r.octets ∷ []) []) [
     | true ↦ λ e. ap (λ o. unwrap_or o []) (its r.became r.peer r.octets cs e (s e))

@@ -5,3 +5,4 @@ pub mod Standing
 pub mod Turning
 pub mod Recording
 pub mod Alone
+mod ScriptLemmas

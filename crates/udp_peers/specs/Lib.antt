@@ -1,5 +1,6 @@
 -- What public contracts cite.
-pub mod Given
+pub mod Answers
+pub mod Scripts
 pub mod Kept
 pub mod Table
 pub mod Steps

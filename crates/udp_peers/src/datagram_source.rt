@@ -22,16 +22,15 @@ pub enum NoDatagram {
 
 /// Gives datagrams one after another.
 pub trait DatagramSource {
-    ghost use Rattle.std.specs.Prelude.{◌≤◌, ℕ, List, Option, length, IfOk};
-    ghost use Rattle.std.specs.declared.net.socket_addr.SocketAddr.{SocketAddr};
-    ghost use Rattle.udp_peers.specs.Given.{Gives};
+    ghost use Rattle.std.specs.Prelude.{◌≤◌, List, [], ◌∷◌, length, IfOk};
+    ghost use Rattle.udp_peers.specs.Answers.{Answer, Gives, answer_of};
 
-    /// What contracts see of it: the datagrams that it gave so far, each with its peer, if it tells them.
-    ghost given: { Self → Option (List (SocketAddr × List ℕ)) };
+    /// What contracts see of it: that these are its answers so far, one for each time that it was asked.
+    ghost answered: { Self → List Answer → Type 0 };
 
     /// Receives the next datagram into a buffer. Of one that is longer than the buffer it gives the first
     /// octets.
     fn receive(&mut self, buffer: &mut [u8]) -> Result<Datagram, NoDatagram>
         ensures fits { IfOk result (λ d. d.length ≤ length buffer.new) }
-        ensures gives { Gives result buffer.new (given self.old) (given self.new) };
+        ensures gives { Gives answered (answer_of result buffer.new ∷ []) self.old self.new };
 }

@@ -1,6 +1,6 @@
 //! Datagrams in memory, for tests.
 
-ghost use Rattle.std.specs.Prelude.{◌≡◌, ◌≤◌, [], Some, length, map, take};
+ghost use Rattle.std.specs.Prelude.{◌≡◌, ◌≤◌, [], length, take};
 
 use crate::datagram_source::{Datagram, DatagramSource, NoDatagram};
 use std::net::SocketAddr;
@@ -12,20 +12,25 @@ pub struct ScriptedDatagram {
     pub octets: Vec<u8>,
 }
 
-/// A source that gives the datagrams of a script in turn. Behind the last it ticks. At one that is longer
-/// than the buffer it fails.
+/// A source that gives the answers of a script in turn. Behind the last it ticks. At a datagram that is
+/// longer than the buffer it fails, and from then on contracts see none of its answers.
 #[derive(Drop)]
 pub struct ScriptDatagrams {
-    script: Vec<ScriptedDatagram>,
+    script: Vec<Result<ScriptedDatagram, NoDatagram>>,
     next: usize,
+    is_stuck: bool,
 }
 
 impl ScriptDatagrams {
     /// Gives these in turn.
-    pub fn new(script: Vec<ScriptedDatagram>) -> Self
-        ensures { ⟦<ScriptDatagrams as DatagramSource>⟧.given result ≡ Some [] }
+    pub fn new(script: Vec<Result<ScriptedDatagram, NoDatagram>>) -> Self
+        ensures { ⟦<ScriptDatagrams as DatagramSource>⟧.answered result [] }
     {
-        ScriptDatagrams { script, next: 0 }
+        ScriptDatagrams {
+            script,
+            next: 0,
+            is_stuck: false,
+        }
     }
 }
 
@@ -38,13 +43,17 @@ fn copy_front(text: &[u8], buffer: &mut [u8])
 }
 
 impl DatagramSource for ScriptDatagrams {
-    ghost given = { λ s. Some (map (λ d. (d.peer, d.octets.items)) (take s.next s.script.items)) };
+    ghost use Rattle.std.specs.Prelude.{◌≡◌, false};
+    ghost use Rattle.udp_peers.specs.Scripts.{AreFirst};
+
+    ghost answered = { λ s answers. s.is_stuck ≡ false → AreFirst s.script.items s.next answers };
 
     fn receive(&mut self, buffer: &mut [u8]) -> Result<Datagram, NoDatagram> {
         match self.script.get(self.next) {
-            Some(datagram) => {
+            Some(Ok(datagram)) => {
                 let length = datagram.octets.len();
                 if length > buffer.len() {
+                    self.is_stuck = true;
                     return Err(NoDatagram::Failed);
                 }
                 copy_front(&datagram.octets, buffer);
@@ -53,6 +62,10 @@ impl DatagramSource for ScriptDatagrams {
                     length,
                     peer: datagram.peer,
                 })
+            }
+            Some(Err(why)) => {
+                self.next += 1;
+                Err(*why)
             }
             None => Err(NoDatagram::Tick),
         }

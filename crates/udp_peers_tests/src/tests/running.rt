@@ -35,10 +35,10 @@ pub fn source_of(alloc: Global, datagrams: &[(u8, &[u8])]) -> Result<ScriptDatag
     for (number, octets) in datagrams {
         let mut copy = Vec::new(alloc);
         copy.extend_from_slice(octets)?;
-        script.push(ScriptedDatagram {
+        script.push(Ok(ScriptedDatagram {
             peer: peer(*number),
             octets: copy,
-        })?;
+        }))?;
     }
     Ok(ScriptDatagrams::new(script))
 }

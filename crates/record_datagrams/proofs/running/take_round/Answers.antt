@@ -1,6 +1,6 @@
-use Rattle.std.proofs.Common.{refl, arith}
+use Rattle.std.proofs.Common.{[], ◌∷◌, refl, sym, subst, arith}
+use Rattle.udp_peers.specs.Answers.{Answer, Gives}
 use Rattle.record_datagrams.proofs.Told.{and_told}
-use Rattle.record_datagrams.proofs.RoundLemmas.{given_so}
 use Rattle.record_datagrams.proofs.running.take_round.Goals as goal
 
 pub returns : goal.returns
@@ -21,7 +21,7 @@ returns g c =
         goes_on = c.go_on_to.ensures.are;
         lines_are = refl;
       };
-      given = given_so c.receive-received.result c.receive-received.new.buffer taken.0 (g.D.DatagramSource.given c.args.source.now) (g.D.DatagramSource.given c.receive-received.new.self) c.receive-received.ensures.gives taken.1;
+      given = subst (λ (a : Answer). Gives g.D.DatagramSource.answered (a ∷ []) c.args.source.now c.ask-received.new.source) (sym taken.1) c.ask-received.ensures.gives;
       told = rw (c.and-2.ensures, c.and.ensures)
           (and_told c.keep_to_periods-kept.result _ _ (g.E.Write.contents c.keep_to_periods-kept.new.self.log) _ _ _ kept.1.told
           (and_told c.take-taken.result c.go_on_to.result _ (g.E.Write.contents c.take-taken.new.self.log) _ _ _ taken.2.told c.go_on_to.ensures.told));
