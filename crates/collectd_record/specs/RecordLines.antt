@@ -30,6 +30,10 @@ abbrev pub finished_line : List ℕ → FileReport → List ℕ
 finished_line path r =
     line_start path ++ (counts_text r.messages r.records ++ (losses_text r.lost r.backward ++ (uncounted_end r.unknown_sets r.unaccounted ++ codes "\n")))
 
+-- one that could not be finished
+unfoldable pub not_finished_line : List ℕ → List ℕ
+not_finished_line path = codes "collectd: not finished: " ++ (path ++ codes "\n")
+
 -- ---- a session that has ended, with its peer in place of a number
 
 unfoldable pub peer_loss_line : List ℕ → DomainReport → List ℕ

@@ -1,8 +1,8 @@
-//! The line of a file that is finished.
+//! The lines of a file that is finished, and of one that could not be.
 
 ghost use Rattle.std.specs.Prelude.{OnOk};
 ghost use Rattle.std.specs.Io.KnownBytes.{Appends};
-ghost use Rattle.collectd_record.specs.RecordLines.{counts_text, finished_line, line_start, losses_text, uncounted_end, uncounted_text};
+ghost use Rattle.collectd_record.specs.RecordLines.{counts_text, finished_line, line_start, losses_text, not_finished_line, uncounted_end, uncounted_text};
 
 use ipfix_record::FileReport;
 use std::io::{self, Write};
@@ -18,6 +18,15 @@ pub fn write_finished<W: Write>(path: &str, report: &FileReport, out: &mut W) ->
     write_losses(report.lost, report.backward, out)?;
     write_uncounted(report.unknown_sets, report.unaccounted, out)?;
     writeln!(out)
+}
+
+/// Writes that a file could not be finished, by its path.
+#[tactic(auto, unfolding(crate::specs::RecordLines::not_finished_line))]
+pub fn write_not_finished<W: Write>(path: &str, out: &mut W) -> io::Result<()>
+    ensures { OnOk result (Appends (W.contents out.old) (W.contents out.new)
+        (not_finished_line path.now)) }
+{
+    writeln!(out, "collectd: not finished: {path}")
 }
 
 #[tactic(auto, unfolding(crate::specs::RecordLines::line_start))]

@@ -4,9 +4,9 @@ ghost use Rattle.std.specs.Prelude.{◌≡◌, OnOk};
 ghost use Rattle.std.specs.List.{flat_map};
 ghost use Rattle.std.specs.Net.Text.{socket_text};
 ghost use Rattle.std.specs.Io.KnownBytes.{Appends};
-ghost use Rattle.collectd_record.specs.RecordLines.{finished_line, not_accepted_line, outcome_line, peer_domain_lines, peer_fault_line, peer_loss_line, refused_line, threads_line};
+ghost use Rattle.collectd_record.specs.RecordLines.{finished_line, not_accepted_line, not_finished_line, outcome_line, peer_domain_lines, peer_fault_line, peer_loss_line, refused_line, threads_line};
 
-use crate::file_lines::write_finished;
+use crate::file_lines::{write_finished, write_not_finished};
 use crate::notice_lines::{write_not_accepted, write_outcome, write_refused, write_threads};
 use crate::session_lines::{write_peer_fault, write_peer_loss};
 use arrayvec::ArrayVec;
@@ -53,6 +53,16 @@ impl<E: Write + Drop> Log<E> {
     {
         self.line.clear();
         write_finished(path, report, &mut self.line)?;
+        self.out.write_all(self.line.as_slice())
+    }
+
+    /// Tells of a file that could not be finished.
+    pub fn tell_not_finished(&mut self, path: &str) -> io::Result<()>
+        ensures { OnOk result (Appends (E.contents self.old) (E.contents self.new)
+            (not_finished_line path.now)) }
+    {
+        self.line.clear();
+        write_not_finished(path, &mut self.line)?;
         self.out.write_all(self.line.as_slice())
     }
 

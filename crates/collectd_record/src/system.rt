@@ -11,8 +11,8 @@ use crate::running::record_connections;
 use exit_status::Status;
 use ipfix_record::{FileReport, NotWritten};
 use record_folder::{
-    FinishedFiles, Folder, FolderFault, Recovered, SessionFiles, SystemPeriods, SystemPlace,
-    SystemSession, open_folder, recover,
+    FileFinisher, FinishedFiles, Folder, FolderFault, FolderFinisher, Recovered, SessionFiles,
+    SystemPeriods, SystemPlace, SystemSession, open_folder, recover,
 };
 use std::alloc::{AllocError, Global};
 use std::fs::{File, Files};
@@ -30,18 +30,25 @@ impl<E: Write + Drop> FinishedFiles for Log<E> {
         let _ = self.tell_finished(path, report);
     }
 
+    fn not_finished(&mut self, path: &str) {
+        let _ = self.tell_not_finished(path);
+    }
+
     fn recovered(&mut self, path: &str, outcome: Recovered) {
         let _ = self.tell_recovered(path, outcome);
     }
 }
 
-impl<'a, R: Files, L: FinishedFiles> RecordingFiles for SessionFiles<'a, R, L> {
+impl<'a, R: Files, K: FileFinisher<R::File>> RecordingFiles for SessionFiles<'a, R, K> {
     ghost finishes = { λ _ _ _. ⊤ };
 
     fn finish(self, last: &FileReport) -> Result<(), NotWritten> {
         self.finish(last)
     }
 }
+
+/// The files of a session, each of which is finished at once, and told.
+type LoggedFiles<'a, R, E> = SessionFiles<'a, R, FolderFinisher<'a, R, Log<E>>>;
 
 /// Makes the files of sessions in a folder; each that is finished is told.
 #[derive(Drop)]
@@ -51,7 +58,7 @@ pub struct LoggedPlace<'a, R: Files + Clock, E: Write + Copy + Drop> {
 }
 
 impl<'a, R: Files + Clock, E: Write + Copy + Drop> SessionPlace<
-    SessionFiles<'a, R, Log<E>>,
+    LoggedFiles<'a, R, E>,
     SystemPeriods<'a, R>,
 > for LoggedPlace<'a, R, E> {
     ghost makes = { λ _ _ _ _ _. ⊤ };
@@ -61,7 +68,7 @@ impl<'a, R: Files + Clock, E: Write + Copy + Drop> SessionPlace<
         alloc: Global,
         peer: SocketAddr,
         number: u64,
-    ) -> Result<Recording<SessionFiles<'a, R, Log<E>>, SystemPeriods<'a, R>>, AllocError> {
+    ) -> Result<Recording<LoggedFiles<'a, R, E>, SystemPeriods<'a, R>>, AllocError> {
         let log = Log::new(self.err);
         match self.place.session(alloc, peer, number, log) {
             Ok(SystemSession { files, periods }) => Ok(Recording {

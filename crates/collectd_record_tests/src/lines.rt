@@ -20,6 +20,7 @@ const REPORT: FileReport = FileReport {
 
 const LINES: &str = "collectd: a: messages 2, records 11, lost 3, backward 1
 collectd: a: messages 2, records 11, lost 3, backward 1, unknown_sets 0, unaccounted 4
+collectd: not finished: a
 collectd: session 192.0.2.1:4739: fault 15 ReadFailed
 collectd: refused 7 connections, last 192.0.2.1:4739
 collectd: record: accept failed 12 times
@@ -43,6 +44,7 @@ fn tell_all(log: &mut Log<&mut FailingWriter>) -> io::Result<()> {
         ..REPORT
     };
     log.tell_finished("a", &unaccounted)?;
+    log.tell_not_finished("a")?;
     log.tell_fault(peer(), 15, "ReadFailed")?;
     log.tell_refused(7, peer())?;
     log.tell_not_accepted(12)?;
@@ -77,10 +79,10 @@ fn first_lines(alloc: Global, text: &str, count: u64) -> Result<String, AllocErr
 #[test]
 fn each_line_is_one_write(rt: HostRuntime) -> Result<(), Fail> {
     let alloc: Global = rt.alloc();
-    for calls in 0..12 {
+    for calls in 0..13 {
         let mut out = FailingWriter::new(alloc, 1000, calls);
         let told = tell_all(&mut Log::new(&mut out));
-        assert_eq!(rt; told.is_ok(), calls == 11);
+        assert_eq!(rt; told.is_ok(), calls == 12);
         let wanted = first_lines(alloc, LINES, calls)?;
         assert!(rt; out.taken.as_slice() == wanted.as_bytes(), "{calls}");
     }

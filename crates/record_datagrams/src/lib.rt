@@ -4,8 +4,10 @@
 
 mod datagram_faults;
 mod ending;
+mod finishing;
 pub mod laws;
 mod peer_folder;
+mod receiving;
 mod reception;
 mod running;
 mod system;
@@ -15,6 +17,7 @@ mod ticking;
 
 pub use datagram_faults::{fault_name, fault_number};
 pub use ending::{EndCause, end_peer, tell_refusals};
+pub use finishing::{FileQueue, QueueFinisher};
 pub use peer_folder::PeerFolder;
 pub use reception::Reception;
 pub use running::record_datagrams;

@@ -1,5 +1,6 @@
 //! The files of peers in a folder of recordings.
 
+use crate::finishing::{FileQueue, QueueFinisher};
 use collectd_record::{FrontDesk, Log};
 use ipfix_record::PeriodClock;
 use record_folder::{SessionFiles, SystemPeriods, SystemPlace};
@@ -11,27 +12,36 @@ use std::rt::Clock;
 use std::sync::{Mutex, Wait};
 use udp_peers::PeerPlace;
 
-/// Makes the files of peers in a folder, all in the periods of one clock. Each that is finished is told, and
-/// each session has the next number of the desk.
+/// The files of a peer, which are finished by the threads of a queue.
+type PeerFiles<'a, R, W, E> = SessionFiles<'a, R, QueueFinisher<'a, R, W, E>>;
+
+/// Makes the files of peers in a folder, all in the periods of one clock. They are finished by the threads of a
+/// queue, and told; and each session has the next number of the desk.
 #[derive(Drop)]
 pub struct PeerFolder<'a, R: Files + Clock, W: Wait, E: Write + Copy + Drop> {
     pub place: SystemPlace<'a, R>,
     pub periods: SystemPeriods<'a, R>,
+    pub queue: &'a FileQueue<R::File>,
     pub desk: &'a Mutex<FrontDesk>,
     pub waiting: &'a W,
     pub err: E,
 }
 
-impl<'a, R: Files + Clock, W: Wait, E: Write + Copy + Drop> PeerPlace<SessionFiles<'a, R, Log<E>>>
+impl<'a, R: Files + Clock, W: Wait, E: Write + Copy + Drop> PeerPlace<PeerFiles<'a, R, W, E>>
     for PeerFolder<'a, R, W, E> {
     fn files(
         &mut self,
         alloc: Global,
         peer: SocketAddr,
-    ) -> Result<SessionFiles<'a, R, Log<E>>, AllocError> {
+    ) -> Result<PeerFiles<'a, R, W, E>, AllocError> {
         let number = self.desk.lock(self.waiting).next_session();
-        let log = Log::new(self.err);
-        self.place.files(alloc, peer, number, &self.periods, log)
+        let finisher = QueueFinisher {
+            at_once: self.place.finisher(alloc, Log::new(self.err)),
+            queue: self.queue,
+            waiting: self.waiting,
+        };
+        self.place
+            .files(alloc, peer, number, &self.periods, finisher)
     }
 }
 

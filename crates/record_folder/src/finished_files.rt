@@ -17,10 +17,13 @@ pub enum Recovered {
     Stayed,
 }
 
-/// Is told of each file that has got its final name.
+/// Is told of each file that has got its final name, or stays without one.
 pub trait FinishedFiles: Drop {
     /// A session's file was finished: its path, and what it has.
     fn finished(&mut self, path: &str, report: &FileReport);
+
+    /// A session's file could not be finished, and stays where it was; it has this path.
+    fn not_finished(&mut self, path: &str);
 
     /// A file that an earlier run left was looked after: its path now or last, and what became of it.
     fn recovered(&mut self, path: &str, outcome: Recovered);

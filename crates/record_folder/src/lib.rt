@@ -2,8 +2,11 @@
 //! what is done at a start with those that an earlier run left.
 #![tactic(auto)]
 
+mod ended_file;
+mod filed_session;
 mod finished_files;
 mod folder;
+mod lack;
 pub mod laws;
 mod message_walk;
 mod period;
@@ -15,8 +18,10 @@ mod session_names;
 mod system_periods;
 mod system_place;
 mod told_period;
+mod unfinished_file;
 mod unfinished_names;
 
+pub use ended_file::{EndedFile, FileFinisher, FolderFinisher};
 pub use finished_files::{FinishedFiles, Recovered};
 pub use folder::{Folder, FolderFault, open_folder};
 pub use message_walk::whole_messages;

@@ -107,7 +107,8 @@ fn is_same_file<R: Files>(rt: &R, path: &str, other: &str) -> io::Result<bool> {
     Ok(one.dev() == two.dev() && one.ino() == two.ino())
 }
 
-// Brings the names on the way from the folder to a period's folder, and those in it, to the disk.
+// Brings the names on the way from the folder to a period's folder, and those in it, to the disk. (For each
+// file: since the one before, others may have moved the period's folder away, and a thread made it again.)
 fn sync_down_to<R: Files>(rt: &R, folder: &str, period_path: &str) -> io::Result<()> {
     sync_folder(rt, period_path)?;
     if let Some((date_path, _)) = period_path.rsplit_once('/') {

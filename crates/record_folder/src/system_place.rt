@@ -2,6 +2,8 @@
 
 ghost use Rattle.std.specs.Prelude.{◌≡◌, ◌<◌, None, IfOk};
 
+use crate::ended_file::{FileFinisher, FolderFinisher};
+use crate::filed_session::FiledSession;
 use crate::finished_files::FinishedFiles;
 use crate::folder::Folder;
 use crate::session_files::SessionFiles;
@@ -26,8 +28,8 @@ pub struct SystemPlace<'a, R> {
 
 /// The files and the clock of a session.
 #[derive(Drop)]
-pub struct SystemSession<'a, R: Files + Clock, L> {
-    pub files: SessionFiles<'a, R, L>,
+pub struct SystemSession<'a, R: Files + Clock, K> {
+    pub files: SessionFiles<'a, R, K>,
     pub periods: SystemPeriods<'a, R>,
 }
 
@@ -39,24 +41,30 @@ impl<'a, R: Files + Clock> SystemPlace<'a, R> {
         SystemPlace { rt, folder, every }
     }
 
-    /// The files of a session, of which none is there yet, and its clock, whose period begins now. Sessions of
-    /// one run are told apart by their numbers.
+    /// What finishes files of the folder at once, and tells them.
+    pub fn finisher<L: FinishedFiles>(&self, alloc: Global, log: L) -> FolderFinisher<'a, R, L> {
+        FolderFinisher::new(self.rt, alloc, self.folder, log)
+    }
+
+    /// The files of a session, of which none is there yet and each is finished at once, and its clock, whose period
+    /// begins now. Sessions of one run are told apart by their numbers.
     pub fn session<L: FinishedFiles>(
         &self,
         alloc: Global,
         peer: SocketAddr,
         number: u64,
         log: L,
-    ) -> Result<SystemSession<'a, R, L>, AllocError>
+    ) -> Result<SystemSession<'a, R, FolderFinisher<'a, R, L>>, AllocError>
         ensures files { IfOk result (λ session.
-            ⟦<SessionFiles<'a, R, L> as FileSeries>⟧.seen session.files
+            ⟦<SessionFiles<'a, R, FolderFinisher<'a, R, L>> as FileSeries>⟧.seen session.files
             ≡ record { contents = None; failed = 0 }) }
         ensures periods { IfOk result (λ session.
             ⟦<SystemPeriods<'a, R> as PeriodClock>⟧.asked session.periods
             ≡ record { asked = 0; over = 0 }) }
     {
         let periods = self.periods(alloc)?;
-        let files = self.files(alloc, peer, number, &periods, log)?;
+        let finisher = self.finisher(alloc, log);
+        let files = self.files(alloc, peer, number, &periods, finisher)?;
         Ok(SystemSession { files, periods })
     }
 
@@ -72,20 +80,21 @@ impl<'a, R: Files + Clock> SystemPlace<'a, R> {
 
     /// The files of a session, of which none is there yet. Each is made in the period that the clock told last,
     /// which several sessions may share.
-    pub fn files<L: FinishedFiles>(
+    pub fn files<K: FileFinisher<R::File>>(
         &self,
         alloc: Global,
         peer: SocketAddr,
         number: u64,
         periods: &SystemPeriods<'a, R>,
-        log: L,
-    ) -> Result<SessionFiles<'a, R, L>, AllocError>
+        finisher: K,
+    ) -> Result<SessionFiles<'a, R, K>, AllocError>
         ensures { IfOk result (λ files.
-            ⟦<SessionFiles<'a, R, L> as FileSeries>⟧.seen files
+            ⟦<SessionFiles<'a, R, K> as FileSeries>⟧.seen files
             ≡ record { contents = None; failed = 0 }) }
     {
         let name = session_name(alloc, peer, number)?;
+        let session = Arc::new(alloc, FiledSession::new(name))?;
         let told = periods.told()?;
-        Ok(SessionFiles::new(self.rt, alloc, self.folder, name, told, log))
+        Ok(SessionFiles::new(self.rt, alloc, self.folder, session, told, finisher))
     }
 }

@@ -1,0 +1,78 @@
+//! A file that isn't finished.
+
+use crate::filed_session::FiledSession;
+use crate::period::Period;
+use std::fs::OpenFile;
+use std::io::{self, ErrorKind, Write};
+use std::sync::Arc;
+
+/// A file that isn't finished, in the folder of those.
+#[derive(Drop)]
+pub(crate) struct UnfinishedFile<F> {
+    /// It is open as long as its octets aren't on the disk.
+    file: Option<F>,
+    pub(crate) path: String,
+    pub(crate) period: Period,
+    pub(crate) session: Arc<FiledSession>,
+    /// The octets of the calls that wrote all of theirs.
+    length: u64,
+    /// Whether some of a call that failed may stand behind them.
+    is_torn: bool,
+}
+
+impl<F: Write + OpenFile + Drop> UnfinishedFile<F> {
+    // A file that was made, and in which nothing stands.
+    pub(crate) fn new(file: F, path: String, period: Period, session: Arc<FiledSession>) -> Self {
+        UnfinishedFile {
+            file: Some(file),
+            path,
+            period,
+            session,
+            length: 0,
+            is_torn: false,
+        }
+    }
+
+    // Whether nothing was written.
+    pub(crate) fn is_empty(&self) -> bool {
+        self.length == 0
+    }
+
+    // Writes octets at its end. Where not all are written, it is cut back if it can be.
+    pub(crate) fn append(&mut self, octets: &[u8]) -> io::Result<()> {
+        self.mend()?;
+        let Some(file) = &mut self.file else {
+            return Err(io::Error::from(ErrorKind::InvalidInput));
+        };
+        let written = file.write_all(octets);
+        if written.is_ok() {
+            self.length = self.length.saturating_add(octets.len() as u64);
+        } else {
+            self.is_torn = true;
+            let _ = self.mend();
+        }
+        written
+    }
+
+    // Brings its octets to the disk, and no others, and closes it.
+    pub(crate) fn close(&mut self) -> io::Result<()> {
+        self.mend()?;
+        if let Some(file) = &self.file {
+            file.sync_all()?;
+        }
+        self.file = None;
+        Ok(())
+    }
+
+    // Cuts off what a write that failed may have left.
+    fn mend(&mut self) -> io::Result<()> {
+        match &self.file {
+            Some(file) if self.is_torn => {
+                file.set_len(self.length)?;
+                self.is_torn = false;
+                Ok(())
+            }
+            _ => Ok(()),
+        }
+    }
+}
