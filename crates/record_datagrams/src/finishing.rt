@@ -22,11 +22,11 @@ pub struct FileQueue<F> {
     pub leave: Receiver<EndedFile<F>>,
 }
 
-/// Puts the files of a peer into a queue.
+/// Puts the files of a peer into a queue, if there is one, or finishes them at once.
 #[derive(Drop)]
 pub struct QueueFinisher<'a, R: Files + Clock, W: Wait, E: Write + Drop> {
     pub at_once: FolderFinisher<'a, R, Log<E>>,
-    pub queue: &'a FileQueue<R::File>,
+    pub queue: Option<&'a FileQueue<R::File>>,
     pub waiting: &'a W,
 }
 
@@ -37,14 +37,20 @@ impl<'a, R: Files + Clock, W: Wait, E: Write + Drop> FileFinisher<R::File>
     }
 
     fn finish_or_queue(&mut self, ended: EndedFile<R::File>) -> Result<(), EndedFile<R::File>> {
-        match self.queue.enter.try_send(self.waiting, ended) {
+        let Some(queue) = self.queue else {
+            return self.at_once.finish(ended);
+        };
+        match queue.enter.try_send(self.waiting, ended) {
             Ok(()) => Ok(()),
             Err(refused) => self.at_once.finish(refused.into_inner()),
         }
     }
 
     fn finish_queued(&mut self) -> bool {
-        match self.queue.leave.try_recv(self.waiting) {
+        let Some(queue) = self.queue else {
+            return false;
+        };
+        match queue.leave.try_recv(self.waiting) {
             Ok(ended) => {
                 self.at_once.finish_apart(ended);
                 true
@@ -54,7 +60,8 @@ impl<'a, R: Files + Clock, W: Wait, E: Write + Drop> FileFinisher<R::File>
     }
 }
 
-/// Starts the threads that finish the files of a queue, for ever. If only some can be started, or none, that is told.
+/// Starts the threads that finish the files of a queue, for ever, and answers how many could be started. If those
+/// aren't all that is told.
 pub(crate) fn start_finishers<
     's,
     'e,
@@ -68,7 +75,7 @@ pub(crate) fn start_finishers<
     folder: &'s Folder,
     queue: &'s FileQueue<File>,
     err: E,
-) {
+) -> usize {
     let mut started: usize = 0;
     for _ in 0..FINISHERS {
         let run = move || finish_forever(waiting, rt, alloc, folder, queue, err);
@@ -79,6 +86,7 @@ pub(crate) fn start_finishers<
     if started < FINISHERS {
         let _ = Log::new(err).tell_threads(started, FINISHERS);
     }
+    started
 }
 
 // Finishes one file of a queue after another.

@@ -12,19 +12,27 @@ use std::rt::Clock;
 use std::sync::{Mutex, Wait};
 use udp_peers::PeerPlace;
 
-/// The files of a peer, which are finished by the threads of a queue.
+/// The files of a peer, which wait in a queue to be finished.
 type PeerFiles<'a, R, W, E> = SessionFiles<'a, R, QueueFinisher<'a, R, W, E>>;
 
-/// Makes the files of peers in a folder, all in the periods of one clock. They are finished by the threads of a
-/// queue, and told; and each session has the next number of the desk.
+/// Makes the files of peers in a folder, all in the periods of one clock. They are finished by threads
+/// of their own, and told; and each session has the next number of the desk.
 #[derive(Drop)]
 pub struct PeerFolder<'a, R: Files + Clock, W: Wait, E: Write + Copy + Drop> {
     pub place: SystemPlace<'a, R>,
     pub periods: SystemPeriods<'a, R>,
-    pub queue: &'a FileQueue<R::File>,
+    /// Where they wait, if a thread finishes them.
+    pub queue: Option<&'a FileQueue<R::File>>,
     pub desk: &'a Mutex<FrontDesk>,
     pub waiting: &'a W,
     pub err: E,
+}
+
+impl<'a, R: Files + Clock, W: Wait, E: Write + Copy + Drop> PeerFolder<'a, R, W, E> {
+    /// From now on each file is finished by the thread that it comes from.
+    pub(crate) fn finish_at_once(&mut self) {
+        self.queue = None;
+    }
 }
 
 impl<'a, R: Files + Clock, W: Wait, E: Write + Copy + Drop> PeerPlace<PeerFiles<'a, R, W, E>>

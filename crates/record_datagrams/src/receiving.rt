@@ -81,7 +81,7 @@ fn take_beside_finishers<'x, E: Write + Copy + Send + Drop, R: Clock + Threads +
         place: PeerFolder {
             place,
             periods,
-            queue,
+            queue: Some(queue),
             desk,
             waiting: threads,
             err,
@@ -93,7 +93,10 @@ fn take_beside_finishers<'x, E: Write + Copy + Send + Drop, R: Clock + Threads +
         log: Log::new(err),
     };
     thread::scope(thread::scope_env(), threads, move |scope| {
-        start_finishers(scope, threads, rt, alloc, folder, queue, err);
+        let mut reception = reception;
+        if start_finishers(scope, threads, rt, alloc, folder, queue, err) == 0 {
+            reception.place.finish_at_once();
+        }
         take_forever(threads, socket, buffer, reception);
     });
     Ok(())
