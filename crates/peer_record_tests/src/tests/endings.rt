@@ -1,32 +1,53 @@
 //! How a peer ends: where a file isn't written, and where memory runs out.
 
 use super::datagrams::*;
-use super::running::take_all;
-use super::told::{end, finish, take};
+use super::told::{end, finish, new_peer, take};
 use ipfix_datagrams::DatagramFault;
 use ipfix_message::MessageFault;
 use ipfix_record::{MemoryFiles, RecordFault};
 use ipfix_session::SessionFault;
 use peer_record::{PeerAnswer, PeerRecorder};
+use std::alloc::Global;
 use std::test::*;
 use worked_examples::recordings::{FIRST_OF_1, FIRST_OF_2};
+use worked_examples::text_of;
 
-// Files that have room for 100 octets: the first datagram stands whole, and then the first octets of the
-// next. From then on each call answers the same, and writes nothing.
+// Whether neither another datagram nor the end of the file can be written.
+fn is_refused(alloc: Global, peer: &mut PeerRecorder, files: &mut MemoryFiles) -> bool {
+    let taken = take(alloc, peer, FIRST_OF_2, files);
+    let finished = finish(peer, files);
+    taken == Err(RecordFault::NotWritten) && finished == Err(RecordFault::NotWritten)
+}
+
+// A peer behind its first datagram, in files that have room for 100 octets, and behind three tries to go on; with
+// whether each was refused.
+fn fill(alloc: Global) -> (PeerRecorder, MemoryFiles, bool) {
+    let mut peer = new_peer(alloc);
+    let mut files = MemoryFiles::new(alloc, 100);
+    let mut right = take(alloc, &mut peer, FIRST_OF_1, &mut files) == Ok(PeerAnswer::Recorded);
+    for _ in 0..3 {
+        let refused = is_refused(alloc, &mut peer, &mut files);
+        right = right && refused;
+    }
+    (peer, files, right)
+}
+
+// The first datagram stands whole, and then the first octets of the next. From then on each call answers the
+// same, and writes nothing.
 #[test]
 fn a_full_place_ends_the_peer(rt: HostRuntime) -> Result<(), Fail> {
-    let mut peer = PeerRecorder::new(rt.alloc());
-    let mut files = MemoryFiles::new(rt.alloc(), 100);
-    take_all(&rt, rt.alloc(), &mut peer, &[FIRST_OF_1], &mut files);
-    for _ in 0..3 {
-        let answer = take(rt.alloc(), &mut peer, FIRST_OF_2, &mut files);
-        assert_eq!(rt; answer, Err(RecordFault::NotWritten));
-        assert_eq!(rt; finish(&mut peer, &mut files), Err(RecordFault::NotWritten));
-    }
+    let alloc: Global = rt.alloc();
+    let (_peer, files, right) = fill(alloc);
+    assert!(rt; right);
     assert_eq!(rt; (files.failed, files.finished.len()), (1, 0));
-    let mut whole = Vec::from_slice(rt.alloc(), FIRST_OF_1)?;
-    whole.extend_from_slice(&FIRST_OF_2[..29])?;
+    let whole = text_of(alloc, &[FIRST_OF_1, &FIRST_OF_2[..29]])?;
     assert_eq!(rt; files.unfinished.as_slice(), whole.as_slice());
+    Ok(())
+}
+
+#[test]
+fn a_full_place_is_told(rt: HostRuntime) -> Result<(), Fail> {
+    let (peer, _files, _right) = fill(rt.alloc());
     let told = end(peer);
     assert_eq!(rt;
         (told.ended, told.last.messages),
@@ -43,7 +64,7 @@ fn a_full_place_ends_the_peer(rt: HostRuntime) -> Result<(), Fail> {
 // `tests/gate/refusals` refuses each allocation in turn.
 #[test]
 fn recording_survives_refused_memory(rt: HostRuntime) -> Result<(), Fail> {
-    let mut peer = PeerRecorder::new(rt.alloc());
+    let mut peer = new_peer(rt.alloc());
     let mut files = MemoryFiles::new(rt.alloc(), 100_000);
     let mut recorded: u64 = 0;
     for datagram in DATAGRAMS {

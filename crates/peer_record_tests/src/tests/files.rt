@@ -1,10 +1,9 @@
 //! Where the files of a peer begin, and what stands in them (RFC 7011, sections 8.1 and 8.4).
 
 use super::datagrams::*;
-use super::running::{files_of, take_all, told_by};
-use super::told::finish;
+use super::running::{files_of, told_by};
+use super::told::{finish, new_peer, take};
 use ipfix_record::MemoryFiles;
-use peer_record::PeerRecorder;
 use std::alloc::{AllocError, Global};
 use std::test::*;
 use worked_examples::recordings::{FIRST_OF_1, FIRST_OF_2};
@@ -72,17 +71,24 @@ fn a_file_is_finished_before_any_datagram(rt: HostRuntime) -> Result<(), Fail> {
     Ok(())
 }
 
+// Files behind their end before any datagram, and twice behind one; with whether each call answered well.
+fn ended_often(alloc: Global) -> (MemoryFiles, bool) {
+    let mut peer = new_peer(alloc);
+    let mut files = MemoryFiles::new(alloc, 1000);
+    let first = finish(&mut peer, &mut files);
+    let taken = take(alloc, &mut peer, FIRST_OF_1, &mut files);
+    let second = finish(&mut peer, &mut files);
+    let third = finish(&mut peer, &mut files);
+    let right = first.is_ok() && taken.is_ok() && second.is_ok() && third.is_ok();
+    (files, right)
+}
+
 // A file without a datagram is not finished.
 #[test]
 fn no_file_is_empty(rt: HostRuntime) -> Result<(), Fail> {
-    let mut peer = PeerRecorder::new(rt.alloc());
-    let mut files = MemoryFiles::new(rt.alloc(), 1000);
-    assert_eq!(rt; finish(&mut peer, &mut files), Ok(()));
-    take_all(&rt, rt.alloc(), &mut peer, &[FIRST_OF_1], &mut files);
-    assert_eq!(rt; finish(&mut peer, &mut files), Ok(()));
-    assert_eq!(rt; finish(&mut peer, &mut files), Ok(()));
-    assert_eq!(rt; files.finished.len(), 1);
-    assert_eq!(rt; files.unfinished.len(), 0);
+    let (files, right) = ended_often(rt.alloc());
+    assert!(rt; right);
+    assert_eq!(rt; (files.finished.len(), files.unfinished.len()), (1, 0));
     Ok(())
 }
 

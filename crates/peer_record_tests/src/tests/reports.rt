@@ -2,7 +2,7 @@
 
 use super::datagrams::*;
 use super::running::take_all;
-use super::told::{domain_of, end};
+use super::told::{advance_of, domain_of, end, new_peer};
 use ipfix_record::{FileReport, MemoryFiles};
 use peer_record::PeerRecorder;
 use sequence_advance::DomainAdvance;
@@ -13,7 +13,7 @@ use worked_examples::recordings::FIRST_OF_1;
 
 // A peer behind all datagrams, and its files.
 fn recorded(rt: &impl Abort, alloc: Global) -> (PeerRecorder, MemoryFiles) {
-    let mut peer = PeerRecorder::new(alloc);
+    let mut peer = new_peer(alloc);
     let mut files = MemoryFiles::new(alloc, 100_000);
     take_all(rt, alloc, &mut peer, &DATAGRAMS, &mut files);
     (peer, files)
@@ -52,23 +52,12 @@ fn the_ledger_goes_on_in_the_next_file(rt: HostRuntime) -> Result<(), Fail> {
     Ok(())
 }
 
-/// What is told of the advance in a domain, over the files of these datagrams; nothing where there are not so
-/// many domains.
-fn advance_of(
-    rt: &impl Abort,
-    alloc: Global,
-    datagrams: &[&[u8]],
-    index: usize,
-) -> Option<DomainAdvance> {
-    let mut peer = PeerRecorder::new(alloc);
+// What is told of the advance in domain 1, over the files of these datagrams.
+fn advance_over(rt: &impl Abort, alloc: Global, datagrams: &[&[u8]]) -> Option<DomainAdvance> {
+    let mut peer = new_peer(alloc);
     let mut files = MemoryFiles::new(alloc, 100_000);
     take_all(rt, alloc, &mut peer, datagrams, &mut files);
-    let advances = peer.into_session().advances;
-    if index < advances.len() {
-        Some(advances.at(index))
-    } else {
-        None
-    }
+    advance_of(peer, 0)
 }
 
 // Over both files: of twelve records eight came.
@@ -79,7 +68,7 @@ fn the_advance_goes_over_all_files(rt: HostRuntime) -> Result<(), Fail> {
         advance: 12,
         came: 8,
     };
-    assert_eq!(rt; advance_of(&rt, rt.alloc(), &DATAGRAMS, 0), Some(expected));
+    assert_eq!(rt; advance_over(&rt, rt.alloc(), &DATAGRAMS), Some(expected));
     Ok(())
 }
 
@@ -92,6 +81,6 @@ fn late_and_doubled_datagrams_came(rt: HostRuntime) -> Result<(), Fail> {
         advance: 10,
         came: 8,
     };
-    assert_eq!(rt; advance_of(&rt, rt.alloc(), &datagrams, 0), Some(expected));
+    assert_eq!(rt; advance_over(&rt, rt.alloc(), &datagrams), Some(expected));
     Ok(())
 }

@@ -1,9 +1,9 @@
 //! Recording datagrams in memory, and reading a file.
 
-use super::told::{finish, take};
+use super::told::{finish_if, new_peer, take};
 use ipfix_message::DataRecord;
 use ipfix_record::MemoryFiles;
-use ipfix_session::{FromReader, VecSink, drive_in_full};
+use ipfix_session::{FromReader, SessionFault, VecSink, drive_in_full};
 use peer_record::{PeerAnswer, PeerRecorder};
 use std::alloc::{AllocError, Global};
 use std::process::Abort;
@@ -29,14 +29,12 @@ pub fn files_of(
     datagrams: &[&[u8]],
     finish_before: usize,
 ) -> MemoryFiles {
-    let mut peer = PeerRecorder::new(alloc);
+    let mut peer = new_peer(alloc);
     let mut files = MemoryFiles::new(alloc, 100_000);
     for (number, datagram) in datagrams.iter().enumerate() {
-        if number == finish_before {
-            assert_eq!(rt; finish(&mut peer, &mut files), Ok(()));
-        }
+        let finished = finish_if(number == finish_before, &mut peer, &mut files);
         let answer = take(alloc, &mut peer, datagram, &mut files);
-        assert_eq!(rt; answer, Ok(PeerAnswer::Recorded));
+        assert_eq!(rt; (finished, answer), (Ok(()), Ok(PeerAnswer::Recorded)));
     }
     files
 }
@@ -52,6 +50,19 @@ fn tell(record: &DataRecord, told: &mut Vec<u8>) -> Result<(), AllocError> {
     Ok(())
 }
 
+// Reads a file by itself into a sink, and answers its fault, and how many sets were of an unknown template or
+// skipped, and how many withdrawals ignored.
+fn read(alloc: Global, file: &[u8], sink: &mut VecSink) -> (Option<SessionFault>, u64, u64, u64) {
+    let mut source = FromReader::new(file);
+    let report = drive_in_full(alloc, &mut source, sink, 1000).report;
+    (
+        report.fault,
+        report.unknown_sets,
+        report.skipped_sets,
+        report.ignored_withdrawals,
+    )
+}
+
 /// Reads a file by itself, and appends what its records are. It has no fault, and nothing that the strict
 /// profile does not have, but for losses.
 pub fn tell_file(
@@ -60,13 +71,9 @@ pub fn tell_file(
     file: &[u8],
     told: &mut Vec<u8>,
 ) -> Result<(), AllocError> {
-    let mut source = FromReader::new(file);
     let mut sink = VecSink::new(alloc);
-    let full = drive_in_full(alloc, &mut source, &mut sink, 1000);
-    assert_eq!(rt; full.report.fault, None);
-    assert_eq!(rt; full.report.unknown_sets, 0);
-    assert_eq!(rt; full.report.skipped_sets, 0);
-    assert_eq!(rt; full.report.ignored_withdrawals, 0);
+    let found = read(alloc, file, &mut sink);
+    assert_eq!(rt; found, (None, 0, 0, 0));
     for record in sink.records.iter() {
         tell(record, told)?;
     }

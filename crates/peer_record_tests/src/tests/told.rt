@@ -3,6 +3,7 @@
 use ipfix_record::{FileReport, MemoryFiles, RecordFault};
 use ipfix_session::SessionFault;
 use peer_record::{PeerAnswer, PeerRecorder};
+use sequence_advance::DomainAdvance;
 use std::alloc::Global;
 
 /// What is told of a peer's session, and of its last file.
@@ -14,6 +15,11 @@ pub struct Told {
     pub delivered: u64,
     pub fault: Option<SessionFault>,
     pub domains: usize,
+}
+
+/// A peer of which nothing has come.
+pub fn new_peer(alloc: Global) -> PeerRecorder {
+    PeerRecorder::new(alloc)
 }
 
 /// Takes a datagram.
@@ -31,6 +37,15 @@ pub fn finish(peer: &mut PeerRecorder, files: &mut MemoryFiles) -> Result<(), Re
     peer.finish_file(files)
 }
 
+/// Finishes a peer's file, if that is due.
+pub fn finish_if(
+    is_due: bool,
+    peer: &mut PeerRecorder,
+    files: &mut MemoryFiles,
+) -> Result<(), RecordFault> {
+    if is_due { finish(peer, files) } else { Ok(()) }
+}
+
 /// Ends a peer.
 pub fn end(peer: PeerRecorder) -> Told {
     let session = peer.into_session().session;
@@ -42,6 +57,16 @@ pub fn end(peer: PeerRecorder) -> Told {
         delivered: report.delivered,
         fault: report.fault,
         domains: report.domains.len(),
+    }
+}
+
+/// Ends a peer, and gives what is told of the advance in the domain at an index.
+pub fn advance_of(peer: PeerRecorder, index: usize) -> Option<DomainAdvance> {
+    let advances = peer.into_session().advances;
+    if index < advances.len() {
+        Some(advances.at(index))
+    } else {
+        None
     }
 }
 
