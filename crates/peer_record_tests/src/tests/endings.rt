@@ -1,7 +1,7 @@
 //! How a peer ends: where a file isn't written, and where memory runs out.
 
 use super::datagrams::*;
-use super::told::{end, finish, new_peer, take};
+use super::told::{Told, end, finish, new_peer, take};
 use ipfix_datagrams::DatagramFault;
 use ipfix_message::MessageFault;
 use ipfix_record::{MemoryFiles, RecordFault};
@@ -19,9 +19,9 @@ fn is_refused(alloc: Global, peer: &mut PeerRecorder, files: &mut MemoryFiles) -
     taken == Err(RecordFault::NotWritten) && finished == Err(RecordFault::NotWritten)
 }
 
-// A peer behind its first datagram, in files that have room for 100 octets, and behind three tries to go on; with
-// whether each was refused.
-fn fill(alloc: Global) -> (PeerRecorder, MemoryFiles, bool) {
+// Takes a datagram in files that have room for 100 octets, and tries three times to go on. Answers the files, what
+// is told of the peer, and whether each try was refused.
+fn fill(alloc: Global) -> (MemoryFiles, Told, bool) {
     let mut peer = new_peer(alloc);
     let mut files = MemoryFiles::new(alloc, 100);
     let mut right = take(alloc, &mut peer, FIRST_OF_1, &mut files) == Ok(PeerAnswer::Recorded);
@@ -29,7 +29,7 @@ fn fill(alloc: Global) -> (PeerRecorder, MemoryFiles, bool) {
         let refused = is_refused(alloc, &mut peer, &mut files);
         right = right && refused;
     }
-    (peer, files, right)
+    (files, end(peer), right)
 }
 
 // The first datagram stands whole, and then the first octets of the next. From then on each call answers the
@@ -37,18 +37,11 @@ fn fill(alloc: Global) -> (PeerRecorder, MemoryFiles, bool) {
 #[test]
 fn a_full_place_ends_the_peer(rt: HostRuntime) -> Result<(), Fail> {
     let alloc: Global = rt.alloc();
-    let (_peer, files, right) = fill(alloc);
+    let (files, told, right) = fill(alloc);
     assert!(rt; right);
     assert_eq!(rt; (files.failed, files.finished.len()), (1, 0));
     let whole = text_of(alloc, &[FIRST_OF_1, &FIRST_OF_2[..29]])?;
     assert_eq!(rt; files.unfinished.as_slice(), whole.as_slice());
-    Ok(())
-}
-
-#[test]
-fn a_full_place_is_told(rt: HostRuntime) -> Result<(), Fail> {
-    let (peer, _files, _right) = fill(rt.alloc());
-    let told = end(peer);
     assert_eq!(rt;
         (told.ended, told.last.messages),
         (Err(RecordFault::NotWritten), 1)
