@@ -67,19 +67,21 @@ impl RunFault {
             RunFault::WrongKind =>
                 "Numbers have no quotation marks, method is a text, keys and counters are arrays of texts.",
             RunFault::UnknownElement =>
-                "docs/FORMATS.md lists the names. Their letter case matters, and only keys have prefixes.",
+                "`collectd elements` lists the names. Their case matters, and only keys have prefixes.",
             RunFault::Plan => "The same line names a second fault. Look for that one.",
             RunFault::Length => "Let interval_ms be 1 or more, as 60000 for a minute.",
             RunFault::Spread => "Take a number of that range, or leave max_spread out.",
             RunFault::KeyCount => "Leave some of them out.",
             RunFault::KeyKind =>
-                "Times, octets and the elements of enterprises can't be keys. Leave it out.",
+                "`collectd elements` marks those that can, with --elements also those that files name.\n\
+                Times and octets can't be keys, nor can elements that have no type. Leave it out.",
             RunFault::Prefix =>
                 "A prefix is 0 to 32 bits of an IPv4 address. Merge tables that have the same prefixes.",
             RunFault::CounterCount => "Name 1 to 4 counters. Make a second table for more.",
             RunFault::CounterKind =>
                 "Counters are octetDeltaCount, packetDeltaCount, deltaFlowCount, postOctetDeltaCount,\n\
-                postPacketDeltaCount, droppedOctetDeltaCount and droppedPacketDeltaCount.",
+                postPacketDeltaCount, droppedOctetDeltaCount and droppedPacketDeltaCount; with --elements\n\
+                also the delta counters of files. Totals are none: flows would be counted twice.",
             RunFault::Repeated =>
                 "Leave one of them out. An address with a prefix counts as the element of prefixes, too.",
             RunFault::NotCsv =>
