@@ -25,10 +25,12 @@ pub struct KeptPeer<F> {
 }
 
 impl<F: FileSeries> KeptPeer<F> {
-    /// The session of a peer of which nothing has come, with files in which nothing stands.
+    /// The session of a peer of which nothing has come, with files in which nothing stands, at a time in
+    /// seconds.
     pub fn new(alloc: Global, files: F, now: u64) -> Self
         requires { IsEmpty (F.seen files).contents }
-        ensures { IsSession F.seen result [] }
+        ensures session { IsSession F.seen result [] }
+        ensures heard { result.heard ≡ now }
     {
         KeptPeer {
             recorder: PeerRecorder::new(alloc),

@@ -1,8 +1,8 @@
 use Rattle.std.proofs.Common.{[], refl}
 use Rattle.udp_peers.proofs.kept_peer.KeptPeer.new.Goals as goal
 
-pub returns : goal.returns
-returns g c = record {
+pub returns-clause-session : goal.returns-clause-session
+returns-clause-session g c = record {
   first = g.F.FileSeries.seen c.args.files;
   empty = c.requires;
   finished = [];
