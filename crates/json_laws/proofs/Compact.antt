@@ -6,7 +6,7 @@ use Rattle.json.specs.Print.{print, print_from, quoted, token_text, IsNumber}
 use Rattle.json.specs.Tree.{json_tokens, items_tokens, members_tokens, depth, HasNumbers, ItemsHaveNumbers, MembersHaveNumbers}
 use Rattle.json.proofs.Printed.Decimals.{IsNumber-decimal}
 use Rattle.json.proofs.Printed.Trees.{document-print}
-use Rattle.json_laws.specs.Lines.{IsReadAs, NumbersAre, NumbersOfItems, NumbersOfMembers}
+use Rattle.json_laws.specs.Lines.{IsDecimal, IsReadAs, NumbersAre, NumberTexts, TextsOfItems, TextsOfMembers}
 
 abbrev pub comma_if : Bool → List ℕ
 comma_if true = 44 ∷ []
@@ -77,32 +77,36 @@ mutual
   print_members true (member k j ms) ts = ap (λ s. 44 ∷ s) (print_member k j ms ts (print_value false j (members_tokens ms ++ ts)) (print_members true ms ts))
   print_members false (member k j ms) ts = print_member k j ms ts (print_value false j (members_tokens ms ++ ts)) (print_members true ms ts)
 
-print_is : (j : Json) → print (json_tokens j) ≡ compact_text j
+pub print_is : (j : Json) → print (json_tokens j) ≡ compact_text j
 unfolding print_from
 print_is j = ap print (sym (append-nil (json_tokens j))) ∙ print_value false j [] ∙ append-nil (compact_text j)
 
--- ---- numbers in decimal are numbers of JSON
+-- ---- numbers of JSON
+
+mutual
+  pub has_numbers : (P : List ℕ → Type 0) → ((s : List ℕ) → P s → IsNumber s) → (j : Json) → NumberTexts P j → HasNumbers j
+  has_numbers P each null h = tt
+  has_numbers P each (boolean b) h = tt
+  has_numbers P each (number s) h = each s h
+  has_numbers P each (string s) h = tt
+  has_numbers P each (array js) h = items_have_numbers P each js h
+  has_numbers P each (object ms) h = members_have_numbers P each ms h
+
+  items_have_numbers : (P : List ℕ → Type 0) → ((s : List ℕ) → P s → IsNumber s) → (js : Items) → TextsOfItems P js → ItemsHaveNumbers js
+  items_have_numbers P each no_items h = tt
+  items_have_numbers P each (item j js) h = (has_numbers P each j h.0, items_have_numbers P each js h.1)
+
+  members_have_numbers : (P : List ℕ → Type 0) → ((s : List ℕ) → P s → IsNumber s) → (ms : Members) → TextsOfMembers P ms → MembersHaveNumbers ms
+  members_have_numbers P each no_members h = tt
+  members_have_numbers P each (member k j ms) h = (has_numbers P each j h.0, members_have_numbers P each ms h.1)
 
 abbrev is_small : ℕ → Type 0
 is_small n = n < 2 ^ 64
 
-mutual
-  has_numbers : (j : Json) → NumbersAre is_small j → HasNumbers j
-  has_numbers null h = tt
-  has_numbers (boolean b) h = tt
-  has_numbers (number s) h = subst IsNumber (sym h.1) (IsNumber-decimal h.0 h.2)
-  has_numbers (string s) h = tt
-  has_numbers (array js) h = items_have_numbers js h
-  has_numbers (object ms) h = members_have_numbers ms h
-
-  items_have_numbers : (js : Items) → NumbersOfItems is_small js → ItemsHaveNumbers js
-  items_have_numbers no_items h = tt
-  items_have_numbers (item j js) h = (has_numbers j h.0, items_have_numbers js h.1)
-
-  members_have_numbers : (ms : Members) → NumbersOfMembers is_small ms → MembersHaveNumbers ms
-  members_have_numbers no_members h = tt
-  members_have_numbers (member k j ms) h = (has_numbers j h.0, members_have_numbers ms h.1)
+-- those in decimal are
+decimal_is : (s : List ℕ) → IsDecimal is_small s → IsNumber s
+decimal_is s h = subst IsNumber (sym h.1) (IsNumber-decimal h.0 h.2)
 
 pub read_as : (P : Json → Type 0) (j : Json) (line : List ℕ) → line ≡ compact_text j ++ 10 ∷ [] → NumbersAre is_small j → depth j ≤ max_depth → P j → IsReadAs line P
 read_as P j line is numbers shallow holds =
-    (compact_text j, is, j, ap document (sym (print_is j)) ∙ document-print j (has_numbers j numbers) shallow, holds)
+    (compact_text j, is, j, ap document (sym (print_is j)) ∙ document-print j (has_numbers (IsDecimal is_small) decimal_is j numbers) shallow, holds)

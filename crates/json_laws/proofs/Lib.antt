@@ -10,3 +10,6 @@ mod Columns
 mod LinesRead
 mod RowsRead
 mod RowsUnder
+mod Escapes
+mod Spelled
+mod LinesUnder

@@ -13,7 +13,7 @@ use Rattle.ipfix_elements.specs.declared.cell.Cell.{Cell}
 use Rattle.ipfix_elements.specs.declared.cell.Cell.TheVariants.{Number, Ipv4, Ipv6, Mac}
 use Rattle.ipfix_message.specs.Fields.{Field}
 use Rattle.ipfix_message.specs.declared.record.DataRecord.{DataRecord}
-use Rattle.json_laws.specs.Lines.{NumbersAre, NumbersOfItems, NumbersOfMembers}
+use Rattle.json_laws.specs.Lines.{IsDecimal, NumbersAre, TextsOfItems, TextsOfMembers}
 use Rattle.json_laws.specs.Objects.{members_of, object_of, object_of_field, object_with, value_as}
 use Rattle.json_laws.specs.RowObjects.{value_of_cell}
 
@@ -32,7 +32,7 @@ value_numbers P each (Some (Ipv4 address)) text = tt
 value_numbers P each (Some (Ipv6 address)) text = tt
 value_numbers P each (Some (Mac address)) text = tt
 
-field_numbers : (P : ℕ → Type 0) → OfExact P → (fs : List Field) → NumbersOfItems P (items_of (map object_of_field fs))
+field_numbers : (P : ℕ → Type 0) → OfExact P → (fs : List Field) → TextsOfItems (IsDecimal P) (items_of (map object_of_field fs))
 field_numbers P each [] = tt
 field_numbers P each (f ∷ fs) = ((tt, (value_numbers P each (cell_in (kind_of f.element) f.octets) (value_text (kind_of f.element) f.octets), tt)), field_numbers P each fs)
 
@@ -40,18 +40,18 @@ pub record_numbers : (P : ℕ → Type 0) → OfExact P → (r : DataRecord) →
 record_numbers P each r domain template time scope =
     ((r.domain, refl, domain), ((r.template, refl, template), ((r.export_time, refl, time), ((r.scope, refl, scope), (field_numbers P each r.fields, tt)))))
 
-pub row_numbers : (P : ℕ → Type 0) → OfExact P → (names : List (List ℕ)) (cells : List Cell) → NumbersOfMembers P (members_of (zip names (map value_of_cell cells)))
+pub row_numbers : (P : ℕ → Type 0) → OfExact P → (names : List (List ℕ)) (cells : List Cell) → TextsOfMembers (IsDecimal P) (members_of (zip names (map value_of_cell cells)))
 row_numbers P each [] cells = tt
 row_numbers P each (n ∷ ns) [] = tt
 row_numbers P each (n ∷ ns) (c ∷ cs) = (value_numbers P each (Some c) (cell_text c), row_numbers P each ns cs)
 
 -- ---- how deep they nest
 
-flat_if : (b : Bool) (s t : List ℕ) → depth (cond b (number s) (string t)) ≡ 0
+pub flat_if : (b : Bool) (s t : List ℕ) → depth (cond b (number s) (string t)) ≡ 0
 flat_if true s t = refl
 flat_if false s t = refl
 
-flat : (o : Option Cell) (text : List ℕ) → depth (value_as o text) ≡ 0
+pub flat : (o : Option Cell) (text : List ℕ) → depth (value_as o text) ≡ 0
 flat None text = refl
 flat (Some (Number n)) text = flat_if (nat_lt n (2 ^ 53)) (decimal n) text
 flat (Some (Ipv4 address)) text = refl

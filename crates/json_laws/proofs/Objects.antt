@@ -16,7 +16,7 @@ use Rattle.ipfix_message.specs.DataRecords.{HasOctets}
 use Rattle.ipfix_message.specs.Fields.{Field}
 use Rattle.ipfix_message.specs.declared.record.DataRecord.{DataRecord}
 use Rattle.ipfix_elements.specs.JsonValues.{in_quotes, json_cell, json_value}
-use Rattle.ipfix_dump.specs.JsonLines.{json_field, json_fields, json_line, comma_if}
+use Rattle.ipfix_dump.specs.JsonLines.{json_field, json_fields, json_front, json_line, comma_if}
 use Rattle.json_laws.specs.Objects.{object_of, object_of_field, value_as, value_of}
 use Rattle.json_laws.proofs.Compact.{compact_text, items_text, comma_if as comma_before}
 use Rattle.json_laws.proofs.Plain.{IsPlain, value_plain, name_plain}
@@ -45,7 +45,7 @@ value_is f all = of_cell (cell_in (kind_of f.element) f.octets) _ (value_plain (
 -- ---- fields
 
 -- the keys between quotation marks
-keys : (quoted (codes "name") ≡ codes "\"name\"") × (quoted (codes "value") ≡ codes "\"value\"") × (quoted (codes "domain") ≡ codes "\"domain\"") × (quoted (codes "template") ≡ codes "\"template\"") × (quoted (codes "export_time") ≡ codes "\"export_time\"") × (quoted (codes "scope") ≡ codes "\"scope\"") × (quoted (codes "fields") ≡ codes "\"fields\"")
+pub keys : (quoted (codes "name") ≡ codes "\"name\"") × (quoted (codes "value") ≡ codes "\"value\"") × (quoted (codes "domain") ≡ codes "\"domain\"") × (quoted (codes "template") ≡ codes "\"template\"") × (quoted (codes "export_time") ≡ codes "\"export_time\"") × (quoted (codes "scope") ≡ codes "\"scope\"") × (quoted (codes "fields") ≡ codes "\"fields\"")
 unfolding escape_byte
 keys = (refl, refl, refl, refl, refl, refl, refl)
 
@@ -62,7 +62,7 @@ unfolding json_field
 field_is f all =
     field_parts _ _ _ (name_text f.element) _ (json_value (kind_of f.element) f.octets) keys.0 keys.1 (quoted_plain (name_text f.element) (name_plain f.element)) (value_is f all)
 
-comma_is : (later : Bool) → comma_before later ≡ comma_if later
+pub comma_is : (later : Bool) → comma_before later ≡ comma_if later
 comma_is true = refl
 comma_is false = refl
 
@@ -75,6 +75,11 @@ fields_are later (f ∷ fs) all =
     one_more _ (comma_if later) _ (json_field f) _ (json_fields true fs) (comma_is later) (field_is f (All-head has_octets f fs all)) (fields_are true fs (All-tail has_octets f fs all))
 
 -- ---- records
+
+-- the text of a record's object, with that of its fields behind the opening bracket
+abbrev pub text_with : DataRecord → List ℕ → List ℕ
+text_with r fields =
+    123 ∷ (quoted (codes "domain") ++ 58 ∷ (decimal r.domain ++ 44 ∷ (quoted (codes "template") ++ 58 ∷ (decimal r.template ++ 44 ∷ (quoted (codes "export_time") ++ 58 ∷ (decimal r.export_time ++ 44 ∷ (quoted (codes "scope") ++ 58 ∷ (decimal r.scope ++ 44 ∷ (quoted (codes "fields") ++ 58 ∷ (91 ∷ (fields ++ 125 ∷ [])))))))))))
 
 object_is : (k l m n o domain template time scope fields_given fields : List ℕ)
     → k ≡ codes "\"domain\"" → l ≡ codes "\"template\"" → m ≡ codes "\"export_time\"" → n ≡ codes "\"scope\"" → o ≡ codes "\"fields\"" → fields_given ≡ fields ++ codes "]"
@@ -91,15 +96,18 @@ parts_are a b c d e f g h i j z = simp append_assoc
 end_is : (a b c d e f g h i j y z : List ℕ) → (a ++ (b ++ (c ++ (d ++ (e ++ (f ++ (g ++ (h ++ (i ++ (j ++ y)))))))))) ++ z ≡ a ++ (b ++ (c ++ (d ++ (e ++ (f ++ (g ++ (h ++ (i ++ (j ++ (y ++ z))))))))))
 end_is a b c d e f g h i j y z = simp append_assoc
 
-pub line_is : (r : DataRecord) → HasOctets r → json_line r ≡ compact_text (object_of r) ++ codes "\n"
-unfolding json_line
-line_is r all =
+-- a record's line, whatever its fields
+pub front_is : (r : DataRecord) (fields fields_given : List ℕ) → fields_given ≡ fields ++ codes "]"
+    → json_front r ++ (fields ++ codes "]}\n") ≡ text_with r fields_given ++ codes "\n"
+front_is r fields fields_given is_fields =
     let domain = decimal r.domain in
     let template = decimal r.template in
     let time = decimal r.export_time in
     let scope = decimal r.scope in
-    let fields = json_fields false r.fields in
-    let object = object_is _ _ _ _ _ domain template time scope _ fields keys.2 keys.3 keys.4 keys.5 keys.6 (fields_are false r.fields all) in
     parts_are (codes "{\"domain\":") domain (codes ",\"template\":") template (codes ",\"export_time\":") time (codes ",\"scope\":") scope (codes ",\"fields\":[") fields (codes "]}\n")
     ∙ sym (end_is (codes "{\"domain\":") domain (codes ",\"template\":") template (codes ",\"export_time\":") time (codes ",\"scope\":") scope (codes ",\"fields\":[") fields (codes "]}") (codes "\n"))
-    ∙ ap (λ (t : List ℕ). t ++ codes "\n") (sym object)
+    ∙ ap (λ (t : List ℕ). t ++ codes "\n") (sym (object_is _ _ _ _ _ domain template time scope fields_given fields keys.2 keys.3 keys.4 keys.5 keys.6 is_fields))
+
+pub line_is : (r : DataRecord) → HasOctets r → json_line r ≡ compact_text (object_of r) ++ codes "\n"
+unfolding json_line
+line_is r all = front_is r (json_fields false r.fields) _ (fields_are false r.fields all)

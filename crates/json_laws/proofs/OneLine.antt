@@ -10,7 +10,7 @@ use Rattle.std.proofs.lemmas.List.Folds.{list_all-append}
 use Rattle.std.proofs.Math.Nat.{mod-lt}
 use Rattle.json.specs.Json.{Json, null, boolean, number, string, array, object, Items, no_items, item, Members, no_members, member}
 use Rattle.json.specs.Print.{escape, escape_byte, escape_letter, quoted}
-use Rattle.json_laws.specs.Lines.{IsOneLine, lines_in, NumbersAre, NumbersOfItems, NumbersOfMembers}
+use Rattle.json_laws.specs.Lines.{IsDecimal, IsOneLine, lines_in, NumbersAre, TextsOfItems, TextsOfMembers}
 use Rattle.json_laws.proofs.Compact.{comma_if, compact_text, items_text, members_text}
 
 abbrev pub stays_in : ℕ → Bool
@@ -19,7 +19,7 @@ stays_in b = not (eqb b 10)
 abbrev pub Inside : List ℕ → Type 0
 Inside text = list_all stays_in text ≡ true
 
-both : (xs ys : List ℕ) → Inside xs → Inside ys → Inside (xs ++ ys)
+pub both : (xs ys : List ℕ) → Inside xs → Inside ys → Inside (xs ++ ys)
 both xs ys p q = list_all-append stays_in xs ys ∙ and_from _ _ p q
 
 one : (b : ℕ) → b ≢ 10 → stays_in b ≡ true
@@ -43,7 +43,7 @@ pub decimal_passes : (test : ℕ → Bool) → ((d : ℕ) → d < 10 → test (4
 unfolding digits
 decimal_passes test each n = digits_pass test each 64 n [] refl
 
-decimal_inside : (n : ℕ) → Inside (decimal n)
+pub decimal_inside : (n : ℕ) → Inside (decimal n)
 decimal_inside n = decimal_passes stays_in (λ d less. one (48 + d) (λ e. omega (arith, e))) n
 
 -- ---- strings
@@ -76,7 +76,7 @@ escaped x =
     (hex (nat_lt (x / 16) 10) (x / 16)) (hex (nat_lt (x % 16) 10) (x % 16))
     (λ high is. let no : true ≡ false = ap (λ y. nat_lt y 32) (sym is) ∙ high in absurd cc)
 
-escape_inside : (s : List ℕ) → Inside (escape s)
+pub escape_inside : (s : List ℕ) → Inside (escape s)
 escape_inside [] = refl
 escape_inside (x ∷ xs) = both (escape_byte x) (escape xs) (escaped x) (escape_inside xs)
 
@@ -88,11 +88,11 @@ quoted_inside s = both (escape s) (34 ∷ []) (escape_inside s) refl
 abbrev any : ℕ → Type 0
 any n = Unit {0}
 
-comma_inside : (later : Bool) → Inside (comma_if later)
+pub comma_inside : (later : Bool) → Inside (comma_if later)
 comma_inside true = refl
 comma_inside false = refl
 
-literal_inside : (b : Bool) → Inside (compact_text (boolean b))
+pub literal_inside : (b : Bool) → Inside (compact_text (boolean b))
 literal_inside true = refl
 literal_inside false = refl
 
@@ -105,12 +105,12 @@ mutual
   compact_inside (array js) h = items_inside false js h
   compact_inside (object ms) h = members_inside false ms h
 
-  items_inside : (later : Bool) (js : Items) → NumbersOfItems any js → Inside (items_text later js)
+  items_inside : (later : Bool) (js : Items) → TextsOfItems (IsDecimal any) js → Inside (items_text later js)
   items_inside later no_items h = refl
   items_inside later (item j js) h =
       both (comma_if later) (compact_text j ++ items_text true js) (comma_inside later) (both (compact_text j) (items_text true js) (compact_inside j h.0) (items_inside true js h.1))
 
-  members_inside : (later : Bool) (ms : Members) → NumbersOfMembers any ms → Inside (members_text later ms)
+  members_inside : (later : Bool) (ms : Members) → TextsOfMembers (IsDecimal any) ms → Inside (members_text later ms)
   members_inside later no_members h = refl
   members_inside later (member k j ms) h =
       both (comma_if later) (quoted k ++ 58 ∷ (compact_text j ++ members_text true ms)) (comma_inside later)
@@ -118,7 +118,7 @@ mutual
 
 -- ---- lines
 
-all_other : (text : List ℕ) → Inside text → All (λ b. b ≢ 10) text
+pub all_other : (text : List ℕ) → Inside text → All (λ b. b ≢ 10) text
 all_other [] h = All-nil (λ b. b ≢ 10)
 all_other (b ∷ bs) h =
     let parts = and_parts (stays_in b) (list_all stays_in bs) h in

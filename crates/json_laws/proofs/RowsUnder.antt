@@ -1,5 +1,5 @@
 -- The lines of rows under files of elements are read as their values.
-use Rattle.std.proofs.Common.{◌≡◌, ℕ, ◌<◌, ◌≤◌, ◌^◌, Bool, true, false, eqb, List, [], ◌∷◌, ◌++◌, map, find, Option, Some, None, unwrap_or, option_map, refl, sym, ap, ◌∙◌, arith, inl, inr}
+use Rattle.std.proofs.Common.{◌≡◌, ℕ, ◌<◌, ◌≤◌, ◌^◌, true, false, eqb, List, [], ◌∷◌, ◌++◌, map, find, Option, Some, None, unwrap_or, option_map, refl, sym, ap, ◌∙◌, arith, inl, inr}
 use Rattle.std.specs.Prelude.{codes, All}
 use Rattle.std.specs.List.{list_all, zip}
 use Rattle.std.specs.Option.{option_or}
@@ -67,7 +67,7 @@ listed_plain e None (Some k) h g = g k refl
 listed_plain e None None h g = numbered_plain e
 
 module _ (known : List Known) (plain : have_plain_names known ≡ true) where
-  name_plain_under : (e : ElementId) → IsPlain (name_under known e)
+  pub name_plain_under : (e : ElementId) → IsPlain (name_under known e)
   name_plain_under e = listed_plain e (entry_of e) (find (is_of e) known) (in_elements e) (λ k found. octets_plain k.name (find_all is_plain_known (is_of e) known k plain found))
 
   key_plain_under : (k : Key) → IsPlain (key_text_under known k)

@@ -6,8 +6,13 @@ mod examples;
 mod lines;
 mod rows;
 
-pub use examples::{one_record_as_json, one_row_as_json};
-pub use lines::{lines_are_apart, lines_are_objects, lines_have_exact_numbers, lines_tell_records};
+pub use examples::{
+    one_record_as_json, one_row_as_json, one_string_as_json, wrong_texts_are_refused,
+};
+pub use lines::{
+    lines_are_apart, lines_are_objects, lines_have_exact_numbers, lines_tell_records,
+    lines_under_files_are_objects,
+};
 pub use rows::{
     names_are_different, rows_are_apart, rows_are_objects, rows_tell_columns,
     rows_under_files_are_objects,
