@@ -5,3 +5,4 @@ pub mod Adding
 pub mod Decimals
 pub mod Fields
 pub mod Steps
+pub mod Noted

@@ -4,3 +4,5 @@ pub mod Faults
 pub mod Types
 pub mod Rows
 pub mod Files
+-- What only inner functions and proofs need.
+pub mod Places

@@ -3,6 +3,7 @@
 use crate::entry::{Entry, find_known, find_named};
 use crate::fault::ElementsFault;
 use crate::kind::ElementKind;
+use crate::places::Places;
 use ipfix_elements::{Kind, by_name, kind_of, name_of, write_name};
 use ipfix_wire::ElementId;
 use std::alloc::Global;
@@ -17,26 +18,30 @@ const MOST: usize = 16384;
 #[derive(Drop)]
 pub struct Elements {
     entries: Vec<Entry>,
+    // Where they stand, so that none is sought from first to last.
+    places: Places,
 }
 
 impl Model for Elements {
     ghost use Rattle.std.specs.Prelude.{List, map};
     ghost use Rattle.element_registry.specs.Registries.{Known, IsRegistry, shown};
+    ghost use Rattle.element_registry.specs.Places.{AreNoted};
 
     ghost Value = { List Known };
 
     ghost view = { λ e. map shown e.entries.items };
 
-    ghost invariant = { λ e. IsRegistry (map shown e.entries.items) };
+    ghost invariant = { λ e. IsRegistry (map shown e.entries.items)
+        × AreNoted e.places (map shown e.entries.items) };
 }
 
 impl Elements {
-    ghost use Rattle.std.specs.Prelude.{◌≡◌, true, [], is_none, map, option_map, OnOk, OnErr, IfErr, Ok};
+    ghost use Rattle.std.specs.Prelude.{◌≡◌, true, [], find, is_none, map, option_map, OnOk, OnErr, IfErr, Ok};
     ghost use Rattle.ipfix_elements.specs.Elements.{entry_of};
     ghost use Rattle.element_registry.specs.Faults.{Fails};
     ghost use Rattle.element_registry.specs.Files.{with_entry};
     ghost use Rattle.ipfix_elements.specs.Writers.{Writes};
-    ghost use Rattle.element_registry.specs.Registries.{shown, kind_under, listed_name, name_under, element_under};
+    ghost use Rattle.element_registry.specs.Registries.{IsRegistry, is_of, shown, kind_under, listed_name, name_under, element_under};
 
     /// The built-in elements alone.
     pub fn built_in(alloc: Global) -> Elements
@@ -44,6 +49,7 @@ impl Elements {
     {
         Elements {
             entries: Vec::new(alloc),
+            places: Places::new(alloc),
         }
     }
 
@@ -55,7 +61,7 @@ impl Elements {
         ensures fault { IfErr result (λ fault. Fails fault (with_entry self.old (shown entry))) }
         ensures kept { OnErr result (self.new ≡ self.old) }
     {
-        if find_known(&self.entries, entry.element).is_some() {
+        if self.find_entry(entry.element).is_some() {
             return Err(ElementsFault::NumberTwice);
         }
         if self.by_name(entry.name.as_str()).is_some() {
@@ -64,6 +70,7 @@ impl Elements {
         if self.entries.len() >= MOST {
             return Err(ElementsFault::TooMany);
         }
+        self.places.note(&self.entries, &entry)?;
         self.entries.push(entry)?;
         Ok(())
     }
@@ -75,6 +82,14 @@ impl Elements {
         self.entries.as_slice()
     }
 
+    /// What the files say of an element, of which they say nothing twice; of the built-in ones nothing.
+    pub fn find_entry(&self, element: ElementId) -> Option<&Entry>
+        ensures found { option_map (λ k. shown k.now) result ≡ find (is_of element) self.now }
+        ensures once { IsRegistry self.now }
+    {
+        find_known(&self.entries, &self.places, element)
+    }
+
     /// The kind that an element's fields are read by: octets for each element that is not known.
     pub fn kind_of(&self, element: ElementId) -> ElementKind
         ensures { result ≡ kind_under self.now element }
@@ -82,7 +97,7 @@ impl Elements {
         if name_of(element).is_some() {
             return ElementKind::Plain(kind_of(element));
         }
-        match find_known(&self.entries, element) {
+        match self.find_entry(element) {
             Some(entry) => entry.kind,
             None => ElementKind::Plain(Kind::Octets),
         }
@@ -94,7 +109,7 @@ impl Elements {
     {
         match name_of(element) {
             Some(name) => Some(name),
-            None => Some(find_known(&self.entries, element)?.name.as_str()),
+            None => Some(self.find_entry(element)?.name.as_str()),
         }
     }
 
@@ -105,7 +120,7 @@ impl Elements {
         if name_of(element).is_some() {
             return write_name(element, out);
         }
-        match find_known(&self.entries, element) {
+        match self.find_entry(element) {
             Some(entry) => out.write_all(entry.name.as_bytes()),
             None => write_name(element, out),
         }
@@ -117,7 +132,7 @@ impl Elements {
     {
         match by_name(name) {
             Some(element) => Some(element),
-            None => find_named(&self.entries, name),
+            None => find_named(&self.entries, &self.places, name),
         }
     }
 }

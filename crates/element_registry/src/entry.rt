@@ -1,9 +1,12 @@
 //! What a file says of an element.
 
 ghost use Rattle.std.specs.Prelude.{◌≡◌, find, map, option_map};
+ghost use Rattle.std.specs.Option.{option_copied};
+ghost use Rattle.element_registry.specs.Places.{AreNoted, standing};
 ghost use Rattle.element_registry.specs.Registries.{is_of, is_named, shown};
 
 use crate::kind::ElementKind;
+use crate::places::Places;
 use ipfix_wire::ElementId;
 
 /// What a file says of an element.
@@ -17,30 +20,42 @@ pub struct Entry {
     pub is_delta: bool,
 }
 
-/// The entry of an element.
-pub fn find_known(mut entries: &[Entry], element: ElementId) -> Option<&Entry>
+// What stands at a place.
+fn entry_at<'a>(entries: &'a [Entry], place: Option<&usize>) -> Option<&'a Entry>
     ensures { option_map (λ k. shown k.now) result
-        ≡ find (is_of element) (map shown entries.entry.now) }
+        ≡ standing (map shown entries.now) (option_copied place.entry) }
 {
-    while let [entry, rest @ ..] = entries {
-        if entry.element == element {
-            return Some(entry);
-        }
-        entries = rest;
+    entries.get(*place?)
+}
+
+/// The entry of an element.
+pub fn find_known<'a>(
+    entries: &'a [Entry],
+    places: &Places,
+    element: ElementId,
+) -> Option<&'a Entry>
+    requires { AreNoted places.now (map shown entries.now) }
+    ensures { option_map (λ k. shown k.now) result ≡ find (is_of element) (map shown entries.now) }
+{
+    let place = places.by_element.get(&(element.pen, element.number));
+    let entry = entry_at(entries, place)?;
+    if entry.element == element {
+        Some(entry)
+    } else {
+        None
     }
-    None
 }
 
 /// The element that is written so.
-pub fn find_named(mut entries: &[Entry], name: &str) -> Option<ElementId>
+pub fn find_named(entries: &[Entry], places: &Places, name: &str) -> Option<ElementId>
+    requires { AreNoted places.now (map shown entries.now) }
     ensures { result
-        ≡ option_map (λ k. k.element) (find (is_named name.now) (map shown entries.entry.now)) }
+        ≡ option_map (λ k. k.element) (find (is_named name.now) (map shown entries.now)) }
 {
-    while let [entry, rest @ ..] = entries {
-        if entry.name.as_str() == name {
-            return Some(entry.element);
-        }
-        entries = rest;
+    let entry = entry_at(entries, places.by_name.get(name))?;
+    if entry.name.as_str() == name {
+        Some(entry.element)
+    } else {
+        None
     }
-    None
 }

@@ -10,6 +10,7 @@ mod kind;
 pub mod laws;
 mod names;
 mod numbers;
+mod places;
 mod reading;
 mod row;
 mod rows;

@@ -94,6 +94,13 @@ fn parts_at(elements: &Elements, place: usize) -> Option<(ElementId, &str, Eleme
     Some(parts_of(elements.entries().get(place)?))
 }
 
+fn parts_found(
+    elements: &Elements,
+    element: ElementId,
+) -> Option<(ElementId, &str, ElementKind, bool)> {
+    Some(parts_of(elements.find_entry(element)?))
+}
+
 // What is known of an element, and which one has the name.
 fn look_up<'a>(
     elements: &'a Elements,
@@ -120,7 +127,12 @@ fn reads_ianas_columns(rt: HostRuntime) -> Result<(), Fail> {
             parts_at(&elements, place),
             Some((ElementId::iana(number), name, kind, is_delta))
         );
+        assert_eq!(rt;
+            parts_found(&elements, ElementId::iana(number)),
+            parts_at(&elements, place)
+        );
     }
+    assert_eq!(rt; parts_found(&elements, ElementId::iana(8)), None);
     Ok(())
 }
 
