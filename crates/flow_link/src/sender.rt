@@ -55,6 +55,7 @@ impl Sender {
 
     /// Sends a parcel, or gives it back if the ring is full. It waits for nobody, and takes no
     /// memory.
+    #[inline(always)]
     #[tactic(auto, using(crate::proofs::ParcelLists::has_last_push, crate::proofs::ParcelLists::last_ends_push))]
     pub fn try_send(&mut self, parcel: Parcel) -> Result<(), Parcel>
         requires { has_last self.old.sent ≡ false }
@@ -72,6 +73,7 @@ impl Sender {
     }
 
     /// Sends a parcel, and waits while the ring is full. It comes back if the receiver is gone.
+    #[inline(always)]
     pub fn send(&mut self, rt: &impl Wait, parcel: Parcel) -> Result<(), Parcel>
         requires { has_last self.old.sent ≡ false }
         ensures link { (self.new.link ≡ self.old.link) × (self.new.capacity ≡ self.old.capacity) }

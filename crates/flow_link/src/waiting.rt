@@ -4,29 +4,24 @@ ghost use Rattle.std.specs.Prelude.{◌≡◌, ◌*◌, ◌≤◌};
 ghost use Rattle.std.specs.Duration.{as_nanos};
 ghost use Rattle.flow_link.specs.declared.waiting.TheConstants.{LONGEST_NAP, SHORTEST_NAP};
 
-use std::hint::spin_loop;
 use std::sync::Wait;
 use std::thread::Parker;
 use std::time::Duration;
 
-/// Before this many tries in a row a wait only spins. (More of them gain no time, and cost a session's
-/// processor while its worker serves others.)
-const SPINS: u32 = 8;
-
 /// The shortest sleep, in microseconds.
-const SHORTEST_NAP: u32 = 10;
+const SHORTEST_NAP: u32 = 2;
 
 /// The longest sleep, in microseconds.
 const LONGEST_NAP: u32 = 1000;
 
-/// How one end of a link waits for the other: first it spins, and then it sleeps, for 1 ms at most. It
-/// learns how long is usual: if no more than half of what the ring holds was moved since it slept, it
-/// sleeps twice as long, and if as much as the ring holds was, half as long. While the other end moves
-/// nothing at all each sleep is half as long again, and when it goes on, sleeps are as long as before.
+/// How one end of a link waits for the other: it sleeps, for 1 ms at most. (One that spins before it
+/// finds a single parcel, or room for one, and then the two take turns at each.) It learns how long is
+/// usual: if no more than half of what the ring holds was moved since it slept, it sleeps twice as long,
+/// and if as much as the ring holds was, half as long. While the other end moves nothing at all each
+/// sleep is half as long again, and when it goes on, sleeps are as long as before.
 #[derive(Clone, Copy, Debug)]
 pub struct Patience {
     capacity: u64,
-    tries: u32,
     moved: u64,
     usual: u32,
     nap: u32,
@@ -41,7 +36,6 @@ impl Patience {
     pub fn new(capacity: usize) -> Patience {
         Patience {
             capacity: capacity as u64,
-            tries: 0,
             moved: 0,
             usual: SHORTEST_NAP,
             nap: SHORTEST_NAP,
@@ -50,17 +44,11 @@ impl Patience {
 
     /// So many parcels were moved.
     pub fn moved(&mut self, parcels: u64) {
-        self.tries = 0;
         self.moved = self.moved.saturating_add(parcels);
     }
 
     /// Waits a little before the next try, after one that moved nothing.
     pub fn wait(&mut self, rt: &impl Wait) {
-        if self.tries < SPINS {
-            self.tries += 1;
-            spin_loop();
-            return;
-        }
         self.usual = self.next_usual();
         self.nap = self.next_nap();
         self.moved = 0;

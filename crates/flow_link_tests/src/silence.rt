@@ -6,7 +6,7 @@ use std::test::Fail;
 use std::thread;
 use std::thread::Threads;
 
-/// So many waits in a row spin, take each of the longer and longer sleeps, and then some dozens of the
+/// So many waits in a row take each of the longer and longer sleeps, and then some ninety of the
 /// longest: about a tenth of a second.
 const SILENT_TRIES: u32 = 110;
 

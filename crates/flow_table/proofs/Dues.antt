@@ -1,8 +1,12 @@
 -- What is due of a counter, interval by interval.
 use Rattle.std.proofs.Common.{◌≡◌, ℕ, ◌+◌, ◌-◌, ◌*◌, ◌/◌, ◌<◌, ◌≤◌, arith}
-use Rattle.std.proofs.Math.Nat.{le-div_iff_mul-le, div-mul-le_self, mul-le-mul_left, mod-lt}
+use Rattle.std.proofs.Math.Nat.{le-div_iff_mul-le, div-eq_of_lt-le, div-mul-le_self, mul-le-mul_left, mod-lt}
 use Rattle.std.proofs.lemmas.Nat.{div-add-mod'}
 use Rattle.flow_table.specs.Intervals.{interval_of, milliseconds_before, due_before}
+
+-- the interval that a time is in
+pub interval_is : (length time k : ℕ) → k * length ≤ time → time < (k + 1) * length → interval_of length time ≡ k
+interval_is length time k low high = div-eq_of_lt-le length low high
 
 -- a part of more is at least as large
 pub quotient_grows : (a b d : ℕ) → 0 < d → a ≤ b → a / d ≤ b / d

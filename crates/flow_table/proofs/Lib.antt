@@ -28,3 +28,4 @@ pub mod FlatTables
 pub mod RowsAdded
 pub mod Holding
 pub mod TablesAdded
+pub mod Counting

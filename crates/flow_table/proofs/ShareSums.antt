@@ -1,5 +1,5 @@
 -- The shares of a flow's intervals add up to the counter.
-use Rattle.std.proofs.Common.{◌≡◌, ℕ, ◌+◌, ◌-◌, ◌*◌, ◌/◌, ◌%◌, ◌<◌, ◌≤◌, zero, suc, min, refl, ap, ◌∙◌, arith}
+use Rattle.std.proofs.Common.{◌≡◌, ℕ, ◌+◌, ◌-◌, ◌*◌, ◌/◌, ◌%◌, ◌<◌, ◌≤◌, zero, suc, List, [], ◌∷◌, min, refl, ap, ◌∙◌, arith}
 use Rattle.std.specs.Prelude.{◌≢◌, sum_by, ◌&&◌, nat_lt, nat_le, if◌then◌else◌}
 use Rattle.std.specs.List.{range_with_len}
 use Rattle.std.proofs.lemmas.List.Sums.{sum_by-cons}
@@ -8,7 +8,7 @@ use Rattle.std.proofs.lemmas.Bool.Decides.{eqb_tells, leb_tells}
 use Rattle.flow_table.specs.declared.method.Method.{Method}
 use Rattle.flow_table.specs.declared.method.Method.TheVariants.{Start, End, Mid, Uniform, Proportional}
 use Rattle.flow_table.specs.Plans.{PlanValue}
-use Rattle.flow_table.specs.Intervals.{interval_of, spread, covered_by, whole_share, uniform_share, due_before, proportional_share, share_by, share}
+use Rattle.flow_table.specs.Intervals.{interval_of, spread, covered_by, covers, covers_by, whole_share, uniform_share, due_before, proportional_share, share_by, share}
 use Rattle.flow_table.proofs.Dues.{quotient_grows, due_grows, nothing_before, all_before}
 
 first_apart : (f : ℕ → ℕ) (a n : ℕ) → sum_by f (range_with_len a (suc n)) ≡ f a + sum_by f (range_with_len (a + 1) n)
@@ -105,3 +105,28 @@ shares_add_up p s e v positive order = by_method p.length p.method s e v positiv
   by_method length Mid s e v positive order = one_covered length s e ((s + e) / 2) v positive (omega arith) (omega arith)
   by_method length Uniform s e v positive order = uniform_covered length s e v positive order
   by_method length Proportional s e v positive order = proportional_covered length s e v positive order
+
+-- ---- one interval alone
+
+first_same : (j k : ℕ) → j ∷ [] ≡ k ∷ [] → k ≡ j
+first_same j k same = cc same
+
+whole_in_it : (one v k : ℕ) → one ∷ [] ≡ k ∷ [] → whole_share one v k ≡ v
+whole_in_it one v k alone = ap (whole_share one v) (first_same one k alone) ∙ whole_there one v
+
+sum_in_it : (f : ℕ → ℕ) (ks : List ℕ) (v k : ℕ) → sum_by f ks ≡ v → ks ≡ k ∷ [] → f k ≡ v
+sum_in_it f ks v k sum alone =
+    let one : sum_by f ks ≡ f k + 0 = ap (sum_by f) alone ∙ sum_by-cons f k [] in omega (arith, sum, one)
+
+-- an interval that alone is covered gets the whole counter
+pub whole_alone : (p : PlanValue) (s e v k : ℕ) → 0 < p.length → s ≤ e → covers p s e ≡ k ∷ [] → share p s e v k ≡ v
+whole_alone p s e v k positive order alone = by_method p.length p.method s e v k positive order alone where
+  by_method : (length : ℕ) (method : Method) (s e v k : ℕ) → 0 < length → s ≤ e → covers_by method length s e ≡ k ∷ [] → share_by method length s e v k ≡ v
+  by_method length Start s e v k positive order alone = whole_in_it (interval_of length s) v k alone
+  by_method length End s e v k positive order alone = whole_in_it (interval_of length e) v k alone
+  by_method length Mid s e v k positive order alone = whole_in_it (interval_of length ((s + e) / 2)) v k alone
+  by_method length Uniform s e v k positive order alone = sum_in_it (uniform_share length s e v) (covered_by length s e) v k (uniform_covered length s e v positive order) alone
+  by_method length Proportional s e v k positive order alone = sum_in_it (proportional_share length s e v) (covered_by length s e) v k (proportional_covered length s e v positive order) alone
+
+pub alone_gets_all : (p : PlanValue) (s e first n : ℕ) → 0 < p.length → s ≤ e → covers p s e ≡ range_with_len first n → n ≡ 1 → (v : ℕ) → share p s e v first ≡ v
+alone_gets_all p s e first n positive order are one v = whole_alone p s e v first positive order (are ∙ ap (range_with_len first) one)

@@ -3,6 +3,7 @@
 ghost use Rattle.std.specs.Prelude.{◌≡◌, ℕ, List, Some, OnOk, IfErr, length};
 ghost use Rattle.ipfix_elements.specs.declared.cell.Cell.{Cell as CellValue};
 ghost use Rattle.flow_table.specs.Flows.{flow_total, flow_part};
+ghost use Rattle.flow_table.specs.Intervals.{share};
 ghost use Rattle.flow_table.specs.Totals.{IsLargeAt, joined};
 ghost use Rattle.flow_table.specs.Rows.{AreRowsOf, kept_at, place_part};
 ghost use Rattle.flow_table.specs.Words.{key_words};
@@ -23,17 +24,21 @@ pub struct Room {
     pub words: Vec<u64>,
     pub counters: Vec<u64>,
     pub shares: Vec<u64>,
+    /// The first interval of the flow before.
+    pub interval: u64,
 }
 
-/// Adds the shares of a flow, whose key and counters were read, at an interval to the totals of its
-/// key there.
+/// Adds the shares of a flow, whose key and counters were read, at one of its intervals, of which there
+/// are `count`, to the totals of its key there.
 fn add_at(
     plan: &Plan,
     rows: &mut Rows,
     span: Span,
     interval: u64,
+    count: u64,
     room: &mut Room,
 ) -> Result<(), TableFault>
+    requires alone { count ≡ 1 → (n : ℕ) → share plan.now span.start span.end n interval ≡ n }
     requires words { key_words plan.now.kinds room.old.key.items
         ≡ Some room.old.words.items }
     requires counters { length room.old.counters.items ≡ length plan.now.counters }
@@ -52,7 +57,14 @@ fn add_at(
     ensures kept_words { room.new.words.items ≡ room.old.words.items }
     ensures kept_counters { room.new.counters.items ≡ room.old.counters.items }
 {
-    read_shares(plan, span, &room.counters, interval, &mut room.shares)?;
+    read_shares(
+        plan,
+        span,
+        &room.counters,
+        interval,
+        count,
+        &mut room.shares,
+    )?;
     rows.add(interval, &room.words, 1, &room.shares)
 }
 
@@ -73,9 +85,10 @@ pub fn add_flow(plan: &Plan, rows: &mut Rows, span: Span, room: &mut Room) -> Re
         → (k : ℕ) × (q : List CellValue) × IsLargeAt (joined (kept_at plan.now rows.old k q)
         (flow_part plan.now span.start span.end room.old.key.items room.old.counters.items k q))) }
 {
-    let (first, count) = covered(plan, span);
+    let (first, count) = covered(plan, span, room.interval);
+    room.interval = first;
     for interval in first..first + count {
-        add_at(plan, rows, span, interval, room)?;
+        add_at(plan, rows, span, interval, count, room)?;
     }
     Ok(())
 }

@@ -61,6 +61,7 @@ impl Partial {
                 words: Vec::new(alloc),
                 counters: Vec::new(alloc),
                 shares: Vec::new(alloc),
+                interval: 0,
             },
         })
     }

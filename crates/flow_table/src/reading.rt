@@ -2,12 +2,13 @@
 
 ghost use Rattle.std.specs.Prelude.{◌≡◌, ◌<◌, ◌≤◌, true, Some, None, is_none, OnOk, IfOk, IfSome, All, length, map, if◌then◌else◌};
 ghost use Rattle.std.specs.List.{AllPass, AllZip};
-ghost use Rattle.ipfix_elements.specs.Values.{cell_in};
+ghost use Rattle.ipfix_elements.specs.Values.{cell_in, number_in};
 ghost use Rattle.flow_table.specs.Fitting.{IsCellOf};
 ghost use Rattle.flow_table.specs.Missing.{first_without};
 ghost use Rattle.flow_table.specs.Plans.{HasPrefix, is_key_kind};
 ghost use Rattle.flow_table.specs.Reading.{counter_of, number_of, cell_of, cells_of, projected, is_too_long as is_too_long_in};
 ghost use Rattle.flow_table.specs.Readings.{Notes, ReadsAs};
+ghost use Rattle.flow_table.specs.declared.reading.TheConstants.{COUNTER_KIND};
 
 use crate::key::Key;
 use crate::left_out::LeftOut;
@@ -15,6 +16,7 @@ use crate::method::Method;
 use crate::plan::{MAX_COUNTERS, Plan};
 use crate::span::Span;
 use crate::times::{end_of, start_of};
+use byteorder::{BigEndian, ByteOrder};
 use ipfix_elements::{Cell, Kind, Width, mask, read_cell, read_number};
 use ipfix_message::DataRecord;
 use ipfix_wire::ElementId;
@@ -140,7 +142,18 @@ fn counter(data_record: &DataRecord, element: ElementId) -> Option<u64>
     ensures { result ≡ number_of element data_record.now }
 {
     let octets = data_record.fields.find(element)?;
-    read_number(COUNTER_KIND, octets)
+    read_counter(octets)
+}
+
+// The counter that octets are. The lengths that most have are read in one step, the others copied.
+fn read_counter(octets: &[u8]) -> Option<u64>
+    ensures { result ≡ number_in COUNTER_KIND octets.now }
+{
+    match octets.len() {
+        4 => Some(u64::from(BigEndian::read_u32(octets))),
+        8 => Some(BigEndian::read_u64(octets)),
+        _ => read_number(COUNTER_KIND, octets),
+    }
 }
 
 /// Leaves the counters of a record in `counters`, and counts those that it lacks in `missing`, where

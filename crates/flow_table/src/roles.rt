@@ -1,14 +1,15 @@
 //! What an element may be in a plan: a key or a counter, built in or known from files.
 
-ghost use Rattle.std.specs.Prelude.{◌≡◌, map};
+ghost use Rattle.std.specs.Prelude.{◌≡◌, IfOk};
 ghost use Rattle.std.specs.List.{list_any};
-ghost use Rattle.element_registry.specs.Registries.{shown};
 ghost use Rattle.flow_table.specs.Plans.{is_element as is_element_in, is_key_kind as is_key_kind_in, is_prefix_of as is_prefix_of_in, is_counter as is_counter_in};
-ghost use Rattle.flow_table.specs.PlansUnder.{field_kind as field_kind_in, key_kind_under, is_key_under, is_unsigned as is_unsigned_in, is_delta_of as is_delta_of_in, is_counter_under};
+ghost use Rattle.flow_table.specs.PlansUnder.{field_kind as field_kind_in, key_kind_under, kinds_under, is_key_under, is_unsigned as is_unsigned_in, is_delta_of as is_delta_of_in, is_counter_under};
 
-use element_registry::{ElementKind, Elements, Entry};
+use crate::key::Key;
+use element_registry::{ElementKind, Elements};
 use ipfix_elements::{Kind, Width, iana, name_of};
 use ipfix_wire::ElementId;
+use std::alloc::{AllocError, Global};
 
 /// The numbers of elements are below this one: its bit tells an element of an enterprise (RFC 7011,
 /// section 3.2).
@@ -62,6 +63,15 @@ pub fn key_kind(elements: &Elements, element: ElementId) -> Kind
     field_kind(elements.kind_of(element))
 }
 
+/// The kinds of keys, in their order.
+pub fn kinds_of(alloc: Global, elements: &Elements, keys: &[Key]) -> Result<Vec<Kind>, AllocError>
+    ensures { IfOk result (λ kinds. kinds.items ≡ kinds_under elements.now keys.now) }
+{
+    keys.iter()
+        .map(|key| key_kind(elements, key.element))
+        .collect(alloc)
+}
+
 /// Whether an element may be a key of a plan: a number, a truth value or an address, built in or named
 /// by a file, and with a number up to 32767 (RFC 7011, section 3.2).
 pub fn is_key(elements: &Elements, element: ElementId) -> bool
@@ -94,23 +104,14 @@ fn is_unsigned(kind: ElementKind) -> bool
 }
 
 // Whether what a file says makes the element a counter.
-fn is_delta_of(element: ElementId, entry: &Entry) -> bool
-    ensures { result ≡ is_delta_of_in element (shown entry.now) }
+#[tactic(auto, using(crate::proofs::Counting::counts_once))]
+fn is_delta(elements: &Elements, element: ElementId) -> bool
+    ensures { result ≡ list_any (is_delta_of_in element) elements.now }
 {
-    entry.element == element && entry.is_delta && is_unsigned(entry.kind)
-}
-
-// Whether one of these makes the element a counter.
-fn is_delta(mut entries: &[Entry], element: ElementId) -> bool
-    ensures { result ≡ list_any (is_delta_of_in element) (map shown entries.entry.now) }
-{
-    while let [entry, rest @ ..] = entries {
-        if is_delta_of(element, entry) {
-            return true;
-        }
-        entries = rest;
+    match elements.find_entry(element) {
+        Some(entry) => entry.is_delta && is_unsigned(entry.kind),
+        None => false,
     }
-    false
 }
 
 /// Whether an element may be a counter of a plan: a delta counter of octets, packets or flows that is
@@ -119,7 +120,5 @@ pub fn is_counter(elements: &Elements, element: ElementId) -> bool
     ensures { result ≡ is_counter_under elements.now element }
 {
     is_built_in_counter(element)
-        || is_element(element)
-            && name_of(element).is_none()
-            && is_delta(elements.entries(), element)
+        || is_element(element) && name_of(element).is_none() && is_delta(elements, element)
 }

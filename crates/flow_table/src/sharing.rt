@@ -1,9 +1,9 @@
 //! How a flow's counters are shared among intervals.
 
-ghost use Rattle.std.specs.Prelude.{◌≡◌, ◌+◌, ◌≤◌, ◌<◌, ◌^◌, OnOk};
+ghost use Rattle.std.specs.Prelude.{◌≡◌, ℕ, ◌+◌, ◌*◌, ◌≤◌, ◌<◌, ◌^◌, IsTrue, OnOk};
 ghost use Rattle.std.specs.List.{range_with_len};
 ghost use Rattle.flow_table.specs.Flows.{shares_of};
-ghost use Rattle.flow_table.specs.Intervals.{covers, share as share_in, whole_share as whole_share_in, uniform_share as uniform_share_in, proportional_share as proportional_share_in, due_before as due_before_in};
+ghost use Rattle.flow_table.specs.Intervals.{covers, interval_of, share as share_in, whole_share as whole_share_in, uniform_share as uniform_share_in, proportional_share as proportional_share_in, due_before as due_before_in};
 
 use crate::method::Method;
 use crate::plan::Plan;
@@ -38,38 +38,83 @@ fn share_of(plan: &Plan, span: Span, value: u64, interval: u64) -> u64
     }
 }
 
-/// Leaves in `shares` what an interval gets of the counters of a flow.
+// What one of the intervals of a flow, of which there are `count`, gets of a counter.
+fn share_of_one(plan: &Plan, span: Span, value: u64, interval: u64, count: u64) -> u64
+    requires alone { count ≡ 1
+        → (n : ℕ) → share_in plan.now span.start span.end n interval ≡ n }
+    ensures { result ≡ share_in plan.now span.start span.end value interval }
+{
+    if count == 1 {
+        value
+    } else {
+        share_of(plan, span, value, interval)
+    }
+}
+
+/// Leaves in `shares` what one of the intervals of a flow, of which there are `count`, gets of its
+/// counters.
 pub(crate) fn read_shares(
     plan: &Plan,
     span: Span,
     counters: &[u64],
     interval: u64,
+    count: u64,
     shares: &mut Vec<u64>,
 ) -> Result<(), AllocError>
+    requires alone { count ≡ 1
+        → (n : ℕ) → share_in plan.now span.start span.end n interval ≡ n }
     ensures { OnOk result (shares.new.items
         ≡ shares_of plan.now span.start span.end counters.now interval) }
 {
     shares.clear();
     for value in counters {
-        shares.push(share_of(plan, span, *value, interval))?;
+        shares.push(share_of_one(plan, span, *value, interval, count))?;
     }
     Ok(())
 }
 
-/// The intervals that a flow contributes to: the first, and how many there are, one after another.
-pub(crate) fn covered(plan: &Plan, span: Span) -> (u64, u64)
+// Whether a time is in an interval.
+fn is_in(time: u64, length: u64, interval: u64) -> bool
+    ensures { IsTrue result → (interval * length ≤ time) × (time < (interval + 1) * length) }
+{
+    match interval.checked_mul(length) {
+        Some(begin) => begin <= time && time - begin < length,
+        None => false,
+    }
+}
+
+// The interval of a time. A guess is tried first: flows mostly begin in the interval of the one before,
+// and to divide takes a processor much longer than to multiply.
+#[tactic(auto, using(crate::proofs::Dues::interval_is))]
+fn interval_at(time: u64, length: u64, guess: u64) -> u64
+    requires { 0 < length }
+    ensures { result ≡ interval_of length time }
+{
+    if is_in(time, length, guess) {
+        guess
+    } else {
+        time / length
+    }
+}
+
+/// The intervals that a flow contributes to: the first, and how many there are, one after another. A
+/// guess of the first is tried first.
+pub(crate) fn covered(plan: &Plan, span: Span, guess: u64) -> (u64, u64)
     ensures covers { covers plan.now span.start span.end ≡ range_with_len result.0 result.1 }
     ensures fits { result.0 + result.1 < 2 ^ 64 }
+    // One alone gets all of each counter.
+    ensures alone { result.1 ≡ 1
+        → (n : ℕ) → share_in plan.now span.start span.end n result.0 ≡ n }
 {
     let length = u64::from(plan.length());
     let Span { start, end } = span;
     match plan.method() {
-        Method::Start => (start / length, 1),
-        Method::End => (end / length, 1),
-        Method::Mid => ((start + end) / 2 / length, 1),
+        Method::Start => (interval_at(start, length, guess), 1),
+        Method::End => (interval_at(end, length, guess), 1),
+        Method::Mid => (interval_at((start + end) / 2, length, guess), 1),
         Method::Uniform | Method::Proportional => {
-            let low = start / length;
-            (low, end / length - low + 1)
+            let low = interval_at(start, length, guess);
+            (low, interval_at(end, length, low) - low + 1)
         }
     }
 }

@@ -12,6 +12,7 @@ use ipfix_wire::ElementId;
 pub const TIME_LIMIT: u64 = 1 << 50;
 
 /// The time in the first field of an element, whose unit is so many milliseconds.
+#[inline(always)]
 fn time_of(data_record: &DataRecord, number: u16, kind: Kind, unit: u64) -> Option<u64>
     requires { kind_of (iana number) ≡ kind }
     ensures value { result ≡ time_in_record (iana number) unit data_record.now }

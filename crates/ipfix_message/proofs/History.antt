@@ -90,7 +90,7 @@ is_some-option_map : {A B : Type 0} (f : A → B) (o : Option A) → is_some (op
 is_some-option_map f None = refl
 is_some-option_map f (Some x) = refl
 
-lookup-kept : (domain : ℕ) (es : List (ℕ × BTreeMap ℕ Template)) → lookup (eqb domain) (kept es) ≡ option_map (λ (m : BTreeMap ℕ Template). m.entries) (lookup (eqb domain) es)
+pub lookup-kept : (domain : ℕ) (es : List (ℕ × BTreeMap ℕ Template)) → lookup (eqb domain) (kept es) ≡ option_map (λ (m : BTreeMap ℕ Template). m.entries) (lookup (eqb domain) es)
 lookup-kept domain es = lookup-map_values (λ (m : BTreeMap ℕ Template). m.entries) (eqb domain) es
 
 keys_of-kept : (es : List (ℕ × BTreeMap ℕ Template)) → keys_of (kept es) ≡ keys_of es

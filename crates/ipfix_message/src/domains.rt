@@ -1,6 +1,7 @@
 //! The domains of a transport session, which decode its messages (RFC 7011, sections 3.1 and 8).
 
-ghost use Rattle.std.specs.Prelude.{[], ◌≡◌, false, true, IsTrue, ℕ, IsErrOf, IsOk, IfOk, OnOk, OnErr, Ok, Err, MatchBool, None, option_copied, option_and_then};
+ghost use Rattle.std.specs.Prelude.{[], ◌≡◌, false, true, IsTrue, ℕ, IsErrOf, IsOk, IfOk, OnOk, OnErr, Ok, Err, MatchBool, None, nat_eq, option_copied, option_map, option_and_then};
+ghost use Rattle.std.specs.Map.{lookup};
 ghost use Rattle.std.specs.Ordering.{nat_cmp};
 ghost use Rattle.std.specs.BTreeMap.{get};
 ghost use Rattle.ipfix_message.specs.Domains.{History, StandsFor, Decodes, IsAdmitted, admit, message_header, message_gives, template_for, alone};
@@ -117,6 +118,8 @@ impl Domains {
     /// ([`TemplateInForce::to_write`](crate::TemplateInForce::to_write)).
     pub fn templates(&self, domain: u32) -> Option<&Templates>
         ensures spent { IsTrue self.now.spent → result ≡ None }
+        ensures entries { self.now.spent ≡ false → option_map (λ t. t.entries) (option_copied result)
+            ≡ lookup (nat_eq domain) self.now.domains }
         ensures found { self.now.spent ≡ false → (ds : History) → StandsFor self.now.domains ds
             → (id : ℕ) → option_and_then (λ t. get nat_cmp t id) (option_copied result)
             ≡ template_for ds domain id }

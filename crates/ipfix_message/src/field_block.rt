@@ -126,6 +126,7 @@ impl Fields {
     }
 
     /// The octets of the first field of an element.
+    #[inline(always)]
     pub fn find(&self, element: ElementId) -> Option<&[u8]>
         ensures { option_copied result ≡ octets_of element self.now }
     {

@@ -7,6 +7,7 @@ ghost use Rattle.ipfix_message.specs.SpelledFields.{value_at, unless_cut};
 use ipfix_wire::{VARIABLE_WIDTH, read_length};
 
 /// The octets of a field of this width, and what follows them. `None` is a field that is cut.
+#[inline(always)]
 #[tactic(auto, unfolding(crate::specs::SpelledFields::value_at))]
 pub fn value_of(width: u16, rest: &[u8]) -> Option<(&[u8], &[u8])>
     ensures gives { value_at width rest.now

@@ -58,6 +58,7 @@ impl LaidOut {
     }
 
     /// The octets of the first field of an element in the record with which these octets begin.
+    #[inline(always)]
     pub fn find<'a>(&self, element: ElementId, octets: &'a [u8]) -> Option<&'a [u8]>
         requires { BeginsWithFields self.now.specs octets.now }
         ensures { option_copied result ≡ octets_of element (fields_in self.now.specs octets.now) }

@@ -94,6 +94,7 @@ impl Layout {
 
     /// The octets of the first field of an element in a record. Elements that the template doesn't
     /// have cost a search alone.
+    #[inline(always)]
     pub fn find<'a>(&self, element: ElementId, octets: &'a [u8]) -> Option<&'a [u8]>
         requires { (specs : List Spec) × IsLayout self.now specs }
         ensures { option_copied result ≡ octets_at_place self.now.gaps.items

@@ -94,6 +94,7 @@ impl OwnFields {
     }
 
     /// The octets of the first field of an element. It is found by going over the fields before it.
+    #[inline(never)]
     pub fn find(&self, element: ElementId) -> Option<&[u8]>
         ensures { option_copied result ≡ octets_of element self.now }
     {

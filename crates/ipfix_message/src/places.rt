@@ -112,6 +112,7 @@ impl Places {
 
     /// Where the first field of an element stands. Most elements, and most that the template doesn't
     /// have, cost a look at one spot.
+    #[inline(always)]
     pub fn find(&self, element: ElementId) -> Option<&FieldPlace>
         requires { AreSpotsOf self.now.spots self.now.all }
         ensures { option_copied result ≡ get nat_cmp self.now.all (Layouts.key_of element) }
@@ -124,6 +125,14 @@ impl Places {
         if spot.key == VACANT {
             return None;
         }
+        self.search(key)
+    }
+
+    // Where the field of a key stands whose spot has another.
+    #[inline(never)]
+    fn search(&self, key: u64) -> Option<&FieldPlace>
+        ensures { option_copied result ≡ get nat_cmp self.now.all key }
+    {
         self.all.get(&key)
     }
 }

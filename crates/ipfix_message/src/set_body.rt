@@ -85,6 +85,7 @@ impl SetRecord {
     }
 
     /// The octets of the first field of an element.
+    #[inline(always)]
     pub fn find(&self, element: ElementId) -> Option<&[u8]>
         ensures { option_copied result ≡ octets_of element self.now }
     {

@@ -1,6 +1,7 @@
-use Rattle.std.proofs.Common.{◌+◌, refl, ◌∙◌, arith}
+use Rattle.std.proofs.Common.{◌≡◌, ℕ, ◌+◌, refl, ap, ◌∙◌, arith}
 use Rattle.std.proofs.lemmas.Result.{err_from_is_err_and}
 use Rattle.flow_table.specs.Flows.{flow_total}
+use Rattle.flow_table.specs.Intervals.{share}
 use Rattle.flow_table.specs.Rows.{kept_at}
 use Rattle.flow_table.proofs.Runs.{step_words, large_words, run_step, run_none, run_large, run_whole, run_done}
 use Rattle.flow_table.proofs.adding.add_flow.Goals as goal
@@ -14,6 +15,11 @@ loop-interval-init c = record {
   words = refl;
   counters = refl;
 }
+
+pub add_at-requires-clause-alone : goal.add_at-requires-clause-alone
+add_at-requires-clause-alone c = λ one n.
+    let first : c.loop-interval.interval ≡ c.covered-first.result.0 = omega (arith, one) in
+    ap (λ (k : ℕ). share c.args.plan.now c.args.span.start c.args.span.end n k) first ∙ c.covered-first.ensures.alone one n
 
 pub loop-interval-preserved : goal.loop-interval-preserved
 loop-interval-preserved c =
