@@ -53,7 +53,7 @@ plain_table telling verbose strict known plan table =
 pub plain_alone : (telling : Telling) → telling.verbose ≡ false → telling.strict ≡ false → (known : List Known) (plan : PlanValue) (origins : List Origin) (fulls : List FullReport) (table : Table)
     → run_lines telling known plan origins fulls table ≡ report_lines (reports_in fulls) ++ tally_line table.tally
 plain_alone telling verbose strict known plan origins fulls table =
-    ap (λ (l : List ℕ). l ++ table_told telling known plan table) (told_plain telling verbose strict origins fulls) ∙ ap (λ (l : List ℕ). report_lines (reports_in fulls) ++ l) (plain_table telling verbose strict known plan table)
+    ap (λ (l : List ℕ). l ++ table_told telling known plan table) (told_plain telling verbose strict known origins fulls) ∙ ap (λ (l : List ℕ). report_lines (reports_in fulls) ++ l) (plain_table telling verbose strict known plan table)
 
 pub plain_run : (telling : Telling) → telling.verbose ≡ false → telling.strict ≡ false → (known : List Known) (plan : PlanValue) (origins : List Origin) (fulls : List FullReport) (table : Table)
     → opened_lines telling origins ++ run_lines telling known plan origins fulls table ≡ report_lines (reports_in fulls) ++ tally_line table.tally

@@ -18,7 +18,7 @@ use Rattle.collectd.specs.FullRuns.{table_told}
 
 -- the sessions, in order, then how many records of each class there were, and what they lack, by its name under files
 abbrev pub run_lines : Telling → List Known → PlanValue → List Origin → List FullReport → Table → List ℕ
-run_lines telling known plan origins fulls table = told_lines telling origins fulls ++ table_told telling known plan table
+run_lines telling known plan origins fulls table = told_lines telling known origins fulls ++ table_told telling known plan table
 
 -- behind the first lines each session is told when it is had, with its origin, and at the end all of them in full
 pub record TellsRun (AreOrigins : List Origin → Type 0) (telling : Telling) (known : List Known) (plan : PlanValue) (first : List ℕ) (AreTold : List ℕ → Type 0) (fulls : List FullReport) (table : Table) : Type 0 where

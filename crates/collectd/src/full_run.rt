@@ -150,7 +150,7 @@ fn tell<S, E: WriteLines>(
     ensures failed { OnErr result (E.failed err.new) }
     ensures kept { E.failed err.old → E.failed err.new }
 {
-    write_told_reports(telling, origins, &collected.sessions, err)?;
+    write_told_reports(telling, elements, origins, &collected.sessions, err)?;
     tell_table(telling, elements, plan, &collected.table, err)
 }
 

@@ -1,24 +1,20 @@
 //! The commands. Each answers the exit status. An error is the status if the library was not called.
 
-use crate::formats::{DumpFormat, dump_format};
-use crate::inputs::{
-    Collecting, buffered_output, read_collecting, read_idle, read_job, read_paths, read_progress,
-    read_telling, table_output,
-};
-use crate::refused::{
-    write_refused, write_refused_exports, write_refused_files, write_refused_output,
-    write_refused_peers, write_refused_pool,
-};
 use clap::ArgMatches;
 use collectd::{
-    DumpFault, Listening, Noted, Origin, Reason, Remembering, SystemFiles, Telling,
-    run_dump_json_under, run_dump_under, run_files_in_full, run_merge_in_full, run_tcp_in_full,
-    write_dump_fault, write_not_had_because,
+    DumpFault, Listening, Noted, Origin, Remembering, SystemFiles, Telling, run_dump_json_under,
+    run_dump_under, run_files_in_full, run_merge_in_full, run_tcp_in_full, write_dump_fault,
+    write_limit,
+};
+use command_inputs::{
+    Collecting, DumpFormat, buffered_output, listen_on, read_collecting, read_dump_format,
+    read_idle, read_job, read_paths, read_progress, read_telling, table_output, write_refused,
+    write_refused_exports, write_refused_files, write_refused_output, write_refused_peers,
 };
 use exit_status::Status;
+use flow_collect::Pool;
 use ipfix_session::{FromReader, Source};
 use std::io::{Stderr, Write};
-use std::net::TcpListener;
 use std::rt::Clock;
 use std::sync::Wait;
 use std::thread::Threads;
@@ -62,7 +58,7 @@ fn dump_source<S: Source, W: Write>(
     let telling = read_telling(chosen);
     let alloc = rt.alloc();
     let origin = Origin::Unknown;
-    match chosen.get_str("format").and_then(dump_format) {
+    match read_dump_format(chosen) {
         Some(DumpFormat::Text) => Ok(run_dump_under(
             rt, alloc, elements, source, &origin, telling, out, err,
         )),
@@ -150,23 +146,6 @@ pub fn tcp<R: Clock + Threads + Wait + Sync>(
     Ok(status)
 }
 
-/// A listener on an address. If it can't be had, `err` has a line.
-pub fn listen_on(
-    rt: &HostRuntime,
-    addr: &str,
-    telling: Telling,
-    err: &mut Stderr,
-) -> Result<TcpListener, Status> {
-    match TcpListener::bind(rt, addr) {
-        Ok(listener) => Ok(listener),
-        Err(error) => {
-            let reason = Reason::of(&error);
-            let _ = write_not_had_because(telling, "listen", addr, reason, err);
-            Err(Status::NotOpened)
-        }
-    }
-}
-
 /// `collectd merge`: the table of the exports in files to standard output.
 pub fn merge(rt: &HostRuntime, chosen: &ArgMatches) -> Result<u8, Status> {
     let mut err = rt.stderr();
@@ -189,4 +168,12 @@ pub fn merge(rt: &HostRuntime, chosen: &ArgMatches) -> Result<u8, Status> {
     write_refused_output(telling, &out, &mut err);
     write_refused_exports(telling, paths, files.notes(), &mut err);
     Ok(status)
+}
+
+// What a pool and that many sessions may be, if the run failed by them: `err` has a
+// line if `telling` is verbose.
+fn write_refused_pool(status: u8, telling: Telling, pool: Pool, sessions: usize, err: &mut Stderr) {
+    if status == Status::Failed.number() {
+        let _ = write_limit(telling, pool, sessions, err);
+    }
 }

@@ -1,12 +1,11 @@
 //! `collectd elements` and `collectd explain`, which read no flows.
 
-use crate::inputs::buffered_output;
-use crate::refused::WITH_REASONS;
 use clap::ArgMatches;
-use collectd::Remembering;
+use command_inputs::{WITH_REASONS, buffered_output};
 use element_guide::{run_elements, write_out_of_memory};
 use exit_status::Status;
 use fault_guide::run_explain;
+use run_reports::Remembering;
 
 /// `collectd elements`: the elements that are known, or those that a word fits, to standard output.
 pub fn elements(rt: &HostRuntime, chosen: &ArgMatches) -> Result<u8, Status> {

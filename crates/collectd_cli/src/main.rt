@@ -2,17 +2,12 @@
 #![tactic(auto)]
 
 mod commands;
-mod formats;
 mod guides;
-mod inputs;
-mod progress_output;
-mod record_command;
-mod refused;
-mod timers;
 
 use clap::ArgMatches;
 use command_words::{Subcommand, matches_of, show};
 use exit_status::Status;
+use record_command::record;
 use std::process::ExitCode;
 use std::rt::Clock;
 use std::sync::Wait;
@@ -56,7 +51,7 @@ fn run_subcommand<R: Clock + Threads + Wait + Sync>(
         Some(Subcommand::Dump) => commands::dump(rt, chosen),
         Some(Subcommand::Files) => commands::files(threads, rt, chosen),
         Some(Subcommand::Tcp) => commands::tcp(threads, rt, chosen),
-        Some(Subcommand::Record) => record_command::record(threads, rt, chosen),
+        Some(Subcommand::Record) => record(threads, rt, chosen),
         Some(Subcommand::Merge) => commands::merge(rt, chosen),
         Some(Subcommand::Elements) => guides::elements(rt, chosen),
         Some(Subcommand::Explain) => Ok(guides::explain(rt, chosen)),

@@ -11,13 +11,13 @@ use Rattle.collectd_dump.specs.Dumps.{DumpsToEnd}
 
 -- with what reading the files gave and told, and the line of a record under files
 module _ (Loads : Option (List Known) → List ℕ → Type 0) (line_under : List Known → DataRecord → List ℕ) where
-  -- the files were read; a source was dumped under them; and what there is to tell of its session was told behind the lines of
-  -- files
-  pub record DumpsUnderFiles {S : Type 0} (seen : S → SourceView) (strict : Bool) (before after : S) (old new : Option (List ℕ)) (status : ℕ) (lines_of : FullReport → List ℕ) (AreTold : List ℕ → Type 0) : Type 0 where
+  -- the files were read; a source was dumped under them; and what there is to tell of its session under them was told behind the
+  -- lines of files
+  pub record DumpsUnderFiles {S : Type 0} (seen : S → SourceView) (strict : Bool) (before after : S) (old new : Option (List ℕ)) (status : ℕ) (lines_of : List Known → FullReport → List ℕ) (AreTold : List ℕ → Type 0) : Type 0 where
     pub known : List Known
     pub lines : List ℕ
     pub loaded : Loads (Some known) lines
-    pub dumps : DumpsToEnd (line_under known) seen strict before after old new status (λ full. AreTold (lines ++ lines_of full))
+    pub dumps : DumpsToEnd (line_under known) seen strict before after old new status (λ full. AreTold (lines ++ lines_of known full))
 
   -- the files were read, and if a source tells its octets, the lines of all of them were written
   pub record DumpsAllUnderFiles (text old new : Option (List ℕ)) : Type 0 where

@@ -9,15 +9,14 @@ ghost use Rattle.ipfix_dump.specs.DumpLines.{dump_line};
 ghost use Rattle.ipfix_dump.specs.JsonLines.{json_line};
 ghost use Rattle.run_reports.specs.ReportLines.{report_lines};
 ghost use Rattle.run_reports.specs.Told.{AreTold};
-ghost use Rattle.run_reports.specs.ToldLines.{told_lines};
-ghost use Rattle.collectd_dump.specs.Dumps.{DumpsAlone, DumpsToEnd, TellsDumpFault};
+ghost use Rattle.collectd_dump.specs.Dumps.{DumpsAlone, TellsDumpFault};
 
 use crate::dump_in_full::dump_to_end;
 use element_registry::Elements;
 use exit_status::Status;
 use ipfix_dump::{JsonLine, Line, RecordLine};
 use ipfix_session::Source;
-use run_reports::{NOTHING_MORE, Origin, Telling, WriteLines};
+use run_reports::{NOTHING_MORE, Origin, WriteLines};
 use std::alloc::Global;
 use std::io::Write;
 
@@ -49,7 +48,14 @@ pub fn run_dump<S: Source, W: Write, E: WriteLines>(
     ensures kept { E.failed err.old → E.failed err.new }
 {
     let elements = Elements::built_in(alloc);
-    run_dump_by(alloc, &mut Line::new(alloc, &elements), source, out, err)
+    run_dump_by(
+        alloc,
+        &elements,
+        &mut Line::new(alloc, &elements),
+        source,
+        out,
+        err,
+    )
 }
 
 /// Does the same with an object of JSON (RFC 8259) for each data record, on a line of its own.
@@ -80,80 +86,9 @@ pub fn run_dump_json<S: Source, W: Write, E: WriteLines>(
     let elements = Elements::built_in(alloc);
     run_dump_by(
         alloc,
+        &elements,
         &mut JsonLine::new(alloc, &elements),
         source,
-        out,
-        err,
-    )
-}
-
-/// Does as [`run_dump`], and tells more of the session if `telling` asks for it, with this origin. If it is
-/// strict, the status is 1 also if anything shows that something which was sent wasn't dumped
-/// ([`are_spotless`](run_reports::are_spotless)).
-pub fn run_dump_in_full<S: Source, W: Write, E: WriteLines>(
-    alloc: Global,
-    source: &mut S,
-    origin: &Origin,
-    telling: Telling,
-    out: &mut W,
-    err: &mut E,
-) -> u8
-    ensures statuses { (result ≡ number_of Status.Well) ⊎ (result ≡ number_of Status.SessionFault)
-        ⊎ (result ≡ number_of Status.Failed) }
-    ensures all { result ≡ number_of Status.Well
-        → DumpsAll (S.seen source.old).text (W.contents out.old) (W.contents out.new) }
-    ensures dumped { result ≢ number_of Status.Failed
-        → DumpsToEnd dump_line S.seen telling.strict source.old source.new
-        (W.contents out.old) (W.contents out.new) result
-        (λ full. AreTold (E.contents err.old) (E.contents err.new) (E.failed err.new)
-        (told_lines telling (origin.now ∷ []) (full ∷ []))) }
-    // The line of a fault alone was told.
-    ensures failed { result ≡ number_of Status.Failed → TellsDumpFault
-        (AreTold (E.contents err.old) (E.contents err.new) (E.failed err.new)) }
-    ensures kept { E.failed err.old → E.failed err.new }
-{
-    let elements = Elements::built_in(alloc);
-    dump_to_end(
-        alloc,
-        &mut Line::new(alloc, &elements),
-        source,
-        origin,
-        telling,
-        out,
-        err,
-    )
-}
-
-/// Does the same with an object of JSON (RFC 8259) for each data record, on a line of its own.
-pub fn run_dump_json_in_full<S: Source, W: Write, E: WriteLines>(
-    alloc: Global,
-    source: &mut S,
-    origin: &Origin,
-    telling: Telling,
-    out: &mut W,
-    err: &mut E,
-) -> u8
-    ensures statuses { (result ≡ number_of Status.Well) ⊎ (result ≡ number_of Status.SessionFault)
-        ⊎ (result ≡ number_of Status.Failed) }
-    ensures all { result ≡ number_of Status.Well
-        → DumpsAllJson (S.seen source.old).text (W.contents out.old) (W.contents out.new) }
-    ensures dumped { result ≢ number_of Status.Failed
-        → DumpsToEnd json_line S.seen telling.strict source.old source.new
-        (W.contents out.old) (W.contents out.new) result
-        (λ full. AreTold (E.contents err.old) (E.contents err.new) (E.failed err.new)
-        (told_lines telling (origin.now ∷ []) (full ∷ []))) }
-    // The line of a fault alone was told.
-    ensures failed { result ≡ number_of Status.Failed → TellsDumpFault
-        (AreTold (E.contents err.old) (E.contents err.new) (E.failed err.new)) }
-    ensures kept { E.failed err.old → E.failed err.new }
-{
-    let elements = Elements::built_in(alloc);
-    dump_to_end(
-        alloc,
-        &mut JsonLine::new(alloc, &elements),
-        source,
-        origin,
-        telling,
         out,
         err,
     )
@@ -162,6 +97,7 @@ pub fn run_dump_json_in_full<S: Source, W: Write, E: WriteLines>(
 // Dumps with lines that `line` makes, and tells nothing more.
 fn run_dump_by<L: RecordLine, S: Source, W: Write, E: WriteLines>(
     alloc: Global,
+    elements: &Elements,
     line: &mut L,
     source: &mut S,
     out: &mut W,
@@ -188,6 +124,7 @@ fn run_dump_by<L: RecordLine, S: Source, W: Write, E: WriteLines>(
 {
     dump_to_end(
         alloc,
+        elements,
         line,
         source,
         &Origin::Unknown,

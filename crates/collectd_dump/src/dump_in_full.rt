@@ -7,6 +7,7 @@ ghost use Rattle.run_reports.specs.Told.{AreTold};
 ghost use Rattle.run_reports.specs.ToldLines.{told_lines};
 ghost use Rattle.collectd_dump.specs.Dumps.{DumpsToEnd, EndedWell, TellsDumpFault};
 
+use element_registry::Elements;
 use exit_status::Status;
 use ipfix_dump::{DumpFault, RecordLine, dump_in_full_by};
 use ipfix_session::{FullReport, Source};
@@ -22,6 +23,7 @@ use std::slice;
 /// over.
 pub fn dump_to_end<L: RecordLine, S: Source, W: Write, E: WriteLines>(
     alloc: Global,
+    elements: &Elements,
     line: &mut L,
     source: &mut S,
     origin: &Origin,
@@ -37,7 +39,7 @@ pub fn dump_to_end<L: RecordLine, S: Source, W: Write, E: WriteLines>(
         → DumpsToEnd (L.line_of line.old) S.seen telling.strict source.old source.new
         (W.contents out.old) (W.contents out.new) result
         (λ full. AreTold (E.contents err.old) (E.contents err.new) (E.failed err.new)
-        (told_lines telling (origin.now ∷ []) (full ∷ []))) }
+        (told_lines telling elements.now (origin.now ∷ []) (full ∷ []))) }
     // The line of a fault alone was told.
     ensures failed { result ≡ number_of Status.Failed → TellsDumpFault
         (AreTold (E.contents err.old) (E.contents err.new) (E.failed err.new)) }
@@ -47,6 +49,7 @@ pub fn dump_to_end<L: RecordLine, S: Source, W: Write, E: WriteLines>(
         Ok(full) => {
             let _ = write_told_reports(
                 telling,
+                elements,
                 slice::from_ref(origin),
                 slice::from_ref(&full),
                 err,

@@ -43,7 +43,7 @@ pub fn run_dump_under<T: ReadText, S: Source, W: Write, E: WriteLines>(
         (Loads (T.has files.now) (T.refuses files.now) telling [] (map (λ path. path.now) paths.now))
         dump_line_under S.seen telling.strict source.old source.new
         (W.contents out.old) (W.contents out.new) result
-        (λ full. told_lines telling (origin.now ∷ []) (full ∷ []))
+        (λ known full. told_lines telling known (origin.now ∷ []) (full ∷ []))
         (AreTold (E.contents err.old) (E.contents err.new) (E.failed err.new)) }
     // The line of a fault alone was told behind those of files.
     ensures failed { result ≡ number_of Status.Failed → FailsUnderFiles
@@ -60,6 +60,7 @@ pub fn run_dump_under<T: ReadText, S: Source, W: Write, E: WriteLines>(
     match load_elements(files, alloc, paths, telling, err) {
         Some(elements) => dump_to_end(
             alloc,
+            &elements,
             &mut Line::new(alloc, &elements),
             source,
             origin,
@@ -92,7 +93,7 @@ pub fn run_dump_json_under<T: ReadText, S: Source, W: Write, E: WriteLines>(
         (Loads (T.has files.now) (T.refuses files.now) telling [] (map (λ path. path.now) paths.now))
         json_line_under S.seen telling.strict source.old source.new
         (W.contents out.old) (W.contents out.new) result
-        (λ full. told_lines telling (origin.now ∷ []) (full ∷ []))
+        (λ known full. told_lines telling known (origin.now ∷ []) (full ∷ []))
         (AreTold (E.contents err.old) (E.contents err.new) (E.failed err.new)) }
     // The line of a fault alone was told behind those of files.
     ensures failed { result ≡ number_of Status.Failed → FailsUnderFiles
@@ -109,6 +110,7 @@ pub fn run_dump_json_under<T: ReadText, S: Source, W: Write, E: WriteLines>(
     match load_elements(files, alloc, paths, telling, err) {
         Some(elements) => dump_to_end(
             alloc,
+            &elements,
             &mut JsonLine::new(alloc, &elements),
             source,
             origin,

@@ -4,6 +4,8 @@
 mod dump;
 mod dump_in_full;
 mod dump_under;
+mod full_dump;
 
-pub use dump::{run_dump, run_dump_in_full, run_dump_json, run_dump_json_in_full};
+pub use dump::{run_dump, run_dump_json};
 pub use dump_under::{run_dump_json_under, run_dump_under};
+pub use full_dump::{run_dump_in_full, run_dump_json_in_full};

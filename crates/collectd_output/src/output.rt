@@ -5,9 +5,7 @@ ghost use Rattle.flow_table.specs.Fitting.{FitsPlan};
 ghost use Rattle.collectd_output.specs.TableTexts.{WritesUnder};
 
 use element_registry::Elements;
-use flow_export::{
-    ExportFault, Format, write_csv_flat_under, write_ipfix_flat, write_json_flat_under,
-};
+use flow_export::{AnyTable, ExportFault, Format, TableText, write_table};
 use flow_table::{FlatTable, Plan};
 use std::alloc::Global;
 use std::io::Write;
@@ -34,11 +32,12 @@ pub fn export<W: Write>(
     ensures { OnOk result (WritesUnder elements.now plan.now output
         (W.contents out.old) (W.contents out.new) table.now) }
 {
-    match output.format {
-        Format::Csv => write_csv_flat_under(alloc, elements, plan, table, out)?,
-        Format::Json => write_json_flat_under(alloc, elements, plan, table, out)?,
-        Format::Ipfix => write_ipfix_flat(alloc, plan, table, output.time, out)?,
-    }
+    let text = match output.format {
+        Format::Csv => TableText::Csv(elements),
+        Format::Json => TableText::Json(elements),
+        Format::Ipfix => TableText::Ipfix(output.time),
+    };
+    write_table(alloc, plan, &AnyTable::Flat(table), &text, out)?;
     out.flush()?;
     Ok(())
 }

@@ -1,9 +1,12 @@
 //! The words of the command line: which there are, and what the parser says of those that were given.
 #![tactic(auto)]
 
+mod arguments;
+mod bare_arguments;
+mod commands;
 mod format_words;
+mod listen_options;
 mod options;
-mod record_options;
 mod showing;
 mod subcommands;
 mod words;

@@ -1,160 +1,76 @@
-//! The options of the commands.
+//! The options that commands share.
 
-use crate::format_words::TABLE_FORMATS;
-use clap::{Arg, ArgAction, Command, value_parser};
-use std::alloc::{AllocError, Global};
+use crate::arguments::{Argument, Due, LARGEST, Takes};
+use crate::format_words::{DUMP_FORMAT_DEFAULT, DUMP_FORMATS, TABLE_FORMAT_DEFAULT, TABLE_FORMATS};
 
-/// The options that `files` and `tcp` share.
-pub fn with_options<'a>(alloc: Global, command: Command<'a>) -> Result<Command<'a>, AllocError> {
-    let command = with_output(alloc, with_pool(alloc, with_plan(alloc, command)?)?)?;
-    with_telling(alloc, with_progress(alloc, command)?)
-}
+pub const PLAN: Argument = Argument {
+    word: "plan",
+    takes: Takes::Text("P"),
+    due: Due::Always,
+    help: "The plan of the aggregation, a TOML file",
+};
 
-/// What is told on standard error beside the lines that always stand.
-pub fn with_telling<'a>(alloc: Global, command: Command<'a>) -> Result<Command<'a>, AllocError> {
-    let verbose = flag(
-        alloc,
-        "verbose",
-        "Say more on standard error: what was opened, what was not counted, where faults are, and why",
-    )
-    .short('v');
-    let strict = flag(
-        alloc,
-        "strict",
-        "End with status 1 also if anything was lost or not counted, and say what",
-    );
-    command.arg(verbose)?.arg(strict)
-}
+pub const ELEMENTS: Argument = Argument {
+    word: "elements",
+    takes: Takes::Texts("FILE"),
+    due: Due::Never,
+    help: "A file of elements, with the columns of IANA's list; given several times, of all of them",
+};
 
-fn with_progress<'a>(alloc: Global, command: Command<'a>) -> Result<Command<'a>, AllocError> {
-    let progress = Arg::new(alloc, "progress")
-        .long("progress")
-        .action(ArgAction::Count)
-        .help(
-            "Show on the terminal how much each session has read; given twice, on standard error",
-        );
-    command.arg(progress)
-}
+pub const WORKERS: Argument = Argument {
+    word: "workers",
+    takes: Takes::Number("N", 0, LARGEST),
+    due: Due::Default("1"),
+    help: "How many threads aggregate, 1 to 16; more than sessions or processors are of no use",
+};
 
-/// The plan, and the files of elements that it may name.
-pub fn with_plan<'a>(alloc: Global, command: Command<'a>) -> Result<Command<'a>, AllocError> {
-    let plan = option(
-        alloc,
-        "plan",
-        "P",
-        "The plan of the aggregation, a TOML file",
-    );
-    with_element_files(alloc, command.arg(plan.required(true))?)
-}
+pub const RING: Argument = Argument {
+    word: "ring",
+    takes: Takes::Number("C", 0, LARGEST),
+    due: Due::Default("64"),
+    help: "How many records may wait between a session and its worker, 1 to 65536; 1024 is faster, 64 takes least memory",
+};
 
-fn with_pool<'a>(alloc: Global, command: Command<'a>) -> Result<Command<'a>, AllocError> {
-    let workers = number(
-        alloc,
-        "workers",
-        "N",
-        "1",
-        "How many threads aggregate, 1 to 16; more than sessions or processors are of no use",
-    );
-    let ring = number(
-        alloc,
-        "ring",
-        "C",
-        "64",
-        "How many records may wait between a session and its worker, 1 to 65536; 1024 is faster, 64 takes least memory",
-    );
-    command.arg(workers)?.arg(ring)
-}
+/// How a data record is written.
+pub const DUMP_FORMAT: Argument = Argument {
+    word: "format",
+    takes: Takes::Word("FORMAT", &DUMP_FORMATS),
+    due: Due::Default(DUMP_FORMAT_DEFAULT),
+    help: "How a data record is written",
+};
 
 /// How a table is written.
-pub fn with_output<'a>(alloc: Global, command: Command<'a>) -> Result<Command<'a>, AllocError> {
-    let format = option(alloc, "format", "FORMAT", "How the table is written")
-        .default_value(TABLE_FORMATS[0])
-        .value_parser(TABLE_FORMATS.as_slice());
-    let time = number(
-        alloc,
-        "time",
-        "T",
-        "0",
-        "The export time in the messages of --format ipfix, in seconds since 1970-01-01 UTC",
-    );
-    command.arg(format)?.arg(time)
-}
+pub const TABLE_FORMAT: Argument = Argument {
+    word: "format",
+    takes: Takes::Word("FORMAT", &TABLE_FORMATS),
+    due: Due::Default(TABLE_FORMAT_DEFAULT),
+    help: "How the table is written",
+};
 
-/// The files of elements.
-pub fn with_element_files<'a>(
-    alloc: Global,
-    command: Command<'a>,
-) -> Result<Command<'a>, AllocError> {
-    let elements = option(
-        alloc,
-        "elements",
-        "FILE",
-        "A file of elements, with the columns of IANA's list; given several times, of all of them",
-    )
-    .action(ArgAction::Append);
-    command.arg(elements)
-}
+pub const TIME: Argument = Argument {
+    word: "time",
+    takes: Takes::Number("T", 0, LARGEST),
+    due: Due::Default("0"),
+    help: "The export time in the messages of --format ipfix, in seconds since 1970-01-01 UTC",
+};
 
-/// Where connections come from, how many, and how long each may be silent.
-pub fn with_connections<'a>(
-    alloc: Global,
-    command: Command<'a>,
-) -> Result<Command<'a>, AllocError> {
-    let listen = option(alloc, "listen", "ADDR", "The address and port to listen on");
-    let sessions = option(
-        alloc,
-        "sessions",
-        "K",
-        "How many connections to accept, each a session",
-    )
-    .value_parser(value_parser!(u32).range(1..=64));
-    let idle = option(
-        alloc,
-        "idle",
-        "SECONDS",
-        "How long a connection may send nothing, from 1; then its session ends with fault 15",
-    )
-    .value_parser(value_parser!(u32).range(1..));
-    command
-        .arg(listen.required(true))?
-        .arg(sessions.required(true))?
-        .arg(idle)
-}
+pub const PROGRESS: Argument = Argument {
+    word: "progress",
+    takes: Takes::Nothings,
+    due: Due::Never,
+    help: "Show on the terminal how much each session has read; given twice, on standard error",
+};
 
-// An option without a value.
-fn flag<'a>(alloc: Global, word: &'a str, help: &'a str) -> Arg<'a> {
-    Arg::new(alloc, word)
-        .long(word)
-        .action(ArgAction::SetTrue)
-        .help(help)
-}
+pub const VERBOSE: Argument = Argument {
+    word: "verbose",
+    takes: Takes::Nothing(Some('v')),
+    due: Due::Never,
+    help: "Say more on standard error: what was opened, what was not counted, where faults are, and why",
+};
 
-/// An option that takes a value.
-pub fn option<'a>(alloc: Global, word: &'a str, value: &'a str, help: &'a str) -> Arg<'a> {
-    Arg::new(alloc, word)
-        .long(word)
-        .value_name(value)
-        .help(help)
-}
-
-// An option that takes a whole number, this one if it is not given.
-fn number<'a>(
-    alloc: Global,
-    word: &'a str,
-    value: &'a str,
-    default: &'a str,
-    help: &'a str,
-) -> Arg<'a> {
-    option(alloc, word, value, help)
-        .default_value(default)
-        .value_parser(value_parser!(u32))
-}
-
-/// The files that are read, at least one.
-pub fn files<'a>(alloc: Global, help: &'a str) -> Arg<'a> {
-    Arg::new(alloc, "file")
-        .value_name("FILE")
-        .required(true)
-        .num_args(1..)
-        .help(help)
-}
+pub const STRICT: Argument = Argument {
+    word: "strict",
+    takes: Takes::Nothing(None),
+    due: Due::Never,
+    help: "End with status 1 also if anything was lost or not counted, and say what",
+};

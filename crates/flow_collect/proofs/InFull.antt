@@ -1,5 +1,5 @@
 -- Sessions that report in full.
-use Rattle.std.proofs.Common.{◌≡◌, ℕ, List, [], ◌∷◌, ◌++◌, Option, None, Some, length, refl, sym, ◌∙◌, subst, map, append-nil}
+use Rattle.std.proofs.Common.{◌≡◌, ℕ, List, [], ◌∷◌, Option, None, Some, length, refl, sym, ◌∙◌, subst, map, append-nil}
 use Rattle.std.specs.Prelude.{◌≢◌}
 use Rattle.std.specs.List.{AllZip}
 use Rattle.std.specs.declared.vec.Vec.{Vec}
@@ -58,7 +58,7 @@ module _ {S K : Type 0} (seen : S → SourceView) (view : SinkView K) (before af
       record {
         records = records_in whole;
         given = record {
-          given = record { gave = d.gave; given = d.given; counted = whole; first = some; all = all; earlier = from; records_are = refl; report_is = p.tells.reports; not_closed = taken };
+          given = record { gave = d.gave; given = d.given; counted = whole; first = some; all = all; earlier = from; records_are = refl; report_is = p.tells.counts.reports; not_closed = taken };
           told = p.tells;
         };
         takes = subst (λ (rs : List DataRecord). Takes view first rs last) (sym p.records) (takes-append view first d.middle last (records_of d.given.stops.earlier) p.put d.earlier p.takes);
@@ -85,7 +85,7 @@ module _ {S K : Type 0} (seen : S → SourceView) (view : SinkView K) (before af
 
   pub took_in_full : DrivesInFull seen view READ_LIMIT before after first last full → view.refused last ≡ 0 → TookInFull
   took_in_full d none =
-      let short = driven_took_all seen view READ_LIMIT before after first last full.report (drives_told seen view READ_LIMIT before after first last full.report.fault _ _ (λ ms delivered told. told.reports) d) none in
+      let short = driven_took_all seen view READ_LIMIT before after first last full.report (drives_told seen view READ_LIMIT before after first last full.report.fault _ _ (λ ms delivered told. told.counts.reports) d) none in
       took_by d full.report.fault refl short.given.not_closed d.puts
 
 -- ---- the ledgers
@@ -126,7 +126,7 @@ short_run c =
 module _ {S : Type 0} (seen : S → SourceView) where
   has_balanced : (before after : S) (full : FullReport) (records : List DataRecord) → IsGivenInFull seen before after full records → HasBalanced seen before after full records
   has_balanced before after full records g =
-      record { given = g.given; balanced = balanced_of g.given.counted full.report.domains.items full.balances.items g.told.reports.domains g.told.balances }
+      record { given = g.given; balanced = balanced_of g.given.counted full.report.domains.items full.balances.items g.told.counts.reports.domains g.told.counts.balances }
 
   pub balanced_each : (befores afters : List S) (fulls : List FullReport) (qs : List (List DataRecord)) → Each4 (IsGivenInFull seen) befores afters fulls qs → Each4 (HasBalanced seen) befores afters fulls qs
   balanced_each [] [] [] [] e = tt
@@ -146,7 +146,7 @@ module _ {S : Type 0} (seen : S → SourceView) where
       let told : ReportsInFull full (gives g.given.gave).messages (length (records_of g.given.gave)) =
       subst (λ (ms : List Message). ReportsInFull full ms (length (records_in ms))) (g.given.all out.had_memory) (subst (λ (rs : List DataRecord). ReportsInFull full g.given.counted (length rs)) g.given.records_are g.told) in
       let here : ReportsInFull full (gives b).messages (length (records_of b)) = subst (λ (w : List ℕ). ReportsInFull full (gives w).messages (length (records_of w))) (sym is) told in
-      record { reports = here; fault = (report_of_octets seen before after full.report q b g.given t out).fault; stopped_at = here.stopped_at ∙ place_is b }
+      record { reports = here; fault = (report_of_octets seen before after full.report q b g.given t out).fault; stopped_at = here.counts.stopped_at ∙ place_is b }
 
   pub full_each : (befores afters : List S) (fulls : List FullReport) (qs : List (List DataRecord)) (bs : List (List ℕ)) → Each4 (IsGivenInFull seen) befores afters fulls qs
       → EachGave seen befores afters bs → AllZip (λ full b. WasReadOut full.report → IsFullReport full b) fulls bs

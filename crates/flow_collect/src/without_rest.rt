@@ -74,13 +74,19 @@ fn without_rest<S: Drop>(
     })
 }
 
+fn report_of(full: FullReport) -> SessionReport
+    ensures { result ≡ full.report }
+{
+    full.report
+}
+
 fn short_reports(alloc: Global, sessions: Vec<FullReport>) -> Result<Vec<SessionReport>, AllocError>
     ensures { IfOk result (λ reports. reports.items ≡ reports_in sessions.items) }
 {
     let mut waiting = VecDeque::from_vec(sessions);
     let mut reports = Vec::new(alloc);
     while let Some(full) = waiting.pop_front() {
-        reports.push(full.report)?;
+        reports.push(report_of(full))?;
     }
     Ok(reports)
 }

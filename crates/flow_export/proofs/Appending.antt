@@ -1,8 +1,5 @@
 -- Texts that are appended one after another.
-use Rattle.std.proofs.Common.{◌≡◌, ℕ, ◌+◌, ◌<◌, List, [], ◌∷◌, ◌++◌, length, get_or, take, Option, Result, Ok, Err, sym, ap, ◌∙◌}
-use Rattle.std.specs.Io.KnownBytes.{Appends}
-use Rattle.std.specs.Result.{OnOk}
-use Rattle.std.proofs.KnownBytes.{Appends-trans}
+use Rattle.std.proofs.Common.{◌≡◌, ℕ, ◌+◌, ◌<◌, List, [], ◌∷◌, ◌++◌, length, get_or, take, sym, ap, ◌∙◌}
 use Rattle.std.specs.List.{flat_map}
 use Rattle.std.proofs.lemmas.List.{flat_map_more, take_more}
 
@@ -12,8 +9,3 @@ pub one_more : {X : Type 0} (text : X → List ℕ) (xs : List X) (i : ℕ) (x :
 one_more {X} text xs i x o p q inside is_x is_p is_q =
     let more : take (i + 1) xs ≡ take i xs ++ x ∷ [] = take_more xs i x inside ∙ ap (λ (y : X). take i xs ++ y ∷ []) (sym is_x) in
     is_q ∙ ap (λ (t : List ℕ). t ++ text x) is_p ∙ flat_map_more text o (take i xs) x ∙ ap (λ (ys : List X). o ++ flat_map text ys) (sym more)
-
--- what is written first, and then the rest
-pub then_rest : {A E : Type 0} (r : Result A E) (a b c : Option (List ℕ)) (first rest : List ℕ) → Appends a b first → OnOk r (Appends b c rest) → OnOk r (Appends a c (first ++ rest))
-then_rest (Ok x) a b c first rest is_first is_rest = Appends-trans a b c first rest is_first is_rest
-then_rest (Err e) a b c first rest is_first is_rest = tt

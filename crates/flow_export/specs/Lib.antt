@@ -5,6 +5,8 @@ pub mod CsvText
 pub mod JsonText
 pub mod TextsUnder
 pub mod IpfixText
+pub mod AnyTables
+pub mod TableTexts
 pub mod Examples
 -- What only inner functions and proofs need.
 pub mod Made

@@ -1,6 +1,5 @@
 -- The octets of rows and of their messages, and of the cells of a key.
 use Rattle.std.specs.Prelude.{◌≡◌, ℕ, ◌+◌, List, ◌++◌, take, zip, flat_map}
-use Rattle.std.specs.List.{range_with_len}
 use Rattle.ipfix_wire.specs.MessageHeader.{header_octets}
 use Rattle.ipfix_wire.specs.SetHeader.{set_octets}
 use Rattle.ipfix_wire.specs.declared.header.TheConstants.{HEADER_LENGTH}
@@ -10,7 +9,7 @@ use Rattle.ipfix_elements.specs.declared.cell.Cell.{Cell}
 use Rattle.ipfix_elements.specs.declared.kind.Kind.{Kind}
 use Rattle.flow_table.specs.Plans.{PlanValue}
 use Rattle.flow_table.specs.SameTables.{RowValue}
-use Rattle.flow_export.specs.IpfixText.{data_message, message_count, message_of_rows, row_octets, width_of}
+use Rattle.flow_export.specs.IpfixText.{data_message, row_octets, width_of}
 
 -- a cell as wide as its kind says
 abbrev pub wide_octets : Kind × Cell → List ℕ
@@ -23,10 +22,6 @@ cells_octets kinds cells = flat_map wide_octets (zip kinds cells)
 -- rows one after another
 abbrev pub octets_of_rows : PlanValue → List RowValue → List ℕ
 octets_of_rows plan rows = flat_map (row_octets plan) rows
-
--- the messages of rows
-abbrev pub messages_of_rows : PlanValue → ℕ → List RowValue → List ℕ
-messages_of_rows plan time rows = flat_map (message_of_rows plan time rows) (range_with_len 0 (message_count rows))
 
 -- octets that begin with the message of these rows, and end there
 abbrev pub BeginsWithRows : PlanValue → ℕ → ℕ → List RowValue → List ℕ → ℕ → Type 0

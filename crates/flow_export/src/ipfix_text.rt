@@ -6,11 +6,13 @@ ghost use Rattle.flow_table.specs.AddedUp.{rows_in};
 ghost use Rattle.flow_table.specs.Fitting.{FitsPlan};
 ghost use Rattle.flow_export.specs.Fitting.{IsExportable};
 ghost use Rattle.flow_export.specs.IpfixText.{ipfix_text, template_message};
-ghost use Rattle.flow_export.specs.RowOctets.{messages_of_rows};
 
+use crate::any_table::AnyTable;
 use crate::fault::ExportFault;
 use crate::table_rows::TableRows;
-use flow_table::{FlatTable, Plan, Table};
+use crate::table_text::TableText;
+use crate::tables::write_table;
+use flow_table::{Plan, Table};
 use ipfix_wire::TEMPLATE_SET_ID;
 use messages::{MOST_OCTETS, place_message, set_message};
 use std::alloc::Global;
@@ -24,10 +26,6 @@ mod template;
 mod widths;
 
 pub use rows::ROWS_A_MESSAGE;
-
-/// A table of so many rows has no export: the sequence numbers of its messages would not have room in
-/// 32 bits (RFC 7011, section 3.1).
-const ROW_LIMIT: usize = 1 << 32;
 
 /// Writes a table as messages of IPFIX in domain 0 (RFC 7011): a template, and then the rows as its
 /// data records, in the order of the table, [`ROWS_A_MESSAGE`] in a message. A record has the first
@@ -51,31 +49,8 @@ pub fn write_ipfix<W: Write>(
     ensures many { IsErrOf result ExportFault.TooManyRows ↔ (2 ^ 32 ≤ length table.now.rows.items) }
     ensures untouched { IsErrOf result ExportFault.TooManyRows → out.new ≡ out.old }
 {
-    if table.rows.len() >= ROW_LIMIT {
-        return Err(ExportFault::TooManyRows);
-    }
-    write_messages(alloc, plan, &mut TableRows::of(table), export_time, out)
-}
-
-/// Does as [`write_ipfix`], of a flat table.
-pub fn write_ipfix_flat<W: Write>(
-    alloc: Global,
-    plan: &Plan,
-    table: &FlatTable,
-    export_time: u32,
-    out: &mut W,
-) -> Result<(), ExportFault>
-    requires { FitsPlan plan.now table.now }
-    ensures ok { OnOk result
-        (Writes W.contents out.old out.new (ipfix_text plan.now export_time (rows_in table.now))) }
-    ensures many { IsErrOf result ExportFault.TooManyRows ↔ (2 ^ 32 ≤ length table.now.rows.items) }
-    ensures untouched { IsErrOf result ExportFault.TooManyRows → out.new ≡ out.old }
-{
-    if table.len() >= ROW_LIMIT {
-        return Err(ExportFault::TooManyRows);
-    }
-    let mut rows = TableRows::of_flat(alloc, table)?;
-    write_messages(alloc, plan, &mut rows, export_time, out)
+    let text = TableText::Ipfix(export_time);
+    write_table(alloc, plan, &AnyTable::Rows(table), &text, out)
 }
 
 /// What `write_ipfix` writes, as a vector. An `Err` is `TooManyRows`, for a table of 2^32 rows or more,
@@ -99,24 +74,6 @@ pub fn ipfix_bytes(
         Err(ExportFault::OutOfMemory | ExportFault::WriteFailed) => Err(ExportFault::OutOfMemory),
         Err(ExportFault::TooManyRows) => Err(ExportFault::TooManyRows),
     }
-}
-
-// Writes the template, and then the rows.
-fn write_messages<W: Write>(
-    alloc: Global,
-    plan: &Plan,
-    rows: &mut TableRows,
-    export_time: u32,
-    out: &mut W,
-) -> Result<(), ExportFault>
-    requires fit { All (IsExportable plan.now) rows.old }
-    requires few { length rows.old < 2 ^ 32 }
-    ensures ok { OnOk result
-        (Writes W.contents out.old out.new (ipfix_text plan.now export_time rows.old)) }
-    ensures fault { IfErr result (λ fault. fault ≢ ExportFault.TooManyRows) }
-{
-    write_template(alloc, plan, export_time, out)?;
-    write_rows(alloc, plan, rows, export_time, out)
 }
 
 fn write_template<W: Write>(
@@ -143,8 +100,8 @@ fn write_template<W: Write>(
     Ok(())
 }
 
-// Writes the rows, a hundred in each message but the last.
-fn write_rows<W: Write>(
+/// Writes the template, and then the rows, a hundred in each message but the last.
+pub fn write_messages<W: Write>(
     alloc: Global,
     plan: &Plan,
     rows: &mut TableRows,
@@ -154,9 +111,10 @@ fn write_rows<W: Write>(
     requires fit { All (IsExportable plan.now) rows.old }
     requires few { length rows.old < 2 ^ 32 }
     ensures ok { OnOk result
-        (Writes W.contents out.old out.new (messages_of_rows plan.now export_time rows.old)) }
+        (Writes W.contents out.old out.new (ipfix_text plan.now export_time rows.old)) }
     ensures fault { IfErr result (λ fault. fault ≢ ExportFault.TooManyRows) }
 {
+    write_template(alloc, plan, export_time, out)?;
     let mut headers = Vec::new(alloc);
     let mut room = Vec::new(alloc);
     room.resize(MOST_OCTETS, 0)?;

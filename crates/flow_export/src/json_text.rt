@@ -1,24 +1,24 @@
 //! Tables as lines of JSON.
 
-ghost use Rattle.std.specs.Prelude.{◌≢◌, All, IfErr, OnOk};
+ghost use Rattle.std.specs.Prelude.{◌≢◌, IfErr, OnOk};
 ghost use Rattle.ipfix_elements.specs.Writers.{Writes};
 ghost use Rattle.flow_table.specs.AddedUp.{rows_in};
 ghost use Rattle.flow_table.specs.Fitting.{FitsPlan};
-ghost use Rattle.flow_export.specs.Fitting.{IsExportable};
 ghost use Rattle.flow_export.specs.JsonText.{json_text};
-ghost use Rattle.flow_export.specs.TextsUnder.{json_text_under};
 
+use crate::any_table::AnyTable;
 use crate::fault::ExportFault;
-use crate::row_lines::write_lines;
-use crate::table_rows::TableRows;
+use crate::table_text::TableText;
+use crate::tables::write_table;
 use element_registry::Elements;
-use flow_table::{FlatTable, Plan, Table};
-use labels::RowLabels;
+use flow_table::{Plan, Table};
 use std::alloc::Global;
 use std::io::Write;
 
 mod labels;
 mod rows;
+
+pub use labels::RowLabels;
 
 /// Writes a table as lines of JSON: for each row, in the order of the table, an object (RFC 8259, section
 /// 4) and a line feed. Its members are the fields of the line of CSV, under the names of the heading and
@@ -39,77 +39,6 @@ pub fn write_json<W: Write>(
     ensures fault { IfErr result (λ fault. fault ≢ ExportFault.TooManyRows) }
 {
     let elements = Elements::built_in(alloc);
-    write_json_under(alloc, &elements, plan, table, out)
-}
-
-/// Does as [`write_json`], under the names that elements have in files, too. No name that a file says needs an
-/// escape.
-pub fn write_json_under<W: Write>(
-    alloc: Global,
-    elements: &Elements,
-    plan: &Plan,
-    table: &Table,
-    out: &mut W,
-) -> Result<(), ExportFault>
-    requires { FitsPlan plan.now table.now }
-    ensures ok { OnOk result (Writes W.contents out.old out.new
-        (json_text_under elements.now plan.now (rows_in table.now))) }
-    ensures fault { IfErr result (λ fault. fault ≢ ExportFault.TooManyRows) }
-{
-    write_rows(alloc, elements, plan, &mut TableRows::of(table), out)
-}
-
-/// Does as [`write_json`], of a flat table.
-pub fn write_json_flat<W: Write>(
-    alloc: Global,
-    plan: &Plan,
-    table: &FlatTable,
-    out: &mut W,
-) -> Result<(), ExportFault>
-    requires { FitsPlan plan.now table.now }
-    ensures ok { OnOk result
-        (Writes W.contents out.old out.new (json_text plan.now (rows_in table.now))) }
-    ensures fault { IfErr result (λ fault. fault ≢ ExportFault.TooManyRows) }
-{
-    let elements = Elements::built_in(alloc);
-    write_json_flat_under(alloc, &elements, plan, table, out)
-}
-
-/// Does as [`write_json_under`], of a flat table.
-pub fn write_json_flat_under<W: Write>(
-    alloc: Global,
-    elements: &Elements,
-    plan: &Plan,
-    table: &FlatTable,
-    out: &mut W,
-) -> Result<(), ExportFault>
-    requires { FitsPlan plan.now table.now }
-    ensures ok { OnOk result (Writes W.contents out.old out.new
-        (json_text_under elements.now plan.now (rows_in table.now))) }
-    ensures fault { IfErr result (λ fault. fault ≢ ExportFault.TooManyRows) }
-{
-    write_rows(
-        alloc,
-        elements,
-        plan,
-        &mut TableRows::of_flat(alloc, table)?,
-        out,
-    )
-}
-
-// Writes an object for each row.
-fn write_rows<W: Write>(
-    alloc: Global,
-    elements: &Elements,
-    plan: &Plan,
-    rows: &mut TableRows,
-    out: &mut W,
-) -> Result<(), ExportFault>
-    requires { All (IsExportable plan.now) rows.old }
-    ensures ok { OnOk result
-        (Writes W.contents out.old out.new (json_text_under elements.now plan.now rows.old)) }
-    ensures fault { IfErr result (λ fault. fault ≢ ExportFault.TooManyRows) }
-{
-    let labels = RowLabels::of(alloc, elements, plan)?;
-    write_lines(alloc, plan, rows, &labels, out)
+    let text = TableText::Json(&elements);
+    write_table(alloc, plan, &AnyTable::Rows(table), &text, out)
 }

@@ -2,6 +2,7 @@
 //! (RFC 7011).
 #![tactic(auto)]
 
+mod any_table;
 mod csv_text;
 mod fault;
 mod format;
@@ -12,9 +13,14 @@ pub mod laws;
 mod made_rows;
 mod row_lines;
 mod table_rows;
+mod table_text;
+mod tables;
 
-pub use csv_text::{write_csv, write_csv_flat, write_csv_flat_under, write_csv_under};
+pub use any_table::AnyTable;
+pub use csv_text::write_csv;
 pub use fault::ExportFault;
 pub use format::Format;
-pub use ipfix_text::{ROWS_A_MESSAGE, ipfix_bytes, write_ipfix, write_ipfix_flat};
-pub use json_text::{write_json, write_json_flat, write_json_flat_under, write_json_under};
+pub use ipfix_text::{ROWS_A_MESSAGE, ipfix_bytes, write_ipfix};
+pub use json_text::write_json;
+pub use table_text::TableText;
+pub use tables::write_table;

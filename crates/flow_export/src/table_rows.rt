@@ -3,9 +3,11 @@
 ghost use Rattle.std.specs.Prelude.{◌≡◌, ◌∷◌, [], MatchOption, IfOk, OnOk, drop, length};
 ghost use Rattle.flow_table.specs.AddedUp.{rows_in};
 ghost use Rattle.flow_table.specs.SameTables.{value_of};
+ghost use Rattle.flow_export.specs.AnyTables.{table_in};
 
+use crate::any_table::AnyTable;
 use crate::made_rows::MadeRows;
-use flow_table::{FlatTable, Row, Table};
+use flow_table::Row;
 use std::alloc::{AllocError, Global};
 use std::marker::Model;
 
@@ -35,22 +37,18 @@ impl<'a> Model for TableRows<'a> {
 }
 
 impl<'a> TableRows<'a> {
-    /// All rows of a table.
-    pub fn of(table: &'a Table) -> TableRows<'a>
-        ensures { result ≡ rows_in table.now }
+    /// All rows of a table. Those that are kept one by one take no memory.
+    pub fn of(alloc: Global, table: &AnyTable<'a>) -> Result<TableRows<'a>, AllocError>
+        ensures { IfOk result (λ rows. rows ≡ rows_in (table_in table.now)) }
     {
-        TableRows {
-            left: RowsLeft::Kept(&table.rows),
+        match *table {
+            AnyTable::Rows(table) => Ok(TableRows {
+                left: RowsLeft::Kept(&table.rows),
+            }),
+            AnyTable::Flat(table) => Ok(TableRows {
+                left: RowsLeft::Made(MadeRows::of(alloc, table)?),
+            }),
         }
-    }
-
-    /// All rows of a flat table.
-    pub fn of_flat(alloc: Global, table: &'a FlatTable) -> Result<TableRows<'a>, AllocError>
-        ensures { IfOk result (λ rows. rows ≡ rows_in table.now) }
-    {
-        Ok(TableRows {
-            left: RowsLeft::Made(MadeRows::of(alloc, table)?),
-        })
     }
 
     /// How many are left.

@@ -39,7 +39,7 @@ module _ {S K : Type 0} (seen : S â†’ SourceView) (view : SinkView K) (limit : â
           all = all;
           earlier = from;
           records_are = refl;
-          report_is = p.tells.reports;
+          report_is = p.tells.counts.reports;
           not_closed = taken;
         };
         in_full = p.tells;

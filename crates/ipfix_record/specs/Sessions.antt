@@ -6,7 +6,7 @@ use Rattle.ipfix_session.specs.declared.fault.SessionFault.{SessionFault}
 use Rattle.ipfix_session.specs.declared.fault.SessionFault.TheVariants as faults
 use Rattle.ipfix_session.specs.Given.{gives, IsPrefix, octets_of, records_in}
 use Rattle.ipfix_session.specs.Sources.{SourceView, one_more}
-use Rattle.ipfix_session.specs.Places.{ReportsInFull}
+use Rattle.ipfix_session.specs.Places.{CountsInFull}
 use Rattle.ipfix_session.specs.Drives.{Gave}
 use Rattle.ipfix_record.specs.declared.record_fault.RecordFault.{RecordFault}
 use Rattle.ipfix_record.specs.declared.record_fault.RecordFault.TheVariants.{Message as OfMessage, Truncated, ReadFailed, TooManyReads, NotWritten}
@@ -138,7 +138,9 @@ pub record RecordsTo {S F C : Type 0} (seen : S → SourceView) (view : F → Fi
 
 -- the reports of a recorded session: that of all its messages, and that of the file that isn't finished
 pub record IsTold (r : RecordedSession) (before here : List Message) : Type 0 where
-  pub session : ReportsInFull r.report (before ++ here) (length (records_in (before ++ here)))
+  pub session : CountsInFull r.report (before ++ here) (length (records_in (before ++ here)))
+  -- its domains aren't told
+  pub no_domains : r.report.domains ≡ None
   pub fault : r.report.report.fault ≡ fault_of r.ended
   pub last : r.last ≡ file_report before here
 

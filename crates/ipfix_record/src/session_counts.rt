@@ -120,7 +120,7 @@ impl SessionCounts {
             Err(fault) => Some(fault.of_session()),
         };
         RecordedSession {
-            report: tally.into_report(fault),
+            report: tally.into_report(fault, None),
             last: file,
             ended,
         }

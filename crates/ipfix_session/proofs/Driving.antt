@@ -11,7 +11,7 @@ use Rattle.ipfix_message.specs.declared.fault.MessageFault.TheVariants.{OutOfMem
 use Rattle.ipfix_message.specs.declared.record.DataRecord.{DataRecord}
 use Rattle.ipfix_session.specs.declared.stop.Stop.{Stop}
 use Rattle.ipfix_session.specs.declared.stop.Stop.TheVariants.{Clean, Short, Fault}
-use Rattle.ipfix_session.specs.Faults.{fault_at_end, end_of}
+use Rattle.ipfix_session.specs.Faults.{fault_at_end, end_of, ends_open}
 use Rattle.ipfix_session.specs.declared.fault.SessionFault.{SessionFault}
 use Rattle.ipfix_session.specs.declared.fault.SessionFault.TheVariants as faults
 use Rattle.ipfix_session.specs.declared.source.ReadError.TheVariants.{Interrupted, Failed}
@@ -190,9 +190,17 @@ put_by view last more s gave piece told f tell fed = puts_told view (Some f) _ _
     by_fault faults.ReadFailed fed = absurd fed
     by_fault faults.TooManyReads fed = absurd fed
 
+-- with such a fault it could not have gone on
+refused_by : {K : Type 0} (view : SinkView K) (last more : K) (s : State) (gave piece : List ℕ) (f : SessionFault) → Feeds view (Err f) gave piece last more s → ends_open (Some f) ≡ false
+refused_by view last more s gave piece (faults.Message e) fed = refl
+refused_by view last more s gave piece faults.SinkClosed fed = refl
+refused_by view last more s gave piece faults.Truncated fed = absurd fed
+refused_by view last more s gave piece faults.ReadFailed fed = absurd fed
+refused_by view last more s gave piece faults.TooManyReads fed = absurd fed
+
 pub drives_fault : {S K : Type 0} (seen : S → SourceView) (view : SinkView K) (limit n count : ℕ) (before now after : S) (first last more : K) (s t : State) (buffer : List ℕ) (o : Option SessionFault) (told : List Message → ℕ → Type 0) (f : SessionFault)
     → (d : Driving view n (seen before) (seen now) first last s) → n < limit → length buffer ≤ READ_SIZE → IsRead (seen now) (Ok count) (seen after) buffer → Feeds view (Err f) d.gave (take count buffer) last more t
-    → ((ms : List Message) (delivered : ℕ) → Tells t.counts ms delivered → told ms delivered) → o ≡ Some f
+    → ((ms : List Message) (delivered : ℕ) → ends_open (Some f) ≡ false → Tells t.counts ms delivered → told ms delivered) → o ≡ Some f
     → DrivesTo seen view limit before after first more o told
 unfolding stops_at
 drives_fault seen view limit n count before now after first last more s t buffer o told f d less room read fed tell fault =
@@ -208,7 +216,7 @@ drives_fault seen view limit n count before now after first last more s t buffer
       middle = last;
       earlier = d.takes;
       puts = subst (λ (f : Option SessionFault). PutsUpTo view f (gives d.gave).messages (gives (d.gave ++ piece)).messages last more told) (sym fault)
-          (put_by view last more t d.gave piece told f tell fed);
+          (put_by view last more t d.gave piece told f (λ ms delivered. tell ms delivered (refused_by view last more t d.gave piece f fed)) fed);
     }
 
 -- ---- the last read gave nothing
@@ -272,25 +280,25 @@ drives_ended seen view limit n count before now after first last s buffer o told
 
 pub drives_failed : {S K : Type 0} (seen : S → SourceView) (view : SinkView K) (limit n : ℕ) (before now after : S) (first last : K) (s : State) (buffer : List ℕ) (o : Option SessionFault) (told : List Message → ℕ → Type 0)
     → (d : Driving view n (seen before) (seen now) first last s) → n < limit → IsRead (seen now) (Err Failed) (seen after) buffer
-    → ((ms : List Message) (delivered : ℕ) → Tells s.counts ms delivered → told ms delivered) → o ≡ Some faults.ReadFailed
+    → told (gives d.gave).messages (length (records_of d.gave)) → o ≡ Some faults.ReadFailed
     → DrivesTo seen view limit before after first last o told
-drives_failed seen view limit n before now after first last s buffer o told d less read tell fault =
+drives_failed seen view limit n before now after first last s buffer o told d less read tells fault =
     drives_still seen view limit n before now after first last s o told d
     (Consumes-kept (seen before).text (seen now).text (seen after).text d.gave d.octets read.moved) (omega (arith, d.within, read.counted, less)) (omega (arith, read.counted))
     (subst (λ (f : Option SessionFault). IsDue f limit d.gave (seen before) (seen after)) (sym fault) (may_go_on s d.gave d.stands d.no_fault, read.failures ∙ ap one_more d.none_failed))
-    (subst (λ (f : Option SessionFault). PutsUpTo view f (gives d.gave).messages (gives d.gave).messages last last told) (sym fault) (puts_none view last d.gave told (tell _ _ d.stands.tells)))
+    (subst (λ (f : Option SessionFault). PutsUpTo view f (gives d.gave).messages (gives d.gave).messages last last told) (sym fault) (puts_none view last d.gave told tells))
 
 -- ---- no more reads
 
 pub drives_limit : {S K : Type 0} (seen : S → SourceView) (view : SinkView K) (limit n : ℕ) (before now : S) (first last : K) (s : State) (o : Option SessionFault) (told : List Message → ℕ → Type 0)
     → (d : Driving view n (seen before) (seen now) first last s) → n ≡ limit
-    → ((ms : List Message) (delivered : ℕ) → Tells s.counts ms delivered → told ms delivered) → o ≡ Some faults.TooManyReads
+    → told (gives d.gave).messages (length (records_of d.gave)) → o ≡ Some faults.TooManyReads
     → DrivesTo seen view limit before now first last o told
-drives_limit seen view limit n before now first last s o told d all tell fault =
+drives_limit seen view limit n before now first last s o told d all tells fault =
     drives_still seen view limit n before now now first last s o told d d.octets (omega (arith, d.within, all)) (omega arith)
     (subst (λ (f : Option SessionFault). IsDue f limit d.gave (seen before) (seen now)) (sym fault)
     (may_go_on s d.gave d.stands d.no_fault, subst (λ (k : ℕ). ((seen now).reads ≡ (seen before).reads + k) ⊎ ((seen now).reads ≡ 2 ^ 64 - 1)) all d.counted, d.none_failed, d.not_ended))
-    (subst (λ (f : Option SessionFault). PutsUpTo view f (gives d.gave).messages (gives d.gave).messages last last told) (sym fault) (puts_none view last d.gave told (tell _ _ d.stands.tells)))
+    (subst (λ (f : Option SessionFault). PutsUpTo view f (gives d.gave).messages (gives d.gave).messages last last told) (sym fault) (puts_none view last d.gave told tells))
 
 -- ---- no memory for a buffer
 

@@ -14,3 +14,4 @@ pub mod Putting
 pub mod Driving
 pub mod Driven
 pub mod Pieces
+mod InFull

@@ -1,5 +1,5 @@
 -- The fault of a session: the number and the name that reports give, and the fault that a text ends with.
-use Rattle.std.specs.Prelude.{ℕ, List, codes, Option, Some, None}
+use Rattle.std.specs.Prelude.{ℕ, Bool, true, false, List, codes, Option, Some, None}
 use Rattle.ipfix_message.specs.Faults as messages
 use Rattle.ipfix_session.specs.declared.stop.Stop.{Stop}
 use Rattle.ipfix_session.specs.declared.stop.Stop.TheVariants.{Clean, Short, Fault}
@@ -26,6 +26,15 @@ abbrev pub fault_at_end : Stop → Option SessionFault
 fault_at_end Clean = None
 fault_at_end Short = Some Truncated
 fault_at_end (Fault fault) = Some (Message fault)
+
+-- a session that ended so could have gone on: no message was refused, memory did not run out, and the sink took each record
+abbrev pub ends_open : Option SessionFault → Bool
+ends_open None = true
+ends_open (Some Truncated) = true
+ends_open (Some ReadFailed) = true
+ends_open (Some TooManyReads) = true
+ends_open (Some (Message fault)) = false
+ends_open (Some SinkClosed) = false
 
 abbrev pub end_of : List ℕ → Option SessionFault
 end_of text = fault_at_end (stop_of text)

@@ -1,14 +1,14 @@
 -- Where a message begins in its session, and the full report, which says where the session stopped.
-use Rattle.std.specs.Prelude.{◌≡◌, ℕ, ◌+◌, List, length, map, take, sum_by}
-use Rattle.ipfix_message.specs.Domains.{Message}
+use Rattle.std.specs.Prelude.{◌≡◌, ℕ, ◌+◌, false, List, [], length, map, take, sum_by, is_some, IfSome}
+use Rattle.ipfix_message.specs.Domains.{DomainsView, Message, StandsFor}
 use Rattle.ipfix_session.specs.declared.report.MessagePlace.{MessagePlace}
 use Rattle.ipfix_session.specs.declared.report.FullReport.{FullReport}
 use Rattle.ipfix_session.specs.MessageStream.{cut}
-use Rattle.ipfix_session.specs.Given.{gives, records_of}
+use Rattle.ipfix_session.specs.Given.{gives, known_after, records_of}
 use Rattle.ipfix_session.specs.Ledger.{capped, domains_of}
 use Rattle.ipfix_session.specs.Balances.{domain_balance}
 use Rattle.ipfix_session.specs.Reports.{Reports}
-use Rattle.ipfix_session.specs.Faults.{end_of}
+use Rattle.ipfix_session.specs.Faults.{end_of, ends_open}
 
 -- a message's own length (RFC 7011, section 3.1)
 abbrev pub length_of : Message → ℕ
@@ -30,11 +30,23 @@ messages_before_fault text = take (length (gives text).messages) (cut text).item
 abbrev pub place_of_fault : List ℕ → MessagePlace
 place_of_fault text = let ms = messages_before_fault text in place_behind (length ms) (sum_by length ms)
 
--- a full report is of these messages, and of that many records that were taken
-pub record ReportsInFull (r : FullReport) (ms : List Message) (delivered : ℕ) : Type 0 where
+-- the numbers of a full report are of these messages, and of that many records that were taken
+pub record CountsInFull (r : FullReport) (ms : List Message) (delivered : ℕ) : Type 0 where
   pub reports : Reports r.report ms delivered
   pub balances : r.balances.items ≡ map (domain_balance ms) (domains_of ms)
   pub stopped_at : r.stopped_at ≡ place_after ms
+
+-- these are the domains of messages, each with the templates in force behind them (RFC 7011, section 8)
+pub record AreDomainsOf (ms : List Message) (d : DomainsView) : Type 0 where
+  pub not_spent : d.spent ≡ false
+  pub stands : StandsFor d.domains (known_after [] ms)
+
+-- a full report is of these messages, and of that many records that were taken
+pub record ReportsInFull (r : FullReport) (ms : List Message) (delivered : ℕ) : Type 0 where
+  pub counts : CountsInFull r ms delivered
+  -- it has domains exactly if the session could have gone on, and then those of the messages
+  pub has_domains : is_some r.domains ≡ ends_open r.report.fault
+  pub in_force : IfSome r.domains (AreDomainsOf ms)
 
 -- the full report of a whole text
 pub record IsFullReport (r : FullReport) (text : List ℕ) : Type 0 where

@@ -3,7 +3,7 @@
 ghost use Rattle.std.specs.Prelude.{◌≡◌};
 ghost use Rattle.ipfix_message.specs.declared.fault.MessageFault.TheVariants.{OutOfMemory};
 ghost use Rattle.ipfix_session.specs.declared.fault.SessionFault.TheVariants.{Message};
-ghost use Rattle.ipfix_session.specs.Faults.{number_of, name_of};
+ghost use Rattle.ipfix_session.specs.Faults.{ends_open as is_end_open, number_of, name_of};
 
 use ipfix_message::MessageFault;
 use std::alloc::{AllocError, AllocFailed};
@@ -54,6 +54,20 @@ impl SessionFault {
             SessionFault::TooManyReads => "TooManyReads",
             SessionFault::SinkClosed => "SinkClosed",
         }
+    }
+}
+
+/// Whether a session that ended so could have gone on: no message was refused, memory did not run out, and the
+/// sink took each record.
+pub fn ends_open(fault: Option<SessionFault>) -> bool
+    ensures { result ≡ is_end_open fault }
+{
+    match fault {
+        None => true,
+        Some(SessionFault::Truncated | SessionFault::ReadFailed | SessionFault::TooManyReads) => {
+            true
+        }
+        Some(SessionFault::Message(_) | SessionFault::SinkClosed) => false,
     }
 }
 

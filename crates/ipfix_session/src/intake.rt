@@ -1,17 +1,20 @@
 //! Taking the messages of a session: each is decoded, its records are put, and then it is counted.
 
-ghost use Rattle.std.specs.Prelude.{◌≡◌, ◌<◌, ◌++◌, ◌∷◌, [], ℕ, List, Ok, MatchResult, length, OnOk, IfOk, IfErr, false};
+ghost use Rattle.std.specs.Prelude.{◌≡◌, ◌<◌, ◌++◌, ◌∷◌, [], ℕ, List, Ok, Some, None, MatchResult, length, OnOk, IfOk, IfErr, false, if◌then◌else◌};
 ghost use Rattle.ipfix_message.specs.declared.record.DataRecord.{DataRecord};
 ghost use Rattle.ipfix_message.specs.Domains.{Message, StandsFor, message_header};
 ghost use Rattle.ipfix_session.specs.MessageStream;
 ghost use Rattle.ipfix_session.specs.declared.message_stream.TheConstants.{LONGEST_MESSAGE};
+ghost use Rattle.ipfix_session.specs.Faults.{ends_open as is_end_open};
 ghost use Rattle.ipfix_session.specs.Ledger.{capped};
 ghost use Rattle.ipfix_session.specs.Feeding.{Tells};
 ghost use Rattle.ipfix_session.specs.Intake.{counts_of, IsRest, HasTaken, CanTakeNoMore};
+ghost use Rattle.ipfix_session.specs.Places.{CountsInFull};
 ghost use Rattle.ipfix_session.specs.Puts.{Puts};
 
-use crate::fault::SessionFault;
+use crate::fault::{SessionFault, ends_open};
 use crate::message_stream::next_message;
+use crate::report::FullReport;
 use crate::sink::Sink;
 use crate::tally::Tally;
 use ipfix_message::{DataRecord, Domains};
@@ -52,6 +55,23 @@ impl Intake {
             domains: Domains::new(alloc),
             tally: Tally::new(alloc),
         }
+    }
+
+    /// The full report of a session that ended so. This takes no memory.
+    pub fn into_report(self, fault: Option<SessionFault>) -> FullReport
+        ensures counts { (ms : List Message) (delivered : ℕ)
+            → Tells (counts_of self.tally) ms delivered → CountsInFull result ms delivered }
+        ensures fault { result.report.fault ≡ fault }
+        ensures domains { result.domains
+            ≡ (if is_end_open fault then Some self.domains else None) }
+    {
+        let Intake { domains, tally } = self;
+        let in_force = if ends_open(fault) {
+            Some(domains)
+        } else {
+            None
+        };
+        tally.into_report(fault, in_force)
     }
 
     /// Takes a whole message, whose header was read.

@@ -1,7 +1,7 @@
 //! What a session tells of itself.
 
 use crate::fault::SessionFault;
-use ipfix_message::PassedOver;
+use ipfix_message::{Domains, PassedOver};
 
 /// What the messages of an observation domain say. The numbers stop at `u64::MAX`.
 #[derive(Clone, Copy, Debug, PartialEq, Eq)]
@@ -57,8 +57,9 @@ pub struct MessagePlace {
     pub octet: u64,
 }
 
-/// A report, and beside it what balances its ledger and where the session stopped.
-#[derive(Debug, PartialEq, Eq, Drop)]
+/// A report, and beside it what balances its ledger, where the session stopped, and which templates are in
+/// force at its end.
+#[derive(Drop)]
 pub struct FullReport {
     pub report: SessionReport,
     /// The balances of the domains, in the order of their reports.
@@ -66,4 +67,8 @@ pub struct FullReport {
     /// Where the first message begins that isn't counted in the report. If a message was malformed or
     /// cut off, it is this one; if all octets are whole messages, they end there.
     pub stopped_at: MessagePlace,
+    /// The domains of the messages that count, with the templates that are in force behind them (RFC 7011,
+    /// section 8). `None` where a message was refused, memory ran out or the sink gave a record back: then no
+    /// template is in force for certain.
+    pub domains: Option<Domains>,
 }

@@ -1,11 +1,13 @@
 //! A transport session that is fed its octets in pieces (RFC 7011, section 3.1).
 
-ghost use Rattle.std.specs.Prelude.{◌≡◌, ◌≤◌, [], ℕ, length, List, Some, None, Err, IfErr, OnOk};
+ghost use Rattle.std.specs.Prelude.{◌≡◌, ◌≤◌, [], ℕ, length, List, Some, None, Err, IfErr, OnOk, false};
 ghost use Rattle.ipfix_message.specs.Domains.{Message};
 ghost use Rattle.ipfix_session.specs.declared.message_stream.TheConstants.{LONGEST_MESSAGE};
 ghost use Rattle.ipfix_session.specs.Feeding.{Tells, StandsForText, Feeds};
+ghost use Rattle.ipfix_session.specs.Faults.{ends_open};
+ghost use Rattle.ipfix_session.specs.Given.{gives, records_of};
 ghost use Rattle.ipfix_session.specs.Reports.{IsReport, Reports, ended_by};
-ghost use Rattle.ipfix_session.specs.Places.{IsFullReport, ReportsInFull};
+ghost use Rattle.ipfix_session.specs.Places.{CountsInFull, IsFullReport, ReportsInFull};
 
 use crate::buffer::read_on;
 use crate::fault::SessionFault;
@@ -93,12 +95,15 @@ impl Session {
         self.finish_in_full().report
     }
 
-    /// The same report, with the balances of the domains and the place of the message that ended the
-    /// session. This takes no memory.
+    /// The same report, with the balances of the domains, the place of the message that ended the session,
+    /// and the templates that are in force at its end. This takes no memory.
     pub fn finish_in_full(self) -> FullReport
         ensures text { (text : List ℕ) → StandsForText self text → IsFullReport result text }
         ensures so_far { (ms : List Message) (delivered : ℕ) → Tells self.counts ms delivered
-            → ReportsInFull result ms delivered }
+            → CountsInFull result ms delivered }
+        // After a fault with which it could not have gone on.
+        ensures refused { (ms : List Message) (delivered : ℕ) → ends_open self.fault ≡ false
+            → Tells self.counts ms delivered → ReportsInFull result ms delivered }
         ensures fault { (fault : SessionFault) → self.fault ≡ Some fault
             → result.report.fault ≡ Some fault }
     {
@@ -107,13 +112,16 @@ impl Session {
             buffer,
             fault,
         } = self;
-        intake.tally.into_report(fault_at_end(fault, &buffer))
+        intake.into_report(fault_at_end(fault, &buffer))
     }
 
-    // What the session gave, which this fault ended.
+    // What the session gave, which this fault ended: of all its text, if it has none itself, and of what was
+    // counted, if this is one with which it could not have gone on.
     pub(crate) fn finish_after(self, fault: SessionFault) -> FullReport
-        ensures so_far { (ms : List Message) (delivered : ℕ) → Tells self.counts ms delivered
-            → ReportsInFull result ms delivered }
+        ensures text { (text : List ℕ) → StandsForText self text → self.fault ≡ None
+            → ReportsInFull result (gives text).messages (length (records_of text)) }
+        ensures so_far { (ms : List Message) (delivered : ℕ) → ends_open (Some fault) ≡ false
+            → Tells self.counts ms delivered → ReportsInFull result ms delivered }
         ensures fault { result.report.fault ≡ Some fault }
     {
         let Session {
@@ -121,7 +129,7 @@ impl Session {
             buffer: _,
             fault: _,
         } = self;
-        intake.tally.into_report(Some(fault))
+        intake.into_report(Some(fault))
     }
 }
 

@@ -5,14 +5,14 @@ ghost use Rattle.ipfix_message.specs.Domains.{Message};
 ghost use Rattle.ipfix_session.specs.Feeding.{Tells};
 ghost use Rattle.ipfix_session.specs.Intake.{counts_of};
 ghost use Rattle.ipfix_session.specs.Ledger.{count_in};
-ghost use Rattle.ipfix_session.specs.Places.{ReportsInFull};
+ghost use Rattle.ipfix_session.specs.Places.{CountsInFull};
 ghost use Rattle.ipfix_session.specs.Rooms.{HasRoom};
 
 use crate::account::{NOTHING, add_up};
 use crate::fault::SessionFault;
 use crate::ledger::Ledger;
 use crate::report::{FullReport, MessagePlace, SessionReport};
-use ipfix_message::PassedOver;
+use ipfix_message::{Domains, PassedOver};
 use ipfix_wire::Header;
 use std::alloc::Global;
 
@@ -61,11 +61,13 @@ impl Tally {
         self.passed_over = add_up(self.passed_over, passed_over);
     }
 
-    /// The full report of the session, which ended with this fault. This takes no memory.
-    pub fn into_report(self, fault: Option<SessionFault>) -> FullReport
-        ensures reports { (ms : List Message) (delivered : ℕ) → Tells (counts_of self) ms delivered
-            → ReportsInFull result ms delivered }
+    /// The full report of the session, which ended with this fault, and of which these domains are told.
+    /// This takes no memory.
+    pub fn into_report(self, fault: Option<SessionFault>, in_force: Option<Domains>) -> FullReport
+        ensures counts { (ms : List Message) (delivered : ℕ) → Tells (counts_of self) ms delivered
+            → CountsInFull result ms delivered }
         ensures fault { result.report.fault ≡ fault }
+        ensures domains { result.domains ≡ in_force }
     {
         let Tally {
             messages,
@@ -91,6 +93,7 @@ impl Tally {
                 message: messages.saturating_add(1),
                 octet: octets,
             },
+            domains: in_force,
         }
     }
 }

@@ -4,6 +4,7 @@ mod balances;
 mod damage;
 mod driving;
 mod examples;
+mod in_force;
 mod limits;
 mod memory;
 mod narrow;

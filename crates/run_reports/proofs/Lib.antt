@@ -2,3 +2,4 @@ pub mod Numbering
 pub mod LinesTold
 pub mod Untold
 mod Stream
+mod Once

@@ -9,7 +9,7 @@ use Rattle.ipfix_session.specs.declared.report.DomainReport.{DomainReport}
 use Rattle.ipfix_session.specs.declared.report.FullReport.{FullReport}
 use Rattle.ipfix_session.specs.Ledger.{capped, sequence_behind, gap, lost_at, backward_at, lost_between, backward_between, sum_neighbours, messages_of, domains_of, domain_report}
 use Rattle.ipfix_session.specs.Balances.{unaccounted_between, domain_balance}
-use Rattle.ipfix_session.specs.Places.{ReportsInFull}
+use Rattle.ipfix_session.specs.Places.{CountsInFull}
 use Rattle.run_reports.specs.Spotless.{IsInSequence, IsSpotlessSession, IsUnbroken, IsUnbrokenStream}
 
 -- ---- lists
@@ -101,7 +101,7 @@ none_is n none = omega (arith, none)
 capped_none : (n : ℕ) → n ≡ 0 → capped n ≡ 0
 capped_none n none = omega (arith, none)
 
-module _ (full : FullReport) (ms : List Message) (delivered : ℕ) (r : ReportsInFull full ms delivered) where
+module _ (full : FullReport) (ms : List Message) (delivered : ℕ) (r : CountsInFull full ms delivered) where
   unknown_is : full.report.unknown_sets ≡ capped (sum_by (λ m. m.decoding.passed_over.unknown_sets) ms)
   unknown_is = ap (λ p. p.unknown_sets) r.reports.passed_over
 

@@ -1,6 +1,7 @@
 -- The lines of sessions in full: those that always stand, and those that are added to them.
 use Rattle.std.specs.Prelude.{ℕ, ◌-◌, ◌==◌, ◌&&◌, Bool, List, [], ◌++◌, codes, decimal, if◌then◌else◌, slice_get, unwrap_or, Option, Some, None}
 use Rattle.std.specs.List.{flat_map, enumerate_from}
+use Rattle.element_registry.specs.Registries.{Known}
 use Rattle.ipfix_message.specs.declared.passed_over.PassedOver.{PassedOver}
 use Rattle.ipfix_session.specs.declared.fault.SessionFault.{SessionFault}
 use Rattle.ipfix_session.specs.declared.report.DomainBalance.{DomainBalance}
@@ -9,6 +10,7 @@ use Rattle.ipfix_session.specs.declared.report.MessagePlace.{MessagePlace}
 use Rattle.ipfix_session.specs.Faults.{number_of, name_of}
 use Rattle.run_reports.specs.ReportLines.{session_lines}
 use Rattle.run_reports.specs.Origins.{octets_from, session_start, tells_balances}
+use Rattle.run_reports.specs.UnnamedElements.{unnamed_told}
 use Rattle.run_reports.specs.declared.origin.Origin.{Origin}
 use Rattle.run_reports.specs.declared.origin.Origin.TheVariants.{Unknown}
 use Rattle.run_reports.specs.declared.telling.Telling.{Telling}
@@ -77,16 +79,17 @@ end_told telling session origin full = if telling.verbose then end_lines session
 -- ---- a session, and all of them
 
 -- a session's lines that always stand, and then those that are added
-abbrev pub added_lines : Telling → ℕ → Origin → FullReport → List ℕ
-added_lines telling session origin full = balances_told telling session origin full.balances.items ++ end_told telling session origin full
+abbrev pub added_lines : Telling → List Known → ℕ → Origin → FullReport → List ℕ
+added_lines telling known session origin full =
+    balances_told telling session origin full.balances.items ++ (unnamed_told telling known session origin full ++ end_told telling session origin full)
 
-abbrev pub told_session : Telling → ℕ → Origin → FullReport → List ℕ
-told_session telling session origin full = session_lines session full.report ++ added_lines telling session origin full
+abbrev pub told_session : Telling → List Known → ℕ → Origin → FullReport → List ℕ
+told_session telling known session origin full = session_lines session full.report ++ added_lines telling known session origin full
 
 -- the origin of a session, counted from 1; unknown, where none stands
 abbrev pub origin_of : List Origin → ℕ → Origin
 origin_of origins session = unwrap_or (slice_get origins (session - 1)) Unknown
 
--- the sessions in order, counted from 1, each with the origin that has its place
-abbrev pub told_lines : Telling → List Origin → List FullReport → List ℕ
-told_lines telling origins fulls = flat_map (λ x. told_session telling x.0 (origin_of origins x.0) x.1) (enumerate_from 1 fulls)
+-- the sessions in order, counted from 1, each with the origin that has its place, under files of elements
+abbrev pub told_lines : Telling → List Known → List Origin → List FullReport → List ℕ
+told_lines telling known origins fulls = flat_map (λ x. told_session telling known x.0 (origin_of origins x.0) x.1) (enumerate_from 1 fulls)

@@ -5,7 +5,7 @@ ghost use Rattle.flow_export.specs.CsvText.{key_text};
 ghost use Rattle.flow_table.specs.declared.key.Key.{Key};
 ghost use Rattle.ipfix_elements.specs.Names.{name_text};
 ghost use Rattle.ipfix_message.specs.Domains.{Message};
-ghost use Rattle.ipfix_session.specs.Places.{ReportsInFull};
+ghost use Rattle.ipfix_session.specs.Places.{CountsInFull};
 ghost use Rattle.ipfix_session.specs.declared.report.FullReport.{FullReport};
 ghost use Rattle.ipfix_wire.specs.declared.specifier.ElementId.{ElementId};
 ghost use Rattle.run_reports.specs.MissingLines.{counter_text, unkeyed_text};
@@ -16,7 +16,7 @@ ghost use Rattle.run_reports.specs.Spotless.{IsSpotlessSession, IsUnbrokenStream
 /// section 3.1), each data set had its template (section 9), and no set was skipped (section 3.3.2).
 pub fn spotless_is_unbroken()
     ensures { (full : FullReport) (ms : List Message) (delivered : ℕ)
-        → ReportsInFull full ms delivered
+        → CountsInFull full ms delivered
         → (IsSpotlessSession full) ↔ ((full.report.fault ≡ None) × IsUnbrokenStream ms) }
 {}
 

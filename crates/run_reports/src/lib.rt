@@ -5,6 +5,7 @@
 mod balances;
 mod endings;
 mod faults;
+mod first_elements;
 pub mod laws;
 mod missing;
 mod opening;
@@ -18,6 +19,7 @@ mod spotless;
 mod tally;
 mod telling;
 mod told_reports;
+mod unnamed;
 mod write_lines;
 
 pub use faults::{

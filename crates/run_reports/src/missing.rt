@@ -1,16 +1,17 @@
 //! The lines of what records lack.
 
-ghost use Rattle.std.specs.Prelude.{◌≡◌, ◌≤◌, ◌++◌, false, length, OnErr, OnOk};
+ghost use Rattle.std.specs.Prelude.{◌≡◌, ◌≤◌, false, length, OnErr, OnOk};
 ghost use Rattle.std.specs.Io.KnownBytes.{Appends};
 ghost use Rattle.element_registry.specs.Registries.{name_under};
+ghost use Rattle.ipfix_elements.specs.Names.{numbered_text};
 ghost use Rattle.flow_export.specs.CsvText.{prefix_text};
-ghost use Rattle.flow_table.specs.declared.plan.TheConstants.{MAX_COUNTERS, MAX_KEYS};
-ghost use Rattle.run_reports.specs.MissingLines.{count_end, counter_line, counter_lines, counter_text, key_line, key_lines, missing_lines, missing_told, time_line, time_text, unkeyed_text};
+ghost use Rattle.run_reports.specs.MissingLines.{count_end, counter_text, lack_line, lack_lines, missing_lines, missing_told, time_text, unkeyed_text};
+ghost use Rattle.run_reports.specs.Writing.{Tells};
 
 use crate::telling::Telling;
 use crate::write_lines::WriteLines;
 use element_registry::Elements;
-use flow_table::{Key, MAX_COUNTERS, MAX_KEYS, Missing, Plan};
+use flow_table::{Key, Missing, Plan};
 use ipfix_wire::ElementId;
 use std::io;
 
@@ -45,140 +46,100 @@ fn write_lines<W: WriteLines>(
     missing: &Missing,
     out: &mut W,
 ) -> io::Result<()>
-    ensures told { OnOk result (Appends (W.contents out.old) (W.contents out.new)
-        (missing_lines elements.now plan.now missing.now)) }
-    ensures failed { OnErr result (W.failed out.new) }
-    ensures kept { W.failed out.old → W.failed out.new }
+    ensures { Tells W.contents W.failed out.old out.new result
+        (missing_lines elements.now plan.now missing.now) }
 {
-    write_counters(elements, plan.counters(), &missing.counters, out)?;
-    write_time("start", missing.start, out)?;
-    write_time("end", missing.end, out)?;
-    write_keys(elements, plan.keys(), &missing.keys, out)
+    write_each(elements, plan.counters(), &missing.counters, out)?;
+    write_line(elements, &Time { name: "start" }, missing.start, out)?;
+    write_line(elements, &Time { name: "end" }, missing.end, out)?;
+    write_each(elements, plan.keys(), &missing.keys, out)
 }
 
-fn write_counters<W: WriteLines>(
+/// What records can lack.
+trait Lack {
+    ghost use Rattle.std.specs.Prelude.{ℕ, List};
+    ghost use Rattle.element_registry.specs.Registries.{Known};
+    ghost use Rattle.run_reports.specs.Writing.{Tells};
+
+    /// What is said of records that lack it, before how many they are.
+    ghost words: { List Known → Self → List ℕ };
+
+    /// Writes that.
+    fn write_words<W: WriteLines>(&self, elements: &Elements, out: &mut W) -> io::Result<()>
+        ensures { Tells W.contents W.failed out.old out.new result
+            (words elements.now self.now) };
+}
+
+/// A counter, which used records can lack.
+impl Lack for ElementId {
+    ghost words = { counter_text };
+
+    fn write_words<W: WriteLines>(&self, elements: &Elements, out: &mut W) -> io::Result<()> {
+        out.write_all("collectd: records: without ".as_bytes())?;
+        write_element(elements, *self, out)
+    }
+}
+
+/// The start or the end of a flow, which untimed records lack.
+#[derive(Clone, Copy)]
+struct Time {
+    name: &'static str,
+}
+
+impl Lack for Time {
+    ghost words = { λ _ time. time_text time.name.now };
+
+    #[tactic(auto, unfolding(crate::specs::MissingLines::time_text))]
+    fn write_words<W: WriteLines>(&self, _elements: &Elements, out: &mut W) -> io::Result<()> {
+        let name = self.name;
+        write!(out, "collectd: records: untimed without {name}")
+    }
+}
+
+/// A key, which unkeyed records lack.
+impl Lack for Key {
+    ghost words = { unkeyed_text };
+
+    fn write_words<W: WriteLines>(&self, elements: &Elements, out: &mut W) -> io::Result<()> {
+        out.write_all("collectd: records: unkeyed without ".as_bytes())?;
+        write_element(elements, self.element, out)?;
+        write_prefix(self.prefix, out)
+    }
+}
+
+// Writes the lines of what records can lack, in order.
+fn write_each<L: Lack, W: WriteLines>(
     elements: &Elements,
-    counters: &[ElementId],
-    counts: &[u64; MAX_COUNTERS],
+    all: &[L],
+    counts: &[u64],
     out: &mut W,
 ) -> io::Result<()>
-    requires { length counters.now ≤ MAX_COUNTERS }
-    ensures told { OnOk result (Appends (W.contents out.old) (W.contents out.new)
-        (counter_lines elements.now counters.now counts.now)) }
-    ensures failed { OnErr result (W.failed out.new) }
-    ensures kept { W.failed out.old → W.failed out.new }
+    requires { length all.now ≤ length counts.now }
+    ensures { Tells W.contents W.failed out.old out.new result
+        (lack_lines (L.words elements.now) all.now counts.now) }
 {
-    for (place, counter) in counters.iter().enumerate() {
-        write_counter(elements, *counter, counts[place], out)?;
+    for (place, lack) in all.iter().enumerate() {
+        write_line(elements, lack, counts[place], out)?;
     }
     Ok(())
 }
 
-fn write_counter<W: WriteLines>(
+// Writes the line of what so many records lack, if there are any.
+fn write_line<L: Lack, W: WriteLines>(
     elements: &Elements,
-    counter: ElementId,
+    lack: &L,
     count: u64,
     out: &mut W,
 ) -> io::Result<()>
-    ensures told { OnOk result (Appends (W.contents out.old) (W.contents out.new)
-        (counter_line elements.now counter count)) }
-    ensures failed { OnErr result (W.failed out.new) }
-    ensures kept { W.failed out.old → W.failed out.new }
+    ensures { Tells W.contents W.failed out.old out.new result
+        (lack_line (L.words elements.now lack.now) count) }
 {
     if count == 0 {
         Ok(())
     } else {
-        write_counter_start(elements, counter, out)?;
+        lack.write_words(elements, out)?;
         write_count_end(count, out)
     }
-}
-
-#[tactic(auto, unfolding(crate::specs::MissingLines::counter_text))]
-fn write_counter_start<W: WriteLines>(
-    elements: &Elements,
-    counter: ElementId,
-    out: &mut W,
-) -> io::Result<()>
-    ensures told { OnOk result (Appends (W.contents out.old) (W.contents out.new)
-        (counter_text elements.now counter)) }
-    ensures failed { OnErr result (W.failed out.new) }
-    ensures kept { W.failed out.old → W.failed out.new }
-{
-    out.write_all("collectd: records: without ".as_bytes())?;
-    write_element(elements, counter, out)
-}
-
-fn write_time<W: WriteLines>(time: &str, count: u64, out: &mut W) -> io::Result<()>
-    ensures told { OnOk result (Appends (W.contents out.old) (W.contents out.new)
-        (time_line time.now count)) }
-    ensures failed { OnErr result (W.failed out.new) }
-    ensures kept { W.failed out.old → W.failed out.new }
-{
-    if count == 0 {
-        Ok(())
-    } else {
-        write_time_start(time, out)?;
-        write_count_end(count, out)
-    }
-}
-
-#[tactic(auto, unfolding(crate::specs::MissingLines::time_text))]
-fn write_time_start<W: WriteLines>(time: &str, out: &mut W) -> io::Result<()>
-    ensures told { OnOk result (Appends (W.contents out.old) (W.contents out.new)
-        (time_text time.now)) }
-    ensures failed { OnErr result (W.failed out.new) }
-    ensures kept { W.failed out.old → W.failed out.new }
-{
-    write!(out, "collectd: records: untimed without {time}")
-}
-
-fn write_keys<W: WriteLines>(
-    elements: &Elements,
-    keys: &[Key],
-    counts: &[u64; MAX_KEYS],
-    out: &mut W,
-) -> io::Result<()>
-    requires { length keys.now ≤ MAX_KEYS }
-    ensures told { OnOk result (Appends (W.contents out.old) (W.contents out.new)
-        (key_lines elements.now keys.now counts.now)) }
-    ensures failed { OnErr result (W.failed out.new) }
-    ensures kept { W.failed out.old → W.failed out.new }
-{
-    for (place, key) in keys.iter().enumerate() {
-        write_lacking_key(elements, *key, counts[place], out)?;
-    }
-    Ok(())
-}
-
-fn write_lacking_key<W: WriteLines>(
-    elements: &Elements,
-    key: Key,
-    count: u64,
-    out: &mut W,
-) -> io::Result<()>
-    ensures told { OnOk result (Appends (W.contents out.old) (W.contents out.new)
-        (key_line elements.now key count)) }
-    ensures failed { OnErr result (W.failed out.new) }
-    ensures kept { W.failed out.old → W.failed out.new }
-{
-    if count == 0 {
-        Ok(())
-    } else {
-        write_key_start(elements, key, out)?;
-        write_count_end(count, out)
-    }
-}
-
-#[tactic(auto, unfolding(crate::specs::MissingLines::unkeyed_text))]
-fn write_key_start<W: WriteLines>(elements: &Elements, key: Key, out: &mut W) -> io::Result<()>
-    ensures told { OnOk result (Appends (W.contents out.old) (W.contents out.new)
-        (unkeyed_text elements.now key)) }
-    ensures failed { OnErr result (W.failed out.new) }
-    ensures kept { W.failed out.old → W.failed out.new }
-{
-    out.write_all("collectd: records: unkeyed without ".as_bytes())?;
-    write_element(elements, key.element, out)?;
-    write_prefix(key.prefix, out)
 }
 
 // Writes an element's name, or its numbers.
@@ -187,24 +148,28 @@ fn write_element<W: WriteLines>(
     element: ElementId,
     out: &mut W,
 ) -> io::Result<()>
+    ensures { Tells W.contents W.failed out.old out.new result (name_under elements.now element) }
+{
+    match elements.name_of(element) {
+        Some(name) => out.write_all(name.as_bytes()),
+        None => write_numbers(element, out),
+    }
+}
+
+/// Writes the numbers of an element, as a dump spells one that has no name.
+pub fn write_numbers<W: WriteLines>(element: ElementId, out: &mut W) -> io::Result<()>
     ensures told { OnOk result (Appends (W.contents out.old) (W.contents out.new)
-        (name_under elements.now element)) }
+        (numbered_text element)) }
     ensures failed { OnErr result (W.failed out.new) }
     ensures kept { W.failed out.old → W.failed out.new }
 {
     let pen = element.pen;
     let number = element.number;
-    match elements.name_of(element) {
-        Some(name) => out.write_all(name.as_bytes()),
-        None => write!(out, "e{pen}.{number}"),
-    }
+    write!(out, "e{pen}.{number}")
 }
 
 fn write_prefix<W: WriteLines>(prefix: Option<u8>, out: &mut W) -> io::Result<()>
-    ensures told { OnOk result (Appends (W.contents out.old) (W.contents out.new)
-        (prefix_text prefix)) }
-    ensures failed { OnErr result (W.failed out.new) }
-    ensures kept { W.failed out.old → W.failed out.new }
+    ensures { Tells W.contents W.failed out.old out.new result (prefix_text prefix) }
 {
     match prefix {
         Some(bits) => write!(out, "/{bits}"),
@@ -214,10 +179,7 @@ fn write_prefix<W: WriteLines>(prefix: Option<u8>, out: &mut W) -> io::Result<()
 
 #[tactic(auto, unfolding(crate::specs::MissingLines::count_end))]
 fn write_count_end<W: WriteLines>(count: u64, out: &mut W) -> io::Result<()>
-    ensures told { OnOk result (Appends (W.contents out.old) (W.contents out.new)
-        (count_end count)) }
-    ensures failed { OnErr result (W.failed out.new) }
-    ensures kept { W.failed out.old → W.failed out.new }
+    ensures { Tells W.contents W.failed out.old out.new result (count_end count) }
 {
     writeln!(out, " {count}")
 }

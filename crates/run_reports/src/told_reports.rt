@@ -10,7 +10,9 @@ use crate::endings::write_end;
 use crate::origin::Origin;
 use crate::reports::write_session;
 use crate::telling::Telling;
+use crate::unnamed::write_unnamed;
 use crate::write_lines::WriteLines;
+use element_registry::Elements;
 use ipfix_session::FullReport;
 use std::io;
 
@@ -18,18 +20,20 @@ use std::io;
 /// [`write_reports`](crate::write_reports) writes, and that is all if `telling` asks for nothing.
 ///
 /// If it is verbose or strict, a line follows for each domain in which something wasn't counted: unknown
-/// sets, skipped sets, ignored withdrawals, and records that are unaccounted for. If it is verbose, the
-/// place of the session's fault follows, and then how much of it counts. Each of these lines has the
-/// origin that stands at the session's place in `origins` behind the session's number; none if it is
-/// missing there.
+/// sets, skipped sets, ignored withdrawals, and records that are unaccounted for. If it is verbose, there
+/// follow the elements of the templates in force at the session's end which neither the built-in list nor
+/// the files of `elements` name, if there are any; then the place of the session's fault, and how much of
+/// it counts. Each of these lines has the origin that stands at the session's place in `origins` behind
+/// the session's number; none if it is missing there.
 pub fn write_told_reports<W: WriteLines>(
     telling: Telling,
+    elements: &Elements,
     origins: &[Origin],
     reports: &[FullReport],
     out: &mut W,
 ) -> io::Result<()>
     ensures told { OnOk result (Appends (W.contents out.old) (W.contents out.new)
-        (told_lines telling origins.now reports.now)) }
+        (told_lines telling elements.now origins.now reports.now)) }
     // Without these options nothing is added.
     ensures plain { telling.verbose ≡ false → telling.strict ≡ false
         → OnOk result (Appends (W.contents out.old) (W.contents out.new)
@@ -38,7 +42,7 @@ pub fn write_told_reports<W: WriteLines>(
     ensures kept { W.failed out.old → W.failed out.new }
 {
     for (index, full) in reports.iter().enumerate() {
-        write_numbered(telling, index + 1, origins, full, out)?;
+        write_numbered(telling, elements, index + 1, origins, full, out)?;
     }
     Ok(())
 }
@@ -46,35 +50,38 @@ pub fn write_told_reports<W: WriteLines>(
 // The lines of the session of this number, counted from 1.
 fn write_numbered<W: WriteLines>(
     telling: Telling,
+    elements: &Elements,
     session: usize,
     origins: &[Origin],
     full: &FullReport,
     out: &mut W,
 ) -> io::Result<()>
     ensures told { OnOk result (Appends (W.contents out.old) (W.contents out.new)
-        (told_session telling session (origin_of origins.now session) full.now)) }
+        (told_session telling elements.now session (origin_of origins.now session) full.now)) }
     ensures failed { OnErr result (W.failed out.new) }
     ensures kept { W.failed out.old → W.failed out.new }
 {
     match origins.get(session.saturating_sub(1)) {
-        Some(origin) => write_told_session(telling, session, origin, full, out),
-        None => write_told_session(telling, session, &Origin::Unknown, full, out),
+        Some(origin) => write_told_session(telling, elements, session, origin, full, out),
+        None => write_told_session(telling, elements, session, &Origin::Unknown, full, out),
     }
 }
 
 fn write_told_session<W: WriteLines>(
     telling: Telling,
+    elements: &Elements,
     session: usize,
     origin: &Origin,
     full: &FullReport,
     out: &mut W,
 ) -> io::Result<()>
     ensures told { OnOk result (Appends (W.contents out.old) (W.contents out.new)
-        (told_session telling session origin.now full.now)) }
+        (told_session telling elements.now session origin.now full.now)) }
     ensures failed { OnErr result (W.failed out.new) }
     ensures kept { W.failed out.old → W.failed out.new }
 {
     write_session(session, &full.report, out)?;
     write_balances(telling, session, origin, &full.balances, out)?;
+    write_unnamed(telling, elements, session, origin, full, out)?;
     write_end(telling, session, origin, full, out)
 }

@@ -1,5 +1,7 @@
 //! What is told of sessions in full, of what was opened and of what was not had, and which runs are spotless.
 
+mod unnamed;
+
 use element_registry::Elements;
 use flow_table::{Missing, Tally};
 use ipfix_dump::{Line, dump_in_full_by};
@@ -62,6 +64,7 @@ fn origins() -> [Origin<'static>; 2] {
 #[test]
 fn writes_sessions_in_full(rt: HostRuntime) -> Result<(), Fail> {
     let reports = two_sessions(rt.alloc())?;
+    let elements = Elements::built_in(rt.alloc());
     let cases: [(Telling, &str); 3] = [
         (PLAIN, "collectd: session 1: fault 14 Truncated\n"),
         (
@@ -82,7 +85,7 @@ collectd: session 2 192.0.2.1:4711: ended: messages 1 octets 40 records 2
     ];
     for (telling, wanted) in cases {
         let mut err = Vec::new(rt.alloc());
-        write_told_reports(telling, &origins(), reports.as_slice(), &mut err)?;
+        write_told_reports(telling, &elements, &origins(), reports.as_slice(), &mut err)?;
         assert_eq!(rt; err.as_slice(), wanted.as_bytes());
     }
     Ok(())

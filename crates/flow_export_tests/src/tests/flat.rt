@@ -3,9 +3,9 @@
 ghost use Rattle.flow_table.specs.Fitting.{FitsPlan};
 
 use super::tables::{TIME, by_source, flat_of_minutes, table_of_minutes};
+use element_registry::Elements;
 use flow_export::{
-    ExportFault, Format, write_csv, write_csv_flat, write_ipfix, write_ipfix_flat, write_json,
-    write_json_flat,
+    AnyTable, ExportFault, Format, TableText, write_csv, write_ipfix, write_json, write_table,
 };
 use flow_table::{FlatTable, Plan, Table};
 use std::alloc::Global;
@@ -31,12 +31,14 @@ fn made(
 ) -> Result<Vec<u8>, ExportFault>
     requires { FitsPlan plan.now table.now }
 {
+    let elements = Elements::built_in(alloc);
+    let text = match format {
+        Format::Csv => TableText::Csv(&elements),
+        Format::Json => TableText::Json(&elements),
+        Format::Ipfix => TableText::Ipfix(TIME),
+    };
     let mut out = Vec::new(alloc);
-    match format {
-        Format::Csv => write_csv_flat(alloc, plan, table, &mut out)?,
-        Format::Json => write_json_flat(alloc, plan, table, &mut out)?,
-        Format::Ipfix => write_ipfix_flat(alloc, plan, table, TIME, &mut out)?,
-    }
+    write_table(alloc, plan, &AnyTable::Flat(table), &text, &mut out)?;
     Ok(out)
 }
 

@@ -2,13 +2,12 @@
 
 ghost use Rattle.std.specs.Prelude.{◌≡◌, IfOk};
 ghost use Rattle.flow_table.specs.Fitting.{FitsPlan};
+ghost use Rattle.flow_export.specs.AnyTables.{table_in};
 
 use super::tables::{flat_of_minutes, table_of_minutes};
 use element_registry::{Elements, ElementsFault, add_file};
-use flow_export::{
-    ExportFault, write_csv_flat_under, write_csv_under, write_json_flat_under, write_json_under,
-};
-use flow_table::{FlatTable, Key, Method, Plan, PlanFault, Table};
+use flow_export::{AnyTable, ExportFault, TableText, write_table};
+use flow_table::{Key, Method, Plan, PlanFault};
 use ipfix_wire::ElementId;
 use std::alloc::Global;
 use std::test::Fail;
@@ -57,27 +56,13 @@ fn texts(
     alloc: Global,
     elements: &Elements,
     plan: &Plan,
-    table: &Table,
+    table: &AnyTable,
 ) -> Result<Vec<u8>, ExportFault>
-    requires { FitsPlan plan.now table.now }
+    requires { FitsPlan plan.now (table_in table.now) }
 {
     let mut out = Vec::new(alloc);
-    write_csv_under(alloc, elements, plan, table, &mut out)?;
-    write_json_under(alloc, elements, plan, table, &mut out)?;
-    Ok(out)
-}
-
-fn flat_texts(
-    alloc: Global,
-    elements: &Elements,
-    plan: &Plan,
-    table: &FlatTable,
-) -> Result<Vec<u8>, ExportFault>
-    requires { FitsPlan plan.now table.now }
-{
-    let mut out = Vec::new(alloc);
-    write_csv_flat_under(alloc, elements, plan, table, &mut out)?;
-    write_json_flat_under(alloc, elements, plan, table, &mut out)?;
+    write_table(alloc, plan, table, &TableText::Csv(elements), &mut out)?;
+    write_table(alloc, plan, table, &TableText::Json(elements), &mut out)?;
     Ok(out)
 }
 
@@ -89,14 +74,10 @@ fn names_of_files_stand_in_texts(rt: HostRuntime) -> Result<(), Fail> {
     let plan = by_source(alloc, &elements)?;
     let want = format!(in alloc; "{CSV}{JSON}")?;
     let table = table_of_minutes(alloc, &plan, 1)?;
-    assert_eq!(rt;
-        texts(alloc, &elements, &plan, &table)?.as_slice(),
-        want.as_bytes()
-    );
     let flat = flat_of_minutes(alloc, &plan, 1)?;
-    assert_eq!(rt;
-        flat_texts(alloc, &elements, &plan, &flat)?.as_slice(),
-        want.as_bytes()
-    );
+    let kept = texts(alloc, &elements, &plan, &AnyTable::Rows(&table))?;
+    assert_eq!(rt; kept.as_slice(), want.as_bytes());
+    let made = texts(alloc, &elements, &plan, &AnyTable::Flat(&flat))?;
+    assert_eq!(rt; made.as_slice(), want.as_bytes());
     Ok(())
 }

@@ -12,4 +12,4 @@ returns-clause-fault g c = λ one.
 
 pub returns-clause-ended : goal.returns-clause-ended
 returns-clause-ended g c = λ ran.
-    ended_alone _ _ _ _ _ _ _ c.dump_to_end.result _ _ refl (λ full told. subst (λ (l : List ℕ). AreTold (g.E.WriteLines.contents c.args.err.now) (g.E.WriteLines.contents c.dump_to_end.new.err) (g.E.WriteLines.failed c.dump_to_end.new.err) l) (told_plain NOTHING_MORE refl refl (Unknown ∷ []) (full ∷ [])) told) (c.dump_to_end.ensures.dumped ran)
+    ended_alone _ _ _ _ _ _ _ c.dump_to_end.result _ _ refl (λ full told. subst (λ (l : List ℕ). AreTold (g.E.WriteLines.contents c.args.err.now) (g.E.WriteLines.contents c.dump_to_end.new.err) (g.E.WriteLines.failed c.dump_to_end.new.err) l) (told_plain NOTHING_MORE refl refl c.args.elements.now (Unknown ∷ []) (full ∷ [])) told) (c.dump_to_end.ensures.dumped ran)

@@ -13,7 +13,7 @@ loop-full-preserved c =
     let inv = c.loop-full.invariant in (
       inv.0 ++ c.in-Some.full ∷ [],
       split_on _ inv.0 _ _ _ inv.1 c.in-Some.ensures.items,
-      c.in_ok-push.ensures.items ∙ ap (λ rs. rs ++ c.in-Some.full.report ∷ []) inv.2 ∙ sym (map_push (λ (full : FullReport). full.report) inv.0 c.in-Some.full),
+      c.in_ok-push.ensures.items ∙ ap (λ r. c.loop-full.reports.items ++ r ∷ []) c.report_of.ensures ∙ ap (λ rs. rs ++ c.in-Some.full.report ∷ []) inv.2 ∙ sym (map_push (λ (full : FullReport). full.report) inv.0 c.in-Some.full),
     )
 
 pub returns : goal.returns

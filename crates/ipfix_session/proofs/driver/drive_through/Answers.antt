@@ -22,12 +22,12 @@ returns-in-Err g c room =
 pub returns-in-Err-Failed : goal.returns-in-Err-Failed
 returns-in-Err-Failed g c room =
     drives_failed g.S.Source.seen g.K.Sink.seen c.args.limit c.loop.counter _ c.loop.source _ c.args.sink.now c.loop.sink c.loop.session c.read.new.buffer c.finish_after-in-Err-Failed.result.report.fault _
-    c.loop.invariant c.loop-test.true (rw c.in-Err-Failed.field-0-is at c.in-Err-Failed.ensures) c.finish_after-in-Err-Failed.ensures.so_far c.finish_after-in-Err-Failed.ensures.fault
+    c.loop.invariant c.loop-test.true (rw c.in-Err-Failed.field-0-is at c.in-Err-Failed.ensures) (c.finish_after-in-Err-Failed.ensures.text c.loop.invariant.gave c.loop.invariant.stands c.loop.invariant.no_fault) c.finish_after-in-Err-Failed.ensures.fault
 
 pub returns : goal.returns
 returns g c room =
     drives_limit g.S.Source.seen g.K.Sink.seen c.args.limit c.loop.counter _ c.loop.source c.args.sink.now c.loop.sink c.loop.session c.finish_after-2.result.report.fault _
-    c.loop.invariant (omega (arith, c.loop-test.false, c.loop.auto.counter-end)) c.finish_after-2.ensures.so_far c.finish_after-2.ensures.fault
+    c.loop.invariant (omega (arith, c.loop-test.false, c.loop.auto.counter-end)) (c.finish_after-2.ensures.text c.loop.invariant.gave c.loop.invariant.stands c.loop.invariant.no_fault) c.finish_after-2.ensures.fault
 
 pub loop-preserved : goal.loop-preserved
 loop-preserved g c =

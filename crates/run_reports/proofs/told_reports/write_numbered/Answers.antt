@@ -13,4 +13,4 @@ returns-in-None-clause-told g c =
     let a = c.args in
     let past = rw c.saturating_sub.ensures at c.in-None.ensures.lookup.3 in
     let unknown : origin_of a.origins.now a.session ≡ Unknown = ap (λ o. unwrap_or o Unknown) (slice_get_past a.origins.now (a.session - 1) past) in
-    subst (λ (o : Origin). OnOk c.write_told_session-in-None.result (Appends (held a.out.now) (held c.write_told_session-in-None.new.out) (told_session a.telling a.session o a.full.now))) (sym unknown) c.write_told_session-in-None.ensures.told
+    subst (λ (o : Origin). OnOk c.write_told_session-in-None.result (Appends (held a.out.now) (held c.write_told_session-in-None.new.out) (told_session a.telling a.elements.now a.session o a.full.now))) (sym unknown) c.write_told_session-in-None.ensures.told

@@ -4,8 +4,8 @@ use Rattle.ipfix_session.proofs.Accounts.{reports_of-accounts, balances_of-accou
 use Rattle.ipfix_session.proofs.Places.{place-same}
 use Rattle.ipfix_session.proofs.tally.Tally.into_report.Goals as goal
 
-pub returns-clause-reports : goal.returns-clause-reports
-returns-clause-reports c = λ ms delivered t.
+pub returns-clause-counts : goal.returns-clause-counts
+returns-clause-counts c = λ ms delivered t.
     record {
       reports = record {
         messages = t.messages;

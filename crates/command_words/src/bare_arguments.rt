@@ -1,0 +1,35 @@
+//! The arguments that stand bare.
+
+use crate::arguments::{Argument, Due, Takes};
+
+/// The files that `files` reads.
+pub const FLOW_FILES: Argument = Argument {
+    word: "file",
+    takes: Takes::Bares("FILE"),
+    due: Due::Always,
+    help: "A file of IPFIX messages; each file is a session, and '-' is standard input",
+};
+
+/// The files that `merge` reads.
+pub const TABLE_FILES: Argument = Argument {
+    word: "file",
+    takes: Takes::Bares("FILE"),
+    due: Due::Always,
+    help: "A table that was written as IPFIX under the same plan; '-' is standard input",
+};
+
+/// What `elements` looks for.
+pub const WORD: Argument = Argument {
+    word: "word",
+    takes: Takes::Bare("WORD"),
+    due: Due::Never,
+    help: "The number of an element, or e<enterprise>.<number>, or a part of its name, in any letter case",
+};
+
+/// What `explain` explains.
+pub const FAULT: Argument = Argument {
+    word: "fault",
+    takes: Takes::Bare("FAULT"),
+    due: Due::Never,
+    help: "The number of a session's fault, or the name of any fault",
+};

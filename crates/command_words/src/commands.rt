@@ -1,0 +1,108 @@
+//! What the parser is told of each command.
+
+use crate::arguments::Argument;
+use crate::bare_arguments::{FAULT, FLOW_FILES, TABLE_FILES, WORD};
+use crate::listen_options::{
+    EVERY, FROM, IDLE, INTO, LISTEN, PEERS, RECORD_IDLE, RECORD_LISTEN, RECORD_SESSIONS, SESSIONS,
+    UDP,
+};
+use crate::options::{
+    DUMP_FORMAT, ELEMENTS, PLAN, PROGRESS, RING, STRICT, TABLE_FORMAT, TIME, VERBOSE, WORKERS,
+};
+
+/// A command.
+#[derive(Clone, Copy)]
+pub struct CommandWords {
+    /// What it does.
+    pub about: &'static str,
+    /// What its help says at the end.
+    pub example: &'static str,
+    /// The options that come first in the help, if another command begins with the same.
+    pub shared: &'static [Argument],
+    /// Its other arguments, in the order of the help.
+    pub own: &'static [Argument],
+}
+
+/// The options of the commands that collect.
+const COLLECTING: [Argument; 9] = [
+    PLAN,
+    ELEMENTS,
+    WORKERS,
+    RING,
+    TABLE_FORMAT,
+    TIME,
+    PROGRESS,
+    VERBOSE,
+    STRICT,
+];
+
+pub const DUMP: CommandWords = CommandWords {
+    about: "Reads IPFIX messages from standard input and writes a line for each data record",
+    example: "Example:\n  collectd dump < flows.ipfix",
+    shared: &[],
+    own: &[DUMP_FORMAT, ELEMENTS, VERBOSE, STRICT],
+};
+
+pub const FILES: CommandWords = CommandWords {
+    about: "Aggregates the flows in files and writes their table",
+    example: "Example:\n  collectd files --plan plan.toml --workers 4 one.ipfix two.ipfix > table.csv",
+    shared: &COLLECTING,
+    own: &[FLOW_FILES],
+};
+
+pub const TCP: CommandWords = CommandWords {
+    about: "Accepts connections, aggregates their flows and writes their table when all have ended",
+    example: "If a signal stops the program before all sessions have ended, no table is written and the\n\
+        flows are lost.\n\n\
+        Example:\n  collectd tcp --plan plan.toml --listen 0.0.0.0:4739 --sessions 2 > table.csv",
+    shared: &COLLECTING,
+    own: &[LISTEN, SESSIONS, IDLE],
+};
+
+pub const RECORD: CommandWords = CommandWords {
+    about: "Records what exporters send in files, one a session and period, and never ends",
+    example: "A finished file is FOLDER/YYYY-MM-DD/HHMMSS/NAME, the beginning of its period in UTC, and can be\n\
+        read by itself. Whatever stops the program, nothing is lost that was written: the next start\n\
+        finishes what this one left.\n\n\
+        Example:\n  collectd record --into recordings --listen 0.0.0.0:4739 --udp 0.0.0.0:4739",
+    shared: &[],
+    own: &[
+        INTO,
+        RECORD_LISTEN,
+        UDP,
+        EVERY,
+        RECORD_SESSIONS,
+        PEERS,
+        FROM,
+        RECORD_IDLE,
+    ],
+};
+
+pub const MERGE: CommandWords = CommandWords {
+    about: "Adds up tables that were written as IPFIX and writes the table of all of them",
+    example: "Example:\n  collectd merge --plan plan.toml one.ipfix two.ipfix > table.csv",
+    shared: &[],
+    own: &[
+        PLAN,
+        ELEMENTS,
+        TABLE_FORMAT,
+        TIME,
+        VERBOSE,
+        STRICT,
+        TABLE_FILES,
+    ],
+};
+
+pub const LIST_ELEMENTS: CommandWords = CommandWords {
+    about: "Lists the elements that are known, or those that a word fits: number, type and name",
+    example: "Example:\n  collectd elements --elements /usr/share/collectd/elements/iana.csv port",
+    shared: &[],
+    own: &[ELEMENTS, WORD],
+};
+
+pub const EXPLAIN: CommandWords = CommandWords {
+    about: "Explains a fault and says what to do about it, or lists all of them",
+    example: "Example:\n  collectd explain TemplateChanged",
+    shared: &[],
+    own: &[FAULT],
+};

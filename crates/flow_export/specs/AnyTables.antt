@@ -1,0 +1,8 @@
+-- A table, however its rows are kept.
+use Rattle.flow_table.specs.declared.table.Table.{Table}
+use Rattle.flow_export.specs.declared.any_table.AnyTable.{AnyTable}
+use Rattle.flow_export.specs.declared.any_table.AnyTable.TheVariants.{Rows, Flat}
+
+abbrev pub table_in : AnyTable → Table
+table_in (Rows table) = table.now
+table_in (Flat table) = table.now

@@ -1,0 +1,54 @@
+//! Tables as any of the texts that they are written as.
+
+ghost use Rattle.std.specs.Prelude.{◌≡◌, ◌↔◌, length, IsErrOf, OnOk};
+ghost use Rattle.ipfix_elements.specs.Writers.{Writes};
+ghost use Rattle.flow_table.specs.AddedUp.{rows_in};
+ghost use Rattle.flow_table.specs.Fitting.{FitsPlan};
+ghost use Rattle.flow_export.specs.AnyTables.{table_in};
+ghost use Rattle.flow_export.specs.TableTexts.{IsTooMany, text_of};
+
+use crate::any_table::AnyTable;
+use crate::csv_text::{CsvLines, heading_text};
+use crate::fault::ExportFault;
+use crate::ipfix_text::write_messages;
+use crate::json_text::RowLabels;
+use crate::row_lines::write_lines;
+use crate::table_rows::TableRows;
+use crate::table_text::TableText;
+use flow_table::Plan;
+use std::alloc::Global;
+use std::io::Write;
+
+/// Does as `write_csv`, `write_json` or `write_ipfix`, as `text` says, with the names that elements have in files, too: in
+/// the heading of CSV a name that needs quotes has them. No name that a file says needs any, nor an escape in JSON.
+pub fn write_table<W: Write>(
+    alloc: Global,
+    plan: &Plan,
+    table: &AnyTable,
+    text: &TableText,
+    out: &mut W,
+) -> Result<(), ExportFault>
+    requires { FitsPlan plan.now (table_in table.now) }
+    ensures ok { OnOk result (Writes W.contents out.old out.new
+        (text_of text.now plan.now (rows_in (table_in table.now)))) }
+    ensures many { IsErrOf result ExportFault.TooManyRows
+        ↔ IsTooMany text.now (length (rows_in (table_in table.now))) }
+    ensures untouched { IsErrOf result ExportFault.TooManyRows → out.new ≡ out.old }
+{
+    if text.is_too_many(table.len()) {
+        return Err(ExportFault::TooManyRows);
+    }
+    let mut rows = TableRows::of(alloc, table)?;
+    match text {
+        TableText::Csv(elements) => {
+            let heading = heading_text(alloc, elements, plan)?;
+            out.write_all(heading.as_slice())?;
+            write_lines(alloc, plan, &mut rows, &CsvLines, out)
+        }
+        TableText::Json(elements) => {
+            let labels = RowLabels::of(alloc, elements, plan)?;
+            write_lines(alloc, plan, &mut rows, &labels, out)
+        }
+        TableText::Ipfix(time) => write_messages(alloc, plan, &mut rows, *time, out),
+    }
+}
