@@ -1,6 +1,7 @@
 //! Numbers in fields (RFC 7011, sections 6.1.1, 6.1.7, 6.1.8 and 6.2).
 
-ghost use Rattle.std.specs.Prelude.{◌≡◌, length};
+ghost use Rattle.std.specs.Prelude.{◌≡◌, ◌<◌, ◌≤◌, length};
+ghost use Rattle.byteorder.specs.Endian.{big_number};
 ghost use Rattle.ipfix_elements.specs.Values.{number_in, is_number_length as is_length};
 
 use crate::kind::Kind;
@@ -26,5 +27,20 @@ pub fn read_number(kind: Kind, octets: &[u8]) -> Option<u64>
     if !is_number_length(kind, octets.len()) {
         return None;
     }
-    Some(BigEndian::read_uint(octets, octets.len()))
+    Some(whole_number(octets))
+}
+
+// The number that 1 to 8 octets are. The lengths that most have are read in one step, the others copied.
+fn whole_number(octets: &[u8]) -> u64
+    requires some { 0 < length octets.now }
+    requires few { length octets.now ≤ 8 }
+    ensures { result ≡ big_number (length octets.now) octets.now }
+{
+    match octets.len() {
+        1 => u64::from(octets[0]),
+        2 => u64::from(BigEndian::read_u16(octets)),
+        4 => u64::from(BigEndian::read_u32(octets)),
+        8 => BigEndian::read_u64(octets),
+        length => BigEndian::read_uint(octets, length),
+    }
 }
