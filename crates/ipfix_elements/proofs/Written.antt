@@ -4,7 +4,9 @@ use Rattle.std.specs.List.{join_with_byte}
 use Rattle.std.specs.Fmt.{decimal}
 use Rattle.std.specs.Io.KnownBytes.{Appends}
 use Rattle.std.proofs.lemmas.List.{map_push, take_more, length-take-le, length-map}
+use Rattle.std.proofs.lemmas.Fmt.{decimal_step}
 use Rattle.hex.specs.Hex.{encode_with, encode_lower, lower_digits}
+use Rattle.itoa.proofs.Decimal.{decimal_two}
 use Rattle.ipfix_elements.specs.Texts.{octet_text, pairs, ipv4_text, ipv6_text}
 
 -- what two writes append
@@ -18,6 +20,12 @@ pub encode-append : (xs ys : List ℕ) → encode_lower (xs ++ ys) ≡ encode_lo
 unfolding encode_with
 encode-append [] ys = refl
 encode-append (x ∷ xs) ys = ap (λ (t : List ℕ). get_or lower_digits (x / 16) 0 ∷ get_or lower_digits (x % 16) 0 ∷ t) (encode-append xs ys)
+
+-- an octet of three digits
+pub decimal_three : (n : ℕ) → 100 ≤ n → n < 256 → decimal n ≡ (48 + n / 100) ∷ (48 + n / 10 % 10) ∷ (48 + n % 10) ∷ []
+decimal_three n lo hi =
+    let hundreds : n / 10 / 10 ≡ n / 100 = omega arith in
+    rw (decimal_step n (omega arith) (omega arith), decimal_two (n / 10) (omega arith) (omega arith), hundreds)
 
 -- an address of four octets, as written
 pub dotted_text : (a : List ℕ) → length a ≡ 4

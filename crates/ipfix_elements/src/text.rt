@@ -1,6 +1,7 @@
 //! Values as text.
 
 ghost use Rattle.std.specs.Prelude.{◌≡◌, ◌+◌, ◌≤◌, ◌++◌, length, OnOk};
+ghost use Rattle.std.specs.Fmt.{decimal};
 ghost use Rattle.arrayvec.specs.ArrayVec.{array_vec_len};
 ghost use Rattle.hex.specs.Hex.{encode_lower};
 ghost use Rattle.ipfix_elements.specs.Texts.{octet_text, ipv4_text as dotted, ipv6_text as groups_of_four, mac_text as groups_of_two, cell_text, hex_mark as mark_of, value_text};
@@ -8,7 +9,7 @@ ghost use Rattle.ipfix_elements.specs.Writers.{Writes};
 
 use crate::cell::{Cell, read_cell};
 use crate::kind::Kind;
-use arrayvec::{ArrayString, ArrayVec};
+use arrayvec::ArrayVec;
 use itoa::Buffer;
 use std::io;
 use std::io::Write;
@@ -37,7 +38,7 @@ pub fn write_cell<W: Write>(cell: &Cell, out: &mut W) -> io::Result<()>
 {
     match cell {
         Cell::Number(number) => out.write_all(Buffer::new().format(*number).as_bytes()),
-        Cell::Ipv4(address) => out.write_all(ipv4_text(address).as_str().as_bytes()),
+        Cell::Ipv4(address) => out.write_all(ipv4_text(address).as_slice()),
         Cell::Ipv6(address) => out.write_all(ipv6_text(address).as_slice()),
         Cell::Mac(address) => out.write_all(mac_text(address).as_slice()),
     }
@@ -56,19 +57,37 @@ fn hex_mark(kind: Kind) -> &'static str
 }
 
 // Four decimal numbers joined by dots.
-fn ipv4_text(address: &[u8; 4]) -> ArrayString<15>
-    ensures { result.bytes ≡ dotted address.now }
+fn ipv4_text(address: &[u8; 4]) -> ArrayVec<u8, 15>
+    ensures { result.items ≡ dotted address.now }
 {
-    let mut digits = Buffer::new();
-    let mut text = ArrayString::new();
-    text.push_str(digits.format(address[0]));
-    text.push_str(".");
-    text.push_str(digits.format(address[1]));
-    text.push_str(".");
-    text.push_str(digits.format(address[2]));
-    text.push_str(".");
-    text.push_str(digits.format(address[3]));
+    let mut text = ArrayVec::new();
+    push_decimal(&mut text, address[0]);
+    text.push(b'.');
+    push_decimal(&mut text, address[1]);
+    text.push(b'.');
+    push_decimal(&mut text, address[2]);
+    text.push(b'.');
+    push_decimal(&mut text, address[3]);
     text
+}
+
+// Appends an octet in decimal.
+#[inline(always)]
+fn push_decimal(text: &mut ArrayVec<u8, 15>, octet: u8)
+    requires { array_vec_len text.old + 3 ≤ 15 }
+    ensures items { text.new.items ≡ text.old.items ++ decimal octet }
+    ensures len { array_vec_len text.new ≤ array_vec_len text.old + 3 }
+{
+    if octet < 10 {
+        text.push(b'0' + octet);
+    } else if octet < 100 {
+        text.push(b'0' + octet / 10);
+        text.push(b'0' + octet % 10);
+    } else {
+        text.push(b'0' + octet / 100);
+        text.push(b'0' + octet / 10 % 10);
+        text.push(b'0' + octet % 10);
+    }
 }
 
 // Eight groups of four hexadecimal digits joined by colons.
