@@ -1,7 +1,6 @@
 -- The cells of keys are of their kinds, and every table fits its plan.
 use Rattle.std.proofs.Common.{◌≡◌, ℕ, zero, suc, ◌+◌, ◌*◌, ◌^◌, ◌<◌, ◌≤◌, inl, inr, Bool, true, false, nat_eq, ◌&&◌, unwrap_or, eqb, leb, ltb, cond, length, List, [], ◌∷◌, ◌++◌, map, find, filter, All, slice_index, Option, Some, None, option_map, option_and_then, refl, sym, ap, ◌∙◌, subst, arith}
 use Rattle.std.specs.List.{list_all, list_any, AllZip, Contains}
-use Rattle.std.specs.Option.{IfSome}
 use Rattle.std.proofs.lemmas.Bool.{cases_Bool, cases_lt, cond-true, cond-false, and_parts, eqb-true, leb-true}
 use Rattle.std.proofs.lemmas.List.{length-map}
 use Rattle.std.proofs.lemmas.List.Elements.{All-nil, All-cons, All-head, All-tail, All-weaker}
@@ -54,7 +53,7 @@ each_small [] small k = omega arith
 each_small (x ∷ xs) small zero = All-head (λ b. b < 256) x xs small
 each_small (x ∷ xs) small (suc k) = each_small xs (All-tail (λ b. b < 256) x xs small) k
 
-number_fits : (width : Width) (octets : List ℕ) (n : ℕ) → IsOctets octets → number_in (Unsigned width) octets ≡ Some n → n < 256 ^ width_of width
+pub number_fits : (width : Width) (octets : List ℕ) (n : ℕ) → IsOctets octets → number_in (Unsigned width) octets ≡ Some n → n < 256 ^ width_of width
 number_fits width octets n small h =
     let long = is_number_length (Unsigned width) (length octets) in
     elim (cases_Bool long) as (λ _. n < 256 ^ width_of width) [
@@ -78,7 +77,7 @@ read_further : {X Y : Type 0} (f : X → Option Y) (o : Option X) (y : Y) → op
 read_further f None y h = absurd cc
 read_further f (Some x) y h = (x, refl, h)
 
-pub cell_fits : (kind : Kind) (octets : List ℕ) (cell : Cell) → is_key_kind kind ≡ true → IsOctets octets → cell_in kind octets ≡ Some cell → IsCellOf kind cell
+cell_fits : (kind : Kind) (octets : List ℕ) (cell : Cell) → is_key_kind kind ≡ true → IsOctets octets → cell_in kind octets ≡ Some cell → IsCellOf kind cell
 cell_fits (Unsigned width) octets cell ok small h =
     let m = mapped (λ n. cells.Number n) (number_in (Unsigned width) octets) cell h in
     subst (IsCellOf (Unsigned width)) m.2 (number_fits width octets m.0 small m.1)
@@ -94,10 +93,6 @@ cell_fits Mac octets cell ok small h =
 cell_fits Seconds octets cell ok small h = absurd cc
 cell_fits Millis octets cell ok small h = absurd cc
 cell_fits Octets octets cell ok small h = absurd cc
-
-pub cells_fit : (kind : Kind) (octets : List ℕ) (found : Option Cell) → is_key_kind kind ≡ true → IsOctets octets → found ≡ cell_in kind octets → IfSome found (IsCellOf kind)
-cells_fit kind octets None ok small h = tt
-cells_fit kind octets (Some cell) ok small h = cell_fits kind octets cell ok small (sym h)
 
 pub projected_fits : (kind : Kind) (prefix : Option ℕ) (cell : Cell) → IsCellOf kind cell → IsCellOf kind (projected prefix cell)
 projected_fits kind None cell h = h
@@ -244,18 +239,18 @@ no_flows plan k key some = omega arith
 pub no_keys_fit : (plan : PlanValue) → KeysFit plan []
 no_keys_fit plan k key some = absurd (no_flows plan k key some)
 
-key_fits : (plan : PlanValue) (r : DataRecord) (key q : List Cell) (reading : Reading) → ReadsAs plan r key reading → class_of plan r ≡ classes.Used → key_of plan r ≡ Some q → FitsKeys plan q
-key_fits plan r key q (readings.Left left_out) reads used found = absurd (not_used left_out (sym reads.class ∙ used))
-key_fits plan r key q (readings.Used span) reads used found =
-    let cells = reads.0.cells in
-    let same : key ≡ q = cc in
-    subst (FitsKeys plan) same reads.1
+key_fits : (plan : PlanValue) (r : DataRecord) (words : List ℕ) (q : List Cell) (reading : Reading) → ReadsAs plan r words reading → class_of plan r ≡ classes.Used → key_of plan r ≡ Some q → FitsKeys plan q
+key_fits plan r words q (readings.Left left_out) reads used found = absurd (not_used left_out (sym reads.class ∙ used))
+key_fits plan r words q (readings.Used flow) reads used found =
+    let cells = reads.is.cells in
+    let same : reads.key ≡ q = cc in
+    subst (FitsKeys plan) same reads.fits
 
 -- the key of a record that was read
-pub read_keys_fit : (plan : PlanValue) (r : DataRecord) (key : List Cell) (reading : Reading) → ReadsAs plan r key reading → KeysFit plan (r ∷ [])
-read_keys_fit plan r key reading reads k q some =
+pub read_keys_fit : (plan : PlanValue) (r : DataRecord) (words : List ℕ) (reading : Reading) → ReadsAs plan r words reading → KeysFit plan (r ∷ [])
+read_keys_fit plan r words reading reads k q some =
     from_flow plan (λ x. r ≡ x) (FitsKeys plan q) (r ∷ []) k q
-    (λ x is does. let at = contributes_at plan k q r (subst (λ (y : DataRecord). contributes plan k q y ≡ true) (sym is) does) in key_fits plan r key q reading reads at.0 at.2)
+    (λ x is does. let at = contributes_at plan k q r (subst (λ (y : DataRecord). contributes plan k q y ≡ true) (sym is) does) in key_fits plan r words q reading reads at.0 at.2)
     (All-cons (λ x. r ≡ x) r [] refl (All-nil (λ x. r ≡ x))) some
 
 pub both_keys_fit : (plan : PlanValue) (rs qs : List DataRecord) → KeysFit plan rs → KeysFit plan qs → KeysFit plan (rs ++ qs)

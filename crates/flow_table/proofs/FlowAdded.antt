@@ -1,9 +1,11 @@
 -- A flow's shares added at an interval.
-use Rattle.std.proofs.Common.{◌≡◌, ℕ, ◌+◌, ◌<◌, List, ◌∷◌, length, Option, Some, Result, Ok, Err, OnOk, OnErr, IfErr, get_or, sym, ap, ◌∙◌, option_map, arith}
+use Rattle.std.proofs.Common.{◌≡◌, ◌≢◌, ℕ, ◌+◌, ◌<◌, ◌≤◌, Bool, cond, eqb, inl, inr, List, [], ◌∷◌, length, Option, Some, Result, Ok, Err, OnOk, OnErr, IfErr, get_or, refl, sym, ap, ◌∙◌, option_map, arith}
+use Rattle.std.proofs.lemmas.Bool.Decides.{eqb_tells}
 use Rattle.std.proofs.lemmas.List.{length-map}
 use Rattle.flat_rows.specs.Rows.{SomeTooLarge}
 use Rattle.ipfix_elements.specs.declared.cell.Cell.{Cell}
-use Rattle.flow_table.specs.Flows.{flow_total, shares_of}
+use Rattle.flow_table.specs.declared.flow.Flow.{Flow}
+use Rattle.flow_table.specs.Flows.{HasIntervals, flow_total, shares_of}
 use Rattle.flow_table.specs.Intervals.{share}
 use Rattle.flow_table.specs.Plans.{PlanValue}
 use Rattle.flow_table.specs.Rows.{AddsRow, AreAlike, AreRowsOf, depth_of, kept_at, number_at, place_part, width_of}
@@ -58,3 +60,23 @@ shares_long plan s e k counters shares is long = ap length is ∙ length-map cou
 pub flow_total_is : (plan : PlanValue) (s e k : ℕ) (counters shares : List ℕ) → shares ≡ shares_of plan s e counters k → total shares 1 ≡ flow_total plan s e counters k
 unfolding flow_total
 flow_total_is plan s e k counters shares is = ap (λ (ns : List ℕ). total ns 1) is
+
+-- an interval that gets all of each counter
+whole_shares : (plan : PlanValue) (s e k : ℕ) (counters : List ℕ) → ((n : ℕ) → share plan s e n k ≡ n) → counters ≡ shares_of plan s e counters k
+whole_shares plan s e k [] all = refl
+whole_shares plan s e k (n ∷ ns) all =
+    let here = all n in
+    let later = whole_shares plan s e k ns all in
+    cc
+
+-- the counters where a flow has one interval, and else its shares
+pub picked_shares : (plan : PlanValue) (flow : Flow) (k : ℕ) (counters shares sums : List ℕ) → HasIntervals plan flow → (flow.first ≤ k) × (k < flow.first + flow.count)
+    → sums ≡ cond (eqb flow.count 1) counters shares → (flow.count ≢ 1 → shares ≡ shares_of plan flow.span.start flow.span.end counters k) → sums ≡ shares_of plan flow.span.start flow.span.end counters k
+picked_shares plan flow k counters shares sums has within picked others =
+    elim (eqb_tells flow.count 1) as (λ _. sums ≡ shares_of plan flow.span.start flow.span.end counters k) [
+      | inl one ↦
+          let only : flow.first ≡ k = omega (arith, one.1, within.0, within.1) in
+          let alone : (n : ℕ) → share plan flow.span.start flow.span.end n k ≡ n = λ n. ap (λ (j : ℕ). share plan flow.span.start flow.span.end n j) (sym only) ∙ has.alone one.1 n in
+          picked ∙ ap (λ (b : Bool). cond b counters shares) one.0 ∙ whole_shares plan flow.span.start flow.span.end k counters alone
+      | inr more ↦ picked ∙ ap (λ (b : Bool). cond b counters shares) more.0 ∙ others more.1
+    ]

@@ -141,25 +141,25 @@ answers (Err e) o x is h = rw is refl
 
 -- ---- flows
 
-pub flow_words : (plan : PlanValue) (r : DataRecord) (s e : ℕ) (key lent : List Cell) (counters : List ℕ) → IsUsed plan r s e key → lent ≡ key → counters ≡ map (λ c. counter_of c r) plan.counters
-    → (k : ℕ) (q : List Cell) → flow_part plan s e lent counters k q ≡ totals_at plan (r ∷ []) k q
-flow_words plan r s e key lent counters used k_is c_is k q =
-    ap (λ (ks : List Cell). flow_part plan s e ks counters k q) k_is ∙ ap (λ (ns : List ℕ). flow_part plan s e key ns k q) c_is ∙ sym (totals_at-used plan r s e key k q used)
+pub flow_words : (plan : PlanValue) (r : DataRecord) (s e : ℕ) (key : List Cell) (counters : List ℕ) → IsUsed plan r s e key → counters ≡ map (λ c. counter_of c r) plan.counters
+    → (k : ℕ) (q : List Cell) → flow_part plan s e key counters k q ≡ totals_at plan (r ∷ []) k q
+flow_words plan r s e key counters used c_is k q =
+    ap (λ (ns : List ℕ). flow_part plan s e key ns k q) c_is ∙ sym (totals_at-used plan r s e key k q used)
 
-pub flow_ok : (plan : PlanValue) (r : DataRecord) (s e : ℕ) (key lent : List Cell) (counters : List ℕ) (old new : ℕ → List Cell → Option Total) (a : Result (Unit {0}) TableFault)
-    → IsUsed plan r s e key → lent ≡ key → counters ≡ map (λ c. counter_of c r) plan.counters
-    → OnOk a ((k : ℕ) (q : List Cell) → new k q ≡ joined (old k q) (flow_part plan s e lent counters k q)) → OnOk a ((k : ℕ) (q : List Cell) → new k q ≡ joined (old k q) (totals_at plan (r ∷ []) k q))
-flow_ok plan r s e key lent counters old new (Ok x) used k_is c_is step = λ k q. step k q ∙ ap (λ (o : Option Total). joined (old k q) o) (flow_words plan r s e key lent counters used k_is c_is k q)
-flow_ok plan r s e key lent counters old new (Err x) used k_is c_is step = tt
+pub flow_ok : (plan : PlanValue) (r : DataRecord) (s e : ℕ) (key : List Cell) (counters : List ℕ) (old new : ℕ → List Cell → Option Total) (a : Result (Unit {0}) TableFault)
+    → IsUsed plan r s e key → counters ≡ map (λ c. counter_of c r) plan.counters
+    → OnOk a ((k : ℕ) (q : List Cell) → new k q ≡ joined (old k q) (flow_part plan s e key counters k q)) → OnOk a ((k : ℕ) (q : List Cell) → new k q ≡ joined (old k q) (totals_at plan (r ∷ []) k q))
+flow_ok plan r s e key counters old new (Ok x) used c_is step = λ k q. step k q ∙ ap (λ (o : Option Total). joined (old k q) o) (flow_words plan r s e key counters used c_is k q)
+flow_ok plan r s e key counters old new (Err x) used c_is step = tt
 
-pub flow_large : (plan : PlanValue) (r : DataRecord) (s e : ℕ) (key lent : List Cell) (counters : List ℕ) (old : ℕ → List Cell → Option Total) (a : Result (Unit {0}) TableFault)
-    → IsUsed plan r s e key → lent ≡ key → counters ≡ map (λ c. counter_of c r) plan.counters
-    → IfErr a (λ f. f ≡ SumTooLarge → (k : ℕ) × (q : List Cell) × IsLargeAt (joined (old k q) (flow_part plan s e lent counters k q)))
+pub flow_large : (plan : PlanValue) (r : DataRecord) (s e : ℕ) (key : List Cell) (counters : List ℕ) (old : ℕ → List Cell → Option Total) (a : Result (Unit {0}) TableFault)
+    → IsUsed plan r s e key → counters ≡ map (λ c. counter_of c r) plan.counters
+    → IfErr a (λ f. f ≡ SumTooLarge → (k : ℕ) × (q : List Cell) × IsLargeAt (joined (old k q) (flow_part plan s e key counters k q)))
     → IfErr a (λ f. f ≡ SumTooLarge → (k : ℕ) × (q : List Cell) × IsLargeAt (joined (old k q) (totals_at plan (r ∷ []) k q)))
-flow_large plan r s e key lent counters old (Ok x) used k_is c_is large = tt
-flow_large plan r s e key lent counters old (Err x) used k_is c_is large = λ same.
+flow_large plan r s e key counters old (Ok x) used c_is large = tt
+flow_large plan r s e key counters old (Err x) used c_is large = λ same.
     let at = large same in
-    (at.0, at.1, subst (λ (o : Option Total). IsLargeAt (joined (old at.0 at.1) o)) (flow_words plan r s e key lent counters used k_is c_is at.0 at.1) at.2)
+    (at.0, at.1, subst (λ (o : Option Total). IsLargeAt (joined (old at.0 at.1) o)) (flow_words plan r s e key counters used c_is at.0 at.1) at.2)
 
 -- ---- one record taken
 

@@ -10,9 +10,11 @@ pub mod Bags
 pub mod Dues
 pub mod Faults
 pub mod ShareSums
+pub mod FlowIntervals
 pub mod UsedFlows
 pub mod Fits
 pub mod KeyCells
+pub mod CellsRead
 pub mod Runs
 pub mod Kept
 pub mod FlowAdded

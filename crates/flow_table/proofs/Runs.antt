@@ -118,15 +118,13 @@ run_done plan s e key counters init new first n i is end step k q =
 
 -- ---- one of its intervals, by what was read of it
 
-pub step_words : (old new : ℕ → List Cell → Option Total) (plan : PlanValue) (s e i : ℕ) (key read : List Cell) (counters numbers : List ℕ) → key ≡ read → counters ≡ numbers
+pub step_words : (old new : ℕ → List Cell → Option Total) (plan : PlanValue) (s e i : ℕ) (key : List Cell) (counters numbers : List ℕ) → counters ≡ numbers
     → ((k : ℕ) (q : List Cell) → new k q ≡ joined (old k q) (place_part i key (flow_total plan s e counters i) k q))
-    → (k : ℕ) (q : List Cell) → new k q ≡ joined (old k q) (place_part i read (flow_total plan s e numbers i) k q)
-step_words old new plan s e i key read counters numbers same_key same_counters step k q =
-    step k q ∙ ap (λ (ks : List Cell). joined (old k q) (place_part i ks (flow_total plan s e counters i) k q)) same_key
-    ∙ ap (λ (ns : List ℕ). joined (old k q) (place_part i read (flow_total plan s e ns i) k q)) same_counters
+    → (k : ℕ) (q : List Cell) → new k q ≡ joined (old k q) (place_part i key (flow_total plan s e numbers i) k q)
+step_words old new plan s e i key counters numbers same step k q =
+    step k q ∙ ap (λ (ns : List ℕ). joined (old k q) (place_part i key (flow_total plan s e ns i) k q)) same
 
-pub large_words : (old : ℕ → List Cell → Option Total) (plan : PlanValue) (s e i : ℕ) (key read : List Cell) (counters numbers : List ℕ) → key ≡ read → counters ≡ numbers
-    → IsLargeAt (joined (old i key) (Some (flow_total plan s e counters i))) → IsLargeAt (joined (old i read) (Some (flow_total plan s e numbers i)))
-large_words old plan s e i key read counters numbers same_key same_counters large =
-    subst (λ (ns : List ℕ). IsLargeAt (joined (old i read) (Some (flow_total plan s e ns i)))) same_counters
-    (subst (λ (ks : List Cell). IsLargeAt (joined (old i ks) (Some (flow_total plan s e counters i)))) same_key large)
+pub large_words : (old : ℕ → List Cell → Option Total) (plan : PlanValue) (s e i : ℕ) (key : List Cell) (counters numbers : List ℕ) → counters ≡ numbers
+    → IsLargeAt (joined (old i key) (Some (flow_total plan s e counters i))) → IsLargeAt (joined (old i key) (Some (flow_total plan s e numbers i)))
+large_words old plan s e i key counters numbers same large =
+    subst (λ (ns : List ℕ). IsLargeAt (joined (old i key) (Some (flow_total plan s e ns i)))) same large

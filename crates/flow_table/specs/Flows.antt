@@ -1,11 +1,18 @@
 -- What one flow adds to the totals.
-use Rattle.std.specs.Prelude.{ℕ, ◌&&◌, nat_eq, nat_le, nat_lt, Bool, if◌then◌else◌, List, map, Option, None}
-use Rattle.std.specs.List.{list_any}
+use Rattle.std.specs.Prelude.{◌≡◌, ℕ, ◌+◌, ◌^◌, ◌<◌, ◌&&◌, nat_eq, nat_le, nat_lt, Bool, if◌then◌else◌, List, map, Option, None}
+use Rattle.std.specs.List.{list_any, range_with_len}
 use Rattle.ipfix_elements.specs.declared.cell.Cell.{Cell}
+use Rattle.flow_table.specs.declared.flow.Flow.{Flow}
 use Rattle.flow_table.specs.Intervals.{covers, share}
 use Rattle.flow_table.specs.Plans.{PlanValue}
 use Rattle.flow_table.specs.Rows.{part_at}
 use Rattle.flow_table.specs.Totals.{Total, total}
+
+-- the intervals that a flow contributes to; one alone gets all of each counter
+pub record HasIntervals (plan : PlanValue) (flow : Flow) : Type 0 where
+  pub covers : covers plan flow.span.start flow.span.end ≡ range_with_len flow.first flow.count
+  pub fits : flow.first + flow.count < 2 ^ 64
+  pub alone : flow.count ≡ 1 → (n : ℕ) → share plan flow.span.start flow.span.end n flow.first ≡ n
 
 -- the shares of the counters of a flow from start to end at interval k
 abbrev pub shares_of : PlanValue → ℕ → ℕ → List ℕ → ℕ → List ℕ

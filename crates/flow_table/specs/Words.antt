@@ -6,6 +6,8 @@ use Rattle.ipfix_elements.specs.declared.cell.Cell.{Cell}
 use Rattle.ipfix_elements.specs.declared.cell.Cell.TheVariants as cells
 use Rattle.ipfix_elements.specs.declared.kind.Kind.{Kind}
 use Rattle.ipfix_elements.specs.declared.kind.Kind.TheVariants as kinds
+use Rattle.flow_table.specs.declared.words.CellWords.{CellWords}
+use Rattle.flow_table.specs.declared.words.CellWords.TheVariants.{One, Two}
 use Rattle.flow_table.specs.Plans.{PlanValue}
 
 -- the number that octets spell behind those of another number, the highest first
@@ -28,6 +30,11 @@ cell_words kinds.Ipv4 (cells.Ipv4 address) = address_words 4 address (spelled 0 
 cell_words kinds.Ipv6 (cells.Ipv6 address) = address_words 16 address (spelled 0 (take 8 address) ∷ spelled 0 (drop 8 address) ∷ [])
 cell_words kinds.Mac (cells.Mac address) = address_words 6 address (spelled 0 address ∷ [])
 cell_words kind cell = None
+
+-- one word, or two
+abbrev pub words_in : CellWords → List ℕ
+words_in (One word) = word ∷ []
+words_in (Two high low) = high ∷ low ∷ []
 
 -- one after the other, if there are both
 abbrev pub both_words : Option (List ℕ) → Option (List ℕ) → Option (List ℕ)

@@ -57,7 +57,6 @@ impl Partial {
             missing: Missing::NONE,
             fault: None,
             room: Room {
-                key: Vec::new(alloc),
                 words: Vec::new(alloc),
                 counters: Vec::new(alloc),
                 shares: Vec::new(alloc),

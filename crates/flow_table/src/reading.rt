@@ -1,23 +1,20 @@
 //! Data records read under a plan (RFC 7015, section 5).
 
-ghost use Rattle.std.specs.Prelude.{◌≡◌, ◌<◌, ◌≤◌, true, Some, None, is_none, OnOk, IfOk, IfSome, All, length, map, if◌then◌else◌};
-ghost use Rattle.std.specs.List.{AllPass, AllZip};
-ghost use Rattle.ipfix_elements.specs.Values.{cell_in, number_in};
-ghost use Rattle.flow_table.specs.Fitting.{IsCellOf};
-ghost use Rattle.flow_table.specs.Missing.{first_without};
-ghost use Rattle.flow_table.specs.Plans.{HasPrefix, is_key_kind};
-ghost use Rattle.flow_table.specs.Reading.{counter_of, number_of, cell_of, cells_of, projected, is_too_long as is_too_long_in};
+ghost use Rattle.std.specs.Prelude.{◌≡◌, ◌≤◌, OnOk, IfOk, length, map};
+ghost use Rattle.ipfix_elements.specs.Values.{number_in};
+ghost use Rattle.flow_table.specs.Reading.{counter_of, number_of};
 ghost use Rattle.flow_table.specs.Readings.{Notes, ReadsAs};
 ghost use Rattle.flow_table.specs.declared.reading.TheConstants.{COUNTER_KIND};
 
-use crate::key::Key;
+use crate::flow::Flow;
+use crate::key_words::read_key;
 use crate::left_out::LeftOut;
-use crate::method::Method;
 use crate::plan::{MAX_COUNTERS, Plan};
+use crate::sharing::covered;
 use crate::span::Span;
 use crate::times::{end_of, start_of};
 use byteorder::{BigEndian, ByteOrder};
-use ipfix_elements::{Cell, Kind, Width, mask, read_cell, read_number};
+use ipfix_elements::{Kind, Width, read_number};
 use ipfix_message::DataRecord;
 use ipfix_wire::ElementId;
 use std::alloc::AllocError;
@@ -30,19 +27,19 @@ const COUNTER_KIND: Kind = Kind::Unsigned(Width::Eight);
 pub(crate) enum Reading {
     /// It is left out of the table, for this reason.
     Left(LeftOut),
-    /// It is a flow of this time.
-    Used(Span),
+    /// It is this flow.
+    Used(Flow),
 }
 
-/// Reads a record, and leaves the cells of a used one in `key`. Nothing is allocated unless `key` has
-/// to grow.
-#[tactic(auto, using(crate::proofs::UsedRecords::is_used))]
+/// Reads a record, and leaves the words of a used one's key in `words`. A guess of a flow's first interval
+/// is tried first. Nothing is allocated unless `words` has to grow.
 pub(crate) fn read(
     plan: &Plan,
     data_record: &DataRecord,
-    key: &mut Vec<Cell>,
+    guess: u64,
+    words: &mut Vec<u64>,
 ) -> Result<Reading, AllocError>
-    ensures { IfOk result (ReadsAs plan.now data_record.now key.new.items) }
+    ensures { IfOk result (ReadsAs plan.now data_record.now words.new.items) }
 {
     if data_record.scope > 0 {
         return Ok(Reading::Left(LeftOut::Options));
@@ -56,85 +53,15 @@ pub(crate) fn read(
     if end < start {
         return Ok(Reading::Left(LeftOut::Backward));
     }
-    if let Some(place) = read_key(plan.keys(), plan.kinds(), data_record, key)? {
+    if let Some(place) = read_key(plan.keys(), plan.kinds(), data_record, words)? {
         return Ok(Reading::Left(LeftOut::WithoutKey(place)));
     }
     let span = Span { start, end };
-    if is_too_long(plan, span) {
+    let (first, count) = covered(plan, span, guess);
+    if u64::from(plan.max_spread()) < count {
         return Ok(Reading::Left(LeftOut::TooLong));
     }
-    Ok(Reading::Used(span))
-}
-
-// Whether a flow would be spread over more intervals than the plan allows.
-fn is_too_long(plan: &Plan, span: Span) -> bool
-    ensures { result ≡ is_too_long_in plan.now span.start span.end }
-{
-    let length = u64::from(plan.length());
-    match plan.method() {
-        Method::Start | Method::End | Method::Mid => false,
-        Method::Uniform | Method::Proportional => {
-            u64::from(plan.max_spread()) < span.end / length - span.start / length + 1
-        }
-    }
-}
-
-// Leaves the cells of the keys in `cells`, or tells the place of the first that has none.
-fn read_key(
-    keys: &[Key],
-    kinds: &[Kind],
-    data_record: &DataRecord,
-    cells: &mut Vec<Cell>,
-) -> Result<Option<usize>, AllocError>
-    requires prefixes { All HasPrefix keys.now }
-    requires beside { length kinds.now ≡ length keys.now }
-    requires comparable { AllPass is_key_kind kinds.now }
-    ensures place { IfOk result (λ place. place ≡ first_without keys.now kinds.now data_record.now) }
-    ensures cells { IfOk result (λ place. cells_of keys.now kinds.now data_record.now
-        ≡ (if is_none place then Some cells.new.items else None)) }
-    ensures fits { IfOk result (λ place. place ≡ None → AllZip IsCellOf kinds.now cells.new.items) }
-{
-    cells.clear();
-    for (key, kind) in keys.iter().zip(kinds) {
-        let Some(cell) = read_cell_of(*key, *kind, data_record) else {
-            return Ok(Some(cells.len()));
-        };
-        cells.push(cell)?;
-    }
-    Ok(None)
-}
-
-// The cell of a key, if the record has one.
-#[tactic(auto, unfolding(crate::specs::Reading::cell_of), using(crate::proofs::Fits::projected_fits))]
-fn read_cell_of(key: Key, kind: Kind, data_record: &DataRecord) -> Option<Cell>
-    requires prefix { HasPrefix key }
-    requires comparable { is_key_kind kind ≡ true }
-    ensures value { result ≡ cell_of key kind data_record.now }
-    ensures fits { IfSome result (IsCellOf kind) }
-{
-    let octets = data_record.fields.find(key.element)?;
-    let cell = read_key_cell(kind, octets)?;
-    Some(project(key, cell))
-}
-
-// The cell that octets are, by a kind of keys.
-fn read_key_cell(kind: Kind, octets: &[u8]) -> Option<Cell>
-    requires { is_key_kind kind ≡ true }
-    ensures value { result ≡ cell_in kind octets.now }
-    ensures fits { IfSome result (IsCellOf kind) }
-{
-    read_cell(kind, octets)
-}
-
-// The cell under a key: an IPv4 address with its prefix alone, if the key has one.
-fn project(key: Key, cell: Cell) -> Cell
-    requires { HasPrefix key }
-    ensures { result ≡ projected key.prefix cell }
-{
-    match (cell, key.prefix) {
-        (Cell::Ipv4(address), Some(bits)) => Cell::Ipv4(mask(address, bits)),
-        _ => cell,
-    }
+    Ok(Reading::Used(Flow { span, first, count }))
 }
 
 // The counter in the first field of an element, if that isn't missing and is a number.

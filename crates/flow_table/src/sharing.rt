@@ -1,10 +1,11 @@
 //! How a flow's counters are shared among intervals.
 
-ghost use Rattle.std.specs.Prelude.{◌≡◌, ℕ, ◌+◌, ◌*◌, ◌≤◌, ◌<◌, ◌^◌, IsTrue, OnOk};
+ghost use Rattle.std.specs.Prelude.{◌≡◌, ◌≢◌, ℕ, ◌+◌, ◌*◌, ◌≤◌, ◌<◌, ◌^◌, IsTrue, OnOk};
 ghost use Rattle.std.specs.List.{range_with_len};
 ghost use Rattle.flow_table.specs.Flows.{shares_of};
 ghost use Rattle.flow_table.specs.Intervals.{covers, interval_of, share as share_in, whole_share as whole_share_in, uniform_share as uniform_share_in, proportional_share as proportional_share_in, due_before as due_before_in};
 
+use crate::flow::Flow;
 use crate::method::Method;
 use crate::plan::Plan;
 use crate::span::Span;
@@ -38,37 +39,24 @@ fn share_of(plan: &Plan, span: Span, value: u64, interval: u64) -> u64
     }
 }
 
-// What one of the intervals of a flow, of which there are `count`, gets of a counter.
-fn share_of_one(plan: &Plan, span: Span, value: u64, interval: u64, count: u64) -> u64
-    requires alone { count ≡ 1
-        → (n : ℕ) → share_in plan.now span.start span.end n interval ≡ n }
-    ensures { result ≡ share_in plan.now span.start span.end value interval }
-{
-    if count == 1 {
-        value
-    } else {
-        share_of(plan, span, value, interval)
-    }
-}
-
-/// Leaves in `shares` what one of the intervals of a flow, of which there are `count`, gets of its
-/// counters.
+/// Leaves in `shares` what one of the intervals of a flow gets of its counters, unless it is the only one,
+/// which gets all.
 pub(crate) fn read_shares(
     plan: &Plan,
-    span: Span,
+    flow: Flow,
     counters: &[u64],
     interval: u64,
-    count: u64,
     shares: &mut Vec<u64>,
 ) -> Result<(), AllocError>
-    requires alone { count ≡ 1
-        → (n : ℕ) → share_in plan.now span.start span.end n interval ≡ n }
-    ensures { OnOk result (shares.new.items
-        ≡ shares_of plan.now span.start span.end counters.now interval) }
+    ensures { OnOk result (flow.count ≢ 1 → shares.new.items
+        ≡ shares_of plan.now flow.span.start flow.span.end counters.now interval) }
 {
+    if flow.count == 1 {
+        return Ok(());
+    }
     shares.clear();
     for value in counters {
-        shares.push(share_of_one(plan, span, *value, interval, count))?;
+        shares.push(share_of(plan, flow.span, *value, interval))?;
     }
     Ok(())
 }

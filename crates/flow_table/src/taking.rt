@@ -4,36 +4,34 @@ ghost use Rattle.std.specs.Prelude.{◌≡◌, ◌++◌, ◌∷◌, [], ℕ, Lis
 ghost use Rattle.std.specs.Result.{result_err};
 ghost use Rattle.ipfix_elements.specs.declared.cell.Cell.{Cell};
 ghost use Rattle.ipfix_message.specs.declared.record.DataRecord.{DataRecord};
-ghost use Rattle.flow_table.specs.Fitting.{FitsKeys};
 ghost use Rattle.flow_table.specs.Partials.{HoldsTable, NotesMore, StandsBy, totals_at};
-ghost use Rattle.flow_table.specs.Reading.{class_of, IsUsed};
+ghost use Rattle.flow_table.specs.Reading.{class_of};
+ghost use Rattle.flow_table.specs.Readings.{IsUsedBy};
 ghost use Rattle.flow_table.specs.Rows.{AreRowsOf, kept_at};
 ghost use Rattle.flow_table.specs.Totals.{IsLargeAt, joined};
 ghost use Rattle.flow_table.specs.declared.table_fault.TableFault.TheVariants.{SumTooLarge};
 
 use crate::adding::{Room, add_flow};
 use crate::class::Class;
+use crate::flow::Flow;
 use crate::missing::Missing;
 use crate::plan::Plan;
 use crate::reading::{Reading, read, read_counters};
 use crate::rows::Rows;
-use crate::span::Span;
 use crate::table_fault::TableFault;
 use crate::tally::Tally;
-use crate::words::write_words;
 use ipfix_message::DataRecord;
 
-// Adds the shares of a used record, whose key was read, to the totals.
+// Adds the shares of a used record, the words of whose key were read, to the totals.
 fn take_flow(
     plan: &Plan,
     rows: &mut Rows,
     room: &mut Room,
     missing: &mut Missing,
     data_record: &DataRecord,
-    span: Span,
+    flow: Flow,
 ) -> Result<(), TableFault>
-    requires used { IsUsed plan.now data_record.now span.start span.end room.old.key.items }
-    requires fits { FitsKeys plan.now room.old.key.items }
+    requires { IsUsedBy plan.now data_record.now flow room.old.words.items }
     ensures rows { AreRowsOf plan.now rows.old → AreRowsOf plan.now rows.new }
     ensures ok { AreRowsOf plan.now rows.old → OnOk result ((k : ℕ) (q : List Cell)
         → kept_at plan.now rows.new k q ≡ joined (kept_at plan.now rows.old k q)
@@ -47,14 +45,13 @@ fn take_flow(
     ensures missing { OnOk result
         (NotesMore plan.now missing.old (data_record.now ∷ []) missing.new) }
 {
-    write_words(&room.key, &mut room.words)?;
     read_counters(
         plan.counters(),
         data_record,
         &mut room.counters,
         &mut missing.counters,
     )?;
-    add_flow(plan, rows, span, room)
+    add_flow(plan, rows, flow, room)
 }
 
 /// Takes a record into the totals, the tally and what records lack, and answers its class.
@@ -72,16 +69,16 @@ pub fn take(
     ensures missing { OnOk result
         (NotesMore plan.now missing.old (data_record.now ∷ []) missing.new) }
 {
-    match read(plan, data_record, &mut room.key)? {
+    match read(plan, data_record, room.interval, &mut room.words)? {
         Reading::Left(left_out) => {
             let class = left_out.class();
             tally.count(class)?;
             missing.note(left_out);
             Ok(class)
         }
-        Reading::Used(span) => {
+        Reading::Used(flow) => {
             tally.count(Class::Used)?;
-            take_flow(plan, rows, room, missing, data_record, span)?;
+            take_flow(plan, rows, room, missing, data_record, flow)?;
             Ok(Class::Used)
         }
     }

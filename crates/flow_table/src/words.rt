@@ -7,10 +7,17 @@ ghost use Rattle.ipfix_elements.specs.declared.cell.Cell.TheVariants as cells;
 ghost use Rattle.ipfix_elements.specs.declared.kind.Kind.{Kind as KindValue};
 ghost use Rattle.ipfix_elements.specs.declared.kind.Kind.TheVariants as kinds_of_cells;
 ghost use Rattle.flow_table.specs.Fitting.{IsCellOf};
-ghost use Rattle.flow_table.specs.Words.{cell_from as cell_in, cell_words, key_from, key_words, padded, word_count, words_of_kind};
+ghost use Rattle.flow_table.specs.Words.{cell_from as cell_in, cell_words, key_from, key_words, padded, word_count, words_in, words_of_kind};
 
 use ipfix_elements::{Cell, Kind};
 use std::alloc::AllocError;
+
+/// The words of a cell: an IPv6 address has two, and all others one.
+#[derive(Clone, Copy, Debug)]
+pub enum CellWords {
+    One(u64),
+    Two(u64, u64),
+}
 
 /// How many words the cells of a kind have.
 fn words_of_kind(kind: Kind) -> usize
@@ -35,45 +42,57 @@ pub fn count_words(kinds: &[Kind]) -> usize
     count
 }
 
-fn ipv4_word(address: &[u8; 4]) -> u64
+/// The word of an IPv4 address.
+pub fn ipv4_word(address: &[u8; 4]) -> u64
     ensures { cell_words kinds_of_cells.Ipv4 (cells.Ipv4 address.now) ≡ Some (result ∷ []) }
 {
     let [a, b, c, d] = *address;
     u64::from_be_bytes([0, 0, 0, 0, a, b, c, d])
 }
 
-fn mac_word(address: &[u8; 6]) -> u64
+/// The word of a MAC address.
+pub fn mac_word(address: &[u8; 6]) -> u64
     ensures { cell_words kinds_of_cells.Mac (cells.Mac address.now) ≡ Some (result ∷ []) }
 {
     let [a, b, c, d, e, f] = *address;
     u64::from_be_bytes([0, 0, a, b, c, d, e, f])
 }
 
-fn ipv6_words(address: &[u8; 16]) -> (u64, u64)
-    ensures { cell_words kinds_of_cells.Ipv6 (cells.Ipv6 address.now)
-        ≡ Some (result.0 ∷ result.1 ∷ []) }
+/// The words of an IPv6 address.
+pub fn ipv6_words(address: &[u8; 16]) -> CellWords
+    ensures { cell_words kinds_of_cells.Ipv6 (cells.Ipv6 address.now) ≡ Some (words_in result) }
 {
     let [a, b, c, d, e, f, g, h, i, j, k, l, m, n, o, p] = *address;
-    (
+    CellWords::Two(
         u64::from_be_bytes([a, b, c, d, e, f, g, h]),
         u64::from_be_bytes([i, j, k, l, m, n, o, p]),
     )
 }
 
-/// Appends the words of a cell.
-fn push_words(cell: &Cell, words: &mut Vec<u64>) -> Result<(), AllocError>
-    ensures { OnOk result ((kind : KindValue) → IsCellOf kind cell.now → (ws : List ℕ)
-        × (cell_words kind cell.now ≡ Some ws) × (words.new.items ≡ words.old.items ++ ws)) }
+// The words of a cell.
+fn words_of(cell: &Cell) -> CellWords
+    ensures { (kind : KindValue) → IsCellOf kind cell.now
+        → cell_words kind cell.now ≡ Some (words_in result) }
 {
     match cell {
-        Cell::Number(number) => words.push(*number)?,
-        Cell::Ipv4(address) => words.push(ipv4_word(address))?,
-        Cell::Ipv6(address) => {
-            let (high, low) = ipv6_words(address);
+        Cell::Number(number) => CellWords::One(*number),
+        Cell::Ipv4(address) => CellWords::One(ipv4_word(address)),
+        Cell::Ipv6(address) => ipv6_words(address),
+        Cell::Mac(address) => CellWords::One(mac_word(address)),
+    }
+}
+
+/// Appends the words of a cell.
+#[inline(always)]
+pub fn push_words(cell: CellWords, words: &mut Vec<u64>) -> Result<(), AllocError>
+    ensures { OnOk result (words.new.items ≡ words.old.items ++ words_in cell) }
+{
+    match cell {
+        CellWords::One(word) => words.push(word)?,
+        CellWords::Two(high, low) => {
             words.push(high)?;
             words.push(low)?;
         }
-        Cell::Mac(address) => words.push(mac_word(address))?,
     }
     Ok(())
 }
@@ -85,7 +104,7 @@ pub fn write_words(cells: &[Cell], words: &mut Vec<u64>) -> Result<(), AllocErro
 {
     words.clear();
     for cell in cells {
-        push_words(cell, words)?;
+        push_words(words_of(cell), words)?;
     }
     Ok(())
 }

@@ -17,7 +17,7 @@ pub returns-in_err-count-in-Left-clause-stands : goal.returns-in_err-count-in-Le
 returns-in_err-count-in-Left-clause-stands c =
     let p = err_from_is_err_and c.from_residual-in_err-count-in-Left.result c.from_residual-in_err-count-in-Left.ensures.1 in
     let r = c.args.data_record.now in
-    let reads = subst (λ (x : Reading). ReadsAs c.args.plan.now r c.read.new.key.items x) c.in-Left.is c.in_ok-left_out.ensures in
+    let reads = subst (λ (x : Reading). ReadsAs c.args.plan.now r c.read.new.words.items x) c.in-Left.is c.in_ok-left_out.ensures in
     λ rs holds. stands_err c.args.plan.now c.args.rows.now _ (rs ++ r ∷ []) c.from_residual-in_err-count-in-Left.result p.0 p.1
     (λ same. one_too_many c.args.plan.now c.args.rows.now c.args.tally.now rs r c.class-class.result (reads.class ∙ sym c.class-class.ensures) holds c.in_err-count-in-Left.ensures.large.1)
 
@@ -25,9 +25,9 @@ pub returns-in_err-count-in-Used-clause-stands : goal.returns-in_err-count-in-Us
 returns-in_err-count-in-Used-clause-stands c =
     let p = err_from_is_err_and c.from_residual-in_err-count-in-Used.result c.from_residual-in_err-count-in-Used.ensures.1 in
     let r = c.args.data_record.now in
-    let reads = subst (λ (x : Reading). ReadsAs c.args.plan.now r c.read.new.key.items x) c.in-Used.is c.in_ok-left_out.ensures in
+    let reads = subst (λ (x : Reading). ReadsAs c.args.plan.now r c.read.new.words.items x) c.in-Used.is c.in_ok-left_out.ensures in
     λ rs holds. stands_err c.args.plan.now c.args.rows.now _ (rs ++ r ∷ []) c.from_residual-in_err-count-in-Used.result p.0 p.1
-    (λ same. one_too_many c.args.plan.now c.args.rows.now c.args.tally.now rs r Used reads.0.used holds c.in_err-count-in-Used.ensures.large.1)
+    (λ same. one_too_many c.args.plan.now c.args.rows.now c.args.tally.now rs r Used reads.is.used holds c.in_err-count-in-Used.ensures.large.1)
 
 pub returns-in_err-take_flow-in-Used-clause-stands : goal.returns-in_err-take_flow-in-Used-clause-stands
 returns-in_err-take_flow-in-Used-clause-stands c =
@@ -39,7 +39,7 @@ returns-in_err-take_flow-in-Used-clause-stands c =
 pub returns-in_ok-count-in-Left-clause-stands : goal.returns-in_ok-count-in-Left-clause-stands
 returns-in_ok-count-in-Left-clause-stands c =
     let r = c.args.data_record.now in
-    let reads = subst (λ (x : Reading). ReadsAs c.args.plan.now r c.read.new.key.items x) c.in-Left.is c.in_ok-left_out.ensures in
+    let reads = subst (λ (x : Reading). ReadsAs c.args.plan.now r c.read.new.words.items x) c.in-Left.is c.in_ok-left_out.ensures in
     let own = c.in_ok-count-in-Left.ensures.ok in
     λ rs holds. left_taken c.args.plan.now c.args.rows.now c.args.tally.now c.count.new.self rs r c.in-Left.left_out reads
     (own.0 ∙ ap (λ (class : Class). tally_sum c.args.tally.now (one_of class)) c.class-class.ensures) own.1 holds
@@ -47,14 +47,14 @@ returns-in_ok-count-in-Left-clause-stands c =
 pub returns-in_ok-count-in-Left-clause-missing : goal.returns-in_ok-count-in-Left-clause-missing
 returns-in_ok-count-in-Left-clause-missing c =
     let r = c.args.data_record.now in
-    let reads = subst (λ (x : Reading). ReadsAs c.args.plan.now r c.read.new.key.items x) c.in-Left.is c.in_ok-left_out.ensures in
+    let reads = subst (λ (x : Reading). ReadsAs c.args.plan.now r c.read.new.words.items x) c.in-Left.is c.in_ok-left_out.ensures in
     merged_missing c.args.plan.now (r ∷ []) c.args.missing.now (missing_in c.in-Left.left_out) c.note.new.self (sym (left_missing c.args.plan.now r c.in-Left.left_out reads)) c.note.ensures
 
 pub returns-in_ok-take_flow-in-Used-clause-stands : goal.returns-in_ok-take_flow-in-Used-clause-stands
 returns-in_ok-take_flow-in-Used-clause-stands c =
     let r = c.args.data_record.now in
-    let reads = subst (λ (x : Reading). ReadsAs c.args.plan.now r c.read.new.key.items x) c.in-Used.is c.in_ok-left_out.ensures in
+    let reads = subst (λ (x : Reading). ReadsAs c.args.plan.now r c.read.new.words.items x) c.in-Used.is c.in_ok-left_out.ensures in
     let own = c.in_ok-count-in-Used.ensures.ok in
     λ rs holds. used_taken c.args.plan.now c.args.rows.now c.take_flow.new.rows c.args.tally.now c.count-in-Used.new.self rs r
-    (read_keys_fit c.args.plan.now r c.read.new.key.items (readings.Used c.in-Used.span) reads) reads.0.used own.0 own.1 c.in_ok-take_flow-in-Used.ensures.rows
+    (read_keys_fit c.args.plan.now r c.read.new.words.items (readings.Used c.in-Used.flow) reads) reads.is.used own.0 own.1 c.in_ok-take_flow-in-Used.ensures.rows
     c.in_ok-take_flow-in-Used.ensures.ok c.in_ok-take_flow-in-Used.ensures.fits holds

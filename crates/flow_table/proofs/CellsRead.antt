@@ -1,0 +1,66 @@
+-- The cells that octets are read as, by their words.
+use Rattle.std.proofs.Common.{◌≡◌, ℕ, List, [], ◌∷◌, length, Option, Some, None, option_map, refl, sym, ap, ◌∙◌, subst}
+use Rattle.ipfix_elements.specs.Values.{number_in, cell_in}
+use Rattle.ipfix_elements.specs.declared.cell.Cell.{Cell}
+use Rattle.ipfix_elements.specs.declared.cell.Cell.TheVariants.{Number, Ipv4, Ipv6, Mac}
+use Rattle.ipfix_elements.specs.declared.kind.Kind.TheVariants as kinds
+use Rattle.ipfix_elements.specs.declared.kind.Width.{Width}
+use Rattle.flow_table.specs.Fitting.{IsCellOf}
+use Rattle.flow_table.specs.Reading.{projected}
+use Rattle.flow_table.specs.Readings.{HasCell}
+use Rattle.flow_table.specs.Words.{cell_words}
+use Rattle.flow_table.proofs.Fits.{IsOctets, number_fits, projected_fits}
+
+-- a prefix leaves all that is no IPv4 address
+number_whole : (prefix : Option ℕ) (n : ℕ) → projected prefix (Number n) ≡ Number n
+number_whole None n = refl
+number_whole (Some bits) n = refl
+
+ipv6_whole : (prefix : Option ℕ) (address : List ℕ) → projected prefix (Ipv6 address) ≡ Ipv6 address
+ipv6_whole None address = refl
+ipv6_whole (Some bits) address = refl
+
+mac_whole : (prefix : Option ℕ) (address : List ℕ) → projected prefix (Mac address) ≡ Mac address
+mac_whole None address = refl
+mac_whole (Some bits) address = refl
+
+pub has_number : (width : Width) (prefix : Option ℕ) (octets : List ℕ) (n : ℕ) → IsOctets octets → number_in (kinds.Unsigned width) octets ≡ Some n
+    → HasCell (kinds.Unsigned width) (option_map (projected prefix) (cell_in (kinds.Unsigned width) octets)) (n ∷ [])
+has_number width prefix octets n small h =
+    record {
+      cell = Number n;
+      is = ap (λ (o : Option ℕ). option_map (projected prefix) (option_map (λ (m : ℕ). Number m) o)) h ∙ ap (λ (cell : Cell). Some cell) (number_whole prefix n);
+      fits = number_fits width octets n small h;
+      are = refl;
+    }
+
+pub has_ipv4 : (prefix : Option ℕ) (octets address kept words : List ℕ) → address ≡ octets → length octets ≡ 4 → Ipv4 kept ≡ projected prefix (Ipv4 address) → cell_words kinds.Ipv4 (Ipv4 kept) ≡ Some words
+    → HasCell kinds.Ipv4 (option_map (projected prefix) (cell_in kinds.Ipv4 octets)) words
+has_ipv4 prefix octets address kept words same long is are =
+    let whole : Ipv4 kept ≡ projected prefix (Ipv4 octets) = is ∙ ap (λ (a : List ℕ). projected prefix (Ipv4 a)) same in
+    record {
+      cell = Ipv4 kept;
+      is = rw long (ap (λ (cell : Cell). Some cell) (sym whole));
+      fits = subst (IsCellOf kinds.Ipv4) (sym whole) (projected_fits kinds.Ipv4 prefix (Ipv4 octets) long);
+      are = are;
+    }
+
+pub has_ipv6 : (prefix : Option ℕ) (octets address words : List ℕ) → address ≡ octets → length octets ≡ 16 → cell_words kinds.Ipv6 (Ipv6 address) ≡ Some words
+    → HasCell kinds.Ipv6 (option_map (projected prefix) (cell_in kinds.Ipv6 octets)) words
+has_ipv6 prefix octets address words same long are =
+    record {
+      cell = Ipv6 octets;
+      is = rw long (ap (λ (cell : Cell). Some cell) (ipv6_whole prefix octets));
+      fits = long;
+      are = ap (λ (a : List ℕ). cell_words kinds.Ipv6 (Ipv6 a)) (sym same) ∙ are;
+    }
+
+pub has_mac : (prefix : Option ℕ) (octets address words : List ℕ) → address ≡ octets → length octets ≡ 6 → cell_words kinds.Mac (Mac address) ≡ Some words
+    → HasCell kinds.Mac (option_map (projected prefix) (cell_in kinds.Mac octets)) words
+has_mac prefix octets address words same long are =
+    record {
+      cell = Mac octets;
+      is = rw long (ap (λ (cell : Cell). Some cell) (mac_whole prefix octets));
+      fits = long;
+      are = ap (λ (a : List ℕ). cell_words kinds.Mac (Mac a)) (sym same) ∙ are;
+    }
