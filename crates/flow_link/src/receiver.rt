@@ -60,6 +60,7 @@ impl Receiver {
     }
 
     /// Takes the oldest parcel, if one is there. It waits for nobody, and takes no memory.
+    #[inline(always)]
     pub fn try_recv(&mut self) -> Taken
         ensures link { (self.new.link ≡ self.old.link) × (self.new.capacity ≡ self.old.capacity) }
         ensures got { IfGot result (λ parcel. self.new.received

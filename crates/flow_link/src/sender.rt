@@ -1,6 +1,7 @@
 //! The end of a link that sends.
 
-ghost use Rattle.std.specs.Prelude.{◌≡◌};
+ghost use Rattle.std.specs.Prelude.{◌≡◌, ◌<◌, ◌∷◌, ◌++◌, []};
+ghost use Rattle.rtrb.specs.Ring as ring;
 ghost use Rattle.flow_link.specs.Parcels.{is_last as is_last_parcel};
 
 use crate::parcel::Parcel;
@@ -66,14 +67,14 @@ impl Sender {
         if self.producer.is_full() {
             return Err(parcel);
         }
-        self.ended = is_last(&parcel);
-        self.producer.push_reserved(parcel);
+        self.ended = push(&mut self.producer, parcel);
         self.patience.moved(1);
         Ok(())
     }
 
     /// Sends a parcel, and waits while the ring is full. It comes back if the receiver is gone.
     #[inline(always)]
+    #[tactic(auto, using(crate::proofs::ParcelLists::has_last_push, crate::proofs::ParcelLists::last_ends_push))]
     pub fn send(&mut self, rt: &impl Wait, parcel: Parcel) -> Result<(), Parcel>
         requires { has_last self.old.sent ≡ false }
         ensures link { (self.new.link ≡ self.old.link) × (self.new.capacity ≡ self.old.capacity) }
@@ -85,7 +86,9 @@ impl Sender {
                 return Err(parcel);
             }
             if !self.producer.is_full() {
-                return self.try_send(parcel);
+                self.ended = push(&mut self.producer, parcel);
+                self.patience.moved(1);
+                return Ok(());
             }
             self.patience.wait(rt);
         }
@@ -100,6 +103,19 @@ impl Sender {
     {
         self.ended
     }
+}
+
+// Sends a parcel for which there is room, and says whether it was Last.
+#[inline(always)]
+fn push(producer: &mut Producer<Parcel>, parcel: Parcel) -> bool
+    requires { 0 < ring.known_free producer.old }
+    ensures ring { ring.SameProducer producer.old producer.new }
+    ensures sent { ring.sent producer.new ≡ ring.sent producer.old ++ parcel ∷ [] }
+    ensures last { result ≡ is_last_parcel parcel }
+{
+    let last = is_last(&parcel);
+    producer.push_reserved(parcel);
+    last
 }
 
 fn is_last(parcel: &Parcel) -> bool
