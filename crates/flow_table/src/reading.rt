@@ -1,10 +1,8 @@
 //! Data records read under a plan (RFC 7015, section 5).
 
 ghost use Rattle.std.specs.Prelude.{◌≡◌, ◌≤◌, OnOk, IfOk, length, map};
-ghost use Rattle.ipfix_elements.specs.Values.{number_in};
 ghost use Rattle.flow_table.specs.Reading.{counter_of, number_of};
 ghost use Rattle.flow_table.specs.Readings.{Notes, ReadsAs};
-ghost use Rattle.flow_table.specs.declared.reading.TheConstants.{COUNTER_KIND};
 
 use crate::flow::Flow;
 use crate::key_words::read_key;
@@ -13,7 +11,6 @@ use crate::plan::{MAX_COUNTERS, Plan};
 use crate::sharing::covered;
 use crate::span::Span;
 use crate::times::{end_of, start_of};
-use byteorder::{BigEndian, ByteOrder};
 use ipfix_elements::{Kind, Width, read_number};
 use ipfix_message::DataRecord;
 use ipfix_wire::ElementId;
@@ -69,18 +66,7 @@ fn counter(data_record: &DataRecord, element: ElementId) -> Option<u64>
     ensures { result ≡ number_of element data_record.now }
 {
     let octets = data_record.fields.find(element)?;
-    read_counter(octets)
-}
-
-// The counter that octets are. The lengths that most have are read in one step, the others copied.
-fn read_counter(octets: &[u8]) -> Option<u64>
-    ensures { result ≡ number_in COUNTER_KIND octets.now }
-{
-    match octets.len() {
-        4 => Some(u64::from(BigEndian::read_u32(octets))),
-        8 => Some(BigEndian::read_u64(octets)),
-        _ => read_number(COUNTER_KIND, octets),
-    }
+    read_number(COUNTER_KIND, octets)
 }
 
 /// Leaves the counters of a record in `counters`, and counts those that it lacks in `missing`, where

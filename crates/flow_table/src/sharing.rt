@@ -87,6 +87,7 @@ fn interval_at(time: u64, length: u64, guess: u64) -> u64
 
 /// The intervals that a flow contributes to: the first, and how many there are, one after another. A
 /// guess of the first is tried first.
+#[inline(always)]
 pub(crate) fn covered(plan: &Plan, span: Span, guess: u64) -> (u64, u64)
     ensures covers { covers plan.now span.start span.end ≡ range_with_len result.0 result.1 }
     ensures fits { result.0 + result.1 < 2 ^ 64 }
