@@ -1,40 +1,55 @@
 -- What was told of a dump, behind the lines of files.
-use Rattle.std.proofs.Common.{◌≡◌, ℕ, Bool, List, Option, Some, subst}
+use Rattle.std.proofs.Common.{◌≡◌, ℕ, Bool, List, [], Option, Some, None, subst, inl, inr, arith}
+use Rattle.std.specs.Io.KnownBytes.{Appends}
 use Rattle.ipfix_message.specs.declared.record.DataRecord.{DataRecord}
 use Rattle.ipfix_session.specs.Sources.{SourceView}
 use Rattle.ipfix_session.specs.declared.report.FullReport.{FullReport}
 use Rattle.element_registry.specs.Registries.{Known}
-use Rattle.ipfix_dump.specs.Dumped.{DumpsAllBy}
 use Rattle.run_reports.specs.Told.{AreTold}
 use Rattle.run_reports.proofs.LinesTold.{both_told}
-use Rattle.collectd_dump.specs.Dumps.{DumpsToEnd, TellsDumpFault}
-use Rattle.collectd_dump.specs.UnderFiles.{DumpsAllUnderFiles, DumpsUnderFiles, FailsUnderFiles}
+use Rattle.collectd_dump.specs.Dumps.{RunsDumpInFull}
+use Rattle.collectd_dump.specs.UnderFiles.{RunsDumpUnder}
+use Rattle.collectd_dump.proofs.Ended.{never_two, one_of_four}
 
-module _ (Loads : Option (List Known) → List ℕ → Type 0) (known : List Known) (lines : List ℕ) (loaded : Loads (Some known) lines) where
-  module _ (first mid last : Option (List ℕ)) (Before After : Type 0) (told : AreTold first mid Before lines) (kept : Before → After) where
-    pub dumped_then : {S : Type 0} (line_under : List Known → DataRecord → List ℕ) (line : DataRecord → List ℕ) (seen : S → SourceView) (strict : Bool) (before after : S)
-        (old new : Option (List ℕ)) (status : ℕ) (lines_of : List Known → FullReport → List ℕ) → line ≡ line_under known
-        → DumpsToEnd line seen strict before after old new status (λ full. AreTold mid last After (lines_of known full))
-        → DumpsUnderFiles Loads line_under seen strict before after old new status lines_of (AreTold first last After)
-    dumped_then {S = S} line_under line seen strict before after old new status lines_of is d =
-        let to_end = subst (λ (l : DataRecord → List ℕ). DumpsToEnd l seen strict before after old new status (λ full. AreTold mid last After (lines_of known full))) is d in
-        record {
-          known = known;
-          lines = lines;
-          loaded = loaded;
-          dumps = record {
-            full = to_end.full;
-            dumps = to_end.dumps;
-            told = both_told first mid last Before After lines (lines_of known to_end.full) told to_end.told kept;
-            status_is = to_end.status_is;
-          };
-        }
+module _ {S : Type 0} (Loads : Option (List Known) → List ℕ → Type 0) (line_under : List Known → DataRecord → List ℕ) (seen : S → SourceView) (before after : S) (old new : Option (List ℕ)) (status : ℕ) (strict : Bool)
+    (lines_of : List Known → FullReport → List ℕ) where
+  -- a dump under what files gave
+  pub runs_under : (known : List Known) (lines : List ℕ) (line : DataRecord → List ℕ) (first mid last : Option (List ℕ)) (Before After : Type 0) → Loads (Some known) lines → AreTold first mid Before lines → (Before → After) → line ≡ line_under known
+      → RunsDumpInFull line seen before after old new status strict (lines_of known) (AreTold mid last After) → RunsDumpUnder Loads line_under seen before after old new status strict lines_of (AreTold first last After)
+  runs_under known lines line first mid last Before After loaded told kept is runs =
+      let dump : RunsDumpInFull (line_under known) seen before after old new status strict (lines_of known) (AreTold mid last After) =
+      subst (λ (l : DataRecord → List ℕ). RunsDumpInFull l seen before after old new status strict (lines_of known) (AreTold mid last After)) is runs in
+      record {
+        statuses = one_of_four status dump.statuses;
+        all = λ well. record { known = known; lines = lines; loaded = loaded; all = dump.all well };
+        dumped = λ ran opened.
+            let to_end = dump.dumped ran in
+            record {
+              known = known;
+              lines = lines;
+              loaded = loaded;
+              dumps = record {
+                full = to_end.full;
+                dumps = to_end.dumps;
+                told = both_told first mid last Before After lines (lines_of known to_end.full) told to_end.told kept;
+                status_is = to_end.status_is;
+              };
+            };
+        failed = λ three.
+            let fault = dump.failed three in
+            record { known = known; lines = lines; loaded = loaded; fault = fault.0; told = both_told first mid last Before After lines _ told fault.1 kept };
+        stopped = never_two status dump.statuses;
+        untouched = never_two status dump.statuses;
+      }
 
-    pub failed_then : TellsDumpFault (AreTold mid last After) → FailsUnderFiles Loads (AreTold first last After)
-    failed_then (fault, is) =
-        record { known = known; lines = lines; loaded = loaded; fault = fault; told = both_told first mid last Before After lines _ told is kept }
-
-  pub all_loaded : (line_under : List Known → DataRecord → List ℕ) (line : DataRecord → List ℕ) (text old new : Option (List ℕ)) → line ≡ line_under known
-      → DumpsAllBy line text old new → DumpsAllUnderFiles Loads line_under text old new
-  all_loaded line_under line text old new is all =
-      record { known = known; lines = lines; loaded = loaded; all = subst (λ (l : DataRecord → List ℕ). DumpsAllBy l text old new) is all }
+  -- a file was not read
+  pub runs_none : (lines : List ℕ) (AreTold : List ℕ → Type 0) → status ≡ 2 → Loads None lines → AreTold lines → after ≡ before → Appends old new [] → RunsDumpUnder Loads line_under seen before after old new status strict lines_of AreTold
+  runs_none lines AreTold two stops told same nothing =
+      record {
+        statuses = inr (inr (inl two));
+        all = λ zero. absurd (omega (arith, two, zero));
+        dumped = λ ran opened. absurd (opened two);
+        failed = λ three. absurd (omega (arith, two, three));
+        stopped = λ is. record { lines = lines; stops = stops; told = told };
+        untouched = λ is. (same, nothing);
+      }

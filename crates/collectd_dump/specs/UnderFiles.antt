@@ -1,9 +1,13 @@
 -- How a dump under files of elements ended.
-use Rattle.std.specs.Prelude.{ℕ, Bool, List, ◌++◌, Option, Some}
+use Rattle.std.specs.Prelude.{◌≡◌, ◌≢◌, ◌⊎◌, ℕ, Bool, List, [], ◌++◌, Option, Some}
+use Rattle.std.specs.Io.KnownBytes.{Appends}
 use Rattle.ipfix_message.specs.declared.record.DataRecord.{DataRecord}
 use Rattle.ipfix_session.specs.Sources.{SourceView}
 use Rattle.ipfix_session.specs.declared.report.FullReport.{FullReport}
+use Rattle.element_files.specs.Loaded.{StopsAtFile}
 use Rattle.element_registry.specs.Registries.{Known}
+use Rattle.exit_status.specs.Statuses.{number_of}
+use Rattle.exit_status.specs.declared.status.Status.TheVariants as ends
 use Rattle.ipfix_dump.specs.Dumped.{DumpsAllBy}
 use Rattle.ipfix_dump.specs.declared.fault.DumpFault.{DumpFault}
 use Rattle.run_reports.specs.ReportLines.{dump_fault_line}
@@ -33,3 +37,14 @@ pub record FailsUnderFiles (Loads : Option (List Known) → List ℕ → Type 0)
   pub loaded : Loads (Some known) lines
   pub fault : DumpFault
   pub told : AreTold (lines ++ dump_fault_line fault)
+
+-- what the status of a dump under files says
+pub record RunsDumpUnder {S : Type 0} (Loads : Option (List Known) → List ℕ → Type 0) (line_under : List Known → DataRecord → List ℕ) (seen : S → SourceView) (before after : S) (old new : Option (List ℕ)) (status : ℕ) (strict : Bool) (lines_of : List Known → FullReport → List ℕ) (AreTold : List ℕ → Type 0) : Type 0 where
+  pub statuses : (status ≡ number_of ends.Well) ⊎ (status ≡ number_of ends.SessionFault) ⊎ (status ≡ number_of ends.NotOpened) ⊎ (status ≡ number_of ends.Failed)
+  pub all : status ≡ number_of ends.Well → DumpsAllUnderFiles Loads line_under (seen before).text old new
+  pub dumped : status ≢ number_of ends.Failed → status ≢ number_of ends.NotOpened → DumpsUnderFiles Loads line_under seen strict before after old new status lines_of AreTold
+  -- the line of a fault alone was told behind those of files
+  pub failed : status ≡ number_of ends.Failed → FailsUnderFiles Loads AreTold
+  -- a file was not read: then nothing is read of the source, and nothing is written
+  pub stopped : status ≡ number_of ends.NotOpened → StopsAtFile Loads AreTold
+  pub untouched : status ≡ number_of ends.NotOpened → (after ≡ before) × Appends old new []

@@ -1,11 +1,10 @@
 //! Dumping a source to its end, with the report in full.
 
-ghost use Rattle.std.specs.Prelude.{◌≡◌, ◌≢◌, ◌⊎◌, ◌↔◌, [], ◌∷◌, IfOk, IsTrue};
-ghost use Rattle.exit_status.specs.Statuses.{number_of};
-ghost use Rattle.ipfix_dump.specs.Dumped.{DumpsAllBy, DumpsInFullBy};
+ghost use Rattle.std.specs.Prelude.{◌≡◌, ◌⊎◌, ◌↔◌, [], ◌∷◌, IfOk, IsTrue};
+ghost use Rattle.ipfix_dump.specs.Dumped.{DumpsInFullBy};
 ghost use Rattle.run_reports.specs.Told.{AreTold};
 ghost use Rattle.run_reports.specs.ToldLines.{told_lines};
-ghost use Rattle.collectd_dump.specs.Dumps.{DumpsToEnd, EndedWell, TellsDumpFault};
+ghost use Rattle.collectd_dump.specs.Dumps.{EndedWell, RunsDumpInFull};
 
 use element_registry::Elements;
 use exit_status::Status;
@@ -31,17 +30,9 @@ pub fn dump_to_end<L: RecordLine, S: Source, W: Write, E: WriteLines>(
     out: &mut W,
     err: &mut E,
 ) -> u8
-    ensures statuses { (result ≡ number_of Status.Well) ⊎ (result ≡ number_of Status.SessionFault)
-        ⊎ (result ≡ number_of Status.Failed) }
-    ensures all { result ≡ number_of Status.Well
-        → DumpsAllBy (L.line_of line.old) (S.seen source.old).text (W.contents out.old) (W.contents out.new) }
-    ensures dumped { result ≢ number_of Status.Failed
-        → DumpsToEnd (L.line_of line.old) S.seen telling.strict source.old source.new
-        (W.contents out.old) (W.contents out.new) result
-        (λ full. AreTold (E.contents err.old) (E.contents err.new) (E.failed err.new)
-        (told_lines telling elements.now (origin.now ∷ []) (full ∷ []))) }
-    // The line of a fault alone was told.
-    ensures failed { result ≡ number_of Status.Failed → TellsDumpFault
+    ensures runs { RunsDumpInFull (L.line_of line.old) S.seen source.old source.new
+        (W.contents out.old) (W.contents out.new) result telling.strict
+        (λ full. told_lines telling elements.now (origin.now ∷ []) (full ∷ []))
         (AreTold (E.contents err.old) (E.contents err.new) (E.failed err.new)) }
     ensures kept { E.failed err.old → E.failed err.new }
 {

@@ -1,14 +1,12 @@
 //! What `collectd dump` does with files of elements.
 
-ghost use Rattle.std.specs.Prelude.{◌≡◌, ◌≢◌, ◌⊎◌, [], ◌∷◌, map};
-ghost use Rattle.std.specs.Io.KnownBytes.{Appends};
-ghost use Rattle.exit_status.specs.Statuses.{number_of};
+ghost use Rattle.std.specs.Prelude.{[], ◌∷◌, map};
 ghost use Rattle.ipfix_dump.specs.DumpLines.{dump_line_under};
 ghost use Rattle.ipfix_dump.specs.JsonLines.{json_line_under};
-ghost use Rattle.element_files.specs.Loaded.{Loads, StopsAtFile};
+ghost use Rattle.element_files.specs.Loaded.{Loads};
 ghost use Rattle.run_reports.specs.Told.{AreTold};
 ghost use Rattle.run_reports.specs.ToldLines.{told_lines};
-ghost use Rattle.collectd_dump.specs.UnderFiles.{DumpsAllUnderFiles, DumpsUnderFiles, FailsUnderFiles};
+ghost use Rattle.collectd_dump.specs.UnderFiles.{RunsDumpUnder};
 
 use crate::dump_in_full::dump_to_end;
 use element_files::load_elements;
@@ -33,43 +31,22 @@ pub fn run_dump_under<T: ReadText, S: Source, W: Write, E: WriteLines>(
     out: &mut W,
     err: &mut E,
 ) -> u8
-    ensures statuses { (result ≡ number_of Status.Well) ⊎ (result ≡ number_of Status.SessionFault)
-        ⊎ (result ≡ number_of Status.NotOpened) ⊎ (result ≡ number_of Status.Failed) }
-    ensures all { result ≡ number_of Status.Well → DumpsAllUnderFiles
+    ensures runs { RunsDumpUnder
         (Loads (T.has files.now) (T.refuses files.now) telling [] (map (λ path. path.now) paths.now))
-        dump_line_under (S.seen source.old).text (W.contents out.old) (W.contents out.new) }
-    ensures dumped { result ≢ number_of Status.Failed → result ≢ number_of Status.NotOpened
-        → DumpsUnderFiles
-        (Loads (T.has files.now) (T.refuses files.now) telling [] (map (λ path. path.now) paths.now))
-        dump_line_under S.seen telling.strict source.old source.new
-        (W.contents out.old) (W.contents out.new) result
+        dump_line_under S.seen source.old source.new (W.contents out.old) (W.contents out.new)
+        result telling.strict
         (λ known full. told_lines telling known (origin.now ∷ []) (full ∷ []))
         (AreTold (E.contents err.old) (E.contents err.new) (E.failed err.new)) }
-    // The line of a fault alone was told behind those of files.
-    ensures failed { result ≡ number_of Status.Failed → FailsUnderFiles
-        (Loads (T.has files.now) (T.refuses files.now) telling [] (map (λ path. path.now) paths.now))
-        (AreTold (E.contents err.old) (E.contents err.new) (E.failed err.new)) }
-    // A file was not read.
-    ensures stopped { result ≡ number_of Status.NotOpened → StopsAtFile
-        (Loads (T.has files.now) (T.refuses files.now) telling [] (map (λ path. path.now) paths.now))
-        (AreTold (E.contents err.old) (E.contents err.new) (E.failed err.new)) }
-    ensures untouched { result ≡ number_of Status.NotOpened
-        → (source.new ≡ source.old) × Appends (W.contents out.old) (W.contents out.new) [] }
     ensures kept { E.failed err.old → E.failed err.new }
 {
-    match load_elements(files, alloc, paths, telling, err) {
-        Some(elements) => dump_to_end(
-            alloc,
-            &elements,
-            &mut Line::new(alloc, &elements),
-            source,
-            origin,
-            telling,
-            out,
-            err,
-        ),
-        None => Status::NotOpened.number(),
-    }
+    let elements = match load_elements(files, alloc, paths, telling, err) {
+        Some(elements) => elements,
+        None => return Status::NotOpened.number(),
+    };
+    let mut line = Line::new(alloc, &elements);
+    dump_to_end(
+        alloc, &elements, &mut line, source, origin, telling, out, err,
+    )
 }
 
 /// Does the same with an object of JSON (RFC 8259) for each data record, on a line of its own.
@@ -83,41 +60,20 @@ pub fn run_dump_json_under<T: ReadText, S: Source, W: Write, E: WriteLines>(
     out: &mut W,
     err: &mut E,
 ) -> u8
-    ensures statuses { (result ≡ number_of Status.Well) ⊎ (result ≡ number_of Status.SessionFault)
-        ⊎ (result ≡ number_of Status.NotOpened) ⊎ (result ≡ number_of Status.Failed) }
-    ensures all { result ≡ number_of Status.Well → DumpsAllUnderFiles
+    ensures runs { RunsDumpUnder
         (Loads (T.has files.now) (T.refuses files.now) telling [] (map (λ path. path.now) paths.now))
-        json_line_under (S.seen source.old).text (W.contents out.old) (W.contents out.new) }
-    ensures dumped { result ≢ number_of Status.Failed → result ≢ number_of Status.NotOpened
-        → DumpsUnderFiles
-        (Loads (T.has files.now) (T.refuses files.now) telling [] (map (λ path. path.now) paths.now))
-        json_line_under S.seen telling.strict source.old source.new
-        (W.contents out.old) (W.contents out.new) result
+        json_line_under S.seen source.old source.new (W.contents out.old) (W.contents out.new)
+        result telling.strict
         (λ known full. told_lines telling known (origin.now ∷ []) (full ∷ []))
         (AreTold (E.contents err.old) (E.contents err.new) (E.failed err.new)) }
-    // The line of a fault alone was told behind those of files.
-    ensures failed { result ≡ number_of Status.Failed → FailsUnderFiles
-        (Loads (T.has files.now) (T.refuses files.now) telling [] (map (λ path. path.now) paths.now))
-        (AreTold (E.contents err.old) (E.contents err.new) (E.failed err.new)) }
-    // A file was not read.
-    ensures stopped { result ≡ number_of Status.NotOpened → StopsAtFile
-        (Loads (T.has files.now) (T.refuses files.now) telling [] (map (λ path. path.now) paths.now))
-        (AreTold (E.contents err.old) (E.contents err.new) (E.failed err.new)) }
-    ensures untouched { result ≡ number_of Status.NotOpened
-        → (source.new ≡ source.old) × Appends (W.contents out.old) (W.contents out.new) [] }
     ensures kept { E.failed err.old → E.failed err.new }
 {
-    match load_elements(files, alloc, paths, telling, err) {
-        Some(elements) => dump_to_end(
-            alloc,
-            &elements,
-            &mut JsonLine::new(alloc, &elements),
-            source,
-            origin,
-            telling,
-            out,
-            err,
-        ),
-        None => Status::NotOpened.number(),
-    }
+    let elements = match load_elements(files, alloc, paths, telling, err) {
+        Some(elements) => elements,
+        None => return Status::NotOpened.number(),
+    };
+    let mut line = JsonLine::new(alloc, &elements);
+    dump_to_end(
+        alloc, &elements, &mut line, source, origin, telling, out, err,
+    )
 }

@@ -1,19 +1,16 @@
-use Rattle.std.proofs.Common.{ap}
+use Rattle.std.proofs.Common.{◌∷◌, [], ap, rules}
 use Rattle.ipfix_dump.specs.DumpLines.{dump_line_under}
-use Rattle.collectd_dump.proofs.Loaded.{all_loaded, dumped_then, failed_then}
+use Rattle.run_reports.specs.ToldLines.{told_lines}
+use Rattle.collectd_dump.proofs.Loaded.{runs_none, runs_under}
 use Rattle.collectd_dump.proofs.dump_under.run_dump_under.Goals as goal
 
-pub returns-in-Some-clause-all : goal.returns-in-Some-clause-all
-returns-in-Some-clause-all g c = λ well.
-    let loads = c.in-Some.ensures.loads in
-    all_loaded _ c.in-Some.elements loads.0 loads.1 dump_line_under _ _ _ _ (ap dump_line_under c.new.ensures) (c.dump_to_end.ensures.all well)
+pub returns-in-None-clause-runs : goal.returns-in-None-clause-runs
+returns-in-None-clause-runs g c =
+    let loads = c.in-None.ensures.loads in
+    runs_none _ _ _ _ _ _ _ _ _ _ loads.0 _ (search rules) loads.1 loads.2 (search rules) (search rules)
 
-pub returns-in-Some-clause-dumped : goal.returns-in-Some-clause-dumped
-returns-in-Some-clause-dumped g c = λ ran opened.
+pub returns-clause-runs : goal.returns-clause-runs
+returns-clause-runs g c =
     let loads = c.in-Some.ensures.loads in
-    dumped_then _ c.in-Some.elements loads.0 loads.1 _ _ _ _ _ loads.2 c.dump_to_end.ensures.kept dump_line_under _ _ _ _ _ _ _ _ _ (ap dump_line_under c.new.ensures) (c.dump_to_end.ensures.dumped ran)
-
-pub returns-in-Some-clause-failed : goal.returns-in-Some-clause-failed
-returns-in-Some-clause-failed g c = λ failed.
-    let loads = c.in-Some.ensures.loads in
-    failed_then _ c.in-Some.elements loads.0 loads.1 _ _ _ _ _ loads.2 c.dump_to_end.ensures.kept (c.dump_to_end.ensures.failed failed)
+    runs_under _ dump_line_under _ _ _ _ _ _ _ (λ known full. told_lines c.args.telling known (c.args.origin.now ∷ []) (full ∷ []))
+    c.in-Some.elements loads.0 _ _ _ _ _ _ loads.1 loads.2 c.dump_to_end.ensures.kept (ap dump_line_under c.new-line.ensures) c.dump_to_end.ensures.runs
