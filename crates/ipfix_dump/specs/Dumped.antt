@@ -40,15 +40,9 @@ module _ (line_of : DataRecord → List ℕ) where
 abbrev pub Dumps : {S : Type 0} → (S → SourceView) → S → S → Option (List ℕ) → Option (List ℕ) → SessionReport → Type 0
 Dumps = DumpsBy dump_line
 
-abbrev pub DumpsAll : Option (List ℕ) → Option (List ℕ) → Option (List ℕ) → Type 0
-DumpsAll = DumpsAllBy dump_line
-
 -- by lines of JSON
 abbrev pub DumpsJson : {S : Type 0} → (S → SourceView) → S → S → Option (List ℕ) → Option (List ℕ) → SessionReport → Type 0
 DumpsJson = DumpsBy json_line
-
-abbrev pub DumpsAllJson : Option (List ℕ) → Option (List ℕ) → Option (List ℕ) → Type 0
-DumpsAllJson = DumpsAllBy json_line
 
 -- with the elements of files
 abbrev pub DumpsUnder : List Known → {S : Type 0} → (S → SourceView) → S → S → Option (List ℕ) → Option (List ℕ) → SessionReport → Type 0
