@@ -1,2 +1,3 @@
 pub mod Merged
 mod FilesTold
+mod Ended

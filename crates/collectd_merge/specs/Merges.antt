@@ -1,22 +1,21 @@
 -- What merging the exports in files wrote.
-use Rattle.std.specs.Prelude.{◌≡◌, ℕ, List, [], All, Option}
+use Rattle.std.specs.Prelude.{◌≡◌, ◌⊎◌, ℕ, List, [], All}
 use Rattle.ipfix_session.specs.Sources.{SourceView}
-use Rattle.element_registry.specs.Registries.{Known}
+use Rattle.exit_status.specs.Statuses.{number_of}
+use Rattle.exit_status.specs.declared.status.Status.TheVariants as ends
 use Rattle.flow_table.specs.Plans.{PlanValue}
 use Rattle.flow_table.specs.SameTables.{RowValue}
 use Rattle.flow_table.specs.declared.table.Table.{Table}
 use Rattle.flow_merge.specs.Merging.{merging_plan, AddsAllUp, AddsExport, StandsFor}
 use Rattle.flow_merge.specs.declared.merging.Merging.{Merging}
-use Rattle.collectd_output.specs.TableTexts.{Writes, WritesUnder}
 use Rattle.collectd_inputs.specs.Had.{IsUnread}
 use Rattle.ipfix_session.specs.declared.driver.TheConstants.{READ_LIMIT}
 use Rattle.run_reports.specs.OpeningLines.{if_verbose}
 use Rattle.run_reports.specs.declared.telling.Telling.{Telling}
 use Rattle.collectd_merge.specs.MergeLines.{file_opened_line, files_opened_lines}
-use Rattle.collectd_merge.specs.MergesTold.{StopsBehind}
+use Rattle.collectd_merge.specs.MergesTold.{merge_lines, StopsBehind, TellsNotExported, TellsNotMerged}
 use Rattle.collectd_merge.specs.declared.not_merged.NotMerged.{NotMerged}
 use Rattle.collectd_merge.specs.declared.not_merged.NotMerged.TheVariants.{NotOpened, File, Whole}
-use Rattle.collectd_output.specs.declared.output.Output.{Output}
 
 module _ {S : Type 0} (seen : S → SourceView) where
   -- sources were had as the first fact says it, none of which was read before; each gave an export, and the rows of all of
@@ -34,13 +33,15 @@ module _ {S : Type 0} (seen : S → SourceView) where
     pub written : IsWritten table
     pub told : IsTold table
 
-  -- it was written, and nothing else
-  abbrev pub WritesMerged : (List S → Type 0) → PlanValue → Output → Option (List ℕ) → Option (List ℕ) → (Table → Type 0) → Type 0
-  WritesMerged AreHad plan output old new IsTold = EndsMerged AreHad plan (Writes plan output old new) IsTold
-
-  -- the same with the names that elements have under files
-  abbrev pub WritesMergedUnder : List Known → (List S → Type 0) → PlanValue → Output → Option (List ℕ) → Option (List ℕ) → (Table → Type 0) → Type 0
-  WritesMergedUnder known AreHad plan output old new IsTold = EndsMerged AreHad plan (WritesUnder known plan output old new) IsTold
+  -- what the status of a merge of the files of these names says
+  pub record RunsMerge (AreHad : List S → Type 0) (plan : PlanValue) (names : List (List ℕ)) (telling : Telling) (IsWritten : Table → Type 0) (IsUntouched : Type 0) (AreTold : List ℕ → Type 0) (status : ℕ) : Type 0 where
+    pub statuses : (status ≡ number_of ends.Well) ⊎ (status ≡ number_of ends.NotOpened) ⊎ (status ≡ number_of ends.Failed)
+    -- how many files and rows there are was told, and nothing else
+    pub table : status ≡ number_of ends.Well → EndsMerged AreHad plan IsWritten (λ table. AreTold (merge_lines telling names table))
+    -- nothing was written unless all were opened, and the one that can't be was told;
+    pub not_opened : status ≡ number_of ends.NotOpened → IsUntouched × TellsNotMerged names telling AreTold status
+    -- nor unless all were merged, and the fault was told; else the table was had, and the fault of the export told
+    pub failed : status ≡ number_of ends.Failed → (IsUntouched × TellsNotMerged names telling AreTold status) ⊎ (((table : Table) × IsMerged AreHad plan table) × TellsNotExported names telling AreTold)
 
   -- the export of a source that was had as the first fact says it, and not read before, is added
   pub record AddsFile (IsHad : S → Type 0) (old new : Merging) : Type 0 where

@@ -1,14 +1,12 @@
 //! Merging the exports in files.
 
-ghost use Rattle.std.specs.Prelude.{◌≡◌, ◌⊎◌, ℕ, List, map, IfErr, IfOk, OnOk};
-ghost use Rattle.exit_status.specs.Statuses.{number_of};
+ghost use Rattle.std.specs.Prelude.{◌≡◌, ℕ, List, map, IfErr, IfOk, OnOk};
 ghost use Rattle.flow_table.specs.Fitting.{FitsPlan};
-ghost use Rattle.flow_table.specs.declared.table.Table.{Table as TableValue};
 ghost use Rattle.run_reports.specs.OpeningLines.{if_verbose};
 ghost use Rattle.run_reports.specs.Told.{AreTold};
+ghost use Rattle.collectd_output.specs.TableTexts.{Writes, WritesUnder};
 ghost use Rattle.collectd_merge.specs.MergeLines.{file_opened_line, files_opened_lines};
-ghost use Rattle.collectd_merge.specs.Merges.{AddsFile, IsMerged, IsNotAdded, StopsMerge, WritesMerged, WritesMergedUnder};
-ghost use Rattle.collectd_merge.specs.MergesTold.{merge_lines, TellsNotExported, TellsNotMerged};
+ghost use Rattle.collectd_merge.specs.Merges.{AddsFile, IsMerged, IsNotAdded, RunsMerge, StopsMerge};
 ghost use Rattle.collectd_inputs.specs.Had.{AreOpened, IsOpened};
 
 use crate::not_merged::NotMerged;
@@ -41,41 +39,19 @@ pub fn run_merge<S: Source + Drop, O: OpenSource<S>, W: Write, E: WriteLines>(
     out: &mut W,
     err: &mut E,
 ) -> u8
-    ensures statuses { (result ≡ number_of Status.Well) ⊎ (result ≡ number_of Status.NotOpened)
-        ⊎ (result ≡ number_of Status.Failed) }
     // The source of each path, in their order, each opened once, gave an export; the rows of all of them,
-    // added up, were written, and nothing else; how many files and rows there are was told, and nothing else.
-    ensures table { result ≡ number_of Status.Well
-        → WritesMerged S.seen (AreOpened (λ path. O.opens files.old path.now)
+    // added up, were written, and nothing else; or what kept them from it was told.
+    ensures runs { RunsMerge S.seen (AreOpened (λ path. O.opens files.old path.now)
         paths.now (O.coming files.old) (O.coming files.new))
-        plan.now output (W.contents out.old) (W.contents out.new)
-        (λ table. AreTold (E.contents err.old) (E.contents err.new) (E.failed err.new)
-        (merge_lines NOTHING_MORE (map (λ path. path.now) paths.now) table)) }
-    // Nothing was written unless all were opened, and the one that can't be was told;
-    ensures not_opened { result ≡ number_of Status.NotOpened → (out.new ≡ out.old)
-        × TellsNotMerged (map (λ path. path.now) paths.now) NOTHING_MORE
+        plan.now (map (λ path. path.now) paths.now) NOTHING_MORE
+        (Writes plan.now output (W.contents out.old) (W.contents out.new)) (out.new ≡ out.old)
         (AreTold (E.contents err.old) (E.contents err.new) (E.failed err.new)) result }
-    // nor unless all were merged, and the fault was told; else the table was had, and the fault of the export told.
-    ensures failed { result ≡ number_of Status.Failed → ((out.new ≡ out.old)
-        × TellsNotMerged (map (λ path. path.now) paths.now) NOTHING_MORE
-        (AreTold (E.contents err.old) (E.contents err.new) (E.failed err.new)) result)
-        ⊎ (((table : TableValue) × IsMerged S.seen (AreOpened (λ path. O.opens files.old path.now)
-        paths.now (O.coming files.old) (O.coming files.new)) plan.now table)
-        × TellsNotExported (map (λ path. path.now) paths.now) NOTHING_MORE
-        (AreTold (E.contents err.old) (E.contents err.new) (E.failed err.new))) }
     ensures kept { E.failed err.old → E.failed err.new }
 {
     let elements = Elements::built_in(alloc);
+    let telling = NOTHING_MORE;
     run_merge_in_full(
-        files,
-        alloc,
-        paths,
-        &elements,
-        plan,
-        output,
-        NOTHING_MORE,
-        out,
-        err,
+        files, alloc, paths, &elements, plan, output, telling, out, err,
     )
 }
 
@@ -93,28 +69,14 @@ pub fn run_merge_in_full<S: Source + Drop, O: OpenSource<S>, W: Write, E: WriteL
     out: &mut W,
     err: &mut E,
 ) -> u8
-    ensures statuses { (result ≡ number_of Status.Well) ⊎ (result ≡ number_of Status.NotOpened)
-        ⊎ (result ≡ number_of Status.Failed) }
     // The source of each path, in their order, each opened once, gave an export; the rows of all of them,
-    // added up, were written, and nothing else; how many files and rows there are was told, and nothing else.
-    ensures table { result ≡ number_of Status.Well
-        → WritesMergedUnder S.seen elements.now (AreOpened (λ path. O.opens files.old path.now)
+    // added up, were written, and nothing else; or what kept them from it was told.
+    ensures runs { RunsMerge S.seen (AreOpened (λ path. O.opens files.old path.now)
         paths.now (O.coming files.old) (O.coming files.new))
-        plan.now output (W.contents out.old) (W.contents out.new)
-        (λ table. AreTold (E.contents err.old) (E.contents err.new) (E.failed err.new)
-        (merge_lines telling (map (λ path. path.now) paths.now) table)) }
-    // Nothing was written unless all were opened, and the one that can't be was told;
-    ensures not_opened { result ≡ number_of Status.NotOpened → (out.new ≡ out.old)
-        × TellsNotMerged (map (λ path. path.now) paths.now) telling
+        plan.now (map (λ path. path.now) paths.now) telling
+        (WritesUnder elements.now plan.now output (W.contents out.old) (W.contents out.new))
+        (out.new ≡ out.old)
         (AreTold (E.contents err.old) (E.contents err.new) (E.failed err.new)) result }
-    // nor unless all were merged, and the fault was told; else the table was had, and the fault of the export told.
-    ensures failed { result ≡ number_of Status.Failed → ((out.new ≡ out.old)
-        × TellsNotMerged (map (λ path. path.now) paths.now) telling
-        (AreTold (E.contents err.old) (E.contents err.new) (E.failed err.new)) result)
-        ⊎ (((table : TableValue) × IsMerged S.seen (AreOpened (λ path. O.opens files.old path.now)
-        paths.now (O.coming files.old) (O.coming files.new)) plan.now table)
-        × TellsNotExported (map (λ path. path.now) paths.now) telling
-        (AreTold (E.contents err.old) (E.contents err.new) (E.failed err.new))) }
     ensures kept { E.failed err.old → E.failed err.new }
 {
     let table = match merge_files(files, alloc, paths, plan, telling, err) {

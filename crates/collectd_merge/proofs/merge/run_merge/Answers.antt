@@ -1,12 +1,7 @@
 use Rattle.collectd_output.proofs.UnderFiles.{written_without}
+use Rattle.collectd_merge.proofs.Ended.{merges_so}
 use Rattle.collectd_merge.proofs.merge.run_merge.Goals as goal
 
-pub returns-clause-table : goal.returns-clause-table
-returns-clause-table g c = λ zero.
-    let w = c.run_merge_in_full.ensures.table zero in
-    record {
-      table = w.table;
-      merged = w.merged;
-      written = written_without c.built_in-elements.result c.args.plan.now c.args.output _ _ w.table c.built_in-elements.ensures w.written;
-      told = w.told;
-    }
+pub returns-clause-runs : goal.returns-clause-runs
+returns-clause-runs g c =
+    merges_so _ _ _ _ _ _ _ _ _ _ (λ table. written_without c.built_in-elements.result c.args.plan.now c.args.output _ _ table c.built_in-elements.ensures) c.run_merge_in_full.ensures.runs
