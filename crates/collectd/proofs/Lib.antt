@@ -1,3 +1,4 @@
 mod Ran
 mod LinesTold
 mod FullRan
+mod Collected

@@ -1,6 +1,6 @@
 -- Lines that were told one after another.
-use Rattle.std.proofs.Common.{◌≡◌, ℕ, ◌+◌, List, [], ◌∷◌, ◌++◌, Option, Some, None, Result, Ok, Err, IfSome, refl, ap, ap₂, ◌∙◌, subst, inl, inr, append-nil, false, arith}
-use Rattle.std.specs.Prelude.{◌⊎◌, OnOk, OnErr}
+use Rattle.std.proofs.Common.{◌≡◌, ℕ, ◌+◌, List, [], ◌∷◌, ◌++◌, Option, Some, None, Result, Ok, Err, IfSome, refl, ap, ap₂, ◌∙◌, subst, inl, inr, append-nil, false}
+use Rattle.std.specs.Prelude.{OnOk, OnErr}
 use Rattle.std.specs.List.{flat_map, enumerate_from}
 use Rattle.std.specs.Io.KnownBytes.{Appends}
 use Rattle.std.proofs.KnownBytes.{Appends-trans}
@@ -13,22 +13,20 @@ use Rattle.flow_table.specs.declared.tally.Tally.{Tally}
 use Rattle.flow_table.specs.Plans.{PlanValue}
 use Rattle.run_reports.specs.MissingLines.{missing_told}
 use Rattle.run_reports.specs.OpeningLines.{if_verbose, opened_line}
-use Rattle.run_reports.specs.ReportLines.{export_fault_line, report_lines, tally_line}
+use Rattle.run_reports.specs.ReportLines.{report_lines, tally_line}
 use Rattle.run_reports.specs.Told.{AreTold}
 use Rattle.run_reports.specs.declared.origin.Origin.{Origin}
 use Rattle.run_reports.specs.declared.telling.Telling.{Telling}
 use Rattle.run_reports.proofs.LinesTold.{both_told, told_then}
 use Rattle.run_reports.proofs.Untold.{told_plain}
-use Rattle.collectd.specs.CollectLines.{collect_fault_line}
 use Rattle.collectd_inputs.specs.InputsTold.{opened_lines, StopsAt, TellsPeers}
 use Rattle.collectd.specs.FullRuns.{table_told}
 use Rattle.collectd.specs.Told.{run_lines, TellsFault}
 
 -- a fault, behind what was told before
-pub fault_told : (old mid new : Option (List ℕ)) (Before After IsUntouched : Type 0) (xs : List ℕ) (behind : List ℕ → List ℕ) → AreTold old mid Before xs → TellsFault IsUntouched (λ line. AreTold mid new After (behind line)) → (Before → After)
-    → TellsFault IsUntouched (λ line. AreTold old new After (xs ++ behind line))
-fault_told old mid new Before After IsUntouched xs behind first (inl collect) kept = inl (collect.0, collect.1, both_told old mid new Before After xs _ first collect.2 kept)
-fault_told old mid new Before After IsUntouched xs behind first (inr export) kept = inr (export.0, both_told old mid new Before After xs _ first export.1 kept)
+pub fault_behind : (IsUntouched : Type 0) (Told AreTold : List ℕ → Type 0) → ((line : List ℕ) → Told line → AreTold line) → TellsFault IsUntouched Told → TellsFault IsUntouched AreTold
+fault_behind IsUntouched Told AreTold behind (inl collect) = inl (collect.0, collect.1, behind _ collect.2)
+fault_behind IsUntouched Told AreTold behind (inr export) = inr (export.0, behind _ export.1)
 
 -- what is told of a table, by its tally and by what records lack
 pub table_lines : {T E : Type 0} (answer : Result T E) (telling : Telling) (known : List Known) (plan : PlanValue) (table : Table) (tally : Tally) (missing : Missing) (old mid new : Option (List ℕ)) → tally ≡ table.tally → missing ≡ table.missing
@@ -39,7 +37,7 @@ table_lines (Ok x) telling known plan table tally missing old mid new is_tally i
 table_lines (Err e) telling known plan table tally missing old mid new is_tally is_missing first rest = tt
 
 -- without options nothing is told of it
-none_opened : (telling : Telling) → telling.verbose ≡ false → (n : ℕ) (origins : List Origin) → flat_map (λ (x : ℕ × Origin). if_verbose telling (opened_line x.0 x.1)) (enumerate_from n origins) ≡ []
+pub none_opened : (telling : Telling) → telling.verbose ≡ false → (n : ℕ) (origins : List Origin) → flat_map (λ (x : ℕ × Origin). if_verbose telling (opened_line x.0 x.1)) (enumerate_from n origins) ≡ []
 none_opened telling plain n [] = refl
 none_opened telling plain n (o ∷ origins) =
     let nothing : if_verbose telling (opened_line n o) ≡ [] = rw plain refl in
@@ -68,19 +66,7 @@ pub refusal_told : {X : Type 0} (C : Type 0) (fault : Option X) (answered : X) (
 refusal_told C None answered Status Untouched Told is status untouched told = tt
 refusal_told C (Some x) answered Status Untouched Told is status untouched told = let same : answered ≡ x = cc is in (status, untouched, subst Told same told)
 
--- a fault, where nothing else is told
-pub plain_fault : (telling : Telling) → telling.verbose ≡ false → (origins : List Origin) (IsUntouched : Type 0) (Told : List ℕ → Type 0) → TellsFault IsUntouched (λ line. Told (opened_lines telling origins ++ line)) → TellsFault IsUntouched Told
-plain_fault telling plain origins IsUntouched Told (inl collect) =
-    inl (collect.0, collect.1, subst (λ (l : List ℕ). Told (l ++ collect_fault_line collect.0)) (none_opened telling plain 1 origins) collect.2)
-plain_fault telling plain origins IsUntouched Told (inr export) =
-    inr (export.0, subst (λ (l : List ℕ). Told (l ++ export_fault_line export.0)) (none_opened telling plain 1 origins) export.1)
-
--- ---- a status that a run doesn't have
-
-pub never_two : {P : Type 0} (status : ℕ) → (status ≡ 0) ⊎ (status ≡ 1) ⊎ (status ≡ 3) → status ≡ 2 → P
-never_two status (inl zero) two = absurd (omega (arith, zero, two))
-never_two status (inr (inl one)) two = absurd (omega (arith, one, two))
-never_two status (inr (inr three)) two = absurd (omega (arith, three, two))
+-- ---- what stops a run
 
 -- a write behind the path at which a run stops
 pub stops_then : {T E : Type 0} (names : List (List ℕ)) (telling : Telling) (old mid new : Option (List ℕ)) (Before After : Type 0) (name ys : List ℕ) (answer : Result T E)

@@ -1,5 +1,5 @@
 -- What a run wrote, from the headline and from what the export wrote.
-use Rattle.std.proofs.Common.{◌≡◌, ℕ, true, false, List, [], All, Option, Some, None, refl, subst, inl, inr}
+use Rattle.std.proofs.Common.{◌≡◌, ℕ, true, false, List, [], All, Option, Some, None, refl, subst, inr}
 use Rattle.std.specs.Prelude.{◌↔◌, ◌⊎◌, is_some, IfSome}
 use Rattle.std.specs.Option.{ForSome}
 use Rattle.ipfix_message.specs.declared.record.DataRecord.{DataRecord}
@@ -40,11 +40,6 @@ module _ {S : Type 0} (seen : S → SourceView) where
       }
 
 -- ---- a run by a caller that has one status more, for what can't be opened
-
-pub one_of_four : (status : ℕ) → (status ≡ 0) ⊎ (status ≡ 1) ⊎ (status ≡ 3) → (status ≡ 0) ⊎ (status ≡ 1) ⊎ (status ≡ 2) ⊎ (status ≡ 3)
-one_of_four status (inl zero) = inl zero
-one_of_four status (inr (inl one)) = inr (inl one)
-one_of_four status (inr (inr three)) = inr (inr (inr three))
 
 refused_if : {X : Type 0} (fault : Option X) (status : ℕ) (Untouched : Type 0) (Told : X → Type 0) → IfSome fault (λ x. (status ≡ 3) × Untouched × Told x) → IfSome fault (λ x. ((status ≡ 2) ⊎ (status ≡ 3)) × Untouched)
 refused_if None status Untouched Told refused = tt

@@ -1,16 +1,14 @@
 //! Accepting connections, and collecting from them.
 
-ghost use Rattle.std.specs.Prelude.{◌≡◌, ◌≢◌, ◌⊎◌, ◌<◌, IfSome};
+ghost use Rattle.std.specs.Prelude.{◌≡◌, ◌<◌, IfSome};
 ghost use Rattle.std.specs.Duration.{as_nanos};
 ghost use Rattle.exit_status.specs.Statuses.{number_of};
-ghost use Rattle.flow_collect.specs.Refusals.{fault_of_arguments};
 ghost use Rattle.run_reports.specs.OpeningLines.{if_verbose, listening_line};
 ghost use Rattle.run_reports.specs.Told.{AreTold};
-ghost use Rattle.collectd_output.specs.TableTexts.{WritesUnder};
 ghost use Rattle.collectd_inputs.specs.Origins.{ArePeers};
-ghost use Rattle.collectd.specs.FullRuns.{RunsInFull};
 ghost use Rattle.collectd_inputs.specs.Had.{AreAccepted};
-ghost use Rattle.collectd.specs.Told.{TellsFailedRun, TellsNotAccepted, TellsRun};
+ghost use Rattle.collectd.specs.Collects.{CollectsInFull};
+ghost use Rattle.collectd.specs.Told.{TellsNotAccepted};
 
 use crate::full_run::run_in_full;
 use collectd_inputs::{AcceptedAll, Listener, accept_all};
@@ -29,7 +27,6 @@ use std::thread::Threads;
 use std::time::Duration;
 
 /// Accepts the connections and runs them, whatever the pool.
-#[tactic(auto, using(crate::proofs::FullRan::runs_in_full))]
 pub fn run_connections<
     S: Source + Send + Drop,
     L: Listener<S>,
@@ -53,50 +50,27 @@ pub fn run_connections<
     out: &mut W,
     err: &mut E,
 ) -> u8
-    ensures statuses { (result ≡ number_of Status.Well) ⊎ (result ≡ number_of Status.SessionFault)
-        ⊎ (result ≡ number_of Status.NotOpened) ⊎ (result ≡ number_of Status.Failed) }
-    ensures accepted { result ≢ number_of Status.NotOpened
-        → RunsInFull S.seen
+    ensures collects { CollectsInFull S.seen
         (AreAccepted (L.gives listener.old idle) count
         (L.coming listener.old) (L.coming listener.new))
-        telling.strict plan.now pool result
-        (λ fulls table.
-        WritesUnder elements.now plan.now output (W.contents out.old) (W.contents out.new) table
-        × TellsRun (ArePeers count) telling elements.now plan.now
-        (if_verbose telling (listening_line addr.now count))
-        (AreTold (E.contents err.old) (E.contents err.new) (E.failed err.new)) fulls table) }
+        (TellsNotAccepted telling (if_verbose telling (listening_line addr.now count)) addr.now) count
+        plan.now pool output W.contents out.old out.new
+        (AreTold (E.contents err.old) (E.contents err.new) (E.failed err.new)) result
+        elements.now telling (ArePeers count)
+        (if_verbose telling (listening_line addr.now count)) }
     ensures closed { L.is_closed listener.new }
-    ensures not_accepted { result ≡ number_of Status.NotOpened → out.new ≡ out.old }
-    ensures refused { IfSome (fault_of_arguments pool count)
-        (λ fault. ((result ≡ number_of Status.NotOpened) ⊎ (result ≡ number_of Status.Failed))
-        × (out.new ≡ out.old)) }
     ensures no_time { IfSome idle
         (λ limit. as_nanos limit ≡ 0 → 0 < count → result ≡ number_of Status.NotOpened) }
-    ensures failed { result ≡ number_of Status.Failed
-        → TellsFailedRun (ArePeers count) telling
-        (if_verbose telling (listening_line addr.now count)) (out.new ≡ out.old)
-        (AreTold (E.contents err.old) (E.contents err.new) (E.failed err.new)) }
-    // Each connection that was had was told, and then the address that gives none.
-    ensures stopped { result ≡ number_of Status.NotOpened
-        → TellsNotAccepted telling (if_verbose telling (listening_line addr.now count)) addr.now
-        (AreTold (E.contents err.old) (E.contents err.new) (E.failed err.new)) }
     ensures kept { E.failed err.old → E.failed err.new }
 {
     let _ = write_listening(telling, addr, count, err);
     match accept_all(rt, alloc, listener, count, idle, progress, telling, err) {
-        Ok(AcceptedAll { sources, origins }) => run_in_full(
-            rt,
-            alloc,
-            sources.into_sources(),
-            &origins,
-            elements,
-            plan,
-            pool,
-            output,
-            telling,
-            out,
-            err,
-        ),
+        Ok(AcceptedAll { sources, origins }) => {
+            let sources = sources.into_sources();
+            run_in_full(
+                rt, alloc, sources, &origins, elements, plan, pool, output, telling, out, err,
+            )
+        }
         Err(reason) => {
             let _ = write_not_had_because(telling, "listen", addr, reason, err);
             Status::NotOpened.number()

@@ -1,17 +1,13 @@
 //! Collecting from files.
 
-ghost use Rattle.std.specs.Prelude.{◌≡◌, ◌≢◌, ◌⊎◌, ◌++◌, [], length, map, IfNone, IfSome};
+ghost use Rattle.std.specs.Prelude.{◌≡◌, [], length, map, IfNone};
 ghost use Rattle.std.specs.List.{AllZip};
-ghost use Rattle.exit_status.specs.Statuses.{number_of};
-ghost use Rattle.flow_collect.specs.Refusals.{fault_of_arguments};
-ghost use Rattle.run_reports.specs.ReportLines.{report_lines, tally_line};
 ghost use Rattle.run_reports.specs.Told.{AreTold};
-ghost use Rattle.collectd_output.specs.TableTexts.{Writes, WritesUnder};
-ghost use Rattle.collectd.specs.Runs.{RunsSources};
 ghost use Rattle.collectd_inputs.specs.Origins.{IsFileNamed};
-ghost use Rattle.collectd.specs.FullRuns.{fault_of_pool, RunsInFull};
+ghost use Rattle.collectd.specs.FullRuns.{fault_of_pool};
 ghost use Rattle.collectd_inputs.specs.Had.{AreOpened};
-ghost use Rattle.collectd.specs.Told.{TellsFailedRun, TellsFault, TellsNotOpened, TellsRun};
+ghost use Rattle.collectd.specs.Collects.{CollectsAlone, CollectsInFull, RefusesPool};
+ghost use Rattle.collectd.specs.Told.{TellsNotOpened};
 
 use super::paths::run_paths;
 use crate::collect_fault::write_collect_fault;
@@ -54,45 +50,20 @@ pub fn run_files<
     out: &mut W,
     err: &mut E,
 ) -> u8
-    ensures statuses { (result ≡ number_of Status.Well) ⊎ (result ≡ number_of Status.SessionFault)
-        ⊎ (result ≡ number_of Status.NotOpened) ⊎ (result ≡ number_of Status.Failed) }
-    // The sources of the paths, in their order, each opened once, were run, as `run` says it, and no others.
-    ensures opened { result ≢ number_of Status.NotOpened
-        → RunsSources S.seen (AreOpened (λ path. O.opens files.old path.now)
+    // The sources of the paths, in their order, each opened once, were run, as `run` says it, and no others;
+    // or each file that was had was told, and then the path that can't be opened.
+    ensures collects { CollectsAlone S.seen
+        (AreOpened (λ path. O.opens files.old path.now)
         paths.now (O.coming files.old) (O.coming files.new))
-        plan.now pool result
-        (λ reports table. Writes plan.now output (W.contents out.old) (W.contents out.new) table
-        × AreTold (E.contents err.old) (E.contents err.new) (E.failed err.new)
-        (report_lines reports ++ tally_line table.tally)) }
-    // Nothing was written unless all were opened.
-    ensures not_opened { result ≡ number_of Status.NotOpened → out.new ≡ out.old }
-    // Nothing was collected if the arguments have a fault.
-    ensures refused { IfSome (fault_of_arguments pool (length paths.now))
-        (λ fault. ((result ≡ number_of Status.NotOpened) ⊎ (result ≡ number_of Status.Failed))
-        × (out.new ≡ out.old)) }
-    // The line of a fault alone was told; and nothing was written, if it is one of collecting.
-    ensures failed { result ≡ number_of Status.Failed → TellsFault (out.new ≡ out.old)
-        (AreTold (E.contents err.old) (E.contents err.new) (E.failed err.new)) }
-    // Each file that was had was told, and then the path that can't be opened.
-    ensures stopped { result ≡ number_of Status.NotOpened
-        → TellsNotOpened (map (λ path. path.now) paths.now) NOTHING_MORE
-        (AreTold (E.contents err.old) (E.contents err.new) (E.failed err.new)) }
+        (TellsNotOpened (map (λ path. path.now) paths.now) NOTHING_MORE) (length paths.now)
+        plan.now pool output W.contents out.old out.new
+        (AreTold (E.contents err.old) (E.contents err.new) (E.failed err.new)) result }
     ensures kept { E.failed err.old → E.failed err.new }
 {
     let elements = Elements::built_in(alloc);
+    let telling = NOTHING_MORE;
     run_paths(
-        rt,
-        alloc,
-        files,
-        paths,
-        &elements,
-        plan,
-        pool,
-        output,
-        progress,
-        NOTHING_MORE,
-        out,
-        err,
+        rt, alloc, files, paths, &elements, plan, pool, output, progress, telling, out, err,
     )
 }
 
@@ -121,38 +92,17 @@ pub fn run_files_in_full<
     out: &mut W,
     err: &mut E,
 ) -> u8
-    ensures statuses { (result ≡ number_of Status.Well) ⊎ (result ≡ number_of Status.SessionFault)
-        ⊎ (result ≡ number_of Status.NotOpened) ⊎ (result ≡ number_of Status.Failed) }
     // The sources of the paths, in their order, each opened once, were run, as `run_in_full` says it, and no
-    // others.
-    ensures opened { IfNone (fault_of_pool pool) (result ≢ number_of Status.NotOpened
-        → RunsInFull S.seen (AreOpened (λ path. O.opens files.old path.now)
+    // others; or each file that was had was told, and then the path that can't be opened.
+    ensures collects { IfNone (fault_of_pool pool) (CollectsInFull S.seen
+        (AreOpened (λ path. O.opens files.old path.now)
         paths.now (O.coming files.old) (O.coming files.new))
-        telling.strict plan.now pool result
-        (λ fulls table.
-        WritesUnder elements.now plan.now output (W.contents out.old) (W.contents out.new) table
-        × TellsRun (AllZip (λ path. IsFileNamed path.now) paths.now) telling elements.now
-        plan.now []
-        (AreTold (E.contents err.old) (E.contents err.new) (E.failed err.new)) fulls table)) }
-    // Nothing was written unless all were opened.
-    ensures not_opened { result ≡ number_of Status.NotOpened → out.new ≡ out.old }
-    // Nothing was collected if the arguments have a fault.
-    ensures refused { IfSome (fault_of_arguments pool (length paths.now))
-        (λ fault. ((result ≡ number_of Status.NotOpened) ⊎ (result ≡ number_of Status.Failed))
-        × (out.new ≡ out.old)) }
+        (TellsNotOpened (map (λ path. path.now) paths.now) telling) (length paths.now)
+        plan.now pool output W.contents out.old out.new
+        (AreTold (E.contents err.old) (E.contents err.new) (E.failed err.new)) result
+        elements.now telling (AllZip (λ path. IsFileNamed path.now) paths.now) []) }
     // No file is opened for a pool that has a fault.
-    ensures pool { IfSome (fault_of_pool pool)
-        (λ fault. (result ≡ number_of Status.Failed) × (out.new ≡ out.old)
-        × TellsFault (out.new ≡ out.old)
-        (AreTold (E.contents err.old) (E.contents err.new) (E.failed err.new))) }
-    // The line of a fault was told behind those of what was had; nothing was written, if it is one of collecting.
-    ensures failed { IfNone (fault_of_pool pool) (result ≡ number_of Status.Failed
-        → TellsFailedRun (AllZip (λ path. IsFileNamed path.now) paths.now) telling []
-        (out.new ≡ out.old)
-        (AreTold (E.contents err.old) (E.contents err.new) (E.failed err.new))) }
-    // Each file that was had was told, and then the path that can't be opened.
-    ensures stopped { result ≡ number_of Status.NotOpened
-        → TellsNotOpened (map (λ path. path.now) paths.now) telling
+    ensures pool { RefusesPool pool result (out.new ≡ out.old)
         (AreTold (E.contents err.old) (E.contents err.new) (E.failed err.new)) }
     ensures kept { E.failed err.old → E.failed err.new }
 {

@@ -1,18 +1,15 @@
 //! Collecting from connections.
 
-ghost use Rattle.std.specs.Prelude.{◌≡◌, ◌≢◌, ◌⊎◌, ◌<◌, ◌++◌, [], IfNone, IfSome};
+ghost use Rattle.std.specs.Prelude.{◌≡◌, ◌<◌, [], IfNone, IfSome};
 ghost use Rattle.std.specs.Duration.{as_nanos};
 ghost use Rattle.exit_status.specs.Statuses.{number_of};
-ghost use Rattle.flow_collect.specs.Refusals.{fault_of_arguments};
 ghost use Rattle.run_reports.specs.OpeningLines.{if_verbose, listening_line};
-ghost use Rattle.run_reports.specs.ReportLines.{report_lines, tally_line};
 ghost use Rattle.run_reports.specs.Told.{AreTold};
-ghost use Rattle.collectd_output.specs.TableTexts.{Writes, WritesUnder};
-ghost use Rattle.collectd.specs.Runs.{RunsSources};
 ghost use Rattle.collectd_inputs.specs.Origins.{ArePeers};
-ghost use Rattle.collectd.specs.FullRuns.{fault_of_pool, RunsInFull};
+ghost use Rattle.collectd.specs.FullRuns.{fault_of_pool};
 ghost use Rattle.collectd_inputs.specs.Had.{AreAccepted};
-ghost use Rattle.collectd.specs.Told.{TellsFailedRun, TellsFault, TellsNotAccepted, TellsRun};
+ghost use Rattle.collectd.specs.Collects.{CollectsAlone, CollectsInFull, RefusesPool};
+ghost use Rattle.collectd.specs.Told.{TellsNotAccepted};
 
 use super::connections::run_connections;
 use crate::collect_fault::write_collect_fault;
@@ -63,52 +60,25 @@ pub fn run_tcp<
     out: &mut W,
     err: &mut E,
 ) -> u8
-    ensures statuses { (result ≡ number_of Status.Well) ⊎ (result ≡ number_of Status.SessionFault)
-        ⊎ (result ≡ number_of Status.NotOpened) ⊎ (result ≡ number_of Status.Failed) }
-    // So many connections with this limit were accepted and run, as `run` says it, and no others.
-    ensures accepted { result ≢ number_of Status.NotOpened
-        → RunsSources S.seen
+    // So many connections with this limit were accepted and run, as `run` says it, and no others; or each that
+    // was had was told, and then the address that gives none.
+    ensures collects { CollectsAlone S.seen
         (AreAccepted (L.gives listener.old idle) count
         (L.coming listener.old) (L.coming listener.new))
-        plan.now pool result
-        (λ reports table. Writes plan.now output (W.contents out.old) (W.contents out.new) table
-        × AreTold (E.contents err.old) (E.contents err.new) (E.failed err.new)
-        (report_lines reports ++ tally_line table.tally)) }
+        (TellsNotAccepted NOTHING_MORE [] addr.now) count
+        plan.now pool output W.contents out.old out.new
+        (AreTold (E.contents err.old) (E.contents err.new) (E.failed err.new)) result }
     ensures closed { L.is_closed listener.new }
-    // Nothing was written unless all were accepted.
-    ensures not_accepted { result ≡ number_of Status.NotOpened → out.new ≡ out.old }
-    // Nothing was collected if the arguments have a fault.
-    ensures refused { IfSome (fault_of_arguments pool count)
-        (λ fault. ((result ≡ number_of Status.NotOpened) ⊎ (result ≡ number_of Status.Failed))
-        × (out.new ≡ out.old)) }
     // No connection can have a limit of no time.
     ensures no_time { IfSome idle
         (λ limit. as_nanos limit ≡ 0 → 0 < count → result ≡ number_of Status.NotOpened) }
-    // The line of a fault alone was told; and nothing was written, if it is one of collecting.
-    ensures failed { result ≡ number_of Status.Failed → TellsFault (out.new ≡ out.old)
-        (AreTold (E.contents err.old) (E.contents err.new) (E.failed err.new)) }
-    // Each connection that was had was told, and then the address that gives none.
-    ensures stopped { result ≡ number_of Status.NotOpened
-        → TellsNotAccepted NOTHING_MORE [] addr.now
-        (AreTold (E.contents err.old) (E.contents err.new) (E.failed err.new)) }
     ensures kept { E.failed err.old → E.failed err.new }
 {
     let elements = Elements::built_in(alloc);
+    let telling = NOTHING_MORE;
     run_connections(
-        rt,
-        alloc,
-        listener,
-        addr,
-        count,
-        idle,
-        &elements,
-        plan,
-        pool,
-        output,
-        progress,
-        NOTHING_MORE,
-        out,
-        err,
+        rt, alloc, listener, addr, count, idle, &elements, plan, pool, output, progress, telling,
+        out, err,
     )
 }
 
@@ -140,42 +110,22 @@ pub fn run_tcp_in_full<
     out: &mut W,
     err: &mut E,
 ) -> u8
-    ensures statuses { (result ≡ number_of Status.Well) ⊎ (result ≡ number_of Status.SessionFault)
-        ⊎ (result ≡ number_of Status.NotOpened) ⊎ (result ≡ number_of Status.Failed) }
-    // So many connections with this limit were accepted and run, as `run_in_full` says it, and no others.
-    ensures accepted { IfNone (fault_of_pool pool) (result ≢ number_of Status.NotOpened
-        → RunsInFull S.seen
+    // So many connections with this limit were accepted and run, as `run_in_full` says it, and no others; or
+    // each that was had was told, and then the address that gives none.
+    ensures collects { IfNone (fault_of_pool pool) (CollectsInFull S.seen
         (AreAccepted (L.gives listener.old idle) count
         (L.coming listener.old) (L.coming listener.new))
-        telling.strict plan.now pool result
-        (λ fulls table.
-        WritesUnder elements.now plan.now output (W.contents out.old) (W.contents out.new) table
-        × TellsRun (ArePeers count) telling elements.now plan.now
-        (if_verbose telling (listening_line addr.now count))
-        (AreTold (E.contents err.old) (E.contents err.new) (E.failed err.new)) fulls table)) }
+        (TellsNotAccepted telling (if_verbose telling (listening_line addr.now count)) addr.now) count
+        plan.now pool output W.contents out.old out.new
+        (AreTold (E.contents err.old) (E.contents err.new) (E.failed err.new)) result
+        elements.now telling (ArePeers count)
+        (if_verbose telling (listening_line addr.now count))) }
     ensures closed { L.is_closed listener.new }
-    // Nothing was written unless all were accepted.
-    ensures not_accepted { result ≡ number_of Status.NotOpened → out.new ≡ out.old }
-    // Nothing was collected if the arguments have a fault.
-    ensures refused { IfSome (fault_of_arguments pool count)
-        (λ fault. ((result ≡ number_of Status.NotOpened) ⊎ (result ≡ number_of Status.Failed))
-        × (out.new ≡ out.old)) }
     // No connection can have a limit of no time.
     ensures no_time { IfNone (fault_of_pool pool) (IfSome idle
         (λ limit. as_nanos limit ≡ 0 → 0 < count → result ≡ number_of Status.NotOpened)) }
     // No connection is accepted for a pool that has a fault.
-    ensures pool { IfSome (fault_of_pool pool)
-        (λ fault. (result ≡ number_of Status.Failed) × (out.new ≡ out.old)
-        × TellsFault (out.new ≡ out.old)
-        (AreTold (E.contents err.old) (E.contents err.new) (E.failed err.new))) }
-    // The line of a fault was told behind those of what was had; nothing was written, if it is one of collecting.
-    ensures failed { IfNone (fault_of_pool pool) (result ≡ number_of Status.Failed
-        → TellsFailedRun (ArePeers count) telling
-        (if_verbose telling (listening_line addr.now count)) (out.new ≡ out.old)
-        (AreTold (E.contents err.old) (E.contents err.new) (E.failed err.new))) }
-    // Each connection that was had was told, and then the address that gives none.
-    ensures stopped { result ≡ number_of Status.NotOpened
-        → TellsNotAccepted telling (if_verbose telling (listening_line addr.now count)) addr.now
+    ensures pool { RefusesPool pool result (out.new ≡ out.old)
         (AreTold (E.contents err.old) (E.contents err.new) (E.failed err.new)) }
     ensures kept { E.failed err.old → E.failed err.new }
 {

@@ -1,15 +1,10 @@
-use Rattle.std.proofs.Common.{List, ℕ, refl, subst}
-use Rattle.run_reports.specs.Told.{AreTold}
+use Rattle.std.proofs.Common.{refl}
 use Rattle.run_reports.specs.declared.telling.TheConstants.{NOTHING_MORE}
 use Rattle.collectd_output.proofs.UnderFiles.{written_without}
-use Rattle.collectd.proofs.FullRan.{runs_short}
-use Rattle.collectd.proofs.LinesTold.{plain_fault, plain_run}
+use Rattle.collectd.proofs.Collected.{collects_alone}
 use Rattle.collectd.proofs.commands.tcp.run_tcp.Goals as goal
 
-pub returns-clause-accepted : goal.returns-clause-accepted
-returns-clause-accepted g c = λ ran.
-    runs_short _ _ _ c.args.plan.now c.args.pool c.run_connections.result _ _ refl
-    (λ fulls table ends. (written_without c.built_in-elements.result c.args.plan.now c.args.output _ _ table c.built_in-elements.ensures ends.0, subst (λ (l : List ℕ). AreTold (g.E.WriteLines.contents c.args.err.now) (g.E.WriteLines.contents c.run_connections.new.err) (g.E.WriteLines.failed c.run_connections.new.err) l) (plain_run NOTHING_MORE refl refl c.built_in-elements.result c.args.plan.now ends.1.origins fulls table) ends.1.told)) (c.run_connections.ensures.accepted ran)
-
-pub returns-clause-failed : goal.returns-clause-failed
-returns-clause-failed g c = λ failed. let told = c.run_connections.ensures.failed failed in plain_fault NOTHING_MORE refl told.origins _ (AreTold (g.E.WriteLines.contents c.args.err.now) (g.E.WriteLines.contents c.run_connections.new.err) (g.E.WriteLines.failed c.run_connections.new.err)) told.told
+pub returns-clause-collects : goal.returns-clause-collects
+returns-clause-collects g c =
+    collects_alone _ _ _ _ NOTHING_MORE _ _ _ _ _ _ _ _ _ _ _ refl refl refl refl
+    (λ table. written_without c.built_in-elements.result c.args.plan.now c.args.output _ _ table c.built_in-elements.ensures) c.run_connections.ensures.collects

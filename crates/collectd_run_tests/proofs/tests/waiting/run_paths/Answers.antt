@@ -3,5 +3,5 @@ use Rattle.collectd_run_tests.proofs.tests.waiting.run_paths.Goals as goal
 
 pub returns : goal.returns
 returns g c = λ ran.
-    let had = (c.run_files.ensures.opened ran).had in
-    ((c.run_files.ensures.opened ran).sources, had.came, one_for_each _ _ _ had.one_each)
+    let runs = c.run_files.ensures.collects.ran ran in
+    (runs.sources, runs.had.came, one_for_each _ _ _ runs.had.one_each)
