@@ -31,6 +31,8 @@ pub fn read_number(kind: Kind, octets: &[u8]) -> Option<u64>
 }
 
 // The number that 1 to 8 octets are. The lengths that most have are read in one step, the others copied.
+// (A call: where it stands in line, what reads a record for the dump takes a quarter more time.)
+#[inline(never)]
 fn whole_number(octets: &[u8]) -> u64
     requires some { 0 < length octets.now }
     requires few { length octets.now ≤ 8 }
