@@ -1,5 +1,5 @@
 -- A line of a row, field by field.
-use Rattle.std.proofs.Common.{◌≡◌, ℕ, ◌+◌, ◌-◌, ◌*◌, List, [], ◌∷◌, ◌++◌, map, refl, sym, ap, ◌∙◌, append_assoc}
+use Rattle.std.proofs.Common.{◌≡◌, ℕ, List, [], ◌∷◌, ◌++◌, map, refl, sym, ap, ◌∙◌, append_assoc}
 use Rattle.std.specs.Fmt.{decimal}
 use Rattle.std.specs.List.{flat_map, join_with_byte}
 use Rattle.std.proofs.lemmas.List.{append-nil}
@@ -10,7 +10,7 @@ use Rattle.flow_table.specs.SameTables.{RowValue, value_of}
 use Rattle.flow_table.specs.declared.table.Row.{Row}
 use Rattle.ipfix_elements.specs.declared.cell.Cell.{Cell}
 use Rattle.flow_export.specs.CsvText.{first_of, last_of, row_line}
-use Rattle.flow_export.specs.Written.{next_cell, next_number}
+use Rattle.flow_export.specs.Written.{interval_texts, next_cell, next_number}
 
 abbrev pub next : List ℕ → List ℕ
 next t = 44 ∷ t
@@ -49,16 +49,15 @@ row_parts plan row =
 pub six_parts : (o p q r s t u a b c d e f : List ℕ) → p ≡ o ++ a → q ≡ p ++ b → r ≡ q ++ c → s ≡ r ++ d → t ≡ s ++ e → u ≡ t ++ f → u ≡ o ++ (a ++ (b ++ (c ++ (d ++ (e ++ f)))))
 six_parts o p q r s t u a b c d e f is_p is_q is_r is_s is_t is_u = rw (is_u, is_t, is_s, is_r, is_q, is_p) (simp append_assoc)
 
--- a line whose fields were appended one after another
-pub line_appended : (plan : PlanValue) (row : Row) (l : ℕ) (cs : List Cell) (vs o p q r s t u : List ℕ) → l ≡ plan.length → cs ≡ row.key.items → vs ≡ row.sums.items
-    → p ≡ o ++ decimal (row.interval * l) → q ≡ p ++ next_number (row.interval * l + l - 1) → r ≡ q ++ flat_map next_cell cs → s ≡ r ++ flat_map next_number vs → t ≡ s ++ next_number row.flows
-    → u ≡ t ++ 10 ∷ [] → u ≡ o ++ row_line plan (value_of row)
-line_appended plan row l cs vs o p q r s t u is_l is_cs is_vs is_p is_q is_r is_s is_t is_u =
-    let first : decimal (row.interval * l) ≡ decimal (first_of plan (value_of row)) = ap (λ (n : ℕ). decimal (row.interval * n)) is_l in
-    let last : next_number (row.interval * l + l - 1) ≡ next_number (last_of plan (value_of row)) = ap (λ (n : ℕ). next_number (row.interval * n + n - 1)) is_l in
+-- a line whose fields behind the first two were appended one after another
+pub line_appended : (plan : PlanValue) (row : Row) (cs : List Cell) (vs o q r s t u : List ℕ) → cs ≡ row.key.items → vs ≡ row.sums.items → q ≡ o ++ interval_texts plan row.interval
+    → r ≡ q ++ flat_map next_cell cs → s ≡ r ++ flat_map next_number vs → t ≡ s ++ next_number row.flows → u ≡ t ++ 10 ∷ [] → u ≡ o ++ row_line plan (value_of row)
+line_appended plan row cs vs o q r s t u is_cs is_vs is_q is_r is_s is_t is_u =
+    let first = decimal (first_of plan (value_of row)) in
+    let last = next_number (last_of plan (value_of row)) in
     let cells : flat_map next_cell cs ≡ flat_map next_cell row.key.items = ap (flat_map next_cell) is_cs in
     let sums : flat_map next_number vs ≡ flat_map next_number row.sums.items = ap (flat_map next_number) is_vs in
-    six_parts o p q r s t u (decimal (first_of plan (value_of row))) (next_number (last_of plan (value_of row))) (flat_map next_cell row.key.items) (flat_map next_number row.sums.items)
-    (next_number row.flows) (10 ∷ []) (is_p ∙ ap (λ (x : List ℕ). o ++ x) first) (is_q ∙ ap (λ (x : List ℕ). p ++ x) last) (is_r ∙ ap (λ (x : List ℕ). q ++ x) cells)
+    six_parts o (o ++ first) q r s t u first last (flat_map next_cell row.key.items) (flat_map next_number row.sums.items)
+    (next_number row.flows) (10 ∷ []) refl (is_q ∙ sym (append_assoc o first last)) (is_r ∙ ap (λ (x : List ℕ). q ++ x) cells)
     (is_s ∙ ap (λ (x : List ℕ). r ++ x) sums) is_t is_u
     ∙ ap (λ (x : List ℕ). o ++ x) (sym (row_parts plan (value_of row)))

@@ -1,5 +1,5 @@
 -- The text of a row's object, part by part.
-use Rattle.std.proofs.Common.{◌≡◌, ℕ, ◌+◌, ◌-◌, ◌*◌, ◌<◌, ◌≤◌, List, [], ◌∷◌, ◌++◌, length, map, get_or, take, refl, sym, ap, ◌∙◌, append_assoc, arith}
+use Rattle.std.proofs.Common.{◌≡◌, ℕ, ◌+◌, ◌<◌, ◌≤◌, List, [], ◌∷◌, ◌++◌, length, map, get_or, take, refl, sym, ap, ◌∙◌, append_assoc, arith}
 use Rattle.std.specs.Prelude.{codes}
 use Rattle.std.specs.List.{flat_map, zip}
 use Rattle.std.proofs.lemmas.List.{append-nil, get_or_default, take_all, length-map, map-append}
@@ -11,7 +11,7 @@ use Rattle.flow_table.specs.Plans.{PlanValue}
 use Rattle.flow_table.specs.SameTables.{value_of}
 use Rattle.flow_table.specs.declared.table.Row.{Row}
 use Rattle.flow_export.specs.CsvText.{first_of, last_of}
-use Rattle.flow_export.specs.JsonParts.{AreLabels, label, labelled, text_of}
+use Rattle.flow_export.specs.JsonParts.{AreLabels, interval_members, label, labelled, text_of}
 use Rattle.flow_export.specs.Fitting.{IsExportable}
 use Rattle.flow_export.specs.JsonText.{member}
 use Rattle.flow_export.specs.TextsUnder.{key_text_under, row_object_under}
@@ -126,16 +126,15 @@ object_parts plan labels row made fits =
     (behind_commas first (second ∷ rest) ∙ ap (λ (t : List ℕ). first ++ (next second ++ t)) (tail_members plan labels row made fits))
     ∙ ap (λ (t : List ℕ). codes "{" ++ t) (joined first (next second) (cells_of labels row) (sums_of labels row) (codes ",\"flows\":" ++ json_number row.flows) (codes "}\n"))
 
--- an object whose members were appended one after another
-pub object_appended : (plan : PlanValue) (labels : RowLabels) (row : Row) (l : ℕ) (ks counters : List MemberLabel) (cs : List Cell) (vs o p q r s t u : List ℕ) → AreLabels plan labels → IsExportable plan (value_of row)
-    → l ≡ plan.length → ks ≡ labels.keys.items → counters ≡ labels.counters.items → cs ≡ row.key.items → vs ≡ row.sums.items
-    → p ≡ o ++ (codes "{\"start\":" ++ json_number (row.interval * l)) → q ≡ p ++ (codes ",\"end\":" ++ json_number (row.interval * l + l - 1))
+-- an object whose members behind the first two were appended one after another
+pub object_appended : (plan : PlanValue) (labels : RowLabels) (row : Row) (ks counters : List MemberLabel) (cs : List Cell) (vs o q r s t u : List ℕ) → AreLabels plan labels → IsExportable plan (value_of row)
+    → ks ≡ labels.keys.items → counters ≡ labels.counters.items → cs ≡ row.key.items → vs ≡ row.sums.items → q ≡ o ++ interval_members plan row.interval
     → r ≡ q ++ flat_map (labelled json_cell) (zip ks cs) → s ≡ r ++ flat_map (labelled json_number) (zip counters vs) → t ≡ s ++ (codes ",\"flows\":" ++ json_number row.flows)
     → u ≡ t ++ codes "}\n" → u ≡ o ++ row_object_under labels.elements.now plan (value_of row)
-object_appended plan labels row l ks counters cs vs o p q r s t u made fits is_l is_ks is_counters is_cs is_vs is_p is_q is_r is_s is_t is_u =
-    let first : p ≡ o ++ (codes "{\"start\":" ++ json_number (first_of plan (value_of row))) = is_p ∙ ap (λ (n : ℕ). o ++ (codes "{\"start\":" ++ json_number (row.interval * n))) is_l in
-    let second : q ≡ p ++ (codes ",\"end\":" ++ json_number (last_of plan (value_of row))) = is_q ∙ ap (λ (n : ℕ). p ++ (codes ",\"end\":" ++ json_number (row.interval * n + n - 1))) is_l in
+object_appended plan labels row ks counters cs vs o q r s t u made fits is_ks is_counters is_cs is_vs is_q is_r is_s is_t is_u =
+    let first = codes "{\"start\":" ++ json_number (first_of plan (value_of row)) in
+    let last = codes ",\"end\":" ++ json_number (last_of plan (value_of row)) in
     let cells : r ≡ q ++ cells_of labels row = is_r ∙ rw (is_ks, is_cs) refl in
     let sums : s ≡ r ++ sums_of labels row = is_s ∙ rw (is_counters, is_vs) refl in
-    six_parts o p q r s t u _ _ _ _ _ _ first second cells sums is_t is_u
+    six_parts o (o ++ first) q r s t u first last _ _ _ _ refl (is_q ∙ sym (append_assoc o first last)) cells sums is_t is_u
     ∙ ap (λ (x : List ℕ). o ++ x) (sym (object_parts plan labels row made fits))

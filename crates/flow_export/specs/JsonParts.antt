@@ -1,5 +1,5 @@
 -- The parts of a row's object, as they are appended.
-use Rattle.std.specs.Prelude.{◌≡◌, ℕ, List, ◌++◌, codes, flat_map, map}
+use Rattle.std.specs.Prelude.{◌≡◌, ℕ, ◌+◌, ◌-◌, ◌*◌, List, ◌++◌, codes, flat_map, map}
 use Rattle.std.specs.List.{zip}
 use Rattle.ipfix_elements.specs.JsonValues.{json_cell, json_number}
 use Rattle.element_registry.specs.Registries.{name_under}
@@ -38,3 +38,8 @@ labelled_cells labels cells = flat_map (labelled json_cell) (zip labels cells)
 
 abbrev pub labelled_numbers : List MemberLabel → List ℕ → List ℕ
 labelled_numbers labels numbers = flat_map (labelled json_number) (zip labels numbers)
+
+-- what the objects of the rows of an interval begin with
+abbrev pub interval_members : PlanValue → ℕ → List ℕ
+interval_members plan interval =
+    (codes "{\"start\":" ++ json_number (interval * plan.length)) ++ (codes ",\"end\":" ++ json_number (interval * plan.length + plan.length - 1))

@@ -12,6 +12,7 @@ pub mod Examples
 pub mod Made
 pub mod RowsLeft
 pub mod Passing
+pub mod Fronts
 pub mod Written
 pub mod JsonParts
 pub mod SpecOctets

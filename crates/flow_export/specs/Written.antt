@@ -1,5 +1,5 @@
 -- A table's heading as the writer of `csv` writes it, and the fields of its lines.
-use Rattle.std.specs.Prelude.{◌≡◌, ℕ, List, ◌∷◌, ◌++◌}
+use Rattle.std.specs.Prelude.{◌≡◌, ℕ, ◌+◌, ◌-◌, ◌*◌, List, ◌∷◌, ◌++◌}
 use Rattle.std.specs.Fmt.{decimal}
 use Rattle.csv.specs.Records.{fields_of}
 use Rattle.csv.specs.Records.{Row as CsvRecord}
@@ -7,6 +7,7 @@ use Rattle.csv.specs.Writing.{default_writer, row_text}
 use Rattle.ipfix_elements.specs.Texts.{cell_text}
 use Rattle.ipfix_elements.specs.declared.cell.Cell.{Cell}
 use Rattle.element_registry.specs.Registries.{Known}
+use Rattle.flow_table.specs.Plans.{PlanValue}
 use Rattle.flow_table.specs.Plans.{PlanValue}
 use Rattle.flow_export.specs.CsvText.{comma}
 use Rattle.flow_export.specs.TextsUnder.{heading_under}
@@ -24,3 +25,7 @@ next_number n = comma ∷ decimal n
 
 abbrev pub next_cell : Cell → List ℕ
 next_cell cell = comma ∷ cell_text cell
+
+-- what the lines of the rows of an interval begin with
+abbrev pub interval_texts : PlanValue → ℕ → List ℕ
+interval_texts plan interval = decimal (interval * plan.length) ++ next_number (interval * plan.length + plan.length - 1)

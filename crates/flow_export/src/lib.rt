@@ -6,6 +6,7 @@ mod any_table;
 mod csv_text;
 mod fault;
 mod format;
+mod front;
 mod ipfix_text;
 mod json_text;
 mod key_name;

@@ -4,7 +4,7 @@
 ghost use Rattle.std.specs.Prelude.{◌≡◌, ◌++◌, OnOk, flat_map};
 ghost use Rattle.std.specs.Fmt.{decimal};
 ghost use Rattle.flow_export.specs.CsvText.{row_line};
-ghost use Rattle.flow_export.specs.Written.{next_cell, next_number};
+ghost use Rattle.flow_export.specs.Written.{interval_texts, next_cell, next_number};
 
 use crate::row_lines::RowLines;
 use flow_table::{Plan, Row};
@@ -18,14 +18,20 @@ pub struct CsvLines;
 impl RowLines for CsvLines {
     ghost is_for = { λ _ _. Unit {0} };
 
+    ghost front_of = { λ _. interval_texts };
+
     ghost line_of = { λ _. row_line };
 
-    // Its interval, its key, its sums and the number of its flows.
-    fn append(&self, plan: &Plan, row: &Row, out: &mut Vec<u8>) -> Result<(), AllocError> {
+    // The first and the last millisecond.
+    fn append_front(&self, plan: &Plan, interval: u64, out: &mut Vec<u8>) -> Result<(), AllocError> {
         let length = u64::from(plan.length());
-        let first = row.interval * length;
+        let first = interval * length;
         append_number(first, out)?;
-        append_next_number(first + length - 1, out)?;
+        append_next_number(first + length - 1, out)
+    }
+
+    // Its key, its sums and the number of its flows.
+    fn append_rest(&self, _plan: &Plan, row: &Row, out: &mut Vec<u8>) -> Result<(), AllocError> {
         append_cells(&row.key, out)?;
         append_numbers(&row.sums, out)?;
         append_next_number(row.flows, out)?;

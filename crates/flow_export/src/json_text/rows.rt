@@ -2,7 +2,7 @@
 //! `json_laws`), so what an object has is appended as it is.
 
 ghost use Rattle.std.specs.Prelude.{◌≡◌, ◌++◌, OnOk, length};
-ghost use Rattle.flow_export.specs.JsonParts.{AreLabels, labelled_cell, labelled_cells, labelled_numbers};
+ghost use Rattle.flow_export.specs.JsonParts.{AreLabels, interval_members, labelled_cell, labelled_cells, labelled_numbers};
 ghost use Rattle.flow_export.specs.TextsUnder.{row_object_under};
 ghost use Rattle.ipfix_elements.specs.JsonValues.{json_number};
 
@@ -15,14 +15,20 @@ use std::alloc::AllocError;
 impl RowLines for RowLabels<'_> {
     ghost is_for = { λ labels plan. AreLabels plan labels };
 
+    ghost front_of = { λ _. interval_members };
+
     ghost line_of = { λ labels. row_object_under labels.elements.now };
 
-    // Its interval, its key, its sums and the number of its flows.
-    fn append(&self, plan: &Plan, row: &Row, out: &mut Vec<u8>) -> Result<(), AllocError> {
+    // The first and the last millisecond.
+    fn append_front(&self, plan: &Plan, interval: u64, out: &mut Vec<u8>) -> Result<(), AllocError> {
         let length = u64::from(plan.length());
-        let first = row.interval * length;
+        let first = interval * length;
         append_member(b"{\"start\":", first, out)?;
-        append_member(b",\"end\":", first + length - 1, out)?;
+        append_member(b",\"end\":", first + length - 1, out)
+    }
+
+    // Its key, its sums and the number of its flows.
+    fn append_rest(&self, _plan: &Plan, row: &Row, out: &mut Vec<u8>) -> Result<(), AllocError> {
         append_cells(&self.keys, &row.key, out)?;
         append_sums(&self.counters, &row.sums, out)?;
         append_member(b",\"flows\":", row.flows, out)?;
