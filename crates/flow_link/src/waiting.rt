@@ -44,7 +44,7 @@ impl Patience {
 
     /// So many parcels were moved.
     pub fn moved(&mut self, parcels: u64) {
-        self.moved = self.moved.wrapping_add(parcels);
+        self.moved = self.moved.saturating_add(parcels);
     }
 
     /// Waits a little before the next try, after one that moved nothing.
