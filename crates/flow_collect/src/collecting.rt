@@ -18,11 +18,11 @@
 //!              makes of Parts and the table what `collect_flat` answers, CollectedInFull.
 //! ```
 
-ghost use Rattle.std.specs.Prelude.{◌≡◌, Err, IfOk, IfErr, IfSome, IfNone, IsErrOf, MatchOption, vec_len};
+ghost use Rattle.std.specs.Prelude.{◌≡◌, IfOk, IfNone, MatchOption};
 ghost use Rattle.flow_table.specs.Fitting.{FitsPlan};
 ghost use Rattle.flow_collect.specs.Dealt.{IsCapacity};
 ghost use Rattle.flow_collect.specs.InFull.{HeadlineInFull, IsWithTable};
-ghost use Rattle.flow_collect.specs.Refusals.{fault_of_arguments, AreTooLarge, IsLate};
+ghost use Rattle.flow_collect.specs.Refusals.{fault_of_arguments, AreTooLarge, HasFaults};
 
 use crate::collected::{CollectedInFull, MAX_SESSIONS, MAX_WORKERS, Pool};
 use crate::dealing::deal;
@@ -53,13 +53,8 @@ pub fn collect_in_full<S: Source + Send + Drop, G: Gate + Sync, R: Threads + Wai
     ensures ok { IfOk result (λ c. HeadlineInFull S.seen sources.items plan.now pool c) }
     // The table fits the plan, as an export asks.
     ensures fits { IfOk result (λ c. FitsPlan plan.now c.table) }
-    // `Workers`, `Sessions` and `Link` exactly for their arguments, in this order.
-    ensures arguments { IfSome (fault_of_arguments pool (vec_len sources))
-        (λ fault. result ≡ Err fault) }
-    ensures others { IfNone (fault_of_arguments pool (vec_len sources)) (IfErr result IsLate) }
-    // Only if the records of the sources' whole texts are too large.
-    ensures too_large { IsErrOf result CollectFault.SumTooLarge
-        → AreTooLarge S.seen plan.now sources.items }
+    // Exactly the first fault of the arguments, if they have one; `SumTooLarge` only if it is due.
+    ensures faults { HasFaults S.seen sources plan.now pool result }
 {
     let collected = collect_flat(rt, alloc, sources, plan, pool, gate)?;
     let whole = with_table(collected)?;
@@ -101,13 +96,8 @@ pub fn collect_flat<S: Source + Send + Drop, G: Gate + Sync, R: Threads + Wait +
     ensures ok { IfOk result (λ c. HeadlineInFull S.seen sources.items plan.now pool c) }
     // The table fits the plan, as an export asks.
     ensures fits { IfOk result (λ c. FitsPlan plan.now c.table) }
-    // `Workers`, `Sessions` and `Link` exactly for their arguments, in this order.
-    ensures arguments { IfSome (fault_of_arguments pool (vec_len sources))
-        (λ fault. result ≡ Err fault) }
-    ensures others { IfNone (fault_of_arguments pool (vec_len sources)) (IfErr result IsLate) }
-    // Only if the records of the sources' whole texts are too large.
-    ensures too_large { IsErrOf result CollectFault.SumTooLarge
-        → AreTooLarge S.seen plan.now sources.items }
+    // Exactly the first fault of the arguments, if they have one; `SumTooLarge` only if it is due.
+    ensures faults { HasFaults S.seen sources plan.now pool result }
 {
     if let Some(fault) = judge(pool, sources.len()) {
         return Err(fault);

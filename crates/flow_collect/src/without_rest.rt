@@ -1,10 +1,10 @@
 //! Collecting with reports that aren't in full.
 
-ghost use Rattle.std.specs.Prelude.{◌≡◌, Err, IfOk, IfErr, IfSome, IfNone, IsErrOf, vec_len};
+ghost use Rattle.std.specs.Prelude.{◌≡◌, IfOk};
 ghost use Rattle.flow_table.specs.Fitting.{FitsPlan};
 ghost use Rattle.flow_collect.specs.Headline.{Headline};
 ghost use Rattle.flow_collect.specs.InFull.{IsWithoutRest, reports_in};
-ghost use Rattle.flow_collect.specs.Refusals.{fault_of_arguments, AreTooLarge, IsLate};
+ghost use Rattle.flow_collect.specs.Refusals.{HasFaults};
 
 use crate::collected::{Collected, CollectedInFull, Pool};
 use crate::collecting::collect_in_full;
@@ -40,13 +40,8 @@ pub fn collect<S: Source + Send + Drop, G: Gate + Sync, R: Threads + Wait + Sync
     ensures ok { IfOk result (λ c. Headline S.seen sources.items plan.now pool c) }
     // The table fits the plan, as an export asks.
     ensures fits { IfOk result (λ c. FitsPlan plan.now c.table) }
-    // `Workers`, `Sessions` and `Link` exactly for their arguments, in this order.
-    ensures arguments { IfSome (fault_of_arguments pool (vec_len sources))
-        (λ fault. result ≡ Err fault) }
-    ensures others { IfNone (fault_of_arguments pool (vec_len sources)) (IfErr result IsLate) }
-    // Only if the records of the sources' whole texts are too large.
-    ensures too_large { IsErrOf result CollectFault.SumTooLarge
-        → AreTooLarge S.seen plan.now sources.items }
+    // Exactly the first fault of the arguments, if they have one; `SumTooLarge` only if it is due.
+    ensures faults { HasFaults S.seen sources plan.now pool result }
 {
     let collected = collect_in_full(rt, alloc, sources, plan, pool, gate)?;
     let short = without_rest(alloc, collected)?;

@@ -11,7 +11,7 @@ returns-in-Err-clause-failed g c = λ failed.
 
 pub returns-in-Err-clause-refused : goal.returns-in-Err-clause-refused
 returns-in-Err-clause-refused g c =
-    refusal_told _ _ c.in-Err.fault _ _ _ c.in-Err.ensures.arguments (search rules) (search rules) (is_told _ _ _ c.write_collect_fault.result _ c.write_collect_fault.ensures.told c.write_collect_fault.ensures.failed)
+    refusal_told _ _ c.in-Err.fault _ _ _ c.in-Err.ensures.faults.arguments (search rules) (search rules) (is_told _ _ _ c.write_collect_fault.result _ c.write_collect_fault.ensures.told c.write_collect_fault.ensures.failed)
 
 pub returns-in-Err-export-clause-failed : goal.returns-in-Err-export-clause-failed
 returns-in-Err-export-clause-failed g c = λ failed.
