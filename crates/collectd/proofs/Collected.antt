@@ -1,5 +1,5 @@
 -- How a command ended that collects, by how its sources were had and run.
-use Rattle.std.proofs.Common.{◌≡◌, ℕ, Bool, false, true, List, [], ◌++◌, All, Option, None, Some, inl, inr, ap, ◌∙◌, subst, arith}
+use Rattle.std.proofs.Common.{◌≡◌, ℕ, Bool, false, List, [], ◌++◌, All, inl, inr, ap, ◌∙◌, subst, arith}
 use Rattle.std.specs.Prelude.{◌≢◌, ◌⊎◌, IfSome}
 use Rattle.ipfix_session.specs.Sources.{SourceView}
 use Rattle.element_registry.specs.Registries.{Known}
@@ -21,11 +21,6 @@ use Rattle.collectd.specs.Told.{run_lines, TellsFailedRun, TellsFault, TellsRun}
 use Rattle.collectd.proofs.FullRan.{runs_in_full, runs_short, whatever}
 use Rattle.collectd.proofs.LinesTold.{fault_behind, none_opened, plain_run}
 use Rattle.collectd.proofs.Ran.{refused_for}
-
--- whatever follows of what can't be
-pub never_some : {X : Type 0} (A : X → Type 0) (B C : Type 0) (o : Option X) → IfSome o (λ x. A x → B → false ≡ true) → IfSome o (λ x. A x → B → C)
-never_some A B C None h = tt
-never_some A B C (Some x) h = λ a b. let never : false ≡ true = h a b in absurd cc
 
 -- no source was had
 pub not_collected : (pool : Pool) (count status : ℕ) (IsUntouched Ran TellsFailed TellsNotHad : Type 0) → status ≡ 2 → IsUntouched → TellsNotHad → Collects pool count status IsUntouched Ran TellsFailed TellsNotHad

@@ -1,7 +1,8 @@
 use Rattle.std.proofs.Common.{rules}
+use Rattle.std.proofs.lemmas.Option.{IfSome_then}
 use Rattle.run_reports.specs.Told.{AreTold}
 use Rattle.run_reports.proofs.LinesTold.{both_told, is_told}
-use Rattle.collectd.proofs.Collected.{collected, never_some, not_collected}
+use Rattle.collectd.proofs.Collected.{collected, not_collected}
 use Rattle.collectd.proofs.LinesTold.{peers_then}
 use Rattle.collectd.proofs.commands.connections.run_connections.Goals as goal
 
@@ -16,7 +17,7 @@ returns-in-Ok-clause-collects g c =
     c.run_in_full.ensures.statuses c.run_in_full.ensures.table c.run_in_full.ensures.failed c.run_in_full.ensures.refused
 
 pub returns-in-Ok-clause-no_time : goal.returns-in-Ok-clause-no_time
-returns-in-Ok-clause-no_time g c = never_some _ _ _ c.args.idle c.in-Ok.ensures.no_time
+returns-in-Ok-clause-no_time g c = IfSome_then c.args.idle c.in-Ok.ensures.no_time (λ limit never zero some. absurd (cc (never zero some)))
 
 pub returns-in-Err-clause-collects : goal.returns-in-Err-clause-collects
 returns-in-Err-clause-collects g c =
