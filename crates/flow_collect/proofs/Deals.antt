@@ -2,7 +2,7 @@
 use Rattle.std.proofs.Common.{◌≡◌, ℕ, List, [], ◌∷◌, ◌++◌, zero, suc, refl, ap, sym, ◌∙◌, subst, length, length-append, map, arith}
 use Rattle.std.specs.Prelude.{Some, slice_get, All}
 use Rattle.std.proofs.lemmas.List.{map_push}
-use Rattle.std.proofs.lemmas.List.Elements.{All-head, All-tail, All-append, All-cons, All-nil, All-weaker}
+use Rattle.std.proofs.lemmas.List.Elements.{All-head, All-tail, All-push, All-nil, All-weaker}
 use Rattle.flow_link.specs.Ends.{LinkName}
 use Rattle.flow_table.specs.Partials.{StandsFor, plan_of}
 use Rattle.flow_table.specs.Plans.{PlanValue}
@@ -11,9 +11,6 @@ use Rattle.flow_collect.specs.Dealt.{IsPaired, IsNewLot, IsNewStart, IsDealt, De
 use Rattle.flow_collect.specs.declared.session_thread.Start.{Start}
 use Rattle.flow_collect.specs.declared.worker.Lane.{Lane}
 use Rattle.flow_collect.specs.declared.worker.Lot.{Lot}
-
-pub all_one : {A : Type 0} (P : A → Type 0) (x : A) → P x → All P (x ∷ [])
-all_one P x p = All-cons P x [] p (All-nil P)
 
 get_more : {A : Type 0} (xs ys : List A) (n : ℕ) (x : A) → slice_get xs n ≡ Some x → slice_get (xs ++ ys) n ≡ Some x
 get_more [] ys n x e = cc e
@@ -41,9 +38,9 @@ lot_on plan links first dealt lane h partial lanes new paired =
       plan_is = ap plan_of partial ∙ h.plan_is;
       unused = (
         subst (λ (p : Partial). StandsFor p []) (sym partial) h.unused.0,
-        subst (All New) (sym lanes) (All-append New first.lanes.items (lane ∷ []) h.unused.1 (all_one New lane new)),
+        subst (All New) (sym lanes) (All-push New first.lanes.items lane h.unused.1 new),
       );
-      paired = subst (All (IsPaired links)) (sym lanes) (All-append (IsPaired links) first.lanes.items (lane ∷ []) h.paired (all_one (IsPaired links) lane paired));
+      paired = subst (All (IsPaired links)) (sym lanes) (All-push (IsPaired links) first.lanes.items lane h.paired paired);
     }
 
 pub deal_on : {S : Type 0} (plan : PlanValue) (capacity : ℕ) (sources : List S) (source : S) (starts : List (Start S)) (lots : List Lot) (starts' : List (Start S)) (lots' : List Lot)
@@ -58,8 +55,8 @@ deal_on {S} plan capacity sources source starts lots starts' lots' d one =
     let dealt : P one.dealt = lot_on plan links one.first one.dealt one.lane (All-head P one.first one.others all) one.partial_is one.lanes_are one.link.nothing_received here in
     record {
       sources_are = ap (map (λ (start : Start S). start.source)) one.starts_are ∙ (map_push (λ (start : Start S). start.source) starts one.start ∙ (ap (λ r. r ++ one.start.source ∷ []) d.sources_are ∙ ap (λ s. sources ++ s ∷ []) one.source_is));
-      new_starts = rw one.starts_are (All-append (IsNewStart capacity) starts (one.start ∷ []) d.new_starts (all_one (IsNewStart capacity) one.start (one.link.nothing_sent, one.link.sender_capacity)));
-      new_lots = rw (links_are, one.lots_are) (All-append P one.others (one.dealt ∷ []) (All-tail P one.first one.others all) (all_one P one.dealt dealt));
+      new_starts = rw one.starts_are (All-push (IsNewStart capacity) starts one.start d.new_starts (one.link.nothing_sent, one.link.sender_capacity));
+      new_lots = rw (links_are, one.lots_are) (All-push P one.others one.dealt (All-tail P one.first one.others all) dealt);
     }
 
 pub empty_lot : (plan : PlanValue) (lot : Lot) → plan_of lot.partial ≡ plan → StandsFor lot.partial [] → lot.lanes.items ≡ [] → IsNewLot plan [] lot
@@ -71,7 +68,7 @@ empty_lot plan lot is stands e =
     }
 
 pub lots_more : (plan : PlanValue) (lots lots' : List Lot) (lot : Lot) → All (IsNewLot plan []) lots → IsNewLot plan [] lot → lots' ≡ lots ++ lot ∷ [] → All (IsNewLot plan []) lots'
-lots_more plan lots lots' lot h new e = rw e (All-append (IsNewLot plan []) lots (lot ∷ []) h (all_one (IsNewLot plan []) lot new))
+lots_more plan lots lots' lot h new e = rw e (All-push (IsNewLot plan []) lots lot h new)
 
 pub first_dealt : {S : Type 0} (plan : PlanValue) (capacity : ℕ) (starts : List (Start S)) (lots : List Lot) → starts ≡ [] → All (IsNewLot plan []) lots → IsDealt plan capacity [] starts lots
 first_dealt {S} plan capacity starts lots e h =

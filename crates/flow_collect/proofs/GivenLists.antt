@@ -62,6 +62,10 @@ fault_is_end (Some (faults.Message OutOfMemory)) limit gave before after m f n c
 fault_is_end (Some (faults.Message e)) limit gave before after m f n c due = ap fault_at_end (sym due)
 fault_is_end (Some faults.SinkClosed) limit gave before after m f n c due = absurd (c refl)
 
+-- whole texts, of which these are all records
+abbrev AreWhole : List (List DataRecord) → List (List ℕ) → Type 0
+AreWhole qs ts = AllZip (λ q t. (stop_of t ≡ Clean) × (q ≡ records_of t)) qs ts
+
 module _ {S : Type 0} (seen : S → SourceView) where
   -- ---- one session
 
@@ -93,10 +97,6 @@ module _ {S : Type 0} (seen : S → SourceView) where
       subst (λ (l : List ℕ). IsReport r l) (sym (gave_is before after r q b g t)) (record { reports = told; fault = due })
 
   -- ---- all sessions
-
-  -- whole texts, of which these are all records
-  abbrev AreWhole : List (List DataRecord) → List (List ℕ) → Type 0
-  AreWhole qs ts = AllZip (λ q t. (stop_of t ≡ Clean) × (q ≡ records_of t)) qs ts
 
   pub all_whole : ((s : S) → (seen s).ended ≡ true → ForSome (seen s).text (λ xs. xs ≡ []))
       → (befores afters : List S) (rs : List SessionReport) (qs : List (List DataRecord)) (ts : List (List ℕ)) → Each4 (IsGivenBy seen) befores afters rs qs
@@ -132,12 +132,12 @@ module _ {S : Type 0} (seen : S → SourceView) where
 
 -- ---- whole texts
 
-pub whole_records : (qs : List (List DataRecord)) (ts : List (List ℕ)) → AllZip (λ q t. (stop_of t ≡ Clean) × (q ≡ records_of t)) qs ts → all_of qs ≡ flat_map records_of ts
+pub whole_records : (qs : List (List DataRecord)) (ts : List (List ℕ)) → AreWhole qs ts → all_of qs ≡ flat_map records_of ts
 whole_records [] [] w = refl
 whole_records (q ∷ qs) (t ∷ ts) w = ap (λ l. l ++ all_of qs) w.0.1 ∙ ap (λ l. records_of t ++ l) (whole_records qs ts w.1)
 whole_records qs ts w = absurd w
 
-pub whole_clean : (qs : List (List DataRecord)) (ts : List (List ℕ)) → AllZip (λ q t. (stop_of t ≡ Clean) × (q ≡ records_of t)) qs ts → All (λ t. stop_of t ≡ Clean) ts
+pub whole_clean : (qs : List (List DataRecord)) (ts : List (List ℕ)) → AreWhole qs ts → All (λ t. stop_of t ≡ Clean) ts
 whole_clean [] [] w = All-from_recursion (λ t. stop_of t ≡ Clean) [] tt
 whole_clean (q ∷ qs) (t ∷ ts) w = All-cons (λ x. stop_of x ≡ Clean) t ts w.0.0 (whole_clean qs ts w.1)
 whole_clean qs ts w = absurd w

@@ -4,7 +4,8 @@ use Rattle.std.specs.Prelude.{sum_by, All}
 use Rattle.std.proofs.Math.ListN.{set}
 use Rattle.std.proofs.Math.Seq.{map-set_same}
 use Rattle.std.proofs.lemmas.List.Sums.{sum_by-append, sum_by-set, sum_by-cons}
-use Rattle.std.proofs.lemmas.List.Elements.{All-tail, All-head, All-cons, All-nil}
+use Rattle.std.proofs.lemmas.List.Elements.{All-head, All-map, All-tail}
+use Rattle.std.proofs.lemmas.Simd.{map-map}
 use Rattle.ipfix_message.specs.declared.record.DataRecord.{DataRecord}
 use Rattle.flow_link.specs.Ends.{LinkName, ReceiverView}
 use Rattle.flow_link.specs.Parcels.{has_last, records_in}
@@ -64,20 +65,7 @@ taken_weighs w (lane ∷ lanes) =
     omega (arith, sum_by-cons (lane_weight w) lane lanes)
 
 links_same : (xs ys : List Lane) → map lane_key xs ≡ map lane_key ys → map (λ (r : ReceiverView). r.link) (receivers_of xs) ≡ map (λ (r : ReceiverView). r.link) (receivers_of ys)
-links_same [] [] e = refl
-links_same [] (y ∷ ys) e = cc e
-links_same (x ∷ xs) [] e = cc e
-links_same (x ∷ xs) (y ∷ ys) e =
-    let first : lane_key x ≡ lane_key y = cc e in
-    let rest : map lane_key xs ≡ map lane_key ys = cc e in
-    let more = links_same xs ys rest in
-    let here : x.receiver.link ≡ y.receiver.link = ap (λ (k : ℕ × LinkName). k.1) first in
-    cc
-
-ended_receivers : (lanes : List Lane) → All IsEnded lanes → All (λ (r : ReceiverView). has_last r.received ≡ true) (receivers_of lanes)
-ended_receivers [] h = All-nil (λ (r : ReceiverView). has_last r.received ≡ true)
-ended_receivers (lane ∷ lanes) h =
-    All-cons (λ (r : ReceiverView). has_last r.received ≡ true) lane.receiver (receivers_of lanes) (All-head IsEnded lane lanes h) (ended_receivers lanes (All-tail IsEnded lane lanes h))
+links_same xs ys e = simp map-map (simp map-map at (ap (map (λ (key : ℕ × LinkName). key.1)) e))
 
 pub worker_ran : (lot : Lot) (w : Lot) → map lane_key w.lanes.items ≡ map lane_key lot.lanes.items → plan_of w.partial ≡ plan_of lot.partial
     → All IsEnded w.lanes.items → StandsForLanes w.partial w.lanes.items → WorkerRan lot w
@@ -86,7 +74,7 @@ worker_ran lot w keys plan ended s =
       keys = keys;
       took = record {
         links_are = links_same w.lanes.items lot.lanes.items keys;
-        ended = ended_receivers w.lanes.items ended;
+        ended = All-map (λ (r : ReceiverView). has_last r.received ≡ true) (λ (lane : Lane). lane.receiver) w.lanes.items ended;
         plan_is = plan;
         records = s.records;
         stands = s.stands;

@@ -1,5 +1,5 @@
 -- Settled links and merged tables, one more.
-use Rattle.std.proofs.Common.{◌≡◌, ℕ, List, [], ◌∷◌, ◌++◌, refl, ap, sym, ◌∙◌, append_assoc, append-nil, length, map, take, drop, arith}
+use Rattle.std.proofs.Common.{◌≡◌, ℕ, List, [], ◌∷◌, ◌++◌, refl, ap, sym, ◌∙◌, length, map, take, drop, arith}
 use Rattle.std.specs.Prelude.{Some, slice_get, All, sum_by, IsPermutation}
 use Rattle.std.proofs.lemmas.Grind.{flat_map-append}
 use Rattle.std.proofs.lemmas.List.{map_push, take-append-drop}
@@ -45,10 +45,6 @@ settled_on {S} ts ls rs ks ss t lane rs' ks' ss' all one =
 pub settled_end : {S : Type 0} (ts : List (EndedSession S)) (ls : List Lane) (rs : List FullReport) (ks : List Settled) (ss : List S) (ts0 : List (EndedSession S)) (ls0 : List Lane)
     → ts0 ≡ ts → ls0 ≡ ls → SettledAll ts ls rs ks ss → SettledAll ts0 ls0 rs ks ss
 settled_end {S} ts ls rs ks ss ts0 ls0 e f all = rw (e, f) all
-
-pub lanes_of_push : (ws : List Lot) (w : Lot) → lanes_of (ws ++ w ∷ []) ≡ lanes_of ws ++ w.lanes.items
-lanes_of_push [] w = append-nil w.lanes.items
-lanes_of_push (x ∷ ws) w = ap (λ r. x.lanes.items ++ r) (lanes_of_push ws w) ∙ sym (append_assoc x.lanes.items (lanes_of ws) w.lanes.items)
 
 pub stands_joined : (p q r : Partial) (xs ys : List Lane) → ((rs qs : List DataRecord) → StandsFor p rs → StandsFor q qs → StandsFor r (rs ++ qs)) → StandsForLanes p xs → StandsForLanes q ys → StandsForLanes r (xs ++ ys)
 stands_joined p q r xs ys merged a b =

@@ -1,18 +1,13 @@
 -- Lists side by side, one place more.
-use Rattle.std.proofs.Common.{◌≡◌, List, [], ◌∷◌, ◌++◌, refl, ap, sym, ◌∙◌, subst, length, append_assoc, append-nil, arith}
+use Rattle.std.proofs.Common.{◌≡◌, List, [], ◌∷◌, ◌++◌, ap, sym, ◌∙◌, subst, length, append_assoc, append-nil}
 use Rattle.std.specs.List.{AllZip}
+use Rattle.std.proofs.lemmas.List.{nil_from_length}
 use Rattle.flow_collect.specs.Places.{Each3}
 
 pub each3_more : {A B C : Type 0} (P : A → B → C → Type 0) (xs : List A) (ys : List B) (zs : List C) (x : A) (y : B) (z : C) → Each3 P xs ys zs → P x y z → Each3 P (xs ++ x ∷ []) (ys ++ y ∷ []) (zs ++ z ∷ [])
 each3_more P [] [] [] x y z e p = (p, tt)
 each3_more P (a ∷ xs) (b ∷ ys) (c ∷ zs) x y z e p = (e.0, each3_more P xs ys zs x y z e.1 p)
 each3_more P xs ys zs x y z e p = absurd e
-
-pub zip_more : {A B : Type 0} (P : A → B → Type 0) (xs : List A) (ys : List B) (x : A) (y : B) → AllZip P xs ys → P x y → AllZip P (xs ++ x ∷ []) (ys ++ y ∷ [])
-zip_more P [] [] x y e p = (p, tt)
-zip_more P [] (b ∷ ys) x y e p = absurd e
-zip_more P (a ∷ xs) [] x y e p = absurd e
-zip_more P (a ∷ xs) (b ∷ ys) x y e p = (e.0, zip_more P xs ys x y e.1 p)
 
 -- what each thread was given, and what it gave
 pub zip_join : {A H R : Type 0} (g : H → A) (P : A → R → Type 0) (xs : List A) (hs : List H) (rs : List R)
@@ -28,14 +23,6 @@ zip_join g P (x ∷ xs) (h ∷ hs) (r ∷ rs) e z = (subst (λ b. P b r) e.0 z.0
 pub split_on : {A : Type 0} (all used rest : List A) (x : A) (rest' : List A) → all ≡ used ++ rest → rest ≡ x ∷ rest' → all ≡ (used ++ x ∷ []) ++ rest'
 split_on all used rest x rest' e f = e ∙ ap (λ r. used ++ r) f ∙ sym (append_assoc used (x ∷ []) rest')
 
-nil_of_length : {A : Type 0} (xs : List A) → length xs ≡ 0 → xs ≡ []
-nil_of_length [] e = refl
-nil_of_length (x ∷ xs) e = absurd (omega arith)
-
+-- nothing is left of the rest
 pub all_used : {A : Type 0} (all used rest : List A) → all ≡ used ++ rest → length rest ≡ 0 → all ≡ used
-all_used all used rest e n = e ∙ (ap (λ r. used ++ r) (nil_of_length rest n) ∙ append-nil used)
-
--- nothing stands behind
-pub all_before : {X : Type 0} (xs ys : List X) → length ys ≡ 0 → xs ++ ys ≡ xs
-all_before xs [] none = append-nil xs
-all_before xs (y ∷ ys) none = absurd (omega arith)
+all_used all used rest e n = e ∙ (ap (λ r. used ++ r) (nil_from_length rest n) ∙ append-nil used)

@@ -1,11 +1,13 @@
 use Rattle.std.proofs.Common.{◌≡◌, length, arith, ◌∷◌, ◌++◌, [], refl, sym, ap, ◌∙◌, subst, append-nil}
 use Rattle.std.specs.Prelude.{All}
+use Rattle.std.proofs.lemmas.List.{flat_map_more}
 use Rattle.std.proofs.lemmas.List.Elements.{All-tail, All-head}
 use Rattle.flow_table.specs.Partials.{plan_of}
 use Rattle.flow_table.specs.Plans.{PlanValue}
 use Rattle.flow_collect.specs.Finished.{HasTaken, lanes_of}
-use Rattle.flow_collect.proofs.ZipLists.{all_before, split_on}
-use Rattle.flow_collect.proofs.SettleLists.{lanes_of_push, stands_joined}
+use Rattle.flow_collect.specs.declared.worker.Lot.{Lot}
+use Rattle.flow_collect.proofs.ZipLists.{all_used, split_on}
+use Rattle.flow_collect.proofs.SettleLists.{stands_joined}
 use Rattle.flow_collect.proofs.settling.gathering.merge_in_turn.Goals as goal
 
 pub loop-other-init : goal.loop-other-init
@@ -36,7 +38,7 @@ loop-other-preserved c =
     let one = c.in_ok-merge_one.ensures in (
       inv.0 ++ c.in-Some-pop_front.other ∷ [],
       split_on _ inv.0 _ _ _ inv.1 c.in-Some-pop_front.ensures.items,
-      one.lanes ∙ (ap (λ x. x ++ c.in-Some-pop_front.other.lanes.items) inv.2 ∙ sym (lanes_of_push inv.0 c.in-Some-pop_front.other)),
+      one.lanes ∙ (ap (λ x. x ++ c.in-Some-pop_front.other.lanes.items) inv.2 ∙ flat_map_more (λ (w : Lot). w.lanes.items) [] inv.0 c.in-Some-pop_front.other),
       subst (λ (plan : PlanValue). All (HasTaken plan) c.pop_front-in-loop-other.new.self.items) (sym one.plan) (All-tail P _ _ taken),
       one.plan ∙ inv.4,
       rw one.lanes (stands_joined _ _ _ _ _ one.merges inv.5 other.table),
@@ -47,7 +49,7 @@ returns c =
     let inv = c.loop-other.invariant in
     let ended : length c.loop-other.worked.items ≡ 0 = omega (arith, c.in_default-pop_front.ensures.cases.0, c.loop-other.worked.ok.0) in
     record {
-      lanes_are = inv.2 ∙ ap lanes_of (sym (inv.1 ∙ all_before inv.0 c.loop-other.worked.items ended));
+      lanes_are = inv.2 ∙ ap lanes_of (sym (all_used _ inv.0 _ inv.1 ended));
       table = inv.5;
       plan_is = λ plan taken. inv.4 ∙ (All-head (HasTaken plan) _ _ (subst (All (HasTaken plan)) c.in-Some.ensures.items taken)).plan_is;
     }

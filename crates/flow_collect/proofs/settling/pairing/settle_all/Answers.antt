@@ -2,7 +2,7 @@ use Rattle.std.proofs.Common.{◌≡◌, ◌∷◌, ◌++◌, [], arith, subst, 
 use Rattle.std.specs.Prelude.{All}
 use Rattle.std.specs.VecDeque.{deque_len}
 use Rattle.std.proofs.lemmas.Bool.Decides.{nat_tests}
-use Rattle.std.proofs.lemmas.List.Elements.{All-tail, All-head}
+use Rattle.std.proofs.lemmas.List.Elements.{All-rest, All-head}
 use Rattle.flow_collect.specs.Dealt.{IsPaired}
 use Rattle.flow_collect.specs.Finished.{ended_link}
 use Rattle.flow_collect.proofs.ZipLists.{split_on, all_used}
@@ -24,7 +24,7 @@ loop-number-preserved g c =
       split_on _ inv.0 _ _ _ inv.2 c.in-Some.ensures.items,
       split_on _ inv.1 _ _ _ inv.3 c.in-Some-pop_front.ensures.items,
       omega (arith, length-append inv.0 (c.in-Some.session ∷ []), inv.4),
-      All-tail P _ _ (subst (All P) c.in-Some-pop_front.ensures.items inv.5),
+      All-rest P _ _ _ c.in-Some-pop_front.ensures.items inv.5,
       settled_on inv.0 inv.1 _ _ _ _ _ _ _ _ inv.6 c.in_ok-settle_one.ensures,
     )
 

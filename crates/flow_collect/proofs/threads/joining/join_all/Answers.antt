@@ -1,5 +1,6 @@
 use Rattle.std.proofs.Common.{◌∷◌, ◌++◌, [], arith}
-use Rattle.flow_collect.proofs.ZipLists.{zip_more, split_on}
+use Rattle.std.proofs.lemmas.Slice.Zip.{all_zipped_more}
+use Rattle.flow_collect.proofs.ZipLists.{split_on}
 use Rattle.flow_collect.proofs.threads.joining.join_all.Goals as goal
 
 pub loop-handle-preserved-in-Some-join : goal.loop-handle-preserved-in-Some-join
@@ -8,7 +9,7 @@ loop-handle-preserved-in-Some-join g c =
       inv.0 ++ c.in-Some.handle ∷ [],
       split_on _ inv.0 _ _ _ inv.1 c.in-Some.ensures.items,
       omega (arith, c.in-Some.ensures.cases),
-      λ whole. rw c.push_back_reserved.ensures.items (zip_more _ _ _ _ _ (inv.3 whole) c.in-Some-join.ensures),
+      λ whole. rw c.push_back_reserved.ensures.items (all_zipped_more _ _ _ _ _ (inv.3 whole) c.in-Some-join.ensures),
     )
 
 pub loop-handle-preserved : goal.loop-handle-preserved

@@ -1,8 +1,8 @@
-use Rattle.std.proofs.Common.{◌≡◌, ◌∷◌, ◌++◌, [], refl, ap, ◌∙◌, arith, subst}
-use Rattle.std.specs.Prelude.{All}
-use Rattle.std.proofs.lemmas.List.Elements.{All-tail}
+use Rattle.std.proofs.Common.{◌≡◌, ◌∷◌, ◌++◌, [], refl, ap, ◌∙◌, arith}
+use Rattle.std.proofs.lemmas.List.Elements.{All-rest}
 use Rattle.flow_collect.specs.declared.session_thread.Start.{Start}
-use Rattle.flow_collect.proofs.ZipLists.{zip_more, split_on}
+use Rattle.std.proofs.lemmas.Slice.Zip.{all_zipped_more}
+use Rattle.flow_collect.proofs.ZipLists.{split_on}
 use Rattle.flow_collect.proofs.threads.sessions.start_sessions.Goals as goal
 
 pub loop-start-init : goal.loop-start-init
@@ -14,8 +14,8 @@ loop-start-preserved g c =
     let New = λ (start : Start g.row.S.Denot). start.sender.sent ≡ [] in (
       inv.0 ++ c.in-Some.start ∷ [],
       split_on _ inv.0 _ _ _ inv.1 c.in-Some.ensures.items,
-      All-tail New _ _ (subst (All New) c.in-Some.ensures.items inv.2),
+      All-rest New _ _ _ c.in-Some.ensures.items inv.2,
       omega (arith, c.in-Some.ensures.cases),
-      rw c.push_back_reserved.ensures.items (zip_more _ _ _ _ _ inv.4 (ap (λ p. p.start.value) c.in-Ok.ensures.ok ∙ c.of.ensures)),
+      rw c.push_back_reserved.ensures.items (all_zipped_more _ _ _ _ _ inv.4 (ap (λ p. p.start.value) c.in-Ok.ensures.ok ∙ c.of.ensures)),
       omega (arith, c.in-Some.ensures.cases),
     )

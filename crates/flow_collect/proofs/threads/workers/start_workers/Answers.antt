@@ -1,8 +1,8 @@
-use Rattle.std.proofs.Common.{◌∷◌, ◌++◌, [], ap, ◌∙◌, arith, subst}
-use Rattle.std.specs.Prelude.{All}
-use Rattle.std.proofs.lemmas.List.Elements.{All-tail}
+use Rattle.std.proofs.Common.{◌∷◌, ◌++◌, [], ap, ◌∙◌, arith}
+use Rattle.std.proofs.lemmas.List.Elements.{All-rest}
 use Rattle.flow_collect.specs.Lanes.{IsUnused}
-use Rattle.flow_collect.proofs.ZipLists.{zip_more, split_on}
+use Rattle.std.proofs.lemmas.Slice.Zip.{all_zipped_more}
+use Rattle.flow_collect.proofs.ZipLists.{split_on}
 use Rattle.flow_collect.proofs.threads.workers.start_workers.Goals as goal
 
 pub loop-lot-preserved : goal.loop-lot-preserved
@@ -10,8 +10,8 @@ loop-lot-preserved g c =
     let inv = c.loop-lot.invariant in (
       inv.0 ++ c.in-Some.lot ∷ [],
       split_on _ inv.0 _ _ _ inv.1 c.in-Some.ensures.items,
-      All-tail IsUnused _ _ (subst (All IsUnused) c.in-Some.ensures.items inv.2),
+      All-rest IsUnused _ _ _ c.in-Some.ensures.items inv.2,
       omega (arith, c.in-Some.ensures.cases),
-      rw c.push_back_reserved.ensures.items (zip_more _ _ _ _ _ inv.4 (ap (λ p. p.lot.value) c.in-Ok.ensures.ok ∙ c.of.ensures)),
+      rw c.push_back_reserved.ensures.items (all_zipped_more _ _ _ _ _ inv.4 (ap (λ p. p.lot.value) c.in-Ok.ensures.ok ∙ c.of.ensures)),
       omega (arith, c.in-Some.ensures.cases),
     )
