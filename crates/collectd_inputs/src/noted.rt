@@ -27,6 +27,16 @@ impl Note {
         self.reason.get().copied()
     }
 
+    // The same answer. If it is a failure, why is noted.
+    fn noted<V>(&self, answer: io::Result<V>) -> io::Result<V>
+        ensures { result ≡ answer }
+    {
+        if let Err(error) = &answer {
+            self.take(error);
+        }
+        answer
+    }
+
     fn take(&self, error: &io::Error) {
         if error.kind() != ErrorKind::Interrupted {
             let _ = self.reason.try_set(Reason::of(error));
@@ -66,13 +76,7 @@ impl<T: Read> Read for Noted<T> {
     ghost remaining = { T.remaining };
 
     fn read(&mut self, buffer: &mut [u8]) -> io::Result<usize> {
-        match self.stream.read(buffer) {
-            Ok(count) => Ok(count),
-            Err(error) => {
-                self.note.take(&error);
-                Err(error)
-            }
-        }
+        self.note.noted(self.stream.read(buffer))
     }
 }
 
@@ -80,22 +84,10 @@ impl<T: Write> Write for Noted<T> {
     ghost contents = { T.contents };
 
     fn write(&mut self, octets: &[u8]) -> io::Result<usize> {
-        match self.stream.write(octets) {
-            Ok(count) => Ok(count),
-            Err(error) => {
-                self.note.take(&error);
-                Err(error)
-            }
-        }
+        self.note.noted(self.stream.write(octets))
     }
 
     fn flush(&mut self) -> io::Result<()> {
-        match self.stream.flush() {
-            Ok(()) => Ok(()),
-            Err(error) => {
-                self.note.take(&error);
-                Err(error)
-            }
-        }
+        self.note.noted(self.stream.flush())
     }
 }
