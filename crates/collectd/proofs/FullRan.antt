@@ -1,7 +1,7 @@
 -- What a run that reports in full wrote, and what it is without the rest.
 use Rattle.std.proofs.Common.{◌≡◌, ℕ, ◌+◌, ◌<◌, ◌≤◌, Bool, true, false, List, [], ◌∷◌, length, take, get_or, All, Option, Some, None, refl, sym, ◌∙◌, subst}
-use Rattle.std.proofs.lemmas.List.{take_more, take_all}
-use Rattle.std.proofs.lemmas.List.Elements.{All-nil, All-cons, All-append, All-head, All-tail, All-map, All-weaker}
+use Rattle.std.proofs.lemmas.List.{take_all}
+use Rattle.std.proofs.lemmas.List.Elements.{All-nil, All-cons, All-more, All-head, All-tail, All-map, All-weaker}
 use Rattle.std.specs.Prelude.{◌↔◌, IsTrue, ◌≢◌, ◌||◌, is_some, if◌then◌else◌, ◌==◌, nat_lt, IfSome, IfNone}
 use Rattle.std.specs.Option.{ForSome}
 use Rattle.ipfix_session.specs.Sources.{SourceView}
@@ -41,9 +41,7 @@ no_fault_from (full ∷ fulls) all =
 -- the first ones, and one more
 pub none_more : (rs : List FullReport) (i : ℕ) (r : FullReport) → i < length rs → All NoFault (take i rs) → r ≡ get_or rs i r → false ≡ is_some r.report.fault → All NoFault (take (i + 1) rs)
 none_more rs i r less before is none =
-    let here : NoFault (get_or rs i r) = subst NoFault is (not_some r.report.fault none) in
-    subst (λ (xs : List FullReport). All NoFault xs) (sym (take_more rs i r less))
-    (All-append NoFault (take i rs) (get_or rs i r ∷ []) before (All-cons NoFault (get_or rs i r) [] here (All-nil NoFault)))
+    All-more NoFault rs i r less before (subst NoFault is (not_some r.report.fault none))
 
 -- all of them
 pub none_of_all : (rs : List FullReport) (i : ℕ) → length rs ≤ i → All NoFault (take i rs) → All NoFault rs

@@ -2,6 +2,7 @@
 use Rattle.std.proofs.Common.{◌≡◌, ℕ, true, false, List, [], All, Option, Some, None, refl, subst, inr}
 use Rattle.std.specs.Prelude.{◌↔◌, ◌⊎◌, is_some, IfSome}
 use Rattle.std.specs.Option.{ForSome}
+use Rattle.std.proofs.lemmas.Option.{IfSome_then}
 use Rattle.ipfix_message.specs.declared.record.DataRecord.{DataRecord}
 use Rattle.ipfix_session.specs.Sources.{SourceView}
 use Rattle.ipfix_session.specs.declared.report.SessionReport.{SessionReport}
@@ -41,15 +42,11 @@ module _ {S : Type 0} (seen : S → SourceView) where
 
 -- ---- a run by a caller that has one status more, for what can't be opened
 
-refused_if : {X : Type 0} (fault : Option X) (status : ℕ) (Untouched : Type 0) (Told : X → Type 0) → IfSome fault (λ x. (status ≡ 3) × Untouched × Told x) → IfSome fault (λ x. ((status ≡ 2) ⊎ (status ≡ 3)) × Untouched)
-refused_if None status Untouched Told refused = tt
-refused_if (Some x) status Untouched Told refused = (inr refused.0, refused.1)
-
 -- arguments that have a fault
 pub refused_for : (pool : Pool) (sources count status : ℕ) (Untouched : Type 0) (Told : CollectFault → Type 0) → sources ≡ count → IfSome (fault_of_arguments pool sources) (λ fault. (status ≡ 3) × Untouched × Told fault)
     → IfSome (fault_of_arguments pool count) (λ fault. ((status ≡ 2) ⊎ (status ≡ 3)) × Untouched)
 refused_for pool sources count status Untouched Told same refused =
-    refused_if (fault_of_arguments pool count) status Untouched Told (subst (λ (n : ℕ). IfSome (fault_of_arguments pool n) (λ fault. (status ≡ 3) × Untouched × Told fault)) same refused)
+    IfSome_then (fault_of_arguments pool count) (subst (λ (n : ℕ). IfSome (fault_of_arguments pool n) (λ fault. (status ≡ 3) × Untouched × Told fault)) same refused) (λ fault told. (inr told.0, told.1))
 
 -- ---- a test of a fault
 

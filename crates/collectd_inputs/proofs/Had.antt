@@ -1,9 +1,9 @@
 -- Sources that came one after another.
 use Rattle.std.proofs.Common.{◌≡◌, ℕ, ◌+◌, ◌<◌, ◌≤◌, List, [], ◌∷◌, ◌++◌, length, take, get_or, All, Option, None, Some, refl, sym, ap, ◌∙◌, subst, append_assoc, arith}
 use Rattle.std.proofs.lemmas.List.{length-append, take_more, take_all}
-use Rattle.std.proofs.lemmas.List.Elements.{All-nil, All-cons, All-append}
+use Rattle.std.proofs.lemmas.List.Elements.{All-push}
+use Rattle.std.proofs.lemmas.Slice.Zip.{all_zipped_more}
 use Rattle.std.specs.List.{AllZip}
-use Rattle.flow_export.proofs.RowFields.{AllZip-append}
 use Rattle.collectd_inputs.specs.Had.{Came}
 
 pub Came-nil : {S : Type 0} (a : Option (List S)) → Came a a []
@@ -27,18 +27,11 @@ module _ {P S : Type 0} (opens : P → S → Type 0) where
   pub one_opened : (paths : List P) (i : ℕ) (path : P) (had new : List S) (source : S) → i < length paths → new ≡ had ++ source ∷ [] → AllZip opens (take i paths) had → opens (get_or paths i path) source
       → AllZip opens (take (i + 1) paths) new
   one_opened paths i path had new source less is first one =
-      rw is (subst (λ (ps : List P). AllZip opens ps (had ++ source ∷ [])) (sym (take_more paths i path less)) (AllZip-append opens (take i paths) had (get_or paths i path ∷ []) (source ∷ []) first (one, tt)))
+      rw is (subst (λ (ps : List P). AllZip opens ps (had ++ source ∷ [])) (sym (take_more paths i path less)) (all_zipped_more opens (take i paths) had (get_or paths i path) source first one))
 
   -- all of them
   pub all_opened : (paths : List P) (i : ℕ) (had : List S) → length paths ≤ i → AllZip opens (take i paths) had → AllZip opens paths had
   all_opened paths i had all first = subst (λ (ps : List P). AllZip opens ps had) (take_all i paths all) first
-
--- as many of them as paths
-pub one_for_each : {P S : Type 0} (opens : P → S → Type 0) (paths : List P) (had : List S) → AllZip opens paths had → length had ≡ length paths
-one_for_each opens [] [] all = refl
-one_for_each opens [] (s ∷ had) all = absurd all
-one_for_each opens (p ∷ paths) [] all = absurd all
-one_for_each opens (p ∷ paths) (s ∷ had) all = let shorter = one_for_each opens paths had all.1 in omega (arith, shorter)
 
 -- ---- sources that are accepted
 
@@ -46,4 +39,4 @@ pub one_longer : {X : Type 0} (old new : List X) (x : X) (n : ℕ) → new ≡ o
 one_longer old new x n is count = let both = length-append old (x ∷ []) in rw is (omega (arith, both, count))
 
 pub one_more : {X : Type 0} (P : X → Type 0) (old new : List X) (x : X) → new ≡ old ++ x ∷ [] → All P old → P x → All P new
-one_more P old new x is all one = rw is (All-append P old (x ∷ []) all (All-cons P x [] one (All-nil P)))
+one_more P old new x is all one = rw is (All-push P old x all one)

@@ -1,5 +1,5 @@
 -- Sources that were told one after another.
-use Rattle.std.proofs.Common.{◌≡◌, ℕ, ◌+◌, ◌<◌, List, [], ◌∷◌, ◌++◌, suc, length, take, drop, get_or, map, take-append-drop, drop-cons, Option, Result, Ok, Err, sym, ap, ◌∙◌, subst}
+use Rattle.std.proofs.Common.{◌≡◌, ℕ, ◌+◌, ◌<◌, List, [], ◌∷◌, ◌++◌, suc, length, take, drop, get_or, map, take-append-drop, drop-cons, Option, None, Some, Result, Ok, Err, IfSome, sym, ap, ◌∙◌, subst}
 use Rattle.std.specs.Prelude.{IfErr, OnOk, OnErr}
 use Rattle.std.specs.Result.{IsErrAnd}
 use Rattle.std.specs.List.{AllZip}
@@ -41,19 +41,28 @@ zip_names name_of [] (o ∷ origins) all = absurd all
 zip_names name_of (p ∷ paths) [] all = absurd all
 zip_names name_of (p ∷ paths) (o ∷ origins) all = (all.0, zip_names name_of paths origins all.1)
 
+-- a list by its item at a place
+pub map-at : {P X : Type 0} (f : P → X) (xs : List P) (i : ℕ) (d : P) → i < length xs → map f xs ≡ map f (take i xs) ++ f (get_or xs i d) ∷ map f (drop (suc i) xs)
+map-at {P} f xs i d less =
+    let place : xs ≡ take i xs ++ (get_or xs i d ∷ drop (suc i) xs) = sym (take-append-drop i xs) ∙ ap (λ (l : List P). take i xs ++ l) (drop-cons xs i d less) in
+    ap (map f) place ∙ map-append f (take i xs) (get_or xs i d ∷ drop (suc i) xs)
+
 pub stops_at : {P : Type 0} (name_of : P → List ℕ) (paths : List P) (telling : Telling) (Told : List ℕ → Type 0) (i : ℕ) (d : P) (stopped : List ℕ) (origins : List Origin) → i < length paths → stopped ≡ name_of (get_or paths i d)
     → AllZip (λ p. IsFileNamed (name_of p)) (take i paths) origins → Told (opened_lines telling origins) → StopsAt (map name_of paths) telling Told stopped
-stops_at {P} name_of paths telling Told i d stopped origins less same named told =
-    let rest : List P = get_or paths i d ∷ drop (suc i) paths in
-    let place : paths ≡ take i paths ++ rest = sym (take-append-drop i paths) ∙ ap (λ (l : List P). take i paths ++ l) (drop-cons paths i d less) in
+stops_at name_of paths telling Told i d stopped origins less same named told =
     record {
       before = map name_of (take i paths);
       later = map name_of (drop (suc i) paths);
-      place = rw same (ap (λ (l : List P). map name_of l) place ∙ map-append name_of (take i paths) rest);
+      place = rw same (map-at name_of paths i d less);
       origins = origins;
       named = zip_names name_of (take i paths) origins named;
       told = told;
     }
+
+-- what holds of each value holds of the one that is there
+pub always : {X : Type 0} (o : Option X) {P : X → Type 0} → ((x : X) → P x) → IfSome o P
+always None all = tt
+always (Some x) all = all x
 
 -- what holds at an error whichever it is
 pub even_if_ok : {T E : Type 0} (answer : Result T E) (P : Type 0) → P → OnErr answer P

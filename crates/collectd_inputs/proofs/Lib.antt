@@ -1,4 +1,3 @@
 pub mod Had
 pub mod InputsTold
-mod TimeLimits
 mod PlansUnder

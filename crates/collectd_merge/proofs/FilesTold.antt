@@ -1,8 +1,8 @@
 -- Files that were told as opened, one after another, until a merge ended.
-use Rattle.std.proofs.Common.{◌≡◌, ℕ, ◌+◌, ◌<◌, ◌≤◌, suc, List, [], ◌∷◌, ◌++◌, length, take, drop, get_or, map, take-append-drop, drop-cons, Option, Result, sym, ap, ◌∙◌, subst, append-nil, arith}
+use Rattle.std.proofs.Common.{◌≡◌, ℕ, ◌+◌, ◌<◌, ◌≤◌, suc, List, ◌++◌, length, take, drop, get_or, map, take-append-drop, Option, Result, sym, ap, ◌∙◌, subst, append-nil, arith}
 use Rattle.std.specs.Prelude.{OnErr, OnOk}
 use Rattle.std.specs.Io.KnownBytes.{Appends}
-use Rattle.std.proofs.lemmas.List.{length-map, map-append, length-take-le, take_more}
+use Rattle.std.proofs.lemmas.List.{length-map, map-append, map_more, length-take-le}
 use Rattle.exit_status.specs.Statuses.{number_of}
 use Rattle.run_reports.specs.OpeningLines.{if_verbose}
 use Rattle.run_reports.specs.Told.{AreTold}
@@ -15,13 +15,11 @@ use Rattle.collectd_merge.specs.MergesTold.{TellsNotMerged}
 use Rattle.collectd_merge.specs.declared.not_merged.NotMerged.{NotMerged}
 use Rattle.collectd_merge.specs.declared.not_merged.NotMerged.TheVariants.{NotOpened, File, Whole}
 use Rattle.run_reports.proofs.LinesTold.{both_told, told_then}
+use Rattle.collectd_inputs.proofs.InputsTold.{map-at}
 
 module _ {P : Type 0} (name_of : P → List ℕ) (paths : List P) where
   abbrev pub first_names : ℕ → List (List ℕ)
   first_names i = map name_of (take i paths)
-
-  names_more : (i : ℕ) (d : P) → i < length paths → first_names (i + 1) ≡ first_names i ++ name_of (get_or paths i d) ∷ []
-  names_more i d less = ap (λ (l : List P). map name_of l) (take_more paths i d less) ∙ map-append name_of (take i paths) (get_or paths i d ∷ [])
 
   names_count : (i : ℕ) → i ≤ length paths → length (first_names i) ≡ i
   names_count i within = length-map (take i paths) name_of ∙ length-take-le i paths within
@@ -31,7 +29,7 @@ module _ {P : Type 0} (name_of : P → List ℕ) (paths : List P) where
   lines_more telling i d less =
       let name = name_of (get_or paths i d) in
       let line = λ (n : ℕ) (name : List ℕ). if_verbose telling (file_opened_line n name) in
-      ap (λ (l : List (List ℕ)). files_opened_lines telling l) (names_more i d less) ∙ numbered-last line (first_names i) name
+      ap (λ (l : List (List ℕ)). files_opened_lines telling l) (map_more name_of paths i d less) ∙ numbered-last line (first_names i) name
       ∙ ap (λ (n : ℕ). files_opened_lines telling (first_names i) ++ line (n + 1) name) (names_count i (omega (arith, less)))
 
   module _ (old mid new : Option (List ℕ)) (Before After : Type 0) (telling : Telling) where
@@ -45,11 +43,9 @@ module _ {P : Type 0} (name_of : P → List ℕ) (paths : List P) where
     pub stops_merge : (i : ℕ) (d : P) (not_merged : NotMerged) → i < length paths → AreTold old mid Before (files_opened_lines telling (first_names i))
         → IsNotAdded telling (i + 1) (name_of (get_or paths i d)) (AreTold mid new After) not_merged → (Before → After) → StopsMerge (map name_of paths) telling (AreTold old new After) not_merged
     stops_merge i d (NotOpened path reason) less first not_added kept =
-        let rest : List P = get_or paths i d ∷ drop (suc i) paths in
-        let place : paths ≡ take i paths ++ rest = sym (take-append-drop i paths) ∙ ap (λ (l : List P). take i paths ++ l) (drop-cons paths i d less) in
         record {
           opened = first_names i;
-          stops = (map name_of (drop (suc i) paths), rw not_added.0 (ap (λ (l : List P). map name_of l) place ∙ map-append name_of (take i paths) rest));
+          stops = (map name_of (drop (suc i) paths), rw not_added.0 (map-at name_of paths i d less));
           told = subst (λ (l : List ℕ). AreTold old new After l) (append-nil _) (both_told old mid new Before After _ _ first not_added.1 kept);
         }
     stops_merge i d (File number path fault) less first not_added kept =
@@ -58,7 +54,7 @@ module _ {P : Type 0} (name_of : P → List ℕ) (paths : List P) where
           stops = (
             first_names i,
             map name_of (drop (i + 1) paths),
-            rw not_added.1 (names_more i d less),
+            rw not_added.1 (map_more name_of paths i d less),
             ap (λ (l : List P). map name_of l) (sym (take-append-drop (i + 1) paths)) ∙ map-append name_of (take (i + 1) paths) (drop (i + 1) paths),
             not_added.0 ∙ sym (names_count (i + 1) (omega (arith, less))),
           );

@@ -1,9 +1,10 @@
 -- Files that are merged one after another.
-use Rattle.std.proofs.Common.{◌≡◌, ℕ, ◌+◌, ◌<◌, ◌≤◌, List, [], ◌∷◌, ◌++◌, length, take, get_or, All, Option, sym, ap, ◌∙◌, subst, append-nil, append_assoc}
+use Rattle.std.proofs.Common.{◌≡◌, ℕ, ◌+◌, ◌<◌, ◌≤◌, List, [], ◌∷◌, ◌++◌, length, take, get_or, All, Option, sym, ◌∙◌, subst}
 use Rattle.std.specs.Prelude.{flat_map}
 use Rattle.std.specs.List.{AllZip}
-use Rattle.std.proofs.lemmas.List.{take_more, take_all}
-use Rattle.std.proofs.lemmas.List.Elements.{All-append, All-cons, All-nil}
+use Rattle.std.proofs.lemmas.List.{flat_map_more, take_more, take_all}
+use Rattle.std.proofs.lemmas.List.Elements.{All-nil, All-push}
+use Rattle.std.proofs.lemmas.Slice.Zip.{all_zipped_more}
 use Rattle.ipfix_session.specs.Sources.{SourceView}
 use Rattle.flow_table.specs.AddedUp.{rows_in, AreAddedUp}
 use Rattle.flow_table.specs.Plans.{PlanValue}
@@ -11,7 +12,6 @@ use Rattle.flow_table.specs.SameTables.{RowValue}
 use Rattle.flow_table.specs.declared.table.Table.{Table}
 use Rattle.flow_merge.specs.Merging.{AddsExport, GiveExports, GivesExport, StandsFor, merging_plan}
 use Rattle.flow_merge.specs.declared.merging.Merging.{Merging}
-use Rattle.flow_merge.proofs.RowsRead.{zip_more}
 use Rattle.collectd_inputs.specs.Had.{AreOpened, Came, IsOpened}
 use Rattle.collectd_merge.specs.Merges.{AddsFile, IsMerged}
 use Rattle.collectd_inputs.proofs.Had.{Came-nil, Came-trans}
@@ -20,10 +20,6 @@ use Rattle.ipfix_session.specs.declared.driver.TheConstants.{READ_LIMIT}
 
 abbrev pub all_rows : List (List RowValue) → List RowValue
 all_rows exports = flat_map (λ rows. rows) exports
-
-all_rows-more : (exports : List (List RowValue)) (rows : List RowValue) → all_rows (exports ++ rows ∷ []) ≡ all_rows exports ++ rows
-all_rows-more [] rows = append-nil rows
-all_rows-more (x ∷ exports) rows = ap (λ (l : List RowValue). x ++ l) (all_rows-more exports rows) ∙ sym (append_assoc x (all_rows exports) rows)
 
 module _ {S X : Type 0} (seen : S → SourceView) (opens : X → S → Type 0) (plan : PlanValue) (start : Option (List S)) where
   -- the sources of these paths were opened and read, and it stands for all of their rows
@@ -48,13 +44,13 @@ module _ {S X : Type 0} (seen : S → SourceView) (opens : X → S → Type 0) (
       record {
         same_plan = file.same_plan ∙ so_far.same_plan;
         sources = so_far.sources ++ file.before ∷ [];
-        opened = zip_more opens paths so_far.sources path file.before so_far.opened (same path file.before file.had.asked);
+        opened = all_zipped_more opens paths so_far.sources path file.before so_far.opened (same path file.before file.had.asked);
         came = Came-trans start before after so_far.sources (file.before ∷ []) so_far.came file.had.came;
-        unread = All-append (IsUnread seen) so_far.sources (file.before ∷ []) so_far.unread (All-cons (IsUnread seen) file.before [] file.unread (All-nil (IsUnread seen)));
+        unread = All-push (IsUnread seen) so_far.sources file.before so_far.unread file.unread;
         exports = so_far.exports ++ one.more ∷ [];
-        given = zip_more (λ source rows. (left : S) × GivesExport seen READ_LIMIT plan source left rows) so_far.sources so_far.exports file.before one.more so_far.given
+        given = all_zipped_more (λ source rows. (left : S) × GivesExport seen READ_LIMIT plan source left rows) so_far.sources so_far.exports file.before one.more so_far.given
             (file.after, subst (λ (p : PlanValue). GivesExport seen READ_LIMIT p file.before file.after one.more) so_far.same_plan one.gives_export);
-        stands = subst (StandsFor new) (sym (all_rows-more so_far.exports one.more)) one.stands;
+        stands = subst (StandsFor new) (flat_map_more (λ (rows : List RowValue). rows) [] so_far.exports one.more) one.stands;
       }
 
   all_read : (paths : List X) (now : Option (List S)) (m : Merging) (table : Table) (so_far : Stands paths now m) → AreAddedUp (all_rows so_far.exports) (rows_in table) → IsMerged seen (AreOpened opens paths start now) plan table

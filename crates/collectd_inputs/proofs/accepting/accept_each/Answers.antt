@@ -1,9 +1,8 @@
-use Rattle.std.proofs.Common.{◌≡◌, ◌<◌, rules}
-use Rattle.std.specs.Duration.{as_nanos}
+use Rattle.std.proofs.Common.{refl, rules, arith}
+use Rattle.std.proofs.lemmas.Option.{IfSome_then}
 use Rattle.collectd_inputs.proofs.Had.{Came-nil, one_came, one_longer, one_more}
 use Rattle.collectd_inputs.specs.Origins.{IsPeer}
-use Rattle.collectd_inputs.proofs.InputsTold.{even_if_ok, nothing_opened, opened_told}
-use Rattle.collectd_inputs.proofs.TimeLimits.{at_start, has_limit, is_error, none_had}
+use Rattle.collectd_inputs.proofs.InputsTold.{always, even_if_ok, nothing_opened, opened_told}
 use Rattle.collectd_inputs.proofs.accepting.accept_each.Goals as goal
 
 pub loop-number-init : goal.loop-number-init
@@ -12,7 +11,7 @@ loop-number-init g c = record {
   asked = search rules;
   came = rw c.new-sources.ensures (Came-nil (g.L.Listener.coming c.args.listener.now));
   same = λ limit source gives. gives;
-  in_time = at_start c.args.idle (λ limit. as_nanos limit ≡ 0);
+  in_time = always c.args.idle (λ limit zero. refl);
   count = search rules;
   peers = search rules;
   told = nothing_opened (g.E.WriteLines.contents c.args.err.now) (g.E.WriteLines.failed c.args.err.now) c.args.telling c.new-origins.result.items (search rules);
@@ -27,7 +26,7 @@ loop-number-preserved g c =
       asked = one_more (g.L.Listener.gives c.args.listener.now c.args.idle) _ _ _ c.in-Ok.ensures so_far.asked (rw c.new-watched.ensures (so_far.same _ _ c.in_ok-source.ensures.given));
       came = one_came _ _ _ _ _ _ c.in-Ok.ensures so_far.came (rw c.new-watched.ensures c.in_ok-source.ensures.came);
       same = λ limit source gives. so_far.same limit source (c.next_source.ensures.same limit source gives);
-      in_time = has_limit c.args.idle (λ limit. as_nanos limit ≡ 0) _ c.in_ok-source.ensures.no_time;
+      in_time = IfSome_then c.args.idle c.in_ok-source.ensures.no_time (λ limit never zero. absurd (cc (never zero)));
       count = one_longer _ _ _ _ c.in-Ok-push.ensures.items so_far.count;
       peers = one_more IsPeer _ _ _ c.in-Ok-push.ensures.items so_far.peers tt;
       told = opened_told _ _ _ _ _ c.args.telling c.loop-number.origins.items _ _ _ c.write_opened.result c.in-Ok-push.ensures.items so_far.count so_far.told c.write_opened.ensures.told c.write_opened.ensures.failed c.write_opened.ensures.kept;
@@ -35,10 +34,10 @@ loop-number-preserved g c =
     }
 
 pub returns-in_default-clause-no_time : goal.returns-in_default-clause-no_time
-returns-in_default-clause-no_time g c = is_error c.args.idle (λ limit. as_nanos limit ≡ 0) (0 < c.args.count)
+returns-in_default-clause-no_time g c = always c.args.idle (λ limit zero some. refl)
 
 pub returns-in_default-push-clause-no_time : goal.returns-in_default-push-clause-no_time
-returns-in_default-push-clause-no_time g c = is_error c.args.idle (λ limit. as_nanos limit ≡ 0) (0 < c.args.count)
+returns-in_default-push-clause-no_time g c = always c.args.idle (λ limit zero some. refl)
 
 pub returns-clause-accepted : goal.returns-clause-accepted
 returns-clause-accepted g c = record {
@@ -48,7 +47,7 @@ returns-clause-accepted g c = record {
 }
 
 pub returns-clause-no_time : goal.returns-clause-no_time
-returns-clause-no_time g c = none_had c.args.idle (λ limit. as_nanos limit ≡ 0) c.loop-number.number c.args.count (search rules) c.loop-number.invariant.in_time
+returns-clause-no_time g c = IfSome_then c.args.idle c.loop-number.invariant.in_time (λ limit none zero some. absurd (omega (arith, none zero, some)))
 
 pub returns-clause-peers : goal.returns-clause-peers
 returns-clause-peers g c = record {

@@ -1,5 +1,4 @@
-use Rattle.std.proofs.Common.{◌≡◌, List, ℕ, refl, sym, subst, rules}
-use Rattle.run_reports.specs.Told.{AreTold}
+use Rattle.std.proofs.Common.{rules}
 use Rattle.collectd_inputs.proofs.Had.{all_opened, Came-nil, one_came, one_longer, one_opened}
 use Rattle.collectd_inputs.proofs.InputsTold.{nothing_opened, opened_told, passed_on, stops_at}
 use Rattle.collectd_inputs.proofs.opening_all.open_all.Goals as goal

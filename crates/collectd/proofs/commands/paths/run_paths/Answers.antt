@@ -1,5 +1,5 @@
 use Rattle.std.proofs.Common.{rules}
-use Rattle.collectd_inputs.proofs.Had.{one_for_each}
+use Rattle.std.proofs.lemmas.Slice.Zip.{AllZip-long}
 use Rattle.run_reports.specs.Told.{AreTold}
 use Rattle.run_reports.proofs.LinesTold.{both_told}
 use Rattle.collectd.proofs.Collected.{collected, not_collected}
@@ -8,7 +8,7 @@ use Rattle.collectd.proofs.commands.paths.run_paths.Goals as goal
 
 pub returns-in-Ok-clause-collects : goal.returns-in-Ok-clause-collects
 returns-in-Ok-clause-collects g c =
-    let same = one_for_each _ _ _ c.in-Ok.ensures.opened.one_each in
+    let same = AllZip-long _ _ _ c.in-Ok.ensures.opened.one_each in
     collected _ _ _ _ _ _ _ _ _ _ _ _ _ _ _ (AreTold (g.E.WriteLines.contents c.open_all.new.err) (g.E.WriteLines.contents c.run_in_full.new.err) (g.E.WriteLines.failed c.run_in_full.new.err))
     c.into_sources-sources.result.items c.in-Ok.field-0.sources c.into_sources-sources.result.len c.in-Ok.field-0.origins.items c.deref.result.now c.into_sources-sources.ensures.list c.in-Ok.ensures.opened c.into_sources-sources.ensures.unread (search (rules, same)) c.in-Ok.ensures.named c.deref.ensures.value
     (λ lines told. both_told _ _ _ _ _ _ _ c.in-Ok.ensures.told told c.run_in_full.ensures.kept) c.run_in_full.ensures.statuses c.run_in_full.ensures.table c.run_in_full.ensures.failed c.run_in_full.ensures.refused
