@@ -3,6 +3,7 @@ use Rattle.std.proofs.Common.{◌≡◌, ℕ, List, [], ◌∷◌, length, Optio
 use Rattle.ipfix_elements.specs.Values.{number_in, cell_in}
 use Rattle.ipfix_elements.specs.declared.cell.Cell.{Cell}
 use Rattle.ipfix_elements.specs.declared.cell.Cell.TheVariants.{Number, Ipv4, Ipv6, Mac}
+use Rattle.ipfix_elements.specs.declared.kind.Kind.{Kind}
 use Rattle.ipfix_elements.specs.declared.kind.Kind.TheVariants as kinds
 use Rattle.ipfix_elements.specs.declared.kind.Width.{Width}
 use Rattle.flow_table.specs.Fitting.{IsCellOf}
@@ -24,15 +25,16 @@ mac_whole : (prefix : Option ℕ) (address : List ℕ) → projected prefix (Mac
 mac_whole None address = refl
 mac_whole (Some bits) address = refl
 
+-- a cell that a prefix leaves as it is
+has_whole : (kind : Kind) (prefix : Option ℕ) (found : Option Cell) (cell : Cell) (words : List ℕ) → found ≡ Some cell → projected prefix cell ≡ cell → IsCellOf kind cell → cell_words kind cell ≡ Some words
+    → HasCell kind (option_map (projected prefix) found) words
+has_whole kind prefix found cell words is whole fits are =
+    record { cell = cell; is = ap (λ (o : Option Cell). option_map (projected prefix) o) is ∙ ap (λ (x : Cell). Some x) whole; fits = fits; are = are }
+
 pub has_number : (width : Width) (prefix : Option ℕ) (octets : List ℕ) (n : ℕ) → IsOctets octets → number_in (kinds.Unsigned width) octets ≡ Some n
     → HasCell (kinds.Unsigned width) (option_map (projected prefix) (cell_in (kinds.Unsigned width) octets)) (n ∷ [])
 has_number width prefix octets n small h =
-    record {
-      cell = Number n;
-      is = ap (λ (o : Option ℕ). option_map (projected prefix) (option_map (λ (m : ℕ). Number m) o)) h ∙ ap (λ (cell : Cell). Some cell) (number_whole prefix n);
-      fits = number_fits width octets n small h;
-      are = refl;
-    }
+    has_whole (kinds.Unsigned width) prefix (cell_in (kinds.Unsigned width) octets) (Number n) (n ∷ []) (ap (λ (o : Option ℕ). option_map (λ (m : ℕ). Number m) o) h) (number_whole prefix n) (number_fits width octets n small h) refl
 
 pub has_ipv4 : (prefix : Option ℕ) (octets address kept words : List ℕ) → address ≡ octets → length octets ≡ 4 → Ipv4 kept ≡ projected prefix (Ipv4 address) → cell_words kinds.Ipv4 (Ipv4 kept) ≡ Some words
     → HasCell kinds.Ipv4 (option_map (projected prefix) (cell_in kinds.Ipv4 octets)) words
@@ -48,19 +50,9 @@ has_ipv4 prefix octets address kept words same long is are =
 pub has_ipv6 : (prefix : Option ℕ) (octets address words : List ℕ) → address ≡ octets → length octets ≡ 16 → cell_words kinds.Ipv6 (Ipv6 address) ≡ Some words
     → HasCell kinds.Ipv6 (option_map (projected prefix) (cell_in kinds.Ipv6 octets)) words
 has_ipv6 prefix octets address words same long are =
-    record {
-      cell = Ipv6 octets;
-      is = rw long (ap (λ (cell : Cell). Some cell) (ipv6_whole prefix octets));
-      fits = long;
-      are = ap (λ (a : List ℕ). cell_words kinds.Ipv6 (Ipv6 a)) (sym same) ∙ are;
-    }
+    has_whole kinds.Ipv6 prefix (cell_in kinds.Ipv6 octets) (Ipv6 octets) words (rw long refl) (ipv6_whole prefix octets) long (ap (λ (a : List ℕ). cell_words kinds.Ipv6 (Ipv6 a)) (sym same) ∙ are)
 
 pub has_mac : (prefix : Option ℕ) (octets address words : List ℕ) → address ≡ octets → length octets ≡ 6 → cell_words kinds.Mac (Mac address) ≡ Some words
     → HasCell kinds.Mac (option_map (projected prefix) (cell_in kinds.Mac octets)) words
 has_mac prefix octets address words same long are =
-    record {
-      cell = Mac octets;
-      is = rw long (ap (λ (cell : Cell). Some cell) (mac_whole prefix octets));
-      fits = long;
-      are = ap (λ (a : List ℕ). cell_words kinds.Mac (Mac a)) (sym same) ∙ are;
-    }
+    has_whole kinds.Mac prefix (cell_in kinds.Mac octets) (Mac octets) words (rw long refl) (mac_whole prefix octets) long (ap (λ (a : List ℕ). cell_words kinds.Mac (Mac a)) (sym same) ∙ are)

@@ -1,10 +1,13 @@
-use Rattle.std.proofs.Common.{◌∷◌, ◌++◌, [], Option, refl, sym, ap, ◌∙◌, subst}
+use Rattle.std.proofs.Common.{◌∷◌, ◌++◌, [], List, Option, refl, sym, ap, ◌∙◌, subst}
+use Rattle.std.specs.Result.{result_err}
+use Rattle.ipfix_message.specs.declared.record.DataRecord.{DataRecord}
 use Rattle.flow_table.specs.declared.table_fault.TableFault.{TableFault}
 use Rattle.ipfix_message.specs.Outcome.{unless}
 use Rattle.flow_table.specs.Partials.{plan_of, fault_of, StandsFor, StandsBy}
 use Rattle.flow_table.specs.Reading.{class_of}
 use Rattle.flow_table.proofs.Bags.{too_large_more}
 use Rattle.flow_table.proofs.Holding.{missing_after, stands_on, answers, no_fault, one_fault, large_of, small_on_ok, large_if_err}
+use Rattle.flow_table.proofs.partial.Partial.add.Goals.{After-take-result}
 use Rattle.flow_table.proofs.partial.Partial.add.Goals as goal
 
 pub returns-in-Some-clause-answer : goal.returns-in-Some-clause-answer
@@ -36,24 +39,29 @@ pub returns-clause-sticky : goal.returns-clause-sticky
 unfolding fault_of
 returns-clause-sticky c = λ some. absurd (no_fault c.args.self.now.fault c.in_default.is some)
 
+-- the rows and the tally stand for the record, too
+taken : (c : After-take-result) (rs : List DataRecord) → StandsFor c.args.self.now rs → StandsBy (result_err c.take-result.result) c.args.self.now.plan c.take-result.new.rows c.take-result.new.tally (rs ++ c.args.data_record.now ∷ [])
+unfolding StandsFor
+taken c rs stands =
+    c.take-result.ensures.stands rs (subst (λ (o : Option TableFault). StandsBy o c.args.self.now.plan c.args.self.now.rows c.args.self.now.tally rs) c.in_default.is stands.0)
+
 pub returns-clause-adds : goal.returns-clause-adds
 unfolding StandsFor
 returns-clause-adds c = λ rs stands.
-    let taken =
-    c.take-result.ensures.stands rs (subst (λ (o : Option TableFault). StandsBy o c.args.self.now.plan c.args.self.now.rows c.args.self.now.tally rs) c.in_default.is stands.0) in (
-      subst (λ (o : Option TableFault). StandsBy o c.args.self.now.plan c.take-result.new.rows c.take-result.new.tally (rs ++ c.args.data_record.now ∷ [])) (sym c.err-self.ensures.value) taken,
+    let more = taken (goal.at.returns-clause-adds c).After-take-result rs stands in (
+      subst (λ (o : Option TableFault). StandsBy o c.args.self.now.plan c.take-result.new.rows c.take-result.new.tally (rs ++ c.args.data_record.now ∷ [])) (sym c.err-self.ensures.value) more,
       λ none. missing_after c.args.self.now.plan c.take-result.new.rows c.take-result.new.tally rs (c.args.data_record.now ∷ []) c.args.self.now.missing c.take-result.new.missing c.take-result.result
-          (stands.1 c.in_default.is) c.take-result.ensures.missing (sym c.err-self.ensures.value ∙ none) taken,
+          (stands.1 c.in_default.is) c.take-result.ensures.missing (sym c.err-self.ensures.value ∙ none) more,
     )
 
 pub returns-clause-small : goal.returns-clause-small
-unfolding StandsFor plan_of
+unfolding plan_of
 returns-clause-small c = λ rs stands.
     small_on_ok c.take-result.result c.args.self.now.plan c.take-result.new.rows c.take-result.new.tally (rs ++ c.args.data_record.now ∷ [])
-    (c.take-result.ensures.stands rs (subst (λ (o : Option TableFault). StandsBy o c.args.self.now.plan c.args.self.now.rows c.args.self.now.tally rs) c.in_default.is stands.0))
+    (taken (goal.at.returns-clause-small c).After-take-result rs stands)
 
 pub returns-clause-large : goal.returns-clause-large
-unfolding StandsFor plan_of
+unfolding plan_of
 returns-clause-large c = λ rs stands.
     large_if_err c.take-result.result c.args.self.now.plan c.take-result.new.rows c.take-result.new.tally (rs ++ c.args.data_record.now ∷ [])
-    (c.take-result.ensures.stands rs (subst (λ (o : Option TableFault). StandsBy o c.args.self.now.plan c.args.self.now.rows c.args.self.now.tally rs) c.in_default.is stands.0))
+    (taken (goal.at.returns-clause-large c).After-take-result rs stands)
