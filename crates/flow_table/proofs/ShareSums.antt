@@ -48,8 +48,11 @@ telescope f grows a (suc n) b ends =
 -- ---- the same to each, and 1 more to the earliest
 
 -- what interval k gets where those from low to high get q each, and the first r of them 1 more
-abbrev even_share : ℕ → ℕ → ℕ → ℕ → ℕ → ℕ
+abbrev pub even_share : ℕ → ℕ → ℕ → ℕ → ℕ → ℕ
 even_share low high q r k = if nat_le low k && nat_le k high then q + (if nat_lt (k - low) r then 1 else 0) else 0
+
+pub even_there : (low high q r k : ℕ) → low ≤ k → k ≤ high → even_share low high q r k ≡ q + (if nat_lt (k - low) r then 1 else 0)
+even_there low high q r k from to = grind (arith, leb_tells low k, leb_tells k high)
 
 even_one : (low high q r k : ℕ) → low ≤ k → k ≤ high → even_share low high q r k + min (k - low) r ≡ q + min (k + 1 - low) r
 even_one low high q r k from to = grind (arith, leb_tells low k, leb_tells k high, leb_tells (suc (k - low)) r)
@@ -62,7 +65,7 @@ even_from low high q r a (suc n) from ends =
 
 -- ---- by every method
 
-in_order : (length s e : ℕ) → 0 < length → s ≤ e → interval_of length s ≤ interval_of length e
+pub in_order : (length s e : ℕ) → 0 < length → s ≤ e → interval_of length s ≤ interval_of length e
 in_order length s e positive order = quotient_grows s e length positive order
 
 one_covered : (length s e t v : ℕ) → 0 < length → s ≤ t → t ≤ e → sum_by (whole_share (interval_of length t) v) (covered_by length s e) ≡ v

@@ -3,6 +3,7 @@
 ghost use Rattle.std.specs.Prelude.{◌≡◌, ◌≤◌, ◌<◌, ◌+◌, ℕ, List, Some, OnOk, IfErr, length, if◌then◌else◌};
 ghost use Rattle.ipfix_elements.specs.declared.cell.Cell.{Cell as CellValue};
 ghost use Rattle.flow_table.specs.Flows.{flow_total, flow_part, HasIntervals};
+ghost use Rattle.flow_table.specs.Plans.{IsPlan};
 ghost use Rattle.flow_table.specs.Totals.{IsLargeAt, joined};
 ghost use Rattle.flow_table.specs.Rows.{AreRowsOf, kept_at, place_part};
 ghost use Rattle.flow_table.specs.Words.{key_words};
@@ -41,6 +42,7 @@ fn add_at(
     interval: u64,
     room: &mut Room,
 ) -> Result<(), TableFault>
+    requires sound { IsPlan plan.now }
     requires intervals { HasIntervals plan.now flow }
     requires within { (flow.first ≤ interval) × (interval < flow.first + flow.count) }
     requires counters { length room.old.counters.items ≡ length plan.now.counters }
@@ -69,6 +71,7 @@ fn add_at(
 /// Adds the shares of a flow, whose key and counters were read, to the totals of its key at all
 /// intervals that it contributes to.
 pub fn add_flow(plan: &Plan, rows: &mut Rows, flow: Flow, room: &mut Room) -> Result<(), TableFault>
+    requires sound { IsPlan plan.now }
     requires intervals { HasIntervals plan.now flow }
     requires counters { length room.old.counters.items ≡ length plan.now.counters }
     ensures rows { (key : List CellValue) → key_words plan.now.kinds key ≡ Some room.old.words.items

@@ -1,9 +1,10 @@
 //! How a flow's counters are shared among intervals.
 
-ghost use Rattle.std.specs.Prelude.{◌≡◌, ◌≢◌, ℕ, ◌+◌, ◌*◌, ◌≤◌, ◌<◌, ◌^◌, IsTrue, OnOk};
+ghost use Rattle.std.specs.Prelude.{◌≡◌, ◌≢◌, ℕ, ◌+◌, ◌-◌, ◌*◌, ◌/◌, ◌%◌, ◌≤◌, ◌<◌, ◌^◌, nat_lt, IsTrue, OnOk, if◌then◌else◌};
 ghost use Rattle.std.specs.List.{range_with_len};
-ghost use Rattle.flow_table.specs.Flows.{shares_of};
+ghost use Rattle.flow_table.specs.Flows.{HasIntervals, shares_of};
 ghost use Rattle.flow_table.specs.Intervals.{covers, interval_of, share as share_in, whole_share as whole_share_in, uniform_share as uniform_share_in, proportional_share as proportional_share_in, due_before as due_before_in};
+ghost use Rattle.flow_table.specs.Plans.{IsPlan};
 
 use crate::flow::Flow;
 use crate::method::Method;
@@ -39,6 +40,19 @@ fn share_of(plan: &Plan, span: Span, value: u64, interval: u64) -> u64
     }
 }
 
+// What one of the intervals of a flow gets of its counter.
+fn share_at(plan: &Plan, flow: Flow, value: u64, interval: u64) -> u64
+    requires sound { IsPlan plan.now }
+    requires intervals { HasIntervals plan.now flow }
+    requires within { (flow.first ≤ interval) × (interval < flow.first + flow.count) }
+    ensures { result ≡ share_in plan.now flow.span.start flow.span.end value interval }
+{
+    match plan.method() {
+        Method::Uniform => even_share(flow.count, value, interval - flow.first),
+        _ => share_of(plan, flow.span, value, interval),
+    }
+}
+
 /// Leaves in `shares` what one of the intervals of a flow gets of its counters, unless it is the only one,
 /// which gets all.
 pub(crate) fn read_shares(
@@ -48,6 +62,9 @@ pub(crate) fn read_shares(
     interval: u64,
     shares: &mut Vec<u64>,
 ) -> Result<(), AllocError>
+    requires sound { IsPlan plan.now }
+    requires intervals { HasIntervals plan.now flow }
+    requires within { (flow.first ≤ interval) × (interval < flow.first + flow.count) }
     ensures { OnOk result (flow.count ≢ 1 → shares.new.items
         ≡ shares_of plan.now flow.span.start flow.span.end counters.now interval) }
 {
@@ -56,7 +73,7 @@ pub(crate) fn read_shares(
     }
     shares.clear();
     for value in counters {
-        shares.push(share_of(plan, flow.span, *value, interval))?;
+        shares.push(share_at(plan, flow, *value, interval))?;
     }
     Ok(())
 }
@@ -115,7 +132,15 @@ fn whole_share(one: u64, value: u64, interval: u64) -> u64
     if interval == one { value } else { 0 }
 }
 
-// The same to each covered interval, and 1 more to the earliest ones until nothing is left.
+// The same to each of so many intervals, and 1 more to the earliest ones until nothing is left.
+fn even_share(count: u64, value: u64, place: u64) -> u64
+    requires { 0 < count }
+    ensures { result ≡ value / count + (if nat_lt place (value % count) then 1 else 0) }
+{
+    value / count + u64::from(place < value % count)
+}
+
+// That to each covered interval.
 fn uniform_share(length: u64, span: Span, value: u64, interval: u64) -> u64
     requires { 0 < length }
     ensures { result ≡ uniform_share_in length span.start span.end value interval }
@@ -125,8 +150,7 @@ fn uniform_share(length: u64, span: Span, value: u64, interval: u64) -> u64
     if interval < low || high < interval {
         return 0;
     }
-    let spread = high - low + 1;
-    value / spread + u64::from(interval - low < value % spread)
+    even_share(high - low + 1, value, interval - low)
 }
 
 // What is due at the end of the interval and not yet at its begin.
@@ -146,8 +170,23 @@ fn due_before(length: u64, span: Span, value: u64, interval: u128) -> u64
     requires interval { interval ≤ 2 ^ 64 }
     ensures value { result ≡ due_before_in length span.start span.end value interval }
 {
-    let duration = u128::from(span.end - span.start) + 1;
+    let duration = span.end - span.start + 1;
     let begin = interval * u128::from(length);
-    let milliseconds = begin.saturating_sub(u128::from(span.start)).min(duration);
-    (u128::from(value) * milliseconds / duration) as u64
+    let milliseconds = begin
+        .saturating_sub(u128::from(span.start))
+        .min(u128::from(duration));
+    part_of(value, milliseconds as u64, duration)
+}
+
+// What so many parts of a value are, where all of them make it up. It takes a processor much longer to
+// divide a number of 128 bits than one of 64.
+fn part_of(value: u64, parts: u64, all: u64) -> u64
+    requires some { 0 < all }
+    requires within { parts ≤ all }
+    ensures { result ≡ value * parts / all }
+{
+    match value.checked_mul(parts) {
+        Some(product) => product / all,
+        None => (u128::from(value) * u128::from(parts) / u128::from(all)) as u64,
+    }
 }

@@ -11,6 +11,7 @@ use Rattle.flow_table.proofs.taking.take_flow.Goals as goal
 pub add_flow-requires : goal.add_flow-requires
 add_flow-requires c =
     record {
+      sound = c.counters.ensures.sound;
       intervals = c.requires.intervals;
       counters = ap length (c.in_ok-read_counters.ensures.counters ∙ ap (λ (cs : List ElementId). map (λ e. counter_of e c.args.data_record.now) cs) c.counters.ensures.value) ∙ length-map c.args.plan.now.counters (λ e. counter_of e c.args.data_record.now);
     }
