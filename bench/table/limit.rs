@@ -123,8 +123,8 @@ fn main() -> io::Result<()> {
     io::stdin().read_to_end(&mut input)?;
     let begin = Instant::now();
     let rows = rows_of(&input, &load);
-    let time = begin.elapsed().as_nanos();
     let sum = rows.iter().fold(0u64, |sum, row| sum.wrapping_add(row.interval).wrapping_add(row.octets).wrapping_add(row.flows));
+    let time = begin.elapsed().as_nanos();
     println!("{time} {} {sum}", rows.len());
     Ok(())
 }

@@ -199,10 +199,10 @@ fn main() -> io::Result<()> {
         "hash" => by_hash_map(&plan, &records),
         _ => by_ordered_map(&plan, &records),
     };
-    let time = begin.elapsed().as_nanos();
     let sum = rows.iter().fold(0u64, |sum, row| {
         sum.wrapping_add(row.interval).wrapping_add(row.totals.sums[0]).wrapping_add(row.totals.flows)
     });
+    let time = begin.elapsed().as_nanos();
     println!("{time} {} {sum}", rows.len());
     Ok(())
 }
