@@ -178,13 +178,19 @@ fn due_before(length: u64, span: Span, value: u64, interval: u128) -> u64
     part_of(value, milliseconds as u64, duration)
 }
 
-// What so many parts of a value are, where all of them make it up. It takes a processor much longer to
-// divide a number of 128 bits than one of 64.
+// What so many parts of a value are, where all of them make it up. None and all cost no division, and it
+// takes a processor much longer to divide a number of 128 bits than one of 64.
 fn part_of(value: u64, parts: u64, all: u64) -> u64
     requires some { 0 < all }
     requires within { parts ≤ all }
     ensures { result ≡ value * parts / all }
 {
+    if parts == 0 {
+        return 0;
+    }
+    if parts == all {
+        return value;
+    }
     match value.checked_mul(parts) {
         Some(product) => product / all,
         None => (u128::from(value) * u128::from(parts) / u128::from(all)) as u64,

@@ -1,5 +1,4 @@
 use Rattle.std.proofs.Common.{◌≡◌, sym, ◌∙◌}
-use Rattle.flow_table.specs.declared.method.Method.{Method}
 use Rattle.flow_table.specs.declared.method.Method.TheVariants.{Uniform}
 use Rattle.flow_table.proofs.FlowIntervals.{even_at}
 use Rattle.flow_table.proofs.sharing.share_at.Goals as goal
