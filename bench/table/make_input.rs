@@ -1,9 +1,10 @@
-//! Writes the flows that the aggregation is measured on: make_input RECORDS > FLOWS.
+//! Writes the flows that the aggregation is measured on: make_input RECORDS [forged|great|rising] > FLOWS.
 //!
 //! A flow is 37 octets: its start and end in milliseconds, its source and destination address, its
 //! source and destination port, its protocol, and its octets. There are 100,000 source addresses
 //! whose frequency falls as 1 over their rank (Zipf's law), and a flow comes up to a minute later
-//! than those before it began. All of it within an hour.
+//! than those before it began. All of it within an hour. *forged*: the first flow has 2^64 - 1 octets, and a destination of its
+//! own; *great* and *rising*: each flow has 2^63 - 1, or 2^45 - 1.
 
 use std::io::{self, BufWriter, Write};
 
@@ -41,6 +42,7 @@ fn zipf_sums() -> Vec<f64> {
 
 fn main() -> io::Result<()> {
     let count: u64 = std::env::args().nth(1).and_then(|text| text.parse().ok()).expect("RECORDS");
+    let hostile = std::env::args().nth(2).unwrap_or_default();
     let sums = zipf_sums();
     let whole = sums[ADDRESSES - 1];
     let mut random = Random(42);
@@ -52,11 +54,18 @@ fn main() -> io::Result<()> {
         let end = start + random.below(30_000);
         // (an odd factor, so that each rank has an address of its own, and near ranks far ones)
         let source = rank.wrapping_mul(0x9e37_79b1);
-        let destination = 0x0a00_0000 + random.below(256) as u32;
+        let forged = i == 0 && hostile == "forged";
+        let destination = 0x0a00_0000 + random.below(256) as u32 + if forged { 256 } else { 0 };
         let source_port = 49_152 + random.below(16_384) as u16;
         let destination_port = [443u16, 80, 53, 22][random.below(4) as usize];
         let protocol = [6u8, 17][random.below(2) as usize];
-        let octets = 40 + random.below(1_000_000);
+        let usual = 40 + random.below(1_000_000);
+        let octets = match hostile.as_str() {
+            "forged" if forged => u64::MAX,
+            "great" => (1 << 63) - 1,
+            "rising" => (1 << 45) - 1,
+            _ => usual,
+        };
         out.write_all(&start.to_be_bytes())?;
         out.write_all(&end.to_be_bytes())?;
         out.write_all(&source.to_be_bytes())?;

@@ -1,5 +1,5 @@
 -- Rows whose first numbers are above 0 have that still once they are merged and folded.
-use Rattle.std.proofs.Common.{◌≡◌, zero, suc, ◌<◌, List, [], ◌∷◌, get_or, sym, subst, arith}
+use Rattle.std.proofs.Common.{◌≡◌, ◌∙◌, zero, suc, ◌<◌, List, [], ◌∷◌, ◌++◌, get_or, sym, ap, subst, arith}
 use Rattle.std.specs.declared.cmp.Ordering.{Ordering}
 use Rattle.std.specs.declared.cmp.Ordering.TheVariants.{Less, Equal, Greater}
 use Rattle.flat_rows.proofs.Additive.{get_or-added}
@@ -70,3 +70,8 @@ run_ascends xs h = h.0
 pub no_run : (xs : List Row) → xs ≡ [] → IsRun xs
 unfolding IsRun
 no_run xs e = subst (λ (ys : List Row). Ascends ys × Counted ys) (sym e) (tt, from_each [] tt)
+
+pub one_run : (old new : List Row) (x : Row) → old ≡ [] → new ≡ old ++ x ∷ [] → 0 < get_or x.numbers 0 0 → IsRun new
+unfolding IsRun
+one_run old new x e f p =
+    subst (λ (ys : List Row). Ascends ys × Counted ys) (sym (f ∙ ap (λ (xs : List Row). xs ++ x ∷ []) e)) ((tt, tt), from_each (x ∷ []) (p, tt))

@@ -1,5 +1,5 @@
 -- What runs and a buffer hold of a key.
-use Rattle.std.proofs.Common.{◌≡◌, ℕ, suc, ◌+◌, ◌<◌, ◌≤◌, ◌^◌, ◌++◌, ◌⊎◌, List, [], ◌∷◌, length, get_or, take, inl, inr, refl, sym, ap, ◌∙◌, subst, arith}
+use Rattle.std.proofs.Common.{◌≡◌, ℕ, suc, ◌+◌, ◌-◌, ◌<◌, ◌≤◌, ◌^◌, ◌++◌, ◌⊎◌, List, [], ◌∷◌, length, get_or, take, inl, inr, refl, sym, ap, ◌∙◌, subst, arith}
 use Rattle.std.specs.Ordering.{is_eq}
 use Rattle.std.specs.declared.cmp.Ordering.{Ordering}
 use Rattle.std.specs.declared.cmp.Ordering.TheVariants.{Less, Equal, Greater}
@@ -10,7 +10,7 @@ use Rattle.std.specs.Global.{Vec}
 use Rattle.std.proofs.lemmas.List.{get_or_append_left, get_or_default, get_or_push, length-append}
 use Rattle.std.proofs.lemmas.List.Elements.{All-get_or}
 use Rattle.std.proofs.lemmas.List.Sums.{sum_by-append, sum_by-cons, sum_by_more_le}
-use Rattle.flat_rows.specs.Rows.{Row, Ascends, IsRun, part, total_at, words_cmp}
+use Rattle.flat_rows.specs.Rows.{Row, Ascends, IsRun, Small, part, total_at, words_cmp}
 use Rattle.flat_rows.specs.Stacks.{AreRuns, all_rows, held_total, rows_of, stack_total}
 
 pub run_at : (runs : List (Vec Row)) (n : ℕ) (r : Vec Row) (s : List Row) → n < length runs → r ≡ get_or runs n r → s ≡ r.items → AreRuns runs → IsRun s
@@ -78,3 +78,17 @@ pub popped_last : (old new : List (Vec Row)) (r : Vec Row) → old ≡ new ++ r 
 popped_last old new r e a =
     let b : AreRuns (new ++ r ∷ []) = subst AreRuns e a in
     subst (λ (v : Vec Row). IsRun v.items) (get_or_push new r r (length new) refl) (b (length new) r (omega (arith, length-append new (r ∷ []))))
+
+-- a row that is small with what is there of its key
+pub stays_below : (total : List ℕ → ℕ → ℕ) (x : Row) → Small total → ((i : ℕ) → total x.key i + get_or x.numbers i 0 < 2 ^ 64) → Small (λ q i. total q i + part q i x)
+stays_below total x s h q i =
+    omega (arith, bound_exact total x (2 ^ 64 - 1) (2 ^ 64 - 1) (2 ^ 64 - 1) (omega arith) (omega arith) (λ p k. omega (arith, s p k)) (λ k. omega (arith, h k)) q i)
+
+pub part_within : (x : Row) (most : ℕ) → ((i : ℕ) → get_or x.numbers i 0 ≤ most) → (q : List ℕ) (i : ℕ) → part q i x ≤ most
+part_within x most h q i =
+    omega (arith, bound_exact (λ (p : List ℕ) (k : ℕ). 0) x 0 most most (omega arith) (omega arith) (λ p k. omega arith) (λ k. omega (arith, h k)) q i)
+
+pub one_total : (old new : List Row) (x : Row) (q : List ℕ) (i : ℕ) → old ≡ [] → new ≡ old ++ x ∷ [] → total_at new q i ≡ part q i x
+one_total old new x q i e f =
+    let s : new ≡ x ∷ [] = f ∙ ap (λ (xs : List Row). xs ++ x ∷ []) e in
+    omega (arith, ap (λ (xs : List Row). total_at xs q i) s, sum_by-cons (part q i) x [])

@@ -2,7 +2,7 @@
 use Rattle.std.specs.Prelude.{ℕ, ◌+◌, ◌^◌, ◌<◌, ◌≤◌, List, [], ◌∷◌, ◌++◌, sum_by}
 use Rattle.std.specs.Global.{Vec}
 use Rattle.std.specs.List.{All}
-use Rattle.flat_rows.specs.Rows.{Row, Counted, IsRun, total_at}
+use Rattle.flat_rows.specs.Rows.{Row, Counted, IsRun, Small, total_at}
 
 -- the number at a place of a key, over all runs
 abbrev pub stack_total : List (Vec Row) → List ℕ → ℕ → ℕ
@@ -23,9 +23,14 @@ rows_of (r ∷ rs) = r.items ++ rows_of rs
 abbrev pub all_rows : List Row → List (Vec Row) → List Row
 all_rows buffer runs = buffer ++ rows_of runs
 
--- what holds between the parts of a table
+-- what holds between the parts of a pile
 pub record Holds (buffer : List Row) (runs : List (Vec Row)) (bound : ℕ) : Type 0 where
   pub runs_are : AreRuns runs
   pub counted : Counted buffer
   pub small : bound < 2 ^ 64
   pub within : (q : List ℕ) (i : ℕ) → held_total buffer runs q i ≤ bound
+
+-- what holds between a table's pile and the runs that lie apart from it
+pub record HoldsApart (pile : List Row) (apart : List (Vec Row)) : Type 0 where
+  pub runs_are : AreRuns apart
+  pub small : Small (held_total pile apart)

@@ -2,6 +2,7 @@
 //! into runs that ascend by key, and runs are merged as they grow.
 #![tactic(auto)]
 
+mod adding;
 mod bounds;
 mod folding;
 mod held;
@@ -9,6 +10,8 @@ mod lookup;
 mod merging;
 mod numbers;
 mod piece;
+mod pile;
+mod shedding;
 mod stack;
 mod table;
 mod waiting;

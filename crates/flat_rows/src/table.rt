@@ -1,14 +1,14 @@
-//! Rows by key: a buffer of rows that wait, and a stack of runs.
+//! Rows by key: a pile of rows, and runs of rows with a very great number that lie apart.
 
-ghost use Rattle.std.specs.Prelude.{◌≡◌, ℕ, ◌+◌, ◌*◌, ◌^◌, ◌<◌, List, IfOk, IsErrOf, OnOk, OnErr, slice_index_or};
+ghost use Rattle.std.specs.Prelude.{◌≡◌, ℕ, ◌+◌, ◌*◌, ◌^◌, ◌<◌, ◌≤◌, List, IfOk, IsErrOf, OnOk, OnErr, slice_index_or};
 ghost use Rattle.flat_rows.specs.Rows.{IsRun, Small, SomeTooLarge, SomeTotalTooLarge, part, total_at};
 ghost use Rattle.flat_rows.specs.declared.table.AddError.TheVariants.{SumTooLarge};
 
-use crate::bounds::{bound_with, merged_bound};
-use crate::merging::merge_runs;
+use crate::adding::add_row;
+use crate::bounds::merged_bound;
+use crate::merging::{merge_all, merge_runs};
 use crate::piece::Piece;
-use crate::stack::push_run;
-use crate::waiting::{into_rows, put};
+use crate::pile::Pile;
 use std::alloc::{AllocError, Global};
 use std::marker::Model;
 
@@ -24,21 +24,20 @@ pub enum AddError {
 #[derive(Drop)]
 pub struct FlatRows<const K: usize, const C: usize> {
     alloc: Global,
-    buffer: Vec<Piece<K, C>>,
-    runs: Vec<Vec<Piece<K, C>>>,
-    bound: u64,
+    pile: Pile<K, C>,
+    apart: Vec<Vec<Piece<K, C>>>,
 }
 
 impl<const K: usize, const C: usize> Model for FlatRows<K, C> {
     ghost use Rattle.std.specs.Prelude.{List};
     ghost use Rattle.flat_rows.specs.Rows.{Row};
-    ghost use Rattle.flat_rows.specs.Stacks.{Holds, all_rows};
+    ghost use Rattle.flat_rows.specs.Stacks.{HoldsApart, all_rows};
 
     ghost Value = { List Row };
 
-    ghost view = { λ t. all_rows t.buffer.items t.runs.items };
+    ghost view = { λ t. all_rows t.pile t.apart.items };
 
-    ghost invariant = { λ t. Holds t.buffer.items t.runs.items t.bound };
+    ghost invariant = { λ t. HoldsApart t.pile t.apart.items };
 }
 
 impl<const K: usize, const C: usize> FlatRows<K, C> {
@@ -48,9 +47,8 @@ impl<const K: usize, const C: usize> FlatRows<K, C> {
     {
         FlatRows {
             alloc,
-            buffer: Vec::new(alloc),
-            runs: Vec::new(alloc),
-            bound: 0,
+            pile: Pile::new(alloc),
+            apart: Vec::new(alloc),
         }
     }
 
@@ -66,21 +64,17 @@ impl<const K: usize, const C: usize> FlatRows<K, C> {
             → SomeTooLarge (λ i. total_at self.old piece.now.key i
             + slice_index_or piece.now.numbers i 0) }
     {
-        match bound_with(
-            self.alloc,
-            &mut self.buffer,
-            &mut self.runs,
-            self.bound,
-            piece,
-        ) {
-            Ok(bound) => match put(self.alloc, &mut self.buffer, &mut self.runs, piece) {
-                Ok(()) => {
-                    self.bound = bound;
-                    Ok(())
-                }
-                Err(_) => Err(AddError::OutOfMemory),
-            },
-            Err(error) => Err(error),
+        add_row(self.alloc, &mut self.pile, &mut self.apart, piece)
+    }
+
+    /// At least each number.
+    fn bound(&self) -> u64
+        ensures { (q : List ℕ) (i : ℕ) → total_at self.now q i ≤ result }
+    {
+        if self.apart.is_empty() {
+            self.pile.bound()
+        } else {
+            u64::MAX
         }
     }
 
@@ -90,13 +84,13 @@ impl<const K: usize, const C: usize> FlatRows<K, C> {
             → total_at rows.items q i ≡ total_at self.entry q i) }
         ensures run { IfOk result (λ rows. IsRun rows.items) }
     {
-        let FlatRows {
-            alloc,
-            buffer,
-            runs,
-            bound: _,
-        } = self;
-        into_rows(alloc, buffer, runs)
+        let FlatRows { alloc, pile, apart } = self;
+        let rows = pile.into_rows(alloc)?;
+        if apart.is_empty() {
+            return Ok(rows);
+        }
+        let great = merge_all(alloc, apart)?;
+        merge_runs(alloc, &rows, &great)
     }
 
     /// The rows of both tables.
@@ -108,22 +102,12 @@ impl<const K: usize, const C: usize> FlatRows<K, C> {
         ensures too_large { IsErrOf result SumTooLarge
             → SomeTotalTooLarge (λ q i. total_at self.entry q i + total_at other.entry q i) }
     {
-        let FlatRows {
-            alloc,
-            buffer,
-            runs,
-            bound,
-        } = self;
-        let FlatRows {
-            alloc: _,
-            buffer: other_buffer,
-            runs: other_runs,
-            bound: other_bound,
-        } = other;
-        let Ok(rows) = into_rows(alloc, buffer, runs) else {
+        let alloc = self.alloc;
+        let (bound, other_bound) = (self.bound(), other.bound());
+        let Ok(rows) = self.finish() else {
             return Err(AddError::OutOfMemory);
         };
-        let Ok(other_rows) = into_rows(alloc, other_buffer, other_runs) else {
+        let Ok(other_rows) = other.finish() else {
             return Err(AddError::OutOfMemory);
         };
         let Some(both_bound) = merged_bound(&rows, &other_rows, bound, other_bound) else {
@@ -132,15 +116,10 @@ impl<const K: usize, const C: usize> FlatRows<K, C> {
         let Ok(both) = merge_runs(alloc, &rows, &other_rows) else {
             return Err(AddError::OutOfMemory);
         };
-        let mut both_runs = Vec::new(alloc);
-        let Ok(()) = push_run(alloc, &mut both_runs, both) else {
+        let Ok(pile) = Pile::of_run(alloc, both, both_bound) else {
             return Err(AddError::OutOfMemory);
         };
-        Ok(FlatRows {
-            alloc,
-            buffer: Vec::new(alloc),
-            runs: both_runs,
-            bound: both_bound,
-        })
+        let apart = Vec::new(alloc);
+        Ok(FlatRows { alloc, pile, apart })
     }
 }
