@@ -94,6 +94,7 @@ fn place<const K: usize, const C: usize>(
 }
 
 /// Adds a row that is great, or one while rows lie apart, or while the bound is high.
+#[cold]
 #[inline(never)]
 fn add_with_care<const K: usize, const C: usize>(
     alloc: Global,

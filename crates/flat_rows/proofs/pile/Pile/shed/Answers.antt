@@ -2,7 +2,7 @@ use Rattle.std.proofs.Common.{◌≡◌, ◌∙◌, ℕ, ◌+◌, List, ap, arit
 use Rattle.std.proofs.lemmas.List.{with_items_is}
 use Rattle.std.specs.Global.{Vec}
 use Rattle.std.specs.Vec.{with_items}
-use Rattle.flat_rows.specs.Rows.{Row, total_at}
+use Rattle.flat_rows.specs.Rows.{Row}
 use Rattle.flat_rows.specs.Stacks.{AreRuns, held_total, stack_total}
 use Rattle.flat_rows.proofs.Totals.{seen, total_all}
 use Rattle.flat_rows.proofs.pile.Pile.shed.Goals as goal
