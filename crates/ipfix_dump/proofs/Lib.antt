@@ -3,3 +3,4 @@ mod InFull
 mod Joined
 pub mod Under
 mod Kept
+mod Digits

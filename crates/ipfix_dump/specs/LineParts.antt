@@ -9,14 +9,17 @@ use Rattle.ipfix_dump.specs.declared.label.Form.TheVariants.{Text, Json}
 use Rattle.ipfix_dump.specs.declared.label.Label.{Label}
 
 -- what a line begins with: domain, template, export time and scope field count
-abbrev pub front_text : ℕ → ℕ → ℕ → ℕ → List ℕ
-front_text domain template export_time scope =
+abbrev pub front_text : Form → ℕ → ℕ → ℕ → ℕ → List ℕ
+front_text Text domain template export_time scope =
     labelled (codes "d=") domain ++ (labelled (codes " t=") template
     ++ (labelled (codes " x=") export_time ++ labelled (codes " s=") scope))
+front_text Json domain template export_time scope =
+    labelled (codes "{\"domain\":") domain ++ (labelled (codes ",\"template\":") template
+    ++ (labelled (codes ",\"export_time\":") export_time ++ (labelled (codes ",\"scope\":") scope ++ codes ",\"fields\":[")))
 
 -- the same of a record
-abbrev pub front_of : DataRecord → List ℕ
-front_of r = front_text r.domain r.template r.export_time r.scope
+abbrev pub front_of : Form → DataRecord → List ℕ
+front_of form r = front_text form r.domain r.template r.export_time r.scope
 
 -- what stands around a name
 abbrev pub before_name : Form → List ℕ

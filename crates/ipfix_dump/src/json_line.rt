@@ -2,14 +2,15 @@
 
 ghost use Rattle.std.specs.Prelude.{◌≡◌, ◌++◌, false, OnOk};
 ghost use Rattle.ipfix_message.specs.FieldViews.{field_of};
-ghost use Rattle.ipfix_dump.specs.JsonLines.{comma_if, json_field_under, json_fields_by, json_front, json_line_under};
+ghost use Rattle.ipfix_dump.specs.JsonLines.{comma_if, json_field_under, json_fields_by, json_line_under};
 ghost use Rattle.ipfix_dump.specs.declared.label.Form.TheVariants as forms;
 
+use crate::front::Front;
 use crate::label::Form;
 use crate::labels::Labels;
 use crate::line_octets::LineOctets;
 use crate::record_line::RecordLine;
-use crate::text::{append_json_value, append_labelled};
+use crate::text::append_json_value;
 use element_registry::Elements;
 use ipfix_message::{DataRecord, FieldRef, Fields};
 use std::alloc::{AllocError, Global};
@@ -17,9 +18,11 @@ use std::alloc::{AllocError, Global};
 /// Makes the lines of records as objects of JSON.
 #[derive(Drop)]
 pub struct JsonLine<'a> {
+    front: Front,
     labels: Labels<'a>,
     line: LineOctets,
-    ghost of_json: { labels.form ≡ forms.Json },
+    ghost front_of_json: { front.form ≡ forms.Json },
+    ghost labels_of_json: { labels.form ≡ forms.Json },
 }
 
 impl<'a> JsonLine<'a> {
@@ -28,6 +31,7 @@ impl<'a> JsonLine<'a> {
         ensures { result.labels.elements.now ≡ elements.now }
     {
         JsonLine {
+            front: Front::new(alloc, Form::Json),
             labels: Labels::new(alloc, elements, Form::Json),
             line: LineOctets::new(alloc),
         }
@@ -37,30 +41,20 @@ impl<'a> JsonLine<'a> {
 impl RecordLine for JsonLine<'_> {
     ghost line_of = { λ line. json_line_under line.labels.elements.now };
 
-    ghost made = { λ line. line.line.octets.items };
+    ghost made = { λ line. line.line };
 
     #[tactic(auto, unfolding(crate::specs::JsonLines::json_line_under))]
     fn make(&mut self, data_record: &DataRecord) -> Result<(), AllocError> {
-        self.line.octets.clear();
-        append_front(data_record, &mut self.line.octets)?;
+        self.front.renew(data_record)?;
+        self.line.clear();
+        self.line.append(self.front.text.as_slice())?;
         append_fields(&data_record.fields, &mut self.labels, &mut self.line)?;
-        self.line.octets.extend_from_slice(b"]}\n")
+        self.line.append(b"]}\n")
     }
 
     fn line(&self) -> &[u8] {
-        self.line.octets.as_slice()
+        self.line.as_slice()
     }
-}
-
-fn append_front(data_record: &DataRecord, out: &mut Vec<u8>) -> Result<(), AllocError>
-    ensures { OnOk result (out.new.items ≡ out.old.items ++ json_front data_record.now) }
-{
-    append_labelled("{\"domain\":", data_record.domain, out)?;
-    append_labelled(",\"template\":", u32::from(data_record.template), out)?;
-    append_labelled(",\"export_time\":", data_record.export_time, out)?;
-    append_labelled(",\"scope\":", u32::from(data_record.scope), out)?;
-    out.extend_from_slice(b",\"fields\":[")?;
-    Ok(())
 }
 
 fn append_fields(
@@ -69,7 +63,7 @@ fn append_fields(
     out: &mut LineOctets,
 ) -> Result<(), AllocError>
     requires { labels.old.form ≡ forms.Json }
-    ensures fields { OnOk result (out.new.octets.items ≡ out.old.octets.items
+    ensures fields { OnOk result (out.new ≡ out.old
         ++ json_fields_by (json_field_under labels.old.elements.now) false fields.now) }
     ensures elements { labels.new.elements.now ≡ labels.old.elements.now }
     ensures form { labels.new.form ≡ labels.old.form }
@@ -90,13 +84,13 @@ fn append_next(
     out: &mut LineOctets,
 ) -> Result<(), AllocError>
     requires { labels.old.form ≡ forms.Json }
-    ensures field { OnOk result (out.new.octets.items ≡ out.old.octets.items
+    ensures field { OnOk result (out.new ≡ out.old
         ++ (comma_if later ++ json_field_under labels.old.elements.now (field_of field.entry))) }
     ensures elements { labels.new.elements.now ≡ labels.old.elements.now }
     ensures form { labels.new.form ≡ labels.old.form }
 {
     if later {
-        out.octets.extend_from_slice(b",")?;
+        out.append(b",")?;
         append_field(field, labels, out)
     } else {
         append_field(field, labels, out)
@@ -110,12 +104,12 @@ fn append_field(
     out: &mut LineOctets,
 ) -> Result<(), AllocError>
     requires { labels.old.form ≡ forms.Json }
-    ensures field { OnOk result (out.new.octets.items ≡ out.old.octets.items
+    ensures field { OnOk result (out.new ≡ out.old
         ++ json_field_under labels.old.elements.now (field_of field.entry)) }
     ensures elements { labels.new.elements.now ≡ labels.old.elements.now }
     ensures form { labels.new.form ≡ labels.old.form }
 {
-    let kind = labels.append(field.element, &mut out.octets)?;
+    let kind = labels.append(field.element, out)?;
     append_json_value(kind, field.octets, out)?;
-    out.octets.extend_from_slice(b"}")
+    out.append(b"}")
 }

@@ -5,6 +5,7 @@ ghost use Rattle.element_registry.specs.Registries.{kind_under};
 ghost use Rattle.ipfix_dump.specs.LineParts.{label_text, IsKept, IsLabel};
 
 use crate::label::{Form, Label};
+use crate::line_octets::LineOctets;
 use element_registry::{ElementKind, Elements};
 use ipfix_wire::ElementId;
 use std::alloc::{AllocError, Global};
@@ -41,17 +42,17 @@ impl<'a> Labels<'a> {
     pub fn append(
         &mut self,
         element: ElementId,
-        out: &mut Vec<u8>,
+        out: &mut LineOctets,
     ) -> Result<ElementKind, AllocError>
         ensures kind { IfOk result (λ kind. kind ≡ kind_under self.old.elements.now element) }
-        ensures text { OnOk result (out.new.items
-            ≡ out.old.items ++ label_text self.old.form self.old.elements.now element) }
+        ensures text { OnOk result (out.new
+            ≡ out.old ++ label_text self.old.form self.old.elements.now element) }
         ensures elements { self.new.elements.now ≡ self.old.elements.now }
         ensures form { self.new.form ≡ self.old.form }
     {
         match self.kept_of(element) {
             Some(label) => {
-                out.extend_from_slice(label.text.as_slice())?;
+                out.append(label.text.as_slice())?;
                 Ok(label.kind)
             }
             None => self.append_new(element, out),
@@ -74,16 +75,16 @@ impl<'a> Labels<'a> {
     fn append_new(
         &mut self,
         element: ElementId,
-        out: &mut Vec<u8>,
+        out: &mut LineOctets,
     ) -> Result<ElementKind, AllocError>
         ensures kind { IfOk result (λ kind. kind ≡ kind_under self.old.elements.now element) }
-        ensures text { OnOk result (out.new.items
-            ≡ out.old.items ++ label_text self.old.form self.old.elements.now element) }
+        ensures text { OnOk result (out.new
+            ≡ out.old ++ label_text self.old.form self.old.elements.now element) }
         ensures elements { self.new.elements.now ≡ self.old.elements.now }
         ensures form { self.new.form ≡ self.old.form }
     {
         let label = Label::of(self.alloc, self.elements, self.form, element)?;
-        out.extend_from_slice(label.text.as_slice())?;
+        out.append(label.text.as_slice())?;
         let kind = label.kind;
         self.make_places()?;
         self.keep(label);

@@ -11,6 +11,7 @@ pub mod laws;
 mod line;
 mod line_octets;
 mod line_sink;
+mod placing;
 mod record_line;
 mod text;
 

@@ -4,7 +4,6 @@ ghost use Rattle.std.specs.Prelude.{◌≡◌, ◌++◌, OnOk};
 ghost use Rattle.std.specs.List.{flat_map};
 ghost use Rattle.ipfix_message.specs.FieldViews.{field_of};
 ghost use Rattle.ipfix_dump.specs.DumpLines.{dump_line_under, field_under};
-ghost use Rattle.ipfix_dump.specs.LineParts.{front_of};
 ghost use Rattle.ipfix_dump.specs.declared.label.Form.TheVariants as forms;
 
 use crate::front::Front;
@@ -21,11 +20,11 @@ use std::alloc::{AllocError, Global};
 /// the record before it is not made anew.
 #[derive(Drop)]
 pub struct Line<'a> {
-    alloc: Global,
-    front: Option<Front>,
+    front: Front,
     labels: Labels<'a>,
     line: LineOctets,
-    ghost of_text: { labels.form ≡ forms.Text },
+    ghost front_of_text: { front.form ≡ forms.Text },
+    ghost labels_of_text: { labels.form ≡ forms.Text },
 }
 
 impl<'a> Line<'a> {
@@ -34,29 +33,9 @@ impl<'a> Line<'a> {
         ensures { result.labels.elements.now ≡ elements.now }
     {
         Line {
-            alloc,
-            front: None,
+            front: Front::new(alloc, Form::Text),
             labels: Labels::new(alloc, elements, Form::Text),
             line: LineOctets::new(alloc),
-        }
-    }
-
-    fn append_front(&mut self, data_record: &DataRecord) -> Result<(), AllocError>
-        ensures front { OnOk result (self.new.line.octets.items
-            ≡ self.old.line.octets.items ++ front_of data_record.now) }
-        ensures elements { self.new.labels.elements.now ≡ self.old.labels.elements.now }
-    {
-        match &self.front {
-            Some(front) if front.is_of(data_record) => self
-                .line
-                .octets
-                .extend_from_slice(front.text()),
-            _ => {
-                let front = Front::of(self.alloc, data_record)?;
-                self.line.octets.extend_from_slice(front.text())?;
-                self.front = Some(front);
-                Ok(())
-            }
         }
     }
 }
@@ -64,18 +43,19 @@ impl<'a> Line<'a> {
 impl RecordLine for Line<'_> {
     ghost line_of = { λ line. dump_line_under line.labels.elements.now };
 
-    ghost made = { λ line. line.line.octets.items };
+    ghost made = { λ line. line.line };
 
     #[tactic(auto, unfolding(crate::specs::DumpLines::dump_line_under))]
     fn make(&mut self, data_record: &DataRecord) -> Result<(), AllocError> {
-        self.line.octets.clear();
-        self.append_front(data_record)?;
+        self.front.renew(data_record)?;
+        self.line.clear();
+        self.line.append(self.front.text.as_slice())?;
         append_fields(&data_record.fields, &mut self.labels, &mut self.line)?;
-        self.line.octets.extend_from_slice(b"\n")
+        self.line.append(b"\n")
     }
 
     fn line(&self) -> &[u8] {
-        self.line.octets.as_slice()
+        self.line.as_slice()
     }
 }
 
@@ -85,8 +65,8 @@ fn append_fields(
     out: &mut LineOctets,
 ) -> Result<(), AllocError>
     requires { labels.old.form ≡ forms.Text }
-    ensures fields { OnOk result (out.new.octets.items
-        ≡ out.old.octets.items ++ flat_map (field_under labels.old.elements.now) fields.now) }
+    ensures fields { OnOk result (out.new
+        ≡ out.old ++ flat_map (field_under labels.old.elements.now) fields.now) }
     ensures elements { labels.new.elements.now ≡ labels.old.elements.now }
     ensures form { labels.new.form ≡ labels.old.form }
 {
@@ -102,11 +82,11 @@ fn append_field(
     out: &mut LineOctets,
 ) -> Result<(), AllocError>
     requires { labels.old.form ≡ forms.Text }
-    ensures field { OnOk result (out.new.octets.items
-        ≡ out.old.octets.items ++ field_under labels.old.elements.now (field_of field.entry)) }
+    ensures field { OnOk result (out.new
+        ≡ out.old ++ field_under labels.old.elements.now (field_of field.entry)) }
     ensures elements { labels.new.elements.now ≡ labels.old.elements.now }
     ensures form { labels.new.form ≡ labels.old.form }
 {
-    let kind = labels.append(field.element, &mut out.octets)?;
+    let kind = labels.append(field.element, out)?;
     append_value(kind, field.octets, out)
 }

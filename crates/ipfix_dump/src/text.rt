@@ -1,15 +1,15 @@
 //! Numbers and values as text, appended to a line.
 
-ghost use Rattle.std.specs.Prelude.{◌≡◌, ◌++◌, OnOk};
-ghost use Rattle.ipfix_elements.specs.JsonValues.{json_value};
-ghost use Rattle.ipfix_elements.specs.Texts.{value_text};
+ghost use Rattle.std.specs.Prelude.{◌≡◌, ◌++◌, IfSome, OnOk};
+ghost use Rattle.ipfix_elements.specs.JsonValues.{json_cell};
+ghost use Rattle.ipfix_elements.specs.Texts.{cell_text, ipv4_text};
 ghost use Rattle.element_values.specs.FieldTexts.{json_under, text_under};
 ghost use Rattle.ipfix_dump.specs.DumpLines.{labelled};
 
 use crate::line_octets::LineOctets;
 use element_registry::ElementKind;
 use element_values::{write_json_value, write_value};
-use ipfix_elements::{Kind, append_json_cell, read_cell};
+use ipfix_elements::{Cell, EXACT_LIMIT, read_cell};
 use itoa::Buffer;
 use std::alloc::AllocError;
 
@@ -23,53 +23,65 @@ pub fn append_labelled(label: &str, number: u32, out: &mut Vec<u8>) -> Result<()
 }
 
 /// Appends the value of a field.
+#[tactic(auto, unfolding(ipfix_elements::specs::Texts::cell_text))]
 pub fn append_value(
     kind: ElementKind,
     octets: &[u8],
     out: &mut LineOctets,
 ) -> Result<(), AllocError>
-    ensures { OnOk result
-        (out.new.octets.items ≡ out.old.octets.items ++ text_under kind octets.now) }
+    ensures { OnOk result (out.new ≡ out.old ++ text_under kind octets.now) }
 {
-    match kind {
-        ElementKind::Plain(kind) => append_plain(kind, octets, out),
-        // A line's octets fail only because memory ran out.
-        _ => write_value(kind, octets, &mut out.octets).map_err(|_| AllocError),
+    match cell_of(kind, octets) {
+        Some(Cell::Number(number)) => out.append_number(number),
+        Some(Cell::Ipv4(address)) => append_address(&address, out),
+        // A line fails only because memory ran out.
+        _ => write_value(kind, octets, out).map_err(|_| AllocError),
     }
 }
 
-fn append_plain(kind: Kind, octets: &[u8], out: &mut LineOctets) -> Result<(), AllocError>
-    ensures { OnOk result
-        (out.new.octets.items ≡ out.old.octets.items ++ value_text kind octets.now) }
-{
-    ipfix_elements::write_value(kind, octets, out).map_err(|_| AllocError)
-}
-
 /// Appends the value of a field as a value of JSON.
+#[tactic(auto, unfolding(ipfix_elements::specs::Texts::cell_text))]
 pub fn append_json_value(
     kind: ElementKind,
     octets: &[u8],
     out: &mut LineOctets,
 ) -> Result<(), AllocError>
-    ensures { OnOk result
-        (out.new.octets.items ≡ out.old.octets.items ++ json_under kind octets.now) }
+    ensures { OnOk result (out.new ≡ out.old ++ json_under kind octets.now) }
 {
-    match kind {
-        ElementKind::Plain(kind) => append_json_plain(kind, octets, out),
-        _ => write_json_value(kind, octets, &mut out.octets).map_err(|_| AllocError),
+    match cell_of(kind, octets) {
+        Some(Cell::Number(number)) if number < EXACT_LIMIT => out.append_number(number),
+        Some(Cell::Ipv4(address)) => {
+            out.append(b"\"")?;
+            append_address(&address, out)?;
+            out.append(b"\"")
+        }
+        _ => write_json_value(kind, octets, out).map_err(|_| AllocError),
     }
 }
 
-fn append_json_plain(kind: Kind, octets: &[u8], out: &mut LineOctets) -> Result<(), AllocError>
-    ensures { OnOk result
-        (out.new.octets.items ≡ out.old.octets.items ++ json_value kind octets.now) }
+// The number or address that the octets of a plain kind are. (Numbers and IPv4 addresses go past the functions
+// for values of any kind: an `io::Result` has 96 octets, which are copied where a call answers one.)
+#[inline(always)]
+fn cell_of(kind: ElementKind, octets: &[u8]) -> Option<Cell>
+    ensures text { IfSome result (λ cell. text_under kind octets.now ≡ cell_text cell) }
+    ensures json { IfSome result (λ cell. json_under kind octets.now ≡ json_cell cell) }
 {
-    match read_cell(kind, octets) {
-        Some(cell) => append_json_cell(&cell, &mut out.octets),
-        None => {
-            out.octets.extend_from_slice(b"\"")?;
-            append_plain(kind, octets, out)?;
-            out.octets.extend_from_slice(b"\"")
-        }
+    match kind {
+        ElementKind::Plain(kind) => read_cell(kind, octets),
+        _ => None,
     }
+}
+
+// Appends four decimal numbers joined by dots.
+fn append_address(address: &[u8; 4], out: &mut LineOctets) -> Result<(), AllocError>
+    ensures { OnOk result (out.new ≡ out.old ++ ipv4_text address.now) }
+{
+    out.append_number(u64::from(address[0]))?;
+    out.append(b".")?;
+    out.append_number(u64::from(address[1]))?;
+    out.append(b".")?;
+    out.append_number(u64::from(address[2]))?;
+    out.append(b".")?;
+    out.append_number(u64::from(address[3]))?;
+    Ok(())
 }

@@ -1,7 +1,7 @@
 use Rattle.std.specs.Prelude.{codes}
 use Rattle.ipfix_dump.specs.DumpLines.{labelled}
 use Rattle.ipfix_dump.proofs.Joined.{joined_five}
-use Rattle.ipfix_dump.proofs.json_line.append_front.Goals as goal
+use Rattle.ipfix_dump.proofs.front.append_json_front.Goals as goal
 
 pub returns : goal.returns
 returns c =
