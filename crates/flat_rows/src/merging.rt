@@ -1,10 +1,11 @@
 //! Merging runs.
 
-ghost use Rattle.std.specs.Prelude.{◌≡◌, ◌+◌, ℕ, List, IfOk};
+ghost use Rattle.std.specs.Prelude.{◌≡◌, ◌+◌, ℕ, List, IfOk, OnOk, OnErr};
 ghost use Rattle.flat_rows.specs.Rows.{IsRun, Small, total_at};
 ghost use Rattle.flat_rows.specs.Stacks.{AreRuns, stack_total};
 ghost use Rattle.flat_rows.specs.Merged.{merged};
 
+use crate::lookup::rows_below;
 use crate::piece::Piece;
 use std::alloc::{AllocError, Global};
 use std::cmp::Ordering;
@@ -59,6 +60,30 @@ pub fn merge_runs<const K: usize, const C: usize>(
     merge(alloc, a, b)
 }
 
+/// Merges a run behind another, of which those rows stay where they are that are below all of it. After
+/// an `Err` the other is what it was.
+pub fn merge_behind<const K: usize, const C: usize>(
+    alloc: Global,
+    a: &mut Vec<Piece<K, C>>,
+    b: &[Piece<K, C>],
+) -> Result<(), AllocError>
+    requires small { Small (λ q i. total_at a.old.items q i + total_at b.now q i) }
+    requires run { IsRun a.old.items }
+    ensures total { OnOk result ((q : List ℕ) (i : ℕ)
+        → total_at a.new.items q i ≡ total_at a.old.items q i + total_at b.now q i) }
+    ensures run { OnOk result (IsRun b.now → IsRun a.new.items) }
+    ensures err { OnErr result (a.new.items ≡ a.old.items) }
+{
+    if b.is_empty() {
+        return Ok(());
+    }
+    let kept = rows_below(a, &b[0]);
+    let rest = merge(alloc, &a[kept..], b)?;
+    a.reserve(rest.len())?;
+    a.truncate(kept);
+    a.extend_from_slice(&rest)
+}
+
 /// A run merged with all runs of a stack.
 fn merge_onto<const K: usize, const C: usize>(
     alloc: Global,
@@ -75,7 +100,9 @@ fn merge_onto<const K: usize, const C: usize>(
     let mut runs = runs;
     let mut run = run;
     while let Some(top) = runs.pop() {
-        run = merge_runs(alloc, &top, &run)?;
+        let mut both = top;
+        merge_behind(alloc, &mut both, &run)?;
+        run = both;
     }
     Ok(run)
 }

@@ -4,7 +4,7 @@ ghost use Rattle.std.specs.Prelude.{◌≡◌, ◌+◌, ℕ, List, OnOk, OnErr};
 ghost use Rattle.flat_rows.specs.Rows.{IsRun, Small, total_at};
 ghost use Rattle.flat_rows.specs.Stacks.{AreRuns, stack_total};
 
-use crate::merging::merge_runs;
+use crate::merging::merge_behind;
 use crate::piece::Piece;
 use std::alloc::{AllocError, Global};
 
@@ -30,10 +30,11 @@ pub fn push_run<const K: usize, const C: usize>(
             runs.push(top)?;
             break;
         }
-        match merge_runs(alloc, &top, &run) {
-            Ok(both) => run = both,
+        let mut both = top;
+        match merge_behind(alloc, &mut both, &run) {
+            Ok(()) => run = both,
             Err(_) => {
-                runs.push(top)?;
+                runs.push(both)?;
                 break;
             }
         }
