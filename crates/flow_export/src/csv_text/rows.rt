@@ -23,7 +23,12 @@ impl RowLines for CsvLines {
     ghost line_of = { λ _. row_line };
 
     // The first and the last millisecond.
-    fn append_front(&self, plan: &Plan, interval: u64, out: &mut Vec<u8>) -> Result<(), AllocError> {
+    fn append_front(
+        &self,
+        plan: &Plan,
+        interval: u64,
+        out: &mut Vec<u8>,
+    ) -> Result<(), AllocError> {
         let length = u64::from(plan.length());
         let first = interval * length;
         append_number(first, out)?;

@@ -20,7 +20,12 @@ impl RowLines for RowLabels<'_> {
     ghost line_of = { λ labels. row_object_under labels.elements.now };
 
     // The first and the last millisecond.
-    fn append_front(&self, plan: &Plan, interval: u64, out: &mut Vec<u8>) -> Result<(), AllocError> {
+    fn append_front(
+        &self,
+        plan: &Plan,
+        interval: u64,
+        out: &mut Vec<u8>,
+    ) -> Result<(), AllocError> {
         let length = u64::from(plan.length());
         let first = interval * length;
         append_member(b"{\"start\":", first, out)?;
