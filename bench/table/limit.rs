@@ -2,7 +2,7 @@
 //! fields at their places in the input, and keeps the rows in one table by a multiplied hash, which is sorted in the end.
 //! It proves nothing, and anybody who chooses the addresses can make it slow.
 //!
-//!     limit source|spread|five < FLOWS
+//!     limit source|spread|five|day < FLOWS
 //!
 //! prints nanoseconds, rows, and the sum over all rows of interval, octets and flows (modulo 2^64).
 
@@ -11,6 +11,7 @@ use std::time::Instant;
 
 const FLOW: usize = 37;
 const LENGTH: u64 = 60_000;
+const DAY: u64 = 86_400_000;
 
 /// The octets of the keys, in the plan's order and with zeros behind, as a number: the rows are in its order.
 type Key = u128;
@@ -99,16 +100,17 @@ fn key_of(flow: &[u8], five: bool) -> Key {
 }
 
 fn rows_of(input: &[u8], load: &str) -> Vec<Row> {
-    let (five, spread) = (load == "five", load == "spread");
+    let (five, spread) = (load == "five" || load == "day", load == "spread");
+    let length = if load == "day" { DAY } else { LENGTH };
     let mut rows = Rows::new();
     for flow in input.chunks_exact(FLOW) {
         let (start, given_end) = (u64_at(flow, 0), u64_at(flow, 8));
-        let end = if spread { start + 2 * LENGTH } else { given_end };
+        let end = if spread { start + 2 * length } else { given_end };
         if start > end || end >= 1 << 50 {
             continue;
         }
-        let (key, octets, first) = (key_of(flow, five), u64_at(flow, 29), start / LENGTH);
-        let count = if spread { end / LENGTH - first + 1 } else { 1 };
+        let (key, octets, first) = (key_of(flow, five), u64_at(flow, 29), start / length);
+        let count = if spread { end / length - first + 1 } else { 1 };
         for index in 0..count {
             let share = octets / count + u64::from(index < octets % count);
             rows.add(Row { interval: first + index, key, octets: share, flows: 1 });

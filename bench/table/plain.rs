@@ -1,7 +1,7 @@
 //! The plain programs that the aggregation is measured beside: one ordered map, or a hash map that is sorted at the
 //! end. They prove nothing.
 //!
-//!     plain btree|hash source|spread|five < FLOWS
+//!     plain btree|hash source|spread|five|day < FLOWS
 //!
 //! prints nanoseconds, rows, and the sum over all rows of interval, octets and flows (modulo 2^64).
 
@@ -184,10 +184,11 @@ fn main() -> io::Result<()> {
     let (map, load) = (words[0].as_str(), words[1].as_str());
     let key = |number, kind| (iana(number), kind);
     let mut keys = vec![key(8, Kind::Ipv4)];
-    if load == "five" {
+    if load == "five" || load == "day" {
         keys.extend([key(12, Kind::Ipv4), key(7, Kind::Unsigned(2)), key(11, Kind::Unsigned(2)), key(4, Kind::Unsigned(1))]);
     }
-    let plan = Plan { length: 60_000, uniform: load == "spread", keys, counters: vec![iana(1)], max_spread: 4096 };
+    let length = if load == "day" { 86_400_000 } else { 60_000 };
+    let plan = Plan { length, uniform: load == "spread", keys, counters: vec![iana(1)], max_spread: 4096 };
     let mut input = Vec::new();
     io::stdin().read_to_end(&mut input)?;
     let records: Vec<Record> = input

@@ -1,12 +1,11 @@
--- Rows whose first numbers are above 0 have that still once they are merged and folded.
+-- Rows whose first numbers are above 0 have that still once they are folded, and with rows put between them.
 use Rattle.std.proofs.Common.{◌≡◌, ◌∙◌, zero, suc, ◌<◌, List, [], ◌∷◌, ◌++◌, get_or, sym, ap, subst, arith}
 use Rattle.std.specs.declared.cmp.Ordering.{Ordering}
 use Rattle.std.specs.declared.cmp.Ordering.TheVariants.{Less, Equal, Greater}
 use Rattle.flat_rows.proofs.Additive.{get_or-added}
-use Rattle.flat_rows.proofs.Ascending.{folded_ascends, merged_ascends}
+use Rattle.flat_rows.proofs.Ascending.{ascends_behind, ascends_between, ascends_in_place, folded_ascends}
 use Rattle.flat_rows.specs.Rows.{Row, Ascends, Counted, IsRun, row_sum, words_cmp}
-use Rattle.flat_rows.specs.Merged.{by_order, merged, merged_after}
-use Rattle.flat_rows.specs.Folded.{folded_onto, folded, Rises}
+use Rattle.flat_rows.specs.Folded.{by_order, folded_onto, folded, Rises}
 
 abbrev Each : List Row → Type 0
 Each [] = Unit {0}
@@ -29,15 +28,6 @@ each_by_order Greater a b c p q s = s
 each_sum : (x y : Row) → 0 < get_or x.numbers 0 0 → 0 < get_or (row_sum x y).numbers 0 0
 each_sum x y p = omega (arith, get_or-added x.numbers y.numbers 0)
 
-each_after : (x : Row) (rest : List Row → List Row) → ((ys : List Row) → Each ys → Each (rest ys)) → 0 < get_or x.numbers 0 0 → (ys : List Row) → Each ys → Each (merged_after x rest ys)
-each_after x rest h p [] a = (p, h [] tt)
-each_after x rest h p (y ∷ ys) a =
-    each_by_order (words_cmp x.key y.key) (x ∷ rest (y ∷ ys)) (row_sum x y ∷ rest ys) (y ∷ merged_after x rest ys) (p, h (y ∷ ys) a) (each_sum x y p, h ys a.1) (a.0, each_after x rest h p ys a.1)
-
-each_merged : (xs ys : List Row) → Each xs → Each ys → Each (merged xs ys)
-each_merged [] ys a b = b
-each_merged (x ∷ xs) ys a b = each_after x (merged xs) (λ zs c. each_merged xs zs a.1 c) a.0 ys b
-
 each_onto : (x : Row) (ys : List Row) → 0 < get_or x.numbers 0 0 → Each ys → Each (folded_onto x ys)
 each_onto x [] p a = (p, tt)
 each_onto x (y ∷ ys) p a =
@@ -47,17 +37,42 @@ each_folded : (xs : List Row) → Each xs → Each (folded xs)
 each_folded [] a = tt
 each_folded (x ∷ xs) a = each_onto x xs a.0 a.1
 
-counted_merged : (xs ys : List Row) → Counted xs → Counted ys → Counted (merged xs ys)
-counted_merged xs ys a b = from_each (merged xs ys) (each_merged xs ys (into_each xs a) (into_each ys b))
-
 counted_folded : (xs : List Row) → Counted xs → Counted (folded xs)
 counted_folded xs a = from_each (folded xs) (each_folded xs (into_each xs a))
 
+-- ---- rows put between others, and in place of others
+
+each_between : (xs : List Row) (x y : Row) (ys : List Row) → 0 < get_or y.numbers 0 0 → Each (xs ++ x ∷ ys) → Each (xs ++ x ∷ y ∷ ys)
+each_between [] x y ys p a = (a.0, (p, a.1))
+each_between (z ∷ xs) x y ys p a = (a.0, each_between xs x y ys p a.1)
+
+each_in_place : (xs : List Row) (x y : Row) (ys : List Row) → 0 < get_or y.numbers 0 0 → Each (xs ++ x ∷ ys) → Each (xs ++ y ∷ ys)
+each_in_place [] x y ys p a = (p, a.1)
+each_in_place (z ∷ xs) x y ys p a = (a.0, each_in_place xs x y ys p a.1)
+
+each_behind : (xs ys : List Row) → Each (xs ++ ys) → Each ys
+each_behind [] ys a = a
+each_behind (x ∷ xs) ys a = each_behind xs ys a.1
+
 -- ---- runs
 
-pub merged_run : (xs ys : List Row) → IsRun xs → IsRun ys → IsRun (merged xs ys)
+pub run_between : (xs : List Row) (x y : Row) (ys : List Row) → words_cmp x.key y.key ≡ Less → IsRun (y ∷ ys) → IsRun (xs ++ x ∷ ys) → IsRun (xs ++ x ∷ y ∷ ys)
 unfolding IsRun
-merged_run xs ys a b = (merged_ascends xs ys a.0 b.0, counted_merged xs ys a.1 b.1)
+run_between xs x y ys l b a =
+    (ascends_between xs x y ys l b.0 a.0, from_each (xs ++ x ∷ y ∷ ys) (each_between xs x y ys (b.1 0 y (omega arith)) (into_each (xs ++ x ∷ ys) a.1)))
+
+pub run_in_place : (xs : List Row) (x y : Row) (ys : List Row) → x.key ≡ y.key → 0 < get_or y.numbers 0 0 → IsRun (xs ++ x ∷ ys) → IsRun (xs ++ y ∷ ys)
+unfolding IsRun
+run_in_place xs x y ys e p a =
+    (ascends_in_place xs x y ys e a.0, from_each (xs ++ y ∷ ys) (each_in_place xs x y ys p (into_each (xs ++ x ∷ ys) a.1)))
+
+pub run_behind : (xs ys : List Row) → IsRun (xs ++ ys) → IsRun ys
+unfolding IsRun
+run_behind xs ys a = (ascends_behind xs ys a.0, from_each ys (each_behind xs ys (into_each (xs ++ ys) a.1)))
+
+pub sum_counted : (x y : Row) (ys : List Row) → IsRun (x ∷ ys) → 0 < get_or (row_sum x y).numbers 0 0
+unfolding IsRun
+sum_counted x y ys a = each_sum x y (a.1 0 x (omega arith))
 
 pub folded_run : (xs : List Row) → Rises xs → Counted xs → IsRun (folded xs)
 unfolding IsRun

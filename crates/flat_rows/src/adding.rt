@@ -59,7 +59,7 @@ fn lay_apart<const K: usize, const C: usize>(
 {
     let mut run = Vec::new(alloc);
     run.push(*piece)?;
-    push_run(alloc, apart, run)
+    push_run(apart, run)
 }
 
 /// Lets a row wait if it isn't great and the bound allows it, and lays it apart otherwise.

@@ -39,15 +39,3 @@ pub fn find<const K: usize, const C: usize>(
         Err(_) => None,
     }
 }
-
-/// How many rows of a run are below another row.
-pub fn rows_below<const K: usize, const C: usize>(run: &[Piece<K, C>], other: &Piece<K, C>) -> usize
-    requires { IsRun run.now }
-    ensures within { result ≤ length run.now }
-    ensures below { AllWithin (λ (x : Row). words_cmp x.key other.now.key ≡ Less) run.now 0 result }
-{
-    match search(run, other) {
-        Ok(place) => place,
-        Err(place) => place,
-    }
-}

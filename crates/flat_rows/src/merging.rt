@@ -1,92 +1,86 @@
 //! Merging runs.
 
-ghost use Rattle.std.specs.Prelude.{◌≡◌, ◌+◌, ℕ, List, IfOk, OnOk, OnErr};
+ghost use Rattle.std.specs.Prelude.{◌≡◌, ◌+◌, ◌++◌, ◌≤◌, ℕ, List, IfOk, OnOk, OnErr, drop, length, take};
 ghost use Rattle.flat_rows.specs.Rows.{IsRun, Small, total_at};
 ghost use Rattle.flat_rows.specs.Stacks.{AreRuns, stack_total};
-ghost use Rattle.flat_rows.specs.Merged.{merged};
 
-use crate::lookup::rows_below;
 use crate::piece::Piece;
 use std::alloc::{AllocError, Global};
 use std::cmp::Ordering;
+use std::ops::Range;
 
-/// The rows of both, those of one key added up.
-fn merge<const K: usize, const C: usize>(
-    alloc: Global,
-    a: &[Piece<K, C>],
-    b: &[Piece<K, C>],
-) -> Result<Vec<Piece<K, C>>, AllocError>
-    requires { Small (λ q i. total_at a.now q i + total_at b.now q i) }
-    ensures { IfOk result (λ out. out.items ≡ merged a.now b.now) }
+/// Merges a newer run into an older one, the greatest key first, and adds up rows of one key. Behind the older
+/// run is room for the newer. The merged rows stand before and behind the places of the answer, whose rows
+/// are left over.
+fn merge_down<const K: usize, const C: usize>(
+    rows: &mut [Piece<K, C>],
+    older: usize,
+    newer: &[Piece<K, C>],
+) -> Range<usize>
+    requires room { length rows.old ≡ older + length newer.now }
+    requires small { Small (λ q i. total_at (take older rows.old) q i + total_at newer.now q i) }
+    requires older { IsRun (take older rows.old) }
+    requires newer { IsRun newer.now }
+    ensures length { length rows.new ≡ length rows.old }
+    ensures within { result.start ≤ result.end × result.end ≤ length rows.new }
+    ensures total { (q : List ℕ) (i : ℕ)
+        → total_at (take result.start rows.new ++ drop result.end rows.new) q i
+        ≡ total_at (take older rows.old) q i + total_at newer.now q i }
+    ensures run { IsRun (take result.start rows.new ++ drop result.end rows.new) }
 {
-    let mut out = Vec::with_capacity(alloc, a.len().saturating_add(b.len()))?;
-    let mut i = 0;
-    let mut j = 0;
-    while i < a.len() && j < b.len() {
-        match a[i].order(&b[j]) {
+    let mut i = older;
+    let mut j = newer.len();
+    let mut place = rows.len();
+    while i > 0 && j > 0 {
+        place -= 1;
+        match rows[i - 1].order(&newer[j - 1]) {
             Ordering::Less => {
-                out.push(a[i])?;
-                i += 1;
+                j -= 1;
+                rows[place] = newer[j];
             }
             Ordering::Equal => {
-                let mut both = a[i];
-                both.add(&b[j]);
-                out.push(both)?;
-                i += 1;
-                j += 1;
+                i -= 1;
+                j -= 1;
+                let mut both = rows[i];
+                both.add(&newer[j]);
+                rows[place] = both;
             }
             Ordering::Greater => {
-                out.push(b[j])?;
-                j += 1;
+                i -= 1;
+                rows[place] = rows[i];
             }
         }
     }
-    out.extend_from_slice(&a[i..])?;
-    out.extend_from_slice(&b[j..])?;
-    Ok(out)
+    rows[i..i + j].copy_from_slice(&newer[..j]);
+    i + j..place
 }
 
-/// One run of two: the rows of both, those of one key added up.
-pub fn merge_runs<const K: usize, const C: usize>(
-    alloc: Global,
-    a: &[Piece<K, C>],
-    b: &[Piece<K, C>],
-) -> Result<Vec<Piece<K, C>>, AllocError>
-    requires { Small (λ q i. total_at a.now q i + total_at b.now q i) }
-    ensures total { IfOk result (λ out. (q : List ℕ) (i : ℕ)
-        → total_at out.items q i ≡ total_at a.now q i + total_at b.now q i) }
-    ensures run { IfOk result (λ out. IsRun a.now → IsRun b.now → IsRun out.items) }
-{
-    merge(alloc, a, b)
-}
-
-/// Merges a run behind another, of which those rows stay where they are that are below all of it. After
-/// an `Err` the other is what it was.
-pub fn merge_behind<const K: usize, const C: usize>(
-    alloc: Global,
-    a: &mut Vec<Piece<K, C>>,
-    b: &[Piece<K, C>],
+/// Merges a newer run into another, in the vector of that: it takes room for the newer run alone. After an
+/// `Err` it is what it was.
+pub fn merge_into<const K: usize, const C: usize>(
+    run: &mut Vec<Piece<K, C>>,
+    newer: &[Piece<K, C>],
 ) -> Result<(), AllocError>
-    requires small { Small (λ q i. total_at a.old.items q i + total_at b.now q i) }
-    requires run { IsRun a.old.items }
+    requires small { Small (λ q i. total_at run.old.items q i + total_at newer.now q i) }
+    requires run { IsRun run.old.items }
+    requires newer { IsRun newer.now }
     ensures total { OnOk result ((q : List ℕ) (i : ℕ)
-        → total_at a.new.items q i ≡ total_at a.old.items q i + total_at b.now q i) }
-    ensures run { OnOk result (IsRun b.now → IsRun a.new.items) }
-    ensures err { OnErr result (a.new.items ≡ a.old.items) }
+        → total_at run.new.items q i ≡ total_at run.old.items q i + total_at newer.now q i) }
+    ensures run { IsRun run.new.items }
+    ensures err { OnErr result (run.new.items ≡ run.old.items) }
 {
-    if b.is_empty() {
-        return Ok(());
+    let older = run.len();
+    run.extend_from_slice(newer)?;
+    let gap = merge_down(run, older, newer);
+    if gap.start < gap.end {
+        run.copy_within(gap.end.., gap.start);
+        run.truncate(run.len() - (gap.end - gap.start));
     }
-    let kept = rows_below(a, &b[0]);
-    let rest = merge(alloc, &a[kept..], b)?;
-    a.reserve(rest.len())?;
-    a.truncate(kept);
-    a.extend_from_slice(&rest)
+    Ok(())
 }
 
 /// A run merged with all runs of a stack.
 fn merge_onto<const K: usize, const C: usize>(
-    alloc: Global,
     runs: Vec<Vec<Piece<K, C>>>,
     run: Vec<Piece<K, C>>,
 ) -> Result<Vec<Piece<K, C>>, AllocError>
@@ -101,7 +95,7 @@ fn merge_onto<const K: usize, const C: usize>(
     let mut run = run;
     while let Some(top) = runs.pop() {
         let mut both = top;
-        merge_behind(alloc, &mut both, &run)?;
+        merge_into(&mut both, &run)?;
         run = both;
     }
     Ok(run)
@@ -120,7 +114,7 @@ pub fn merge_all<const K: usize, const C: usize>(
 {
     let mut runs = runs;
     match runs.pop() {
-        Some(run) => merge_onto(alloc, runs, run),
+        Some(run) => merge_onto(runs, run),
         None => Ok(Vec::new(alloc)),
     }
 }

@@ -56,7 +56,7 @@ impl<const K: usize, const C: usize> Pile<K, C> {
             → total_at pile q i ≡ total_at run.entry.items q i) }
     {
         let mut runs = Vec::new(alloc);
-        push_run(alloc, &mut runs, run)?;
+        push_run(&mut runs, run)?;
         Ok(Pile {
             buffer: Vec::new(alloc),
             runs,

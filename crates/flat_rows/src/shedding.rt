@@ -59,7 +59,7 @@ fn shed_run<const K: usize, const C: usize>(
     if great.is_empty() {
         return Ok(());
     }
-    push_run(alloc, apart, great)?;
+    push_run(apart, great)?;
     *run = usual;
     Ok(())
 }

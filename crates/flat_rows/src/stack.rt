@@ -4,14 +4,13 @@ ghost use Rattle.std.specs.Prelude.{◌≡◌, ◌+◌, ℕ, List, OnOk, OnErr};
 ghost use Rattle.flat_rows.specs.Rows.{IsRun, Small, total_at};
 ghost use Rattle.flat_rows.specs.Stacks.{AreRuns, stack_total};
 
-use crate::merging::merge_behind;
+use crate::merging::merge_into;
 use crate::piece::Piece;
-use std::alloc::{AllocError, Global};
+use std::alloc::AllocError;
 
 /// Puts a run on top, merged with those below it that aren't more than twice as long. Where there is no
 /// memory to merge two runs they stay apart.
 pub fn push_run<const K: usize, const C: usize>(
-    alloc: Global,
     runs: &mut Vec<Vec<Piece<K, C>>>,
     run: Vec<Piece<K, C>>,
 ) -> Result<(), AllocError>
@@ -31,7 +30,7 @@ pub fn push_run<const K: usize, const C: usize>(
             break;
         }
         let mut both = top;
-        match merge_behind(alloc, &mut both, &run) {
+        match merge_into(&mut both, &run) {
             Ok(()) => run = both,
             Err(_) => {
                 runs.push(both)?;

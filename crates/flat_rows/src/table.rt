@@ -6,7 +6,7 @@ ghost use Rattle.flat_rows.specs.declared.table.AddError.TheVariants.{SumTooLarg
 
 use crate::adding::add_row;
 use crate::bounds::merged_bound;
-use crate::merging::{merge_all, merge_runs};
+use crate::merging::{merge_all, merge_into};
 use crate::piece::Piece;
 use crate::pile::Pile;
 use std::alloc::{AllocError, Global};
@@ -85,12 +85,10 @@ impl<const K: usize, const C: usize> FlatRows<K, C> {
         ensures run { IfOk result (λ rows. IsRun rows.items) }
     {
         let FlatRows { alloc, pile, apart } = self;
-        let rows = pile.into_rows(alloc)?;
-        if apart.is_empty() {
-            return Ok(rows);
-        }
+        let mut rows = pile.into_rows(alloc)?;
         let great = merge_all(alloc, apart)?;
-        merge_runs(alloc, &rows, &great)
+        merge_into(&mut rows, &great)?;
+        Ok(rows)
     }
 
     /// The rows of both tables.
@@ -104,7 +102,7 @@ impl<const K: usize, const C: usize> FlatRows<K, C> {
     {
         let alloc = self.alloc;
         let (bound, other_bound) = (self.bound(), other.bound());
-        let Ok(rows) = self.finish() else {
+        let Ok(mut rows) = self.finish() else {
             return Err(AddError::OutOfMemory);
         };
         let Ok(other_rows) = other.finish() else {
@@ -113,10 +111,10 @@ impl<const K: usize, const C: usize> FlatRows<K, C> {
         let Some(both_bound) = merged_bound(&rows, &other_rows, bound, other_bound) else {
             return Err(AddError::SumTooLarge);
         };
-        let Ok(both) = merge_runs(alloc, &rows, &other_rows) else {
+        let Ok(()) = merge_into(&mut rows, &other_rows) else {
             return Err(AddError::OutOfMemory);
         };
-        let Ok(pile) = Pile::of_run(alloc, both, both_bound) else {
+        let Ok(pile) = Pile::of_run(alloc, rows, both_bound) else {
             return Err(AddError::OutOfMemory);
         };
         let apart = Vec::new(alloc);

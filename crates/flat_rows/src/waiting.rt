@@ -29,7 +29,7 @@ pub fn flush<const K: usize, const C: usize>(
     ensures emptied { OnOk result (buffer.new.items ≡ []) }
 {
     let run = into_run(alloc, buffer)?;
-    push_run(alloc, runs, run)?;
+    push_run(runs, run)?;
     buffer.clear();
     Ok(())
 }
