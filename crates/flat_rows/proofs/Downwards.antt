@@ -1,8 +1,9 @@
 -- Two runs merged from their greatest keys down: what is left of each, and behind it what came of both.
 use Rattle.std.proofs.Common.{◌≡◌, ℕ, ◌+◌, ◌-◌, ◌<◌, ◌≤◌, ◌^◌, ◌++◌, ◌⊎◌, List, [], ◌∷◌, length, get_or, drop, set, take, refl, sym, ap, ◌∙◌, subst, append_assoc, append-nil, inl, inr, arith}
 use borrow.Rule.Slice.PartMut.{put_mid}
+use Rattle.std.specs.declared.cmp.Ordering.{Ordering}
 use Rattle.std.specs.declared.cmp.Ordering.TheVariants.{Less, Equal}
-use Rattle.std.proofs.lemmas.List.{drop-set, length-drop, length-set, length-take-le, take-set-le, take_more}
+use Rattle.std.proofs.lemmas.List.{drop-set, get_or_default, length-drop, length-set, length-take-le, take-set-le, take_more}
 use Rattle.std.proofs.lemmas.Slice.{drop-put_mid, take-put_mid}
 use Rattle.std.proofs.lemmas.List.Sums.{sum_by-append, sum_by-cons}
 use Rattle.flat_rows.proofs.Additive.{keys_same, part_adds}
@@ -15,6 +16,14 @@ pub record IsLast (xs : List Row) (i : ℕ) (x : Row) : Type 0 where
   pub some : 0 < i
   pub within : i ≤ length xs
   pub at : x ≡ get_or xs (i - 1) x
+
+last_same : (xs : List Row) (i : ℕ) (x y : Row) → IsLast xs i x → IsLast xs i y → x ≡ y
+last_same xs i x y l m = l.at ∙ get_or_default xs (i - 1) x y (omega (arith, l.some, l.within)) ∙ sym m.at
+
+-- how the last rows compare, wherever they were read
+pub compared : (xs ys : List Row) (i j : ℕ) (x x2 y y2 : Row) (r : Ordering) → IsLast xs i x → IsLast xs i x2 → IsLast ys j y → IsLast ys j y2 → r ≡ words_cmp (get_or xs (i - 1) x).key y.key → (s : Ordering) → r ≡ s → words_cmp x2.key y2.key ≡ s
+compared xs ys i j x x2 y y2 r l l2 m m2 e s is =
+    ap (λ (w : Row). words_cmp w.key y2.key) (last_same xs i x2 x l2 l ∙ l.at) ∙ ap (λ (w : Row). words_cmp (get_or xs (i - 1) x).key w.key) (last_same ys j y2 y m2 m) ∙ sym e ∙ is
 
 pub moved : (xs ys : List Row) (i : ℕ) (x : Row) → IsLast xs i x → take i xs ++ ys ≡ take (i - 1) xs ++ x ∷ ys
 moved xs ys i x l =
@@ -51,6 +60,13 @@ pub record Merging (rows newer : List Row) (total : List ℕ → ℕ → ℕ) (l
   pub totals : (q : List ℕ) (k : ℕ) → total_at (take i rows) q k + total_at (take j newer) q k + total_at (drop place rows) q k ≡ total q k
   pub older_run : IsRun (take i rows ++ drop place rows)
   pub newer_run : IsRun (take j newer ++ drop place rows)
+
+-- the last rows that are left, as they were read
+pub older_last : (rows newer : List Row) (total : List ℕ → ℕ → ℕ) (long i j place : ℕ) (x : Row) → Merging rows newer total long i j place → 0 < i → x ≡ get_or rows (i - 1) x → IsLast rows i x
+older_last rows newer total long i j place x h some at = record { some = some; within = omega (arith, h.room, h.within, h.same_length); at = at }
+
+pub newer_last : (rows newer : List Row) (total : List ℕ → ℕ → ℕ) (long i j place : ℕ) (y : Row) → Merging rows newer total long i j place → 0 < j → y ≡ get_or newer (j - 1) y → IsLast newer j y
+newer_last rows newer total long i j place y h some at = record { some = some; within = h.in_newer; at = at }
 
 -- a row is put down, and so many are left
 pub put_down : (rows newer : List Row) (total : List ℕ → ℕ → ℕ) (long i j place : ℕ) (z : Row) (i2 j2 : ℕ) → Merging rows newer total long i j place → 0 < i + j → i2 ≤ i → j2 ≤ j → i2 + j2 < i + j

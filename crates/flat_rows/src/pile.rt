@@ -117,9 +117,9 @@ impl<const K: usize, const C: usize> Pile<K, C> {
         ensures runs { AreRuns apart.new.items }
     {
         flush(alloc, &mut self.buffer, &mut self.runs)?;
-        shed_runs(alloc, &mut self.runs, apart)?;
+        let shed = shed_runs(alloc, &mut self.runs, apart);
         self.bound = bound_of(&self.runs);
-        Ok(())
+        shed
     }
 
     /// All rows as one run.

@@ -34,26 +34,6 @@ pub fn flush<const K: usize, const C: usize>(
     Ok(())
 }
 
-/// Sees that a row can wait.
-fn make_room<const K: usize, const C: usize>(
-    alloc: Global,
-    buffer: &mut Vec<Piece<K, C>>,
-    runs: &mut Vec<Vec<Piece<K, C>>>,
-) -> Result<(), AllocError>
-    requires small { Small (held_total buffer.old.items runs.old.items) }
-    requires counted { Counted buffer.old.items }
-    requires runs { AreRuns runs.old.items }
-    ensures total { (q : List ℕ) (i : ℕ) → held_total buffer.new.items runs.new.items q i
-        ≡ held_total buffer.old.items runs.old.items q i }
-    ensures counted { Counted buffer.new.items }
-    ensures runs { AreRuns runs.new.items }
-{
-    if buffer.len() < WAITING / K.saturating_add(C).max(1) {
-        return Ok(());
-    }
-    flush(alloc, buffer, runs)
-}
-
 /// Lets a row wait.
 pub fn put<const K: usize, const C: usize>(
     alloc: Global,
@@ -74,7 +54,9 @@ pub fn put<const K: usize, const C: usize>(
     ensures counted { Counted buffer.new.items }
     ensures runs { AreRuns runs.new.items }
 {
-    make_room(alloc, buffer, runs)?;
+    if buffer.len() >= WAITING / K.saturating_add(C).max(1) {
+        flush(alloc, buffer, runs)?;
+    }
     buffer.push(*piece)?;
     Ok(())
 }

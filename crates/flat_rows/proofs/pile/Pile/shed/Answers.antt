@@ -12,8 +12,8 @@ returns-in_err-flush-clause-total g c = λ q i.
     ap (λ (n : ℕ). n + stack_total c.args.apart.now.items q i)
     (total_all c.flush.new.buffer.items c.flush.new.runs.items q i ∙ c.in_err-flush.ensures.total q i ∙ seen c.self.inside.buffer.items c.self.inside.runs.items c.args.self.now q i c.self.view_is)
 
-pub shed_runs-requires : goal.shed_runs-requires
-shed_runs-requires g c = (
+pub shed_runs-shed-requires : goal.shed_runs-shed-requires
+shed_runs-shed-requires g c = (
   search rules,
   (
     λ q i. omega (arith, ap (λ (rs : List (Vec Row)). stack_total rs q i) c.deref_mut.ensures.value, c.in_ok-flush.ensures.total q i, c.requires.small q i, seen c.self.inside.buffer.items c.self.inside.runs.items c.args.self.now q i c.self.view_is),
@@ -21,32 +21,17 @@ shed_runs-requires g c = (
   ),
 )
 
-pub returns-in_err-shed_runs-clause-total : goal.returns-in_err-shed_runs-clause-total
-returns-in_err-shed_runs-clause-total g c = λ q i.
-    let b = c.flush.new.buffer.items in
-    let r = (with_items c.flush.new.runs c.shed_runs.new.runs).items in
-    let w = with_items_is c.flush.new.runs c.shed_runs.new.runs (c.shed_runs.auto.runs ∙ c.deref_mut.ensures.len) in
-    let n : held_total b r q i + stack_total c.shed_runs.new.apart.items q i ≡ held_total c.args.self.now c.args.apart.now.items q i = omega (
-      arith,
-      ap (λ (rs : List (Vec Row)). stack_total rs q i) w,
-      ap (λ (rs : List (Vec Row)). stack_total rs q i) c.deref_mut.ensures.value,
-      c.in_err-shed_runs.ensures.total q i,
-      c.in_ok-flush.ensures.total q i,
-      seen c.self.inside.buffer.items c.self.inside.runs.items c.args.self.now q i c.self.view_is,
-    ) in
-    ap (λ (m : ℕ). m + stack_total c.shed_runs.new.apart.items q i) (total_all b r q i) ∙ n
-
 pub returns-clause-total : goal.returns-clause-total
 returns-clause-total g c = λ q i.
     let b = c.flush.new.buffer.items in
-    let r = (with_items c.flush.new.runs c.shed_runs.new.runs).items in
-    let w = with_items_is c.flush.new.runs c.shed_runs.new.runs (c.shed_runs.auto.runs ∙ c.deref_mut.ensures.len) in
-    let n : held_total b r q i + stack_total c.shed_runs.new.apart.items q i ≡ held_total c.args.self.now c.args.apart.now.items q i = omega (
+    let r = (with_items c.flush.new.runs c.shed_runs-shed.new.runs).items in
+    let w = with_items_is c.flush.new.runs c.shed_runs-shed.new.runs (c.shed_runs-shed.auto.runs ∙ c.deref_mut.ensures.len) in
+    let n : held_total b r q i + stack_total c.shed_runs-shed.new.apart.items q i ≡ held_total c.args.self.now c.args.apart.now.items q i = omega (
       arith,
       ap (λ (rs : List (Vec Row)). stack_total rs q i) w,
       ap (λ (rs : List (Vec Row)). stack_total rs q i) c.deref_mut.ensures.value,
-      c.in_ok-shed_runs.ensures.total q i,
+      c.shed_runs-shed.ensures.total q i,
       c.in_ok-flush.ensures.total q i,
       seen c.self.inside.buffer.items c.self.inside.runs.items c.args.self.now q i c.self.view_is,
     ) in
-    ap (λ (m : ℕ). m + stack_total c.shed_runs.new.apart.items q i) (total_all b r q i) ∙ n
+    ap (λ (m : ℕ). m + stack_total c.shed_runs-shed.new.apart.items q i) (total_all b r q i) ∙ n
