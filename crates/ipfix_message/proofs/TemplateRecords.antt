@@ -294,7 +294,7 @@ event_at-found kind w e r fits h =
 
 -- ---- a record that is spelled
 
-event_at-is : (kind : TemplateKind) (w : List ℕ) (id count : ℕ) → 4 ≤ length w → big_number 2 w ≡ id → number_at 2 2 w ≡ count → event_at kind w ≡ record_at kind id count (drop 4 w)
+pub event_at-is : (kind : TemplateKind) (w : List ℕ) (id count : ℕ) → 4 ≤ length w → big_number 2 w ≡ id → number_at 2 2 w ≡ count → event_at kind w ≡ record_at kind id count (drop 4 w)
 event_at-is kind w id count room i n =
     event_at-long kind w room ∙ ap (λ (k : ℕ). record_at kind k (number_at 2 2 w) (drop 4 w)) i ∙ ap (λ (k : ℕ). record_at kind id k (drop 4 w)) n
 

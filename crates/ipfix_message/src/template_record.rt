@@ -7,7 +7,7 @@ ghost use Rattle.ipfix_message.specs.DataRecords;
 ghost use Rattle.ipfix_message.specs.TemplateRecords;
 ghost use Rattle.ipfix_wire.specs.FieldSpecifier.{spec_octets};
 ghost use Rattle.ipfix_message.specs.WrittenTemplates.{IsScope, IsSpec, scope_octets};
-ghost use Rattle.ipfix_message.specs.TemplateRecords.{set_id_of, scope_at, specs_at, event_at};
+ghost use Rattle.ipfix_message.specs.TemplateRecords.{set_id_of, scope_at, specs_at, record_at, event_at};
 
 use crate::fault::MessageFault;
 use crate::record::{Specs, Template};
@@ -131,8 +131,44 @@ fn specs_of(alloc: Global, count: u16, octets: &[u8]) -> Result<(Vec<Spec>, &[u8
     Ok((specs, rest))
 }
 
+// What a record with this id and field count does, and what follows it.
+fn record_of(
+    alloc: Global,
+    kind: TemplateKind,
+    id: u16,
+    count: u16,
+    octets: &[u8],
+) -> Result<(Event, &[u8]), MessageFault>
+    requires { TEMPLATE_HEADER_LENGTH + length octets.now ≤ LONGEST_BODY }
+    ensures { Gives (λ x. (x.0, x.1.now)) result (record_at kind id count octets.now) }
+{
+    if count == 0 {
+        if id == kind.set_id() {
+            return Ok((Event::WithdrawAll(kind), octets));
+        }
+        if id < FIRST_TEMPLATE_ID {
+            return Err(MessageFault::TemplateId);
+        }
+        return Ok((Event::Withdraw(kind, id), octets));
+    }
+    if id < FIRST_TEMPLATE_ID {
+        return Err(MessageFault::TemplateId);
+    }
+    let (scope, rest) = scope_of(kind, count, octets)?;
+    let (specs, rest) = specs_of(alloc, count, rest)?;
+    let least = least_of(&specs);
+    if least == 0 {
+        return Err(MessageFault::ZeroLength);
+    }
+    let template = Template {
+        id,
+        scope,
+        specs: Specs::from_vec(specs),
+    };
+    Ok((Event::Define(Definition::new(template, least)), rest))
+}
+
 /// The template record that `octets` begins with, and what follows it.
-#[tactic(auto, unfolding(crate::specs::TemplateRecords::event_at), using(std::proofs::lemmas::List::take_rest, crate::proofs::WritableTemplates::is_template))]
 pub fn event_of(
     alloc: Global,
     kind: TemplateKind,
@@ -145,28 +181,5 @@ pub fn event_of(
     let id = BigEndian::read_u16(octets);
     let count = BigEndian::read_u16(&octets[2..]);
     let (_, rest) = octets.split_at(TEMPLATE_HEADER_LENGTH);
-    if count == 0 {
-        if id == kind.set_id() {
-            return Ok((Event::WithdrawAll(kind), rest));
-        }
-        if id < FIRST_TEMPLATE_ID {
-            return Err(MessageFault::TemplateId);
-        }
-        return Ok((Event::Withdraw(kind, id), rest));
-    }
-    if id < FIRST_TEMPLATE_ID {
-        return Err(MessageFault::TemplateId);
-    }
-    let (scope, rest) = scope_of(kind, count, rest)?;
-    let (specs, rest) = specs_of(alloc, count, rest)?;
-    let least = least_of(&specs);
-    if least == 0 {
-        return Err(MessageFault::ZeroLength);
-    }
-    let template = Template {
-        id,
-        scope,
-        specs: Specs::from_vec(specs),
-    };
-    Ok((Event::Define(Definition::new(template, least)), rest))
+    record_of(alloc, kind, id, count, rest)
 }

@@ -1,17 +1,12 @@
-use Rattle.std.proofs.Common.{◌≡◌, ℕ, ◌≤◌, ◌<◌, ◌^◌, length, sym, ap, subst, ◌∙◌, arith}
-use Rattle.ipfix_message.specs.WrittenTemplates.{IsScope}
-use Rattle.ipfix_message.specs.SpelledFields.{least}
-use Rattle.ipfix_message.proofs.WritableTemplates.{is_template}
+use Rattle.std.proofs.Common.{◌≡◌, sym, ap, ◌∙◌}
+use Rattle.std.proofs.lemmas.List.{take_rest}
+use Rattle.byteorder.specs.Endian.{big_number}
+use Rattle.ipfix_wire.specs.Numbers.{number_at}
+use Rattle.ipfix_message.proofs.TemplateRecords.{event_at-is}
 use Rattle.ipfix_message.proofs.template_record.event_of.Goals as goal
 
-pub new-requires-clause-writable : goal.new-requires-clause-writable
-new-requires-clause-writable c =
-    let ss = c.in_ok-specs.specs.items in
-    let count : length ss ≡ c.read_u16-count.result = ap length (sym c.deref.ensures.value) ∙ c.deref.ensures.len ∙ c.in_ok-specs.ensures.count in
-    let small : c.read_u16-count.result < 2 ^ 16 = omega (arith, c.read_u16-count.type_inv) in
-    let id : c.read_u16-id.result < 2 ^ 16 = omega (arith, c.read_u16-id.type_inv) in
-    let some : 1 ≤ length ss = omega (arith, count, c.if-count-eq0.false) in
-    let octet : c.least_of-least.result ≡ least ss = c.least_of-least.ensures ∙ ap least c.deref.ensures.value in
-    rw c.from_vec.ensures (is_template c.args.kind c.read_u16-id.result c.in_ok-scope.scope ss (omega (arith, c.if-id-lt-FIRST_TEMPLATE_ID-2.false)) id some (omega (arith, count, small))
-    (subst (λ (n : ℕ). IsScope c.args.kind c.in_ok-scope.scope n) (sym count) c.in_ok-scope.ensures.scoped) (omega (arith, octet, c.if-least-eq0.false)) c.in_ok-specs.ensures.each
-    (omega (arith, c.in_ok-specs.ensures.room, c.in_ok-scope.ensures.room, c.split_at.ensures.back_len, c.requires.room, c.requires.long)))
+pub returns : goal.returns
+returns c =
+    let octets = c.args.octets.now in
+    let count : number_at 2 2 octets ≡ c.read_u16-count.result = ap (big_number 2) (sym (take_rest octets 2)) ∙ sym c.read_u16-count.ensures in
+    rw (event_at-is c.args.kind octets c.read_u16-id.result c.read_u16-count.result c.requires.long (sym c.read_u16-id.ensures) count) (rw c.split_at.ensures.back at c.record_of.ensures)
