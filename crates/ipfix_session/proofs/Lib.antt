@@ -3,7 +3,6 @@ mod Counting
 pub mod Giving
 pub mod Chains
 pub mod Texts
-pub mod Moves
 pub mod Accounts
 pub mod Ledgers
 pub mod Places

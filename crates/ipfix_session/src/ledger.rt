@@ -101,41 +101,21 @@ impl Ledger {
             mut reports,
             mut balances,
         } = self;
-        push_reports(&accounts, &mut reports);
-        push_balances(&accounts, &mut balances);
+        for (domain, account) in accounts.iter() {
+            let report = DomainReport {
+                domain: *domain,
+                count: account.count,
+                lost: account.lost,
+                backward: account.backward,
+            };
+            reports.push(report).unwrap();
+            let balance = DomainBalance {
+                domain: *domain,
+                passed_over: account.passed_over,
+                unaccounted: account.unaccounted,
+            };
+            balances.push(balance).unwrap();
+        }
         (reports, balances)
-    }
-}
-
-// The reports of accounts, for which there is room.
-fn push_reports(accounts: &IndexMap<u32, Account>, reports: &mut Vec<DomainReport>)
-    requires empty { reports.old.items ≡ [] }
-    requires room { index_map_len accounts.now ≤ vec_capacity reports.old }
-    ensures { reports.new.items ≡ map report_of accounts.now.entries }
-{
-    for (domain, account) in accounts.iter() {
-        let report = DomainReport {
-            domain: *domain,
-            count: account.count,
-            lost: account.lost,
-            backward: account.backward,
-        };
-        reports.push(report).unwrap();
-    }
-}
-
-// The balances of accounts, for which there is room.
-fn push_balances(accounts: &IndexMap<u32, Account>, balances: &mut Vec<DomainBalance>)
-    requires empty { balances.old.items ≡ [] }
-    requires room { index_map_len accounts.now ≤ vec_capacity balances.old }
-    ensures { balances.new.items ≡ map balance_of accounts.now.entries }
-{
-    for (domain, account) in accounts.iter() {
-        let balance = DomainBalance {
-            domain: *domain,
-            passed_over: account.passed_over,
-            unaccounted: account.unaccounted,
-        };
-        balances.push(balance).unwrap();
     }
 }

@@ -78,7 +78,6 @@ impl Source for ScriptSource {
 
     ghost ended_is_end = { λ s e xs h. sym (ap (λ o. unwrap_or o []) h) ∙ s.behind_the_end e };
 
-    #[tactic(auto, using(crate::proofs::Moves::moved))]
     fn read(&mut self, buffer: &mut [u8]) -> Result<usize, ReadError> {
         self.reads = self.reads.saturating_add(1);
         if self.interrupt_at == Some(self.reads) {

@@ -6,7 +6,7 @@ ghost use Rattle.ipfix_session.specs.Given.{IsOpen};
 use ipfix_message::MessageFault;
 
 /// Where the messages of a text stop.
-#[derive(Clone, Copy, Debug, PartialEq, Eq)]
+#[derive(Clone, Copy)]
 pub enum Stop {
     /// Nothing is left after the last message.
     Clean,
