@@ -6,7 +6,7 @@ ghost use Rattle.flow_table.specs.LeftOut.{class_in};
 use crate::class::Class;
 
 /// Why a data record is left out of a table.
-#[derive(Clone, Copy, Debug)]
+#[derive(Clone, Copy)]
 pub(crate) enum LeftOut {
     /// Its template has scope fields.
     Options,

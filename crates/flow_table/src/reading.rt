@@ -20,7 +20,7 @@ use std::alloc::AllocError;
 const COUNTER_KIND: Kind = Kind::Unsigned(Width::Eight);
 
 /// A data record as a plan sees it.
-#[derive(Clone, Copy, Debug)]
+#[derive(Clone, Copy)]
 pub(crate) enum Reading {
     /// It is left out of the table, for this reason.
     Left(LeftOut),

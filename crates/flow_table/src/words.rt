@@ -13,7 +13,7 @@ use ipfix_elements::{Cell, Kind};
 use std::alloc::AllocError;
 
 /// The words of a cell: an IPv6 address has two, and all others one.
-#[derive(Clone, Copy, Debug)]
+#[derive(Clone, Copy)]
 pub enum CellWords {
     One(u64),
     Two(u64, u64),
