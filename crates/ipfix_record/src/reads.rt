@@ -3,16 +3,17 @@
 ghost use Rattle.std.specs.Prelude.{◌≡◌, ◌++◌, ℕ, List, MatchResult, OnOk, OnErr};
 ghost use Rattle.ipfix_message.specs.Domains.{Message};
 ghost use Rattle.ipfix_session.specs.Intake.{IsRest};
-ghost use Rattle.ipfix_record.specs.Recorders.{AreCountsOf, Counted};
+ghost use Rattle.ipfix_record.specs.Recorders.{AreCountsOf, Counted, Keeps};
 ghost use Rattle.ipfix_record.specs.Files.{Appends, FilesView};
 ghost use Rattle.ipfix_record.specs.Periods.{finished_at};
-ghost use Rattle.ipfix_record.specs.Gathering.{HasGathered};
+ghost use Rattle.ipfix_record.specs.Gathering.{Gathers, GathersUpTo, HasGathered};
 ghost use Rattle.ipfix_record.specs.Between.{IsBetween, GoesNoFurther};
 
 use crate::file_series::{FileSeries, NotWritten};
 use crate::gathering::Gathering;
 use crate::pieces::take_piece;
 use crate::record_fault::RecordFault;
+use ipfix_message::MessageFault;
 use std::alloc::Global;
 
 // Begins the next file if the period is over and this one has a message.
@@ -68,6 +69,27 @@ fn write_gathered<F: FileSeries>(gathering: &mut Gathering, files: &mut F) -> Re
     Ok(())
 }
 
+// Gathers what a read gave behind the buffer, and nothing of reads before it.
+fn gather(
+    alloc: Global,
+    gathering: &mut Gathering,
+    buffer: &mut Vec<u8>,
+    piece: &[u8],
+) -> Result<(), MessageFault>
+    ensures gathers { (before here : List Message) → IsRest buffer.old.items
+        → Keeps gathering.old.recorder before here
+        → MatchResult result
+        (λ _. Gathers before here gathering.new.recorder (buffer.old.items ++ piece.now)
+        gathering.new.out.items gathering.new.counts.waiting buffer.new.items
+        × IsRest buffer.new.items)
+        (λ fault. GathersUpTo fault before here (buffer.old.items ++ piece.now)
+        gathering.new.out.items gathering.new.counts.waiting) }
+    ensures told { gathering.new.counts.told ≡ gathering.old.counts.told }
+{
+    gathering.begin_read();
+    take_piece(alloc, gathering, buffer, piece)
+}
+
 /// Takes what a read gave, and whether the clock told behind it that the period is over.
 pub fn take_read<F: FileSeries>(
     alloc: Global,
@@ -89,8 +111,7 @@ pub fn take_read<F: FileSeries>(
         first (F.seen files.new) gathering.new.counts.told) }
 {
     turn_if_over(is_over, gathering, files)?;
-    gathering.begin_read();
-    let taken = take_piece(alloc, gathering, buffer, piece);
+    let taken = gather(alloc, gathering, buffer, piece);
     write_gathered(gathering, files)?;
     match taken {
         Ok(()) => Ok(()),
