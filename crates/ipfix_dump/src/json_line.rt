@@ -5,10 +5,10 @@ ghost use Rattle.ipfix_message.specs.FieldViews.{field_of};
 ghost use Rattle.ipfix_dump.specs.JsonLines.{comma_if, json_field_under, json_fields_by, json_line_under};
 ghost use Rattle.ipfix_dump.specs.declared.label.Form.TheVariants as forms;
 
-use crate::front::Front;
 use crate::label::Form;
 use crate::labels::Labels;
 use crate::line_octets::LineOctets;
+use crate::line_parts::LineParts;
 use crate::record_line::RecordLine;
 use crate::text::append_json_value;
 use element_registry::Elements;
@@ -18,42 +18,36 @@ use std::alloc::{AllocError, Global};
 /// Makes the lines of records as objects of JSON.
 #[derive(Drop)]
 pub struct JsonLine<'a> {
-    front: Front,
-    labels: Labels<'a>,
-    line: LineOctets,
-    ghost front_of_json: { front.form ≡ forms.Json },
-    ghost labels_of_json: { labels.form ≡ forms.Json },
+    parts: LineParts<'a>,
+    ghost is_json: { parts.labels.form ≡ forms.Json },
 }
 
 impl<'a> JsonLine<'a> {
     /// No line yet. Elements are named, and their values read, as `elements` says.
     pub fn new(alloc: Global, elements: &'a Elements) -> Self
-        ensures { result.labels.elements.now ≡ elements.now }
+        ensures { result.parts.labels.elements.now ≡ elements.now }
     {
         JsonLine {
-            front: Front::new(alloc, Form::Json),
-            labels: Labels::new(alloc, elements, Form::Json),
-            line: LineOctets::new(alloc),
+            parts: LineParts::new(alloc, elements, Form::Json),
         }
     }
 }
 
 impl RecordLine for JsonLine<'_> {
-    ghost line_of = { λ line. json_line_under line.labels.elements.now };
+    ghost line_of = { λ line. json_line_under line.parts.labels.elements.now };
 
-    ghost made = { λ line. line.line };
+    ghost made = { λ line. line.parts.line };
 
     #[tactic(auto, unfolding(crate::specs::JsonLines::json_line_under))]
     fn make(&mut self, data_record: &DataRecord) -> Result<(), AllocError> {
-        self.front.renew(data_record)?;
-        self.line.clear();
-        self.line.append(self.front.text.as_slice())?;
-        append_fields(&data_record.fields, &mut self.labels, &mut self.line)?;
-        self.line.append(b"]}\n")
+        let parts = &mut self.parts;
+        parts.begin(data_record)?;
+        append_fields(&data_record.fields, &mut parts.labels, &mut parts.line)?;
+        parts.line.append(b"]}\n")
     }
 
     fn line(&self) -> &[u8] {
-        self.line.as_slice()
+        self.parts.line.as_slice()
     }
 }
 

@@ -10,6 +10,7 @@ mod labels;
 pub mod laws;
 mod line;
 mod line_octets;
+mod line_parts;
 mod line_sink;
 mod placing;
 mod record_line;
