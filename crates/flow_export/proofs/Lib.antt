@@ -16,3 +16,4 @@ pub mod MessageParts
 pub mod Lines
 pub mod ObjectParts
 pub mod Places
+pub mod Digits

@@ -2,6 +2,7 @@
 //! (RFC 7011).
 #![tactic(auto)]
 
+mod address_text;
 mod any_table;
 mod csv_text;
 mod fault;

@@ -4,8 +4,10 @@
 ghost use Rattle.std.specs.Prelude.{◌≡◌, ◌++◌, OnOk, length};
 ghost use Rattle.flow_export.specs.JsonParts.{AreLabels, interval_members, labelled_cell, labelled_cells, labelled_numbers};
 ghost use Rattle.flow_export.specs.TextsUnder.{row_object_under};
-ghost use Rattle.ipfix_elements.specs.JsonValues.{json_number};
+ghost use Rattle.ipfix_elements.specs.JsonValues.{in_quotes, json_number};
+ghost use Rattle.ipfix_elements.specs.Texts.{ipv4_text};
 
+use crate::address_text::append_ipv4;
 use crate::json_text::labels::{MemberLabel, RowLabels};
 use crate::row_lines::RowLines;
 use flow_table::{Plan, Row};
@@ -62,11 +64,25 @@ fn append_cells(labels: &[MemberLabel], cells: &[Cell], out: &mut Vec<u8>) -> Re
 }
 
 // Appends a cell behind its label.
+#[tactic(auto, unfolding(ipfix_elements::specs::Texts::cell_text))]
 fn append_cell(label: &MemberLabel, cell: &Cell, out: &mut Vec<u8>) -> Result<(), AllocError>
     ensures { OnOk result (out.new.items ≡ out.old.items ++ labelled_cell label.now cell.now) }
 {
     out.extend_from_slice(label.text.as_slice())?;
-    append_json_cell(cell, out)
+    match cell {
+        Cell::Ipv4(address) => append_quoted(address, out),
+        Cell::Number(_) | Cell::Ipv6(_) | Cell::Mac(_) => append_json_cell(cell, out),
+    }
+}
+
+// Appends an address between quotation marks.
+fn append_quoted(address: &[u8; 4], out: &mut Vec<u8>) -> Result<(), AllocError>
+    ensures { OnOk result (out.new.items ≡ out.old.items ++ in_quotes (ipv4_text address.now)) }
+{
+    out.push(b'"')?;
+    append_ipv4(address, out)?;
+    out.push(b'"')?;
+    Ok(())
 }
 
 // Appends sums, each behind its label.
