@@ -3,7 +3,7 @@
 use crate::folder::{Folder, path_in};
 use crate::period::Period;
 use crate::period_names::period_name;
-use std::alloc::Global;
+use std::alloc::{AllocError, Global};
 use std::fs::{self, Files, OpenFile, OpenOptions};
 use std::io::{self, ErrorKind};
 use std::os::unix::fs::MetadataExt;
@@ -92,11 +92,16 @@ fn remove_first_name<R: Files>(rt: &R, unfinished: &str) -> io::Result<()> {
 }
 
 // The path of a session's file; where it was taken before, that of the next number.
-fn final_path(alloc: Global, folder: &str, session: &str, number: u64) -> io::Result<String> {
+fn final_path(
+    alloc: Global,
+    folder: &str,
+    session: &str,
+    number: u64,
+) -> Result<String, AllocError> {
     if number == 1 {
-        Ok(format!(in alloc; "{folder}/{session}.ipfix")?)
+        format!(in alloc; "{folder}/{session}.ipfix")
     } else {
-        Ok(format!(in alloc; "{folder}/{session}.{number}.ipfix")?)
+        format!(in alloc; "{folder}/{session}.{number}.ipfix")
     }
 }
 
