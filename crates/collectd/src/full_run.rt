@@ -15,14 +15,14 @@ ghost use Rattle.collectd.specs.FullRuns.{table_told, WentWell, WritesTableInFul
 ghost use Rattle.collectd.specs.Told.{run_lines, TellsFault};
 
 use crate::collect_fault::write_collect_fault;
-use collectd_output::{Output, export};
-use element_registry::Elements;
+use crate::job::CollectJob;
+use collectd_output::export;
 use exit_status::Status;
 use flow_collect::{CollectedInFull, OpenGate, Pool, collect_flat};
-use flow_table::{FlatTable, Plan};
+use flow_table::FlatTable;
 use ipfix_session::{FullReport, Source};
 use run_reports::{
-    Origin, Telling, WriteLines, is_spotless, write_export_fault, write_missing, write_tally,
+    Origin, WriteLines, is_spotless, write_export_fault, write_missing, write_tally,
     write_told_reports,
 };
 use std::alloc::Global;
@@ -30,21 +30,16 @@ use std::io::{self, Write};
 use std::sync::Wait;
 use std::thread::Threads;
 
-/// Does as [`run`](crate::run), and tells more if `telling` asks for it: to `err` it writes the lines of the
+/// Does as [`run`](crate::run), and tells more if `job.telling` asks for it: to `err` it writes the lines of the
 /// sessions in full, each with the origin that has the session's place. Keys and counters have the names that
-/// `elements` gives them. If `telling` is strict, the status is 1
-/// also if anything shows that something which was sent isn't in the table
-/// ([`is_spotless`](run_reports::is_spotless)).
+/// `job.elements` give them. If the telling is strict, the status is 1 also if anything shows that something which
+/// was sent isn't in the table ([`is_spotless`](run_reports::is_spotless)).
 pub fn run_in_full<S: Source + Send + Drop, W: Write, E: WriteLines, R: Threads + Wait + Sync>(
     rt: &R,
     alloc: Global,
     sources: Vec<S>,
     origins: &[Origin],
-    elements: &Elements,
-    plan: &Plan,
-    pool: Pool,
-    output: Output,
-    telling: Telling,
+    job: &CollectJob,
     out: &mut W,
     err: &mut E,
 ) -> u8
@@ -54,38 +49,41 @@ pub fn run_in_full<S: Source + Send + Drop, W: Write, E: WriteLines, R: Threads 
     // sessions and of the table's counts were told, and nothing else; all was well exactly if no session had
     // a fault, and if the run is strict exactly if it was spotless.
     ensures table { result ≢ number_of Status.Failed
-        → WritesTableInFull S.seen telling.strict sources.items plan.now pool result
+        → WritesTableInFull S.seen job.now.telling.strict sources.items job.now.plan.now job.now.pool result
         (λ fulls table.
-        WritesUnder elements.now plan.now output (W.contents out.old) (W.contents out.new) table
+        WritesUnder job.now.elements.now job.now.plan.now job.now.output
+        (W.contents out.old) (W.contents out.new) table
         × AreTold (E.contents err.old) (E.contents err.new) (E.failed err.new)
-        (run_lines telling elements.now plan.now origins.now fulls table)) }
+        (run_lines job.now.telling job.now.elements.now job.now.plan.now origins.now fulls table)) }
     // The table of all whole texts was written, and each of them ends with a whole message.
     ensures all { result ≡ number_of Status.Well
-        → WritesWholeTable S.seen sources.items plan.now
-        (WritesUnder elements.now plan.now output (W.contents out.old) (W.contents out.new)) }
+        → WritesWholeTable S.seen sources.items job.now.plan.now
+        (WritesUnder job.now.elements.now job.now.plan.now job.now.output
+        (W.contents out.old) (W.contents out.new)) }
     // The line of a fault alone was told; and nothing was written, if it is one of collecting.
     ensures failed { result ≡ number_of Status.Failed → TellsFault (out.new ≡ out.old)
         (AreTold (E.contents err.old) (E.contents err.new) (E.failed err.new)) }
     // Nothing was collected if the arguments have a fault, and that is told.
-    ensures refused { IfSome (fault_of_arguments pool (vec_len sources))
+    ensures refused { IfSome (fault_of_arguments job.now.pool (vec_len sources))
         (λ fault. (result ≡ number_of Status.Failed) × (out.new ≡ out.old)
         × AreTold (E.contents err.old) (E.contents err.new) (E.failed err.new)
         (collect_fault_line fault)) }
     ensures kept { E.failed err.old → E.failed err.new }
 {
-    let collected = match collect_flat(rt, alloc, sources, plan, pool, &OpenGate) {
+    let collected = match collect_flat(rt, alloc, sources, job.plan, job.pool, &OpenGate) {
         Ok(collected) => collected,
         Err(fault) => {
             let _ = write_collect_fault(fault, err);
             return Status::Failed.number();
         }
     };
-    if let Err(fault) = export(alloc, elements, plan, &collected.table, output, out) {
+    let table = &collected.table;
+    if let Err(fault) = export(alloc, job.elements, job.plan, table, job.output, out) {
         let _ = write_export_fault(fault, err);
         return Status::Failed.number();
     }
-    let _ = tell(telling, origins, elements, plan, &collected, err);
-    status_of(telling.strict, &collected).number()
+    let _ = tell(job, origins, &collected, err);
+    status_of(job.telling.strict, &collected).number()
 }
 
 // How a run ended whose table is written.
@@ -137,36 +135,28 @@ fn have_no_fault(reports: &[FullReport]) -> bool
 
 // What there is to tell of sessions and their records.
 fn tell<S, E: WriteLines>(
-    telling: Telling,
+    job: &CollectJob,
     origins: &[Origin],
-    elements: &Elements,
-    plan: &Plan,
     collected: &CollectedInFull<S, FlatTable>,
     err: &mut E,
 ) -> io::Result<()>
     ensures told { OnOk result (Appends (E.contents err.old) (E.contents err.new)
-        (run_lines telling elements.now plan.now origins.now collected.now.sessions.items
-        collected.now.table)) }
+        (run_lines job.now.telling job.now.elements.now job.now.plan.now origins.now
+        collected.now.sessions.items collected.now.table)) }
     ensures failed { OnErr result (E.failed err.new) }
     ensures kept { E.failed err.old → E.failed err.new }
 {
-    write_told_reports(telling, elements, origins, &collected.sessions, err)?;
-    tell_table(telling, elements, plan, &collected.table, err)
+    write_told_reports(job.telling, job.elements, origins, &collected.sessions, err)?;
+    tell_table(job, &collected.table, err)
 }
 
 // How many records there were of each class, and what of them lacked something.
-fn tell_table<E: WriteLines>(
-    telling: Telling,
-    elements: &Elements,
-    plan: &Plan,
-    table: &FlatTable,
-    err: &mut E,
-) -> io::Result<()>
+fn tell_table<E: WriteLines>(job: &CollectJob, table: &FlatTable, err: &mut E) -> io::Result<()>
     ensures told { OnOk result (Appends (E.contents err.old) (E.contents err.new)
-        (table_told telling elements.now plan.now table.now)) }
+        (table_told job.now.telling job.now.elements.now job.now.plan.now table.now)) }
     ensures failed { OnErr result (E.failed err.new) }
     ensures kept { E.failed err.old → E.failed err.new }
 {
     write_tally(&table.tally(), err)?;
-    write_missing(telling, elements, plan, &table.missing(), err)
+    write_missing(job.telling, job.elements, job.plan, &table.missing(), err)
 }

@@ -5,6 +5,7 @@ mod collect_fault;
 mod commands;
 mod early;
 mod full_run;
+mod job;
 mod limits;
 mod table;
 
@@ -25,6 +26,7 @@ pub use exit_status::Status;
 pub use full_run::run_in_full;
 pub use ipfix_dump::{DumpFault, dump, dump_json};
 pub use ipfix_session::MessageCounter;
+pub use job::CollectJob;
 pub use limits::write_limit;
 pub use run_reports::{
     Origin, Reason, Remembering, Telling, write_dump_fault, write_export_fault, write_not_had,

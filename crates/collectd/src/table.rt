@@ -11,13 +11,14 @@ ghost use Rattle.collectd_output.specs.TableTexts.{Writes};
 ghost use Rattle.collectd.specs.Runs.{WritesTable, WritesWholeTable};
 
 use crate::full_run::run_in_full;
+use crate::job::CollectJob;
 use collectd_output::Output;
 use element_registry::Elements;
 use exit_status::Status;
 use flow_collect::Pool;
 use flow_table::Plan;
 use ipfix_session::Source;
-use run_reports::{NOTHING_MORE, WriteLines};
+use run_reports::WriteLines;
 use std::alloc::Global;
 use std::io::Write;
 use std::sync::Wait;
@@ -65,17 +66,6 @@ pub fn run<S: Source + Send + Drop, W: Write, E: WriteLines, R: Threads + Wait +
     ensures kept { E.failed err.old → E.failed err.new }
 {
     let elements = Elements::built_in(alloc);
-    run_in_full(
-        rt,
-        alloc,
-        sources,
-        &[],
-        &elements,
-        plan,
-        pool,
-        output,
-        NOTHING_MORE,
-        out,
-        err,
-    )
+    let job = CollectJob::plain(&elements, plan, pool, output);
+    run_in_full(rt, alloc, sources, &[], &job, out, err)
 }

@@ -2,13 +2,13 @@
 
 use clap::ArgMatches;
 use collectd::{
-    DumpFault, Listening, Noted, Origin, Remembering, SystemFiles, Telling, run_dump_json_under,
-    run_dump_under, run_files_in_full, run_merge_in_full, run_tcp_in_full, write_dump_fault,
-    write_limit,
+    CollectJob, DumpFault, Listening, Noted, Origin, Remembering, SystemFiles, Telling,
+    run_dump_json_under, run_dump_under, run_files_in_full, run_merge_in_full, run_tcp_in_full,
+    write_dump_fault, write_limit,
 };
 use command_inputs::{
-    Collecting, DumpFormat, buffered_output, listen_on, read_collecting, read_dump_format,
-    read_idle, read_job, read_paths, read_progress, read_telling, table_output, write_refused,
+    DumpFormat, Job, buffered_output, listen_on, read_collecting, read_dump_format, read_idle,
+    read_job, read_paths, read_progress, read_telling, table_output, write_refused,
     write_refused_exports, write_refused_files, write_refused_output, write_refused_peers,
 };
 use exit_status::Status;
@@ -77,31 +77,22 @@ pub fn files<R: Clock + Threads + Wait + Sync>(
     chosen: &ArgMatches,
 ) -> Result<u8, Status> {
     let mut err = rt.stderr();
+    let telling = read_telling(chosen);
     let paths = read_paths(chosen, &mut err)?;
-    let Collecting {
-        job,
-        pool,
-        mut out,
-        terminal,
-    } = read_collecting(rt, chosen, &mut err)?;
+    let mut collecting = read_collecting(rt, chosen, &mut err)?;
     let mut files = SystemFiles::new(rt, rt.alloc());
     let status = run_files_in_full(
         threads,
         rt.alloc(),
         &mut files,
         paths,
-        &job.elements,
-        &job.plan,
-        pool,
-        job.output,
-        read_progress(&terminal, rt, chosen),
-        read_telling(chosen),
-        &mut out,
+        &collect_job(&collecting.job, collecting.pool, telling),
+        read_progress(&collecting.terminal, rt, chosen),
+        &mut collecting.out,
         &mut Remembering::new(rt.stderr()),
     );
-    let telling = read_telling(chosen);
-    write_refused_output(telling, &out, &mut err);
-    write_refused_pool(status, telling, pool, paths.len(), &mut err);
+    write_refused_output(telling, &collecting.out, &mut err);
+    write_refused_pool(status, telling, collecting.pool, paths.len(), &mut err);
     write_refused_files(status, telling, paths, files.notes(), &mut err);
     Ok(status)
 }
@@ -113,15 +104,11 @@ pub fn tcp<R: Clock + Threads + Wait + Sync>(
     chosen: &ArgMatches,
 ) -> Result<u8, Status> {
     let mut err = rt.stderr();
+    let telling = read_telling(chosen);
     let addr = chosen.get_str("listen").ok_or(Status::NotOpened)?;
     let sessions = chosen.get_one::<u32>("sessions").ok_or(Status::NotOpened)?;
-    let Collecting {
-        job,
-        pool,
-        mut out,
-        terminal,
-    } = read_collecting(rt, chosen, &mut err)?;
-    let listener = listen_on(rt, addr, read_telling(chosen), &mut err)?;
+    let mut collecting = read_collecting(rt, chosen, &mut err)?;
+    let listener = listen_on(rt, addr, telling, &mut err)?;
     let mut listening = Listening::new(rt.alloc(), listener);
     let status = run_tcp_in_full(
         threads,
@@ -130,18 +117,19 @@ pub fn tcp<R: Clock + Threads + Wait + Sync>(
         addr,
         sessions as usize,
         read_idle(chosen),
-        &job.elements,
-        &job.plan,
-        pool,
-        job.output,
-        read_progress(&terminal, rt, chosen),
-        read_telling(chosen),
-        &mut out,
+        &collect_job(&collecting.job, collecting.pool, telling),
+        read_progress(&collecting.terminal, rt, chosen),
+        &mut collecting.out,
         &mut Remembering::new(rt.stderr()),
     );
-    let telling = read_telling(chosen);
-    write_refused_output(telling, &out, &mut err);
-    write_refused_pool(status, telling, pool, sessions as usize, &mut err);
+    write_refused_output(telling, &collecting.out, &mut err);
+    write_refused_pool(
+        status,
+        telling,
+        collecting.pool,
+        sessions as usize,
+        &mut err,
+    );
     write_refused_peers(status, telling, listening.peers(), &mut err);
     Ok(status)
 }
@@ -168,6 +156,17 @@ pub fn merge(rt: &HostRuntime, chosen: &ArgMatches) -> Result<u8, Status> {
     write_refused_output(telling, &out, &mut err);
     write_refused_exports(telling, paths, files.notes(), &mut err);
     Ok(status)
+}
+
+// What a run is to do with what it collects.
+fn collect_job<'a>(job: &'a Job, pool: Pool, telling: Telling) -> CollectJob<'a> {
+    CollectJob {
+        elements: &job.elements,
+        plan: &job.plan,
+        pool,
+        output: job.output,
+        telling,
+    }
 }
 
 // What a pool and that many sessions may be, if the run failed by them: `err` has a

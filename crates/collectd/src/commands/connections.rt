@@ -11,14 +11,11 @@ ghost use Rattle.collectd.specs.Collects.{CollectsInFull};
 ghost use Rattle.collectd.specs.Told.{TellsNotAccepted};
 
 use crate::full_run::run_in_full;
+use crate::job::CollectJob;
 use collectd_inputs::{AcceptedAll, Listener, accept_all};
-use collectd_output::Output;
-use element_registry::Elements;
 use exit_status::Status;
-use flow_collect::Pool;
-use flow_table::Plan;
 use ipfix_session::Source;
-use run_reports::{Telling, WriteLines, write_listening, write_not_had_because};
+use run_reports::{WriteLines, write_listening, write_not_had_because};
 use std::alloc::Global;
 use std::io::Write;
 use std::rt::Clock;
@@ -41,38 +38,33 @@ pub fn run_connections<
     addr: &str,
     count: usize,
     idle: Option<Duration>,
-    elements: &Elements,
-    plan: &Plan,
-    pool: Pool,
-    output: Output,
+    job: &CollectJob,
     progress: Option<P>,
-    telling: Telling,
     out: &mut W,
     err: &mut E,
 ) -> u8
     ensures collects { CollectsInFull S.seen
         (AreAccepted (L.gives listener.old idle) count
         (L.coming listener.old) (L.coming listener.new))
-        (TellsNotAccepted telling (if_verbose telling (listening_line addr.now count)) addr.now) count
-        plan.now pool output W.contents out.old out.new
+        (TellsNotAccepted job.now.telling (if_verbose job.now.telling (listening_line addr.now count))
+        addr.now) count
+        job.now.plan.now job.now.pool job.now.output W.contents out.old out.new
         (AreTold (E.contents err.old) (E.contents err.new) (E.failed err.new)) result
-        elements.now telling (ArePeers count)
-        (if_verbose telling (listening_line addr.now count)) }
+        job.now.elements.now job.now.telling (ArePeers count)
+        (if_verbose job.now.telling (listening_line addr.now count)) }
     ensures closed { L.is_closed listener.new }
     ensures no_time { IfSome idle
         (λ limit. as_nanos limit ≡ 0 → 0 < count → result ≡ number_of Status.NotOpened) }
     ensures kept { E.failed err.old → E.failed err.new }
 {
-    let _ = write_listening(telling, addr, count, err);
-    match accept_all(rt, alloc, listener, count, idle, progress, telling, err) {
+    let _ = write_listening(job.telling, addr, count, err);
+    match accept_all(rt, alloc, listener, count, idle, progress, job.telling, err) {
         Ok(AcceptedAll { sources, origins }) => {
             let sources = sources.into_sources();
-            run_in_full(
-                rt, alloc, sources, &origins, elements, plan, pool, output, telling, out, err,
-            )
+            run_in_full(rt, alloc, sources, &origins, job, out, err)
         }
         Err(reason) => {
-            let _ = write_not_had_because(telling, "listen", addr, reason, err);
+            let _ = write_not_had_because(job.telling, "listen", addr, reason, err);
             Status::NotOpened.number()
         }
     }

@@ -12,6 +12,7 @@ ghost use Rattle.collectd.specs.Told.{TellsNotOpened};
 use super::paths::run_paths;
 use crate::collect_fault::write_collect_fault;
 use crate::early::refused_early;
+use crate::job::CollectJob;
 use collectd_inputs::OpenSource;
 use collectd_output::Output;
 use element_registry::Elements;
@@ -19,7 +20,7 @@ use exit_status::Status;
 use flow_collect::Pool;
 use flow_table::Plan;
 use ipfix_session::Source;
-use run_reports::{NOTHING_MORE, Telling, WriteLines};
+use run_reports::{NOTHING_MORE, WriteLines};
 use std::alloc::Global;
 use std::io::Write;
 use std::rt::Clock;
@@ -61,15 +62,13 @@ pub fn run_files<
     ensures kept { E.failed err.old → E.failed err.new }
 {
     let elements = Elements::built_in(alloc);
-    let telling = NOTHING_MORE;
-    run_paths(
-        rt, alloc, files, paths, &elements, plan, pool, output, progress, telling, out, err,
-    )
+    let job = CollectJob::plain(&elements, plan, pool, output);
+    run_paths(rt, alloc, files, paths, &job, progress, out, err)
 }
 
-/// Does as [`run_files`], and tells more if `telling` asks for it, as [`run_in_full`](crate::run_in_full): in verbose lines each file
-/// that is opened, and the system's reason behind one that can't be. If the pool has a fault, no file is
-/// opened, and the status is 3.
+/// Does as [`run_files`], and tells more if `job.telling` asks for it, as [`run_in_full`](crate::run_in_full):
+/// in verbose lines each file that is opened, and the system's reason behind one that can't be. If the pool
+/// has a fault, no file is opened, and the status is 3.
 #[tactic(auto, using(crate::proofs::FullRan::whatever, crate::proofs::FullRan::even_if_none, crate::proofs::FullRan::not_if_some, crate::proofs::FullRan::not_if_none))]
 pub fn run_files_in_full<
     S: Source + Send + Drop,
@@ -83,34 +82,28 @@ pub fn run_files_in_full<
     alloc: Global,
     files: &mut O,
     paths: &[&str],
-    elements: &Elements,
-    plan: &Plan,
-    pool: Pool,
-    output: Output,
+    job: &CollectJob,
     progress: Option<P>,
-    telling: Telling,
     out: &mut W,
     err: &mut E,
 ) -> u8
     // The sources of the paths, in their order, each opened once, were run, as `run_in_full` says it, and no
     // others; or each file that was had was told, and then the path that can't be opened.
-    ensures collects { IfNone (fault_of_pool pool) (CollectsInFull S.seen
+    ensures collects { IfNone (fault_of_pool job.now.pool) (CollectsInFull S.seen
         (AreOpened (λ path. O.opens files.old path.now)
         paths.now (O.coming files.old) (O.coming files.new))
-        (TellsNotOpened (map (λ path. path.now) paths.now) telling) (length paths.now)
-        plan.now pool output W.contents out.old out.new
+        (TellsNotOpened (map (λ path. path.now) paths.now) job.now.telling) (length paths.now)
+        job.now.plan.now job.now.pool job.now.output W.contents out.old out.new
         (AreTold (E.contents err.old) (E.contents err.new) (E.failed err.new)) result
-        elements.now telling (AllZip (λ path. IsFileNamed path.now) paths.now) []) }
+        job.now.elements.now job.now.telling (AllZip (λ path. IsFileNamed path.now) paths.now) []) }
     // No file is opened for a pool that has a fault.
-    ensures pool { RefusesPool pool result (out.new ≡ out.old)
+    ensures pool { RefusesPool job.now.pool result (out.new ≡ out.old)
         (AreTold (E.contents err.old) (E.contents err.new) (E.failed err.new)) }
     ensures kept { E.failed err.old → E.failed err.new }
 {
-    if let Some(fault) = refused_early(pool, paths.len()) {
+    if let Some(fault) = refused_early(job.pool, paths.len()) {
         let _ = write_collect_fault(fault, err);
         return Status::Failed.number();
     }
-    run_paths(
-        rt, alloc, files, paths, elements, plan, pool, output, progress, telling, out, err,
-    )
+    run_paths(rt, alloc, files, paths, job, progress, out, err)
 }

@@ -9,14 +9,11 @@ ghost use Rattle.collectd.specs.Collects.{CollectsInFull};
 ghost use Rattle.collectd.specs.Told.{TellsNotOpened};
 
 use crate::full_run::run_in_full;
+use crate::job::CollectJob;
 use collectd_inputs::{NotOpened, OpenSource, OpenedAll, open_all};
-use collectd_output::Output;
-use element_registry::Elements;
 use exit_status::Status;
-use flow_collect::Pool;
-use flow_table::Plan;
 use ipfix_session::Source;
-use run_reports::{Telling, WriteLines, write_not_had_because};
+use run_reports::{WriteLines, write_not_had_because};
 use std::alloc::Global;
 use std::io::Write;
 use std::rt::Clock;
@@ -36,33 +33,27 @@ pub fn run_paths<
     alloc: Global,
     files: &mut O,
     paths: &[&str],
-    elements: &Elements,
-    plan: &Plan,
-    pool: Pool,
-    output: Output,
+    job: &CollectJob,
     progress: Option<P>,
-    telling: Telling,
     out: &mut W,
     err: &mut E,
 ) -> u8
     ensures collects { CollectsInFull S.seen
         (AreOpened (λ path. O.opens files.old path.now)
         paths.now (O.coming files.old) (O.coming files.new))
-        (TellsNotOpened (map (λ path. path.now) paths.now) telling) (length paths.now)
-        plan.now pool output W.contents out.old out.new
+        (TellsNotOpened (map (λ path. path.now) paths.now) job.now.telling) (length paths.now)
+        job.now.plan.now job.now.pool job.now.output W.contents out.old out.new
         (AreTold (E.contents err.old) (E.contents err.new) (E.failed err.new)) result
-        elements.now telling (AllZip (λ path. IsFileNamed path.now) paths.now) [] }
+        job.now.elements.now job.now.telling (AllZip (λ path. IsFileNamed path.now) paths.now) [] }
     ensures kept { E.failed err.old → E.failed err.new }
 {
-    match open_all(rt, alloc, files, paths, progress, telling, err) {
+    match open_all(rt, alloc, files, paths, progress, job.telling, err) {
         Ok(OpenedAll { sources, origins }) => {
             let sources = sources.into_sources();
-            run_in_full(
-                rt, alloc, sources, &origins, elements, plan, pool, output, telling, out, err,
-            )
+            run_in_full(rt, alloc, sources, &origins, job, out, err)
         }
         Err(NotOpened { path, reason }) => {
-            let _ = write_not_had_because(telling, "open", path, reason, err);
+            let _ = write_not_had_because(job.telling, "open", path, reason, err);
             Status::NotOpened.number()
         }
     }

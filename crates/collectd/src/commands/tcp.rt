@@ -14,6 +14,7 @@ ghost use Rattle.collectd.specs.Told.{TellsNotAccepted};
 use super::connections::run_connections;
 use crate::collect_fault::write_collect_fault;
 use crate::early::refused_early;
+use crate::job::CollectJob;
 use collectd_inputs::Listener;
 use collectd_output::Output;
 use element_registry::Elements;
@@ -21,7 +22,7 @@ use exit_status::Status;
 use flow_collect::Pool;
 use flow_table::Plan;
 use ipfix_session::Source;
-use run_reports::{NOTHING_MORE, Telling, WriteLines};
+use run_reports::{NOTHING_MORE, WriteLines};
 use std::alloc::Global;
 use std::io::Write;
 use std::rt::Clock;
@@ -75,14 +76,13 @@ pub fn run_tcp<
     ensures kept { E.failed err.old → E.failed err.new }
 {
     let elements = Elements::built_in(alloc);
-    let telling = NOTHING_MORE;
+    let job = CollectJob::plain(&elements, plan, pool, output);
     run_connections(
-        rt, alloc, listener, addr, count, idle, &elements, plan, pool, output, progress, telling,
-        out, err,
+        rt, alloc, listener, addr, count, idle, &job, progress, out, err,
     )
 }
 
-/// Does as [`run_tcp`], and tells more if `telling` asks for it, as
+/// Does as [`run_tcp`], and tells more if `job.telling` asks for it, as
 /// [`run_in_full`](crate::run_in_full): in verbose lines that it waits for connections, each that is accepted,
 /// and the system's reason behind one that can't be. If the pool has a fault, no connection is accepted, and the
 /// status is 3.
@@ -101,41 +101,37 @@ pub fn run_tcp_in_full<
     addr: &str,
     count: usize,
     idle: Option<Duration>,
-    elements: &Elements,
-    plan: &Plan,
-    pool: Pool,
-    output: Output,
+    job: &CollectJob,
     progress: Option<P>,
-    telling: Telling,
     out: &mut W,
     err: &mut E,
 ) -> u8
     // So many connections with this limit were accepted and run, as `run_in_full` says it, and no others; or
     // each that was had was told, and then the address that gives none.
-    ensures collects { IfNone (fault_of_pool pool) (CollectsInFull S.seen
+    ensures collects { IfNone (fault_of_pool job.now.pool) (CollectsInFull S.seen
         (AreAccepted (L.gives listener.old idle) count
         (L.coming listener.old) (L.coming listener.new))
-        (TellsNotAccepted telling (if_verbose telling (listening_line addr.now count)) addr.now) count
-        plan.now pool output W.contents out.old out.new
+        (TellsNotAccepted job.now.telling (if_verbose job.now.telling (listening_line addr.now count))
+        addr.now) count
+        job.now.plan.now job.now.pool job.now.output W.contents out.old out.new
         (AreTold (E.contents err.old) (E.contents err.new) (E.failed err.new)) result
-        elements.now telling (ArePeers count)
-        (if_verbose telling (listening_line addr.now count))) }
+        job.now.elements.now job.now.telling (ArePeers count)
+        (if_verbose job.now.telling (listening_line addr.now count))) }
     ensures closed { L.is_closed listener.new }
     // No connection can have a limit of no time.
-    ensures no_time { IfNone (fault_of_pool pool) (IfSome idle
+    ensures no_time { IfNone (fault_of_pool job.now.pool) (IfSome idle
         (λ limit. as_nanos limit ≡ 0 → 0 < count → result ≡ number_of Status.NotOpened)) }
     // No connection is accepted for a pool that has a fault.
-    ensures pool { RefusesPool pool result (out.new ≡ out.old)
+    ensures pool { RefusesPool job.now.pool result (out.new ≡ out.old)
         (AreTold (E.contents err.old) (E.contents err.new) (E.failed err.new)) }
     ensures kept { E.failed err.old → E.failed err.new }
 {
-    if let Some(fault) = refused_early(pool, count) {
+    if let Some(fault) = refused_early(job.pool, count) {
         listener.close();
         let _ = write_collect_fault(fault, err);
         return Status::Failed.number();
     }
     run_connections(
-        rt, alloc, listener, addr, count, idle, elements, plan, pool, output, progress, telling,
-        out, err,
+        rt, alloc, listener, addr, count, idle, job, progress, out, err,
     )
 }

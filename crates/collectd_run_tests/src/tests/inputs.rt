@@ -5,8 +5,8 @@ ghost use Rattle.collectd_inputs.specs.Had.{IsUnread};
 
 use super::sessions::{BY_SOURCE, CSV, POOL};
 use collectd::{
-    Accepted, Listener, OpenSource, Opened, Reason, Telling, run_files, run_files_in_full,
-    run_merge, run_tcp, run_tcp_in_full,
+    Accepted, CollectJob, Listener, OpenSource, Opened, Reason, Telling, run_files,
+    run_files_in_full, run_merge, run_tcp, run_tcp_in_full,
 };
 use element_registry::Elements;
 use flow_collect::Pool;
@@ -169,17 +169,21 @@ fn run_told<R: Clock + Threads + Wait + Sync>(
     let mut inputs = Inputs::new(alloc);
     let plan = read_plan(alloc, BY_SOURCE)?;
     let (mut out, mut err) = (Vec::new(alloc), Vec::new(alloc));
+    let elements = Elements::built_in(alloc);
+    let job = CollectJob {
+        elements: &elements,
+        plan: &plan,
+        pool,
+        output: CSV,
+        telling,
+    };
     let status = run_files_in_full(
         rt,
         alloc,
         &mut inputs,
         paths,
-        &Elements::built_in(alloc),
-        &plan,
-        pool,
-        CSV,
+        &job,
         NO_PROGRESS,
-        telling,
         &mut out,
         &mut err,
     );
@@ -292,6 +296,11 @@ fn tells_connections_by_their_peers(rt: HostRuntime) -> Result<(), Fail> {
         verbose: true,
         strict: false,
     };
+    let elements = Elements::built_in(rt.alloc());
+    let job = CollectJob {
+        telling,
+        ..CollectJob::plain(&elements, &plan, POOL, CSV)
+    };
     let status = run_tcp_in_full(
         &rt,
         rt.alloc(),
@@ -299,12 +308,8 @@ fn tells_connections_by_their_peers(rt: HostRuntime) -> Result<(), Fail> {
         "peers",
         1,
         None,
-        &Elements::built_in(rt.alloc()),
-        &plan,
-        POOL,
-        CSV,
+        &job,
         NO_PROGRESS,
-        telling,
         &mut out,
         &mut err,
     );

@@ -20,8 +20,8 @@ returns-in-Err-export-clause-failed g c = λ failed.
 pub returns-clause-table : goal.returns-clause-table
 returns-clause-table g c = λ ran.
     let well = zero_if_well c.status_of.result c.number-2.result _ c.number-2.ensures c.status_of.ensures.ends c.status_of.ensures.well in
-    writes_in_full g.S.Source.seen c.args.telling.strict c.args.sources.items c.args.plan.now c.args.pool c.number-2.result _ c.in-Ok.collected c.in-Ok.ensures.ok well
-    (λ zero. c.status_of.ensures.whole c.args.sources.items c.args.plan.now c.args.pool c.in-Ok.ensures.ok (well.0 zero))
+    writes_in_full g.S.Source.seen c.args.job.now.telling.strict c.args.sources.items c.args.job.now.plan.now c.args.job.now.pool c.number-2.result _ c.in-Ok.collected c.in-Ok.ensures.ok well
+    (λ zero. c.status_of.ensures.whole c.args.sources.items c.args.job.now.plan.now c.args.job.now.pool c.in-Ok.ensures.ok (well.0 zero))
     (search rules, is_told _ _ _ c.tell.result _ c.tell.ensures.told c.tell.ensures.failed)
 
 pub returns-clause-all : goal.returns-clause-all
@@ -29,6 +29,6 @@ returns-clause-all g c = λ zero.
     let well = (zero_if_well c.status_of.result c.number-2.result _ c.number-2.ensures c.status_of.ensures.ends c.status_of.ensures.well).0 zero in
     record {
       table = c.in-Ok.collected.table;
-      adds_up = c.status_of.ensures.whole c.args.sources.items c.args.plan.now c.args.pool c.in-Ok.ensures.ok well;
+      adds_up = c.status_of.ensures.whole c.args.sources.items c.args.job.now.plan.now c.args.job.now.pool c.in-Ok.ensures.ok well;
       written = search rules;
     }

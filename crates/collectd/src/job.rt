@@ -1,0 +1,39 @@
+//! What a run of collecting is to do.
+
+ghost use Rattle.std.specs.Prelude.{◌≡◌};
+
+use collectd_output::Output;
+use element_registry::Elements;
+use flow_collect::Pool;
+use flow_table::Plan;
+use run_reports::{NOTHING_MORE, Telling};
+
+/// What a run is to do with what it collects, wherever that comes from.
+#[derive(Clone, Copy)]
+pub struct CollectJob<'a> {
+    /// These name the keys and counters.
+    pub elements: &'a Elements,
+    pub plan: &'a Plan,
+    pub pool: Pool,
+    pub output: Output,
+    pub telling: Telling,
+}
+
+impl<'a> CollectJob<'a> {
+    /// One that tells nothing more.
+    pub fn plain(elements: &'a Elements, plan: &'a Plan, pool: Pool, output: Output) -> Self
+        ensures elements { result.elements.now ≡ elements.now }
+        ensures plan { result.plan.now ≡ plan.now }
+        ensures pool { result.pool ≡ pool }
+        ensures output { result.output ≡ output }
+        ensures telling { result.telling ≡ NOTHING_MORE }
+    {
+        CollectJob {
+            elements,
+            plan,
+            pool,
+            output,
+            telling: NOTHING_MORE,
+        }
+    }
+}
