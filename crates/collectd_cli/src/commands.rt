@@ -7,8 +7,8 @@ use collectd::{
     write_dump_fault, write_limit,
 };
 use command_inputs::{
-    DumpFormat, Job, buffered_output, listen_on, read_collecting, read_dump_format, read_idle,
-    read_job, read_paths, read_progress, read_telling, table_output, write_refused,
+    Collecting, DumpFormat, Job, buffered_output, listen_on, read_collecting, read_dump_format,
+    read_idle, read_job, read_paths, read_progress, read_telling, table_output, write_refused,
     write_refused_exports, write_refused_files, write_refused_output, write_refused_peers,
 };
 use exit_status::Status;
@@ -79,20 +79,25 @@ pub fn files<R: Clock + Threads + Wait + Sync>(
     let mut err = rt.stderr();
     let telling = read_telling(chosen);
     let paths = read_paths(chosen, &mut err)?;
-    let mut collecting = read_collecting(rt, chosen, &mut err)?;
+    let Collecting {
+        job,
+        pool,
+        mut out,
+        terminal,
+    } = read_collecting(rt, chosen, &mut err)?;
     let mut files = SystemFiles::new(rt, rt.alloc());
     let status = run_files_in_full(
         threads,
         rt.alloc(),
         &mut files,
         paths,
-        &collect_job(&collecting.job, collecting.pool, telling),
-        read_progress(&collecting.terminal, rt, chosen),
-        &mut collecting.out,
+        &collect_job(&job, pool, telling),
+        read_progress(&terminal, rt, chosen),
+        &mut out,
         &mut Remembering::new(rt.stderr()),
     );
-    write_refused_output(telling, &collecting.out, &mut err);
-    write_refused_pool(status, telling, collecting.pool, paths.len(), &mut err);
+    write_refused_output(telling, &out, &mut err);
+    write_refused_pool(status, telling, pool, paths.len(), &mut err);
     write_refused_files(status, telling, paths, files.notes(), &mut err);
     Ok(status)
 }
@@ -107,7 +112,12 @@ pub fn tcp<R: Clock + Threads + Wait + Sync>(
     let telling = read_telling(chosen);
     let addr = chosen.get_str("listen").ok_or(Status::NotOpened)?;
     let sessions = chosen.get_one::<u32>("sessions").ok_or(Status::NotOpened)?;
-    let mut collecting = read_collecting(rt, chosen, &mut err)?;
+    let Collecting {
+        job,
+        pool,
+        mut out,
+        terminal,
+    } = read_collecting(rt, chosen, &mut err)?;
     let listener = listen_on(rt, addr, telling, &mut err)?;
     let mut listening = Listening::new(rt.alloc(), listener);
     let status = run_tcp_in_full(
@@ -117,19 +127,13 @@ pub fn tcp<R: Clock + Threads + Wait + Sync>(
         addr,
         sessions as usize,
         read_idle(chosen),
-        &collect_job(&collecting.job, collecting.pool, telling),
-        read_progress(&collecting.terminal, rt, chosen),
-        &mut collecting.out,
+        &collect_job(&job, pool, telling),
+        read_progress(&terminal, rt, chosen),
+        &mut out,
         &mut Remembering::new(rt.stderr()),
     );
-    write_refused_output(telling, &collecting.out, &mut err);
-    write_refused_pool(
-        status,
-        telling,
-        collecting.pool,
-        sessions as usize,
-        &mut err,
-    );
+    write_refused_output(telling, &out, &mut err);
+    write_refused_pool(status, telling, pool, sessions as usize, &mut err);
     write_refused_peers(status, telling, listening.peers(), &mut err);
     Ok(status)
 }
