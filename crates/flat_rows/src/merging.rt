@@ -79,6 +79,27 @@ pub fn merge_into<const K: usize, const C: usize>(
     Ok(())
 }
 
+/// Two runs as one, in the vector of the longer.
+pub fn merge_two<const K: usize, const C: usize>(
+    run: Vec<Piece<K, C>>,
+    other: Vec<Piece<K, C>>,
+) -> Result<Vec<Piece<K, C>>, AllocError>
+    requires small { Small (λ q i. total_at run.items q i + total_at other.items q i) }
+    requires run { IsRun run.items }
+    requires other { IsRun other.items }
+    ensures total { IfOk result (λ both. (q : List ℕ) (i : ℕ) → total_at both.items q i
+        ≡ total_at run.entry.items q i + total_at other.entry.items q i) }
+    ensures run { IfOk result (λ both. IsRun both.items) }
+{
+    let (mut longer, shorter) = if run.len() < other.len() {
+        (other, run)
+    } else {
+        (run, other)
+    };
+    merge_into(&mut longer, &shorter)?;
+    Ok(longer)
+}
+
 /// A run merged with all runs of a stack.
 fn merge_onto<const K: usize, const C: usize>(
     runs: Vec<Vec<Piece<K, C>>>,
@@ -94,9 +115,7 @@ fn merge_onto<const K: usize, const C: usize>(
     let mut runs = runs;
     let mut run = run;
     while let Some(top) = runs.pop() {
-        let mut both = top;
-        merge_into(&mut both, &run)?;
-        run = both;
+        run = merge_two(top, run)?;
     }
     Ok(run)
 }

@@ -6,7 +6,7 @@ ghost use Rattle.flat_rows.specs.declared.table.AddError.TheVariants.{SumTooLarg
 
 use crate::adding::add_row;
 use crate::bounds::merged_bound;
-use crate::merging::{merge_all, merge_into};
+use crate::merging::{merge_all, merge_two};
 use crate::piece::Piece;
 use crate::pile::Pile;
 use std::alloc::{AllocError, Global};
@@ -85,10 +85,9 @@ impl<const K: usize, const C: usize> FlatRows<K, C> {
         ensures run { IfOk result (λ rows. IsRun rows.items) }
     {
         let FlatRows { alloc, pile, apart } = self;
-        let mut rows = pile.into_rows(alloc)?;
+        let rows = pile.into_rows(alloc)?;
         let great = merge_all(alloc, apart)?;
-        merge_into(&mut rows, &great)?;
-        Ok(rows)
+        merge_two(rows, great)
     }
 
     /// The rows of both tables.
@@ -102,7 +101,7 @@ impl<const K: usize, const C: usize> FlatRows<K, C> {
     {
         let alloc = self.alloc;
         let (bound, other_bound) = (self.bound(), other.bound());
-        let Ok(mut rows) = self.finish() else {
+        let Ok(rows) = self.finish() else {
             return Err(AddError::OutOfMemory);
         };
         let Ok(other_rows) = other.finish() else {
@@ -111,10 +110,10 @@ impl<const K: usize, const C: usize> FlatRows<K, C> {
         let Some(both_bound) = merged_bound(&rows, &other_rows, bound, other_bound) else {
             return Err(AddError::SumTooLarge);
         };
-        let Ok(()) = merge_into(&mut rows, &other_rows) else {
+        let Ok(both) = merge_two(rows, other_rows) else {
             return Err(AddError::OutOfMemory);
         };
-        let Ok(pile) = Pile::of_run(alloc, rows, both_bound) else {
+        let Ok(pile) = Pile::of_run(alloc, both, both_bound) else {
             return Err(AddError::OutOfMemory);
         };
         let apart = Vec::new(alloc);
