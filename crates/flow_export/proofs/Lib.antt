@@ -15,5 +15,3 @@ pub mod TemplateParts
 pub mod MessageParts
 pub mod Lines
 pub mod ObjectParts
-pub mod Places
-pub mod Digits

@@ -7,9 +7,9 @@ use Rattle.std.proofs.lemmas.List.{append-nil, drop-drop}
 use Rattle.std.proofs.lemmas.Grind.{flat_map-append}
 use Rattle.flow_table.specs.Plans.{PlanValue}
 use Rattle.flow_table.specs.SameTables.{RowValue}
+use Rattle.placed_octets.specs.Placed.{Placed}
 use Rattle.flow_export.specs.declared.ipfix_text.rows.TheConstants.{ROWS_A_MESSAGE}
 use Rattle.flow_export.specs.IpfixText.{data_message, message, message_of_rows}
-use Rattle.flow_export.specs.Placed.{Placed}
 use Rattle.flow_export.specs.RowOctets.{headers_octets}
 
 range_more : (a n : ℕ) → range_with_len a (suc n) ≡ range_with_len a n ++ (a + n) ∷ []
@@ -54,15 +54,15 @@ headers_and_body time sequence id n headers octets body is_n is_headers is_octet
 
 -- headers that are written before a body that stands in its place
 pub message_placed : {a b c text headers : List ℕ} {end k : ℕ} (time sequence id : ℕ) → 20 ≤ length a → Placed a b 20 text end → headers ≡ headers_octets time sequence id (end - 20)
-    → Placed b c 0 headers k → drop k c ≡ drop k b → take end c ≡ message time sequence id text
-message_placed {a} {b} {c} {text} {headers} {end} {k} time sequence id room rows is_headers front behind =
+    → Placed b c 0 headers k → take end c ≡ message time sequence id text
+message_placed {a} {b} {c} {text} {headers} {end} {k} time sequence id room rows is_headers front =
     let n = length text in
     let at_end : end ≡ 20 + n = rows.moved in
     let size : end - 20 ≡ n = omega (arith, at_end) in
     let twenty : length headers ≡ 20 = ap length is_headers in
     let is_k : k ≡ 20 = omega (arith, front.moved, twenty) in
     let before : take 20 c ≡ headers = ap (λ (m : ℕ). take m c) (sym is_k) ∙ front.written in
-    let after : drop 20 c ≡ drop 20 b = ap (λ (m : ℕ). drop m c) (sym is_k) ∙ behind ∙ ap (λ (m : ℕ). drop m b) is_k in
+    let after : drop 20 c ≡ drop 20 b = ap (λ (m : ℕ). drop m c) (sym is_k) ∙ front.behind ∙ ap (λ (m : ℕ). drop m b) is_k in
     let long_a : length (take 20 a) ≡ 20 = length-take-le 20 a room in
     let long_b : length (take 20 b) ≡ 20 = length-take-le 20 b (omega (arith, room, rows.room)) in
     let parts : take 20 a ++ text ≡ take 20 b ++ take n (drop 20 b) = sym rows.written ∙ ap (λ (m : ℕ). take m b) at_end ∙ take-add 20 n b in

@@ -17,4 +17,3 @@ pub mod Written
 pub mod JsonParts
 pub mod SpecOctets
 pub mod RowOctets
-pub mod Placed

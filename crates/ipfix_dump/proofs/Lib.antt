@@ -3,4 +3,3 @@ mod InFull
 mod Joined
 pub mod Under
 mod Kept
-mod Digits

@@ -5,4 +5,3 @@ pub mod Dumped
 pub mod Faults
 -- What only inner functions and proofs need.
 pub mod LineParts
-pub mod Places

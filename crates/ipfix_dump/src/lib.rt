@@ -12,7 +12,6 @@ mod line;
 mod line_octets;
 mod line_parts;
 mod line_sink;
-mod placing;
 mod record_line;
 mod text;
 

@@ -1,8 +1,9 @@
 //! The octets of a line, in room that stays.
 
 ghost use Rattle.std.specs.Prelude.{◌≡◌, ◌+◌, ◌≤◌, [], ◌++◌, length, take, vec_len, decimal, Some, OnOk, OnErr};
+ghost use Rattle.ipfix_elements.specs.Texts.{ipv4_text};
 
-use crate::placing::{MOST_DIGITS, place, place_number};
+use placed_octets::{MOST_ADDRESS_OCTETS, MOST_DIGITS, place, place_decimal, place_ipv4};
 use std::alloc::{AllocError, Global};
 use std::io::{self, Write};
 use std::marker::Model;
@@ -59,7 +60,7 @@ impl LineOctets {
         ensures err { OnErr result (self.new ≡ self.old) }
     {
         make_room(&mut self.room, self.used, octets.len())?;
-        self.used = place(self.room.as_mut_slice(), self.used, octets);
+        self.used = place(octets, self.room.as_mut_slice(), self.used);
         Ok(())
     }
 
@@ -69,7 +70,17 @@ impl LineOctets {
         ensures { OnOk result (self.new ≡ self.old ++ decimal number) }
     {
         make_room(&mut self.room, self.used, MOST_DIGITS)?;
-        self.used = place_number(self.room.as_mut_slice(), self.used, number);
+        self.used = place_decimal(number, self.room.as_mut_slice(), self.used);
+        Ok(())
+    }
+
+    /// Appends an IPv4 address: four decimal numbers joined by dots.
+    #[inline(always)]
+    pub fn append_ipv4(&mut self, address: &[u8; 4]) -> Result<(), AllocError>
+        ensures { OnOk result (self.new ≡ self.old ++ ipv4_text address.now) }
+    {
+        make_room(&mut self.room, self.used, MOST_ADDRESS_OCTETS)?;
+        self.used = place_ipv4(address, self.room.as_mut_slice(), self.used);
         Ok(())
     }
 }

@@ -2,7 +2,7 @@
 
 ghost use Rattle.std.specs.Prelude.{◌≡◌, ◌++◌, IfSome, OnOk};
 ghost use Rattle.ipfix_elements.specs.JsonValues.{json_cell};
-ghost use Rattle.ipfix_elements.specs.Texts.{cell_text, ipv4_text};
+ghost use Rattle.ipfix_elements.specs.Texts.{cell_text};
 ghost use Rattle.element_values.specs.FieldTexts.{json_under, text_under};
 ghost use Rattle.ipfix_dump.specs.DumpLines.{labelled};
 
@@ -33,7 +33,7 @@ pub fn append_value(
 {
     match cell_of(kind, octets) {
         Some(Cell::Number(number)) => out.append_number(number),
-        Some(Cell::Ipv4(address)) => append_address(&address, out),
+        Some(Cell::Ipv4(address)) => out.append_ipv4(&address),
         // A line fails only because memory ran out.
         _ => write_value(kind, octets, out).map_err(|_| AllocError),
     }
@@ -52,7 +52,7 @@ pub fn append_json_value(
         Some(Cell::Number(number)) if number < EXACT_LIMIT => out.append_number(number),
         Some(Cell::Ipv4(address)) => {
             out.append(b"\"")?;
-            append_address(&address, out)?;
+            out.append_ipv4(&address)?;
             out.append(b"\"")
         }
         _ => write_json_value(kind, octets, out).map_err(|_| AllocError),
@@ -70,18 +70,4 @@ fn cell_of(kind: ElementKind, octets: &[u8]) -> Option<Cell>
         ElementKind::Plain(kind) => read_cell(kind, octets),
         _ => None,
     }
-}
-
-// Appends four decimal numbers joined by dots.
-fn append_address(address: &[u8; 4], out: &mut LineOctets) -> Result<(), AllocError>
-    ensures { OnOk result (out.new ≡ out.old ++ ipv4_text address.now) }
-{
-    out.append_number(u64::from(address[0]))?;
-    out.append(b".")?;
-    out.append_number(u64::from(address[1]))?;
-    out.append(b".")?;
-    out.append_number(u64::from(address[2]))?;
-    out.append(b".")?;
-    out.append_number(u64::from(address[3]))?;
-    Ok(())
 }

@@ -7,13 +7,13 @@ ghost use Rattle.flow_export.specs.Fitting.{IsExportable};
 ghost use Rattle.flow_export.specs.IpfixText.{message as message_octets};
 ghost use Rattle.flow_export.specs.RowOctets.{BeginsWithRows, headers_octets};
 
-use crate::ipfix_text::placing::place;
 use crate::ipfix_text::rows::{MOST_OCTETS_A_ROW, ROWS_A_MESSAGE, place_rows};
 use crate::table_rows::TableRows;
 use flow_table::Plan;
 use ipfix_wire::{
     FIRST_TEMPLATE_ID, HEADER_LENGTH, Header, SET_HEADER_LENGTH, write_header, write_set,
 };
+use placed_octets::place;
 use std::alloc::AllocError;
 
 /// The observation domain of all messages.

@@ -1,21 +1,11 @@
-//! Octets that are written at a place in room, which no one has to test for.
+//! Numbers that are written at a place in room, which no one has to test for.
 
-ghost use Rattle.std.specs.Prelude.{◌≡◌, ◌+◌, ◌≤◌, drop, length};
+ghost use Rattle.std.specs.Prelude.{◌+◌, ◌≤◌, length};
 ghost use Rattle.byteorder.specs.Endian.{big_bytes};
+ghost use Rattle.placed_octets.specs.Placed.{Placed};
 ghost use Rattle.flow_export.specs.IpfixText.{number_octets};
-ghost use Rattle.flow_export.specs.Placed.{Placed};
 
-/// Writes octets at a place, and answers where they end.
-#[inline(always)]
-pub fn place(piece: &[u8], octets: &mut [u8], at: usize) -> usize
-    requires { at + length piece.now ≤ length octets.old }
-    ensures placed { Placed octets.old octets.new at piece.now result }
-    ensures behind { drop result octets.new ≡ drop result octets.old }
-{
-    let end = at + piece.len();
-    octets[at..end].copy_from_slice(piece);
-    end
-}
+use placed_octets::place;
 
 /// Writes a number in 64 bits at a place, and answers where it ends.
 pub fn place_number(number: u64, octets: &mut [u8], at: usize) -> usize

@@ -1,7 +1,7 @@
 use Rattle.std.proofs.Common.{ap, sym, length, arith, rules}
 use Rattle.std.proofs.lemmas.Fmt.{decimal_digit}
-use Rattle.ipfix_dump.proofs.Digits.{length-decimal}
-use Rattle.ipfix_dump.proofs.placing.count_digits.Goals as goal
+use Rattle.placed_octets.proofs.Digits.{length-decimal}
+use Rattle.placed_octets.proofs.decimal.count_digits.Goals as goal
 
 pub returns-then-number-eq0-clause-count : goal.returns-then-number-eq0-clause-count
 returns-then-number-eq0-clause-count c = sym (ap length (decimal_digit c.args.number (omega arith)))

@@ -1,14 +1,15 @@
 -- Pieces that are written at places, one after another.
 use Rattle.std.proofs.Common.{◌≡◌, ℕ, ◌+◌, ◌<◌, List, [], ◌∷◌, ◌++◌, length, get_or, take, drop, refl, sym, ap, ◌∙◌, append_assoc, length-append, take-add, arith}
 use Rattle.std.specs.List.{flat_map}
-use Rattle.std.proofs.lemmas.List.{append-nil, take_more}
+use Rattle.std.proofs.lemmas.List.{append-nil, drop-drop, take_more}
 use Rattle.std.proofs.lemmas.Grind.{flat_map-append}
-use Rattle.flow_export.specs.Placed.{Placed}
+use Rattle.placed_octets.specs.Placed.{Placed}
 
 -- the next piece begins where the one before it ended
 pub then_placed : {a b c xs ys : List ℕ} {i j k : ℕ} → Placed a b i xs j → Placed b c j ys k → Placed a c i (xs ++ ys) k
-then_placed {a} {b} {c} {xs} {ys} {i} p q = record {
+then_placed {a} {b} {c} {xs} {ys} {i} {j} {k} p q = record {
   written = q.written ∙ ap (λ (t : List ℕ). t ++ ys) p.written ∙ append_assoc (take i a) xs ys;
+  behind = q.behind ∙ ap (λ (m : ℕ). drop m b) q.moved ∙ sym (drop-drop (length ys) j b) ∙ ap (drop (length ys)) p.behind ∙ drop-drop (length ys) j a ∙ ap (λ (m : ℕ). drop m a) (sym q.moved);
   moved = omega (arith, p.moved, q.moved, length-append xs ys);
   room = q.room ∙ p.room;
 }
@@ -28,7 +29,7 @@ one_more_placed {X} text xs n d x inside is_x p q =
 
 -- no piece, where it begins
 pub none_placed : (octets : List ℕ) (at : ℕ) → Placed octets octets at [] at
-none_placed octets at = record { written = sym (append-nil (take at octets)); moved = omega arith; room = refl }
+none_placed octets at = record { written = sym (append-nil (take at octets)); behind = refl; moved = omega arith; room = refl }
 
 -- one piece alone
 pub one_placed : {X : Type 0} {a b : List ℕ} {i j : ℕ} (text : X → List ℕ) (xs rest : List X) (x : X) → xs ≡ x ∷ rest → Placed a b i (text x) j → Placed a b i (flat_map text (take 1 xs)) j

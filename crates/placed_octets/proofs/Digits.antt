@@ -1,9 +1,11 @@
 -- How many digits a number has, and numbers that are put to a place.
-use Rattle.std.proofs.Common.{◌≡◌, ℕ, zero, suc, ◌+◌, ◌*◌, ◌/◌, ◌%◌, ◌^◌, ◌<◌, ◌≤◌, List, [], ◌∷◌, ◌++◌, length, take, drop, refl, ap, ◌∙◌, arith, length-append, length-take, length-drop, take-add, take_at}
+use Rattle.std.proofs.Common.{◌≡◌, ℕ, zero, suc, ◌+◌, ◌*◌, ◌/◌, ◌%◌, ◌^◌, ◌<◌, ◌≤◌, List, [], ◌∷◌, ◌++◌, length, take, drop, refl, ap, sym, ◌∙◌, arith, length-append, length-take, length-drop, take-add, take_at}
 use Rattle.std.specs.Fmt.{decimal}
 use Rattle.std.proofs.Math.Nat.{pow-succ'}
+use Rattle.std.proofs.Math.Seq.{drop-append_seam}
+use Rattle.std.proofs.lemmas.List.{drop-drop}
 use Rattle.std.proofs.lemmas.Fmt.{decimal_nonempty, decimal_step, length-decimal-le}
-use Rattle.ipfix_dump.specs.Places.{Placed}
+use Rattle.placed_octets.specs.Placed.{Placed}
 
 pos-pow : (k : ℕ) → 0 < 10 ^ k
 pos-pow zero = omega arith
@@ -26,7 +28,8 @@ pub Placed-digits : {a b : List ℕ} (digits : List ℕ) (at end : ℕ) → end 
     → Placed a b at digits end
 Placed-digits {a} {b} digits at end moved fits written before =
     record {
-      front = ap (λ n. take n b) moved ∙ take-add at (length digits) b ∙ (λ k. before k ++ (ap (take (length digits)) written ∙ take_at digits (drop end a) (length digits) refl) k);
+      written = ap (λ n. take n b) moved ∙ take-add at (length digits) b ∙ (λ k. before k ++ (ap (take (length digits)) written ∙ take_at digits (drop end a) (length digits) refl) k);
+      behind = ap (λ n. drop n b) moved ∙ sym (drop-drop (length digits) at b) ∙ ap (drop (length digits)) written ∙ drop-append_seam digits (drop end a);
       moved = moved;
-      kept = omega (arith, ap length written, ap length before, length-append digits (drop end a), length-drop at b, length-drop end a, length-take at b, length-take at a);
+      room = omega (arith, ap length written, ap length before, length-append digits (drop end a), length-drop at b, length-drop end a, length-take at b, length-take at a);
     }

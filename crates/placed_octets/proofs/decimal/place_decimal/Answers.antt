@@ -1,7 +1,7 @@
 use Rattle.std.proofs.Common.{◌≡◌, ◌+◌, rules, arith}
 use Rattle.std.specs.Fmt.{decimal}
-use Rattle.ipfix_dump.proofs.Digits.{Placed-digits}
-use Rattle.ipfix_dump.proofs.placing.place_number.Goals as goal
+use Rattle.placed_octets.proofs.Digits.{Placed-digits}
+use Rattle.placed_octets.proofs.decimal.place_decimal.Goals as goal
 
 pub returns : goal.returns
 returns c =
