@@ -13,9 +13,13 @@ use run_reports::{NOTHING_MORE, Telling};
 pub struct CollectJob<'a> {
     /// These name the keys and counters.
     pub elements: &'a Elements,
+    /// The intervals, keys and counters of the table.
     pub plan: &'a Plan,
+    /// How many workers add up what the sessions read, and the room of their links.
     pub pool: Pool,
+    /// How the table is written.
     pub output: Output,
+    /// What is told beside the lines that always stand.
     pub telling: Telling,
 }
 

@@ -79,14 +79,13 @@ fn deal_one<S: Drop>(
     };
     let session = starts.len();
     let lane = new_lane(session, receiver);
-    let start = Start {
+    starts.push_back(Start {
         session,
         source,
         sender,
-    };
+    })?;
     lot.lanes.push(lane)?;
     lots.push_back(lot)?;
-    starts.push_back(start)?;
     Ok(())
 }
 

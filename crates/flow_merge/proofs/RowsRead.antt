@@ -2,8 +2,9 @@
 use Rattle.std.proofs.Common.{◌≡◌, ◌<◌, List, [], ◌∷◌, ◌++◌, All, true, false, is_some, Option, Some, None, Result, Ok, Err, refl, sym, ap, ◌∙◌, subst, append-nil, append_assoc}
 use Rattle.std.specs.Prelude.{◌≢◌, IsErrAnd}
 use Rattle.std.specs.Result.{result_err}
-use Rattle.std.specs.List.{AllZip, FoldsTo}
+use Rattle.std.specs.List.{FoldsTo}
 use Rattle.std.proofs.lemmas.List.Elements.{All-append, All-cons, All-nil}
+use Rattle.std.proofs.lemmas.Slice.Zip.{all_zipped_more}
 use Rattle.ipfix_message.specs.declared.record.DataRecord.{DataRecord}
 use Rattle.flow_table.specs.AddedUp.{AddUpTooLarge}
 use Rattle.flow_table.specs.Plans.{PlanValue}
@@ -31,13 +32,6 @@ none_too_large : (totals : RowTotals) (rows : List RowValue) → AreOf totals ro
 unfolding AreOf
 none_too_large totals rows are = are.small
 
--- one place more
-pub zip_more : {A B : Type 0} (R : A → B → Type 0) (xs : List A) (ys : List B) (x : A) (y : B) → AllZip R xs ys → R x y → AllZip R (xs ++ x ∷ []) (ys ++ y ∷ [])
-zip_more R [] [] x y all one = (one, tt)
-zip_more R [] (b ∷ ys) x y all one = absurd all
-zip_more R (a ∷ xs) [] x y all one = absurd all
-zip_more R (a ∷ xs) (b ∷ ys) x y all one = (all.0, zip_more R xs ys x y all.1 one)
-
 -- rows of these records, behind those before
 abbrev pub Behind : PlanValue → RowTotals → List RowValue → List DataRecord → Type 0
 Behind plan totals rows rs = (more : List RowValue) × AreRowRecords plan rs more × (AreOf totals (rows ++ more) × All (IsRowOf plan) (rows ++ more))
@@ -58,7 +52,7 @@ module _ (plan : PlanValue) (rows : List RowValue) (rs : List DataRecord) (r : D
   behind_more old new row h is adds =
       let same = append_assoc rows h.0 (row ∷ []) in (
         h.0 ++ row ∷ [],
-        zip_more (IsRowRecord plan) rs h.0 r row h.1 is,
+        all_zipped_more (IsRowRecord plan) rs h.0 r row h.1 is,
         (
           subst (AreOf new) same (adds (rows ++ h.0) h.2.0),
           subst (All (IsRowOf plan)) same (All-append (IsRowOf plan) (rows ++ h.0) (row ∷ []) h.2.1 (All-cons (IsRowOf plan) row [] is.of_plan (All-nil (IsRowOf plan)))),
@@ -88,7 +82,7 @@ module _ (plan : PlanValue) (rows : List RowValue) (rs : List DataRecord) (r : D
         others = [];
         are = sym (append-nil (rs ++ r ∷ []));
         rows = h.0 ++ row ∷ [];
-        records = zip_more (IsRowRecord plan) rs h.0 r row h.1 is;
+        records = all_zipped_more (IsRowRecord plan) rs h.0 r row h.1 is;
         large = subst AddUpTooLarge (append_assoc rows h.0 (row ∷ [])) (large (rows ++ h.0) h.2.0 refl);
       })
 

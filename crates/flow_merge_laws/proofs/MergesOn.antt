@@ -2,6 +2,9 @@
 use Rattle.std.proofs.Common.{◌≡◌, ℕ, List, [], ◌∷◌, ◌++◌, refl, sym, ap, ◌∙◌, subst, append-nil, append_assoc}
 use Rattle.std.specs.Prelude.{flat_map}
 use Rattle.std.specs.List.{AllZip}
+use Rattle.std.proofs.lemmas.Grind.{flat_map-append}
+use Rattle.std.proofs.lemmas.List.{flat_map_more}
+use Rattle.std.proofs.lemmas.Slice.Zip.{all_zipped_more}
 use Rattle.ipfix_message.specs.declared.fault.MessageFault.TheVariants as messages
 use Rattle.ipfix_message.specs.declared.record.DataRecord.{DataRecord}
 use Rattle.ipfix_session.specs.Sources.{SourceView}
@@ -16,7 +19,6 @@ use Rattle.flow_table.proofs.TablesAdded.{too_large_both}
 use Rattle.flow_export.proofs.RowFields.{AllZip-append}
 use Rattle.flow_merge.specs.Merging.{all_of, AddsExport, GiveExports, GivesExport, IsDue, StandsFor, merging_plan}
 use Rattle.flow_merge_laws.specs.Exports.{AreExportsOf, HoldsExport, IsExportFault, StopsAt}
-use Rattle.flow_merge.proofs.RowsRead.{zip_more}
 use Rattle.flow_merge.specs.declared.merge_fault.MergeFault.{MergeFault}
 use Rattle.flow_merge.specs.declared.merge_fault.MergeFault.TheVariants.{OutOfMemory, SumTooLarge, Session, NotAnExport, Lost, Row}
 use Rattle.flow_merge.specs.declared.merging.Merging.{Merging}
@@ -34,18 +36,6 @@ still_due P Q (Session (sessions.Message e)) f h = absurd h
 still_due P Q NotAnExport f h = absurd h
 still_due P Q Lost f h = absurd h
 still_due P Q (Row fault) f h = absurd h
-
-rows_of_more : (tables : List Table) (table : Table) → flat_map rows_in (tables ++ table ∷ []) ≡ flat_map rows_in tables ++ rows_in table
-rows_of_more [] table = append-nil (rows_in table)
-rows_of_more (t ∷ tables) table = ap (λ (l : List RowValue). rows_in t ++ l) (rows_of_more tables table) ∙ sym (append_assoc (rows_in t) (flat_map rows_in tables) (rows_in table))
-
-rows_of_both : (tables more : List Table) → flat_map rows_in (tables ++ more) ≡ flat_map rows_in tables ++ flat_map rows_in more
-rows_of_both [] more = refl
-rows_of_both (t ∷ tables) more = ap (λ (l : List RowValue). rows_in t ++ l) (rows_of_both tables more) ∙ sym (append_assoc (rows_in t) (flat_map rows_in tables) (flat_map rows_in more))
-
-flat_more : (exports : List (List RowValue)) (rows : List RowValue) → flat_map (λ r. r) (exports ++ rows ∷ []) ≡ flat_map (λ r. r) exports ++ rows
-flat_more [] rows = append-nil rows
-flat_more (x ∷ exports) rows = ap (λ (l : List RowValue). x ++ l) (flat_more exports rows) ∙ sym (append_assoc x (flat_map (λ r. r) exports) rows)
 
 module _ {S : Type 0} (seen : S → SourceView) (plan : PlanValue) where
   -- the tables whose exports sources hold
@@ -108,7 +98,7 @@ module _ {S : Type 0} (seen : S → SourceView) (plan : PlanValue) where
         first = now.first ++ next.0 ∷ [];
         tables = now.tables ++ next.2.table ∷ [];
         are_tables = AllZip-append (IsTable plan) now.first now.tables (next.0 ∷ []) (next.2.table ∷ []) now.are_tables (next.2.export.is_table, tt);
-        stands = subst (StandsFor new) (sym (rows_of_more now.tables next.2.table)) (adds next.0 next.2);
+        stands = subst (StandsFor new) (flat_map_more rows_in [] now.tables next.2.table) (adds next.0 next.2);
         others = next.1;
         wait = next.3;
         all = now.all ∙ ap (λ (l : List (List DataRecord)). now.first ++ l) next.4 ∙ sym (append_assoc now.first (next.0 ∷ []) next.1);
@@ -123,7 +113,7 @@ module _ {S : Type 0} (seen : S → SourceView) (plan : PlanValue) where
       let tables = now.tables ++ next.2.table ∷ later.0 in
       let are = AllZip-append (IsTable plan) now.first now.tables (next.0 ∷ next.1) (next.2.table ∷ later.0) now.are_tables (next.2.export.is_table, later.1) in
       let rows : flat_map rows_in tables ≡ (flat_map rows_in now.tables ++ rows_in next.2.table) ++ flat_map rows_in later.0 =
-      rows_of_both now.tables (next.2.table ∷ later.0) ∙ sym (append_assoc (flat_map rows_in now.tables) (rows_in next.2.table) (flat_map rows_in later.0)) in
+      flat_map-append rows_in now.tables (next.2.table ∷ later.0) ∙ sym (append_assoc (flat_map rows_in now.tables) (rows_in next.2.table) (flat_map rows_in later.0)) in
       let whole = subst AddUpTooLarge (sym rows) (too_large_more (flat_map rows_in now.tables ++ rows_in next.2.table) (flat_map rows_in later.0) large) in
       let same : lists ≡ now.first ++ next.0 ∷ next.1 = now.all ∙ ap (λ (l : List (List DataRecord)). now.first ++ l) next.4 in
       subst (λ (l : List (List DataRecord)). HasTooLargeRow plan (all_of l)) (sym same) ((too_large_both plan (now.first ++ next.0 ∷ next.1) tables are).0 whole)
@@ -146,9 +136,9 @@ module _ {S : Type 0} (seen : S → SourceView) (plan : PlanValue) where
         used = read.used ++ s ∷ [];
         exports = read.exports ++ adds.more ∷ [];
         split = read.split ∙ sym (append_assoc read.used (s ∷ []) waiting);
-        given = zip_more (λ source rows. (left : S) × GivesExport seen limit plan source left rows) read.used read.exports s adds.more read.given
+        given = all_zipped_more (λ source rows. (left : S) × GivesExport seen limit plan source left rows) read.used read.exports s adds.more read.given
             (after, subst (λ (p : PlanValue). GivesExport seen limit p s after adds.more) same adds.gives_export);
-        stands = subst (StandsFor new) (sym (flat_more read.exports adds.more)) adds.stands;
+        stands = subst (StandsFor new) (flat_map_more (λ r. r) [] read.exports adds.more) adds.stands;
       }
 
   pub merged_on : (limit : ℕ) (sources before : List S) (s : S) (waiting : List S) (old new : Merging) (after : S) → before ≡ s ∷ waiting → MergesOn limit sources before old → merging_plan new ≡ merging_plan old
