@@ -1,36 +1,24 @@
-//! The calls of collectd's commands: what is written is the text of what was collected.
+//! The calls of collectd's commands, and what they are given.
 #![tactic(auto)]
 
-mod collect_fault;
-mod commands;
-mod early;
-mod full_run;
-mod job;
-mod limits;
-mod table;
-
-pub use collect_fault::write_collect_fault;
-pub use collectd_dump::{
+pub use command_collect::{
+    CollectJob, run, run_files, run_files_in_full, run_in_full, run_tcp, run_tcp_in_full,
+    write_collect_fault, write_limit,
+};
+pub use command_dump::{
     run_dump, run_dump_in_full, run_dump_json, run_dump_json_in_full, run_dump_json_under,
-    run_dump_under,
+    run_dump_under, write_dump_fault,
 };
-pub use collectd_inputs::{
+pub use command_merge::{run_merge, run_merge_in_full};
+pub use input_files::ReadText;
+pub use input_sources::{
     Accepted, Listener, Listening, Note, Noted, NotedPeer, OpenSource, Opened, SystemFiles,
-    load_plan, load_plan_under,
+    load_plan, load_plan_under, write_plan_fault,
 };
-pub use collectd_merge::{run_merge, run_merge_in_full};
-pub use collectd_output::Output;
-pub use commands::files::{run_files, run_files_in_full};
-pub use commands::tcp::{run_tcp, run_tcp_in_full};
-pub use exit_status::Status;
-pub use full_run::run_in_full;
 pub use ipfix_dump::{DumpFault, dump, dump_json};
 pub use ipfix_session::MessageCounter;
-pub use job::CollectJob;
-pub use limits::write_limit;
-pub use run_reports::{
-    Origin, Reason, Remembering, Telling, write_dump_fault, write_export_fault, write_not_had,
-    write_not_had_because, write_plan_fault, write_read_failed, write_reports, write_tally,
+pub use output_tables::{Output, write_export_fault};
+pub use report_sessions::{write_read_failed, write_reports, write_tally};
+pub use report_writing::{
+    Origin, Reason, Remembering, Status, Telling, write_not_had, write_not_had_because,
 };
-pub use table::run;
-pub use text_files::ReadText;

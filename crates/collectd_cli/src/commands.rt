@@ -1,19 +1,19 @@
 //! The commands. Each answers the exit status. An error is the status if the library was not called.
 
 use clap::ArgMatches;
-use collectd::{
-    CollectJob, DumpFault, Listening, Noted, Origin, Remembering, SystemFiles, Telling,
-    run_dump_json_under, run_dump_under, run_files_in_full, run_merge_in_full, run_tcp_in_full,
-    write_dump_fault, write_limit,
-};
-use command_inputs::{
+use cli_inputs::{
     Collecting, DumpFormat, Job, buffered_output, listen_on, read_collecting, read_dump_format,
     read_idle, read_job, read_paths, read_progress, read_telling, table_output, write_refused,
     write_refused_exports, write_refused_files, write_refused_output, write_refused_peers,
 };
-use exit_status::Status;
+use command_collect::{CollectJob, run_files_in_full, run_tcp_in_full, write_limit};
+use command_dump::{run_dump_json_under, run_dump_under, write_dump_fault};
+use command_merge::run_merge_in_full;
 use flow_collect::Pool;
+use input_sources::{Listening, Noted, SystemFiles};
+use ipfix_dump::DumpFault;
 use ipfix_session::{FromReader, Source};
+use report_writing::{Origin, Remembering, Status, Telling};
 use std::io::{Stderr, Write};
 use std::rt::Clock;
 use std::sync::Wait;

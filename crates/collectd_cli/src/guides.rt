@@ -1,11 +1,10 @@
 //! `collectd elements` and `collectd explain`, which read no flows.
 
 use clap::ArgMatches;
-use command_inputs::{WITH_REASONS, buffered_output};
-use element_guide::{run_elements, write_out_of_memory};
-use exit_status::Status;
-use fault_guide::run_explain;
-use run_reports::Remembering;
+use cli_inputs::{WITH_REASONS, buffered_output};
+use command_elements::{run_elements, write_out_of_memory};
+use command_explain::run_explain;
+use report_writing::{Remembering, Status};
 
 /// `collectd elements`: the elements that are known, or those that a word fits, to standard output.
 pub fn elements(rt: &HostRuntime, chosen: &ArgMatches) -> Result<u8, Status> {

@@ -5,9 +5,9 @@ mod commands;
 mod guides;
 
 use clap::ArgMatches;
-use command_words::{Subcommand, matches_of, show};
-use exit_status::Status;
-use record_command::record;
+use cli_words::{Subcommand, matches_of, show};
+use command_record::record;
+use report_writing::Status;
 use std::process::ExitCode;
 use std::rt::Clock;
 use std::sync::Wait;

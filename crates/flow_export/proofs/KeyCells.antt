@@ -12,8 +12,8 @@ use Rattle.flow_table.specs.Fitting.{IsCellOf}
 use Rattle.flow_table.specs.Plans.{PlanValue, keys_and_kinds}
 use Rattle.flow_table.specs.SameTables.{RowValue, value_of}
 use Rattle.flow_table.specs.declared.table.Row.{Row}
-use Rattle.placed_octets.specs.Placed.{Placed}
-use Rattle.placed_octets.proofs.Places.{placed_as, then_placed}
+use Rattle.ipfix_elements.specs.Placed.{Placed}
+use Rattle.ipfix_elements.proofs.Places.{placed_as, then_placed}
 use Rattle.flow_export.specs.Fitting.{FitsValue, IsExportable}
 use Rattle.flow_export.specs.IpfixText.{key_field, number_field, number_octets, row_octets}
 use Rattle.flow_export.specs.CsvText.{first_of, last_of}

@@ -7,7 +7,7 @@ use Rattle.std.proofs.lemmas.List.{append-nil, drop-drop}
 use Rattle.std.proofs.lemmas.Grind.{flat_map-append}
 use Rattle.flow_table.specs.Plans.{PlanValue}
 use Rattle.flow_table.specs.SameTables.{RowValue}
-use Rattle.placed_octets.specs.Placed.{Placed}
+use Rattle.ipfix_elements.specs.Placed.{Placed}
 use Rattle.flow_export.specs.declared.ipfix_text.rows.TheConstants.{ROWS_A_MESSAGE}
 use Rattle.flow_export.specs.IpfixText.{data_message, message, message_of_rows}
 use Rattle.flow_export.specs.RowOctets.{headers_octets}

@@ -3,7 +3,7 @@
 ghost use Rattle.std.specs.Prelude.{◌≡◌, ◌++◌, OnOk};
 ghost use Rattle.ipfix_elements.specs.Texts.{ipv4_text};
 
-use placed_octets::{MOST_ADDRESS_OCTETS, place_ipv4};
+use ipfix_elements::{MOST_ADDRESS_OCTETS, place_ipv4};
 use std::alloc::AllocError;
 
 /// Appends four decimal numbers joined by dots.

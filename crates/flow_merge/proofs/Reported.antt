@@ -16,8 +16,7 @@ use Rattle.ipfix_session.specs.declared.report.SessionReport.{SessionReport}
 use Rattle.flow_table.specs.Plans.{PlanValue}
 use Rattle.flow_table.specs.SameTables.{RowValue}
 use Rattle.flow_merge.specs.Judged.{ReportsExport, ReportsNoLoss, IsWell, IsBadBy}
-use Rattle.flow_merge.specs.Merging.{AreOfExport, AreRowRecords, FirstOther, FirstTooLarge, GivesExport, LosesNone, NoneLost, nothing, merging_plan}
-use Rattle.flow_merge.specs.Merging.{IsDue as IsMergeDue}
+use Rattle.flow_merge.specs.Merging.{AreOfExport, AreRowRecords, FirstOther, FirstTooLarge, GivesExport, LosesNone, NoneLost, nothing, merging_plan, IsDue as IsMergeDue}
 use Rattle.flow_merge.specs.RowSink.{HoldsAfter}
 use Rattle.flow_merge.specs.declared.merge_fault.MergeFault.{MergeFault}
 use Rattle.flow_merge.specs.declared.merge_fault.MergeFault.TheVariants.{OutOfMemory, SumTooLarge, Session, NotAnExport, Lost, Row}

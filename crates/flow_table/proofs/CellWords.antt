@@ -11,7 +11,7 @@ use Rattle.ipfix_elements.specs.declared.cell.Cell.TheVariants.{Number, Ipv4, Ip
 use Rattle.ipfix_elements.specs.declared.kind.Kind.{Kind}
 use Rattle.ipfix_elements.specs.declared.kind.Kind.TheVariants as kinds
 use Rattle.ipfix_elements.specs.declared.kind.Width.{Width}
-use Rattle.flat_rows.specs.Rows.{words_cmp}
+use Rattle.flow_rows.specs.Rows.{words_cmp}
 use Rattle.flow_table.specs.Tables.{key_cmp}
 use Rattle.flow_table.specs.Words.{spelled, are_octets, cell_words, both_words, key_words, words_of_kind, word_count, padded, cell_from, key_from}
 use Rattle.flow_table.proofs.Octets.{Octets, octets_of, octets_rank, parts_rank, take_octets, drop_octets, eight_back, then_then}

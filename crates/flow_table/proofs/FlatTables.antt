@@ -4,7 +4,7 @@ use Rattle.std.specs.Global.{Global}
 use Rattle.std.specs.List.Sorted.{IsStrictlySortedBy}
 use Rattle.std.proofs.lemmas.List.{length-map, map-append, take_more}
 use Rattle.std.proofs.lemmas.List.Elements.{All-nil, All-cons, All-head, All-tail}
-use Rattle.flat_rows.specs.Rows.{Row as FlatRow, IsRun, row as flat_row, total_at}
+use Rattle.flow_rows.specs.Rows.{Row as FlatRow, IsRun, row as flat_row, total_at}
 use Rattle.ipfix_elements.specs.declared.cell.Cell.{Cell}
 use Rattle.ipfix_elements.specs.declared.kind.Kind.{Kind}
 use Rattle.ipfix_message.specs.declared.record.DataRecord.{DataRecord}

@@ -2,7 +2,7 @@
 use Rattle.std.proofs.Common.{◌≡◌, ◌≢◌, ℕ, ◌+◌, ◌<◌, ◌≤◌, Bool, cond, eqb, inl, inr, List, [], ◌∷◌, length, Option, Some, Result, Ok, Err, OnOk, OnErr, IfErr, get_or, refl, sym, ap, ◌∙◌, option_map, arith}
 use Rattle.std.proofs.lemmas.Bool.Decides.{eqb_tells}
 use Rattle.std.proofs.lemmas.List.{length-map}
-use Rattle.flat_rows.specs.Rows.{SomeTooLarge}
+use Rattle.flow_rows.specs.Rows.{SomeTooLarge}
 use Rattle.ipfix_elements.specs.declared.cell.Cell.{Cell}
 use Rattle.flow_table.specs.declared.flow.Flow.{Flow}
 use Rattle.flow_table.specs.Flows.{HasIntervals, flow_total, shares_of}

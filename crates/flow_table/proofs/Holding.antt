@@ -18,7 +18,7 @@ use Rattle.flow_table.specs.LeftOut.{class_in, IsLeftOut}
 use Rattle.flow_table.specs.Missing.{missing_of, missing_sum, IsSmall}
 use Rattle.flow_table.specs.Plans.{PlanValue}
 use Rattle.flow_table.specs.Reading.{class_of, counter_of, IsUsed}
-use Rattle.flat_rows.specs.Rows.{Small, SomeTotalTooLarge}
+use Rattle.flow_rows.specs.Rows.{Small, SomeTotalTooLarge}
 use Rattle.flow_table.specs.Rows.{AreAlike, AreRowsOf, kept_at, number_at, width_of}
 use Rattle.flow_table.specs.declared.rows.Rows.{Rows}
 use Rattle.ipfix_message.specs.Outcome.{unless}

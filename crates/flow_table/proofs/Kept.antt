@@ -6,10 +6,10 @@ use Rattle.std.specs.declared.cmp.Ordering.TheVariants.{Less, Equal, Greater}
 use Rattle.std.proofs.lemmas.Bool.{cases_lt}
 use Rattle.std.proofs.lemmas.Bool.Decides.{eqb_tells}
 use Rattle.std.proofs.lemmas.Cmp.{nat_list_cmp_total, tied_itself}
-use Rattle.flat_rows.specs.Rows.{Row as FlatRow, Small, SomeTooLarge, SomeTotalTooLarge, part, words_cmp}
-use Rattle.flat_rows.proofs.Additive.{keys_same}
-use Rattle.flat_rows.proofs.Found.{part_other}
-use Rattle.flat_rows.proofs.Within.{part_own}
+use Rattle.flow_rows.specs.Rows.{Row as FlatRow, Small, SomeTooLarge, SomeTotalTooLarge, part, words_cmp}
+use Rattle.flow_rows.proofs.Additive.{keys_same}
+use Rattle.flow_rows.proofs.Found.{part_other}
+use Rattle.flow_rows.proofs.Within.{part_own}
 use Rattle.ipfix_elements.proofs.Lookups.{mapped}
 use Rattle.ipfix_elements.specs.declared.cell.Cell.{Cell}
 use Rattle.flow_table.specs.Plans.{PlanValue}

@@ -1,6 +1,6 @@
 -- A row added to the totals of rows.
 use Rattle.std.proofs.Common.{◌≡◌, ℕ, ◌+◌, ◌<◌, List, [], ◌∷◌, ◌++◌, length, Some, Result, Ok, Err, OnOk, IfErr, get_or}
-use Rattle.flat_rows.specs.Rows.{Small, SomeTooLarge}
+use Rattle.flow_rows.specs.Rows.{Small, SomeTooLarge}
 use Rattle.flow_table.specs.AddedUp.{AddUpTooLarge}
 use Rattle.flow_table.specs.Plans.{PlanValue}
 use Rattle.flow_table.specs.RowTotals.{HoldsRows}

@@ -6,8 +6,8 @@ use Rattle.std.specs.declared.cmp.Ordering.TheVariants.{Less}
 use Rattle.std.proofs.lemmas.Bool.{cases_lt}
 use Rattle.std.proofs.lemmas.List.Elements.{All-nil, All-cons, Contains-append_right}
 use Rattle.std.proofs.lemmas.List.Sums.{sum_by-cons}
-use Rattle.flat_rows.specs.Rows.{Row as FlatRow, Above, Ascends, Counted, IsRun, part, total_at, words_cmp}
-use Rattle.flat_rows.proofs.Found.{total_here}
+use Rattle.flow_rows.specs.Rows.{Row as FlatRow, Above, Ascends, Counted, IsRun, part, total_at, words_cmp}
+use Rattle.flow_rows.proofs.Found.{total_here}
 use Rattle.ipfix_elements.specs.declared.cell.Cell.{Cell}
 use Rattle.flow_table.specs.Finishing.{AreLinesOf, AreRunLines, Line, line_cmp, line_from}
 use Rattle.flow_table.specs.Plans.{PlanValue}

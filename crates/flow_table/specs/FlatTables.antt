@@ -1,7 +1,7 @@
 -- Rows and tables by their values, and the rows that words and numbers stand for.
 use Rattle.std.specs.Prelude.{ℕ, suc, List, map, drop, slice_index_or}
 use Rattle.std.specs.Global.{Global}
-use Rattle.flat_rows.specs.Rows.{Row as FlatRow}
+use Rattle.flow_rows.specs.Rows.{Row as FlatRow}
 use Rattle.ipfix_elements.specs.declared.kind.Kind.{Kind}
 use Rattle.flow_table.specs.declared.missing.Missing.{Missing}
 use Rattle.flow_table.specs.declared.run.Run.{Run}

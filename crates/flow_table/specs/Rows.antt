@@ -1,7 +1,7 @@
 -- Totals by interval and key, and the rows that they are kept in.
 use Rattle.std.specs.Prelude.{◌≡◌, ℕ, suc, ◌+◌, ◌==◌, ◌<◌, ◌≤◌, Bool, List, length, Option, Some, None, if◌then◌else◌}
 use Rattle.std.specs.Ordering.{nat_cmp, is_eq}
-use Rattle.flat_rows.specs.Rows.{Row, part, row, total_at}
+use Rattle.flow_rows.specs.Rows.{Row, part, row, total_at}
 use Rattle.ipfix_elements.specs.declared.cell.Cell.{Cell}
 use Rattle.flow_table.specs.declared.rows.Rows.{Rows}
 use Rattle.flow_table.specs.declared.rows.Rows.TheVariants.{Two, Six, Nine, Most}

@@ -1,7 +1,7 @@
 //! Rows of the totals under a plan, with no block of memory for each.
 
 ghost use Rattle.std.specs.Prelude.{◌≡◌, ◌+◌, ◌*◌, ◌^◌, ◌<◌, ◌≤◌, ◌∷◌, ℕ, suc, List, IfOk, IfErr, OnOk, OnErr, length, slice_index_or};
-ghost use Rattle.flat_rows.specs.Rows.{IsRun, Small, SomeTooLarge, SomeTotalTooLarge, part, row, total_at};
+ghost use Rattle.flow_rows.specs.Rows.{IsRun, Small, SomeTooLarge, SomeTotalTooLarge, part, row, total_at};
 ghost use Rattle.flow_table.specs.FlatTables.{run_in};
 ghost use Rattle.flow_table.specs.Rows.{AddsRow, AreAlike, AreRowsOf, depth_of, number_at, padded_row, width_of};
 ghost use Rattle.flow_table.specs.Words.{padded};
@@ -11,7 +11,7 @@ use crate::plan::Plan;
 use crate::run::Run;
 use crate::table_fault::TableFault;
 use crate::words::{count_words, padded_words};
-use flat_rows::{AddError, FlatRows, Piece};
+use flow_rows::{AddError, FlatRows, Piece};
 use std::alloc::{AllocError, Global};
 
 /// Rows by the words of an interval and a key, in the smallest of four forms that has room for them.

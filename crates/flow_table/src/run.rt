@@ -1,14 +1,14 @@
 //! The rows of finished totals, with no block of memory for each.
 
 ghost use Rattle.std.specs.Prelude.{◌≡◌, ◌^◌, ◌<◌, suc, length, slice_index_or, OnOk};
-ghost use Rattle.flat_rows.specs.Rows.{Row as FlatRow, row as flat_row};
+ghost use Rattle.flow_rows.specs.Rows.{Row as FlatRow, row as flat_row};
 ghost use Rattle.flow_table.specs.FlatTables.{run_in, value_from};
 ghost use Rattle.flow_table.specs.SameTables.{value_of};
 ghost use Rattle.flow_table.specs.Words.{first_of};
 
 use crate::table::Row;
 use crate::words::{word_at, words_after, write_cells};
-use flat_rows::Piece;
+use flow_rows::Piece;
 use ipfix_elements::Kind;
 use std::alloc::AllocError;
 

@@ -1,7 +1,6 @@
 -- An attempt to read a datagram in a copy of its domain.
 use Rattle.std.proofs.Common.{◌≡◌, ℕ, Bool, true, false, List, [], ◌∷◌, Option, Some, None, Ok, refl, sym, ap, subst, ◌∙◌, arith, eqb, inl, inr, is_some}
-use Rattle.std.specs.Prelude.{◌⊎◌, IsOk, IsSome, MatchBool}
-use Rattle.std.specs.Prelude.{All, Contains, ◌&&◌}
+use Rattle.std.specs.Prelude.{◌⊎◌, IsOk, IsSome, MatchBool, All, Contains, ◌&&◌}
 use Rattle.std.specs.List.{list_all}
 use Rattle.std.specs.Map.{lookup}
 use Rattle.std.specs.Ordering.{nat_cmp}

@@ -4,3 +4,5 @@ pub mod Readings
 pub mod OwnTemplates
 pub mod Answered
 pub mod Attempted
+pub mod Reaches
+pub mod Streams

@@ -9,7 +9,7 @@ use Rattle.ipfix_message.specs.declared.record.Template.{Template}
 use Rattle.ipfix_message.specs.TemplatesInForce.{in_force}
 use Rattle.ipfix_message.specs.WrittenTemplates.{IsTemplate}
 use Rattle.ipfix_message.specs.Domains.{Message, template_for, message_header, message_gives}
-use Rattle.ipfix_record.proofs.PreamblesAre.{map_in_force}
+use Rattle.ipfix_session.proofs.TemplateLists.{map_in_force}
 use Rattle.ipfix_datagrams.specs.Datagrams.{HasOwn}
 use Rattle.ipfix_datagrams.proofs.Readings.{header_same, template_behind}
 

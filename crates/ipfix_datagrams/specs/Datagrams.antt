@@ -9,7 +9,7 @@ use Rattle.ipfix_message.specs.declared.template_record.Event.{Event}
 use Rattle.ipfix_message.specs.declared.template_record.Event.TheVariants.{Withdraw}
 use Rattle.ipfix_message.specs.TemplatesInForce.{in_force}
 use Rattle.ipfix_message.specs.Domains.{History, Message, events_in, with_events, message_gives}
-use Rattle.ipfix_record.specs.Preambles.{AreInForce}
+use Rattle.ipfix_session.specs.TemplateLists.{AreInForce}
 use Rattle.ipfix_datagrams.specs.declared.datagram_fault.DatagramFault.{DatagramFault}
 use Rattle.ipfix_datagrams.specs.declared.datagram_fault.DatagramFault.TheVariants.{Message as OfMessage, Withdrawal}
 

@@ -1,5 +1,8 @@
 -- What public contracts cite.
 pub mod Datagrams
 pub mod Withdrawals
+pub mod Advances
+pub mod Reaches
+pub mod Streams
 -- What only inner functions and proofs need.
 pub mod Attempts

@@ -1,14 +1,22 @@
 //! IPFIX over UDP (RFC 7011, sections 8.1, 8.4 and 10.3): what the datagrams of a peer give, where a
-//! definition replaces an older one, and which of them are refused.
+//! definition replaces an older one, and which of them are refused; and how far sequence numbers advanced beside
+//! the data records that came (section 3.1), in whatever order.
 #![tactic(auto)]
 
 mod attempt;
 mod datagram_fault;
+mod domain_advance;
 mod freeing;
+pub mod laws;
 mod own_ids;
+mod reach;
 mod reading;
+mod sequence_advances;
 mod withdrawal;
 
 pub use datagram_fault::DatagramFault;
+pub use domain_advance::DomainAdvance;
+pub use reach::Reach;
 pub use reading::read_datagram;
+pub use sequence_advances::SequenceAdvances;
 pub use withdrawal::append_withdrawal;

@@ -3,6 +3,8 @@
 #![tactic(auto)]
 
 #[cfg(test)]
+mod advances;
+#[cfg(test)]
 mod memory;
 #[cfg(test)]
 mod octets;

@@ -3,7 +3,7 @@
 ghost use Rattle.std.specs.Prelude.{◌≡◌, ◌+◌, ◌≤◌, [], ◌++◌, length, take, vec_len, decimal, Some, OnOk, OnErr};
 ghost use Rattle.ipfix_elements.specs.Texts.{ipv4_text};
 
-use placed_octets::{MOST_ADDRESS_OCTETS, MOST_DIGITS, place, place_decimal, place_ipv4};
+use ipfix_elements::{MOST_ADDRESS_OCTETS, MOST_DIGITS, place, place_decimal, place_ipv4};
 use std::alloc::{AllocError, Global};
 use std::io::{self, Write};
 use std::marker::Model;

@@ -6,3 +6,6 @@ pub mod Named
 pub mod CellLemmas
 pub mod Kept
 pub mod Written
+pub mod Places
+mod Digits
+mod ThreeDigits

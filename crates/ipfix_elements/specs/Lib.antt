@@ -7,6 +7,7 @@ pub mod Texts
 pub mod Writers
 pub mod JsonValues
 pub mod Prefixes
+pub mod Placed
 -- What only inner functions and proofs need.
 pub mod Ascii
 pub mod Entries

@@ -10,6 +10,7 @@ mod kind;
 pub mod laws;
 mod name;
 mod number;
+mod placing;
 mod prefix;
 mod text;
 
@@ -19,5 +20,6 @@ pub use json_values::{EXACT_LIMIT, append_json_cell, append_json_number};
 pub use kind::{Kind, Width};
 pub use name::{append_name, by_name, write_name};
 pub use number::read_number;
+pub use placing::{MOST_ADDRESS_OCTETS, MOST_DIGITS, place, place_decimal, place_ipv4};
 pub use prefix::mask;
 pub use text::{write_cell, write_value};

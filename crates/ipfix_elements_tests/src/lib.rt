@@ -3,4 +3,6 @@
 #![tactic(auto)]
 
 #[cfg(test)]
+mod placing;
+#[cfg(test)]
 mod tests;

@@ -14,3 +14,6 @@ pub mod Driving
 pub mod Driven
 pub mod Pieces
 mod InFull
+pub mod Walks
+mod WholeTexts
+pub mod TemplateLists

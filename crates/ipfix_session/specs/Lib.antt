@@ -1,5 +1,7 @@
 -- What public contracts cite.
 pub mod MessageStream
+pub mod WholeMessages
+pub mod TemplateLists
 pub mod Given
 pub mod Faults
 pub mod Ledger
@@ -19,5 +21,6 @@ pub mod Rooms
 pub mod Intake
 pub mod Buffers
 pub mod CounterPlaces
+pub mod Walked
 -- What only inner functions and proofs need.
 pub mod Puts

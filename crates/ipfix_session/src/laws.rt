@@ -1,17 +1,18 @@
 //! Laws of the definitions. Each is a function that does nothing, and its contract is the theorem: a
 //! call brings that to the proof of its caller.
 
-ghost use Rattle.std.specs.Prelude.{◌≡◌, ◌≢◌, ◌+◌, ◌-◌, ◌%◌, ◌^◌, ◌<◌, ◌++◌, ◌∷◌, [], ℕ, List, length, drop, sum_by, Some, None, Result, Ok, Err};
+ghost use Rattle.std.specs.Prelude.{◌≡◌, ◌≢◌, ◌+◌, ◌-◌, ◌%◌, ◌^◌, ◌<◌, ◌++◌, ◌∷◌, [], ℕ, List, length, drop, sum_by, take, Some, None, Result, Ok, Err};
 ghost use Rattle.ipfix_wire.specs.Numbers.{IsOctets};
 ghost use Rattle.ipfix_wire.specs.InTurn.{IsLongest};
 ghost use Rattle.ipfix_message.specs.declared.fault.MessageFault.{MessageFault};
 ghost use Rattle.ipfix_message.specs.Domains.{Message};
 ghost use Rattle.ipfix_message.specs.declared.record.DataRecord.{DataRecord};
 ghost use Rattle.ipfix_session.specs.MessageStream.{SpellsMessage, cut};
+ghost use Rattle.ipfix_session.specs.WholeMessages.{whole_octets};
 ghost use Rattle.ipfix_session.specs.Ledger.{domain_report, messages_of};
 ghost use Rattle.ipfix_session.specs.Balances.{domain_balance, sequence_at_end};
 ghost use Rattle.ipfix_session.specs.Places.{messages_before_fault, place_after, place_of_fault};
-ghost use Rattle.ipfix_session.specs.Given.{gives, gives_after, behind, known_after, records_of, stop_of, IsOpen, IsPrefix};
+ghost use Rattle.ipfix_session.specs.Given.{gives, gives_after, behind, known_after, octets_of, records_of, stop_of, IsOpen, IsPrefix};
 ghost use Rattle.ipfix_session.specs.Feeding.{State, Feeds};
 ghost use Rattle.ipfix_session.specs.Drives.{Drives, IsGiven, TakesGiven};
 ghost use Rattle.ipfix_session.specs.declared.stop.Stop.TheVariants.{Clean, Fault};
@@ -32,6 +33,11 @@ pub fn one_cut()
     ensures only { (text rest : List ℕ) (messages : List (List ℕ)) → IsOctets text
         → IsLongest SpellsMessage messages rest text
         → cut text ≡ record { items = messages; rest = rest } }
+{}
+
+/// The octets of a text that are whole messages are its messages one after another, as they are.
+pub fn whole_octets_are_messages()
+    ensures { (text : List ℕ) → take (whole_octets text) text ≡ octets_of (cut text).items }
 {}
 
 /// What a text gives when it goes on.

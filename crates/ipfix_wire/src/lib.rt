@@ -18,6 +18,3 @@ pub use set::{
 };
 pub use specifier::{ElementId, Spec, VARIABLE_WIDTH, read_spec, write_spec};
 pub use variable_length::{read_length, write_length};
-
-#[cfg(test)]
-mod tests;

@@ -1,7 +1,6 @@
 //! The length that a variable-length field begins with (RFC 7011, section 7).
 
-ghost use Rattle.std.specs.Prelude.{◌≡◌, ◌≤◌, ◌++◌, ℕ, List, Some, length, take, IfSome, OnOk, OnErr};
-ghost use Rattle.std.specs.Prelude.{length as list_length};
+ghost use Rattle.std.specs.Prelude.{◌≡◌, ◌≤◌, ◌++◌, ℕ, List, Some, length, take, IfSome, OnOk, OnErr, length as list_length};
 ghost use Rattle.ipfix_wire.specs.VariableLength.{SpellsLength, length_at, length_octets};
 
 use byteorder::{BigEndian, ByteOrder};

@@ -1,7 +1,7 @@
 //! Runs over files and connections that are in memory.
 
 ghost use Rattle.std.specs.Prelude.{◌≡◌, ⊤, None, IfSome, true};
-ghost use Rattle.collectd_inputs.specs.Had.{IsUnread};
+ghost use Rattle.input_sources.specs.Had.{IsUnread};
 
 use super::sessions::{BY_SOURCE, CSV, POOL};
 use collectd::{
@@ -10,8 +10,8 @@ use collectd::{
 };
 use element_registry::Elements;
 use flow_collect::Pool;
+use flow_plan::read_plan;
 use ipfix_session::{ScriptSource, Source};
-use plan_file::read_plan;
 use std::alloc::Global;
 use std::io::Sink;
 use std::net::{Ipv4Addr, SocketAddr, SocketAddrV4};

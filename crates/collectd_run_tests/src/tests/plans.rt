@@ -5,7 +5,7 @@ ghost use Rattle.std.specs.Prelude.{◌≡◌, ⊤, string_bytes};
 use super::sessions::BY_SOURCE;
 use collectd::{ReadText, Reason, Telling, load_plan, write_plan_fault};
 use element_registry::Elements;
-use plan_file::PlanTextError;
+use flow_plan::PlanTextError;
 use std::alloc::Global;
 use std::test::Fail;
 

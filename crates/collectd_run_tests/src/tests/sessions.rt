@@ -3,8 +3,8 @@
 use collectd::{Output, run};
 use flow_collect::Pool;
 use flow_export::Format;
+use flow_plan::read_plan;
 use ipfix_session::ScriptSource;
-use plan_file::read_plan;
 use std::alloc::{AllocError, Global};
 use std::io::Write;
 use std::sync::Wait;

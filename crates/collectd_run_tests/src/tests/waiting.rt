@@ -1,15 +1,15 @@
 //! Sources that wait in a queue, which tells what is still to come: contracts say which of them were had.
 
 ghost use Rattle.std.specs.Prelude.{◌≡◌, ◌≢◌, ◌++◌, ⊤, List, All, Some, length, true};
-ghost use Rattle.collectd_inputs.specs.Had.{IsUnread};
-ghost use Rattle.exit_status.specs.Statuses.{number_of};
+ghost use Rattle.input_sources.specs.Had.{IsUnread};
+ghost use Rattle.report_writing.specs.Statuses.{number_of};
 ghost use Rattle.ipfix_session.specs.declared.script.ScriptSource.{ScriptSource as Script};
 
 use super::sessions::{BY_SOURCE, CSV, POOL};
 use collectd::{Accepted, Listener, OpenSource, Opened, Reason, Status, run_files, run_tcp};
+use flow_plan::read_plan;
 use flow_table::Plan;
 use ipfix_session::{ScriptSource, Source};
-use plan_file::read_plan;
 use std::alloc::{AllocError, Global};
 use std::collections::VecDeque;
 use std::io::Sink;

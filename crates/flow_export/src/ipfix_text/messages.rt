@@ -10,10 +10,10 @@ ghost use Rattle.flow_export.specs.RowOctets.{BeginsWithRows, headers_octets};
 use crate::ipfix_text::rows::{MOST_OCTETS_A_ROW, ROWS_A_MESSAGE, place_rows};
 use crate::table_rows::TableRows;
 use flow_table::Plan;
+use ipfix_elements::place;
 use ipfix_wire::{
     FIRST_TEMPLATE_ID, HEADER_LENGTH, Header, SET_HEADER_LENGTH, write_header, write_set,
 };
-use placed_octets::place;
 use std::alloc::AllocError;
 
 /// The observation domain of all messages.

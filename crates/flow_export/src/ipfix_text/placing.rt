@@ -2,10 +2,10 @@
 
 ghost use Rattle.std.specs.Prelude.{◌+◌, ◌≤◌, length};
 ghost use Rattle.byteorder.specs.Endian.{big_bytes};
-ghost use Rattle.placed_octets.specs.Placed.{Placed};
+ghost use Rattle.ipfix_elements.specs.Placed.{Placed};
 ghost use Rattle.flow_export.specs.IpfixText.{number_octets};
 
-use placed_octets::place;
+use ipfix_elements::place;
 
 /// Writes a number in 64 bits at a place, and answers where it ends.
 pub fn place_number(number: u64, octets: &mut [u8], at: usize) -> usize

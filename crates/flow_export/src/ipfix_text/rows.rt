@@ -4,7 +4,7 @@ ghost use Rattle.std.specs.Prelude.{◌≡◌, ◌+◌, ◌*◌, ◌≤◌, All,
 ghost use Rattle.std.specs.List.{AllZip};
 ghost use Rattle.flow_table.specs.Fitting.{IsCellOf};
 ghost use Rattle.flow_table.specs.SameTables.{value_of};
-ghost use Rattle.placed_octets.specs.Placed.{Placed};
+ghost use Rattle.ipfix_elements.specs.Placed.{Placed};
 ghost use Rattle.flow_export.specs.Fitting.{IsExportable};
 ghost use Rattle.flow_export.specs.IpfixText.{number_octets, row_octets};
 ghost use Rattle.flow_export.specs.RowOctets.{cells_octets, octets_of_rows, wide_octets};
@@ -13,8 +13,7 @@ use crate::ipfix_text::placing::{place_lowest, place_number};
 use crate::ipfix_text::widths::width_of;
 use crate::table_rows::TableRows;
 use flow_table::{Plan, Row};
-use ipfix_elements::{Cell, Kind};
-use placed_octets::place;
+use ipfix_elements::{Cell, Kind, place};
 use std::alloc::AllocError;
 
 /// The rows in a message, but for the last one.

@@ -1,5 +1,5 @@
 //! Rows as lines of JSON: an object for each. No name and no value needs an escape (`rows_are_objects` of
-//! `json_laws`), so what an object has is appended as it is.
+//! `laws_json`), so what an object has is appended as it is.
 
 ghost use Rattle.std.specs.Prelude.{◌≡◌, ◌++◌, OnOk, length};
 ghost use Rattle.flow_export.specs.JsonParts.{AreLabels, interval_members, labelled_cell, labelled_cells, labelled_numbers};

@@ -1,9 +1,9 @@
 //! Exports merged.
 
 use super::plans::by_source;
-use flow_merge_laws::merge;
 use flow_table::Table;
 use ipfix_session::ScriptSource;
+use laws_merge::merge;
 use std::alloc::{AllocError, Global};
 use std::test::Fail;
 use worked_examples::text_of;

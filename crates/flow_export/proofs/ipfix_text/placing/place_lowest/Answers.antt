@@ -1,6 +1,6 @@
 use Rattle.std.proofs.Common.{◌∙◌, ◌-◌, ap, List, ℕ, take, drop}
 use Rattle.byteorder.proofs.Bytes.{between-bytes_high_first}
-use Rattle.placed_octets.proofs.Places.{placed_as}
+use Rattle.ipfix_elements.proofs.Places.{placed_as}
 use Rattle.flow_export.proofs.ipfix_text.placing.place_lowest.Goals as goal
 
 pub returns : goal.returns

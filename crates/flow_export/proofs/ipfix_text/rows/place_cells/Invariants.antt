@@ -1,5 +1,5 @@
 use Rattle.std.proofs.Common.{◌+◌, ◌*◌, ◌≤◌, take}
-use Rattle.placed_octets.specs.Placed.{Placed}
+use Rattle.ipfix_elements.specs.Placed.{Placed}
 use Rattle.flow_export.specs.RowOctets.{cells_octets}
 use Rattle.flow_export.proofs.ipfix_text.rows.place_cells.Given as goal
 

@@ -1,5 +1,5 @@
 use Rattle.std.proofs.Common.{arith, refl}
-use Rattle.placed_octets.proofs.Places.{one_more_placed}
+use Rattle.ipfix_elements.proofs.Places.{one_more_placed}
 use Rattle.flow_export.specs.IpfixText.{number_octets}
 use Rattle.flow_export.proofs.ipfix_text.rows.place_numbers.Goals as goal
 

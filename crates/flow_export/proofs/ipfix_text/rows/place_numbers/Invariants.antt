@@ -1,6 +1,6 @@
 use Rattle.std.proofs.Common.{◌≡◌, ◌+◌, ◌*◌, take}
 use Rattle.std.specs.List.{flat_map}
-use Rattle.placed_octets.specs.Placed.{Placed}
+use Rattle.ipfix_elements.specs.Placed.{Placed}
 use Rattle.flow_export.specs.IpfixText.{number_octets}
 use Rattle.flow_export.proofs.ipfix_text.rows.place_numbers.Given as goal
 

@@ -2,7 +2,7 @@ use Rattle.std.proofs.Common.{◌∙◌, List, ap, drop, sym, subst, All, arith}
 use Rattle.std.proofs.lemmas.List.{drop-drop}
 use Rattle.std.proofs.lemmas.List.Elements.{All-drop}
 use Rattle.flow_table.specs.SameTables.{RowValue}
-use Rattle.placed_octets.proofs.Places.{next_placed}
+use Rattle.ipfix_elements.proofs.Places.{next_placed}
 use Rattle.flow_export.specs.Fitting.{IsExportable}
 use Rattle.flow_export.specs.IpfixText.{row_octets}
 use Rattle.flow_export.proofs.ipfix_text.rows.place_rows.Goals as goal

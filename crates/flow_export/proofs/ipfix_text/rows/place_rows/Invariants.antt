@@ -1,5 +1,5 @@
 use Rattle.std.proofs.Common.{◌≡◌, ◌+◌, ◌*◌, ◌≤◌, drop, take}
-use Rattle.placed_octets.specs.Placed.{Placed}
+use Rattle.ipfix_elements.specs.Placed.{Placed}
 use Rattle.flow_export.specs.RowOctets.{octets_of_rows}
 use Rattle.flow_export.proofs.ipfix_text.rows.place_rows.Given as goal
 

@@ -1,7 +1,6 @@
-use Rattle.std.proofs.Common.{sym, ap, subst, ◌∙◌}
+use Rattle.std.proofs.Common.{sym, ap, subst, ◌∙◌, ◌++◌}
 use Rattle.ipfix_session.specs.Given.{gives}
 use Rattle.ipfix_session.specs.Feeding.{State, StandsForText}
-use Rattle.std.proofs.Common.{◌++◌}
 use Rattle.ipfix_session.proofs.Reaching.{none_but, fed_again, fed_by, reaches_first, buffer_is_rest, may_go_on}
 use Rattle.ipfix_session.proofs.session.Session.feed.Goals as goal
 

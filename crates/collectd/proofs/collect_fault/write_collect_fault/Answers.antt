@@ -1,4 +1,0 @@
-use Rattle.collectd.proofs.collect_fault.write_collect_fault.Goals as goal
-
-pub returns-clause-told : goal.returns-clause-told
-returns-clause-told g c = rw (c.number.ensures, c.name.ensures) at c.write_fault.ensures.told

@@ -1,7 +1,0 @@
-use Rattle.std.proofs.Common.{take, All}
-use Rattle.collectd.proofs.FullRan.{NoFault}
-use Rattle.collectd.proofs.full_run.have_no_fault.Given as goal
-
--- the first sessions have no fault
-abbrev pub invariant-loop-full : goal.invariant-loop-full
-invariant-loop-full l = All NoFault (take l.full-index l.reports)

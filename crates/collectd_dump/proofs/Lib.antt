@@ -1,3 +1,0 @@
-pub mod Ended
-mod FullDumped
-mod Loaded

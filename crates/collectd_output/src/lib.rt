@@ -1,6 +1,0 @@
-//! What a table is written as.
-#![tactic(auto)]
-
-mod output;
-
-pub use output::{Output, export};

@@ -1,3 +1,0 @@
-mod Shifts
-pub mod Told
-mod Words

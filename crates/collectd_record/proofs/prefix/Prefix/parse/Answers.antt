@@ -1,9 +1,0 @@
-use Rattle.std.proofs.Common.{arith}
-use Rattle.std.proofs.lemmas.Str.Pattern.{split_parts}
-use Rattle.collectd_record.proofs.Words.{no_slash, whole_word}
-use Rattle.collectd_record.proofs.prefix.Prefix.parse.Goals as goal
-
-pub returns-in-None : goal.returns-in-None
-returns-in-None c =
-    let none = no_slash c.args.word.now c.split_once.result _ (split_parts 47 c.args.word.now c.split_once.result c.split_once.ensures.cases (omega arith)) c.in-None.is in
-    whole_word _ c.whole_address.result none c.whole_address.ensures

@@ -1,4 +1,0 @@
-use Rattle.collectd_record.proofs.prefix.whole_address.Goals as goal
-
-pub returns-in-Err : goal.returns-in-Err
-returns-in-Err c p whole = c.in-Err.ensures p.address whole.address

@@ -1,4 +1,0 @@
-use Rattle.collectd_record.proofs.running.serve.Goals as goal
-
-pub returns-clause-served : goal.returns-clause-served
-returns-clause-served g c _ = (c.next_session-number.result, c.record_connection.ensures)

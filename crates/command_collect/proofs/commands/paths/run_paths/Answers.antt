@@ -1,0 +1,22 @@
+use Rattle.std.proofs.Common.{rules}
+use Rattle.std.proofs.lemmas.Slice.Zip.{AllZip-long}
+use Rattle.report_writing.specs.Told.{AreTold}
+use Rattle.report_writing.proofs.LinesTold.{both_told}
+use Rattle.command_collect.proofs.Collected.{collected, not_collected}
+use Rattle.command_collect.proofs.LinesTold.{stops_then}
+use Rattle.command_collect.proofs.commands.paths.run_paths.Goals as goal
+
+pub returns-in-Ok-clause-collects : goal.returns-in-Ok-clause-collects
+returns-in-Ok-clause-collects g c =
+    let same = AllZip-long _ _ _ c.in-Ok.ensures.opened.one_each in
+    collected _ _ _ _ _ _ _ _ _ _ _ _ _ _ _ (AreTold (g.E.WriteLines.contents c.open_all.new.err) (g.E.WriteLines.contents c.run_in_full.new.err) (g.E.WriteLines.failed c.run_in_full.new.err))
+    c.into_sources-sources.result.items c.in-Ok.field-0.sources c.into_sources-sources.result.len c.in-Ok.field-0.origins.items c.deref.result.now c.into_sources-sources.ensures.list c.in-Ok.ensures.opened c.into_sources-sources.ensures.unread (search (rules, same)) c.in-Ok.ensures.named c.deref.ensures.value
+    (λ lines told. both_told _ _ _ _ _ _ _ c.in-Ok.ensures.told told c.run_in_full.ensures.kept) c.run_in_full.ensures.statuses c.run_in_full.ensures.table c.run_in_full.ensures.failed c.run_in_full.ensures.refused
+
+pub returns-in-Err-clause-collects : goal.returns-in-Err-clause-collects
+returns-in-Err-clause-collects g c =
+    not_collected _ _ _ _ _ _ _ (search rules) (search rules) (record {
+      name = c.in-Err.field-0.path.now;
+      reason = c.in-Err.field-0.reason;
+      stops = stops_then _ _ _ _ _ _ _ _ _ c.write_not_had_because.result c.in-Err.ensures.stops c.write_not_had_because.ensures.told c.write_not_had_because.ensures.failed c.write_not_had_because.ensures.kept;
+    })

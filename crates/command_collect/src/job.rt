@@ -1,0 +1,43 @@
+//! What a run of collecting is to do.
+
+ghost use Rattle.std.specs.Prelude.{◌≡◌};
+
+use element_registry::Elements;
+use flow_collect::Pool;
+use flow_table::Plan;
+use output_tables::Output;
+use report_writing::{NOTHING_MORE, Telling};
+
+/// What a run is to do with what it collects, wherever that comes from.
+#[derive(Clone, Copy)]
+pub struct CollectJob<'a> {
+    /// These name the keys and counters.
+    pub elements: &'a Elements,
+    /// The intervals, keys and counters of the table.
+    pub plan: &'a Plan,
+    /// How many workers add up what the sessions read, and the room of their links.
+    pub pool: Pool,
+    /// How the table is written.
+    pub output: Output,
+    /// What is told beside the lines that always stand.
+    pub telling: Telling,
+}
+
+impl<'a> CollectJob<'a> {
+    /// One that tells nothing more.
+    pub fn plain(elements: &'a Elements, plan: &'a Plan, pool: Pool, output: Output) -> Self
+        ensures elements { result.elements.now ≡ elements.now }
+        ensures plan { result.plan.now ≡ plan.now }
+        ensures pool { result.pool ≡ pool }
+        ensures output { result.output ≡ output }
+        ensures telling { result.telling ≡ NOTHING_MORE }
+    {
+        CollectJob {
+            elements,
+            plan,
+            pool,
+            output,
+            telling: NOTHING_MORE,
+        }
+    }
+}

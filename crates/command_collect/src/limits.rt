@@ -1,0 +1,69 @@
+//! The line that says what a pool and a number of sessions may be.
+
+ghost use Rattle.std.specs.Prelude.{◌≡◌, OnErr, OnOk};
+ghost use Rattle.std.specs.Io.KnownBytes.{Appends};
+ghost use Rattle.flow_collect.specs.Refusals.{fault_of_arguments};
+ghost use Rattle.report_writing.specs.OpeningLines.{if_verbose};
+ghost use Rattle.command_collect.specs.Limits.{limit_line, limit_lines, limit_text, limit_words as words_of};
+
+use flow_collect::{CollectFault, Pool, refusal};
+use report_writing::{NOTHING_MORE, Telling, WriteLines};
+use std::io;
+
+/// Writes what is allowed, behind the fault, if `telling` is verbose and a run with this pool and so many
+/// sessions is refused for one of them. Otherwise nothing is written.
+pub fn write_limit<W: WriteLines>(
+    telling: Telling,
+    pool: Pool,
+    sessions: usize,
+    out: &mut W,
+) -> io::Result<()>
+    ensures told { OnOk result (Appends (W.contents out.old) (W.contents out.new)
+        (limit_lines telling (fault_of_arguments pool sessions))) }
+    ensures failed { OnErr result (W.failed out.new) }
+    ensures kept { W.failed out.old → W.failed out.new }
+{
+    match refusal(pool, sessions) {
+        Some(fault) => write_if_verbose(telling, fault, out),
+        None => Ok(()),
+    }
+}
+
+fn write_if_verbose<W: WriteLines>(
+    telling: Telling,
+    fault: CollectFault,
+    out: &mut W,
+) -> io::Result<()>
+    ensures told { OnOk result (Appends (W.contents out.old) (W.contents out.new)
+        (if_verbose telling (limit_line fault))) }
+    ensures failed { OnErr result (W.failed out.new) }
+    ensures kept { W.failed out.old → W.failed out.new }
+{
+    if telling.verbose {
+        write_words(fault.number(), fault.name(), limit_words(fault), out)
+    } else {
+        Ok(())
+    }
+}
+
+#[tactic(auto, unfolding(crate::specs::Limits::limit_text))]
+fn write_words<W: WriteLines>(number: u8, name: &str, words: &str, out: &mut W) -> io::Result<()>
+    ensures told { OnOk result (Appends (W.contents out.old) (W.contents out.new)
+        (limit_text number name.now words.now)) }
+    ensures failed { OnErr result (W.failed out.new) }
+    ensures kept { W.failed out.old → W.failed out.new }
+{
+    writeln!(out, "collectd: collect: fault {number} {name}{words}")
+}
+
+// What is allowed where it has this fault.
+fn limit_words(fault: CollectFault) -> &'static str
+    ensures { result.now ≡ words_of fault }
+{
+    match fault {
+        CollectFault::Workers => ": --workers must be 1 to 16",
+        CollectFault::Sessions => ": must be 1 to 64",
+        CollectFault::Link => ": --ring must be 1 to 65536",
+        CollectFault::NoThread | CollectFault::OutOfMemory | CollectFault::SumTooLarge => "",
+    }
+}

@@ -1,0 +1,2 @@
+mod FullDumped
+mod Loaded

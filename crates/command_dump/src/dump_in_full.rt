@@ -1,0 +1,94 @@
+//! Dumping a source to its end, with the report in full.
+
+ghost use Rattle.std.specs.Prelude.{◌≡◌, ◌⊎◌, ◌↔◌, [], ◌∷◌, IfOk, IsTrue};
+ghost use Rattle.ipfix_dump.specs.Dumped.{DumpsInFullBy};
+ghost use Rattle.report_writing.specs.Told.{AreTold};
+ghost use Rattle.report_sessions.specs.ToldLines.{told_lines};
+ghost use Rattle.command_dump.specs.Dumps.{EndedWell, RunsDumpInFull};
+
+use crate::dump_fault::write_dump_fault;
+use element_registry::Elements;
+use ipfix_dump::{DumpFault, RecordLine, dump_in_full_by};
+use ipfix_session::{FullReport, Source};
+use report_sessions::{are_spotless, write_told_reports};
+use report_writing::{Origin, Status, Telling, WriteLines};
+use std::alloc::Global;
+use std::io::Write;
+use std::slice;
+
+/// Dumps a source to `out` with lines that `line` makes, and answers the exit status. To `err` it writes what
+/// there is to tell of the session, or at status 3 the line of the fault alone. A fault of `err` is passed
+/// over.
+pub fn dump_to_end<L: RecordLine, S: Source, W: Write, E: WriteLines>(
+    alloc: Global,
+    elements: &Elements,
+    line: &mut L,
+    source: &mut S,
+    origin: &Origin,
+    telling: Telling,
+    out: &mut W,
+    err: &mut E,
+) -> u8
+    ensures runs { RunsDumpInFull (L.line_of line.old) S.seen source.old source.new
+        (W.contents out.old) (W.contents out.new) result telling.strict
+        (λ full. told_lines telling elements.now (origin.now ∷ []) (full ∷ []))
+        (AreTold (E.contents err.old) (E.contents err.new) (E.failed err.new)) }
+    ensures kept { E.failed err.old → E.failed err.new }
+{
+    match dump_whole(alloc, line, source, out) {
+        Ok(full) => {
+            let _ = write_told_reports(
+                telling,
+                elements,
+                slice::from_ref(origin),
+                slice::from_ref(&full),
+                err,
+            );
+            end_of(telling.strict, &full).number()
+        }
+        Err(fault) => {
+            let _ = write_dump_fault(fault, err);
+            Status::Failed.number()
+        }
+    }
+}
+
+// How a session that was dumped ended.
+fn end_of(strict: bool, full: &FullReport) -> Status
+    ensures ends { (result ≡ Status.Well) ⊎ (result ≡ Status.SessionFault) }
+    ensures well { (result ≡ Status.Well) ↔ EndedWell strict full.now }
+{
+    if ended_well(strict, full) {
+        Status::Well
+    } else {
+        Status::SessionFault
+    }
+}
+
+#[tactic(auto, using(crate::proofs::FullDumped::tested_strict, crate::proofs::FullDumped::tested_plain))]
+fn ended_well(strict: bool, full: &FullReport) -> bool
+    ensures { IsTrue result ↔ EndedWell strict full.now }
+{
+    if strict {
+        are_spotless(slice::from_ref(full))
+    } else {
+        full.report.fault.is_none()
+    }
+}
+
+// Dumps a source, and sees to it that nothing is left in the writer's buffer.
+fn dump_whole<L: RecordLine, S: Source, W: Write>(
+    alloc: Global,
+    line: &mut L,
+    source: &mut S,
+    out: &mut W,
+) -> Result<FullReport, DumpFault>
+    ensures { IfOk result (λ full. DumpsInFullBy (L.line_of line.old) S.seen source.old source.new
+        (W.contents out.old) (W.contents out.new) full) }
+{
+    let full = dump_in_full_by(alloc, line, source, out)?;
+    match out.flush() {
+        Ok(()) => Ok(full),
+        Err(error) => Err(DumpFault::from(error)),
+    }
+}

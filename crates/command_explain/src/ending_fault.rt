@@ -1,0 +1,41 @@
+//! The faults that end a session, also one that is recorded, or for which a datagram is refused.
+
+ghost use Rattle.std.specs.Prelude.{◌≡◌};
+ghost use Rattle.command_explain.specs.EndingFaults.{number_of, name_of};
+
+use ipfix_session::SessionFault;
+
+/// A fault that ends a session, or for which a datagram is refused.
+#[derive(Clone, Copy, Debug, PartialEq, Eq)]
+pub enum EndingFault {
+    /// One that any session may have.
+    Session(SessionFault),
+    /// A file of a recorded session could not be written, or not be finished.
+    NotWritten,
+    /// A datagram withdraws a template over UDP; it alone is refused.
+    Withdrawal,
+}
+
+impl EndingFault {
+    /// Its number, which no other of them has.
+    pub fn number(&self) -> u8
+        ensures { result ≡ number_of self.now }
+    {
+        match self {
+            EndingFault::Session(fault) => fault.number(),
+            EndingFault::NotWritten => 19,
+            EndingFault::Withdrawal => 20,
+        }
+    }
+
+    /// Its name.
+    pub fn name(&self) -> &'static str
+        ensures { result.now ≡ name_of self.now }
+    {
+        match self {
+            EndingFault::Session(fault) => fault.name(),
+            EndingFault::NotWritten => "NotWritten",
+            EndingFault::Withdrawal => "Withdrawal",
+        }
+    }
+}

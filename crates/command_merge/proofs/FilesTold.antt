@@ -1,0 +1,83 @@
+-- Files that were told as opened, one after another, until a merge ended.
+use Rattle.std.proofs.Common.{◌≡◌, ℕ, ◌+◌, ◌<◌, ◌≤◌, suc, List, ◌++◌, length, take, drop, get_or, map, take-append-drop, Option, Result, sym, ap, ◌∙◌, subst, append-nil, arith}
+use Rattle.std.specs.Prelude.{OnErr, OnOk}
+use Rattle.std.specs.Io.KnownBytes.{Appends}
+use Rattle.std.proofs.lemmas.List.{length-map, map-append, map_more, length-take-le}
+use Rattle.report_writing.specs.Statuses.{number_of}
+use Rattle.report_writing.specs.OpeningLines.{if_verbose}
+use Rattle.report_writing.specs.Told.{AreTold}
+use Rattle.report_writing.specs.declared.telling.Telling.{Telling}
+use Rattle.report_writing.proofs.Numbering.{numbered-last}
+use Rattle.flow_table.specs.declared.table.Table.{Table}
+use Rattle.command_merge.specs.MergeLines.{file_opened_line, files_opened_lines, merged_line, not_merged_lines, status_of}
+use Rattle.command_merge.specs.Merges.{IsNotAdded, StopsMerge}
+use Rattle.command_merge.specs.MergesTold.{TellsNotMerged}
+use Rattle.command_merge.specs.declared.not_merged.NotMerged.{NotMerged}
+use Rattle.command_merge.specs.declared.not_merged.NotMerged.TheVariants.{NotOpened, File, Whole}
+use Rattle.report_writing.proofs.LinesTold.{both_told, told_then}
+use Rattle.input_sources.proofs.InputsTold.{map-at}
+
+module _ {P : Type 0} (name_of : P → List ℕ) (paths : List P) where
+  abbrev pub first_names : ℕ → List (List ℕ)
+  first_names i = map name_of (take i paths)
+
+  names_count : (i : ℕ) → i ≤ length paths → length (first_names i) ≡ i
+  names_count i within = length-map (take i paths) name_of ∙ length-take-le i paths within
+
+  lines_more : (telling : Telling) (i : ℕ) (d : P) → i < length paths
+      → files_opened_lines telling (first_names (i + 1)) ≡ files_opened_lines telling (first_names i) ++ if_verbose telling (file_opened_line (i + 1) (name_of (get_or paths i d)))
+  lines_more telling i d less =
+      let name = name_of (get_or paths i d) in
+      let line = λ (n : ℕ) (name : List ℕ). if_verbose telling (file_opened_line n name) in
+      ap (λ (l : List (List ℕ)). files_opened_lines telling l) (map_more name_of paths i d less) ∙ numbered-last line (first_names i) name
+      ∙ ap (λ (n : ℕ). files_opened_lines telling (first_names i) ++ line (n + 1) name) (names_count i (omega (arith, less)))
+
+  module _ (old mid new : Option (List ℕ)) (Before After : Type 0) (telling : Telling) where
+    -- one more
+    pub one_file_told : (i : ℕ) (d : P) → i < length paths → AreTold old mid Before (files_opened_lines telling (first_names i))
+        → AreTold mid new After (if_verbose telling (file_opened_line (i + 1) (name_of (get_or paths i d)))) → (Before → After) → AreTold old new After (files_opened_lines telling (first_names (i + 1)))
+    one_file_told i d less first then kept =
+        subst (λ (l : List ℕ). AreTold old new After l) (sym (lines_more telling i d less)) (both_told old mid new Before After _ _ first then kept)
+
+    -- one that isn't added
+    pub stops_merge : (i : ℕ) (d : P) (not_merged : NotMerged) → i < length paths → AreTold old mid Before (files_opened_lines telling (first_names i))
+        → IsNotAdded telling (i + 1) (name_of (get_or paths i d)) (AreTold mid new After) not_merged → (Before → After) → StopsMerge (map name_of paths) telling (AreTold old new After) not_merged
+    stops_merge i d (NotOpened path reason) less first not_added kept =
+        record {
+          opened = first_names i;
+          stops = (map name_of (drop (suc i) paths), rw not_added.0 (map-at name_of paths i d less));
+          told = subst (λ (l : List ℕ). AreTold old new After l) (append-nil _) (both_told old mid new Before After _ _ first not_added.1 kept);
+        }
+    stops_merge i d (File number path fault) less first not_added kept =
+        record {
+          opened = first_names (i + 1);
+          stops = (
+            first_names i,
+            map name_of (drop (i + 1) paths),
+            rw not_added.1 (map_more name_of paths i d less),
+            ap (λ (l : List P). map name_of l) (sym (take-append-drop (i + 1) paths)) ∙ map-append name_of (take (i + 1) paths) (drop (i + 1) paths),
+            not_added.0 ∙ sym (names_count (i + 1) (omega (arith, less))),
+          );
+          told = one_file_told i d less first not_added.2 kept;
+        }
+    stops_merge i d (Whole fault) less first not_added kept = absurd not_added
+
+-- why they weren't merged, behind those that were opened
+pub tells_not_merged : {T E : Type 0} (names : List (List ℕ)) (telling : Telling) (old mid new : Option (List ℕ)) (Before After : Type 0) (not_merged : NotMerged) (status : ℕ) (answer : Result T E)
+    → StopsMerge names telling (AreTold old mid Before) not_merged → OnOk answer (Appends mid new (not_merged_lines telling not_merged)) → OnErr answer After → (Before → After)
+    → status ≡ number_of (status_of not_merged) → TellsNotMerged names telling (AreTold old new After) status
+tells_not_merged names telling old mid new Before After not_merged status answer stopped ok err kept is =
+    record {
+      opened = stopped.opened;
+      not_merged = not_merged;
+      stops = stopped.stops;
+      told = told_then old mid new Before After answer _ _ stopped.told ok err kept;
+      status_is = is;
+    }
+
+-- the counts are those of the files and of the table
+pub merged_told : {P T E : Type 0} (answer : Result T E) (mid new : Option (List ℕ)) (name_of : P → List ℕ) (paths : List P) (table : Table) (files rows : ℕ) → files ≡ length paths → rows ≡ length table.rows.items
+    → OnOk answer (Appends mid new (merged_line files rows)) → OnOk answer (Appends mid new (merged_line (length (map name_of paths)) (length table.rows.items)))
+merged_told answer mid new name_of paths table files rows is_files is_rows told =
+    subst (λ (n : ℕ). OnOk answer (Appends mid new (merged_line n (length table.rows.items)))) (is_files ∙ sym (length-map paths name_of))
+    (subst (λ (n : ℕ). OnOk answer (Appends mid new (merged_line files n))) is_rows told)

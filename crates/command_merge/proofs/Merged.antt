@@ -1,0 +1,78 @@
+-- Files that are merged one after another.
+use Rattle.std.proofs.Common.{◌≡◌, ℕ, ◌+◌, ◌<◌, ◌≤◌, List, [], ◌∷◌, ◌++◌, length, take, get_or, All, Option, sym, ◌∙◌, subst}
+use Rattle.std.specs.Prelude.{flat_map}
+use Rattle.std.specs.List.{AllZip}
+use Rattle.std.proofs.lemmas.List.{flat_map_more, take_more, take_all}
+use Rattle.std.proofs.lemmas.List.Elements.{All-nil, All-push}
+use Rattle.std.proofs.lemmas.Slice.Zip.{all_zipped_more}
+use Rattle.ipfix_session.specs.Sources.{SourceView}
+use Rattle.flow_table.specs.AddedUp.{rows_in, AreAddedUp}
+use Rattle.flow_table.specs.Plans.{PlanValue}
+use Rattle.flow_table.specs.SameTables.{RowValue}
+use Rattle.flow_table.specs.declared.table.Table.{Table}
+use Rattle.flow_merge.specs.Merging.{AddsExport, GiveExports, GivesExport, StandsFor, merging_plan}
+use Rattle.flow_merge.specs.declared.merging.Merging.{Merging}
+use Rattle.input_sources.specs.Had.{AreOpened, Came, IsOpened, IsUnread}
+use Rattle.command_merge.specs.Merges.{AddsFile, IsMerged}
+use Rattle.input_sources.proofs.Had.{Came-nil, Came-trans}
+use Rattle.ipfix_session.specs.declared.driver.TheConstants.{READ_LIMIT}
+
+abbrev pub all_rows : List (List RowValue) → List RowValue
+all_rows exports = flat_map (λ rows. rows) exports
+
+module _ {S X : Type 0} (seen : S → SourceView) (opens : X → S → Type 0) (plan : PlanValue) (start : Option (List S)) where
+  -- the sources of these paths were opened and read, and it stands for all of their rows
+  pub record Stands (paths : List X) (now : Option (List S)) (m : Merging) : Type 0 where
+    pub same_plan : merging_plan m ≡ plan
+    pub sources : List S
+    pub opened : AllZip opens paths sources
+    pub came : Came start now sources
+    pub unread : All (IsUnread seen) sources
+    pub exports : List (List RowValue)
+    pub given : GiveExports seen READ_LIMIT plan sources exports
+    pub stands : StandsFor m (all_rows exports)
+
+  pub none_read : (m : Merging) → merging_plan m ≡ plan → StandsFor m [] → Stands [] start m
+  none_read m same stands =
+      record { same_plan = same; sources = []; opened = tt; came = Came-nil start; unread = All-nil (IsUnread seen); exports = []; given = tt; stands = stands }
+
+  one_read : (paths : List X) (path : X) (before after : Option (List S)) (opens_now : X → S → Type 0) (old new : Merging) → ((x : X) (s : S) → opens_now x s → opens x s)
+      → AddsFile seen (IsOpened (opens_now path) before after) old new → Stands paths before old → Stands (paths ++ path ∷ []) after new
+  one_read paths path before after opens_now old new same file so_far =
+      let one = file.adds (all_rows so_far.exports) so_far.stands in
+      record {
+        same_plan = file.same_plan ∙ so_far.same_plan;
+        sources = so_far.sources ++ file.before ∷ [];
+        opened = all_zipped_more opens paths so_far.sources path file.before so_far.opened (same path file.before file.had.asked);
+        came = Came-trans start before after so_far.sources (file.before ∷ []) so_far.came file.had.came;
+        unread = All-push (IsUnread seen) so_far.sources file.before so_far.unread file.unread;
+        exports = so_far.exports ++ one.more ∷ [];
+        given = all_zipped_more (λ source rows. (left : S) × GivesExport seen READ_LIMIT plan source left rows) so_far.sources so_far.exports file.before one.more so_far.given
+            (file.after, subst (λ (p : PlanValue). GivesExport seen READ_LIMIT p file.before file.after one.more) so_far.same_plan one.gives_export);
+        stands = subst (StandsFor new) (flat_map_more (λ (rows : List RowValue). rows) [] so_far.exports one.more) one.stands;
+      }
+
+  all_read : (paths : List X) (now : Option (List S)) (m : Merging) (table : Table) (so_far : Stands paths now m) → AreAddedUp (all_rows so_far.exports) (rows_in table) → IsMerged seen (AreOpened opens paths start now) plan table
+  all_read paths now m table so_far added =
+      record {
+        sources = so_far.sources;
+        had = record { one_each = so_far.opened; came = so_far.came };
+        unread = so_far.unread;
+        added_up = record { exports = so_far.exports; given = so_far.given; added_up = added };
+      }
+
+  -- one more of these paths
+  pub one_path : (paths : List X) (i : ℕ) (path : X) (before after : Option (List S)) (opens_now : X → S → Type 0) (old new : Merging) → i < length paths → ((x : X) (s : S) → opens_now x s → opens x s)
+      → AddsFile seen (IsOpened (opens_now (get_or paths i path)) before after) old new → Stands (take i paths) before old → Stands (take (i + 1) paths) after new
+  one_path paths i path before after opens_now old new less same file so_far =
+      subst (λ (ps : List X). Stands ps after new) (sym (take_more paths i path less)) (one_read (take i paths) (get_or paths i path) before after opens_now old new same file so_far)
+
+  -- all of them
+  pub all_paths : (paths : List X) (i : ℕ) (now : Option (List S)) (m : Merging) (table : Table) → length paths ≤ i → (so_far : Stands (take i paths) now m)
+      → AreAddedUp (all_rows so_far.exports) (rows_in table) → IsMerged seen (AreOpened opens paths start now) plan table
+  all_paths paths i now m table all so_far added =
+      subst (λ (ps : List X). IsMerged seen (AreOpened opens ps start now) plan table) (take_all i paths all) (all_read (take i paths) now m table so_far added)
+
+pub adds_file : {S : Type 0} (seen : S → SourceView) (IsHad : S → Type 0) (old new : Merging) (before after : S) → IsHad before → IsUnread seen before → merging_plan new ≡ merging_plan old
+    → ((rows : List RowValue) → StandsFor old rows → AddsExport seen READ_LIMIT old before after rows new) → AddsFile seen IsHad old new
+adds_file seen IsHad old new before after had unread same adds = record { before = before; after = after; had = had; unread = unread; same_plan = same; adds = adds }

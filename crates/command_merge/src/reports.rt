@@ -1,0 +1,179 @@
+//! The lines that tell of merging.
+
+ghost use Rattle.std.specs.Prelude.{◌++◌, codes, OnErr, OnOk};
+ghost use Rattle.std.specs.Io.KnownBytes.{Appends};
+ghost use Rattle.flow_merge.specs.MergeFaults.{number_of, name_of};
+ghost use Rattle.report_writing.specs.OpeningLines.{if_verbose};
+ghost use Rattle.report_writing.specs.FaultLines.{fault_text};
+ghost use Rattle.command_merge.specs.MergeLines.{file_fault_line, file_fault_lines, file_opened_line, file_start, merge_fault_line, merge_fault_text, merged_line, named_file_line, not_merged_lines};
+
+use crate::not_merged::NotMerged;
+use flow_merge::MergeFault;
+use report_writing::{
+    Origin, Telling, WriteLines, write_fault, write_not_had_because, write_origin,
+};
+use std::io;
+
+/// Writes the line that counts the files that were merged, and the rows of their table.
+#[tactic(auto, unfolding(crate::specs::MergeLines::merged_line))]
+pub fn write_merged<W: WriteLines>(files: usize, rows: usize, out: &mut W) -> io::Result<()>
+    ensures told { OnOk result (Appends (W.contents out.old) (W.contents out.new)
+        (merged_line files rows)) }
+    ensures failed { OnErr result (W.failed out.new) }
+    ensures kept { W.failed out.old → W.failed out.new }
+{
+    writeln!(out, "collectd: merged: files {files} rows {rows}")
+}
+
+/// Writes why files were not merged.
+pub fn write_not_merged<W: WriteLines>(
+    telling: Telling,
+    not_merged: &NotMerged,
+    out: &mut W,
+) -> io::Result<()>
+    ensures told { OnOk result (Appends (W.contents out.old) (W.contents out.new)
+        (not_merged_lines telling not_merged.now)) }
+    ensures failed { OnErr result (W.failed out.new) }
+    ensures kept { W.failed out.old → W.failed out.new }
+{
+    match not_merged {
+        NotMerged::NotOpened { path, reason } => {
+            write_not_had_because(telling, "open", path, *reason, out)
+        }
+        NotMerged::File {
+            number,
+            path,
+            fault,
+        } => write_file_fault(telling, *number, path, *fault, out),
+        NotMerged::Whole(fault) => write_merge_fault(*fault, out),
+    }
+}
+
+// The line of a fault that is no file's.
+fn write_merge_fault<W: WriteLines>(fault: MergeFault, out: &mut W) -> io::Result<()>
+    ensures told { OnOk result (Appends (W.contents out.old) (W.contents out.new)
+        (merge_fault_line fault)) }
+    ensures failed { OnErr result (W.failed out.new) }
+    ensures kept { W.failed out.old → W.failed out.new }
+{
+    write_fault("merge", fault.number(), fault.name(), out)
+}
+
+// The line of a file, counted from 1, that was not merged: the fault, and behind it that of its session or of
+// its record. If `telling` is verbose, the same line follows with the file's name.
+fn write_file_fault<W: WriteLines>(
+    telling: Telling,
+    file: usize,
+    name: &str,
+    fault: MergeFault,
+    out: &mut W,
+) -> io::Result<()>
+    ensures told { OnOk result (Appends (W.contents out.old) (W.contents out.new)
+        (file_fault_lines telling file name.now fault)) }
+    ensures failed { OnErr result (W.failed out.new) }
+    ensures kept { W.failed out.old → W.failed out.new }
+{
+    write_numbered_fault(file, fault, out)?;
+    if telling.verbose {
+        write_named_fault(file, name, fault, out)
+    } else {
+        Ok(())
+    }
+}
+
+fn write_numbered_fault<W: WriteLines>(
+    file: usize,
+    fault: MergeFault,
+    out: &mut W,
+) -> io::Result<()>
+    ensures told { OnOk result (Appends (W.contents out.old) (W.contents out.new)
+        (file_fault_line file fault)) }
+    ensures failed { OnErr result (W.failed out.new) }
+    ensures kept { W.failed out.old → W.failed out.new }
+{
+    write_file_start(file, out)?;
+    write_merge_fault_text(fault, out)
+}
+
+fn write_named_fault<W: WriteLines>(
+    file: usize,
+    name: &str,
+    fault: MergeFault,
+    out: &mut W,
+) -> io::Result<()>
+    ensures told { OnOk result (Appends (W.contents out.old) (W.contents out.new)
+        (named_file_line file name.now (merge_fault_text fault))) }
+    ensures failed { OnErr result (W.failed out.new) }
+    ensures kept { W.failed out.old → W.failed out.new }
+{
+    write_file_start(file, out)?;
+    write_origin(&Origin::File { name, size: None }, out)?;
+    write_merge_fault_text(fault, out)
+}
+
+// The fault of a file, and behind it that of its session or of its record, to the end of the line.
+fn write_merge_fault_text<W: WriteLines>(fault: MergeFault, out: &mut W) -> io::Result<()>
+    ensures told { OnOk result (Appends (W.contents out.old) (W.contents out.new)
+        (merge_fault_text fault)) }
+    ensures failed { OnErr result (W.failed out.new) }
+    ensures kept { W.failed out.old → W.failed out.new }
+{
+    match fault {
+        MergeFault::Session(inner) => {
+            write_inner(": fault 3 Session", inner.number(), inner.name(), out)
+        }
+        MergeFault::Row(inner) => write_inner(": fault 6 Row", inner.number(), inner.name(), out),
+        _ => write_inner("", fault.number(), fault.name(), out),
+    }
+}
+
+// The last fault, behind what stands before it.
+#[tactic(auto, unfolding(report_writing::specs::FaultLines::fault_text))]
+fn write_inner<W: WriteLines>(what: &str, number: u8, name: &str, out: &mut W) -> io::Result<()>
+    ensures told { OnOk result (Appends (W.contents out.old) (W.contents out.new)
+        (what.now ++ fault_text number name.now)) }
+    ensures failed { OnErr result (W.failed out.new) }
+    ensures kept { W.failed out.old → W.failed out.new }
+{
+    writeln!(out, "{what}: fault {number} {name}")
+}
+
+/// Writes the line of a file, counted from 1, that was opened, with its name. Nothing is written unless
+/// `telling` is verbose.
+pub fn write_file_opened<W: WriteLines>(
+    telling: Telling,
+    file: usize,
+    name: &str,
+    out: &mut W,
+) -> io::Result<()>
+    ensures told { OnOk result (Appends (W.contents out.old) (W.contents out.new)
+        (if_verbose telling (file_opened_line file name.now))) }
+    ensures failed { OnErr result (W.failed out.new) }
+    ensures kept { W.failed out.old → W.failed out.new }
+{
+    if telling.verbose {
+        write_opened_line(file, name, out)
+    } else {
+        Ok(())
+    }
+}
+
+fn write_opened_line<W: WriteLines>(file: usize, name: &str, out: &mut W) -> io::Result<()>
+    ensures told { OnOk result (Appends (W.contents out.old) (W.contents out.new)
+        (file_opened_line file name.now)) }
+    ensures failed { OnErr result (W.failed out.new) }
+    ensures kept { W.failed out.old → W.failed out.new }
+{
+    write_file_start(file, out)?;
+    write_origin(&Origin::File { name, size: None }, out)?;
+    out.write_all(b": opened\n")
+}
+
+#[tactic(auto, unfolding(crate::specs::MergeLines::file_start))]
+fn write_file_start<W: WriteLines>(file: usize, out: &mut W) -> io::Result<()>
+    ensures told { OnOk result (Appends (W.contents out.old) (W.contents out.new) (file_start file)) }
+    ensures failed { OnErr result (W.failed out.new) }
+    ensures kept { W.failed out.old → W.failed out.new }
+{
+    write!(out, "collectd: merge: file {file}")
+}

@@ -1,8 +1,0 @@
-use Rattle.std.proofs.Common.{take}
-use Rattle.std.specs.List.{flat_map}
-use Rattle.std.specs.Io.KnownBytes.{Appends}
-use Rattle.fault_guide.specs.RunFaults.{run_fault_line}
-use Rattle.fault_guide.proofs.run_explaining.write_run_fault_lines.Given as goal
-
-abbrev pub invariant-loop-fault : goal.invariant-loop-fault
-invariant-loop-fault g l = Appends (g.W.Write.contents l.initial.out) (g.W.Write.contents l.out) (flat_map run_fault_line (take l.fault-index l.faults))

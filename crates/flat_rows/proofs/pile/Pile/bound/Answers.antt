@@ -1,6 +1,0 @@
-use Rattle.std.proofs.Common.{arith}
-use Rattle.flat_rows.proofs.Totals.{seen}
-use Rattle.flat_rows.proofs.pile.Pile.bound.Goals as goal
-
-pub returns : goal.returns
-returns g c = λ q i. omega (arith, c.self.invariant.within q i, seen c.self.inside.buffer.items c.self.inside.runs.items c.args.self.now q i c.self.view_is)

@@ -1,6 +1,0 @@
-use Rattle.flow_merge_laws.proofs.AddedExports.{all_records}
-use Rattle.flow_merge_laws.proofs.laws.exports_add_up_to_all_records.Goals as goal
-
-pub returns : goal.returns
-returns g c = λ limit plan sources lists table hold adds.
-    all_records g.S.Source.seen limit plan g.met.S.Source.ended_is_end sources lists table hold adds

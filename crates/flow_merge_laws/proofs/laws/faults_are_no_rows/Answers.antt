@@ -1,5 +1,0 @@
-use Rattle.flow_merge_laws.proofs.OneRow.{no_row}
-use Rattle.flow_merge_laws.proofs.laws.faults_are_no_rows.Goals as goal
-
-pub returns : goal.returns
-returns c plan r fault row = no_row plan r fault row

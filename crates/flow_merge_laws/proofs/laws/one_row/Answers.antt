@@ -1,5 +1,0 @@
-use Rattle.flow_merge_laws.proofs.OneRow.{one_row}
-use Rattle.flow_merge_laws.proofs.laws.one_row.Goals as goal
-
-pub returns : goal.returns
-returns c plan r a b = one_row plan r a b

@@ -1,0 +1,122 @@
+-- Where a text is no plan.
+use Rattle.std.specs.Prelude.{◌≡◌, ℕ, ◌+◌, ◌==◌, ◌||◌, nat_lt, nat_le, Bool, not, List, [], ◌∷◌, take, codes, count_by, find, Option, Some, None, is_none, Ok, is_err, if◌then◌else◌, string_bytes}
+use Rattle.std.specs.List.{after_last}
+use Rattle.std.specs.Str.{IsValidUpTo}
+use Rattle.toml.specs.Data.{Data, Members, no_members, member, get_member}
+use Rattle.toml.specs.Parse.{parse_document}
+use Rattle.toml.specs.Errors.{IsMemory, IsWithin, span_start}
+use Rattle.ipfix_elements.specs.Names.{element_named}
+use Rattle.flow_plan.specs.declared.fault.PlanTextFault.{PlanTextFault}
+use Rattle.flow_plan.specs.declared.fault.PlanTextFault.TheVariants as faults
+use Rattle.flow_plan.specs.declared.error.PlanKey.{PlanKey}
+use Rattle.flow_plan.specs.declared.error.PlanKey.TheVariants.{IntervalMs, Method, MaxSpread, Keys, Counters}
+use Rattle.flow_plan.specs.declared.error.PlanTextError.{PlanTextError}
+use Rattle.flow_plan.specs.declared.error.PlanTextError.TheVariants.{NotUtf8, NotToml, UnknownField, Missing, WrongKind, UnknownElement, Plan, OutOfMemory}
+use Rattle.flow_plan.specs.PlanTexts.{Fields, fields_of, is_field, required, optional, small_number, method, texts, key_named}
+use Rattle.flow_plan.specs.Blames.{IsPlace}
+
+-- the fault, without its place
+abbrev pub fault_of : PlanTextError → PlanTextFault
+fault_of (NotUtf8 line) = faults.NotToml
+fault_of (NotToml error line column message) = faults.NotToml
+fault_of (UnknownField key) = faults.UnknownField
+fault_of (Missing key) = faults.Missing
+fault_of (WrongKind key) = faults.WrongKind
+fault_of (UnknownElement key text) = faults.UnknownElement
+fault_of (Plan fault place) = faults.Plan fault
+fault_of OutOfMemory = faults.OutOfMemory
+
+abbrev pub key_name : PlanKey → List ℕ
+key_name IntervalMs = codes "interval_ms"
+key_name Method = codes "method"
+key_name MaxSpread = codes "max_spread"
+key_name Keys = codes "keys"
+key_name Counters = codes "counters"
+
+-- ---- lines and columns
+
+abbrev pub newline : ℕ
+newline = 10
+
+-- the line of a place: 1, and 1 more for each newline before it
+abbrev pub line_at : List ℕ → ℕ → ℕ
+line_at octets place = count_by (λ b. b == newline) (take place octets) + 1
+
+-- an octet of UTF-8 that is the first of a character
+abbrev pub begins_character : ℕ → Bool
+begins_character b = nat_lt b 128 || nat_le 192 b
+
+-- the column after octets: 1, and 1 more for each character of their last line
+abbrev pub column_after : List ℕ → ℕ
+column_after octets = count_by begins_character (after_last (λ b. b == newline) octets) + 1
+
+-- the column of a place
+abbrev pub column_at : List ℕ → ℕ → ℕ
+column_at octets place = column_after (take place octets)
+
+-- ---- keys
+
+-- the value at a key of a document
+abbrev pub value_of : PlanKey → Members → Option Data
+value_of key d = get_member (key_name key) d
+
+-- the keys of a document, which ascend
+abbrev pub names : Members → List (List ℕ)
+names no_members = []
+names (member name value rest) = name ∷ names rest
+
+-- the first that plans don't have
+abbrev pub unknown_field : Members → Option (List ℕ)
+unknown_field d = find (λ name. not (is_field name)) (names d)
+
+-- the first in the order of the faults whose value is refused
+abbrev pub refused_key : Members → PlanKey
+refused_key d =
+    if is_err (required small_number (get_member (codes "interval_ms") d)) then IntervalMs
+    else if is_err (required method (get_member (codes "method") d)) then Method
+    else if is_err (optional 4096 small_number (get_member (codes "max_spread") d)) then MaxSpread
+    else if is_err (required texts (get_member (codes "keys") d)) then Keys
+    else Counters
+
+-- ---- texts that name no element
+
+-- the first text that names no key
+abbrev pub no_key_in : List (List ℕ) → Option (List ℕ)
+no_key_in texts = find (λ text. is_none (key_named text)) texts
+
+-- the first text that names no counter
+abbrev pub no_counter_in : List (List ℕ) → Option (List ℕ)
+no_counter_in texts = find (λ text. is_none (element_named text)) texts
+
+abbrev pub unknown_key : Fields → Option (List ℕ)
+unknown_key f = no_key_in f.keys
+
+abbrev pub unknown_counter : Fields → Option (List ℕ)
+unknown_counter f = no_counter_in f.counters
+
+-- the first text that names no element, of the keys and then of the counters
+abbrev pub IsUnknown : Fields → PlanKey → List ℕ → Type 0
+IsUnknown f Keys text = unknown_key f ≡ Some text
+IsUnknown f Counters text = (unknown_key f ≡ None) × (unknown_counter f ≡ Some text)
+IsUnknown f _ text = ⊥
+
+-- ---- what an error tells
+
+-- the key of a document, and the text, at which it is no plan, or what gives its values the fault
+abbrev pub TellsKey : Members → PlanTextError → Type 0
+TellsKey d (UnknownField key) = unknown_field d ≡ Some (string_bytes key)
+TellsKey d (Missing key) = refused_key d ≡ key
+TellsKey d (WrongKind key) = refused_key d ≡ key
+TellsKey d (UnknownElement key text) = (f : Fields) × (fields_of d ≡ Ok f) × IsUnknown f key (string_bytes text)
+TellsKey d (Plan fault place) = (f : Fields) × (fields_of d ≡ Ok f) × IsPlace f fault place
+TellsKey d OutOfMemory = Unit {0}
+TellsKey d _ = ⊥
+
+-- the line at which octets are no UTF-8; the line and the column at which the parser of TOML says that they are no
+-- document; or the key
+abbrev pub Tells : List ℕ → PlanTextError → Type 0
+Tells octets (NotUtf8 line) = (place : ℕ) × IsValidUpTo octets place × (line ≡ line_at octets place)
+Tells octets (NotToml error line column message) =
+    (¬ (IsMemory error)) × IsWithin octets error × (line ≡ line_at octets (span_start error)) × (column ≡ column_at octets (span_start error))
+Tells octets OutOfMemory = Unit {0}
+Tells octets error = (d : Members) × (parse_document octets ≡ Some d) × TellsKey d error

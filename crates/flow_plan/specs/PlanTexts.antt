@@ -1,0 +1,146 @@
+-- The plan that a TOML document says.
+use Rattle.std.specs.Prelude.{ℕ, ◌^◌, ◌==◌, ◌&&◌, nat_lt, Bool, true, List, [], ◌∷◌, codes, pos, Option, Some, None, option_map, option_and_then, if◌then◌else◌, Ok, Err, decimal}
+use Rattle.std.specs.Option.{ok_or}
+use Rattle.std.specs.List.{list_any, before_first, after_first}
+use Rattle.std.specs.Str.{bytes_eq}
+use Rattle.std.specs.Str.Parse.{digits_value}
+use Rattle.toml.specs.Data.{Data, string, integer, Items, no_items, item, as_array, Members, no_members, member, get_member}
+use Rattle.toml.specs.Parse.{parse_document}
+use Rattle.ipfix_wire.specs.declared.specifier.ElementId.{ElementId}
+use Rattle.ipfix_elements.specs.Names.{element_named}
+use Rattle.flow_table.specs.declared.key.Key.{Key}
+use Rattle.flow_table.specs.declared.method.Method.{Method}
+use Rattle.flow_table.specs.declared.method.Method.TheVariants.{Start, End, Mid, Uniform, Proportional}
+use Rattle.flow_table.specs.declared.plan_fault.PlanFault.{PlanFault}
+use Rattle.flow_table.specs.Plans.{PlanValue, plan_value, first_fault_of}
+use Rattle.flow_plan.specs.declared.fault.PlanTextFault.TheVariants as faults
+use Rattle.flow_plan.specs.Faults.{Read, ◌>>=◌}
+
+-- ---- the document's keys
+
+-- a plan has these and no others
+abbrev pub is_field : List ℕ → Bool
+is_field name =
+    list_any (bytes_eq name) (codes "interval_ms" ∷ codes "method" ∷ codes "max_spread" ∷ codes "keys" ∷ codes "counters" ∷ [])
+
+abbrev pub has_known_fields : Members → Bool
+has_known_fields no_members = true
+has_known_fields (member name value rest) = is_field name && has_known_fields rest
+
+-- ---- the values of keys
+
+-- an integer from 0 to 2^32 - 1
+abbrev pub small_number : Data → Option ℕ
+small_number (integer (pos n)) = if nat_lt n (2 ^ 32) then Some n else None
+small_number _ = None
+
+abbrev pub method_named : List ℕ → Option Method
+method_named name =
+    if bytes_eq name (codes "start") then Some Start
+    else if bytes_eq name (codes "end") then Some End
+    else if bytes_eq name (codes "mid") then Some Mid
+    else if bytes_eq name (codes "uniform") then Some Uniform
+    else if bytes_eq name (codes "proportional") then Some Proportional
+    else None
+
+abbrev pub method : Data → Option Method
+method (string name) = method_named name
+method _ = None
+
+-- items that are texts and nothing else
+abbrev pub texts_in : Items → Option (List (List ℕ))
+texts_in no_items = Some []
+texts_in (item (string text) rest) = option_map (λ texts. text ∷ texts) (texts_in rest)
+texts_in _ = None
+
+-- an array of texts
+abbrev pub texts : Data → Option (List (List ℕ))
+texts value = option_and_then texts_in (as_array value)
+
+-- a value that has to be there
+abbrev pub required : {X : Type 0} → (Data → Option X) → Option Data → Read X
+required kind found = ok_or found faults.Missing >>= λ value. ok_or (kind value) faults.WrongKind
+
+-- a value that may be missing, and is then this
+abbrev pub optional : {X : Type 0} → X → (Data → Option X) → Option Data → Read X
+optional default kind None = Ok default
+optional default kind (Some value) = ok_or (kind value) faults.WrongKind
+
+-- ---- the names of elements
+
+-- a decimal number from 0 to 255, without a sign or leading zeros
+abbrev pub bits_in : List ℕ → Option ℕ
+bits_in text = let bits = digits_value 10 text in if bytes_eq text (decimal bits) && nat_lt bits 256 then Some bits else None
+
+abbrev pub slash : ℕ
+slash = 47
+
+abbrev pub is_slash : ℕ → Bool
+is_slash b = b == slash
+
+abbrev pub whole_key : ElementId → Key
+whole_key element = record { element = element; prefix = None }
+
+abbrev pub prefix_key : ElementId → ℕ → Key
+prefix_key element bits = record { element = element; prefix = Some bits }
+
+-- NAME, or NAME/BITS
+abbrev pub key_named : List ℕ → Option Key
+key_named text =
+    if list_any is_slash text
+    then option_and_then (λ element. option_map (prefix_key element) (bits_in (after_first is_slash text))) (element_named (before_first is_slash text))
+    else option_map whole_key (element_named text)
+
+-- what each of a list has, if each has something
+abbrev pub all_of : {A X : Type 0} → (A → Option X) → List A → Option (List X)
+all_of f [] = Some []
+all_of f (y ∷ ys) = option_and_then (λ x. option_map (λ xs. x ∷ xs) (all_of f ys)) (f y)
+
+-- the keys that texts name
+abbrev pub keys_in : List (List ℕ) → Read (List Key)
+keys_in texts = ok_or (all_of key_named texts) faults.UnknownElement
+
+-- the counters that texts name
+abbrev pub counters_in : List (List ℕ) → Read (List ElementId)
+counters_in texts = ok_or (all_of element_named texts) faults.UnknownElement
+
+-- ---- the plan
+
+-- what stands at the keys of a document
+pub record Fields : Type 0 where
+  pub length : ℕ
+  pub method : Method
+  pub max_spread : ℕ
+  pub keys : List (List ℕ)
+  pub counters : List (List ℕ)
+
+abbrev pub fields : ℕ → Method → ℕ → List (List ℕ) → List (List ℕ) → Fields
+fields length method max_spread keys counters = record { length = length; method = method; max_spread = max_spread; keys = keys; counters = counters }
+
+-- the keys of a document in the order of the faults
+abbrev pub fields_of : Members → Read Fields
+fields_of d =
+    required small_number (get_member (codes "interval_ms") d) >>= λ length.
+    required method (get_member (codes "method") d) >>= λ method.
+    optional 4096 small_number (get_member (codes "max_spread") d) >>= λ max_spread.
+    required texts (get_member (codes "keys") d) >>= λ keys.
+    required texts (get_member (codes "counters") d) >>= λ counters.
+    Ok (fields length method max_spread keys counters)
+
+-- a plan that no fault fits
+abbrev pub checked : PlanValue → Option PlanFault → Read PlanValue
+checked plan None = Ok plan
+checked plan (Some fault) = Err (faults.Plan fault)
+
+abbrev pub plan_of_fields : Fields → Read PlanValue
+plan_of_fields f =
+    keys_in f.keys >>= λ keys.
+    counters_in f.counters >>= λ counters.
+    let plan = plan_value f.length f.method keys counters f.max_spread in checked plan (first_fault_of plan)
+
+abbrev pub plan_of_document : Members → Read PlanValue
+plan_of_document d = if has_known_fields d then fields_of d >>= plan_of_fields else Err faults.UnknownField
+
+-- the plan of a text, or its first fault
+abbrev pub plan_of_text : List ℕ → Read PlanValue
+plan_of_text text = ok_or (parse_document text) faults.NotToml >>= plan_of_document

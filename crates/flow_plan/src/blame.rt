@@ -1,0 +1,130 @@
+//! What makes no plan of the values of a document.
+
+ghost use Rattle.std.specs.Prelude.{◌≡◌, ◌≢◌, ◌<◌, Some, IfOk, length};
+ghost use Rattle.std.specs.List.{position_from};
+ghost use Rattle.flow_table.specs.Plans.{repeat_fault};
+ghost use Rattle.flow_table.specs.PlansUnder.{first_fault_under};
+ghost use Rattle.flow_plan.specs.Blames.{is_unfit_prefix};
+ghost use Rattle.flow_plan.specs.BlamesUnder.{is_unfit_counter_under, is_unfit_key_under, IsPlaceUnder, NamesAllUnder};
+ghost use Rattle.flow_plan.specs.Shown.{shown, shown_all, IsTextAt};
+
+use crate::error::{PlanKey, PlanPlace};
+use crate::fields::Fields;
+use crate::repeats::first_repeat;
+use element_registry::Elements;
+use flow_table::{Key, PlanFault, is_counter, is_key, is_prefix_of};
+use ipfix_wire::ElementId;
+use std::alloc::{AllocError, Global};
+
+/// What gives the values of a document this fault of a plan, where their texts name these keys and
+/// counters.
+pub fn place_of(
+    alloc: Global,
+    elements: &Elements,
+    fields: &Fields,
+    keys: &[Key],
+    counters: &[ElementId],
+    fault: PlanFault,
+) -> Result<PlanPlace, AllocError>
+    requires named { NamesAllUnder elements.now (shown fields.now) keys.now counters.now }
+    requires first { fault ≢ PlanFault.OutOfMemory
+        → first_fault_under elements.now fields.now.length keys.now counters.now
+        fields.now.max_spread ≡ Some fault }
+    ensures { IfOk result (IsPlaceUnder elements.now (shown fields.now) fault) }
+{
+    match fault {
+        PlanFault::Length => Ok(PlanPlace::Value {
+            key: PlanKey::IntervalMs,
+        }),
+        PlanFault::Spread => Ok(PlanPlace::Value {
+            key: PlanKey::MaxSpread,
+        }),
+        PlanFault::KeyCount => Ok(PlanPlace::Count {
+            key: PlanKey::Keys,
+            count: fields.keys.len(),
+        }),
+        PlanFault::CounterCount => Ok(PlanPlace::Count {
+            key: PlanKey::Counters,
+            count: fields.counters.len(),
+        }),
+        PlanFault::KeyKind => {
+            let index = unfit_key(elements, keys).unwrap();
+            text_at(alloc, PlanKey::Keys, &fields.keys, index)
+        }
+        PlanFault::Prefix => {
+            let index = unfit_prefix(keys).unwrap();
+            text_at(alloc, PlanKey::Keys, &fields.keys, index)
+        }
+        PlanFault::CounterKind => {
+            let index = unfit_counter(elements, counters).unwrap();
+            text_at(alloc, PlanKey::Counters, &fields.counters, index)
+        }
+        PlanFault::Repeated => repeated_text(alloc, elements, fields, keys, counters),
+        PlanFault::OutOfMemory => Err(AllocError),
+    }
+}
+
+// The first text whose element stands again.
+fn repeated_text(
+    alloc: Global,
+    elements: &Elements,
+    fields: &Fields,
+    keys: &[Key],
+    counters: &[ElementId],
+) -> Result<PlanPlace, AllocError>
+    requires named { NamesAllUnder elements.now (shown fields.now) keys.now counters.now }
+    requires repeated { repeat_fault keys.now counters.now ≡ Some PlanFault.Repeated }
+    ensures { IfOk result (IsPlaceUnder elements.now (shown fields.now) PlanFault.Repeated) }
+{
+    let index = first_repeat(alloc, keys, counters)?.unwrap();
+    if index < keys.len() {
+        text_at(alloc, PlanKey::Keys, &fields.keys, index)
+    } else {
+        text_at(
+            alloc,
+            PlanKey::Counters,
+            &fields.counters,
+            index - keys.len(),
+        )
+    }
+}
+
+// The text at this place among those of a key.
+fn text_at(
+    alloc: Global,
+    key: PlanKey,
+    texts: &[&str],
+    index: usize,
+) -> Result<PlanPlace, AllocError>
+    requires { index < length texts.now }
+    ensures { IfOk result (IsTextAt key (shown_all texts.now) index) }
+{
+    Ok(PlanPlace::Text {
+        key,
+        text: String::from_str(alloc, texts[index])?,
+    })
+}
+
+// The place of the first key whose element may be none.
+fn unfit_key(elements: &Elements, keys: &[Key]) -> Option<usize>
+    ensures { result ≡ position_from (is_unfit_key_under elements.now) 0 keys.now }
+{
+    keys.iter().position(|key| !is_key(elements, key.element))
+}
+
+// The place of the first key that cannot have its prefix.
+fn unfit_prefix(keys: &[Key]) -> Option<usize>
+    ensures { result ≡ position_from is_unfit_prefix 0 keys.now }
+{
+    keys.iter()
+        .position(|key| !is_prefix_of(key.element, key.prefix))
+}
+
+// The place of the first element that may be no counter.
+fn unfit_counter(elements: &Elements, counters: &[ElementId]) -> Option<usize>
+    ensures { result ≡ position_from (is_unfit_counter_under elements.now) 0 counters.now }
+{
+    counters
+        .iter()
+        .position(|counter| !is_counter(elements, *counter))
+}

@@ -1,0 +1,147 @@
+//! The values of a document's keys.
+
+ghost use Rattle.std.specs.Prelude.{◌≡◌, string_bytes, IfOk};
+ghost use Rattle.std.specs.Option.{option_map};
+ghost use Rattle.toml.specs.View.{table_view, view};
+ghost use Rattle.flow_plan.specs.PlanTexts.{is_field as is_field_name, fields_of, required, optional, small_number, method, texts};
+ghost use Rattle.flow_plan.specs.Places.{refused_key, unknown_field as unknown_field_of, value_of};
+ghost use Rattle.flow_plan.specs.Shown.{shown, texts_of, GivesOr, IsOfKey};
+
+use crate::error::{PlanKey, PlanTextError};
+use flow_table::{MAX_SPREAD, Method};
+use std::alloc::{AllocError, Global};
+use toml::{Table, Value};
+
+/// What a document says of a plan.
+#[derive(Drop)]
+pub struct Fields<'a> {
+    pub length: u32,
+    pub method: Method,
+    pub max_spread: u32,
+    pub keys: Vec<&'a str>,
+    pub counters: Vec<&'a str>,
+}
+
+/// The first key of a document that plans don't have.
+pub fn unknown_field(table: &Table) -> Option<&String>
+    ensures { option_map (λ name. string_bytes name.now) result
+        ≡ unknown_field_of (table_view table.now) }
+{
+    table.keys().find(|name| !is_field(name.as_str()))
+}
+
+fn is_field(name: &str) -> bool
+    ensures { result ≡ is_field_name name.now }
+{
+    matches!(
+        name,
+        "interval_ms" | "method" | "max_spread" | "keys" | "counters"
+    )
+}
+
+/// The values of a document's keys, or the first fault: for each key, in their order, `Missing` and
+/// `WrongKind`.
+pub fn read_fields(alloc: Global, table: &Table) -> Result<Fields<'_>, PlanTextError>
+    ensures { GivesOr shown (IsOfKey (refused_key (table_view table.now))) result
+        (fields_of (table_view table.now)) }
+{
+    let length = number_at(table, PlanKey::IntervalMs)?;
+    let method = method_at(table)?;
+    let max_spread = max_spread(table)?;
+    let keys = texts_at(alloc, table, PlanKey::Keys)?;
+    let counters = texts_at(alloc, table, PlanKey::Counters)?;
+    Ok(Fields {
+        length,
+        method,
+        max_spread,
+        keys,
+        counters,
+    })
+}
+
+fn value_at(table: &Table, key: PlanKey) -> Option<&Value>
+    ensures { option_map (λ value. view value.now) result ≡ value_of key (table_view table.now) }
+{
+    table.get(key.name())
+}
+
+// The number at a key that has to be there.
+fn number_at(table: &Table, key: PlanKey) -> Result<u32, PlanTextError>
+    ensures { GivesOr (λ number. number) (IsOfKey key) result
+        (required small_number (value_of key (table_view table.now))) }
+{
+    match value_at(table, key) {
+        Some(value) => small_number_in(value).ok_or(PlanTextError::WrongKind { key }),
+        None => Err(PlanTextError::Missing { key }),
+    }
+}
+
+// The most intervals that a flow may cover: a value that may be missing.
+fn max_spread(table: &Table) -> Result<u32, PlanTextError>
+    ensures { GivesOr (λ number. number) (IsOfKey PlanKey.MaxSpread) result
+        (optional 4096 small_number (value_of PlanKey.MaxSpread (table_view table.now))) }
+{
+    let key = PlanKey::MaxSpread;
+    match value_at(table, key) {
+        Some(value) => small_number_in(value).ok_or(PlanTextError::WrongKind { key }),
+        None => Ok(MAX_SPREAD),
+    }
+}
+
+fn method_at(table: &Table) -> Result<Method, PlanTextError>
+    ensures { GivesOr (λ method. method) (IsOfKey PlanKey.Method) result
+        (required method (value_of PlanKey.Method (table_view table.now))) }
+{
+    let key = PlanKey::Method;
+    match value_at(table, key) {
+        Some(value) => method_in(value).ok_or(PlanTextError::WrongKind { key }),
+        None => Err(PlanTextError::Missing { key }),
+    }
+}
+
+fn texts_at(alloc: Global, table: &Table, key: PlanKey) -> Result<Vec<&str>, PlanTextError>
+    ensures { GivesOr texts_of (IsOfKey key) result
+        (required texts (value_of key (table_view table.now))) }
+{
+    match value_at(table, key) {
+        Some(value) => texts_in(alloc, value)?.ok_or(PlanTextError::WrongKind { key }),
+        None => Err(PlanTextError::Missing { key }),
+    }
+}
+
+// An integer from 0 to 2^32 - 1.
+fn small_number_in(value: &Value) -> Option<u32>
+    ensures { result ≡ small_number (view value.now) }
+{
+    u32::try_from(value.as_integer()?).ok()
+}
+
+fn method_in(value: &Value) -> Option<Method>
+    ensures { result ≡ method (view value.now) }
+{
+    match value.as_str() {
+        Some("start") => Some(Method::Start),
+        Some("end") => Some(Method::End),
+        Some("mid") => Some(Method::Mid),
+        Some("uniform") => Some(Method::Uniform),
+        Some("proportional") => Some(Method::Proportional),
+        _ => None,
+    }
+}
+
+// An array of texts alone.
+fn texts_in(alloc: Global, value: &Value) -> Result<Option<Vec<&str>>, AllocError>
+    ensures { IfOk result (λ found. option_map texts_of found ≡ texts (view value.now)) }
+{
+    let Some(values) = value.as_array() else {
+        return Ok(None);
+    };
+    let mut texts = Vec::new(alloc);
+    for value in values.as_slice() {
+        match value.as_str() {
+            Some(text) => texts.push(text)?,
+            None => return Ok(None),
+        }
+    }
+    Ok(Some(texts))
+}

@@ -1,0 +1,92 @@
+//! The elements that texts name.
+
+ghost use Rattle.std.specs.Prelude.{◌≡◌};
+ghost use Rattle.flow_plan.specs.PlacesUnder.{no_key_under, no_counter_under};
+ghost use Rattle.flow_plan.specs.PlanTexts.{bits_in};
+ghost use Rattle.flow_plan.specs.PlanTextsUnder.{counters_under, key_under, keys_under};
+ghost use Rattle.flow_plan.specs.Shown.{shown_all, GivesOr, IsOfText};
+
+use crate::error::{PlanKey, PlanTextError};
+use element_registry::Elements;
+use flow_table::Key;
+use ipfix_wire::ElementId;
+use itoa::Buffer;
+use std::alloc::Global;
+
+/// The keys that texts name.
+pub fn keys_named(
+    alloc: Global,
+    elements: &Elements,
+    texts: &[&str],
+) -> Result<Vec<Key>, PlanTextError>
+    ensures { GivesOr (λ keys. keys.items)
+        (IsOfText PlanKey.Keys (no_key_under elements.now (shown_all texts.now)))
+        result (keys_under elements.now (shown_all texts.now)) }
+{
+    let mut keys = Vec::new(alloc);
+    for text in texts {
+        match key_named(elements, text) {
+            Some(key) => keys.push(key)?,
+            None => {
+                return Err(PlanTextError::UnknownElement {
+                    key: PlanKey::Keys,
+                    text: String::from_str(alloc, text)?,
+                });
+            }
+        }
+    }
+    Ok(keys)
+}
+
+/// The counters that texts name.
+pub fn counters_named(
+    alloc: Global,
+    elements: &Elements,
+    texts: &[&str],
+) -> Result<Vec<ElementId>, PlanTextError>
+    ensures { GivesOr (λ counters. counters.items)
+        (IsOfText PlanKey.Counters (no_counter_under elements.now (shown_all texts.now)))
+        result (counters_under elements.now (shown_all texts.now)) }
+{
+    let mut counters = Vec::new(alloc);
+    for text in texts {
+        match elements.by_name(text) {
+            Some(element) => counters.push(element)?,
+            None => {
+                return Err(PlanTextError::UnknownElement {
+                    key: PlanKey::Counters,
+                    text: String::from_str(alloc, text)?,
+                });
+            }
+        }
+    }
+    Ok(counters)
+}
+
+// A key is NAME, or NAME/BITS.
+fn key_named(elements: &Elements, text: &str) -> Option<Key>
+    ensures { result ≡ key_under elements.now text.now }
+{
+    match text.split_once('/') {
+        None => Some(Key {
+            element: elements.by_name(text)?,
+            prefix: None,
+        }),
+        Some((name, bits)) => Some(Key {
+            element: elements.by_name(name)?,
+            prefix: Some(prefix_bits(bits)?),
+        }),
+    }
+}
+
+// A decimal number from 0 to 255, without a sign or leading zeros.
+fn prefix_bits(text: &str) -> Option<u8>
+    ensures { result ≡ bits_in text.now }
+{
+    let bits = text.parse::<u8>().ok()?;
+    if Buffer::new().format(bits) == text {
+        Some(bits)
+    } else {
+        None
+    }
+}

@@ -1,0 +1,163 @@
+//! Reading a plan.
+
+ghost use Rattle.std.specs.Prelude.{◌≡◌, ◌≢◌, Ok, Err, IfOk, IfErr};
+ghost use Rattle.flow_table.specs.Plans.{IsPlan};
+ghost use Rattle.std.specs.Str.{IsUtf8};
+ghost use Rattle.toml.specs.View.{table_view};
+ghost use Rattle.flow_plan.specs.PlanTexts.{plan_of_text};
+ghost use Rattle.flow_plan.specs.PlanTextsUnder.{plan_of_text_under, plan_of_document_under, plan_of_fields_under};
+ghost use Rattle.flow_plan.specs.Places.{Tells, fault_of};
+ghost use Rattle.flow_plan.specs.PlacesUnder.{TellsUnder, TellsKeyUnder};
+ghost use Rattle.flow_plan.specs.Shown.{shown, GivesOr, IsOfValues};
+
+use crate::blame::place_of;
+use crate::error::PlanTextError;
+use crate::fault::PlanTextFault;
+use crate::fields::{Fields, read_fields, unknown_field};
+use crate::lines::{column_at, line_at};
+use crate::named::{counters_named, keys_named};
+use element_registry::Elements;
+use flow_table::Plan;
+use std::alloc::Global;
+use std::str;
+use toml::Table;
+
+/// The plan of a TOML document, or the first fault that fits it, in this order: `NotToml`;
+/// `UnknownField`, a key that is not listed below; then for each key in the order of the list
+/// `Missing` and `WrongKind`; then `UnknownElement`; then `Plan`, with the fault of
+/// [`Plan::new`](flow_table::Plan::new). `OutOfMemory` may come in place of any of them.
+///
+/// | Key | Value |
+/// |---|---|
+/// | `interval_ms` | the length of an interval in milliseconds: an integer, 0 to 4294967295 |
+/// | `method` | `"start"`, `"end"`, `"mid"`, `"uniform"` or `"proportional"` |
+/// | `max_spread` | an integer, 0 to 4294967295; 4096 if it is missing |
+/// | `keys` | an array of names of elements, each alone or as `NAME/BITS` with a prefix of 0 to 255 bits |
+/// | `counters` | an array of names of elements |
+pub fn read_plan(alloc: Global, text: &str) -> Result<Plan, PlanTextFault>
+    ensures ok { IfOk result (λ plan. plan_of_text text.now ≡ Ok plan) }
+    ensures fault { IfErr result (λ fault. fault ≢ PlanTextFault.OutOfMemory
+        → plan_of_text text.now ≡ Err fault) }
+    // No fault fits a plan that was read.
+    ensures sound { IfOk result IsPlan }
+{
+    let elements = Elements::built_in(alloc);
+    read_plan_under(alloc, &elements, text)
+}
+
+/// As [`read_plan`], where the texts of `keys` and `counters` may name elements of files, too, and
+/// the faults of a plan are those of [`Plan::under`](flow_table::Plan::under).
+pub fn read_plan_under(
+    alloc: Global,
+    elements: &Elements,
+    text: &str,
+) -> Result<Plan, PlanTextFault>
+    ensures ok { IfOk result (λ plan. plan_of_text_under elements.now text.now ≡ Ok plan) }
+    ensures fault { IfErr result (λ fault. fault ≢ PlanTextFault.OutOfMemory
+        → plan_of_text_under elements.now text.now ≡ Err fault) }
+    // No fault fits a plan that was read.
+    ensures sound { IfOk result IsPlan }
+{
+    match read_text(alloc, elements, text) {
+        Ok(plan) => Ok(plan),
+        Err(error) => Err(error.fault()),
+    }
+}
+
+/// As [`read_plan`], of octets that are to be UTF-8, and with the place of the fault: the line at
+/// which they are no UTF-8; the line and the column at which they are no TOML; or the key, and for
+/// `UnknownElement` the text. For `Plan` it is the key whose value is out of its range, the number of
+/// elements, or the first text that has the fault. Of several keys that plans don't have it is the one
+/// that comes first in the order of octets.
+pub fn read_plan_octets(alloc: Global, octets: &[u8]) -> Result<Plan, PlanTextError>
+    ensures ok { IfOk result (λ plan. IsUtf8 octets.now × (plan_of_text octets.now ≡ Ok plan)) }
+    ensures fault { IfErr result (λ error. fault_of error ≢ PlanTextFault.OutOfMemory
+        → IsUtf8 octets.now → plan_of_text octets.now ≡ Err (fault_of error)) }
+    ensures not_utf8 { IfErr result (λ error. ¬ (IsUtf8 octets.now)
+        → fault_of error ≡ PlanTextFault.NotToml) }
+    ensures place { IfErr result (Tells octets.now) }
+    // No fault fits a plan that was read.
+    ensures sound { IfOk result IsPlan }
+{
+    let elements = Elements::built_in(alloc);
+    read_plan_octets_under(alloc, &elements, octets)
+}
+
+/// As [`read_plan_octets`], where the texts of `keys` and `counters` may name elements of files, too,
+/// and the faults of a plan are those of [`Plan::under`](flow_table::Plan::under).
+pub fn read_plan_octets_under(
+    alloc: Global,
+    elements: &Elements,
+    octets: &[u8],
+) -> Result<Plan, PlanTextError>
+    ensures ok { IfOk result (λ plan. IsUtf8 octets.now
+        × (plan_of_text_under elements.now octets.now ≡ Ok plan)) }
+    ensures fault { IfErr result (λ error. fault_of error ≢ PlanTextFault.OutOfMemory
+        → IsUtf8 octets.now
+        → plan_of_text_under elements.now octets.now ≡ Err (fault_of error)) }
+    ensures not_utf8 { IfErr result (λ error. ¬ (IsUtf8 octets.now)
+        → fault_of error ≡ PlanTextFault.NotToml) }
+    ensures place { IfErr result (TellsUnder elements.now octets.now) }
+    // No fault fits a plan that was read.
+    ensures sound { IfOk result IsPlan }
+{
+    match str::from_utf8(octets) {
+        Ok(text) => read_text(alloc, elements, text),
+        Err(error) => Err(PlanTextError::NotUtf8 {
+            line: line_at(octets, error.valid_up_to()),
+        }),
+    }
+}
+
+fn read_text(alloc: Global, elements: &Elements, text: &str) -> Result<Plan, PlanTextError>
+    ensures { GivesOr (λ plan. plan) (TellsUnder elements.now text.now) result
+        (plan_of_text_under elements.now text.now) }
+{
+    let error = match toml::table_from_str(alloc, text) {
+        Ok(table) => return read_document(alloc, elements, &table),
+        Err(error) => error,
+    };
+    match error.span() {
+        Some(span) => Err(PlanTextError::NotToml {
+            message: String::from_str(alloc, error.message())?,
+            line: line_at(text.as_bytes(), span.start),
+            column: column_at(text.as_bytes(), span.start),
+            error,
+        }),
+        None => Err(PlanTextError::OutOfMemory),
+    }
+}
+
+fn read_document(alloc: Global, elements: &Elements, table: &Table) -> Result<Plan, PlanTextError>
+    ensures { GivesOr (λ plan. plan) (TellsKeyUnder elements.now (table_view table.now)) result
+        (plan_of_document_under elements.now (table_view table.now)) }
+{
+    if let Some(key) = unknown_field(table) {
+        return Err(PlanTextError::UnknownField { key: key.clone()? });
+    }
+    let fields = read_fields(alloc, table)?;
+    make_plan(alloc, elements, &fields)
+}
+
+fn make_plan(alloc: Global, elements: &Elements, fields: &Fields) -> Result<Plan, PlanTextError>
+    ensures { GivesOr (λ plan. plan) (IsOfValues elements.now (shown fields.now)) result
+        (plan_of_fields_under elements.now (shown fields.now)) }
+{
+    let keys = keys_named(alloc, elements, &fields.keys)?;
+    let counters = counters_named(alloc, elements, &fields.counters)?;
+    match Plan::under(
+        alloc,
+        elements,
+        fields.length,
+        fields.method,
+        &keys,
+        &counters,
+        fields.max_spread,
+    ) {
+        Ok(plan) => Ok(plan),
+        Err(fault) => Err(PlanTextError::Plan {
+            fault,
+            place: place_of(alloc, elements, fields, &keys, &counters, fault)?,
+        }),
+    }
+}

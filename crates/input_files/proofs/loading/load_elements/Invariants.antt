@@ -1,0 +1,17 @@
+use Rattle.std.proofs.Common.{ℕ, List, [], ◌++◌, length, map, Option}
+use Rattle.report_writing.specs.Told.{AreTold}
+use Rattle.element_registry.specs.Registries.{Known}
+use Rattle.input_files.specs.Loaded.{Loads}
+use Rattle.input_files.proofs.loading.load_elements.Given as goal
+
+-- what is told of the files that are left is told behind what was told so far
+abbrev pub invariant-loop-paths : goal.invariant-loop-paths
+invariant-loop-paths g l = record {
+  loads : (told : List ℕ) × AreTold (g.E.WriteLines.contents l.initial.err) (g.E.WriteLines.contents l.err) (g.E.WriteLines.failed l.err) told
+      × ((result : Option (List Known)) (lines : List ℕ) → Loads (g.T.ReadText.has l.files) (g.T.ReadText.refuses l.files) l.telling l.elements (map (λ path. path.now) l.paths) result lines
+      → Loads (g.T.ReadText.has l.files) (g.T.ReadText.refuses l.files) l.telling [] (map (λ path. path.now) l.initial.paths) result (told ++ lines));
+  kept : g.E.WriteLines.failed l.initial.err → g.E.WriteLines.failed l.err;
+}
+
+abbrev pub decreases-loop-paths : goal.decreases-loop-paths
+decreases-loop-paths g l = length l.paths

@@ -1,0 +1,82 @@
+//! Reading files of elements.
+
+ghost use Rattle.std.specs.Prelude.{ℕ, List, [], map, IfNone, IfSome};
+ghost use Rattle.report_writing.specs.Told.{AreTold};
+ghost use Rattle.input_files.specs.FileLines.{unknown_type_lines};
+ghost use Rattle.input_files.specs.Loaded.{Adds, Loads, Stops};
+
+use crate::file_lines::{write_error, write_unknown_type};
+use crate::reading::ReadText;
+use element_registry::{Elements, add_file};
+use report_writing::{Telling, WriteLines, write_not_had_because};
+use std::alloc::Global;
+
+/// Reads files of elements in their order, as [`add_file`] does. If one can't be had, or has a fault, the answer is
+/// `None`, no file behind it is read, and `err` has a line that says so. A file that has rows with types that are
+/// not known has a line, too, of the first of these rows.
+pub fn load_elements<T: ReadText, E: WriteLines>(
+    files: &T,
+    alloc: Global,
+    mut paths: &[&str],
+    telling: Telling,
+    err: &mut E,
+) -> Option<Elements>
+    // The files were added one after another, and exactly what there is to tell of them was told.
+    ensures loads { (lines : List ℕ) × Loads (T.has files.now) (T.refuses files.now) telling []
+        (map (λ path. path.now) paths.entry.now) result lines
+        × AreTold (E.contents err.old) (E.contents err.new) (E.failed err.new) lines }
+    ensures kept { E.failed err.old → E.failed err.new }
+{
+    let mut elements = Elements::built_in(alloc);
+    while let [path, rest @ ..] = paths {
+        elements = add_path(files, alloc, elements, path, telling, err)?;
+        paths = rest;
+    }
+    Some(elements)
+}
+
+// Adds the file of a path.
+fn add_path<T: ReadText, E: WriteLines>(
+    files: &T,
+    alloc: Global,
+    elements: Elements,
+    path: &str,
+    telling: Telling,
+    err: &mut E,
+) -> Option<Elements>
+    ensures adds { IfSome result (λ more. (lines : List ℕ)
+        × Adds (T.has files.now) elements path.now more lines
+        × AreTold (E.contents err.old) (E.contents err.new) (E.failed err.new) lines) }
+    ensures stops { IfNone result ((lines : List ℕ)
+        × Stops (T.has files.now) (T.refuses files.now) telling elements path.now lines
+        × AreTold (E.contents err.old) (E.contents err.new) (E.failed err.new) lines) }
+    ensures kept { E.failed err.old → E.failed err.new }
+{
+    let octets = match files.read_text(alloc, path) {
+        Ok(octets) => octets,
+        Err(reason) => {
+            let _ = write_not_had_because(telling, "open", path, reason, err);
+            return None;
+        }
+    };
+    match add_file(alloc, elements, &octets) {
+        Ok(added) => {
+            tell_unknown_type(path, added.unknown_type, err);
+            Some(added.elements)
+        }
+        Err(error) => {
+            let _ = write_error(path, &error, err);
+            None
+        }
+    }
+}
+
+fn tell_unknown_type<E: WriteLines>(path: &str, unknown_type: Option<u64>, err: &mut E)
+    ensures told { AreTold (E.contents err.old) (E.contents err.new) (E.failed err.new)
+        (unknown_type_lines path.now unknown_type) }
+    ensures kept { E.failed err.old → E.failed err.new }
+{
+    if let Some(line) = unknown_type {
+        let _ = write_unknown_type(path, line, err);
+    }
+}

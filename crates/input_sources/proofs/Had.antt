@@ -1,0 +1,42 @@
+-- Sources that came one after another.
+use Rattle.std.proofs.Common.{◌≡◌, ℕ, ◌+◌, ◌<◌, ◌≤◌, List, [], ◌∷◌, ◌++◌, length, take, get_or, All, Option, None, Some, refl, sym, ap, ◌∙◌, subst, append_assoc, arith}
+use Rattle.std.proofs.lemmas.List.{length-append, take_more, take_all}
+use Rattle.std.proofs.lemmas.List.Elements.{All-push}
+use Rattle.std.proofs.lemmas.Slice.Zip.{all_zipped_more}
+use Rattle.std.specs.List.{AllZip}
+use Rattle.input_sources.specs.Had.{Came}
+
+pub Came-nil : {S : Type 0} (a : Option (List S)) → Came a a []
+Came-nil None = tt
+Came-nil (Some all) = refl
+
+pub Came-trans : {S : Type 0} (a b c : Option (List S)) (xs ys : List S) → Came a b xs → Came b c ys → Came a c (xs ++ ys)
+Came-trans None b c xs ys first then = tt
+Came-trans (Some all) None c xs ys first then = absurd first
+Came-trans (Some all) (Some left) None xs ys first then = absurd then
+Came-trans (Some all) (Some left) (Some rest) xs ys first then = first ∙ ap (λ l. xs ++ l) then ∙ sym (append_assoc xs ys rest)
+
+-- one more
+pub one_came : {S : Type 0} (a b c : Option (List S)) (had new : List S) (source : S) → new ≡ had ++ source ∷ [] → Came a b had → Came b c (source ∷ []) → Came a c new
+one_came a b c had new source is first one = rw is (Came-trans a b c had (source ∷ []) first one)
+
+-- ---- sources that are opened by their paths
+
+module _ {P S : Type 0} (opens : P → S → Type 0) where
+  -- one more path
+  pub one_opened : (paths : List P) (i : ℕ) (path : P) (had new : List S) (source : S) → i < length paths → new ≡ had ++ source ∷ [] → AllZip opens (take i paths) had → opens (get_or paths i path) source
+      → AllZip opens (take (i + 1) paths) new
+  one_opened paths i path had new source less is first one =
+      rw is (subst (λ (ps : List P). AllZip opens ps (had ++ source ∷ [])) (sym (take_more paths i path less)) (all_zipped_more opens (take i paths) had (get_or paths i path) source first one))
+
+  -- all of them
+  pub all_opened : (paths : List P) (i : ℕ) (had : List S) → length paths ≤ i → AllZip opens (take i paths) had → AllZip opens paths had
+  all_opened paths i had all first = subst (λ (ps : List P). AllZip opens ps had) (take_all i paths all) first
+
+-- ---- sources that are accepted
+
+pub one_longer : {X : Type 0} (old new : List X) (x : X) (n : ℕ) → new ≡ old ++ x ∷ [] → length old ≡ n → length new ≡ n + 1
+one_longer old new x n is count = let both = length-append old (x ∷ []) in rw is (omega (arith, both, count))
+
+pub one_more : {X : Type 0} (P : X → Type 0) (old new : List X) (x : X) → new ≡ old ++ x ∷ [] → All P old → P x → All P new
+one_more P old new x is all one = rw is (All-push P old x all one)

@@ -1,0 +1,75 @@
+-- Sources that were told one after another.
+use Rattle.std.proofs.Common.{◌≡◌, ℕ, ◌+◌, ◌<◌, List, [], ◌∷◌, ◌++◌, suc, length, take, drop, get_or, map, take-append-drop, drop-cons, Option, None, Some, Result, Ok, Err, IfSome, sym, ap, ◌∙◌, subst}
+use Rattle.std.specs.Prelude.{IfErr, OnOk, OnErr}
+use Rattle.std.specs.Result.{IsErrAnd}
+use Rattle.std.specs.List.{AllZip}
+use Rattle.std.specs.Io.KnownBytes.{Appends}
+use Rattle.std.proofs.lemmas.List.{map-append}
+use Rattle.report_writing.specs.OpeningLines.{if_verbose, opened_line}
+use Rattle.report_writing.specs.Told.{AreTold}
+use Rattle.report_writing.specs.declared.origin.Origin.{Origin}
+use Rattle.report_writing.specs.declared.telling.Telling.{Telling}
+use Rattle.report_writing.proofs.LinesTold.{none_told, told_then}
+use Rattle.report_writing.proofs.Numbering.{numbered-last}
+use Rattle.input_sources.specs.InputsTold.{opened_lines, StopsAt}
+use Rattle.input_sources.specs.Origins.{IsFileNamed}
+
+abbrev pub line_of : Telling → ℕ → Origin → List ℕ
+line_of telling session origin = if_verbose telling (opened_line session origin)
+
+-- none yet
+pub nothing_opened : (a : Option (List ℕ)) (HasFailed : Type 0) (telling : Telling) (origins : List Origin) → origins ≡ [] → AreTold a a HasFailed (opened_lines telling origins)
+nothing_opened a HasFailed telling origins none = rw none (none_told a HasFailed)
+
+-- one more
+pub opened_more : (telling : Telling) (origins : List Origin) (origin : Origin) (n : ℕ) → length origins ≡ n → opened_lines telling (origins ++ origin ∷ []) ≡ opened_lines telling origins ++ line_of telling (n + 1) origin
+opened_more telling origins origin n is =
+    numbered-last (line_of telling) origins origin ∙ ap (λ (k : ℕ). opened_lines telling origins ++ line_of telling (k + 1) origin) is
+
+-- and its line is told
+pub opened_told : (old mid new : Option (List ℕ)) (Before After : Type 0) (telling : Telling) (origins all : List Origin) (origin : Origin) (n : ℕ) {T E : Type 0} (answer : Result T E) → all ≡ origins ++ origin ∷ [] → length origins ≡ n
+    → AreTold old mid Before (opened_lines telling origins) → OnOk answer (Appends mid new (line_of telling (n + 1) origin)) → OnErr answer After → (Before → After) → AreTold old new After (opened_lines telling all)
+opened_told old mid new Before After telling origins all origin n answer is count first ok err kept =
+    rw is (subst (λ (l : List ℕ). AreTold old new After l) (sym (opened_more telling origins origin n count))
+    (told_then old mid new Before After answer (opened_lines telling origins) (line_of telling (n + 1) origin) first ok err kept))
+
+-- ---- where it stops
+
+zip_names : {P : Type 0} (name_of : P → List ℕ) (paths : List P) (origins : List Origin) → AllZip (λ path. IsFileNamed (name_of path)) paths origins → AllZip IsFileNamed (map name_of paths) origins
+zip_names name_of [] [] all = all
+zip_names name_of [] (o ∷ origins) all = absurd all
+zip_names name_of (p ∷ paths) [] all = absurd all
+zip_names name_of (p ∷ paths) (o ∷ origins) all = (all.0, zip_names name_of paths origins all.1)
+
+-- a list by its item at a place
+pub map-at : {P X : Type 0} (f : P → X) (xs : List P) (i : ℕ) (d : P) → i < length xs → map f xs ≡ map f (take i xs) ++ f (get_or xs i d) ∷ map f (drop (suc i) xs)
+map-at {P} f xs i d less =
+    let place : xs ≡ take i xs ++ (get_or xs i d ∷ drop (suc i) xs) = sym (take-append-drop i xs) ∙ ap (λ (l : List P). take i xs ++ l) (drop-cons xs i d less) in
+    ap (map f) place ∙ map-append f (take i xs) (get_or xs i d ∷ drop (suc i) xs)
+
+pub stops_at : {P : Type 0} (name_of : P → List ℕ) (paths : List P) (telling : Telling) (Told : List ℕ → Type 0) (i : ℕ) (d : P) (stopped : List ℕ) (origins : List Origin) → i < length paths → stopped ≡ name_of (get_or paths i d)
+    → AllZip (λ p. IsFileNamed (name_of p)) (take i paths) origins → Told (opened_lines telling origins) → StopsAt (map name_of paths) telling Told stopped
+stops_at name_of paths telling Told i d stopped origins less same named told =
+    record {
+      before = map name_of (take i paths);
+      later = map name_of (drop (suc i) paths);
+      place = rw same (map-at name_of paths i d less);
+      origins = origins;
+      named = zip_names name_of (take i paths) origins named;
+      told = told;
+    }
+
+-- what holds of each value holds of the one that is there
+pub always : {X : Type 0} (o : Option X) {P : X → Type 0} → ((x : X) → P x) → IfSome o P
+always None all = tt
+always (Some x) all = all x
+
+-- what holds at an error whichever it is
+pub even_if_ok : {T E : Type 0} (answer : Result T E) (P : Type 0) → P → OnErr answer P
+even_if_ok (Ok x) P p = tt
+even_if_ok (Err e) P p = p
+
+-- an error that is passed on
+pub passed_on : {T E : Type 0} (answer : Result T E) (passed : E) (P : E → Type 0) → IsErrAnd answer (λ e. e ≡ passed) → P passed → IfErr answer P
+passed_on (Ok x) passed P is p = tt
+passed_on (Err e) passed P is p = subst P (sym is) p

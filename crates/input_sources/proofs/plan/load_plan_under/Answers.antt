@@ -1,0 +1,15 @@
+use Rattle.std.proofs.Common.{inl, inr}
+use Rattle.input_sources.specs.PlansTold.{IsPlanErrorUnder}
+use Rattle.report_writing.proofs.LinesTold.{is_told}
+use Rattle.input_sources.proofs.plan.load_plan_under.Goals as goal
+
+pub returns-in-Err-clause-told : goal.returns-in-Err-clause-told
+returns-in-Err-clause-told g c =
+    inl (c.in-Err.reason, c.in-Err.ensures.refused, is_told _ _ _ c.write_not_had_because.result _ c.write_not_had_because.ensures.told c.write_not_had_because.ensures.failed)
+
+pub returns-clause-told : goal.returns-clause-told
+returns-clause-told g c =
+    let read = rw c.deref.ensures.value at c.in-Err-read_plan_octets_under.ensures in
+    let is : IsPlanErrorUnder c.args.elements.now c.in-Ok.octets.items c.in-Err-read_plan_octets_under.error = record { place = read.place; fault = read.fault; not_utf8 = read.not_utf8 } in
+    let told = is_told _ _ _ c.write_plan_fault.result _ c.write_plan_fault.ensures.told c.write_plan_fault.ensures.failed in
+    inr (c.in-Ok.octets.items, c.in-Ok.ensures.text, (c.in-Err-read_plan_octets_under.error, is, told))

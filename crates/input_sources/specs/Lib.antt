@@ -1,0 +1,8 @@
+-- What public contracts cite.
+pub mod Had
+pub mod Origins
+pub mod InputsTold
+pub mod PlaceLines
+pub mod PlansTold
+pub mod Progressing
+pub mod ProgressLines

@@ -1,0 +1,156 @@
+//! Accepting connections, one after another.
+
+ghost use Rattle.std.specs.Prelude.{◌≡◌, ◌<◌, IfOk, IfSome, IsErr, OnErr};
+ghost use Rattle.std.specs.Duration.{as_nanos};
+ghost use Rattle.report_writing.specs.Told.{AreTold};
+ghost use Rattle.input_sources.specs.Origins.{ArePeers};
+ghost use Rattle.input_sources.specs.Had.{AreAccepted};
+ghost use Rattle.input_sources.specs.InputsTold.{opened_lines, TellsPeers};
+
+use crate::unread::Unread;
+use crate::watched::Watched;
+use ipfix_session::Source;
+use report_writing::{Origin, Reason, Telling, WriteLines, write_opened};
+use std::alloc::Global;
+use std::io::Write;
+use std::net::SocketAddr;
+use std::rt::Clock;
+use std::time::Duration;
+
+/// A connection that was accepted.
+#[derive(Drop)]
+pub struct Accepted<S> {
+    pub source: S,
+    /// The address of its peer.
+    pub peer: SocketAddr,
+}
+
+/// What gives one connection after another.
+pub trait Listener<S: Source> {
+    ghost use Rattle.std.specs.Prelude.{◌≡◌, List, [], ◌∷◌, Option, IfOk, IfSome, IsErr, OnErr};
+    ghost use Rattle.std.specs.declared.time.Duration.{Duration};
+    ghost use Rattle.input_sources.specs.Had.{IsUnread};
+    ghost use Rattle.input_sources.specs.Had.{Came};
+
+    /// Whether a source is a connection with this limit of a read's time, as it is before it is read.
+    ghost gives: { Self → Option Duration → S → Type 0 };
+
+    /// The connections that are still to come, in their order, if it tells them.
+    ghost coming: { Self → Option (List S) };
+
+    /// Whether it is closed.
+    ghost is_closed: { Self → Type 0 };
+
+    /// The next connection, of which nothing was read, and the address of its peer. A read that waits for
+    /// longer than `idle` fails; with no `idle` it waits for as long as it takes. Why there is none, if there
+    /// is no connection, or if it can't have that limit, or if the listener is closed.
+    fn next_source(&mut self, idle: Option<Duration>) -> Result<Accepted<S>, Reason>
+        ensures given { IfOk result (λ accepted. gives self.old idle accepted.source) }
+        ensures unread { IfOk result (λ accepted. IsUnread S.seen accepted.source) }
+        // It is the next one that was to come.
+        ensures came { IfOk result
+            (λ accepted. Came (coming self.old) (coming self.new) (accepted.source ∷ [])) }
+        ensures none_came { OnErr result (coming self.new ≡ coming self.old) }
+        ensures no_time { IfSome idle (λ limit. as_nanos limit ≡ 0 → IsErr result) }
+        ensures closed { is_closed self.old → IsErr result }
+        // No other connection has a limit than before.
+        ensures same { (limit : Option Duration) (source : S)
+            → gives self.new limit source → gives self.old limit source };
+
+    /// Closes it. A peer that comes later is refused.
+    fn close(&mut self)
+        ensures closed { is_closed self.new }
+        ensures none_came { coming self.new ≡ coming self.old };
+}
+
+/// Connections that were accepted, and the origins of their sessions.
+#[derive(Drop)]
+pub struct AcceptedAll<S: Source + Drop> {
+    pub sources: Unread<S>,
+    pub origins: Vec<Origin<'static>>,
+}
+
+/// So many connections as sources, each with this limit of a read's time. Behind the last, and if one can't
+/// be accepted, the listener is closed. `err` has a line for each that was accepted, if `telling` is verbose;
+/// a fault of `err` is passed over.
+pub fn accept_all<
+    'r,
+    S: Source + Drop,
+    L: Listener<S>,
+    P: Write + Copy + Drop,
+    E: WriteLines,
+    R: Clock,
+>(
+    rt: &'r R,
+    alloc: Global,
+    listener: &mut L,
+    count: usize,
+    idle: Option<Duration>,
+    progress: Option<P>,
+    telling: Telling,
+    err: &mut E,
+) -> Result<AcceptedAll<Watched<'r, S, R, P>>, Reason>
+    // So many came, each was accepted, and nothing else.
+    ensures accepted { IfOk result (λ all. AreAccepted (L.gives listener.old idle) count
+        (L.coming listener.old) (L.coming listener.new) all.sources) }
+    // None of them is read by then.
+    ensures closed { L.is_closed listener.new }
+    ensures no_time { IfSome idle (λ limit. as_nanos limit ≡ 0 → 0 < count → IsErr result) }
+    ensures peers { IfOk result (λ all. ArePeers count all.origins.items) }
+    ensures told { IfOk result
+        (λ all. AreTold (E.contents err.old) (E.contents err.new) (E.failed err.new)
+        (opened_lines telling all.origins.items)) }
+    ensures stopped { OnErr result (TellsPeers telling
+        (AreTold (E.contents err.old) (E.contents err.new) (E.failed err.new))) }
+    ensures kept { E.failed err.old → E.failed err.new }
+{
+    let accepted = accept_each(rt, alloc, listener, count, idle, progress, telling, err);
+    listener.close();
+    accepted
+}
+
+// Accepts one connection after another.
+fn accept_each<
+    'r,
+    S: Source + Drop,
+    L: Listener<S>,
+    P: Write + Copy + Drop,
+    E: WriteLines,
+    R: Clock,
+>(
+    rt: &'r R,
+    alloc: Global,
+    listener: &mut L,
+    count: usize,
+    idle: Option<Duration>,
+    progress: Option<P>,
+    telling: Telling,
+    err: &mut E,
+) -> Result<AcceptedAll<Watched<'r, S, R, P>>, Reason>
+    ensures accepted { IfOk result (λ all. AreAccepted (L.gives listener.old idle) count
+        (L.coming listener.old) (L.coming listener.new) all.sources) }
+    ensures no_time { IfSome idle (λ limit. as_nanos limit ≡ 0 → 0 < count → IsErr result) }
+    ensures peers { IfOk result (λ all. ArePeers count all.origins.items) }
+    ensures told { IfOk result
+        (λ all. AreTold (E.contents err.old) (E.contents err.new) (E.failed err.new)
+        (opened_lines telling all.origins.items)) }
+    ensures stopped { OnErr result (TellsPeers telling
+        (AreTold (E.contents err.old) (E.contents err.new) (E.failed err.new))) }
+    ensures kept { E.failed err.old → E.failed err.new }
+{
+    let mut sources = Unread::new(alloc);
+    let mut origins = Vec::new(alloc);
+    for number in 0..count {
+        let Accepted { source, peer } = listener.next_source(idle)?;
+        let origin = Origin::Peer(peer);
+        let watched = Watched::new(alloc, rt, number + 1, source, None, progress);
+        let Ok(()) = sources.push(watched) else {
+            return Err(Reason::OutOfMemory);
+        };
+        let Ok(()) = origins.push(origin) else {
+            return Err(Reason::OutOfMemory);
+        };
+        let _ = write_opened(telling, number + 1, &origin, err);
+    }
+    Ok(AcceptedAll { sources, origins })
+}

@@ -1,0 +1,27 @@
+//! What the commands are given: sources that are had one after another, before the first is read, what has been
+//! read of them, and the plan that a text says, or its fault.
+#![tactic(auto)]
+
+mod accepting;
+mod listening;
+mod noted;
+mod opening;
+mod opening_all;
+mod place_words;
+mod places;
+mod plan;
+mod plan_fault;
+mod progress;
+mod unread;
+mod watched;
+
+pub use accepting::{Accepted, AcceptedAll, Listener, accept_all};
+pub use listening::{Listening, NotedPeer};
+pub use noted::{Note, Noted};
+pub use opening::{OpenSource, Opened, SystemFiles};
+pub use opening_all::{NotOpened, OpenedAll, open_all};
+pub use plan::{load_plan, load_plan_under};
+pub use plan_fault::write_plan_fault;
+pub use progress::Progress;
+pub use unread::Unread;
+pub use watched::Watched;

@@ -1,0 +1,92 @@
+//! The system's listener.
+
+ghost use Rattle.std.specs.Prelude.{◌≡◌, ⊤, IfOk, None, Some};
+ghost use Rattle.input_sources.specs.Had.{IsUnread};
+
+use crate::accepting::{Accepted, Listener};
+use crate::noted::{Note, Noted};
+use ipfix_session::{FromReader, Source};
+use report_writing::Reason;
+use std::alloc::{AllocError, Global};
+use std::net::{SocketAddr, TcpListener, TcpStream};
+use std::time::Duration;
+
+/// A peer whose connection was accepted, and why its octets could not be read on.
+#[derive(Drop)]
+pub struct NotedPeer {
+    pub address: SocketAddr,
+    pub note: Note,
+}
+
+/// The system's listener. It keeps the peers that it has accepted.
+#[derive(Drop)]
+pub struct Listening {
+    alloc: Global,
+    listener: Option<TcpListener>,
+    peers: Vec<NotedPeer>,
+}
+
+impl Listening {
+    /// A listener that is open.
+    pub fn new(alloc: Global, listener: TcpListener) -> Self
+        ensures { result.listener ≡ Some listener }
+    {
+        Listening {
+            alloc,
+            listener: Some(listener),
+            peers: Vec::new(alloc),
+        }
+    }
+
+    /// The peers that it has accepted, in their order.
+    pub fn peers(&self) -> &[NotedPeer] {
+        &self.peers
+    }
+
+    // The source of a connection of which nothing was read; its peer is kept.
+    fn noted(
+        &mut self,
+        stream: TcpStream,
+        address: SocketAddr,
+    ) -> Result<FromReader<Noted<TcpStream>>, AllocError>
+        ensures same { self.new.listener ≡ self.old.listener }
+        ensures unread { IfOk result (IsUnread ⟦<FromReader<Noted<TcpStream>> as Source>⟧.seen) }
+    {
+        let noted = Noted::new(self.alloc, stream)?;
+        let note = noted.note().clone()?;
+        self.peers.push(NotedPeer { address, note })?;
+        Ok(FromReader::new(noted))
+    }
+}
+
+impl Listener<FromReader<Noted<TcpStream>>> for Listening {
+    ghost gives = { λ _ _ _. ⊤ };
+
+    ghost coming = { λ _. None };
+
+    ghost is_closed = { λ l. l.listener ≡ None };
+
+    fn next_source(
+        &mut self,
+        idle: Option<Duration>,
+    ) -> Result<Accepted<FromReader<Noted<TcpStream>>>, Reason> {
+        let Some(listener) = &self.listener else {
+            return Err(Reason::Other);
+        };
+        let (stream, peer) = match listener.accept() {
+            Ok(connection) => connection,
+            Err(error) => return Err(Reason::of(&error)),
+        };
+        if let Err(error) = stream.set_read_timeout(idle) {
+            return Err(Reason::of(&error));
+        }
+        match self.noted(stream, peer) {
+            Ok(source) => Ok(Accepted { source, peer }),
+            Err(_) => Err(Reason::OutOfMemory),
+        }
+    }
+
+    fn close(&mut self) {
+        self.listener = None;
+    }
+}

@@ -1,0 +1,116 @@
+//! What opens sources.
+
+ghost use Rattle.std.specs.Prelude.{⊤, IfOk, None};
+ghost use Rattle.input_sources.specs.Had.{IsUnread};
+
+use crate::noted::{Note, Noted};
+use ipfix_session::{FromReader, Source};
+use report_writing::Reason;
+use std::alloc::{AllocError, Global};
+use std::fs::{self, OpenFile};
+use std::io::Read;
+use std::num::NonZeroU64;
+use std::rt::Files;
+
+/// The word for standard input, and the file that it is.
+const STANDARD_INPUT: (&str, &str) = ("-", "/dev/stdin");
+
+/// A source that was opened.
+#[derive(Drop)]
+pub struct Opened<S> {
+    pub source: S,
+    /// How many octets it has, if that is known before it is read.
+    pub size: Option<NonZeroU64>,
+}
+
+/// Opens sources by their paths.
+pub trait OpenSource<S: Source> {
+    ghost use Rattle.std.specs.Prelude.{◌≡◌, ℕ, List, [], ◌∷◌, Option, IfOk, OnErr};
+    ghost use Rattle.input_sources.specs.Had.{IsUnread};
+    ghost use Rattle.input_sources.specs.Had.{Came};
+
+    /// Whether a source is the one that a path opens, as it is before it is read.
+    ghost opens: { Self → List ℕ → S → Type 0 };
+
+    /// The sources that are still to come, in their order, if it tells them.
+    ghost coming: { Self → Option (List S) };
+
+    /// The source of a path, of which nothing was read; or why it can't be opened.
+    fn open_source(&mut self, path: &str) -> Result<Opened<S>, Reason>
+        ensures named { IfOk result (λ opened. opens self.old path.now opened.source) }
+        ensures unread { IfOk result (λ opened. IsUnread S.seen opened.source) }
+        // It is the next one that was to come.
+        ensures came { IfOk result
+            (λ opened. Came (coming self.old) (coming self.new) (opened.source ∷ [])) }
+        ensures none_came { OnErr result (coming self.new ≡ coming self.old) }
+        // No path has another source than before.
+        ensures same { (name : List ℕ) (source : S)
+            → opens self.new name source → opens self.old name source };
+}
+
+/// The files of the system. The path `-` is standard input. It keeps why octets could not be read on.
+#[derive(Drop)]
+pub struct SystemFiles<'r, R> {
+    rt: &'r R,
+    alloc: Global,
+    notes: Vec<Note>,
+}
+
+impl<'r, R> SystemFiles<'r, R> {
+    /// None of them is opened yet.
+    pub fn new(rt: &'r R, alloc: Global) -> Self {
+        SystemFiles {
+            rt,
+            alloc,
+            notes: Vec::new(alloc),
+        }
+    }
+
+    /// The notes of the files that were opened, in their order.
+    pub fn notes(&self) -> &[Note] {
+        &self.notes
+    }
+
+    // The source of a file of which nothing was read; its note is kept.
+    fn noted<F: Read + Drop>(&mut self, file: F) -> Result<FromReader<Noted<F>>, AllocError>
+        ensures { IfOk result (IsUnread ⟦<FromReader<Noted<F>> as Source>⟧.seen) }
+    {
+        let noted = Noted::new(self.alloc, file)?;
+        self.notes.push(noted.note().clone()?)?;
+        Ok(FromReader::new(noted))
+    }
+}
+
+impl<'r, F: Read + OpenFile + Drop, R: Files<File = F>> OpenSource<FromReader<Noted<F>>>
+    for SystemFiles<'r, R> {
+    ghost opens = { λ _ _ _. ⊤ };
+
+    ghost coming = { λ _. None };
+
+    fn open_source(&mut self, path: &str) -> Result<Opened<FromReader<Noted<F>>>, Reason> {
+        let name = if path == STANDARD_INPUT.0 {
+            STANDARD_INPUT.1
+        } else {
+            path
+        };
+        let file = match fs::open(self.rt, name) {
+            Ok(file) => file,
+            Err(error) => return Err(Reason::of(&error)),
+        };
+        let size = size_of(&file);
+        match self.noted(file) {
+            Ok(source) => Ok(Opened { source, size }),
+            Err(_) => Err(Reason::OutOfMemory),
+        }
+    }
+}
+
+// How many octets a file has, if that can be known before it is read: a folder has a size, and no octets.
+fn size_of<F: OpenFile>(file: &F) -> Option<NonZeroU64> {
+    let metadata = file.metadata().ok()?;
+    if metadata.is_file() {
+        NonZeroU64::new(metadata.len())
+    } else {
+        None
+    }
+}

@@ -1,0 +1,119 @@
+//! Opening files, one after another.
+
+ghost use Rattle.std.specs.Prelude.{◌≡◌, ℕ, List, [], ◌∷◌, map, IfErr, IfOk};
+ghost use Rattle.std.specs.List.{AllZip};
+ghost use Rattle.input_sources.specs.Had.{IsUnread, AreOpened, Came};
+ghost use Rattle.input_sources.specs.Origins.{IsFileNamed};
+ghost use Rattle.input_sources.specs.InputsTold.{opened_lines, StopsAt};
+ghost use Rattle.report_writing.specs.Told.{AreTold};
+
+use crate::opening::{OpenSource, Opened};
+use crate::unread::Unread;
+use crate::watched::Watched;
+use ipfix_session::Source;
+use report_writing::{Origin, Reason, Telling, WriteLines, write_opened};
+use std::alloc::Global;
+use std::io::Write;
+use std::rt::Clock;
+
+/// Files that were opened, and the origins of their sessions.
+#[derive(Drop)]
+pub struct OpenedAll<'a, S: Source + Drop> {
+    pub sources: Unread<S>,
+    pub origins: Vec<Origin<'a>>,
+}
+
+/// A path that can't be opened.
+#[derive(Clone, Copy)]
+pub struct NotOpened<'a> {
+    pub path: &'a str,
+    pub reason: Reason,
+}
+
+/// The sources of the paths, in order, or the first path that can't be opened. `err` has a line for each
+/// that was opened, if `telling` is verbose; a fault of `err` is passed over.
+pub fn open_all<
+    'r,
+    'a,
+    S: Source + Drop,
+    O: OpenSource<S>,
+    P: Write + Copy + Drop,
+    E: WriteLines,
+    R: Clock,
+>(
+    rt: &'r R,
+    alloc: Global,
+    files: &mut O,
+    paths: &[&'a str],
+    progress: Option<P>,
+    telling: Telling,
+    err: &mut E,
+) -> Result<OpenedAll<'a, Watched<'r, S, R, P>>, NotOpened<'a>>
+    // Each path was opened once, and nothing else.
+    ensures opened { IfOk result (λ all. AreOpened (λ path. O.opens files.old path.now) paths.now
+        (O.coming files.old) (O.coming files.new) all.sources) }
+    ensures named { IfOk result
+        (λ all. AllZip (λ path. IsFileNamed path.now) paths.now all.origins.items) }
+    ensures told { IfOk result
+        (λ all. AreTold (E.contents err.old) (E.contents err.new) (E.failed err.new)
+        (opened_lines telling all.origins.items)) }
+    ensures stops { IfErr result
+        (λ stopped. StopsAt (map (λ path. path.now) paths.now) telling
+        (AreTold (E.contents err.old) (E.contents err.new) (E.failed err.new)) stopped.path.now) }
+    ensures kept { E.failed err.old → E.failed err.new }
+{
+    let mut sources = Unread::new(alloc);
+    let mut origins = Vec::new(alloc);
+    for (index, path) in paths.iter().enumerate() {
+        let session = index + 1;
+        let (source, origin) = open_watched(rt, alloc, files, session, *path, progress)?;
+        let Ok(()) = sources.push(source) else {
+            return Err(without_memory(*path));
+        };
+        let Ok(()) = origins.push(origin) else {
+            return Err(without_memory(*path));
+        };
+        let _ = write_opened(telling, session, &origin, err);
+    }
+    Ok(OpenedAll { sources, origins })
+}
+
+fn without_memory<'a>(path: &'a str) -> NotOpened<'a>
+    ensures { result.path.now ≡ path.now }
+{
+    NotOpened {
+        path,
+        reason: Reason::OutOfMemory,
+    }
+}
+
+// The source of a path, for the session of this number, counted from 1, and its origin.
+fn open_watched<'r, 'a, S: Source + Drop, O: OpenSource<S>, P: Write + Copy + Drop, R: Clock>(
+    rt: &'r R,
+    alloc: Global,
+    files: &mut O,
+    session: usize,
+    path: &'a str,
+    progress: Option<P>,
+) -> Result<(Watched<'r, S, R, P>, Origin<'a>), NotOpened<'a>>
+    ensures opened { IfOk result (λ had. O.opens files.old path.now had.0) }
+    ensures came { IfOk result
+        (λ had. Came (O.coming files.old) (O.coming files.new) (had.0 ∷ [])) }
+    ensures same { (name : List ℕ) (source : S)
+        → O.opens files.new name source → O.opens files.old name source }
+    ensures stopped { IfErr result (λ stopped. stopped.path.now ≡ path.now) }
+    ensures unread { IfOk result (λ had. IsUnread S.seen had.0) }
+    ensures named { IfOk result (λ had. IsFileNamed path.now had.1) }
+{
+    match files.open_source(path) {
+        Ok(Opened { source, size }) => {
+            let origin = Origin::File {
+                name: path,
+                size: size.map(|octets| octets.get()),
+            };
+            let watched = Watched::new(alloc, rt, session, source, size, progress);
+            Ok((watched, origin))
+        }
+        Err(reason) => Err(NotOpened { path, reason }),
+    }
+}

@@ -1,8 +1,0 @@
-use Rattle.ipfix_message_laws.proofs.Messages.{decode-found, decode-only}
-use Rattle.ipfix_message_laws.proofs.laws.decode_reads_what_is_spelled.Goals as goal
-
-pub returns-clause-found : goal.returns-clause-found
-returns-clause-found c = decode-found
-
-pub returns-clause-only : goal.returns-clause-only
-returns-clause-only c = decode-only

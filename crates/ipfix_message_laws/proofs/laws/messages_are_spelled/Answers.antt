@@ -1,8 +1,0 @@
-use Rattle.ipfix_message_laws.proofs.Messages.{message-found, message-only}
-use Rattle.ipfix_message_laws.proofs.laws.messages_are_spelled.Goals as goal
-
-pub returns-clause-found : goal.returns-clause-found
-returns-clause-found c = message-found
-
-pub returns-clause-only : goal.returns-clause-only
-returns-clause-only c = message-only

@@ -1,5 +1,0 @@
-use Rattle.ipfix_record.proofs.FaultNumbers.{same_number, only_not_written}
-use Rattle.ipfix_record.proofs.laws.fault_numbers.Goals as goal
-
-pub returns : goal.returns
-returns c = record { same = same_number; only = only_not_written }

@@ -1,5 +1,0 @@
-use Rattle.ipfix_record.proofs.Adding.{adds_up, files_add_up}
-use Rattle.ipfix_record.proofs.laws.file_reports_add_up.Goals as goal
-
-pub returns : goal.returns
-returns c = record { told = adds_up; files = files_add_up }

@@ -1,6 +1,0 @@
-use Rattle.ipfix_record.proofs.FilesGive.{recorded_all}
-use Rattle.ipfix_record.proofs.laws.recorded_to_the_end.Goals as goal
-
-pub returns : goal.returns
-returns g c = λ limit before after first last clock then text start now r.
-    recorded_all g.S.Source.seen g.F.FileSeries.seen g.C.PeriodClock.asked limit before after first last clock then text start now r (g.met.S.Source.ended_is_end after)

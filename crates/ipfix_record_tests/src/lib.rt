@@ -1,7 +1,0 @@
-//! Tests of `ipfix_record`, by what it offers to others. They stand in a crate of their own, so that
-//! they are proved without the library being proved a second time.
-#![tactic(auto)]
-
-pub mod calling;
-#[cfg(test)]
-mod tests;

@@ -1,5 +1,0 @@
-use Rattle.json_laws.proofs.LinesRead.{record_is_exact, record_is_read}
-use Rattle.json_laws.proofs.lines.lines_have_exact_numbers.Goals as goal
-
-pub returns : goal.returns
-returns c r octets fits = record_is_read _ r octets fits (record_is_exact r fits)

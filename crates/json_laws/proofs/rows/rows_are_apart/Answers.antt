@@ -1,5 +1,0 @@
-use Rattle.json_laws.proofs.RowsRead.{row_is_one_line, rows_are_cut}
-use Rattle.json_laws.proofs.rows.rows_are_apart.Goals as goal
-
-pub returns : goal.returns
-returns c = record { each = row_is_one_line; all = rows_are_cut }

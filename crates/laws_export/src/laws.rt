@@ -1,0 +1,38 @@
+//! The law of reading back.
+
+ghost use Rattle.std.specs.Prelude.{◌≡◌, ◌<◌, ◌^◌, ℕ, List, length, All};
+ghost use Rattle.flow_table.specs.Plans.{PlanValue};
+ghost use Rattle.flow_table.specs.Fitting.{FitsPlan};
+ghost use Rattle.flow_table.specs.AddedUp.{rows_in};
+ghost use Rattle.flow_table.specs.SameTables.{RowValue};
+ghost use Rattle.laws_export.specs.ReadBack.{CanBeExported, IsReadBack, CanBeCounted, CountsAgain, EndInTime, IsWhole};
+
+use flow_table::{Plan, Table};
+
+/// The messages of a table's export are read with no fault and no loss, and their records are the
+/// rows in order (RFC 7011, sections 3 and 8).
+pub fn rows_are_read_back()
+    ensures { (plan : PlanValue) (time : ℕ) (rows : List RowValue)
+        → CanBeExported plan time rows → IsReadBack plan time rows }
+{}
+
+/// The aggregate of these records under the same plan with method start has the rows, with flows 1
+/// each (RFC 7015, section 5).
+pub fn rows_are_counted_again()
+    ensures { (plan : PlanValue) (time : ℕ) (rows : List RowValue)
+        → CanBeCounted plan rows → CountsAgain plan time rows }
+{}
+
+/// What is exported of a table that fits its plan is read back: no fault, no loss, the rows in order;
+/// and where every interval ends before 2^50 ms and no key has a prefix, its records have the same
+/// aggregate by method start, each row with one flow.
+pub fn tables_are_read_back(plan: &Plan, table: &Table, time: u32)
+    requires fits { FitsPlan plan.now table.now }
+    requires few { length table.now.rows.items < 2 ^ 32 }
+    ensures read { IsReadBack plan.now time (rows_in table.now) }
+    ensures counted { All IsWhole plan.now.keys → EndInTime plan.now table.now.rows.items
+        → CountsAgain plan.now time (rows_in table.now) }
+{
+    // That no fault fits the plan.
+    plan.length();
+}

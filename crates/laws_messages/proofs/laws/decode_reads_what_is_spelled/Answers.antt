@@ -1,0 +1,8 @@
+use Rattle.laws_messages.proofs.Messages.{decode-found, decode-only}
+use Rattle.laws_messages.proofs.laws.decode_reads_what_is_spelled.Goals as goal
+
+pub returns-clause-found : goal.returns-clause-found
+returns-clause-found c = decode-found
+
+pub returns-clause-only : goal.returns-clause-only
+returns-clause-only c = decode-only

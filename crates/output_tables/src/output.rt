@@ -1,0 +1,43 @@
+//! How a table is written.
+
+ghost use Rattle.std.specs.Prelude.{OnOk};
+ghost use Rattle.flow_table.specs.Fitting.{FitsPlan};
+ghost use Rattle.output_tables.specs.TableTexts.{WritesUnder};
+
+use element_registry::Elements;
+use flow_export::{AnyTable, ExportFault, Format, TableText, write_table};
+use flow_table::{FlatTable, Plan};
+use std::alloc::Global;
+use std::io::Write;
+
+/// How a table is written.
+#[derive(Clone, Copy, Debug, PartialEq, Eq)]
+pub struct Output {
+    pub format: Format,
+    /// The export time of messages of IPFIX, in seconds since 1970-01-01 UTC. CSV and JSON have none.
+    pub time: u32,
+}
+
+/// Writes a table, with the names that `elements` gives keys and counters, and sees to it that nothing is
+/// left in the writer's buffer.
+pub fn export<W: Write>(
+    alloc: Global,
+    elements: &Elements,
+    plan: &Plan,
+    table: &FlatTable,
+    output: Output,
+    out: &mut W,
+) -> Result<(), ExportFault>
+    requires { FitsPlan plan.now table.now }
+    ensures { OnOk result (WritesUnder elements.now plan.now output
+        (W.contents out.old) (W.contents out.new) table.now) }
+{
+    let text = match output.format {
+        Format::Csv => TableText::Csv(elements),
+        Format::Json => TableText::Json(elements),
+        Format::Ipfix => TableText::Ipfix(output.time),
+    };
+    write_table(alloc, plan, &AnyTable::Flat(table), &text, out)?;
+    out.flush()?;
+    Ok(())
+}

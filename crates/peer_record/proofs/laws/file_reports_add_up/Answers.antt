@@ -1,5 +1,0 @@
-use Rattle.peer_record.proofs.Adding.{adds_to_session, stopped_adds}
-use Rattle.peer_record.proofs.laws.file_reports_add_up.Goals as goal
-
-pub returns : goal.returns
-returns c = record { told = adds_to_session; stopped = stopped_adds }

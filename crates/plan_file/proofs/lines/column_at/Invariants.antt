@@ -1,7 +1,0 @@
-use Rattle.std.proofs.Common.{◌≡◌, take}
-use Rattle.plan_file.specs.Places.{column_after}
-use Rattle.plan_file.proofs.lines.column_at.Given as goal
-
--- the column after the octets so far
-abbrev pub invariant-loop-octet : goal.invariant-loop-octet
-invariant-loop-octet l = l.column ≡ column_after (take l.octet-index l.octet-items)

@@ -1,8 +1,0 @@
-use Rattle.std.proofs.Common.{◌≡◌, map, take, Some}
-use Rattle.plan_file.specs.PlanTexts.{all_of}
-use Rattle.plan_file.specs.PlanTextsUnder.{key_under}
-use Rattle.plan_file.proofs.named.keys_named.Given as goal
-
--- the first texts are named
-abbrev pub invariant-loop-text : goal.invariant-loop-text
-invariant-loop-text l = all_of (key_under l.elements) (map (λ t. t.now) (take l.text-index l.texts)) ≡ Some l.keys.items

@@ -1,7 +1,0 @@
-use Rattle.std.proofs.Common.{◌≡◌, take}
-use Rattle.plan_file.specs.Blames.{elements_of}
-use Rattle.plan_file.proofs.repeats.elements_of.Given as goal
-
--- the first counters stand behind the keys
-abbrev pub invariant-loop-counter : goal.invariant-loop-counter
-invariant-loop-counter l = l.elements.items ≡ elements_of l.keys (take l.counter-index l.counters)

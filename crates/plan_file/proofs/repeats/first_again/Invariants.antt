@@ -1,7 +1,0 @@
-use Rattle.std.proofs.Common.{◌≡◌, take, drop, []}
-use Rattle.plan_file.specs.Blames.{again_from}
-use Rattle.plan_file.proofs.repeats.first_again.Given as goal
-
--- none of the first keys stands again
-abbrev pub invariant-loop-index : goal.invariant-loop-index
-invariant-loop-index l = again_from [] 0 l.keys ≡ again_from (take l.index l.keys) l.index (drop l.index l.keys)

@@ -1,6 +1,0 @@
-//! The command `collectd record`, apart from those that collect.
-#![tactic(auto)]
-
-mod recording;
-
-pub use recording::record;

@@ -1,6 +1,0 @@
-use Rattle.std.proofs.Common.{[], refl}
-use Rattle.record_datagrams.proofs.Told.{told_nothing}
-use Rattle.record_datagrams.proofs.ticking.end_if.Goals as goal
-
-pub returns-in-None : goal.returns-in-None
-returns-in-None g c = record { lines = []; are = rw c.in-None.is refl; told = told_nothing (g.E.Write.contents c.args.log.now) }

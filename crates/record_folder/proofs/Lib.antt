@@ -1,3 +1,0 @@
-pub mod Hyphens
-pub mod Walks
-pub mod WholeTexts

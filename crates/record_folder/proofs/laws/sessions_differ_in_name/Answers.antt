@@ -1,5 +1,0 @@
-use Rattle.record_folder.proofs.Hyphens.{one_number}
-use Rattle.record_folder.proofs.laws.sessions_differ_in_name.Goals as goal
-
-pub returns : goal.returns
-returns c = λ peer other number next small fits differ is. differ (one_number peer other number next small fits is)

@@ -1,5 +1,0 @@
-use Rattle.record_folder.proofs.WholeTexts.{whole_first}
-use Rattle.record_folder.proofs.laws.whole_octets_are_messages.Goals as goal
-
-pub returns : goal.returns
-returns c = λ text. whole_first text

@@ -1,7 +1,0 @@
-use Rattle.std.proofs.Common.{◌≡◌, ℕ, List, Some}
-use Rattle.record_folder.specs.Walked.{Walked}
-use Rattle.record_folder.proofs.message_walk.walk.Given as goal
-
--- the text that was read, of which the rest is held and the whole messages are counted
-abbrev pub invariant-loop : goal.invariant-loop
-invariant-loop g l = (text : List ℕ) → g.R.Read.remaining l.fn.reader ≡ Some text → Walked (g.R.Read.remaining l.reader) text l.held.items l.whole

@@ -1,9 +1,0 @@
-use Rattle.flow_merge_laws.proofs.AddedExports.{all_records}
-use Rattle.record_laws.specs.RecordedFiles.{records_of_each}
-use Rattle.record_laws.proofs.GivenAll.{merged_table}
-use Rattle.record_laws.proofs.laws.periods_merge_to_all_records.Goals as goal
-
-pub returns : goal.returns
-returns g c = λ limit plan sources table texts recordings periods recorded same hold adds.
-    merged_table plan table texts recordings periods recorded same
-    (all_records g.S.Source.seen limit plan g.met.S.Source.ended_is_end sources (records_of_each periods) table hold adds)

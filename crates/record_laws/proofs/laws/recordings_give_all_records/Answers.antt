@@ -1,5 +1,0 @@
-use Rattle.record_laws.proofs.GivenAll.{same_records, same_table}
-use Rattle.record_laws.proofs.laws.recordings_give_all_records.Goals as goal
-
-pub returns : goal.returns
-returns c = record { records = same_records; table = same_table }

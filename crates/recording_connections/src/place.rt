@@ -1,0 +1,47 @@
+//! Where the sessions of connections are recorded.
+
+use recording_files::{FileReport, FileSeries, NotWritten, PeriodClock};
+use std::alloc::{AllocError, Global};
+use std::net::SocketAddr;
+
+/// The files of a session, of which the last can be finished, too.
+pub trait RecordingFiles: FileSeries {
+    ghost use Rattle.std.specs.Prelude.{Result};
+    ghost use Rattle.recording_files.specs.declared.file_report.FileReport.{FileReport};
+    ghost use Rattle.recording_files.specs.declared.file_series.NotWritten.{NotWritten};
+
+    /// Whether finishing the last file, of which this is the report, may answer so.
+    ghost finishes: { Self → FileReport → Result (Unit {0}) NotWritten → Type 0 };
+
+    /// Finishes the file that isn't finished yet, of which this is the report. It goes away if it is empty.
+    fn finish(self, last: &FileReport) -> Result<(), NotWritten>
+        ensures { finishes self last.now result };
+}
+
+/// The files of a session, and the clock that tells when each is finished.
+#[derive(Drop)]
+pub struct Recording<F, C> {
+    pub files: F,
+    pub clock: C,
+}
+
+/// Makes the files and the clock of each session, for several threads.
+pub trait SessionPlace<F: RecordingFiles, C: PeriodClock> {
+    ghost use Rattle.std.specs.Prelude.{ℕ, IfOk};
+    ghost use Rattle.std.specs.declared.net.socket_addr.SocketAddr.{SocketAddr};
+    ghost use Rattle.recording_files.specs.Files.{IsEmpty};
+
+    /// Whether these are the files and the clock of the session of this peer and this number.
+    ghost makes: { Self → SocketAddr → ℕ → F → C → Type 0 };
+
+    /// Those of the session of this peer and this number, in which nothing stands. Only memory can be
+    /// refused.
+    fn session(
+        &self,
+        alloc: Global,
+        peer: SocketAddr,
+        number: u64,
+    ) -> Result<Recording<F, C>, AllocError>
+        ensures made { IfOk result (λ r. makes self.now peer number r.files r.clock) }
+        ensures empty { IfOk result (λ r. IsEmpty (F.seen r.files).contents) };
+}

@@ -1,0 +1,113 @@
+//! The lines that are told, as the program's manual has them.
+
+use recording_files::{FileReport, Recovered};
+use recording_lines::Log;
+use std::alloc::{AllocError, Global};
+use std::io;
+use std::net::{IpAddr, Ipv4Addr, SocketAddr};
+use std::test::*;
+use worked_examples::FailingWriter;
+
+const REPORT: FileReport = FileReport {
+    messages: 2,
+    records: 11,
+    lost: 3,
+    backward: 1,
+    unknown_sets: 0,
+    unaccounted: 0,
+};
+
+const LINES: &str = "collectd: a: messages 2, records 11, lost 3, backward 1
+collectd: a: messages 2, records 11, lost 3, backward 1, unknown_sets 0, unaccounted 4
+collectd: not finished: a
+collectd: session 192.0.2.1:4739: fault 15 ReadFailed
+collectd: refused 7 connections, last 192.0.2.1:4739
+collectd: record: accept failed 12 times
+collectd: record: threads 3 of 64
+collectd: recovered: a
+collectd: recovered: a: cut off 5 octets
+collectd: recovered: a: ends 5 octets into a message
+collectd: not recovered: a: removed 5 octets, no whole message
+collectd: not recovered: a
+";
+
+fn peer() -> SocketAddr {
+    SocketAddr::new(IpAddr::V4(Ipv4Addr::new(192, 0, 2, 1)), 4739)
+}
+
+// Tells a line of each kind.
+fn tell_all(log: &mut Log<&mut FailingWriter>) -> io::Result<()> {
+    log.tell_finished("a", &REPORT)?;
+    let unaccounted = FileReport {
+        unaccounted: 4,
+        ..REPORT
+    };
+    log.tell_finished("a", &unaccounted)?;
+    log.tell_not_finished("a")?;
+    log.tell_fault(peer(), 15, "ReadFailed")?;
+    log.tell_refused(7, peer())?;
+    log.tell_not_accepted(12)?;
+    log.tell_threads(3, 64)?;
+    for outcome in [
+        Recovered::Whole,
+        Recovered::CutOff(5),
+        Recovered::Truncated(5),
+        Recovered::Removed(5),
+        Recovered::Stayed,
+    ] {
+        log.tell_recovered("a", outcome)?;
+    }
+    Ok(())
+}
+
+// The first lines of a text.
+fn first_lines(alloc: Global, text: &str, count: u64) -> Result<String, AllocError> {
+    let mut lines = String::new(alloc);
+    let mut taken = 0u64;
+    for line in text.lines() {
+        if taken < count {
+            lines.push_str(line)?;
+            lines.push_str("\n")?;
+        }
+        taken = taken.saturating_add(1);
+    }
+    Ok(lines)
+}
+
+// Each line is one write. Where one fails that is answered, and nothing is told behind it.
+#[test]
+fn each_line_is_one_write(rt: HostRuntime) -> Result<(), Fail> {
+    let alloc: Global = rt.alloc();
+    for calls in 0..13 {
+        let mut out = FailingWriter::new(alloc, 1000, calls);
+        let told = tell_all(&mut Log::new(&mut out));
+        assert_eq!(rt; told.is_ok(), calls == 12);
+        let wanted = first_lines(alloc, LINES, calls)?;
+        assert!(rt; out.taken.as_slice() == wanted.as_bytes(), "{calls}");
+    }
+    Ok(())
+}
+
+// Tells the longest lines: of the longest path that the system takes, and of one that it lists.
+fn tell_longest(alloc: Global, log: &mut Log<&mut FailingWriter>) -> io::Result<()> {
+    let most = FileReport {
+        messages: u64::MAX,
+        records: u64::MAX,
+        lost: u64::MAX,
+        backward: u64::MAX,
+        unknown_sets: u64::MAX,
+        unaccounted: u64::MAX,
+    };
+    log.tell_finished("a".repeat(alloc, 4095)?.as_str(), &most)?;
+    log.tell_recovered("a".repeat(alloc, 4351)?.as_str(), Recovered::Stayed)
+}
+
+// There is room for them, and they are told whole.
+#[test]
+fn longest_lines(rt: HostRuntime) -> Result<(), Fail> {
+    let alloc: Global = rt.alloc();
+    let mut out = FailingWriter::new(alloc, 10_000, 2);
+    tell_longest(alloc, &mut Log::new(&mut out))?;
+    assert_eq!(rt; out.taken.len(), 4095 + 199 + 4351 + 26);
+    Ok(())
+}

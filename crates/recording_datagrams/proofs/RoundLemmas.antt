@@ -1,0 +1,68 @@
+-- Rounds one after another.
+use Rattle.std.proofs.Common.{◌≡◌, ℕ, ◌+◌, List, [], ◌∷◌, ◌++◌, Option, Result, Ok, refl, sym, ap, ◌∙◌, subst, arith, length-append, append-nil, append_assoc}
+use Rattle.std.specs.Prelude.{OnOk}
+use Rattle.std.specs.Result.{result_and}
+use Rattle.std.specs.Io.KnownBytes.{Appends}
+use Rattle.std.proofs.lemmas.Grind.{flat_map-append}
+use Rattle.std.proofs.lemmas.List.{map-append}
+use Rattle.recording_files.specs.Files.{FilesView}
+use Rattle.recording_files.specs.Periods.{ClockView}
+use Rattle.recording_files.specs.declared.file_report.FileReport.{FileReport}
+use Rattle.recording_files.specs.declared.file_series.NotWritten.{NotWritten}
+use Rattle.recording_peers.specs.Answers.{Answer, Gives, answer_of}
+use Rattle.recording_peers.specs.declared.datagram_source.Datagram.{Datagram}
+use Rattle.recording_peers.specs.declared.datagram_source.NoDatagram.{NoDatagram}
+use Rattle.ipfix_session.specs.Sources.{one_more}
+use Rattle.recording_connections.specs.declared.front_desk.FrontDesk.{FrontDesk}
+use Rattle.recording_datagrams.specs.Rounds.{Round, one_not_received, answer_in, answers_of, lines_of, IsRound, AreRounds, TakesRound, TakesRounds}
+use Rattle.recording_datagrams.specs.declared.reception.Reception.{Reception}
+use Rattle.recording_datagrams.proofs.Told.{and_told, told_nothing}
+
+-- ---- what the source answered
+
+module _ {D : Type 0} (answered : D → List Answer → Type 0) where
+  gives_none : (source : D) → Gives answered [] source source
+  gives_none source before h = subst (λ l. answered source l) (sym (append-nil before)) h
+
+  gives_both : (these those : List Answer) (old mid new : D) → Gives answered these old mid → Gives answered those mid new → Gives answered (these ++ those) old new
+  gives_both these those old mid new g h before k = subst (λ l. answered new l) (append_assoc before these those) (h (before ++ these) (g before k))
+
+-- what was received is that answer
+pub so_answered : (received this : Result Datagram NoDatagram) (buffer : List ℕ) → received ≡ this → answer_of this buffer ≡ answer_of received buffer
+so_answered received this buffer is = ap (λ (r : Result Datagram NoDatagram). answer_of r buffer) (sym is)
+
+answers-push : (rs : List Round) (r : Round) → answers_of (rs ++ r ∷ []) ≡ answers_of rs ++ answer_in r.given ∷ []
+answers-push rs r = map-append (λ (x : Round). answer_in x.given) rs (r ∷ [])
+
+lines-push : (rs : List Round) (r : Round) → lines_of (rs ++ r ∷ []) ≡ lines_of rs ++ r.lines
+lines-push rs r = flat_map-append (λ (x : Round). x.lines) rs (r ∷ []) ∙ ap (λ l. lines_of rs ++ l) (append-nil r.lines)
+
+-- ---- what they did
+
+module _ {F P E : Type 0} (seen : F → FilesView) (finishes : F → FileReport → Result (Unit {0}) NotWritten → Type 0) (asked : P → ClockView) where
+  rounds-push : (rs : List Round) (r : Round) (old mid new : Reception F P E) → AreRounds seen finishes asked rs old mid → IsRound seen finishes asked r mid new → AreRounds seen finishes asked (rs ++ r ∷ []) old new
+  rounds-push [] r old mid new are is = (new, subst (λ (x : Reception F P E). IsRound seen finishes asked r x new) are is, refl)
+  rounds-push (q ∷ rs) r old mid new are is = (are.0, are.1, rounds-push rs r are.0 mid new are.2 is)
+
+  pub no_rounds : {D A : Type 0} (answered : D → List Answer → Type 0) (contents : E → Option (List ℕ)) (source : D) (old : Reception F P E) → TakesRounds seen finishes asked {A = A} answered contents 0 source source old old (Ok tt)
+  no_rounds answered contents source old = record { rounds = []; as_many = refl; are = refl; given = gives_none answered source; told = told_nothing (contents old.log) }
+
+  pub one_more_round : {D A : Type 0} (answered : D → List Answer → Type 0) (contents : E → Option (List ℕ)) (count : ℕ) (before between after : D) (old mid new : Reception F P E) (told answer : Result (Unit {0}) A)
+      → TakesRounds seen finishes asked answered contents count before between old mid told → TakesRound seen finishes asked answered contents between after mid new answer
+      → TakesRounds seen finishes asked answered contents (count + 1) before after old new (result_and told answer)
+  one_more_round answered contents count before between after old mid new told answer rs r =
+      let many = rs.as_many in
+      record {
+        rounds = rs.rounds ++ r.round ∷ [];
+        as_many = omega (arith, length-append rs.rounds (r.round ∷ []));
+        are = rounds-push rs.rounds r.round old mid new rs.are r.is;
+        given = subst (λ (l : List Answer). Gives answered l before after) (sym (answers-push rs.rounds r.round))
+            (gives_both answered (answers_of rs.rounds) (answer_in r.round.given ∷ []) before between after rs.given r.given);
+        told = subst (λ (l : List ℕ). OnOk (result_and told answer) (Appends (contents old.log) (contents new.log) l)) (sym (lines-push rs.rounds r.round))
+            (and_told told answer (contents old.log) (contents mid.log) (contents new.log) (lines_of rs.rounds) r.round.lines rs.told r.told);
+      }
+
+-- a failure is counted
+pub counted_so : {F P E : Type 0} (old : Reception F P E) (desk : FrontDesk) → desk.not_accepted ≡ one_more old.unserved.not_accepted → desk.sessions ≡ old.unserved.sessions → desk.refused ≡ old.unserved.refused
+    → (record old { unserved = desk }) ≡ record old { unserved = one_not_received old.unserved }
+counted_so old desk n s r = λ i. record old { unserved = record { sessions = s i; refused = r i; not_accepted = n i } }

@@ -1,0 +1,27 @@
+//! Recording datagrams of UDP: what is told of the peers that send them, and the thread that takes them.
+#![tactic(auto)]
+
+mod datagram_faults;
+mod ending;
+mod finishing;
+pub mod laws;
+mod peer_folder;
+mod peer_limits;
+mod receiving;
+mod reception;
+mod running;
+mod system_socket;
+mod taking;
+mod ticking;
+
+pub use datagram_faults::{fault_name, fault_number};
+pub use ending::{EndCause, end_peer, tell_refusals};
+pub use finishing::{FileQueue, QueueFinisher};
+pub use peer_folder::PeerFolder;
+pub use peer_limits::PeerLimits;
+pub use receiving::run_datagrams;
+pub use reception::Reception;
+pub use running::record_datagrams;
+pub use system_socket::SystemSocket;
+pub use taking::take_datagram;
+pub use ticking::{end_silent, go_over, tell_unserved};

@@ -1,0 +1,64 @@
+//! The files of peers in a folder of recordings.
+
+use crate::finishing::{FileQueue, QueueFinisher};
+use recording_connections::FrontDesk;
+use recording_files::PeriodClock;
+use recording_folder::{SessionFiles, SystemPeriods, SystemPlace};
+use recording_lines::Log;
+use recording_peers::PeerPlace;
+use std::alloc::{AllocError, Global};
+use std::fs::Files;
+use std::io::Write;
+use std::net::SocketAddr;
+use std::rt::Clock;
+use std::sync::{Mutex, Wait};
+
+/// The files of a peer, which wait in a queue to be finished.
+type PeerFiles<'a, R, W, E> = SessionFiles<'a, R, QueueFinisher<'a, R, W, E>>;
+
+/// Makes the files of peers in a folder, all in the periods of one clock. They are finished by threads
+/// of their own, and told; and each session has the next number of the desk.
+#[derive(Drop)]
+pub struct PeerFolder<'a, R: Files + Clock, W: Wait, E: Write + Copy + Drop> {
+    pub place: SystemPlace<'a, R>,
+    pub periods: SystemPeriods<'a, R>,
+    /// Where they wait, if a thread finishes them.
+    pub queue: Option<&'a FileQueue<R::File>>,
+    pub desk: &'a Mutex<FrontDesk>,
+    pub waiting: &'a W,
+    pub err: E,
+}
+
+impl<'a, R: Files + Clock, W: Wait, E: Write + Copy + Drop> PeerFolder<'a, R, W, E> {
+    /// From now on each file is finished by the thread that it comes from.
+    pub(crate) fn finish_at_once(&mut self) {
+        self.queue = None;
+    }
+}
+
+impl<'a, R: Files + Clock, W: Wait, E: Write + Copy + Drop> PeerPlace<PeerFiles<'a, R, W, E>>
+    for PeerFolder<'a, R, W, E> {
+    fn files(
+        &mut self,
+        alloc: Global,
+        peer: SocketAddr,
+    ) -> Result<PeerFiles<'a, R, W, E>, AllocError> {
+        let number = self.desk.lock(self.waiting).next_session();
+        let finisher = QueueFinisher {
+            at_once: self.place.finisher(alloc, Log::new(self.err)),
+            queue: self.queue,
+            waiting: self.waiting,
+        };
+        self.place
+            .files(alloc, peer, number, &self.periods, finisher)
+    }
+}
+
+impl<'a, R: Files + Clock, W: Wait, E: Write + Copy + Drop> PeriodClock
+    for PeerFolder<'a, R, W, E> {
+    ghost asked = { λ p. ⟦<SystemPeriods<'a, R> as PeriodClock>⟧.asked p.periods };
+
+    fn is_over(&mut self) -> bool {
+        self.periods.is_over()
+    }
+}

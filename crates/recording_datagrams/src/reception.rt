@@ -1,0 +1,128 @@
+//! What takes datagrams: the peers that are kept, where their files are, and what is told.
+
+use crate::taking::take_datagram;
+use crate::ticking::{end_silent, go_over, tell_unserved};
+use network_prefixes::PeerFilter;
+use recording_connections::{FrontDesk, RecordingFiles};
+use recording_files::PeriodClock;
+use recording_lines::Log;
+use recording_peers::{Datagram, NoDatagram, PeerPlace, Peers};
+use std::alloc::Global;
+use std::io::{self, Write};
+use std::net::SocketAddr;
+
+/// What takes datagrams.
+#[derive(Drop)]
+pub struct Reception<'a, F, P, E: Write + Drop> {
+    pub alloc: Global,
+    /// The peers that are kept.
+    pub peers: Peers<F>,
+    /// Where their files are made, all in the same periods.
+    pub place: P,
+    /// Which peers may send.
+    pub filter: &'a PeerFilter,
+    /// How many seconds a peer may be silent.
+    pub idle: u64,
+    /// The second that it is at. It never goes back.
+    pub second: u64,
+    /// The datagrams of peers that may not send, and those that could not be received.
+    pub unserved: FrontDesk,
+    pub log: Log<E>,
+}
+
+impl<'a, F: RecordingFiles + Drop, P: PeerPlace<F> + PeriodClock, E: Write + Drop> Reception<
+    'a,
+    F,
+    P,
+    E,
+> {
+    ghost use Rattle.std.specs.Prelude.{◌≡◌, ◌≤◌, Bool, Result, IfOk, length};
+    ghost use Rattle.recording_peers.specs.Answers.{answer_of};
+    ghost use Rattle.recording_peers.specs.declared.datagram_source.Datagram.{Datagram};
+    ghost use Rattle.recording_peers.specs.declared.datagram_source.NoDatagram.{NoDatagram};
+    ghost use Rattle.recording_datagrams.specs.Ending.{AreTold};
+    ghost use Rattle.recording_datagrams.specs.Rounds.{GoesOnTo, KeepsToPeriods, TakesArrival, TakesGiven, TellsAndEnds, answer_in};
+    ghost use Rattle.recording_datagrams.specs.Taking.{Arrival};
+
+    /// Finishes the files of all peers, if the period of the place is over.
+    pub fn keep_to_periods(&mut self) -> io::Result<()>
+        ensures { (is_over : Bool) × AreTold E.contents
+            (KeepsToPeriods F.seen F.finishes P.asked is_over self.old self.new)
+            self.old.log self.new.log result }
+    {
+        if self.place.is_over() {
+            go_over(&mut self.peers, true, &mut self.log)
+        } else {
+            Ok(())
+        }
+    }
+
+    /// Takes what a source gave into a buffer, in a second: a datagram as [`take_datagram`] does. That none
+    /// could be received is counted.
+    pub fn take(
+        &mut self,
+        received: Result<Datagram, NoDatagram>,
+        buffer: &[u8],
+        now: u64,
+    ) -> io::Result<()>
+        requires { IfOk received (λ d. d.length ≤ length buffer.now) }
+        ensures { (given : Result Arrival NoDatagram)
+            × (answer_in given ≡ answer_of received buffer.now)
+            × AreTold E.contents (TakesGiven F.seen F.finishes P.asked given now self.old self.new)
+            self.old.log self.new.log result }
+    {
+        match received {
+            Ok(Datagram { length, peer }) => self.take_from(peer, &buffer[..length], now),
+            Err(NoDatagram::Tick) => Ok(()),
+            Err(NoDatagram::Failed) => {
+                self.unserved.count_not_accepted();
+                Ok(())
+            }
+        }
+    }
+
+    // Takes a datagram of a peer.
+    fn take_from(&mut self, from: SocketAddr, datagram: &[u8], now: u64) -> io::Result<()>
+        ensures { (may_send : Bool) × AreTold E.contents
+            (TakesArrival F.seen F.finishes P.asked
+            (record { peer = from; octets = datagram.now; may_send = may_send })
+            now self.old self.new) self.old.log self.new.log result }
+    {
+        take_datagram(
+            self.alloc,
+            &mut self.peers,
+            &mut self.place,
+            self.filter,
+            &mut self.unserved,
+            from,
+            datagram,
+            now,
+            &mut self.log,
+        )
+    }
+
+    /// Goes on to a second. If it is a new one, what was refused is told, and the sessions of peers end that
+    /// have been silent for longer than they may be.
+    pub fn go_on_to(&mut self, now: u64) -> io::Result<()>
+        ensures { AreTold E.contents (GoesOnTo F.seen F.finishes P.asked now self.old self.new)
+            self.old.log self.new.log result }
+    {
+        if now <= self.second {
+            return Ok(());
+        }
+        self.tell_and_end(now)
+    }
+
+    // Tells what was refused, and ends the sessions of peers that have been silent for too long.
+    fn tell_and_end(&mut self, now: u64) -> io::Result<()>
+        ensures { AreTold E.contents (TellsAndEnds F.seen F.finishes P.asked now self.old self.new)
+            self.old.log self.new.log result }
+    {
+        self.second = now;
+        let told = go_over(&mut self.peers, false, &mut self.log);
+        let since = now.saturating_sub(self.idle);
+        let ended = end_silent(&mut self.peers, since, &mut self.log);
+        let unserved = tell_unserved(&mut self.unserved, &mut self.log);
+        told.and(ended.and(unserved))
+    }
+}

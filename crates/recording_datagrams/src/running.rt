@@ -1,0 +1,93 @@
+//! Taking datagrams, round after round.
+
+ghost use Rattle.std.specs.Prelude.{◌≡◌, ◌≤◌, [], ◌∷◌, length, IfOk};
+ghost use Rattle.recording_peers.specs.Answers.{Gives, answer_of};
+ghost use Rattle.recording_datagrams.specs.Rounds.{TakesRound, TakesRounds};
+
+use crate::reception::Reception;
+use recording_connections::RecordingFiles;
+use recording_files::PeriodClock;
+use recording_peers::{Datagram, DatagramSource, NoDatagram, PeerPlace};
+use std::io::{self, Write};
+use std::rt::Clock;
+use std::sync::Wait;
+use std::thread;
+use std::time::{Duration, Instant};
+
+/// How many milliseconds it waits if no datagram can be received.
+const PAUSE: u64 = 100;
+
+/// Takes what a source gives in so many rounds: in each it is asked once. Of a datagram that is longer than
+/// the buffer the first octets are taken. Seconds are counted from the start; if a time isn't known the last
+/// one stays. A log that can't be written stops nothing; its first error is the answer.
+pub fn record_datagrams<
+    D: DatagramSource,
+    F: RecordingFiles + Drop,
+    P: PeerPlace<F> + PeriodClock,
+    E: Write + Drop,
+    R: Clock + Wait,
+>(
+    rt: &R,
+    start: Option<Instant>,
+    source: &mut D,
+    buffer: &mut [u8],
+    reception: &mut Reception<F, P, E>,
+    rounds: u64,
+) -> io::Result<()>
+    ensures { TakesRounds F.seen F.finishes P.asked D.answered E.contents rounds
+        source.old source.new reception.old reception.new result }
+{
+    let mut told: io::Result<()> = Ok(());
+    for _ in 0..rounds {
+        told = told.and(take_round(rt, start, source, buffer, reception));
+    }
+    told
+}
+
+// Asks a source once, and pauses if no datagram can be received.
+fn ask<D: DatagramSource, R: Clock + Wait>(
+    rt: &R,
+    source: &mut D,
+    buffer: &mut [u8],
+) -> Result<Datagram, NoDatagram>
+    ensures fits { IfOk result (λ d. d.length ≤ length buffer.new) }
+    ensures gives { Gives D.answered (answer_of result buffer.new ∷ []) source.old source.new }
+{
+    let received = source.receive(buffer);
+    if received == Err(NoDatagram::Failed) {
+        thread::sleep(rt, Duration::from_millis(PAUSE));
+    }
+    received
+}
+
+// One round.
+fn take_round<
+    D: DatagramSource,
+    F: RecordingFiles + Drop,
+    P: PeerPlace<F> + PeriodClock,
+    E: Write + Drop,
+    R: Clock + Wait,
+>(
+    rt: &R,
+    start: Option<Instant>,
+    source: &mut D,
+    buffer: &mut [u8],
+    reception: &mut Reception<F, P, E>,
+) -> io::Result<()>
+    ensures { TakesRound F.seen F.finishes P.asked D.answered E.contents
+        source.old source.new reception.old reception.new result }
+{
+    let received = ask(rt, source, buffer);
+    let now = seconds_since(rt, start).max(reception.second);
+    let kept = reception.keep_to_periods();
+    let taken = reception.take(received, buffer, now);
+    kept.and(taken.and(reception.go_on_to(now)))
+}
+
+// How many seconds have passed since then; 0 if a time isn't known.
+fn seconds_since<R: Clock>(rt: &R, start: Option<Instant>) -> u64 {
+    match (start, Instant::now(rt)) {
+        (Some(start), Ok(now)) => now.duration_since(start).as_secs(),
+        _ => 0,
+    }
+}

@@ -1,0 +1,79 @@
+//! A place with little room.
+
+use recording_connections::RecordingFiles;
+use recording_files::{FileReport, FileSeries, NotWritten, PeriodClock, ScriptClock};
+use recording_peers::PeerPlace;
+use std::alloc::{AllocError, Global};
+use std::net::SocketAddr;
+
+/// Files that have room for a number of octets.
+#[derive(Drop)]
+pub struct SmallFiles {
+    pub room: usize,
+    failed: u64,
+}
+
+impl FileSeries for SmallFiles {
+    ghost use Rattle.std.specs.Prelude.{None};
+
+    ghost seen = { λ f. record { contents = None; failed = f.failed } };
+
+    fn append(&mut self, octets: &[u8]) -> Result<(), NotWritten> {
+        if octets.len() > self.room {
+            self.failed = self.failed.saturating_add(1);
+            return Err(NotWritten);
+        }
+        self.room -= octets.len();
+        Ok(())
+    }
+
+    fn turn(&mut self, _report: &FileReport) -> Result<(), NotWritten> {
+        Ok(())
+    }
+}
+
+impl RecordingFiles for SmallFiles {
+    ghost use Rattle.std.specs.Prelude.{⊤};
+
+    ghost finishes = { λ _ _ _. ⊤ };
+
+    fn finish(self, _last: &FileReport) -> Result<(), NotWritten> {
+        Ok(())
+    }
+}
+
+/// Gives each peer files with this room.
+#[derive(Clone, Copy)]
+pub struct SmallPlace {
+    pub room: usize,
+}
+
+impl PeerPlace<SmallFiles> for SmallPlace {
+    fn files(&mut self, _alloc: Global, _peer: SocketAddr) -> Result<SmallFiles, AllocError> {
+        Ok(SmallFiles {
+            room: self.room,
+            failed: 0,
+        })
+    }
+}
+
+/// The same in the periods of a script.
+#[derive(Drop)]
+pub struct PlaceInPeriods {
+    pub place: SmallPlace,
+    pub clock: ScriptClock,
+}
+
+impl PeerPlace<SmallFiles> for PlaceInPeriods {
+    fn files(&mut self, alloc: Global, peer: SocketAddr) -> Result<SmallFiles, AllocError> {
+        self.place.files(alloc, peer)
+    }
+}
+
+impl PeriodClock for PlaceInPeriods {
+    ghost asked = { λ p. ⟦<ScriptClock as PeriodClock>⟧.asked p.clock };
+
+    fn is_over(&mut self) -> bool {
+        self.clock.is_over()
+    }
+}

@@ -1,0 +1,93 @@
+//! What is told of peers that send datagrams.
+
+use super::places::{SmallFiles, SmallPlace};
+use network_prefixes::{PeerFilter, Prefix};
+use recording_connections::FrontDesk;
+use recording_datagrams::{end_silent, go_over, take_datagram, tell_unserved};
+use recording_lines::Log;
+use recording_peers::Peers;
+use std::alloc::Global;
+use std::hash::RandomState;
+use std::net::{IpAddr, Ipv4Addr, SocketAddr};
+use std::num::NonZeroUsize;
+use std::test::*;
+use worked_examples::faults::VERSION_9;
+use worked_examples::{FailingWriter, Flow, message_of_flows};
+
+pub const FLOW: Flow = Flow {
+    start: 1000,
+    end: 2000,
+    octets: 1500,
+};
+
+const LINES: &str = "collectd: session 192.0.2.1:4739: ended: longest silent
+collectd: session 192.0.2.1:4739: domain 1: sequence numbers advanced by 1, records 1
+collectd: session 192.0.2.2:4739: refused 2 datagrams, last fault 1 Version
+collectd: session 192.0.2.2:4739: domain 1: sequence numbers advanced by 1, records 1
+collectd: session 192.0.2.2:4739: fault 19 NotWritten
+collectd: session 192.0.2.3:4739: refused 1 datagrams, last fault 1 Version
+collectd: session 192.0.2.3:4739: ended: idle
+collectd: session 192.0.2.3:4739: domain 1: sequence numbers advanced by 1, records 1
+collectd: refused 1 datagrams, last 192.0.3.1:4739
+";
+
+/// Peers of a prefix alone may send.
+pub fn only_from(alloc: Global, word: &str) -> Result<PeerFilter, Fail> {
+    let mut prefixes = Vec::new(alloc);
+    if let Ok(prefix) = Prefix::parse(word) {
+        prefixes.push(prefix)?;
+    }
+    Ok(PeerFilter { prefixes })
+}
+
+// The peers of 192.0.2.0/24 may send, two of which are kept.
+fn tell_all(rt: &HostRuntime, out: &mut FailingWriter) -> Result<(), Fail> {
+    let alloc: Global = rt.alloc();
+    let message = message_of_flows(alloc, 0, 1, &[FLOW])?;
+    let mut log = Log::new(out);
+    let most = NonZeroUsize::new(2).unwrap();
+    let mut peers: Peers<SmallFiles> = Peers::new(alloc, most, RandomState::new(rt)?)?;
+    let filter = only_from(alloc, "192.0.2.0/24")?;
+    let mut unserved = FrontDesk::new();
+    // (the second flow of a peer finds no room)
+    for (network, number, is_flow, now) in [
+        (2, 1, true, 0),
+        (2, 2, true, 1),
+        (3, 1, true, 1),
+        (2, 2, false, 1),
+        (2, 2, false, 1),
+        (2, 3, true, 2),
+        (2, 2, true, 3),
+        (2, 3, false, 3),
+    ] {
+        let octets = if is_flow {
+            message.as_slice()
+        } else {
+            VERSION_9
+        };
+        take_datagram(
+            alloc,
+            &mut peers,
+            &mut SmallPlace { room: 100 },
+            &filter,
+            &mut unserved,
+            SocketAddr::new(IpAddr::V4(Ipv4Addr::new(192, 0, network, number)), 4739),
+            octets,
+            now,
+            &mut log,
+        )?;
+    }
+    go_over(&mut peers, false, &mut log)?;
+    end_silent(&mut peers, 3, &mut log)?;
+    end_silent(&mut peers, 4, &mut log)?;
+    tell_unserved(&mut unserved, &mut log)?;
+    Ok(())
+}
+
+#[test]
+fn lines_of_peers(rt: HostRuntime) -> Result<(), Fail> {
+    let mut out = FailingWriter::new(rt.alloc(), 1000, 1000);
+    tell_all(&rt, &mut out)?;
+    assert!(rt; out.taken.as_slice() == LINES.as_bytes());
+    Ok(())
+}

@@ -1,0 +1,158 @@
+-- What the files of a recorded session give.
+use Rattle.std.proofs.Common.{◌≡◌, ℕ, List, [], ◌∷◌, ◌++◌, refl, sym, ap, subst, ◌∙◌, append_assoc, map}
+use Rattle.std.specs.Prelude.{All, Option, Some, None, Result, Ok, true}
+use Rattle.std.specs.Option.{ForSome}
+use Rattle.std.specs.Io.KnownBytes.{Consumes}
+use Rattle.ipfix_session.specs.Sources.{SourceView}
+use Rattle.std.specs.List.{flat_map}
+use Rattle.std.proofs.lemmas.List.{append-nil, map-append}
+use Rattle.std.proofs.lemmas.List.Elements.{All-nil, All-cons, All-head, All-tail}
+use Rattle.ipfix_message.specs.Domains.{Message}
+use Rattle.ipfix_message.specs.declared.record.DataRecord.{DataRecord}
+use Rattle.ipfix_message.specs.declared.fault.MessageFault.{MessageFault}
+use Rattle.ipfix_session.specs.declared.stop.Stop.{Stop}
+use Rattle.ipfix_session.specs.declared.stop.Stop.TheVariants.{Clean, Short, Fault}
+use Rattle.ipfix_session.specs.Given.{Given, gives, records_in, records_of, stop_of, IsOpen, IsPrefix}
+use Rattle.ipfix_session.proofs.Giving.{records_in-append, records_of-prefix, gives_after-fault_stays}
+use Rattle.ipfix_session.specs.Drives.{IsDue}
+use Rattle.recording_files.specs.declared.record_fault.RecordFault.{RecordFault}
+use Rattle.recording_files.specs.declared.recorded_session.RecordedSession.{RecordedSession}
+use Rattle.recording_files.specs.FileReports.{file_reports}
+use Rattle.recording_files.specs.Recordings.{Part, Recorded}
+use Rattle.recording_files.specs.Faithful.{all_given, IsReadAlone}
+use Rattle.recording_files.specs.Files.{Contents, FilesView, all_of}
+use Rattle.recording_files.specs.Periods.{ClockView, octets_before, finished_by}
+use Rattle.recording_files.specs.Sessions.{file_octets, parts, Stands, IsCutOff, HoldsAll, HoldsCut, HoldsBy, IsTold, fault_of, RecordsSession}
+use Rattle.recording_files.proofs.Growing.{writes-append}
+use Rattle.recording_files.proofs.Gatherings.{octets-append}
+use Rattle.recording_files.proofs.Going.{WritesPart, recorded-push, all_given-parts}
+use Rattle.recording_files.proofs.Together.{is_faithful}
+
+pub all_clean : (ps : List Part) → All IsReadAlone ps → All (λ file. stop_of file ≡ Clean) (map file_octets ps)
+all_clean [] all = All-nil (λ file. stop_of file ≡ Clean)
+all_clean (p ∷ ps) all = All-cons (λ file. stop_of file ≡ Clean) (file_octets p) (map file_octets ps) (All-head IsReadAlone p ps all).stop (all_clean ps (All-tail IsReadAlone p ps all))
+
+pub all_records : (ps : List Part) → All IsReadAlone ps → flat_map records_of (map file_octets ps) ≡ records_in (all_given ps)
+all_records [] all = refl
+all_records (p ∷ ps) all =
+    ap (λ (rs : List DataRecord). rs ++ flat_map records_of (map file_octets ps)) (All-head IsReadAlone p ps all).records
+    ∙ ap (λ (rs : List DataRecord). records_in p.given ++ rs) (all_records ps (All-tail IsReadAlone p ps all))
+    ∙ sym (records_in-append p.given (all_given ps))
+
+-- what is told of files that tell their octets
+pub contents_are : (first after : Option Contents) (none c : Contents) (finished : List Part) (last : Part) (cut_off : List ℕ) → first ≡ Some none → after ≡ Some c → Stands first after finished last cut_off
+    → (c.finished ≡ none.finished ++ map file_octets finished) × (c.reports ≡ none.reports ++ file_reports [] finished) × (c.unfinished ≡ file_octets last ++ cut_off)
+contents_are first after none c finished last cut_off is now stands =
+    subst (λ (o : Option Contents). Stands (Some none) o finished last cut_off) now (subst (λ (o : Option Contents). Stands o after finished last cut_off) is stands)
+
+pub files_give : (told : List Message → List Message → Type 0) (text : List ℕ) (files : List (List Message)) (first after : FilesView) (start c : Contents) → HoldsAll told text files first after → first.contents ≡ Some start → start.finished ≡ [] → after.contents ≡ Some c
+    → All (λ file. stop_of file ≡ Clean) (all_of c) × (flat_map records_of (all_of c) ≡ records_of text)
+files_give told text files first after start c h is none now =
+    let ps = parts h.some.holds.finished h.some.holds.last in
+    let read = (is_faithful ps h.some.holds.recorded).files in
+    let t = contents_are first.contents after.contents start c h.some.holds.finished h.some.holds.last [] is now h.some.holds.stands in
+    let are : all_of c ≡ map file_octets ps =
+    ap (λ (w : List ℕ). c.finished ++ w ∷ []) (t.2 ∙ append-nil (file_octets h.some.holds.last))
+    ∙ ap (λ (fs : List (List ℕ)). fs ++ file_octets h.some.holds.last ∷ []) (t.0 ∙ ap (λ (fs : List (List ℕ)). fs ++ map file_octets h.some.holds.finished) none)
+    ∙ sym (map-append file_octets h.some.holds.finished (h.some.holds.last ∷ [])) in (
+      subst (λ (fs : List (List ℕ)). All (λ file. stop_of file ≡ Clean) fs) (sym are) (all_clean ps read),
+      ap (λ (fs : List (List ℕ)). flat_map records_of fs) are ∙ all_records ps read ∙ ap records_in h.all,
+    )
+
+-- ---- a file that was cut
+
+not_clean : (e : MessageFault) → Fault e ≡ Clean → ⊥
+not_clean e h = cc
+
+-- the front of a text without a fault has none
+open_front : (w more : List ℕ) → stop_of (w ++ more) ≡ Clean → IsOpen (stop_of w)
+open_front w more clean = by_stop (stop_of w) refl
+  where
+    by_stop : (s : Stop) → stop_of w ≡ s → IsOpen s
+    by_stop Clean is = tt
+    by_stop Short is = tt
+    by_stop (Fault e) is = absurd (not_clean e (sym is ∙ sym (ap (λ (g : Given). g.stop) (gives_after-fault_stays [] w more e is)) ∙ clean))
+
+prefix-trans : {X : Type 0} (xs ys zs : List X) → IsPrefix xs ys → IsPrefix ys zs → IsPrefix xs zs
+prefix-trans {X} xs ys zs p q = (p.0 ++ q.0, q.1 ∙ ap (λ (l : List X). l ++ q.0) p.1 ∙ append_assoc xs p.0 q.0)
+
+records-prefix : (ms ns : List Message) → IsPrefix ms ns → IsPrefix (records_in ms) (records_in ns)
+records-prefix ms ns p = (records_in p.0, ap records_in p.1 ∙ records_in-append ms p.0)
+
+-- files that are read by themselves, the last of them cut
+pub kept : (ps : List Part) (q : Part) (w more : List ℕ) → All IsReadAlone (ps ++ q ∷ []) → file_octets q ≡ w ++ more
+    → All (λ file. IsOpen (stop_of file)) (map file_octets ps ++ w ∷ []) × IsPrefix (flat_map records_of (map file_octets ps ++ w ∷ [])) (records_in (all_given (ps ++ q ∷ [])))
+kept [] q w more all is =
+    let one = All-head IsReadAlone q [] all in
+    let clean : stop_of (w ++ more) ≡ Clean = ap stop_of (sym is) ∙ one.stop in
+    let front = records_of-prefix w more in
+    let whole : records_of (w ++ more) ≡ records_in (q.given ++ []) = ap records_of (sym is) ∙ one.records ∙ ap records_in (sym (append-nil q.given)) in (
+      All-cons (λ file. IsOpen (stop_of file)) w [] (open_front w more clean) (All-nil (λ file. IsOpen (stop_of file))),
+      (front.0, sym whole ∙ front.1 ∙ ap (λ (rs : List DataRecord). rs ++ front.0) (sym (append-nil (records_of w)))),
+    )
+kept (p ∷ ps) q w more all is =
+    let one = All-head IsReadAlone p (ps ++ q ∷ []) all in
+    let others = kept ps q w more (All-tail IsReadAlone p (ps ++ q ∷ []) all) is in (
+      All-cons (λ file. IsOpen (stop_of file)) (file_octets p) (map file_octets ps ++ w ∷ []) (subst IsOpen (sym one.stop) tt) others.0,
+      (
+        others.1.0,
+        records_in-append p.given (all_given (ps ++ q ∷ [])) ∙ ap (λ (rs : List DataRecord). records_in p.given ++ rs) others.1.1
+            ∙ ap (λ (rs : List DataRecord). rs ++ (flat_map records_of (map file_octets ps ++ w ∷ []) ++ others.1.0)) (sym one.records)
+            ∙ sym (append_assoc (records_of (file_octets p)) (flat_map records_of (map file_octets ps ++ w ∷ [])) others.1.0),
+      ),
+    )
+
+recorded-last : (before : List Message) (ps : List Part) (p : Part) → Recorded before (ps ++ p ∷ []) → Recorded before ps × WritesPart (before ++ all_given ps) p
+recorded-last before [] p r = (tt, subst (λ (b : List Message). WritesPart b p) (sym (append-nil before)) r.0)
+recorded-last before (q ∷ ps) p r =
+    let more = recorded-last (before ++ q.given) ps p r.1 in
+    ((r.0, more.0), subst (λ (b : List Message). WritesPart b p) (append_assoc before q.given (all_given ps)) more.1)
+
+-- the file as it was to be
+abbrev with_messages : Part → List (List ℕ) → List Message → List (List ℕ) → Part
+with_messages p messages given file = record { messages = p.messages ++ messages; given = p.given ++ given; file = p.file ++ file }
+
+kept_cut : (text : List ℕ) (finished : List Part) (last : Part) (cut_off : List ℕ) → Recorded [] (parts finished last) → IsCutOff text (all_given finished) last.given cut_off
+    → All (λ file. IsOpen (stop_of file)) (map file_octets finished ++ (file_octets last ++ cut_off) ∷ []) × IsPrefix (flat_map records_of (map file_octets finished ++ (file_octets last ++ cut_off) ∷ [])) (records_of text)
+kept_cut text finished last cut_off recorded c =
+    let was = recorded-last [] finished last recorded in
+    let q = with_messages last c.messages c.given c.file in
+    let now : Recorded [] (parts finished q) = recorded-push [] finished q was.0 (writes-append (all_given finished) [] last.messages c.messages last.given c.given last.file c.file was.1 c.writes) in
+    let octets : file_octets q ≡ (file_octets last ++ cut_off) ++ c.first.0 =
+    octets-append last.file c.file ∙ ap (λ (w : List ℕ). file_octets last ++ w) c.first.1 ∙ sym (append_assoc (file_octets last) cut_off c.first.0) in
+    let k = kept finished q (file_octets last ++ cut_off) c.first.0 (is_faithful (parts finished q) now).files octets in
+    let given : IsPrefix (all_given (parts finished q)) (gives text).messages = subst (λ (ms : List Message). IsPrefix ms (gives text).messages) (sym (all_given-parts finished q)) c.next in
+    (k.0, prefix-trans (flat_map records_of (map file_octets finished ++ (file_octets last ++ cut_off) ∷ [])) (records_in (all_given (parts finished q))) (records_of text) k.1 (records-prefix (all_given (parts finished q)) (gives text).messages given))
+
+pub files_keep : (told : List Message → List Message → Type 0) (text earlier : List ℕ) (files : List (List Message)) (first after : FilesView) (start c : Contents) → HoldsCut told text earlier files first after → first.contents ≡ Some start → start.finished ≡ [] → after.contents ≡ Some c
+    → All (λ file. IsOpen (stop_of file)) (all_of c) × IsPrefix (flat_map records_of (all_of c)) (records_of text)
+files_keep told text earlier files first after start c h is none now =
+    let finished = h.holds.finished in
+    let last = h.holds.last in
+    let t = contents_are first.contents after.contents start c finished last h.cut_off is now h.holds.stands in
+    let are : all_of c ≡ map file_octets finished ++ (file_octets last ++ h.cut_off) ∷ [] =
+    ap (λ (w : List ℕ). c.finished ++ w ∷ []) t.2
+    ∙ ap (λ (fs : List (List ℕ)). fs ++ (file_octets last ++ h.cut_off) ∷ []) (t.0 ∙ ap (λ (fs : List (List ℕ)). fs ++ map file_octets finished) none) in
+    subst (λ (fs : List (List ℕ)). All (λ file. IsOpen (stop_of file)) fs × IsPrefix (flat_map records_of fs) (records_of text)) (sym are)
+    (kept_cut text finished last h.cut_off h.holds.recorded h.next)
+
+-- ---- to the end of the source
+
+consumed_all : (before after : Option (List ℕ)) (whole gave : List ℕ) → before ≡ Some whole → Consumes before after gave → ForSome after (λ xs. xs ≡ []) → gave ≡ whole
+consumed_all before None whole gave is some end = absurd (subst (λ b. Consumes b None gave) is some)
+consumed_all before (Some left) whole gave is some end =
+    let all : whole ≡ gave ++ left = subst (λ b. Consumes b (Some left) gave) is some in
+    sym (all ∙ ap (λ (w : List ℕ). gave ++ w) (end left refl) ∙ append-nil gave)
+
+pub recorded_all : {S F C : Type 0} (seen : S → SourceView) (view : F → FilesView) (asked : C → ClockView) (limit : ℕ) (before after : S) (first last : F) (clock then : C) (text : List ℕ) (start c : Contents) (s : RecordedSession)
+    → ((seen after).ended ≡ true → ForSome (seen after).text (λ xs. xs ≡ []))
+    → RecordsSession seen view asked limit before after first last clock then s → s.ended ≡ Ok tt → (seen before).text ≡ Some text
+    → (view first).contents ≡ Some start → start.finished ≡ [] → (view last).contents ≡ Some c
+    → (stop_of text ≡ Clean) × All (λ file. stop_of file ≡ Clean) (all_of c) × (flat_map records_of (all_of c) ≡ records_of text)
+recorded_all seen view asked limit before after first last clock then text start c s at_end r ok is is_first none now =
+    let due : IsDue None limit r.gave (seen before) (seen after) = subst (λ (a : Result (Unit {0}) RecordFault). IsDue (fault_of a) limit r.gave (seen before) (seen after)) ok r.given.fault_is_due in
+    let holds : HoldsAll (IsTold s) r.gave (finished_by r.reads) (view first) (view last) =
+    subst (λ (a : Result (Unit {0}) RecordFault). HoldsBy (IsTold s) a r.gave (octets_before r.reads) (finished_by r.reads) (view first) (view last)) ok r.holds in
+    let all : r.gave ≡ text = consumed_all (seen before).text (seen after).text text r.gave is r.given.octets (at_end due.1) in
+    let f = files_give (IsTold s) r.gave (finished_by r.reads) (view first) (view last) start c holds is_first none now in
+    (ap stop_of (sym all) ∙ due.0, f.0, f.1 ∙ ap records_of all)

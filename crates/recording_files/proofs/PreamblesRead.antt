@@ -1,0 +1,335 @@
+-- A preamble is read: it gives no record, and puts exactly its templates in force.
+use Rattle.std.proofs.Common.{◌≡◌, ℕ, ◌+◌, ◌^◌, ◌<◌, Bool, true, false, cond, ltb, eqb, is_some, List, [], ◌∷◌, ◌++◌, length, drop, map, Option, Some, None, Result, Ok, refl, sym, ap, subst, ◌∙◌, arith, inl, inr}
+use Rattle.std.specs.Prelude.{◌⊎◌, ◌||◌, All}
+use Rattle.std.specs.List.{flat_map}
+use Rattle.std.proofs.lemmas.Bool.{le-ltb, eq-eqb}
+use Rattle.std.proofs.lemmas.Bool.Decides.{eqb_tells}
+use Rattle.std.proofs.lemmas.List.{append-nil, length-append, drop_at}
+use Rattle.std.proofs.lemmas.List.Elements.{All-nil, All-cons, All-head, All-tail, All-contains}
+use Rattle.ipfix_wire.specs.MessageHeader.{header_octets, header_at}
+use Rattle.ipfix_wire.specs.SetHeader.{set_octets}
+use Rattle.ipfix_wire.specs.declared.header.Header.{Header}
+use Rattle.ipfix_wire.proofs.Choices.{cases_option}
+use Rattle.ipfix_wire.proofs.Headers.{read}
+use Rattle.ipfix_wire.proofs.Written.{header_again}
+use Rattle.ipfix_message.specs.declared.fault.MessageFault.{MessageFault}
+use Rattle.ipfix_message.specs.declared.record.Template.{Template}
+use Rattle.ipfix_message.specs.declared.template_record.TemplateKind.{TemplateKind}
+use Rattle.ipfix_message.specs.declared.template_record.TemplateKind.TheVariants.{Plain, Options}
+use Rattle.ipfix_message.specs.declared.template_record.Event.{Event}
+use Rattle.ipfix_message.specs.declared.template_record.Event.TheVariants.{Define}
+use Rattle.ipfix_message.specs.Outcome.{◌>>=◌}
+use Rattle.ipfix_message.specs.TemplateRecords.{set_id_of, event_at}
+use Rattle.ipfix_message.specs.TemplatesInForce.{is_other, same_template, in_force, event_gives, template_set_gives}
+use Rattle.ipfix_message.specs.Sets.{Set, next_set}
+use Rattle.ipfix_message.specs.Messages.{Decoding, before, more_ignored, templates_in, set_gives, sets_from}
+use Rattle.ipfix_message.specs.Domains.{History, Message, events_in, message_header, message_gives}
+use Rattle.ipfix_message.proofs.TemplateRecords.{events_read}
+use Rattle.ipfix_message.proofs.WritableTemplates.{template_spelled}
+use Rattle.ipfix_message.proofs.TemplateSets.{template_set_gives-next, template_set_gives-done}
+use Rattle.ipfix_message.proofs.MessageSets.{next_set-only}
+use Rattle.ipfix_message.proofs.Decoding.{sets_from-next, sets_from-done}
+use Rattle.ipfix_message.proofs.Same.{same_template-Decides}
+use Rattle.ipfix_message.proofs.LastDefinition.{in_force-found}
+use Rattle.ipfix_session.specs.Given.{known_after}
+use Rattle.ipfix_message.specs.Alike.{SameInForce, knows}
+use Rattle.recording_files.specs.declared.stamp.Stamp.{Stamp}
+use Rattle.recording_files.specs.Preambles.{kind_of, template_octets, template_set, IsTemplate, IsStamp, sets_octets, stamped, templates_message, IsPreamble}
+use Rattle.ipfix_session.specs.TemplateLists.{AreInForce}
+use Rattle.ipfix_message.proofs.PartsOf.{HasRoom, Steps, reads}
+use Rattle.ipfix_session.proofs.Chains.{GivesAll}
+
+-- ---- a template
+
+-- no template is in force for its id, or this one is
+abbrev IsFree : List Event → Template → Type 0
+IsFree es t = (in_force es t.id ≡ None) ⊎ (in_force es t.id ≡ Some t)
+
+not_other : (t : Template) (o : Option Template) → (o ≡ None) ⊎ (o ≡ Some t) → is_other t o ≡ false
+not_other t o (inl none) = rw none refl
+not_other t o (inr same) = let yes : same_template t t ≡ true = (same_template-Decides t t).1 refl in rw (same, yes) refl
+
+defines : (es : List Event) (t : Template) → IsFree es t → event_gives es (Define t) ≡ Ok false
+unfolding event_gives
+defines es t free = let no = not_other t (in_force es t.id) free in rw no refl
+
+set_templates : (t : Template) (es : List Event) → IsTemplate t → IsFree es t → template_set_gives (kind_of t) es (template_octets t) ≡ Ok (Define t ∷ es, 0)
+set_templates t es is free =
+    let w = template_octets t in
+    let at : event_at (kind_of t) w ≡ Ok (Define t, []) = ap (event_at (kind_of t)) (sym (append-nil w)) ∙ (events_read (kind_of t)).only (Define t) w [] (template_spelled t is) in
+    template_set_gives-next (kind_of t) es w (Define t) [] false at (defines es t free)
+    ∙ ap (λ (r : Result (List Event × ℕ) MessageFault). r >>= λ x. Ok (x.0, 0 + x.1)) (template_set_gives-done (kind_of t) (Define t ∷ es) [] refl)
+
+abbrev set_of : Template → Set
+set_of t = record { id = set_id_of (kind_of t); body = template_octets t }
+
+set_is : (k : TemplateKind) (h : Header) (d : Decoding) (body : List ℕ) → set_gives h d (record { id = set_id_of k; body = body }) ≡ templates_in k d body
+unfolding set_gives
+set_is Plain h d body = refl
+set_is Options h d body = refl
+
+-- one more definition
+abbrev pub defining : Template → Decoding → Decoding
+defining t d = record d { events = Define t ∷ d.events }
+
+one_set : (h : Header) (d : Decoding) (t : Template) → IsTemplate t → IsFree d.events t → set_gives h d (set_of t) ≡ Ok (defining t d)
+unfolding templates_in
+one_set h d t is free =
+    let none : d.passed_over.ignored_withdrawals + 0 ≡ d.passed_over.ignored_withdrawals = omega arith in
+    set_is (kind_of t) h d (template_octets t)
+    ∙ ap (λ (r : Result (List Event × ℕ) MessageFault). r >>= λ x. Ok (record d { events = x.0; passed_over = more_ignored x.1 d.passed_over })) (set_templates t d.events is free)
+    ∙ ap (λ (n : ℕ). Ok (record d { events = Define t ∷ d.events; passed_over = record d.passed_over { ignored_withdrawals = n } })) none
+
+small_id : (k : TemplateKind) → set_id_of k < 2 ^ 16
+small_id Plain = omega arith
+small_id Options = omega arith
+
+next_is : (t : Template) (rest : List ℕ) → IsTemplate t → next_set (template_set t ++ rest) ≡ Ok (set_of t, rest)
+next_is t rest is =
+    next_set-only (set_of t) (template_set t) rest (record {
+      id = small_id (kind_of t);
+      size = omega (arith, is.fits, length-append (set_octets (set_id_of (kind_of t)) (length (template_octets t))) (template_octets t));
+      octets = refl;
+    })
+
+-- ---- templates in turn
+
+abbrev pub defined : List Template → List Event → List Event
+defined [] es = es
+defined (t ∷ ts) es = defined ts (Define t ∷ es)
+
+defined-append : (ts us : List Template) (es : List Event) → defined (ts ++ us) es ≡ defined us (defined ts es)
+defined-append [] us es = refl
+defined-append (t ∷ ts) us es = defined-append ts us (Define t ∷ es)
+
+-- at each id no template is in force, or the one that is after all of these
+pub record Below (es full : List Event) : Type 0 where
+  pub at : (id : ℕ) → (in_force es id ≡ None) ⊎ (in_force es id ≡ in_force full id)
+
+abbrev pub Stands : List Event → Template → Type 0
+Stands full t = in_force full t.id ≡ Some t
+
+below_next : (es full : List Event) (t : Template) → Below es full → Stands full t → Below (Define t ∷ es) full
+unfolding in_force
+below_next es full t below is = record {
+  at = λ id. elim (eqb_tells id t.id) [
+    | inl here ↦ rw (here.0, here.1) (inr (sym is))
+    | inr other ↦ rw other.0 (below.at id)
+  ];
+}
+
+free : (es full : List Event) (t : Template) → Below es full → Stands full t → IsFree es t
+free es full t below is = elim (below.at t.id) [ inl none ↦ inl none | inr same ↦ inr (same ∙ is) ]
+
+below_all : (ts : List Template) (es full : List Event) → Below es full → All (Stands full) ts → Below (defined ts es) full
+below_all [] es full below all = below
+below_all (t ∷ ts) es full below all = below_all ts (Define t ∷ es) full (below_next es full t below (All-head (Stands full) t ts all)) (All-tail (Stands full) t ts all)
+
+-- what is defined stays defined
+one_more : (t : Template) (es : List Event) (id : ℕ) → is_some (in_force es id) ≡ true → is_some (in_force (Define t ∷ es) id) ≡ true
+unfolding in_force
+one_more t es id h = by_test (eqb id t.id)
+  where
+    by_test : (b : Bool) → is_some (cond b (Some t) (in_force es id)) ≡ true
+    by_test true = refl
+    by_test false = h
+
+stays : (ts : List Template) (es : List Event) (id : ℕ) → is_some (in_force es id) ≡ true → is_some (in_force (defined ts es) id) ≡ true
+stays [] es id h = h
+stays (t ∷ ts) es id h = stays ts (Define t ∷ es) id (one_more t es id h)
+
+defines_itself : (t : Template) (es : List Event) → is_some (in_force (Define t ∷ es) t.id) ≡ true
+unfolding in_force
+defines_itself t es = let e : eqb t.id t.id ≡ true = eq-eqb t.id t.id refl in rw e refl
+
+abbrev IsDefined : List Event → Template → Type 0
+IsDefined es t = is_some (in_force es t.id) ≡ true
+
+all_defined : (ts : List Template) (es : List Event) → All (IsDefined (defined ts es)) ts
+all_defined [] es = All-nil (IsDefined es)
+all_defined (t ∷ ts) es = All-cons (IsDefined (defined ts (Define t ∷ es))) t ts (stays ts (Define t ∷ es) t.id (defines_itself t es)) (all_defined ts (Define t ∷ es))
+
+-- all templates in force were defined, and they alone
+pub all_in_force : (ts : List Template) (es full : List Event) → Below es full → AreInForce ts full → SameInForce full (defined ts es)
+all_in_force ts es full below are = record { at = at }
+  where
+    end : Below (defined ts es) full
+    end = below_all ts es full below are.each
+
+    some_is : (o : Option Template) → is_some o ≡ true → o ≡ None → ⊥
+    some_is o some none = absurd cc
+
+    at : (id : ℕ) → in_force full id ≡ in_force (defined ts es) id
+    at id = elim (cases_option (in_force full id)) [
+      | inl none ↦ elim (end.at id) [ inl out ↦ none ∙ sym out | inr same ↦ sym same ]
+      | inr some ↦ elim (end.at id) [
+        | inl out ↦
+            let t = some.0 in
+            let same : t.id ≡ id = (in_force-found full id t some.1).0 in
+            let there : in_force full t.id ≡ Some t = ap (in_force full) same ∙ some.1 in
+            let is : is_some (in_force (defined ts es) t.id) ≡ true = All-contains (IsDefined (defined ts es)) ts t (all_defined ts es) (are.all t there) in
+            absurd (some_is (in_force (defined ts es) t.id) is (ap (in_force (defined ts es)) same ∙ out))
+        | inr same ↦ sym same
+      ]
+    ]
+
+-- ---- the sets of a message
+
+pub sets_read : (h : Header) (ts : List Template) (d : Decoding) (full : List Event) → All IsTemplate ts → All (Stands full) ts → Below d.events full
+    → sets_from h d (sets_octets ts) ≡ Ok (record d { events = defined ts d.events })
+sets_read h [] d full are stand below = sets_from-done h d [] refl
+sets_read h (t ∷ ts) d full are stand below =
+    let is = All-head IsTemplate t ts are in
+    let here = All-head (Stands full) t ts stand in
+    sets_from-next h d (defining t d) (template_set t ++ sets_octets ts) (set_of t) (sets_octets ts) (next_is t (sets_octets ts) is) (one_set h d t is (free d.events full t below here))
+    ∙ sets_read h ts (defining t d) full (All-tail IsTemplate t ts are) (All-tail (Stands full) t ts stand) (below_next d.events full t below here)
+
+-- ---- a message of a preamble
+
+header_is : (s : Stamp) (ts : List Template) → IsStamp s → 16 + length (sets_octets ts) < 2 ^ 16 → message_header (templates_message s ts) ≡ Ok (stamped s (length (sets_octets ts)))
+unfolding message_header
+header_is s ts is fits =
+    let m = templates_message s ts in
+    let h = stamped s (length (sets_octets ts)) in
+    let size : length m ≡ 16 + length (sets_octets ts) = omega (arith, length-append (header_octets h) (sets_octets ts)) in
+    let long : ltb (length m) 16 ≡ false = le-ltb (length m) 16 (omega (arith, size)) in
+    let at : header_at m ≡ read h = header_again h (sets_octets ts) (omega arith) fits is.export_time is.sequence is.domain in
+    let same : eqb (16 + length (sets_octets ts)) (length m) ≡ true = eq-eqb (16 + length (sets_octets ts)) (length m) (sym size) in
+    rw (long, at, same) refl
+
+-- a message of a preamble gives no record, and its sequence number is due after it
+pub record IsLead (s : Stamp) (y : Message) : Type 0 where
+  pub export_time : y.header.export_time ≡ s.export_time
+  pub sequence : y.header.sequence ≡ s.sequence
+  pub domain : y.header.domain ≡ s.domain
+  pub records : y.decoding.records ≡ []
+  pub passed_over : y.decoding.passed_over ≡ (before []).passed_over
+
+pub record LedBy (ds : History) (s : Stamp) (ts : List Template) (y : Message) : Type 0 where
+  pub is : message_gives ds (templates_message s ts) ≡ Ok y
+  pub lead : IsLead s y
+  pub steps : Steps ds s.domain (defined ts (events_in ds s.domain)) y.domains
+
+pub one_message : (ds : History) (s : Stamp) (ts : List Template) (full : List Event) → IsStamp s → HasRoom ds s.domain → 16 + length (sets_octets ts) < 2 ^ 16 → All IsTemplate ts → All (Stands full) ts
+    → Below (events_in ds s.domain) full → (y : Message) × LedBy ds s ts y
+one_message ds s ts full is room fits are stand below =
+    let h = stamped s (length (sets_octets ts)) in
+    let es = events_in ds s.domain in
+    let d = record (before es) { events = defined ts es } in
+    let sets : sets_from h (before es) (drop 16 (templates_message s ts)) ≡ Ok d =
+    ap (sets_from h (before es)) (drop_at (header_octets h) (sets_octets ts) 16 refl) ∙ sets_read h ts (before es) full are stand below in
+    let r = reads ds (templates_message s ts) h d (header_is s ts is fits) room sets in
+    let y = r.0 in
+    let steps : Steps ds s.domain (defined ts es) y.domains = by_parts y r.2 r.3 r.4.steps in (
+      y,
+      record {
+        is = r.1;
+        lead = record {
+          export_time = ap (λ (x : Header). x.export_time) r.2;
+          sequence = ap (λ (x : Header). x.sequence) r.2;
+          domain = ap (λ (x : Header). x.domain) r.2;
+          records = ap (λ (x : Decoding). x.records) r.3;
+          passed_over = ap (λ (x : Decoding). x.passed_over) r.3;
+        };
+        steps = steps;
+      },
+    )
+  where
+    by_parts : (y : Message) → y.header ≡ stamped s (length (sets_octets ts)) → y.decoding ≡ record (before (events_in ds s.domain)) { events = defined ts (events_in ds s.domain) }
+        → Steps ds y.header.domain y.decoding.events y.domains → Steps ds s.domain (defined ts (events_in ds s.domain)) y.domains
+    by_parts y a b steps = subst (λ (k : Decoding). Steps ds s.domain k.events y.domains) b (subst (λ (k : Header). Steps ds k.domain y.decoding.events y.domains) a steps)
+
+-- ---- all messages of a preamble
+
+all_front : {X : Type 0} (P : X → Type 0) (xs ys : List X) → All P (xs ++ ys) → All P xs
+all_front P [] ys all = All-nil P
+all_front P (x ∷ xs) ys all = All-cons P x xs (All-head P x (xs ++ ys) all) (all_front P xs ys (All-tail P x (xs ++ ys) all))
+
+all_back : {X : Type 0} (P : X → Type 0) (xs ys : List X) → All P (xs ++ ys) → All P ys
+all_back P [] ys all = all
+all_back P (x ∷ xs) ys all = all_back P xs ys (All-tail P x (xs ++ ys) all)
+
+abbrev flat : List (List Template) → List Template
+flat parts = flat_map (λ part. part) parts
+
+abbrev pub Fits : List Template → Type 0
+Fits part = 16 + length (sets_octets part) < 2 ^ 16
+
+itself : (n : ℕ) → eqb n n ≡ true
+itself n = eq-eqb n n refl
+
+events_now : (ds news : History) (d : ℕ) (es : List Event) → Steps ds d es news → events_in news d ≡ es
+events_now ds news d es s = let e = itself d in s.events_at d ∙ rw e refl
+
+knows_now : (ds news : History) (d : ℕ) (es : List Event) → Steps ds d es news → knows news d ≡ true
+knows_now ds news d es s = let e = itself d in s.knows_at d ∙ rw e (or_true_right (knows ds d))
+  where
+    or_true_right : (b : Bool) → (b || true) ≡ true
+    or_true_right true = refl
+    or_true_right false = refl
+
+or_same : (a b : Bool) → ((a || b) || b) ≡ (a || b)
+or_same true b = refl
+or_same false true = refl
+or_same false false = refl
+
+steps_twice : (base ds news : History) (d : ℕ) (es fs : List Event) → Steps base d es ds → Steps ds d fs news → Steps base d fs news
+steps_twice base ds news d es fs s t =
+    let there = knows_now base ds d es s in
+    record {
+      knows_at = λ q. t.knows_at q ∙ ap (λ (b : Bool). b || eqb q d) (s.knows_at q) ∙ or_same (knows base q) (eqb q d);
+      events_at = λ q. t.events_at q ∙ ap (λ (x : List Event). cond (eqb q d) fs x) (s.events_at q) ∙ twice (eqb q d) (events_in base q);
+      keys = t.keys ∙ rw there s.keys;
+    }
+  where
+    twice : (b : Bool) (x : List Event) → cond b fs (cond b es x) ≡ cond b fs x
+    twice true x = refl
+    twice false x = refl
+
+-- the messages after the first
+led_on : (base ds : History) (s : Stamp) (es full : List Event) (parts : List (List Template)) → IsStamp s → Steps base s.domain es ds → events_in ds s.domain ≡ es
+    → All Fits parts → All IsTemplate (flat parts) → All (Stands full) (flat parts) → Below es full
+    → (ys : List Message) × GivesAll ds (map (templates_message s) parts) ys × All (IsLead s) ys × Steps base s.domain (defined (flat parts) es) (known_after ds ys)
+led_on base ds s es full [] is steps at fits are stand below = ([], tt, All-nil (IsLead s), steps)
+led_on base ds s es full (p ∷ ps) is steps at fits are stand below =
+    let d = s.domain in
+    let one = one_message ds s p full is (inl (knows_now base ds d es steps)) (All-head Fits p ps fits) (all_front IsTemplate p (flat ps) are) (all_front (Stands full) p (flat ps) stand) (rw at below) in
+    let y = one.0 in
+    let mine : Steps ds d (defined p es) y.domains = rw at at one.1.steps in
+    let both : Steps base d (defined p es) y.domains = steps_twice base ds y.domains d es (defined p es) steps mine in
+    let more = led_on base y.domains s (defined p es) full ps is both (events_now ds y.domains d (defined p es) mine) (All-tail Fits p ps fits) (all_back IsTemplate p (flat ps) are) (all_back (Stands full) p (flat ps) stand)
+    (below_all p es full below (all_front (Stands full) p (flat ps) stand)) in
+    (y ∷ more.0, (one.1.is, more.1), All-cons (IsLead s) y more.0 one.1.lead more.2, rw (defined-append p (flat ps) es) more.3)
+
+-- what a preamble gives
+pub record Led (ds : History) (s : Stamp) (ms : List (List ℕ)) (full : List Event) : Type 0 where
+  pub first : Message
+  pub others : List Message
+  pub is : GivesAll ds ms (first ∷ others)
+  pub leads : All (IsLead s) (first ∷ others)
+  pub events : List Event
+  pub steps : Steps ds s.domain events (known_after ds (first ∷ others))
+  pub same : SameInForce full events
+
+pub led : (ds : History) (s : Stamp) (ts : List Template) (ms : List (List ℕ)) (full : List Event) → IsStamp s → HasRoom ds s.domain → IsPreamble s ts ms → All IsTemplate ts → AreInForce ts full
+    → Below (events_in ds s.domain) full → Led ds s ms full
+led ds s ts ms full is room preamble are force below =
+    let d = s.domain in
+    let es = events_in ds d in
+    let p = preamble.first in
+    let ps = preamble.others in
+    let all : All IsTemplate (p ++ flat ps) = subst (All IsTemplate) preamble.whole are in
+    let stand : All (Stands full) (p ++ flat ps) = subst (All (Stands full)) preamble.whole force.each in
+    let one = one_message ds s p full is room (All-head Fits p ps preamble.fit) (all_front IsTemplate p (flat ps) all) (all_front (Stands full) p (flat ps) stand) below in
+    let y = one.0 in
+    let more = led_on ds y.domains s (defined p es) full ps is one.1.steps (events_now ds y.domains d (defined p es) one.1.steps) (All-tail Fits p ps preamble.fit) (all_back IsTemplate p (flat ps) all) (all_back (Stands full) p (flat ps) stand)
+    (below_all p es full below (all_front (Stands full) p (flat ps) stand)) in
+    record {
+      first = y;
+      others = more.0;
+      is = subst (λ (w : List (List ℕ)). GivesAll ds w (y ∷ more.0)) (sym preamble.are) (one.1.is, more.1);
+      leads = All-cons (IsLead s) y more.0 one.1.lead more.2;
+      events = defined (flat ps) (defined p es);
+      steps = more.3;
+      same = subst (SameInForce full) (ap (λ (us : List Template). defined us es) preamble.whole ∙ defined-append p (flat ps) es) (all_in_force ts es full below force);
+    }

@@ -1,0 +1,25 @@
+-- What a message adds to the report of its file.
+use Rattle.std.specs.Prelude.{◌+◌}
+use Rattle.ipfix_session.specs.declared.account.Account.{Account}
+use Rattle.ipfix_session.specs.declared.tally.Tally.{Tally}
+use Rattle.ipfix_session.specs.Ledger.{capped, lost_at, backward_at}
+use Rattle.ipfix_session.specs.Accounts.{unaccounted_at}
+use Rattle.ipfix_session.specs.Intake.{counts_of}
+use Rattle.recording_files.specs.declared.file_report.FileReport.{FileReport}
+use Rattle.recording_files.specs.declared.message_count.MessageCount.{MessageCount}
+use Rattle.recording_files.specs.Recorders.{Told}
+
+-- the report after one more message of a domain that has this account
+abbrev pub file_after : FileReport → Account → MessageCount → FileReport
+file_after f a c = record {
+  messages = capped (f.messages + 1);
+  records = capped (f.records + c.records);
+  lost = capped (f.lost + lost_at a.due c.header.sequence);
+  backward = capped (f.backward + backward_at a.due c.header.sequence);
+  unknown_sets = capped (f.unknown_sets + c.passed_over.unknown_sets);
+  unaccounted = capped (f.unaccounted + unaccounted_at a.unsure c.header.sequence);
+}
+
+-- the counts that a tally and the report of a file keep
+abbrev pub told_of : Tally → FileReport → Told
+told_of t f = record { session = counts_of t; file = f }

@@ -1,0 +1,80 @@
+-- What contracts see of a recorder, and of the counts beside it.
+use Rattle.std.specs.Prelude.{◌≡◌, ℕ, ◌+◌, ◌%◌, ◌^◌, ◌==◌, Bool, false, is_some, nat_eq, if◌then◌else◌, List, [], ◌∷◌, ◌++◌, length, Option, Some, None, Ok}
+use Rattle.std.specs.Map.{lookup}
+use Rattle.ipfix_wire.specs.declared.header.Header.{Header}
+use Rattle.ipfix_message.specs.Domains.{DomainsView, Message, StandsFor, message_gives}
+use Rattle.ipfix_session.specs.Given.{known_after, octets_of, records_in}
+use Rattle.ipfix_session.specs.Ledger.{count_in, messages_of, due_of}
+use Rattle.ipfix_session.specs.Feeding.{Counts, Tells}
+use Rattle.recording_files.specs.declared.file_report.FileReport.{FileReport}
+use Rattle.recording_files.specs.declared.message_count.MessageCount.{MessageCount}
+use Rattle.recording_files.specs.Recordings.{has, Precedes}
+use Rattle.recording_files.specs.FileReports.{file_report}
+
+-- the domains, the sequence number that is due in each, and the domains that the file has
+pub record State : Type 0 where
+  pub domains : DomainsView
+  pub due : List (ℕ × Option ℕ)
+  pub here : List (ℕ × Bool)
+
+-- a recorder stands for these messages of earlier files and of this one
+pub record Keeps (s : State) (before here : List Message) : Type 0 where
+  pub not_spent : s.domains.spent ≡ false
+  pub known : StandsFor s.domains.domains (known_after [] (before ++ here))
+  pub due : (domain : ℕ) → lookup (nat_eq domain) s.due ≡ (if has (before ++ here) domain then Some (due_of (messages_of domain (before ++ here))) else None)
+  pub in_file : (domain : ℕ) → is_some (lookup (nat_eq domain) s.here) ≡ has here domain
+
+-- what is written before a message with this header
+pub record Leading (before here : List Message) (h : Header) (old new : List ℕ) : Type 0 where
+  pub lead : List (List ℕ)
+  pub is : Precedes before here h lead
+  pub octets : new ≡ old ++ octets_of lead
+
+-- what a message adds to the counts
+pub record IsCountOf (c : MessageCount) (m : Message) : Type 0 where
+  pub header : m.header ≡ c.header
+  pub records : count_in m ≡ c.records
+  pub passed_over : m.decoding.passed_over ≡ c.passed_over
+
+-- a message was recorded: it was read, and stands behind what precedes it
+pub record Records (before here : List Message) (s : State) (m octets : List ℕ) (count : MessageCount) : Type 0 where
+  pub given : Message
+  pub read : message_gives (known_after [] (before ++ here)) m ≡ Ok given
+  pub lead : List (List ℕ)
+  pub is : Precedes before here given.header lead
+  pub octets_are : octets ≡ octets_of lead ++ m
+  pub keeps : Keeps s before (here ++ given ∷ [])
+  pub counts : IsCountOf count given
+
+-- the sequence number that is due after a message with this header, so many records and so many unknown sets
+abbrev pub due_for : Header → ℕ → ℕ → Option ℕ
+due_for h records unknown_sets = if unknown_sets == 0 then Some ((h.sequence + records) % 2 ^ 32) else None
+
+-- ---- counts
+
+-- what these messages add in turn
+abbrev pub AreCountsOf : List MessageCount → List Message → Type 0
+AreCountsOf [] [] = Unit {0}
+AreCountsOf (c ∷ cs) (m ∷ ms) = IsCountOf c m × AreCountsOf cs ms
+AreCountsOf [] (m ∷ ms) = ⊥
+AreCountsOf (c ∷ cs) [] = ⊥
+
+-- the counts of a session, and those of its file that isn't finished
+pub record Told : Type 0 where
+  pub session : Counts
+  pub file : FileReport
+
+-- what contracts see of counts: those of what was written, and what is to be counted for the messages that wait to be
+pub record CountsView : Type 0 where
+  pub told : Told
+  pub waiting : List MessageCount
+
+-- they are of these messages: those of the finished files, and those of the file that isn't finished
+pub record Counted (c : Told) (before here : List Message) : Type 0 where
+  pub session : Tells c.session (before ++ here) (length (records_in (before ++ here)))
+  pub file : c.file ≡ file_report before here
+
+-- nothing has come yet
+pub record IsFresh (s : State) (c : Told) : Type 0 where
+  pub keeps : Keeps s [] []
+  pub counted : Counted c [] []

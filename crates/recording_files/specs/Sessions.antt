@@ -1,0 +1,149 @@
+-- A session of a source in files: what stands in them, and when each is finished.
+use Rattle.std.specs.Prelude.{◌≡◌, ◌≢◌, ◌+◌, ◌≤◌, All, ◌⊎◌, ℕ, List, [], ◌∷◌, ◌++◌, length, map, Option, Some, None, Result, Ok, Err}
+use Rattle.ipfix_message.specs.Domains.{Message}
+use Rattle.ipfix_message.specs.declared.fault.MessageFault.TheVariants.{OutOfMemory}
+use Rattle.ipfix_session.specs.declared.fault.SessionFault.{SessionFault}
+use Rattle.ipfix_session.specs.declared.fault.SessionFault.TheVariants as faults
+use Rattle.ipfix_session.specs.Given.{gives, IsPrefix, octets_of, records_in}
+use Rattle.ipfix_session.specs.Sources.{SourceView, one_more}
+use Rattle.ipfix_session.specs.Places.{CountsInFull}
+use Rattle.ipfix_session.specs.Drives.{Gave}
+use Rattle.recording_files.specs.declared.record_fault.RecordFault.{RecordFault}
+use Rattle.recording_files.specs.declared.record_fault.RecordFault.TheVariants.{Message as OfMessage, Truncated, ReadFailed, TooManyReads, NotWritten}
+use Rattle.recording_files.specs.declared.recorded_session.RecordedSession.{RecordedSession}
+use Rattle.recording_files.specs.Recordings.{Part, Recorded, Writes}
+use Rattle.recording_files.specs.FileReports.{file_report, file_reports}
+use Rattle.recording_files.specs.Faithful.{all_messages, all_given}
+use Rattle.recording_files.specs.Files.{Contents, FilesView}
+use Rattle.recording_files.specs.Periods.{ClockView, AskedRead, AreAskedReads, clock_behind, source_behind, octets_read, octets_before, finished_by}
+
+-- the octets of the file that a part stands in
+abbrev pub file_octets : Part → List ℕ
+file_octets p = octets_of p.file
+
+-- the parts of a session, the last in the file that isn't finished
+abbrev pub parts : List Part → Part → List Part
+parts finished last = finished ++ last ∷ []
+
+abbrev pub HasMessage : Part → Type 0
+HasMessage p = p.given ≢ []
+
+-- the files that came after the first ones are those of these parts, each finished with its report, and behind the last stand
+-- these octets; where they tell nothing, nothing is said
+abbrev pub Stands : Option Contents → Option Contents → List Part → Part → List ℕ → Type 0
+Stands None None finished last cut_off = Unit {0}
+Stands None (Some after) finished last cut_off = ⊥
+Stands (Some first) None finished last cut_off = ⊥
+Stands (Some first) (Some after) finished last cut_off =
+    (after.finished ≡ first.finished ++ map file_octets finished) × (after.reports ≡ first.reports ++ file_reports [] finished)
+    × (after.unfinished ≡ file_octets last ++ cut_off)
+
+-- the first octets of what was to stand next in a file: the next messages of a text, and what precedes them
+pub record IsCutOff (text : List ℕ) (before here : List Message) (cut_off : List ℕ) : Type 0 where
+  pub messages : List (List ℕ)
+  pub given : List Message
+  pub file : List (List ℕ)
+  pub writes : Writes before here messages given file
+  pub next : IsPrefix (before ++ (here ++ given)) (gives text).messages
+  pub first : IsPrefix cut_off (octets_of file)
+
+-- the first messages of a text stand in the files that came after the first ones, and behind them, in the last file, octets
+-- that are no whole message
+pub record Holds (text : List ℕ) (first after : FilesView) (cut_off : List ℕ) : Type 0 where
+  pub finished : List Part
+  pub last : Part
+  -- the files are a recording: `recordings_are_faithful` says what that is worth
+  pub recorded : Recorded [] (parts finished last)
+  -- no file was finished without a message
+  pub some : All HasMessage finished
+  pub stands : Stands first.contents after.contents finished last cut_off
+  -- its messages are the first octets of the text, as they came
+  pub left : List ℕ
+  pub octets : text ≡ octets_of (all_messages (parts finished last)) ++ left
+  -- and they give what they give in the session, which has no fault before
+  pub given : IsPrefix (all_given (parts finished last)) (gives text).messages
+
+-- the messages of each of these parts
+abbrev pub files_of : List Part → List (List Message)
+files_of ps = map (λ p. p.given) ps
+
+-- what is told of the messages of finished files, and of those of the file that isn't finished
+module _ (told : List Message → List Message → Type 0) where
+  -- no call of the files failed, and the finished ones are these
+  pub record HoldsSome (text : List ℕ) (files : List (List Message)) (first after : FilesView) : Type 0 where
+    pub holds : Holds text first after []
+    pub finished : files_of holds.finished ≡ files
+    pub not_failed : after.failed ≡ first.failed
+    pub tells : told (all_given holds.finished) holds.last.given
+
+  -- and the files have all messages of the text, up to its end or its first fault
+  pub record HoldsAll (text : List ℕ) (files : List (List Message)) (first after : FilesView) : Type 0 where
+    pub some : HoldsSome text files first after
+    pub all : all_given (parts some.holds.finished some.holds.last) ≡ (gives text).messages
+
+  -- and the files have at least all messages that the reads before the last had given
+  pub record HoldsEarlier (text earlier : List ℕ) (files : List (List Message)) (first after : FilesView) : Type 0 where
+    pub some : HoldsSome text files first after
+    pub at_least : IsPrefix (gives earlier).messages (all_given (parts some.holds.finished some.holds.last))
+
+  -- a file was finished, and no message has come behind it; it is told as the one that isn't finished
+  pub record TellsOfFinished (finished : List Part) (last : Part) : Type 0 where
+    pub earlier : List Part
+    pub part : Part
+    pub are : finished ≡ parts earlier part
+    pub none : last.given ≡ []
+    pub tells : told (all_given earlier) part.given
+
+  -- a call of the files failed: the messages that the reads before the last had given stand whole, and behind them are at
+  -- most the first octets of what was to stand there next
+  pub record HoldsCut (text earlier : List ℕ) (files : List (List Message)) (first after : FilesView) : Type 0 where
+    pub cut_off : List ℕ
+    pub holds : Holds text first after cut_off
+    pub all : all_given (parts holds.finished holds.last) ≡ (gives earlier).messages
+    pub next : IsCutOff text (all_given holds.finished) holds.last.given cut_off
+    -- these files are finished, or all but the last of them
+    pub finished : (files_of holds.finished ≡ files) ⊎ (files_of (parts holds.finished holds.last) ≡ files)
+    pub failed : after.failed ≡ one_more first.failed
+    -- the messages that stand whole are told, in their files; where a file could not be finished, it is told as that
+    pub tells : told (all_given holds.finished) holds.last.given ⊎ TellsOfFinished holds.finished holds.last
+
+  -- what stands in the files by the answer
+  abbrev pub HoldsBy : Result (Unit {0}) RecordFault → List ℕ → List ℕ → List (List Message) → FilesView → FilesView → Type 0
+  HoldsBy (Err NotWritten) text earlier files first after = HoldsCut text earlier files first after
+  HoldsBy (Err (OfMessage OutOfMemory)) text earlier files first after = HoldsEarlier text earlier files first after
+  HoldsBy answer text earlier files first after = HoldsAll text files first after
+
+-- the fault as a session's: files that take no more are a sink that takes no more
+abbrev pub fault_of : Result (Unit {0}) RecordFault → Option SessionFault
+fault_of (Ok x) = None
+fault_of (Err (OfMessage e)) = Some (faults.Message e)
+fault_of (Err Truncated) = Some faults.Truncated
+fault_of (Err ReadFailed) = Some faults.ReadFailed
+fault_of (Err TooManyReads) = Some faults.TooManyReads
+fault_of (Err NotWritten) = Some faults.SinkClosed
+
+-- a source gave octets up to this answer, which is due, and the files hold their messages, which are told; a file is finished
+-- where the clock, asked behind each read, tells that the period is over
+pub record RecordsTo {S F C : Type 0} (seen : S → SourceView) (view : F → FilesView) (asked : C → ClockView) (limit : ℕ) (before after : S) (first last : F) (start end : C)
+    (answer : Result (Unit {0}) RecordFault) (told : List Message → List Message → Type 0) : Type 0 where
+  pub gave : List ℕ
+  pub given : Gave seen limit before gave after (fault_of answer)
+  -- behind each read that gave octets, or was interrupted, the clock was asked once, and not otherwise
+  pub reads : List (AskedRead S C)
+  pub are_reads : AreAskedReads seen asked before start reads
+  pub octets : gave ≡ octets_read reads
+  pub last_answer : clock_behind start reads ≡ end
+  pub one_read : (seen after).reads ≤ (seen (source_behind before reads)).reads + 1
+  pub holds : HoldsBy told answer gave (octets_before reads) (finished_by reads) (view first) (view last)
+
+-- the reports of a recorded session: that of all its messages, and that of the file that isn't finished
+pub record IsTold (r : RecordedSession) (before here : List Message) : Type 0 where
+  pub session : CountsInFull r.report (before ++ here) (length (records_in (before ++ here)))
+  -- its domains aren't told
+  pub no_domains : r.report.domains ≡ None
+  pub fault : r.report.report.fault ≡ fault_of r.ended
+  pub last : r.last ≡ file_report before here
+
+-- and the reports tell them
+abbrev pub RecordsSession : {S F C : Type 0} → (S → SourceView) → (F → FilesView) → (C → ClockView) → ℕ → S → S → F → F → C → C → RecordedSession → Type 0
+RecordsSession seen view asked limit before after first last start end r = RecordsTo seen view asked limit before after first last start end r.ended (IsTold r)

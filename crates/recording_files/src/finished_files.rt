@@ -1,0 +1,30 @@
+//! Who is told of files.
+
+use crate::file_report::FileReport;
+
+/// What became of a file that an earlier run left.
+#[derive(Clone, Copy, Debug, PartialEq, Eq)]
+pub enum Recovered {
+    /// It has its final name, and ends with a whole message.
+    Whole,
+    /// It has its final name. This many octets were cut off its end: those of a message that isn't whole.
+    CutOff(u64),
+    /// It has its final name. This many octets still stand at its end that are no whole message.
+    Truncated(u64),
+    /// It had these octets and no whole message, and went away.
+    Removed(u64),
+    /// It could not be read, or not be moved, and stays where it was.
+    Stayed,
+}
+
+/// Is told of each file that has got its final name, or stays without one.
+pub trait FinishedFiles: Drop {
+    /// A session's file was finished: its path, and what it has.
+    fn finished(&mut self, path: &str, report: &FileReport);
+
+    /// A session's file could not be finished, and stays where it was; it has this path.
+    fn not_finished(&mut self, path: &str);
+
+    /// A file that an earlier run left was looked after: its path now or last, and what became of it.
+    fn recovered(&mut self, path: &str, outcome: Recovered);
+}

@@ -1,0 +1,140 @@
+//! Gathering the whole messages of a read.
+
+ghost use Rattle.std.specs.Prelude.{◌≡◌, ◌++◌, [], ℕ, List, Ok, OnOk, OnErr, MatchResult};
+ghost use Rattle.ipfix_message.specs.Domains.{Message};
+ghost use Rattle.ipfix_session.specs.Intake.{IsRest};
+ghost use Rattle.ipfix_session.specs.MessageStream;
+ghost use Rattle.recording_files.specs.Recorders.{Counted, IsFresh};
+ghost use Rattle.recording_files.specs.Gathering.{Gathers, GathersUpTo};
+ghost use Rattle.recording_files.specs.Sessions.{IsTold};
+
+use crate::record_fault::RecordFault;
+use crate::recorded_session::RecordedSession;
+use crate::recorder::Recorder;
+use crate::session_counts::SessionCounts;
+use ipfix_message::MessageFault;
+use ipfix_session::next_message;
+use std::alloc::{AllocError, Global};
+
+// Appends two texts, or nothing if there is no memory.
+fn append_both(first: &[u8], second: &[u8], out: &mut Vec<u8>) -> Result<(), AllocError>
+    ensures both { OnOk result (out.new.items ≡ out.old.items ++ (first.now ++ second.now)) }
+    ensures none { OnErr result (out.new.items ≡ out.old.items) }
+{
+    let length = out.len();
+    out.extend_from_slice(first)?;
+    match out.extend_from_slice(second) {
+        Ok(()) => Ok(()),
+        Err(error) => {
+            out.truncate(length);
+            Err(error)
+        }
+    }
+}
+
+/// A session while it is recorded, and what the whole messages of a read have: the octets that are to be
+/// written, and what is to be counted then.
+#[derive(Drop)]
+pub struct Gathering {
+    pub recorder: Recorder,
+    pub counts: SessionCounts,
+    /// What is to be written.
+    pub out: Vec<u8>,
+    /// What stands before a message in its file.
+    pub lead: Vec<u8>,
+}
+
+impl Gathering {
+    /// The start of a session.
+    pub fn new(alloc: Global) -> Self
+        ensures { IsFresh result.recorder result.counts.told }
+    {
+        Gathering {
+            recorder: Recorder::new(alloc),
+            counts: SessionCounts::new(alloc),
+            out: Vec::new(alloc),
+            lead: Vec::new(alloc),
+        }
+    }
+
+    /// Nothing is gathered yet of a read.
+    pub fn begin_read(&mut self)
+        ensures recorder { self.new.recorder ≡ self.old.recorder }
+        ensures told { self.new.counts.told ≡ self.old.counts.told }
+        ensures out { self.new.out.items ≡ [] }
+        ensures waiting { self.new.counts.waiting ≡ [] }
+    {
+        self.out.clear();
+        self.counts.clear_waiting();
+    }
+
+    /// What is told of the session, which ended so. This takes no memory.
+    pub fn into_session(self, ended: Result<(), RecordFault>) -> RecordedSession
+        ensures told { (before here : List Message) → Counted self.counts.told before here
+            → IsTold result before here }
+        ensures ended { result.ended ≡ ended }
+    {
+        let Gathering {
+            recorder: _,
+            counts,
+            out: _,
+            lead: _,
+        } = self;
+        counts.into_session(ended)
+    }
+
+    /// Gathers a whole message. After a fault it is not among those that were gathered.
+    pub fn take_message(&mut self, alloc: Global, message: &[u8]) -> Result<(), MessageFault>
+        ensures gathers { (before here : List Message) (text left rest : List ℕ)
+            → Gathers before here self.old.recorder text self.old.out.items
+            self.old.counts.waiting left
+            → MessageStream.next_message left ≡ Ok (message.now, rest)
+            → MatchResult result
+            (λ _. Gathers before here self.new.recorder text self.new.out.items
+            self.new.counts.waiting rest)
+            (λ fault. GathersUpTo fault before here text self.new.out.items
+            self.new.counts.waiting) }
+        ensures told { self.new.counts.told ≡ self.old.counts.told }
+    {
+        let count = self.recorder.take_message(alloc, message, &mut self.lead)?;
+        let length = self.out.len();
+        append_both(&self.lead, message, &mut self.out)?;
+        match self.counts.wait_for(count) {
+            Ok(()) => Ok(()),
+            Err(_) => {
+                self.out.truncate(length);
+                Err(MessageFault::OutOfMemory)
+            }
+        }
+    }
+
+    /// Gathers the messages that octets begin with, and gives what follows them.
+    pub fn take_messages<'a>(
+        &mut self,
+        alloc: Global,
+        octets: &'a [u8],
+    ) -> Result<&'a [u8], MessageFault>
+        ensures gathers { (before here : List Message) (text : List ℕ)
+            → Gathers before here self.old.recorder text self.old.out.items
+            self.old.counts.waiting octets.now
+            → MatchResult result
+            (λ rest. Gathers before here self.new.recorder text self.new.out.items
+            self.new.counts.waiting rest.now × IsRest rest.now)
+            (λ fault. GathersUpTo fault before here text self.new.out.items
+            self.new.counts.waiting) }
+        ensures told { self.new.counts.told ≡ self.old.counts.told }
+    {
+        let mut rest = octets;
+        loop {
+            let found = match next_message(rest) {
+                Ok(found) => found,
+                Err(stop) => {
+                    stop.check_open()?;
+                    return Ok(rest);
+                }
+            };
+            self.take_message(alloc, found.octets)?;
+            rest = found.rest;
+        }
+    }
+}

@@ -1,0 +1,88 @@
+//! Laws of the definitions. Each is a function that does nothing, and its contract is the theorem: a
+//! call brings that to the proof of its caller.
+
+ghost use Rattle.std.specs.Prelude.{◌≡◌, ◌≢◌, ◌++◌, ◌∷◌, ℕ, List, [], Ok, Err, Some, All, flat_map};
+ghost use Rattle.ipfix_message.specs.Domains.{Message};
+ghost use Rattle.ipfix_session.specs.declared.stop.Stop.TheVariants.{Clean};
+ghost use Rattle.ipfix_session.specs.declared.fault.SessionFault.{SessionFault};
+ghost use Rattle.ipfix_session.specs.Faults as sessions;
+ghost use Rattle.ipfix_session.specs.Given.{records_of, stop_of, IsOpen, IsPrefix};
+ghost use Rattle.recording_files.specs.declared.recorded_session.RecordedSession.{RecordedSession};
+ghost use Rattle.recording_files.specs.Files.{Contents, FilesView, all_of};
+ghost use Rattle.recording_files.specs.Sessions.{HoldsSome, HoldsAll, HoldsCut, IsTold, RecordsSession, fault_of};
+ghost use Rattle.recording_files.specs.Recordings.{Part, Recorded};
+ghost use Rattle.recording_files.specs.Faithful.{IsFaithful, all_given};
+ghost use Rattle.recording_files.specs.FileReports.{AddUp, file_reports};
+ghost use Rattle.recording_files.specs.Faults.{number_of, name_of};
+ghost use Rattle.recording_files.specs.declared.record_fault.RecordFault.{RecordFault};
+ghost use Rattle.recording_files.specs.declared.record_fault.RecordFault.TheVariants.{NotWritten};
+
+use crate::file_series::FileSeries;
+use crate::period_clock::PeriodClock;
+use ipfix_session::Source;
+
+/// The files of a recording say what the session said: each is read by itself, with no fault, and has
+/// the records of the messages that stand in it; what their ledgers say adds up to what the session's
+/// says; and one after another they are one text of the same records.
+pub fn recordings_are_faithful()
+    ensures { (ps : List Part) → Recorded [] ps → IsFaithful ps }
+{}
+
+/// What stands in the files of a recorded session, where all messages of a text do: each file is read by
+/// itself, with no fault, and one after another they give the records of the text up to its end or
+/// first fault.
+pub fn files_give_the_records()
+    ensures { (text : List ℕ) (files : List (List Message)) (first after : FilesView)
+        (start now : Contents) (r : RecordedSession)
+        → HoldsAll (IsTold r) text files first after
+        → first.contents ≡ Some start → start.finished ≡ [] → after.contents ≡ Some now
+        → All (λ file. stop_of file ≡ Clean) (all_of now)
+        × (flat_map records_of (all_of now) ≡ records_of text) }
+{}
+
+/// What stands there where a call of the files failed: the files, of which the last may end within a
+/// message, have no fault else, and they give the first records of the text, each once and in order.
+pub fn files_keep_whole_messages()
+    ensures { (text : List ℕ) (files : List (List Message)) (first after : FilesView)
+        (start now : Contents) (earlier : List ℕ) (r : RecordedSession)
+        → HoldsCut (IsTold r) text earlier files first after
+        → first.contents ≡ Some start → start.finished ≡ [] → after.contents ≡ Some now
+        → All (λ file. IsOpen (stop_of file)) (all_of now)
+        × IsPrefix (flat_map records_of (all_of now)) (records_of text) }
+{}
+
+/// The reports of the files, with that of the file that isn't finished, add up to the session's, each sum
+/// that has not stopped at `u64::MAX`.
+pub fn file_reports_add_up()
+    ensures told { (finished : List Part) (last : Part) (r : RecordedSession)
+        → IsTold r (all_given finished) last.given
+        → AddUp (file_reports [] finished ++ r.last ∷ []) r.report }
+    ensures files { (text : List ℕ) (files : List (List Message)) (first after : FilesView)
+        (start now : Contents) (r : RecordedSession)
+        → HoldsSome (IsTold r) text files first after
+        → first.contents ≡ Some start → start.reports ≡ [] → after.contents ≡ Some now
+        → AddUp (now.reports ++ r.last ∷ []) r.report }
+{}
+
+/// A fault that sessions have too keeps its number and its name; only `NotWritten` has number 19.
+pub fn fault_numbers()
+    ensures same { (fault : RecordFault) (session : SessionFault) → fault ≢ NotWritten
+        → fault_of (Err fault) ≡ Some session
+        → (number_of fault ≡ sessions.number_of session)
+        × (name_of fault ≡ sessions.name_of session) }
+    ensures only { (fault : RecordFault) → number_of fault ≡ 19 → fault ≡ NotWritten }
+{}
+
+/// A recording that ended without a fault: the source's text is whole messages, each file is read by
+/// itself, with no fault, and one after another they give all records of the text.
+pub fn recorded_to_the_end<S: Source, F: FileSeries, C: PeriodClock>()
+    ensures { (limit : ℕ) (before after : S) (first last : F) (clock then : C) (text : List ℕ)
+        (start now : Contents) (r : RecordedSession)
+        → RecordsSession S.seen F.seen C.asked limit before after first last clock then r
+        → r.ended ≡ Ok tt
+        → (S.seen before).text ≡ Some text
+        → (F.seen first).contents ≡ Some start → start.finished ≡ []
+        → (F.seen last).contents ≡ Some now
+        → (stop_of text ≡ Clean) × All (λ file. stop_of file ≡ Clean) (all_of now)
+        × (flat_map records_of (all_of now) ≡ records_of text) }
+{}

@@ -1,0 +1,178 @@
+//! What a file of a session has for each message.
+
+ghost use Rattle.std.specs.Prelude.{◌≡◌, ◌≢◌, ◌++◌, [], List, Ok, OnOk, IfOk, IfErr, MatchBool, nat_eq, true};
+ghost use Rattle.indexmap.specs.IndexMap.{insert_entry};
+ghost use Rattle.ipfix_wire.specs.declared.header.Header.{Header as HeaderValue};
+ghost use Rattle.ipfix_message.specs.Domains.{Message, message_header, message_gives};
+ghost use Rattle.ipfix_message.specs.Outcome.{Fails};
+ghost use Rattle.ipfix_session.specs.Given.{known_after};
+ghost use Rattle.ipfix_session.specs.Ledger.{messages_of, due_of};
+ghost use Rattle.recording_files.specs.Recorders.{Keeps, Leading, Records, due_for};
+
+use crate::message_count::MessageCount;
+use crate::preamble::{append_bare_message, append_preamble};
+use crate::stamp::Stamp;
+use indexmap::IndexMap;
+use ipfix_message::{Domains, MessageFault};
+use ipfix_wire::{HEADER_LENGTH, Header, read_header};
+use std::alloc::{AllocError, Global};
+use std::marker::Model;
+
+/// What is kept of a session while it is recorded: its domains, the sequence number that is due in
+/// each, and which of them the file has.
+#[derive(Drop)]
+pub struct Recorder {
+    domains: Domains,
+    due: IndexMap<u32, Option<u32>>,
+    here: IndexMap<u32, bool>,
+    body: Vec<u8>,
+}
+
+impl Model for Recorder {
+    ghost use Rattle.recording_files.specs.Recorders.{State};
+
+    ghost Value = { State };
+
+    ghost view = { λ r. record {
+      domains = r.domains;
+      due = r.due.entries;
+      here = r.here.entries;
+    } };
+}
+
+impl Recorder {
+    /// The start of a session's first file.
+    pub fn new(alloc: Global) -> Self
+        ensures { Keeps result [] [] }
+    {
+        Recorder {
+            domains: Domains::new(alloc),
+            due: IndexMap::new(alloc),
+            here: IndexMap::new(alloc),
+            body: Vec::new(alloc),
+        }
+    }
+
+    /// Begins the session's next file.
+    pub fn turn(&mut self)
+        ensures { (before here : List Message) → Keeps self.old before here
+            → Keeps self.new (before ++ here) [] }
+    {
+        self.here.clear();
+    }
+
+    /// Whether a message was recorded in this file.
+    pub fn has_begun(&self) -> bool
+        ensures { (before here : List Message) → Keeps self.now before here
+            → MatchBool result (here ≢ []) (here ≡ []) }
+    {
+        !self.here.is_empty()
+    }
+
+    /// The domains of the session, with the templates that are in force in each.
+    pub fn domains(&self) -> &Domains
+        ensures { result.now ≡ self.now.domains }
+    {
+        &self.domains
+    }
+
+    /// The sequence number that is due in a domain; `None` if none is known there.
+    pub fn due(&self, domain: u32) -> Option<u32>
+        ensures { (before here : List Message) → Keeps self.now before here
+            → result ≡ due_of (messages_of domain (before ++ here)) }
+    {
+        self.due.get(&domain).copied().flatten()
+    }
+
+    // Appends what stands before a message that begins its domain again.
+    fn append_lead(&mut self, header: &Header, out: &mut Vec<u8>) -> Result<(), AllocError>
+        ensures same { self.new ≡ self.old }
+        ensures lead { (before here : List Message) → Keeps self.old before here
+            → OnOk result (Leading before here header.now out.old.items out.new.items) }
+    {
+        let Some(due) = self.due.get(&header.domain).copied() else {
+            return Ok(());
+        };
+        if self.here.contains_key(&header.domain) {
+            return Ok(());
+        }
+        let stamp = Stamp {
+            export_time: header.export_time,
+            sequence: due.unwrap_or(header.sequence),
+            domain: header.domain,
+        };
+        match self.domains.templates(header.domain) {
+            Some(templates) => append_preamble(stamp, templates, &mut self.body, out),
+            None => append_bare_message(stamp, out),
+        }
+    }
+
+    // Appends what stands before a message, if it is one.
+    fn append_lead_of(&mut self, message: &[u8], out: &mut Vec<u8>) -> Result<(), AllocError>
+        ensures same { self.new ≡ self.old }
+        ensures lead { (before here : List Message) → Keeps self.old before here
+            → (h : HeaderValue) → message_header message.now ≡ Ok h
+            → OnOk result (Leading before here h out.old.items out.new.items) }
+    {
+        if message.len() < HEADER_LENGTH {
+            return Ok(());
+        }
+        match read_header(message) {
+            Ok(header) => self.append_lead(&header, out),
+            Err(_) => Ok(()),
+        }
+    }
+
+    // Keeps what a message says of its domain.
+    fn keep(&mut self, header: &Header, records: usize, unknown_sets: u64) -> Result<(), AllocError>
+        ensures domains { self.new.domains ≡ self.old.domains }
+        ensures due { OnOk result (self.new.due ≡ insert_entry nat_eq self.old.due
+            header.now.domain (due_for header.now records unknown_sets)) }
+        ensures in_file { OnOk result (self.new.here
+            ≡ insert_entry nat_eq self.old.here header.now.domain true) }
+    {
+        let due = if unknown_sets == 0 {
+            Some(header.sequence.wrapping_add((records % (1 << 32)) as u32))
+        } else {
+            None
+        };
+        if self.due.insert(header.domain, due).is_err()
+            || self.here.insert(header.domain, true).is_err()
+        {
+            return Err(AllocError);
+        }
+        Ok(())
+    }
+
+    /// Takes a message, and makes what a file has before it: its domain's templates, if this file has none
+    /// of its messages and an earlier file has. What stood in `lead` before is gone. It answers what the
+    /// message adds to the counts.
+    ///
+    /// The fault is the message's, or `OutOfMemory`. After a fault the recorder is of no use.
+    pub fn take_message(
+        &mut self,
+        alloc: Global,
+        message: &[u8],
+        lead: &mut Vec<u8>,
+    ) -> Result<MessageCount, MessageFault>
+        ensures records { (before here : List Message) → Keeps self.old before here
+            → IfOk result (λ count.
+            Records before here self.new message.now (lead.new.items ++ message.now) count) }
+        ensures fails { (before here : List Message) → Keeps self.old before here
+            → IfErr result (λ fault.
+            Fails fault (message_gives (known_after [] (before ++ here)) message.now)) }
+    {
+        lead.clear();
+        self.append_lead_of(message, lead)?;
+        let decoded = match self.domains.decode(alloc, message) {
+            Ok(decoded) => decoded,
+            Err(fault) => return Err(fault),
+        };
+        self.keep(&decoded.header, decoded.records.len(), decoded.unknown_sets)?;
+        Ok(MessageCount {
+            header: decoded.header,
+            records: decoded.records.len() as u64,
+            passed_over: decoded.passed_over(),
+        })
+    }
+}

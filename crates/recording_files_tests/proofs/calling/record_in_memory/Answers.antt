@@ -1,0 +1,13 @@
+use Rattle.std.proofs.Common.{[], refl, sym, ap, subst, map}
+use Rattle.ipfix_session.specs.Sources.{SourceView}
+use Rattle.recording_files.specs.Files.{Contents, FilesView, IsEmpty}
+use Rattle.recording_files_tests.proofs.calling.record_in_memory.Goals as goal
+
+pub returns : goal.returns
+returns c = λ is.
+    let files = c.record-session.new.files in
+    let start : Contents = record { finished = []; reports = []; unfinished = [] } in
+    let now : Contents = record { finished = map (λ v. v.items) files.finished.items; reports = files.reports.items; unfinished = files.unfinished.items } in
+    let fresh = subst (λ (v : FilesView). IsEmpty v.contents) (sym c.new-files.ensures) refl in
+    (c.recorded_to_the_end.ensures _ _ _ _ _ _ _ c.args.text.items start now c.record-session.result (c.record-session.ensures fresh) is
+    (ap (λ (v : SourceView). v.text) c.new-source.ensures) (ap (λ (v : FilesView). v.contents) c.new-files.ensures) refl refl).2

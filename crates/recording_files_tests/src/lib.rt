@@ -1,0 +1,7 @@
+//! Tests of `recording_files`, by what it offers to others. They stand in a crate of their own, so that
+//! they are proved without the library being proved a second time.
+#![tactic(auto)]
+
+pub mod calling;
+#[cfg(test)]
+mod tests;

@@ -1,0 +1,4 @@
+-- What public contracts cite.
+pub mod PeriodNames
+pub mod SessionNames
+pub mod UnfinishedNames

@@ -1,0 +1,123 @@
+//! Files that have ended, and who finishes them.
+
+use crate::folder::Folder;
+use crate::lack::lacks_descriptors;
+use crate::placing::place_file;
+use crate::unfinished_file::UnfinishedFile;
+use recording_files::{FileReport, FinishedFiles};
+use std::alloc::Global;
+use std::fs::{self, Files};
+use std::rt::Clock;
+use std::time::Duration;
+use std::{io, thread};
+
+/// How often a file is tried to be finished apart from its session while no descriptor is free.
+const TRIES: u64 = 10;
+
+/// How many milliseconds pass between.
+const PAUSE: u64 = 100;
+
+/// A file of a session that has ended: whoever has it can finish it, in whichever thread. It is open until its
+/// octets are on the disk.
+#[derive(Drop)]
+pub struct EndedFile<F> {
+    pub(crate) unfinished: UnfinishedFile<F>,
+    pub(crate) report: FileReport,
+}
+
+/// Finishes the files of sessions.
+pub trait FileFinisher<F>: Drop {
+    /// Finishes a file before it returns; if it is empty it goes away. An `Err` gives the file back, which stays
+    /// among those that aren't finished.
+    fn finish(&mut self, ended: EndedFile<F>) -> Result<(), EndedFile<F>>;
+
+    /// Does the same, or has it done. Where that fails later, the session of the file fails at its next call.
+    fn finish_or_queue(&mut self, ended: EndedFile<F>) -> Result<(), EndedFile<F>>;
+
+    /// Finishes one of the files that wait for it, and answers whether there was one.
+    fn finish_queued(&mut self) -> bool;
+}
+
+/// Finishes each file of a folder at once, and tells it.
+#[derive(Drop)]
+pub struct FolderFinisher<'a, R, L> {
+    rt: &'a R,
+    alloc: Global,
+    folder: &'a Folder,
+    log: L,
+}
+
+impl<'a, R: Files, L: FinishedFiles> FolderFinisher<'a, R, L> {
+    /// Files that are finished are told to the log.
+    pub fn new(rt: &'a R, alloc: Global, folder: &'a Folder, log: L) -> Self {
+        FolderFinisher {
+            rt,
+            alloc,
+            folder,
+            log,
+        }
+    }
+
+    // Finishes a file, and tells it unless it was empty.
+    fn try_to_finish(&mut self, ended: &mut EndedFile<R::File>) -> io::Result<()> {
+        if let Some(path) = self.settle(&mut ended.unfinished)? {
+            self.log.finished(path.as_str(), &ended.report);
+        }
+        Ok(())
+    }
+
+    // Brings a file to the disk under its final name, and answers its path; an empty one goes away.
+    fn settle(&self, unfinished: &mut UnfinishedFile<R::File>) -> io::Result<Option<String>> {
+        if unfinished.is_empty() {
+            fs::remove_file(self.rt, unfinished.path.as_str())?;
+            return Ok(None);
+        }
+        unfinished.close()?;
+        let path = place_file(
+            self.rt,
+            self.alloc,
+            self.folder,
+            unfinished.path.as_str(),
+            unfinished.period,
+            unfinished.session.name(),
+        )?;
+        Ok(Some(path))
+    }
+}
+
+impl<'a, R: Files + Clock, L: FinishedFiles> FolderFinisher<'a, R, L> {
+    /// Finishes a file apart from its session. Where that fails the file stays among those that aren't finished,
+    /// which is told, and its session fails at its next call.
+    pub fn finish_apart(&mut self, ended: EndedFile<R::File>) {
+        let mut ended = ended;
+        for _ in 0..TRIES {
+            match self.try_to_finish(&mut ended) {
+                Ok(()) => return,
+                Err(error) if lacks_descriptors(&error) => {
+                    thread::sleep(self.rt, Duration::from_millis(PAUSE));
+                }
+                Err(_) => break,
+            }
+        }
+        ended.unfinished.session.fail();
+        self.log.not_finished(ended.unfinished.path.as_str());
+    }
+}
+
+impl<'a, R: Files, L: FinishedFiles> FileFinisher<R::File> for FolderFinisher<'a, R, L> {
+    fn finish(&mut self, ended: EndedFile<R::File>) -> Result<(), EndedFile<R::File>> {
+        let mut ended = ended;
+        match self.try_to_finish(&mut ended) {
+            Ok(()) => Ok(()),
+            Err(_) => Err(ended),
+        }
+    }
+
+    fn finish_or_queue(&mut self, ended: EndedFile<R::File>) -> Result<(), EndedFile<R::File>> {
+        self.finish(ended)
+    }
+
+    fn finish_queued(&mut self) -> bool {
+        false
+    }
+}

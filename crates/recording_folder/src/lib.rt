@@ -1,0 +1,31 @@
+//! A folder of recordings: the names in it, the lock on it, the files that sessions write into it, and
+//! what is done at a start with those that an earlier run left.
+#![tactic(auto)]
+
+mod ended_file;
+mod filed_session;
+mod folder;
+mod lack;
+pub mod laws;
+mod period;
+mod period_names;
+mod placing;
+mod recovery;
+mod session_files;
+mod session_names;
+mod system_periods;
+mod system_place;
+mod told_period;
+mod unfinished_file;
+mod unfinished_names;
+
+pub use ended_file::{EndedFile, FileFinisher, FolderFinisher};
+pub use folder::{Folder, FolderFault, open_folder};
+pub use period::{CALENDAR_END, Period, period_of};
+pub use period_names::period_name;
+pub use recovery::recover;
+pub use session_files::SessionFiles;
+pub use session_names::session_name;
+pub use system_periods::{LatestPeriod, SystemPeriods};
+pub use system_place::{SystemPlace, SystemSession};
+pub use unfinished_names::{UnfinishedName, read_unfinished_name, unfinished_name};

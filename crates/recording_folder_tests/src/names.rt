@@ -1,0 +1,75 @@
+//! The names in a folder, with values worked out by `date -u` and by hand.
+
+use recording_folder::{
+    period_name, period_of, read_unfinished_name, session_name, whole_messages,
+};
+use std::net::{IpAddr, Ipv4Addr, Ipv6Addr, SocketAddr};
+
+#[test]
+fn periods_are_named_in_utc(rt: HostRuntime) {
+    for (second, name) in [
+        (0, "1970-01-01/000000"),
+        (951_782_399, "2000-02-28/235500"),
+        (951_782_400, "2000-02-29/000000"),
+        (1_795_613_836, "2026-11-25/133500"),
+        (u64::MAX, "9999-12-31/235500"),
+    ] {
+        let named = period_name(rt.alloc(), period_of(second, 300));
+        assert!(rt;
+            matches!(&named, Ok(text) if text.as_str() == name),
+            "{second}"
+        );
+    }
+}
+
+#[test]
+fn sessions_are_named_by_peer_and_number(rt: HostRuntime) {
+    let documentation = Ipv6Addr::new(0x2001, 0xdb8, 0, 0, 0, 0, 0, 1);
+    let mapped = Ipv6Addr::new(0, 0, 0, 0, 0, 0xffff, 0xc000, 0x201);
+    for (ip, name) in [
+        (IpAddr::V4(Ipv4Addr::new(192, 0, 2, 1)), "192.0.2.1-40012-7"),
+        (IpAddr::V6(documentation), "2001-db8-0-0-0-0-0-1-40012-7"),
+        (IpAddr::V6(mapped), "192.0.2.1-40012-7"),
+    ] {
+        let named = session_name(rt.alloc(), SocketAddr::new(ip, 40012), 7);
+        assert!(rt;
+            matches!(&named, Ok(text) if text.as_str() == name),
+            "{name}"
+        );
+    }
+}
+
+#[test]
+fn names_of_unfinished_files_are_read(rt: HostRuntime) {
+    let told = read_unfinished_name("1795613700-192.0.2.1-40012-7");
+    assert!(rt;
+        matches!(told, Some(told) if told.period.begins == 1_795_613_700
+        && told.session == "192.0.2.1-40012-7")
+    );
+    for name in [
+        "",
+        "1",
+        "-x",
+        "01-x",
+        "+1-x",
+        "x-1",
+        "253402300800-x",
+        "18446744073709551616-x",
+    ] {
+        assert!(rt; read_unfinished_name(name).is_none(), "{name}");
+    }
+}
+
+#[test]
+fn octets_of_whole_messages_are_counted(rt: HostRuntime) {
+    let message = b"\x00\x0a\x00\x12\0\0\0\0\0\0\0\0\0\0\0\0ab";
+    let malformed = b"\x00\x09\x00\x12\0\0\0\0\0\0\0\0\0\0\0\0ab";
+    let mut text = Vec::new(rt.alloc());
+    for (octets, whole) in [(&message[..], 18), (&message[..], 36), (&message[..17], 36)] {
+        assert!(rt; text.extend_from_slice(octets).is_ok());
+        let mut reader = text.as_slice();
+        assert!(rt; matches!(whole_messages(rt.alloc(), &mut reader), Ok(count) if count == whole));
+    }
+    let mut reader = &malformed[..];
+    assert!(rt; matches!(whole_messages(rt.alloc(), &mut reader), Ok(0)));
+}

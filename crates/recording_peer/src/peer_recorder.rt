@@ -1,0 +1,149 @@
+//! Recording the datagrams of a peer.
+
+ghost use Rattle.std.specs.Prelude.{◌≡◌, [], ℕ, List, Some, Err, MatchResult};
+ghost use Rattle.recording_files.specs.Files.{FilesView, IsEmpty};
+ghost use Rattle.recording_files.specs.declared.record_fault.RecordFault.{RecordFault as Fault};
+ghost use Rattle.recording_peer.specs.Peers.{Taken};
+ghost use Rattle.recording_peer.specs.Recording.{IsPeer, HasStopped, Answers, Tells, finished_now, answer_of};
+
+use crate::peer_answer::PeerAnswer;
+use crate::peer_session::PeerSession;
+use ipfix_datagrams::{DatagramFault, SequenceAdvances, read_datagram};
+use ipfix_message::header_of;
+use recording_files::{FileSeries, RecordFault, Recorder, SessionCounts};
+use std::alloc::Global;
+use std::marker::Model;
+
+/// A peer that sends over UDP, while its datagrams are recorded: a transport session is its address and
+/// port (RFC 7011, section 10.3). Once a call fails, each later one fails with that fault.
+#[derive(Drop)]
+pub struct PeerRecorder {
+    pub(crate) recorder: Recorder,
+    pub(crate) counts: SessionCounts,
+    pub(crate) advances: SequenceAdvances,
+    pub(crate) ended: Option<RecordFault>,
+    pub(crate) out: Vec<u8>,
+}
+
+impl Model for PeerRecorder {
+    ghost use Rattle.recording_peer.specs.Recording.{PeerView};
+
+    ghost Value = { PeerView };
+
+    ghost view = { λ r. record {
+      recorder = r.recorder;
+      told = record { counts = r.counts.told; advances = r.advances.reaches };
+      ended = r.ended;
+    } };
+}
+
+impl PeerRecorder {
+    /// A peer of which nothing has come.
+    pub fn new(alloc: Global) -> Self
+        ensures { (files : FilesView) → IsEmpty files.contents → IsPeer files files result [] [] }
+    {
+        PeerRecorder {
+            recorder: Recorder::new(alloc),
+            counts: SessionCounts::new(alloc),
+            advances: SequenceAdvances::new(alloc),
+            ended: None,
+            out: Vec::new(alloc),
+        }
+    }
+
+    /// Takes a datagram. One that is read after the rules over UDP is recorded as it came, behind a preamble
+    /// of its domain if the file has none of the domain's messages yet and an earlier file has. If it
+    /// changes a template, the file is finished first, and the preamble has the templates in force but for
+    /// those of the ids that it has templates of its own for. Any other datagram is refused, and changes
+    /// nothing.
+    ///
+    /// The fault is `NotWritten` where a call of the files failed, or `OutOfMemory`: then the peer has ended,
+    /// and the datagrams before stand whole.
+    pub fn take<F: FileSeries>(
+        &mut self,
+        alloc: Global,
+        datagram: &[u8],
+        files: &mut F,
+    ) -> Result<PeerAnswer, RecordFault>
+        ensures answers { (first : FilesView) (finished : List (List Taken)) (here : List Taken)
+            → IsPeer first (F.seen files.old) self.old finished here
+            → Answers result datagram.now first (F.seen files.old) (F.seen files.new)
+            self.old self.new finished here }
+        ensures ended { (fault : Fault) → self.old.ended ≡ Some fault
+            → (result ≡ Err fault) × (self.new ≡ self.old)
+            × (F.seen files.new ≡ F.seen files.old) }
+    {
+        if let Some(fault) = &self.ended {
+            return Err(*fault);
+        }
+        let header = match header_of(datagram) {
+            Ok(header) => header,
+            Err(fault) => return Ok(PeerAnswer::Refused(DatagramFault::Message(fault))),
+        };
+        let ids = match read_datagram(alloc, self.recorder.domains(), &header, datagram) {
+            Ok(ids) => ids,
+            Err(fault) => return Ok(PeerAnswer::Refused(fault)),
+        };
+        match self.record(alloc, &header, &ids, datagram, files) {
+            Ok(()) => Ok(PeerAnswer::Recorded),
+            Err(fault) => {
+                self.ended = Some(fault);
+                Err(fault)
+            }
+        }
+    }
+
+    /// Finishes the file that isn't finished with its report, if it has a datagram, and begins the next. The
+    /// fault is `NotWritten`: then the peer has ended.
+    pub fn finish_file<F: FileSeries>(&mut self, files: &mut F) -> Result<(), RecordFault>
+        ensures finishes { (first : FilesView) (finished : List (List Taken)) (here : List Taken)
+            → IsPeer first (F.seen files.old) self.old finished here
+            → MatchResult result
+            (λ _. IsPeer first (F.seen files.new) self.new (finished_now finished here) [])
+            (λ fault. (self.new.ended ≡ Some fault)
+            × HasStopped fault first (F.seen files.new) self.new.told finished here []) }
+        ensures ended { (fault : Fault) → self.old.ended ≡ Some fault
+            → (result ≡ Err fault) × (self.new ≡ self.old)
+            × (F.seen files.new ≡ F.seen files.old) }
+    {
+        if let Some(fault) = &self.ended {
+            return Err(*fault);
+        }
+        match self.turn(files) {
+            Ok(()) => Ok(()),
+            Err(fault) => {
+                self.ended = Some(fault);
+                Err(fault)
+            }
+        }
+    }
+
+    /// What is told of the peer, which has ended: the report of its datagrams, and that of the file that
+    /// isn't finished; and how far the sequence numbers advanced, over all its files. A datagram that wasn't
+    /// recorded is in none of them. This takes no memory.
+    pub fn into_session(self) -> PeerSession
+        ensures told { Tells self.told result }
+        ensures ended { result.session.ended ≡ answer_of self.ended }
+    {
+        let PeerRecorder {
+            recorder: _,
+            counts,
+            advances,
+            ended,
+            out: _,
+        } = self;
+        PeerSession {
+            session: counts.into_session(how_it_ended(ended)),
+            advances,
+        }
+    }
+}
+
+fn how_it_ended(ended: Option<RecordFault>) -> Result<(), RecordFault>
+    ensures { result ≡ answer_of ended }
+{
+    match ended {
+        Some(fault) => Err(fault),
+        None => Ok(()),
+    }
+}

@@ -1,0 +1,84 @@
+//! How a peer ends: where a file isn't written, and where memory runs out.
+
+use super::datagrams::*;
+use super::told::{Told, end, finish, new_peer, take};
+use ipfix_datagrams::DatagramFault;
+use ipfix_message::MessageFault;
+use ipfix_session::SessionFault;
+use recording_files::{MemoryFiles, RecordFault};
+use recording_peer::{PeerAnswer, PeerRecorder};
+use std::alloc::Global;
+use std::test::*;
+use worked_examples::recordings::{FIRST_OF_1, FIRST_OF_2};
+use worked_examples::text_of;
+
+// Whether neither another datagram nor the end of the file can be written.
+fn is_refused(alloc: Global, peer: &mut PeerRecorder, files: &mut MemoryFiles) -> bool {
+    let taken = take(alloc, peer, FIRST_OF_2, files);
+    let finished = finish(peer, files);
+    taken == Err(RecordFault::NotWritten) && finished == Err(RecordFault::NotWritten)
+}
+
+// Takes a datagram in files that have room for 100 octets, and tries three times to go on. Answers the files, what
+// is told of the peer, and whether each try was refused.
+fn fill(alloc: Global) -> (MemoryFiles, Told, bool) {
+    let mut peer = new_peer(alloc);
+    let mut files = MemoryFiles::new(alloc, 100);
+    let mut right = take(alloc, &mut peer, FIRST_OF_1, &mut files) == Ok(PeerAnswer::Recorded);
+    for _ in 0..3 {
+        let refused = is_refused(alloc, &mut peer, &mut files);
+        right = right && refused;
+    }
+    (files, end(peer), right)
+}
+
+// The first datagram stands whole, and then the first octets of the next. From then on each call answers the
+// same, and writes nothing.
+#[test]
+fn a_full_place_ends_the_peer(rt: HostRuntime) -> Result<(), Fail> {
+    let alloc: Global = rt.alloc();
+    let (files, told, right) = fill(alloc);
+    assert!(rt; right);
+    assert_eq!(rt; (files.failed, files.finished.len()), (1, 0));
+    let whole = text_of(alloc, &[FIRST_OF_1, &FIRST_OF_2[..29]])?;
+    assert_eq!(rt; files.unfinished.as_slice(), whole.as_slice());
+    assert_eq!(rt;
+        (told.ended, told.last.messages),
+        (Err(RecordFault::NotWritten), 1)
+    );
+    assert_eq!(rt;
+        (told.messages, told.fault),
+        (1, Some(SessionFault::SinkClosed))
+    );
+    Ok(())
+}
+
+// A refused allocation refuses the datagram or ends the peer; what was recorded before stands whole. Here
+// `tests/gate/refusals` refuses each allocation in turn.
+#[test]
+fn recording_survives_refused_memory(rt: HostRuntime) -> Result<(), Fail> {
+    let mut peer = new_peer(rt.alloc());
+    let mut files = MemoryFiles::new(rt.alloc(), 100_000);
+    let mut recorded: u64 = 0;
+    for datagram in DATAGRAMS {
+        match take(rt.alloc(), &mut peer, datagram, &mut files) {
+            Ok(PeerAnswer::Recorded) => recorded = recorded.saturating_add(1),
+            Ok(PeerAnswer::Refused(fault)) => {
+                assert_eq!(rt; fault, DatagramFault::Message(MessageFault::OutOfMemory));
+            }
+            // (files in memory are not written if they find none)
+            Err(fault) => {
+                let out_of_memory = RecordFault::Message(MessageFault::OutOfMemory);
+                assert!(rt; fault == out_of_memory || fault == RecordFault::NotWritten);
+            }
+        }
+    }
+    if recorded == 6 {
+        assert_eq!(rt; files.finished.len(), 1);
+        let _ = eprintln!(rt; "take: right");
+    } else {
+        let _ = eprintln!(rt; "take: OutOfMemory");
+    }
+    assert_eq!(rt; end(peer).messages, recorded);
+    Ok(())
+}

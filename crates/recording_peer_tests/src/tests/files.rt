@@ -1,0 +1,110 @@
+//! Where the files of a peer begin, and what stands in them (RFC 7011, sections 8.1 and 8.4).
+
+use super::datagrams::*;
+use super::running::{files_of, told_by};
+use super::told::{finish, new_peer, take};
+use recording_files::MemoryFiles;
+use std::alloc::{AllocError, Global};
+use std::test::*;
+use worked_examples::recordings::{FIRST_OF_1, FIRST_OF_2};
+use worked_examples::{header, text_of};
+
+// No file is finished before a datagram of this number.
+const NEVER: usize = 100;
+
+// A message without sets, and one with this set.
+fn preamble(alloc: Global, sequence: u32, domain: u32, set: &[u8]) -> Result<Vec<u8>, AllocError> {
+    let length = u16::try_from(set.len()).unwrap_or(0).saturating_add(16);
+    let mut octets = Vec::from_slice(alloc, &header(16, sequence, domain))?;
+    octets.extend_from_slice(&header(length, sequence, domain))?;
+    octets.extend_from_slice(set)?;
+    Ok(octets)
+}
+
+#[test]
+fn datagrams_stand_as_they_came(rt: HostRuntime) -> Result<(), Fail> {
+    let alloc: Global = rt.alloc();
+    let datagrams = [FIRST_OF_1, FIRST_OF_2, SECOND_OF_1];
+    let files = files_of(&rt, rt.alloc(), &datagrams, NEVER);
+    assert_eq!(rt; files.finished.len(), 0);
+    let text = text_of(alloc, &datagrams)?;
+    assert_eq!(rt; files.unfinished.as_slice(), text.as_slice());
+    Ok(())
+}
+
+// The datagram that changes template 257 begins a file. Of the domain's templates only 256 stands before
+// it, with the sequence number that is due, which is 5; and before the first datagram of domain 2 its own.
+#[test]
+fn a_changed_template_begins_a_file(rt: HostRuntime) -> Result<(), Fail> {
+    let alloc: Global = rt.alloc();
+    let files = files_of(&rt, rt.alloc(), &DATAGRAMS, NEVER);
+    let first = text_of(alloc, &[FIRST_OF_1, FIRST_OF_2, SECOND_OF_1])?;
+    assert_eq!(rt; files.finished.len(), 1);
+    assert_eq!(rt;
+        files.finished.first().map(|file| file.as_slice()),
+        Some(first.as_slice())
+    );
+    let of_1 = preamble(alloc, 5, 1, &FIRST_OF_1[16..36])?;
+    let of_2 = preamble(alloc, 1, 2, &FIRST_OF_2[16..34])?;
+    let second = text_of(alloc, &[&of_1, CHANGES_257, LAST_OF_1, &of_2, LAST_OF_2])?;
+    assert_eq!(rt; files.unfinished.as_slice(), second.as_slice());
+    Ok(())
+}
+
+// Each file is read by itself, and one after another they give the records of the datagrams.
+#[test]
+fn files_have_the_records_of_the_datagrams(rt: HostRuntime) -> Result<(), Fail> {
+    let files = files_of(&rt, rt.alloc(), &DATAGRAMS, NEVER);
+    assert_eq!(rt; told_by(&rt, rt.alloc(), &files)?.as_slice(), TOLD);
+    Ok(())
+}
+
+// The same wherever else a file is finished. Where it is finished right before the datagram that begins
+// one, there is nothing more to finish.
+#[test]
+fn a_file_is_finished_before_any_datagram(rt: HostRuntime) -> Result<(), Fail> {
+    for (before, finished) in [1, 2, 2, 1, 2, 2].iter().enumerate() {
+        let files = files_of(&rt, rt.alloc(), &DATAGRAMS, before);
+        assert_eq!(rt; files.finished.len(), *finished);
+        assert_eq!(rt; told_by(&rt, rt.alloc(), &files)?.as_slice(), TOLD);
+    }
+    Ok(())
+}
+
+// Files behind their end before any datagram, and twice behind one; with whether each call answered well.
+fn ended_often(alloc: Global) -> (MemoryFiles, bool) {
+    let mut peer = new_peer(alloc);
+    let mut files = MemoryFiles::new(alloc, 1000);
+    let first = finish(&mut peer, &mut files);
+    let taken = take(alloc, &mut peer, FIRST_OF_1, &mut files);
+    let second = finish(&mut peer, &mut files);
+    let third = finish(&mut peer, &mut files);
+    let right = first.is_ok() && taken.is_ok() && second.is_ok() && third.is_ok();
+    (files, right)
+}
+
+// A file without a datagram is not finished.
+#[test]
+fn no_file_is_empty(rt: HostRuntime) -> Result<(), Fail> {
+    let (files, right) = ended_often(rt.alloc());
+    assert!(rt; right);
+    assert_eq!(rt; (files.finished.len(), files.unfinished.len()), (1, 0));
+    Ok(())
+}
+
+// A template that changes back and forth: each time a file, and each record by the template before it.
+#[test]
+fn a_template_changes_again_and_again(rt: HostRuntime) -> Result<(), Fail> {
+    let datagrams = [FIRST_OF_1, CHANGES_257, FIRST_OF_1, CHANGES_257];
+    let files = files_of(&rt, rt.alloc(), &datagrams, NEVER);
+    assert_eq!(rt; files.finished.len(), 3);
+    let told = text_of(
+        rt.alloc(),
+        &[TOLD_FIRST, TOLD_CHANGED, TOLD_FIRST, TOLD_CHANGED],
+    )?;
+    assert_eq!(rt;
+        told_by(&rt, rt.alloc(), &files)?.as_slice(),
+        told.as_slice()
+    );
+    Ok(())
+}

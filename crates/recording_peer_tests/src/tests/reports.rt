@@ -1,0 +1,86 @@
+//! What is told of a peer and of its files.
+
+use super::datagrams::*;
+use super::running::take_all;
+use super::told::{advance_of, domain_of, end, new_peer};
+use ipfix_datagrams::DomainAdvance;
+use recording_files::{FileReport, MemoryFiles};
+use recording_peer::PeerRecorder;
+use std::alloc::Global;
+use std::process::Abort;
+use std::test::*;
+use worked_examples::recordings::FIRST_OF_1;
+
+// A peer behind all datagrams, and its files.
+fn recorded(rt: &impl Abort, alloc: Global) -> (PeerRecorder, MemoryFiles) {
+    let mut peer = new_peer(alloc);
+    let mut files = MemoryFiles::new(alloc, 100_000);
+    take_all(rt, alloc, &mut peer, &DATAGRAMS, &mut files);
+    (peer, files)
+}
+
+// The changed template begins the second file.
+#[test]
+fn each_file_has_its_report(rt: HostRuntime) -> Result<(), Fail> {
+    let first = FileReport {
+        messages: 3,
+        records: 6,
+        ..FileReport::EMPTY
+    };
+    let second = FileReport {
+        messages: 3,
+        records: 4,
+        lost: 4,
+        ..FileReport::EMPTY
+    };
+    let (peer, files) = recorded(&rt, rt.alloc());
+    assert_eq!(rt; files.reports.as_slice(), [first].as_slice());
+    let told = end(peer);
+    assert_eq!(rt; (told.ended, told.last), (Ok(()), second));
+    assert_eq!(rt; (told.messages, told.delivered, told.domains), (6, 10, 2));
+    Ok(())
+}
+
+// The losses of domain 1 are told, though a file begins between its datagrams: its sequence number advanced
+// by nine before the third, and five records came (RFC 7011, section 3.1).
+#[test]
+fn the_ledger_goes_on_in_the_next_file(rt: HostRuntime) -> Result<(), Fail> {
+    for (index, expected) in [(0, (1, 8, 4, 0)), (1, (2, 2, 0, 0))] {
+        let (peer, _) = recorded(&rt, rt.alloc());
+        assert_eq!(rt; domain_of(peer, index), Some(expected));
+    }
+    Ok(())
+}
+
+// What is told of the advance in domain 1, over the files of these datagrams.
+fn advance_over(rt: &impl Abort, alloc: Global, datagrams: &[&[u8]]) -> Option<DomainAdvance> {
+    let mut peer = new_peer(alloc);
+    let mut files = MemoryFiles::new(alloc, 100_000);
+    take_all(rt, alloc, &mut peer, datagrams, &mut files);
+    advance_of(peer, 0)
+}
+
+// Over both files: of twelve records eight came.
+#[test]
+fn the_advance_goes_over_all_files(rt: HostRuntime) -> Result<(), Fail> {
+    let expected = DomainAdvance {
+        domain: 1,
+        advance: 12,
+        came: 8,
+    };
+    assert_eq!(rt; advance_over(&rt, rt.alloc(), &DATAGRAMS), Some(expected));
+    Ok(())
+}
+
+// The second datagram of domain 1 comes last, behind the one that it was sent before, and twice.
+#[test]
+fn late_and_doubled_datagrams_came(rt: HostRuntime) -> Result<(), Fail> {
+    let datagrams = [FIRST_OF_1, CHANGES_257, SECOND_OF_1, SECOND_OF_1];
+    let expected = DomainAdvance {
+        domain: 1,
+        advance: 10,
+        came: 8,
+    };
+    assert_eq!(rt; advance_over(&rt, rt.alloc(), &datagrams), Some(expected));
+    Ok(())
+}

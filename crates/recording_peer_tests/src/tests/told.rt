@@ -1,0 +1,79 @@
+//! What becomes of a peer, as plain values.
+
+use ipfix_datagrams::DomainAdvance;
+use ipfix_session::SessionFault;
+use recording_files::{FileReport, MemoryFiles, RecordFault};
+use recording_peer::{PeerAnswer, PeerRecorder};
+use std::alloc::Global;
+
+/// What is told of a peer's session, and of its last file.
+#[derive(Clone, Copy, Debug, PartialEq, Eq)]
+pub struct Told {
+    pub ended: Result<(), RecordFault>,
+    pub last: FileReport,
+    pub messages: u64,
+    pub delivered: u64,
+    pub fault: Option<SessionFault>,
+    pub domains: usize,
+}
+
+/// A peer of which nothing has come.
+pub fn new_peer(alloc: Global) -> PeerRecorder {
+    PeerRecorder::new(alloc)
+}
+
+/// Takes a datagram.
+pub fn take(
+    alloc: Global,
+    peer: &mut PeerRecorder,
+    datagram: &[u8],
+    files: &mut MemoryFiles,
+) -> Result<PeerAnswer, RecordFault> {
+    peer.take(alloc, datagram, files)
+}
+
+/// Finishes a peer's file.
+pub fn finish(peer: &mut PeerRecorder, files: &mut MemoryFiles) -> Result<(), RecordFault> {
+    peer.finish_file(files)
+}
+
+/// Finishes a peer's file, if that is due.
+pub fn finish_if(
+    is_due: bool,
+    peer: &mut PeerRecorder,
+    files: &mut MemoryFiles,
+) -> Result<(), RecordFault> {
+    if is_due { finish(peer, files) } else { Ok(()) }
+}
+
+/// Ends a peer.
+pub fn end(peer: PeerRecorder) -> Told {
+    let session = peer.into_session().session;
+    let report = &session.report.report;
+    Told {
+        ended: session.ended,
+        last: session.last,
+        messages: report.messages,
+        delivered: report.delivered,
+        fault: report.fault,
+        domains: report.domains.len(),
+    }
+}
+
+/// Ends a peer, and gives what is told of the advance in the domain at an index.
+pub fn advance_of(peer: PeerRecorder, index: usize) -> Option<DomainAdvance> {
+    let advances = peer.into_session().advances;
+    if index < advances.len() {
+        Some(advances.at(index))
+    } else {
+        None
+    }
+}
+
+/// Ends a peer, and gives of the domain at an index its number, its records, and how many were lost and how
+/// often its sequence number went backward.
+pub fn domain_of(peer: PeerRecorder, index: usize) -> Option<(u32, u64, u64, u64)> {
+    let session = peer.into_session().session;
+    let of = session.report.report.domains.get(index)?;
+    Some((of.domain, of.count, of.lost, of.backward))
+}

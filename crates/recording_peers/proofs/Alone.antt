@@ -1,0 +1,130 @@
+-- What a run of datagrams leaves of a peer is what its own leave.
+use Rattle.std.proofs.Common.{◌≡◌, ℕ, zero, suc, ◌-◌, Bool, true, false, cond, List, [], ◌∷◌, ◌++◌, map, take, is_some, Option, Some, None, IsSome, refl, sym, ap, ◌∙◌, subst, append-nil, append_assoc}
+use Rattle.std.specs.Prelude.{filter, unwrap_or}
+use Rattle.std.specs.Map.{lookup, lookup_key, remove_entry}
+use Rattle.std.specs.declared.net.socket_addr.SocketAddr.{SocketAddr}
+use Rattle.std.specs.contracts.net.socket_addr.SocketAddrEq.TheImpl.Laws.{laws-law}
+use Rattle.recording_files.specs.Files.{FilesView}
+use Rattle.recording_peers.specs.declared.kept_peer.KeptPeer.{KeptPeer}
+use Rattle.recording_peers.specs.declared.outcome.Became.{Became}
+use Rattle.recording_peers.specs.declared.outcome.Became.TheVariants.{Recorded, Refused, Ended, NoMemory}
+use Rattle.recording_peers.specs.Table.{same_peer, of_peer, others_for, with_first}
+use Rattle.recording_peers.specs.Sessions.{Came, came_of, with_datagram, StandFor, StandBehind}
+use Rattle.recording_peers.specs.Runs.{Reception, AreRecorded, came_by, came_after, own_of, IsSettled, GoesThrough}
+use Rattle.recording_peers.proofs.Standing.{stand_behind}
+
+module _ {K X : Type 0} (test : K → Bool) where
+  lookup_take : (n : ℕ) (es : List (K × X)) (v : X) → lookup test (take n es) ≡ Some v → lookup test es ≡ Some v
+  lookup_take zero es v h = absurd cc
+  lookup_take (suc n) [] v h = absurd cc
+  lookup_take (suc n) (e ∷ es) v h = (elim (test e.0) as (λ b. cond b (Some e.1) (lookup test (take n es)) ≡ Some v → cond b (Some e.1) (lookup test es) ≡ Some v) [
+    | true ↦ λ g. g
+    | false ↦ λ g. lookup_take n es v g
+  ]) h
+
+  lookup_removed : (other : K → Bool) (es : List (K × X)) (v : X) → ((k : K) → other k ≡ true → test k ≡ false) → lookup test (remove_entry other es) ≡ Some v → lookup test es ≡ Some v
+  lookup_removed other [] v apart h = h
+  lookup_removed other (e ∷ es) v apart h = (elim (other e.0) as (λ b. other e.0 ≡ b → lookup test (cond b es (e ∷ remove_entry other es)) ≡ Some v → lookup test (e ∷ es) ≡ Some v) [
+    | true ↦ λ t g. rw (apart e.0 t) g
+    | false ↦ λ t g. (elim (test e.0) as (λ b. cond b (Some e.1) (lookup test (remove_entry other es)) ≡ Some v → cond b (Some e.1) (lookup test es) ≡ Some v) [
+      | true ↦ λ k. k
+      | false ↦ λ k. lookup_removed other es v apart k
+    ]) g
+  ]) refl h
+
+  pub key_passes : (es : List (K × X)) (k : K) → lookup_key test es ≡ Some k → test k ≡ true
+  key_passes [] k h = absurd cc
+  key_passes (e ∷ es) k h = (elim (test e.0) as (λ b. test e.0 ≡ b → cond b (Some e.0) (lookup_key test es) ≡ Some k → test k ≡ true) [
+    | true ↦ λ t g. let same : e.0 ≡ k = cc in subst (λ x. test x ≡ true) same t
+    | false ↦ λ t g. key_passes es k g
+  ]) refl h
+
+module _ (peer other : SocketAddr) where
+  -- the key of the other one
+  pub key_of : (o : Option SocketAddr) → ((k : SocketAddr) → o ≡ Some k → same_peer other k ≡ true) → same_peer other (unwrap_or o other) ≡ true
+  key_of None h = laws-law.refl other
+  key_of (Some k) h = h k refl
+
+  apart : same_peer peer other ≡ false → (k : SocketAddr) → same_peer other k ≡ true → same_peer peer k ≡ false
+  apart e k t = laws-law.symm peer k ∙ sym (laws-law.congr other k peer t) ∙ laws-law.symm other peer ∙ e
+
+module _ {X : Type 0} (most : ℕ) (peer other : SocketAddr) where
+  in_others : (es : List (SocketAddr × X)) (v : X) → same_peer peer other ≡ false → of_peer peer (others_for most other es) ≡ Some v → of_peer peer es ≡ Some v
+  in_others es v e h = (elim (is_some (of_peer other es)) as (λ b. of_peer peer (cond b (remove_entry (same_peer other) es) (take (most - 1) es)) ≡ Some v → of_peer peer es ≡ Some v) [
+    | true ↦ λ g. lookup_removed (same_peer peer) (same_peer other) es v (apart peer other e) g
+    | false ↦ λ g. lookup_take (same_peer peer) (most - 1) es v g
+  ]) h
+
+  in_first : (es : List (SocketAddr × X)) (x v : X) → same_peer peer other ≡ false → of_peer peer (with_first most other x es) ≡ Some v → of_peer peer es ≡ Some v
+  in_first es x v e h =
+      let key = key_of peer other (lookup_key (same_peer other) es) (key_passes (same_peer other) es) in
+      in_others es v e (rw (apart peer other e (unwrap_or (lookup_key (same_peer other) es) other) key) at h)
+
+  -- or of the peer itself
+  first_is : (es : List (SocketAddr × X)) (x : X) → same_peer peer other ≡ true → of_peer peer (with_first most other x es) ≡ Some x
+  first_is es x e =
+      let key = key_of peer other (lookup_key (same_peer other) es) (key_passes (same_peer other) es) in
+      rw (laws-law.congr peer other (unwrap_or (lookup_key (same_peer other) es) other) e ∙ key)
+
+  pub same_of : (es : List (SocketAddr × X)) → same_peer peer other ≡ true → of_peer other es ≡ of_peer peer es
+  same_of es e = λ i. lookup (λ k. sym (laws-law.congr peer other k e) i) es
+
+pub same_option : {X : Type 0} (o q : Option X) → ((v : X) → o ≡ Some v → q ≡ Some v) → (IsSome q → IsSome o) → o ≡ q
+same_option None None h k = refl
+same_option None (Some w) h k = let no_value = k refl in absurd cc
+same_option (Some v) q h k = sym (h v refl)
+
+module _ (peer : SocketAddr) (most : ℕ) where
+  -- its own datagram
+  settled : (q : SocketAddr) (m : List ℕ) (cs : Came) → same_peer peer q ≡ true → of_peer peer (with_datagram most cs q m) ≡ Some (came_of peer cs ++ m ∷ [])
+  settled q m cs e = first_is most peer q cs (came_of q cs ++ m ∷ []) e ∙ ap (λ o. Some (unwrap_or o [] ++ m ∷ [])) (same_of most peer q cs e)
+
+module _ {F : Type 0} (peer : SocketAddr) (most : ℕ) where
+  own_cons : (r : Reception F) (rs : List (Reception F)) → own_of peer (r ∷ rs) ≡ cond (same_peer peer r.peer) (r.octets ∷ []) [] ++ own_of peer rs
+  own_cons r rs = elim (same_peer peer r.peer) as (λ b. map (λ (x : Reception F). x.octets) (cond b (r ∷ filter (λ (x : Reception F). same_peer peer x.peer) rs) (filter (λ (x : Reception F). same_peer peer x.peer) rs)) ≡ cond b (r.octets ∷ []) [] ++ own_of peer rs) [
+    | true ↦ refl
+    | false ↦ refl
+  ]
+
+  -- another's datagram
+  theirs : (became : Became F) (q : SocketAddr) (m : List ℕ) (cs : Came) → same_peer peer q ≡ false → (IsSome (of_peer peer cs) → IsSome (of_peer peer (came_by became most q m cs)))
+      → of_peer peer (came_by became most q m cs) ≡ of_peer peer cs
+  theirs Recorded q m cs e k = same_option (of_peer peer (with_datagram most cs q m)) (of_peer peer cs) (λ v h. in_first most peer q cs (came_of q cs ++ m ∷ []) v e h) k
+  theirs (Refused fault) q m cs e k = same_option (of_peer peer (with_datagram most cs q m)) (of_peer peer cs) (λ v h. in_first most peer q cs (came_of q cs ++ m ∷ []) v e h) k
+  theirs (Ended x) q m cs e k = same_option (of_peer peer (others_for most q cs)) (of_peer peer cs) (λ v h. in_others most peer q cs v e h) k
+  theirs NoMemory q m cs e k = refl
+
+  -- or its own
+  its : (became : Became F) (q : SocketAddr) (m : List ℕ) (cs : Came) → same_peer peer q ≡ true → IsSettled became → of_peer peer (came_by became most q m cs) ≡ Some (came_of peer cs ++ m ∷ [])
+  its Recorded q m cs e s = settled peer most q m cs e
+  its (Refused fault) q m cs e s = settled peer most q m cs e
+  its (Ended k) q m cs e s = absurd s
+  its NoMemory q m cs e s = absurd s
+
+  pub one : (r : Reception F) (cs : Came) → (same_peer peer r.peer ≡ true → IsSettled r.became) → (IsSome (of_peer peer cs) → IsSome (of_peer peer (came_by r.became most r.peer r.octets cs)))
+      → came_of peer (came_by r.became most r.peer r.octets cs) ≡ came_of peer cs ++ cond (same_peer peer r.peer) (r.octets ∷ []) []
+  one r cs s k = (elim (same_peer peer r.peer) as (λ b. same_peer peer r.peer ≡ b → came_of peer (came_by r.became most r.peer r.octets cs) ≡ came_of peer cs ++ cond b (r.octets ∷ []) []) [
+    | true ↦ λ e. ap (λ o. unwrap_or o []) (its r.became r.peer r.octets cs e (s e))
+    | false ↦ λ e. ap (λ o. unwrap_or o []) (theirs r.became r.peer r.octets cs e k) ∙ sym (append-nil (came_of peer cs))
+  ]) refl
+
+  pub alone : (rs : List (Reception F)) (cs : Came) → GoesThrough peer most rs cs → came_of peer (came_after most rs cs) ≡ came_of peer cs ++ own_of peer rs
+  alone [] cs g = sym (append-nil (came_of peer cs))
+  alone (r ∷ rs) cs g =
+      alone rs (came_by r.became most r.peer r.octets cs) g.2
+      ∙ ap (λ ms. ms ++ own_of peer rs) (one r cs g.0 g.1)
+      ∙ append_assoc (came_of peer cs) (cond (same_peer peer r.peer) (r.octets ∷ []) []) (own_of peer rs)
+      ∙ ap (λ ms. came_of peer cs ++ ms) (sym (own_cons r rs))
+
+module _ {F : Type 0} (seen : F → FilesView) (most : ℕ) where
+  pub stand_by : (became : Became F) (leaving : Option (SocketAddr × KeptPeer F)) (after : List (SocketAddr × KeptPeer F)) (cs : Came) (peer : SocketAddr) (m : List ℕ) → StandBehind seen became leaving most after cs peer m → StandFor seen after (came_by became most peer m cs)
+  stand_by Recorded leaving after cs peer m s = s.0
+  stand_by (Refused fault) leaving after cs peer m s = s.0
+  stand_by (Ended k) leaving after cs peer m s = s.0
+  stand_by NoMemory leaving after cs peer m s = s.0
+
+  pub stand_after : (rs : List (Reception F)) (es after : List (SocketAddr × KeptPeer F)) (cs : Came) → StandFor seen es cs → AreRecorded seen most rs es after → StandFor seen after (came_after most rs cs)
+  stand_after [] es after cs p r = subst (λ l. StandFor seen l cs) (sym r) p
+  stand_after (r ∷ rs) es after cs p a =
+      let behind = stand_behind seen most r.now es a.0 cs r.peer r.octets r.became r.gone p a.1 in
+      stand_after rs a.0 after (came_by r.became most r.peer r.octets cs) (stand_by r.became r.gone a.0 cs r.peer r.octets behind) a.2

@@ -1,0 +1,86 @@
+-- The datagrams of a peer are settled one after another.
+use Rattle.std.proofs.Common.{◌≡◌, ℕ, List, [], ◌∷◌, ◌++◌, Result, Ok, Err, refl, sym, ap, ◌∙◌, subst, inl, inr}
+use Rattle.recording_files.specs.declared.record_fault.RecordFault.{RecordFault}
+use Rattle.recording_files.specs.Files.{FilesView}
+use Rattle.recording_peer.specs.declared.peer_answer.PeerAnswer.{PeerAnswer}
+use Rattle.recording_peer.specs.declared.peer_answer.PeerAnswer.TheVariants.{Recorded, Refused}
+use Rattle.recording_peer.specs.Peers.{Taken}
+use Rattle.recording_peer.specs.Recording.{IsPeer, Answers, all_taken, finished_now, finished_before, here_before}
+use Rattle.recording_peer.proofs.PeerFiles.{all_taken-push}
+use Rattle.recording_peer.proofs.Taking.{all_taken-now}
+use Rattle.recording_peers.specs.declared.kept_peer.KeptPeer.{KeptPeer}
+use Rattle.recording_peers.specs.Kept.{Settles, IsSession, HasEnded, Takes, Finishes}
+
+-- one more behind those that are settled
+more : (before : List Taken) (came : List (List ℕ)) (all : List Taken) (m : List ℕ) (now : List Taken) → Settles before came all → Settles all (m ∷ []) now → Settles before (came ++ m ∷ []) now
+more before [] all m now s one = subst (λ ts. Settles ts (m ∷ []) now) s one
+more before (c ∷ cs) all m now s one = elim s [
+  | inl t ↦ inl (t.0, t.1, more (before ++ t.0 ∷ []) cs all m now t.2 one)
+  | inr t ↦ inr (t.0, t.1, more before cs all m now t.2 one)
+]
+
+-- the datagrams that were taken, with one that frees these ids
+taken_behind : (ids : List ℕ) (finished : List (List Taken)) (here : List Taken) (x : Taken) → all_taken (finished_before ids finished here) (here_before ids here ++ x ∷ []) ≡ all_taken finished here ++ x ∷ []
+taken_behind [] finished here x = all_taken-push finished here x
+taken_behind (id ∷ ids) finished here x = all_taken-push (finished_now finished here) [] x ∙ ap (λ (ts : List Taken). ts ++ x ∷ []) (all_taken-now finished here)
+
+module _ {F : Type 0} (seen : F → FilesView) where
+  -- what a session stands for behind a datagram, by the answer
+  abbrev pub StandsBy : Result PeerAnswer RecordFault → KeptPeer F → List (List ℕ) → List ℕ → Type 0
+  StandsBy (Ok answer) new came m = IsSession seen new (came ++ m ∷ [])
+  StandsBy (Err fault) new came m = HasEnded seen new came m
+
+  by_answer : (answer : Result PeerAnswer RecordFault) (old new : KeptPeer F) (came : List (List ℕ)) (m : List ℕ) (s : IsSession seen old came)
+      → Answers answer m s.first (seen old.files) (seen new.files) old.recorder new.recorder s.finished s.here → StandsBy answer new came m
+  by_answer (Ok Recorded) old new came m s a = record {
+    first = s.first;
+    empty = s.empty;
+    finished = finished_before a.0.ids s.finished s.here;
+    here = here_before a.0.ids s.here ++ a.0 ∷ [];
+    is = a.2;
+    settles = more [] came (all_taken s.finished s.here) m _ s.settles (inl (a.0, a.1, taken_behind a.0.ids s.finished s.here a.0));
+  }
+  by_answer (Ok (Refused fault)) old new came m s a = record {
+    first = s.first;
+    empty = s.empty;
+    finished = s.finished;
+    here = s.here;
+    is = subst (λ v. IsPeer s.first v new.recorder s.finished s.here) (sym a.2) (subst (λ r. IsPeer s.first (seen old.files) r s.finished s.here) (sym a.1) s.is);
+    settles = more [] came (all_taken s.finished s.here) m _ s.settles (inr (fault, a.0, refl));
+  }
+  by_answer (Err fault) old new came m s a = record {
+    first = s.first;
+    empty = s.empty;
+    finished = s.finished;
+    here = s.here;
+    fault = fault;
+    ended = a.0;
+    stopped = a.1;
+    settles = s.settles;
+  }
+
+  pub takes_on : (answer : Result PeerAnswer RecordFault) (old new : KeptPeer F) (came : List (List ℕ)) (m : List ℕ) (now : ℕ) → IsSession seen old came → Takes seen old new m now answer → StandsBy answer new came m
+  takes_on answer old new came m now s t = by_answer answer old new came m s (t.answers s.first s.finished s.here s.is)
+
+  -- one whose file is finished stands for the same
+  pub finished_session : (old new : KeptPeer F) (came : List (List ℕ)) → IsSession seen old came → Finishes seen old new (Ok tt) → IsSession seen new came
+  finished_session old new came s f = record {
+    first = s.first;
+    empty = s.empty;
+    finished = finished_now s.finished s.here;
+    here = [];
+    is = f.finishes s.first s.finished s.here s.is;
+    settles = subst (Settles [] came) (sym (all_taken-now s.finished s.here)) s.settles;
+  }
+
+  pub ended_session : (old new : KeptPeer F) (came : List (List ℕ)) (fault : RecordFault) → IsSession seen old came → Finishes seen old new (Err fault) → HasEnded seen new came []
+  ended_session old new came fault s f = let a = f.finishes s.first s.finished s.here s.is in record {
+    first = s.first;
+    empty = s.empty;
+    finished = s.finished;
+    here = s.here;
+    fault = fault;
+    ended = a.0;
+    stopped = a.1;
+    settles = s.settles;
+  }

@@ -1,0 +1,12 @@
+use Rattle.std.proofs.Common.{[], refl}
+use Rattle.recording_peers.proofs.kept_peer.KeptPeer.new.Goals as goal
+
+pub returns-clause-session : goal.returns-clause-session
+returns-clause-session g c = record {
+  first = g.F.FileSeries.seen c.args.files;
+  empty = c.requires;
+  finished = [];
+  here = [];
+  is = c.new.ensures (g.F.FileSeries.seen c.args.files) c.requires;
+  settles = refl;
+}

@@ -1,0 +1,82 @@
+-- A session of a peer, and the datagrams of the peer that it stands for (RFC 7011, sections 8.4 and 10.3).
+use Rattle.std.specs.Prelude.{◌≡◌, ◌⊎◌, ℕ, Bool, true, false, List, [], ◌∷◌, ◌++◌, Option, Some, None, Result, Ok, Err, MatchResult}
+use Rattle.ipfix_session.specs.Given.{known_after}
+use Rattle.ipfix_session.specs.Sources.{one_more}
+use Rattle.recording_files.specs.declared.record_fault.RecordFault.{RecordFault}
+use Rattle.recording_files.specs.Files.{FilesView, IsEmpty}
+use Rattle.ipfix_datagrams.specs.declared.datagram_fault.DatagramFault.{DatagramFault}
+use Rattle.ipfix_datagrams.specs.Datagrams.{IsRefused}
+use Rattle.recording_peer.specs.declared.peer_answer.PeerAnswer.{PeerAnswer}
+use Rattle.recording_peer.specs.declared.peer_answer.PeerAnswer.TheVariants.{Recorded, Refused}
+use Rattle.recording_peer.specs.Peers.{Taken, givens}
+use Rattle.recording_peer.specs.Recording.{IsPeer, Answers, HasStopped, all_taken, finished_now}
+use Rattle.recording_peers.specs.declared.kept_peer.KeptPeer.{KeptPeer}
+use Rattle.recording_peers.specs.declared.refusals.Refusals.{Refusals}
+
+-- ---- the datagrams of a peer
+
+-- each of these, one after another, was taken or refused behind those that were taken before it; then all these were taken
+abbrev pub Settles : List Taken → List (List ℕ) → List Taken → Type 0
+Settles before [] all = all ≡ before
+Settles before (m ∷ ms) all = ((x : Taken) × (x.datagram ≡ m) × Settles (before ++ x ∷ []) ms all)
+    ⊎ ((fault : DatagramFault) × IsRefused (known_after [] (givens before)) m fault × Settles before ms all)
+
+-- the files and the recorder of a peer stand for the datagrams that came since the session began: each was recorded in the
+-- files, in its order and as it came, or it was refused, and changed nothing
+pub record IsSession {F : Type 0} (seen : F → FilesView) (k : KeptPeer F) (came : List (List ℕ)) : Type 0 where
+  pub first : FilesView
+  pub empty : IsEmpty first.contents
+  pub finished : List (List Taken)
+  pub here : List Taken
+  pub is : IsPeer first (seen k.files) k.recorder finished here
+  pub settles : Settles [] came (all_taken finished here)
+
+-- the session has ended with a fault, while this datagram was taken behind them, or a file was finished
+pub record HasEnded {F : Type 0} (seen : F → FilesView) (k : KeptPeer F) (came : List (List ℕ)) (m : List ℕ) : Type 0 where
+  pub first : FilesView
+  pub empty : IsEmpty first.contents
+  pub finished : List (List Taken)
+  pub here : List Taken
+  pub fault : RecordFault
+  pub ended : k.recorder.ended ≡ Some fault
+  pub stopped : HasStopped fault first (seen k.files) k.recorder.told finished here m
+  pub settles : Settles [] came (all_taken finished here)
+
+-- ---- calls
+
+-- how many were refused and aren't told yet
+abbrev pub untold : Option Refusals → ℕ
+untold None = 0
+untold (Some r) = r.count
+
+abbrev pub one_more_refused : Option Refusals → DatagramFault → Refusals
+one_more_refused r fault = record { count = one_more (untold r); last = fault }
+
+abbrev pub refused_by : Result PeerAnswer RecordFault → Option Refusals → Option Refusals
+refused_by (Ok (Refused fault)) r = Some (one_more_refused r fault)
+refused_by (Ok Recorded) r = r
+refused_by (Err fault) r = r
+
+-- a datagram was taken by the peer's recorder
+pub record Takes {F : Type 0} (seen : F → FilesView) (old new : KeptPeer F) (m : List ℕ) (now : ℕ) (answer : Result PeerAnswer RecordFault) : Type 0 where
+  pub answers : (first : FilesView) (finished : List (List Taken)) (here : List Taken) → IsPeer first (seen old.files) old.recorder finished here
+      → Answers answer m first (seen old.files) (seen new.files) old.recorder new.recorder finished here
+  pub heard : new.heard ≡ now
+  pub refused : new.refused ≡ refused_by answer old.refused
+
+-- a file was finished by the peer's recorder
+pub record Finishes {F : Type 0} (seen : F → FilesView) (old new : KeptPeer F) (answer : Result (Unit {0}) RecordFault) : Type 0 where
+  pub finishes : (first : FilesView) (finished : List (List Taken)) (here : List Taken) → IsPeer first (seen old.files) old.recorder finished here
+      → MatchResult answer (λ x. IsPeer first (seen new.files) new.recorder (finished_now finished here) [])
+      (λ fault. (new.recorder.ended ≡ Some fault) × HasStopped fault first (seen new.files) new.recorder.told finished here [])
+  pub heard : new.heard ≡ old.heard
+  pub refused : new.refused ≡ old.refused
+
+-- a session in its turn: what was refused is told, and its file is finished if a period is over
+abbrev pub FinishesIf : Bool → {F : Type 0} → (F → FilesView) → KeptPeer F → KeptPeer F → Result (Unit {0}) RecordFault → Type 0
+FinishesIf true seen old new answer = Finishes seen old new answer
+FinishesIf false seen old new answer = (answer ≡ Ok tt) × (new ≡ old)
+
+pub record TakesTurn {F : Type 0} (seen : F → FilesView) (is_over : Bool) (old new : KeptPeer F) (told : Option Refusals) (answer : Result (Unit {0}) RecordFault) : Type 0 where
+  pub told_is : told ≡ old.refused
+  pub finishes : FinishesIf is_over seen (record old { refused = None }) new answer

@@ -1,0 +1,16 @@
+-- The answers of a script.
+use Rattle.std.specs.Prelude.{◌≡◌, ◌<◌, ℕ, List, ◌++◌, length, map, take, replicate, Result, Ok, Err}
+use Rattle.recording_peers.specs.declared.datagram_source.NoDatagram.{NoDatagram}
+use Rattle.recording_peers.specs.declared.datagram_source.NoDatagram.TheVariants.{Tick}
+use Rattle.recording_peers.specs.declared.script_datagrams.ScriptedDatagram.{ScriptedDatagram}
+use Rattle.recording_peers.specs.Answers.{Answer}
+
+abbrev pub scripted : Result ScriptedDatagram NoDatagram → Answer
+scripted (Ok d) = Ok (d.peer, d.octets.items)
+scripted (Err why) = Err why
+
+-- so many of a script, and behind its last one ticks
+pub record AreFirst (script : List (Result ScriptedDatagram NoDatagram)) (count : ℕ) (answers : List Answer) : Type 0 where
+  pub ticks : ℕ
+  pub are : answers ≡ map scripted (take count script) ++ replicate ticks (Err Tick)
+  pub behind_all : count < length script → ticks ≡ 0

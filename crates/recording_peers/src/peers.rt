@@ -1,0 +1,130 @@
+//! The peers that are kept.
+
+ghost use Rattle.std.specs.Prelude.{◌≡◌, ◌≤◌, ◌<◌, ◌-◌, ◌==◌, [], Some, None, length, take, IfOk, IfSome};
+ghost use Rattle.std.specs.NonZero.{non_zero_usize_get};
+ghost use Rattle.lru.specs.LruCache.{lru_cache, last_entry};
+ghost use Rattle.recording_peers.specs.Steps.{Records, GoesOn};
+
+use crate::in_turn::InTurn;
+use crate::kept_peer::KeptPeer;
+use crate::outcome::Outcome;
+use crate::peer_place::PeerPlace;
+use lru::LruCache;
+use recording_files::FileSeries;
+use std::alloc::{AllocError, Global};
+use std::hash::RandomState;
+use std::net::SocketAddr;
+use std::num::NonZeroUsize;
+
+/// The peers whose sessions are kept, in the order of their last datagrams, the latest first.
+#[derive(Drop)]
+pub struct Peers<F> {
+    /// The session of each, under its address and port.
+    pub kept: LruCache<SocketAddr, KeptPeer<F>, RandomState>,
+}
+
+impl<F: FileSeries + Drop> Peers<F> {
+    /// No peers, and room for `most`. Their addresses are hashed with random keys, since anybody may choose
+    /// them.
+    pub fn new(alloc: Global, most: NonZeroUsize, keys: RandomState) -> Result<Self, AllocError>
+        ensures { IfOk result (λ peers. peers.kept ≡ lru_cache [] (non_zero_usize_get most)) }
+    {
+        let kept = LruCache::with_hasher(alloc, most, keys)?;
+        Ok(Peers { kept })
+    }
+
+    /// How many are kept.
+    pub fn len(&self) -> usize
+        ensures { result ≡ length self.now.kept.entries }
+    {
+        self.kept.len()
+    }
+
+    /// Whether none is.
+    pub fn is_empty(&self) -> bool
+        ensures { result ≡ (length self.now.kept.entries == 0) }
+    {
+        self.kept.is_empty()
+    }
+
+    /// Records a datagram of a peer, which came at a time in seconds, in the files of the peer's session; one
+    /// that isn't kept begins, with files of a place. The peer is first now. Where there is no room for one
+    /// more, the peer that was silent for longest goes out. Any other stays as it is.
+    pub fn record<P: PeerPlace<F>>(
+        &mut self,
+        alloc: Global,
+        place: &mut P,
+        peer: SocketAddr,
+        datagram: &[u8],
+        now: u64,
+    ) -> Outcome<F>
+        ensures records { Records F.seen result.became result.gone self.old.kept.cap
+            self.old.kept.entries self.new.kept.entries peer datagram.now now }
+        ensures room { self.new.kept.cap ≡ self.old.kept.cap }
+    {
+        match self.take(alloc, peer, datagram, now) {
+            Some(became) => Outcome { became, gone: None },
+            None => self.record_first(alloc, place, peer, datagram, now),
+        }
+    }
+
+    /// Goes on to the peer that was silent for longest, and makes it first: as many calls as there are peers go
+    /// over all of them, and leave their order. Its refused datagrams are told; and if a period is over, its
+    /// file is finished. A session that ends at that goes out.
+    pub fn go_on(&mut self, is_over: bool) -> Option<InTurn<F>>
+        ensures none { result ≡ None → (self.old.kept.entries ≡ []) × (self.new ≡ self.old) }
+        ensures goes_on { IfSome result
+            (GoesOn F.seen is_over self.old.kept.entries self.new.kept.entries) }
+        ensures room { self.new.kept.cap ≡ self.old.kept.cap }
+    {
+        if self.kept.len() == 0 {
+            return None;
+        }
+        let (peer, _) = self.kept.peek_lru()?;
+        let peer = *peer;
+        let (refused, finished) = self.kept.get_mut(&peer)?.take_turn(is_over);
+        match finished {
+            Ok(()) => Some(InTurn {
+                peer,
+                refused,
+                ended: None,
+            }),
+            Err(_) => {
+                let ended = self.kept.pop(&peer);
+                Some(InTurn {
+                    peer,
+                    refused,
+                    ended,
+                })
+            }
+        }
+    }
+
+    /// Takes out the peer that was silent for longest, if its last datagram came before a time in seconds.
+    pub fn take_silent(&mut self, since: u64) -> Option<(SocketAddr, KeptPeer<F>)>
+        ensures none { result ≡ None → (self.new ≡ self.old)
+            × IfSome (last_entry self.old.kept.entries) (λ e. since ≤ e.1.heard) }
+        ensures silent { IfSome result (λ e. (last_entry self.old.kept.entries ≡ Some e)
+            × (e.1.heard < since)
+            × (self.new.kept.entries
+            ≡ take (length self.old.kept.entries - 1) self.old.kept.entries)) }
+        ensures room { self.new.kept.cap ≡ self.old.kept.cap }
+    {
+        let (_, kept) = self.kept.peek_lru()?;
+        if kept.heard < since {
+            self.kept.pop_lru()
+        } else {
+            None
+        }
+    }
+
+    /// Takes out the peer that was silent for longest.
+    pub fn take_out(&mut self) -> Option<(SocketAddr, KeptPeer<F>)>
+        ensures last { result ≡ last_entry self.old.kept.entries }
+        ensures others { self.new.kept.entries
+            ≡ take (length self.old.kept.entries - 1) self.old.kept.entries }
+        ensures room { self.new.kept.cap ≡ self.old.kept.cap }
+    {
+        self.kept.pop_lru()
+    }
+}

@@ -1,0 +1,73 @@
+//! Datagrams in memory, for tests.
+
+ghost use Rattle.std.specs.Prelude.{◌≡◌, ◌≤◌, [], length, take};
+
+use crate::datagram_source::{Datagram, DatagramSource, NoDatagram};
+use std::net::SocketAddr;
+
+/// A datagram of a script.
+#[derive(Drop)]
+pub struct ScriptedDatagram {
+    pub peer: SocketAddr,
+    pub octets: Vec<u8>,
+}
+
+/// A source that gives the answers of a script in turn. Behind the last it ticks. At a datagram that is
+/// longer than the buffer it fails, and from then on contracts see none of its answers.
+#[derive(Drop)]
+pub struct ScriptDatagrams {
+    script: Vec<Result<ScriptedDatagram, NoDatagram>>,
+    next: usize,
+    is_stuck: bool,
+}
+
+impl ScriptDatagrams {
+    /// Gives these in turn.
+    pub fn new(script: Vec<Result<ScriptedDatagram, NoDatagram>>) -> Self
+        ensures { ⟦<ScriptDatagrams as DatagramSource>⟧.answered result [] }
+    {
+        ScriptDatagrams {
+            script,
+            next: 0,
+            is_stuck: false,
+        }
+    }
+}
+
+// Copies a text to the front of a buffer.
+fn copy_front(text: &[u8], buffer: &mut [u8])
+    requires { length text.now ≤ length buffer.old }
+    ensures { take (length text.now) buffer.new ≡ text.now }
+{
+    buffer[..text.len()].copy_from_slice(text);
+}
+
+impl DatagramSource for ScriptDatagrams {
+    ghost use Rattle.std.specs.Prelude.{◌≡◌, false};
+    ghost use Rattle.recording_peers.specs.Scripts.{AreFirst};
+
+    ghost answered = { λ s answers. s.is_stuck ≡ false → AreFirst s.script.items s.next answers };
+
+    fn receive(&mut self, buffer: &mut [u8]) -> Result<Datagram, NoDatagram> {
+        match self.script.get(self.next) {
+            Some(Ok(datagram)) => {
+                let length = datagram.octets.len();
+                if length > buffer.len() {
+                    self.is_stuck = true;
+                    return Err(NoDatagram::Failed);
+                }
+                copy_front(&datagram.octets, buffer);
+                self.next += 1;
+                Ok(Datagram {
+                    length,
+                    peer: datagram.peer,
+                })
+            }
+            Some(Err(why)) => {
+                self.next += 1;
+                Err(*why)
+            }
+            None => Err(NoDatagram::Tick),
+        }
+    }
+}

@@ -1,0 +1,3 @@
+pub mod Untold
+mod Stream
+mod Once

@@ -1,0 +1,133 @@
+//! The lines that tell how a session ended.
+
+ghost use Rattle.std.specs.Prelude.{OnErr, OnOk};
+ghost use Rattle.std.specs.Io.KnownBytes.{Appends};
+ghost use Rattle.report_sessions.specs.ToldLines.{end_told, ended_line, ended_text, fault_place_lines, left_text, number_left, place_text};
+
+use ipfix_session::{FullReport, MessagePlace, SessionFault};
+use report_writing::{Origin, Telling, WriteLines, write_session_start};
+use std::io;
+
+/// Writes how a session ended, if verbose lines are asked for: the place of its fault, and then how much
+/// of it counts.
+pub fn write_end<W: WriteLines>(
+    telling: Telling,
+    session: usize,
+    origin: &Origin,
+    full: &FullReport,
+    out: &mut W,
+) -> io::Result<()>
+    ensures told { OnOk result (Appends (W.contents out.old) (W.contents out.new)
+        (end_told telling session origin.now full.now)) }
+    ensures failed { OnErr result (W.failed out.new) }
+    ensures kept { W.failed out.old → W.failed out.new }
+{
+    if telling.verbose {
+        write_fault_place(session, origin, full.report.fault, full.stopped_at, out)?;
+        write_ended(session, origin, full, out)
+    } else {
+        Ok(())
+    }
+}
+
+// The fault, where the first message begins that doesn't count, and how many octets there are from there on.
+fn write_fault_place<W: WriteLines>(
+    session: usize,
+    origin: &Origin,
+    fault: Option<SessionFault>,
+    place: MessagePlace,
+    out: &mut W,
+) -> io::Result<()>
+    ensures told { OnOk result (Appends (W.contents out.old) (W.contents out.new)
+        (fault_place_lines session origin.now fault place)) }
+    ensures failed { OnErr result (W.failed out.new) }
+    ensures kept { W.failed out.old → W.failed out.new }
+{
+    match fault {
+        None => Ok(()),
+        Some(fault) => {
+            write_session_start(session, origin, out)?;
+            write_place(fault.number(), fault.name(), place, out)?;
+            write_left(origin.octets_from(place.octet), out)
+        }
+    }
+}
+
+#[tactic(auto, unfolding(crate::specs::ToldLines::place_text))]
+fn write_place<W: WriteLines>(
+    number: u8,
+    name: &str,
+    place: MessagePlace,
+    out: &mut W,
+) -> io::Result<()>
+    ensures told { OnOk result (Appends (W.contents out.old) (W.contents out.new)
+        (place_text number name.now place)) }
+    ensures failed { OnErr result (W.failed out.new) }
+    ensures kept { W.failed out.old → W.failed out.new }
+{
+    let MessagePlace { message, octet } = place;
+    write!(
+        out,
+        ": fault {number} {name}: message {message} octet {octet}"
+    )
+}
+
+fn write_left<W: WriteLines>(octets: Option<u64>, out: &mut W) -> io::Result<()>
+    ensures told { OnOk result (Appends (W.contents out.old) (W.contents out.new)
+        (left_text octets)) }
+    ensures failed { OnErr result (W.failed out.new) }
+    ensures kept { W.failed out.old → W.failed out.new }
+{
+    match octets {
+        None => writeln!(out),
+        Some(octets) => write_number_left(octets, out),
+    }
+}
+
+#[tactic(auto, unfolding(crate::specs::ToldLines::number_left))]
+fn write_number_left<W: WriteLines>(octets: u64, out: &mut W) -> io::Result<()>
+    ensures told { OnOk result (Appends (W.contents out.old) (W.contents out.new)
+        (number_left octets)) }
+    ensures failed { OnErr result (W.failed out.new) }
+    ensures kept { W.failed out.old → W.failed out.new }
+{
+    writeln!(out, " unread {octets}")
+}
+
+fn write_ended<W: WriteLines>(
+    session: usize,
+    origin: &Origin,
+    full: &FullReport,
+    out: &mut W,
+) -> io::Result<()>
+    ensures told { OnOk result (Appends (W.contents out.old) (W.contents out.new)
+        (ended_line session origin.now full.now)) }
+    ensures failed { OnErr result (W.failed out.new) }
+    ensures kept { W.failed out.old → W.failed out.new }
+{
+    write_session_start(session, origin, out)?;
+    write_counts(
+        full.report.messages,
+        full.stopped_at.octet,
+        full.report.delivered,
+        out,
+    )
+}
+
+#[tactic(auto, unfolding(crate::specs::ToldLines::ended_text))]
+fn write_counts<W: WriteLines>(
+    messages: u64,
+    octets: u64,
+    records: u64,
+    out: &mut W,
+) -> io::Result<()>
+    ensures told { OnOk result (Appends (W.contents out.old) (W.contents out.new)
+        (ended_text messages octets records)) }
+    ensures failed { OnErr result (W.failed out.new) }
+    ensures kept { W.failed out.old → W.failed out.new }
+{
+    writeln!(
+        out,
+        ": ended: messages {messages} octets {octets} records {records}"
+    )
+}

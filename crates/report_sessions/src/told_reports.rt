@@ -1,0 +1,85 @@
+//! The lines of sessions in full.
+
+ghost use Rattle.std.specs.Prelude.{◌≡◌, false, map, OnErr, OnOk};
+ghost use Rattle.std.specs.Io.KnownBytes.{Appends};
+ghost use Rattle.report_sessions.specs.ReportLines.{report_lines};
+ghost use Rattle.report_sessions.specs.ToldLines.{origin_of, told_lines, told_session};
+
+use crate::balances::write_balances;
+use crate::endings::write_end;
+use crate::reports::write_session;
+use crate::unnamed::write_unnamed;
+use element_registry::Elements;
+use ipfix_session::FullReport;
+use report_writing::{Origin, Telling, WriteLines};
+use std::io;
+
+/// Writes what there is to tell of sessions, counted from 1: for each first what
+/// [`write_reports`](crate::write_reports) writes, and that is all if `telling` asks for nothing.
+///
+/// If it is verbose or strict, a line follows for each domain in which something wasn't counted: unknown
+/// sets, skipped sets, ignored withdrawals, and records that are unaccounted for. If it is verbose, there
+/// follow the elements of the templates in force at the session's end which neither the built-in list nor
+/// the files of `elements` name, if there are any; then the place of the session's fault, and how much of
+/// it counts. Each of these lines has the origin that stands at the session's place in `origins` behind
+/// the session's number; none if it is missing there.
+pub fn write_told_reports<W: WriteLines>(
+    telling: Telling,
+    elements: &Elements,
+    origins: &[Origin],
+    reports: &[FullReport],
+    out: &mut W,
+) -> io::Result<()>
+    ensures told { OnOk result (Appends (W.contents out.old) (W.contents out.new)
+        (told_lines telling elements.now origins.now reports.now)) }
+    // Without these options nothing is added.
+    ensures plain { telling.verbose ≡ false → telling.strict ≡ false
+        → OnOk result (Appends (W.contents out.old) (W.contents out.new)
+        (report_lines (map (λ full. full.report) reports.now))) }
+    ensures failed { OnErr result (W.failed out.new) }
+    ensures kept { W.failed out.old → W.failed out.new }
+{
+    for (index, full) in reports.iter().enumerate() {
+        write_numbered(telling, elements, index + 1, origins, full, out)?;
+    }
+    Ok(())
+}
+
+// The lines of the session of this number, counted from 1.
+fn write_numbered<W: WriteLines>(
+    telling: Telling,
+    elements: &Elements,
+    session: usize,
+    origins: &[Origin],
+    full: &FullReport,
+    out: &mut W,
+) -> io::Result<()>
+    ensures told { OnOk result (Appends (W.contents out.old) (W.contents out.new)
+        (told_session telling elements.now session (origin_of origins.now session) full.now)) }
+    ensures failed { OnErr result (W.failed out.new) }
+    ensures kept { W.failed out.old → W.failed out.new }
+{
+    match origins.get(session.saturating_sub(1)) {
+        Some(origin) => write_told_session(telling, elements, session, origin, full, out),
+        None => write_told_session(telling, elements, session, &Origin::Unknown, full, out),
+    }
+}
+
+fn write_told_session<W: WriteLines>(
+    telling: Telling,
+    elements: &Elements,
+    session: usize,
+    origin: &Origin,
+    full: &FullReport,
+    out: &mut W,
+) -> io::Result<()>
+    ensures told { OnOk result (Appends (W.contents out.old) (W.contents out.new)
+        (told_session telling elements.now session origin.now full.now)) }
+    ensures failed { OnErr result (W.failed out.new) }
+    ensures kept { W.failed out.old → W.failed out.new }
+{
+    write_session(session, &full.report, out)?;
+    write_balances(telling, session, origin, &full.balances, out)?;
+    write_unnamed(telling, elements, session, origin, full, out)?;
+    write_end(telling, session, origin, full, out)
+}

@@ -1,0 +1,151 @@
+//! What is told of sessions in full, of what was opened and of what was not had, and which runs are spotless.
+
+mod unnamed;
+
+use element_registry::Elements;
+use flow_table::{Missing, Tally};
+use ipfix_dump::{Line, dump_in_full_by};
+use ipfix_session::{FromReader, FullReport};
+use report_sessions::*;
+use std::alloc::Global;
+use std::io::{self, ErrorKind};
+use std::net::{Ipv4Addr, SocketAddr, SocketAddrV4};
+use std::test::Fail;
+use worked_examples::sequences::*;
+use worked_examples::{header, text_of};
+
+const PLAIN: Telling = Telling {
+    verbose: false,
+    strict: false,
+};
+
+const VERBOSE: Telling = Telling {
+    verbose: true,
+    strict: false,
+};
+
+const STRICT: Telling = Telling {
+    verbose: false,
+    strict: true,
+};
+
+// The full report of a session of these octets.
+fn report_of(alloc: Global, text: &[u8]) -> Result<FullReport, Fail> {
+    let mut source = FromReader::new(text);
+    let mut out = Vec::new(alloc);
+    let elements = Elements::built_in(alloc);
+    let mut line = Line::new(alloc, &elements);
+    Ok(dump_in_full_by(alloc, &mut line, &mut source, &mut out)?)
+}
+
+// Two sessions. In the first a data set comes before its template, and the third message is cut.
+fn two_sessions(alloc: Global) -> Result<Vec<FullReport>, Fail> {
+    let mut cut = text_of(alloc, &[ONE_BACK_AT_1])?;
+    cut.extend_from_slice(&header(40, 4, 1))?;
+    cut.extend_from_slice(&TWO_AT_0[16..])?;
+    cut.extend_from_slice(&ONE_AT_5[..10])?;
+    let mut reports = Vec::new(alloc);
+    reports.push(report_of(alloc, &cut)?)?;
+    reports.push(report_of(alloc, TWO_AT_0)?)?;
+    Ok(reports)
+}
+
+fn origins() -> [Origin<'static>; 2] {
+    let peer = SocketAddrV4::new(Ipv4Addr::new(192, 0, 2, 1), 4711);
+    [
+        Origin::File {
+            name: "flows \x1b.ipfix",
+            size: Some(74),
+        },
+        Origin::Peer(SocketAddr::V4(peer)),
+    ]
+}
+
+#[test]
+fn writes_sessions_in_full(rt: HostRuntime) -> Result<(), Fail> {
+    let reports = two_sessions(rt.alloc())?;
+    let elements = Elements::built_in(rt.alloc());
+    let cases: [(Telling, &str); 3] = [
+        (PLAIN, "collectd: session 1: fault 14 Truncated\n"),
+        (
+            STRICT,
+            r#"collectd: session 1: fault 14 Truncated
+collectd: session 1 "flows \x1b.ipfix": domain 1: unknown_sets 1 skipped_sets 0 ignored_withdrawals 0 unaccounted 3
+"#,
+        ),
+        (
+            VERBOSE,
+            r#"collectd: session 1: fault 14 Truncated
+collectd: session 1 "flows \x1b.ipfix": domain 1: unknown_sets 1 skipped_sets 0 ignored_withdrawals 0 unaccounted 3
+collectd: session 1 "flows \x1b.ipfix": fault 14 Truncated: message 3 octet 64 unread 10
+collectd: session 1 "flows \x1b.ipfix": ended: messages 2 octets 64 records 2
+collectd: session 2 192.0.2.1:4711: ended: messages 1 octets 40 records 2
+"#,
+        ),
+    ];
+    for (telling, wanted) in cases {
+        let mut err = Vec::new(rt.alloc());
+        write_told_reports(telling, &elements, &origins(), reports.as_slice(), &mut err)?;
+        assert_eq!(rt; err.as_slice(), wanted.as_bytes());
+    }
+    Ok(())
+}
+
+#[test]
+fn writes_what_was_opened(rt: HostRuntime) -> Result<(), Fail> {
+    let mut err = Vec::new(rt.alloc());
+    for telling in [PLAIN, VERBOSE] {
+        write_listening(telling, "127.0.0.1:4739", 2, &mut err)?;
+        for origin in &origins() {
+            write_opened(telling, 1, origin, &mut err)?;
+        }
+        write_opened(telling, 2, &Origin::Unknown, &mut err)?;
+    }
+    let wanted = r#"collectd: listening: 127.0.0.1:4739: connections 2
+collectd: session 1 "flows \x1b.ipfix": opened
+collectd: session 1 192.0.2.1:4711: accepted
+collectd: session 2: opened
+"#;
+    assert_eq!(rt; err.as_slice(), wanted.as_bytes());
+    Ok(())
+}
+
+#[test]
+fn writes_what_was_not_had(rt: HostRuntime) -> Result<(), Fail> {
+    let mut err = Vec::new(rt.alloc());
+    let missing = Reason::of(&io::Error::from(ErrorKind::NotFound));
+    let silent = Reason::of(&io::Error::from(ErrorKind::WouldBlock));
+    write_not_had_because(PLAIN, "open", "no.ipfix", missing, &mut err)?;
+    write_not_had_because(VERBOSE, "open", "no.ipfix", missing, &mut err)?;
+    write_not_had_because(VERBOSE, "listen", "127.0.0.1:1", silent, &mut err)?;
+    let wanted = "collectd: open: no.ipfix
+collectd: open: no.ipfix: no such file
+collectd: listen: 127.0.0.1:1: nothing came in time
+";
+    assert_eq!(rt; err.as_slice(), wanted.as_bytes());
+    Ok(())
+}
+
+#[test]
+fn tells_spotless_runs(rt: HostRuntime) -> Result<(), Fail> {
+    let reports = two_sessions(rt.alloc())?;
+    let untimed = Tally {
+        untimed: 1,
+        ..Tally::EMPTY
+    };
+    let options = Tally {
+        options: 3,
+        used: 2,
+        ..Tally::EMPTY
+    };
+    let counterless = Missing {
+        counters: [0, 1, 0, 0],
+        ..Missing::NONE
+    };
+    assert!(rt; !are_spotless(reports.as_slice()));
+    assert!(rt; are_spotless(&reports[1..]));
+    assert!(rt; is_spotless(&reports[1..], &options, &Missing::NONE));
+    assert!(rt; !is_spotless(&reports[1..], &untimed, &Missing::NONE));
+    assert!(rt; !is_spotless(&reports[1..], &options, &counterless));
+    Ok(())
+}

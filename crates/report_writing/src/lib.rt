@@ -1,0 +1,21 @@
+//! What lines on standard error are written to, and the words that they share: whose session it is, why the system
+//! refused something, names that a file gives, faults, and how a command ended.
+#![tactic(auto)]
+
+mod faults;
+mod opening;
+mod origin;
+mod quoting;
+mod reason;
+mod status;
+mod telling;
+mod write_lines;
+
+pub use faults::{write_fault, write_not_had};
+pub use opening::{write_listening, write_not_had_because, write_opened};
+pub use origin::{Origin, write_origin, write_session_start};
+pub use quoting::{write_octets, write_quoted};
+pub use reason::Reason;
+pub use status::Status;
+pub use telling::{NOTHING_MORE, Telling};
+pub use write_lines::{Remembering, WriteLines};

@@ -1,0 +1,120 @@
+//! The lines that tell what was opened and what is waited for, and why something was not had.
+
+ghost use Rattle.std.specs.Prelude.{◌≡◌, ◌++◌, codes, OnErr, OnOk};
+ghost use Rattle.std.specs.Io.KnownBytes.{Appends};
+ghost use Rattle.report_writing.specs.OpeningLines.{if_verbose, listening_line, not_had_lines, opened_line, opened_text as text_of_opened};
+ghost use Rattle.report_writing.specs.FaultLines.{not_had_line};
+
+use crate::faults::write_not_had;
+use crate::origin::{Origin, write_session_start};
+use crate::reason::Reason;
+use crate::telling::Telling;
+use crate::write_lines::WriteLines;
+use std::io;
+
+/// Writes the line of a session, counted from 1, whose file was opened or whose connection was accepted.
+/// Nothing is written unless `telling` is verbose.
+pub fn write_opened<W: WriteLines>(
+    telling: Telling,
+    session: usize,
+    origin: &Origin,
+    out: &mut W,
+) -> io::Result<()>
+    ensures told { OnOk result (Appends (W.contents out.old) (W.contents out.new)
+        (if_verbose telling (opened_line session origin.now))) }
+    ensures failed { OnErr result (W.failed out.new) }
+    ensures kept { W.failed out.old → W.failed out.new }
+{
+    if telling.verbose {
+        write_opened_line(session, origin, out)
+    } else {
+        Ok(())
+    }
+}
+
+fn write_opened_line<W: WriteLines>(session: usize, origin: &Origin, out: &mut W) -> io::Result<()>
+    ensures told { OnOk result (Appends (W.contents out.old) (W.contents out.new)
+        (opened_line session origin.now)) }
+    ensures failed { OnErr result (W.failed out.new) }
+    ensures kept { W.failed out.old → W.failed out.new }
+{
+    write_session_start(session, origin, out)?;
+    out.write_all(opened_text(origin).as_bytes())
+}
+
+fn opened_text(origin: &Origin) -> &'static str
+    ensures { result.now ≡ text_of_opened origin.now }
+{
+    match origin {
+        Origin::File { .. } | Origin::Unknown => ": opened\n",
+        Origin::Peer(_) => ": accepted\n",
+    }
+}
+
+/// Writes the line that says for how many connections there is a wait at an address. Nothing is written
+/// unless `telling` is verbose.
+pub fn write_listening<W: WriteLines>(
+    telling: Telling,
+    address: &str,
+    connections: usize,
+    out: &mut W,
+) -> io::Result<()>
+    ensures told { OnOk result (Appends (W.contents out.old) (W.contents out.new)
+        (if_verbose telling (listening_line address.now connections))) }
+    ensures failed { OnErr result (W.failed out.new) }
+    ensures kept { W.failed out.old → W.failed out.new }
+{
+    if telling.verbose {
+        write_listening_line(address, connections, out)
+    } else {
+        Ok(())
+    }
+}
+
+#[tactic(auto, unfolding(crate::specs::OpeningLines::listening_line))]
+fn write_listening_line<W: WriteLines>(
+    address: &str,
+    connections: usize,
+    out: &mut W,
+) -> io::Result<()>
+    ensures told { OnOk result (Appends (W.contents out.old) (W.contents out.new)
+        (listening_line address.now connections)) }
+    ensures failed { OnErr result (W.failed out.new) }
+    ensures kept { W.failed out.old → W.failed out.new }
+{
+    writeln!(
+        out,
+        "collectd: listening: {address}: connections {connections}"
+    )
+}
+
+/// Writes the line of what the system did not give, as [`write_not_had`] does, and the reason at its end
+/// if `telling` is verbose.
+pub fn write_not_had_because<W: WriteLines>(
+    telling: Telling,
+    what: &str,
+    name: &str,
+    reason: Reason,
+    out: &mut W,
+) -> io::Result<()>
+    ensures told { OnOk result (Appends (W.contents out.old) (W.contents out.new)
+        (not_had_lines telling what.now name.now reason)) }
+    ensures failed { OnErr result (W.failed out.new) }
+    ensures kept { W.failed out.old → W.failed out.new }
+{
+    if telling.verbose {
+        write_because(what, name, reason.words(), out)
+    } else {
+        write_not_had(what, name, out)
+    }
+}
+
+#[tactic(auto, unfolding(crate::specs::FaultLines::not_had_line))]
+fn write_because<W: WriteLines>(what: &str, name: &str, words: &str, out: &mut W) -> io::Result<()>
+    ensures told { OnOk result (Appends (W.contents out.old) (W.contents out.new)
+        (not_had_line what.now (name.now ++ (codes ": " ++ words.now)))) }
+    ensures failed { OnErr result (W.failed out.new) }
+    ensures kept { W.failed out.old → W.failed out.new }
+{
+    writeln!(out, "collectd: {what}: {name}: {words}")
+}

@@ -1,4 +1,0 @@
-use Rattle.run_reports.proofs.faults.write_text_fault.Goals as goal
-
-pub returns-clause-told : goal.returns-clause-told
-returns-clause-told g c = rw (c.number.ensures, c.name.ensures) at c.write_fault.ensures.told

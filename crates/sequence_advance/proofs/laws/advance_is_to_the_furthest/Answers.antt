@@ -1,5 +1,0 @@
-use Rattle.sequence_advance.proofs.Streams.{to_the_furthest}
-use Rattle.sequence_advance.proofs.laws.advance_is_to_the_furthest.Goals as goal
-
-pub returns : goal.returns
-returns c = to_the_furthest

@@ -1,5 +1,0 @@
-use Rattle.sequence_advance.proofs.Streams.{in_any_order}
-use Rattle.sequence_advance.proofs.laws.order_does_not_matter.Goals as goal
-
-pub returns : goal.returns
-returns c = in_any_order

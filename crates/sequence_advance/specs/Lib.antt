@@ -1,4 +1,0 @@
--- What public contracts cite.
-pub mod Advances
-pub mod Reaches
-pub mod Streams

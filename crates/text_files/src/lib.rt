@@ -1,6 +1,0 @@
-//! Texts of files.
-#![tactic(auto)]
-
-mod reading;
-
-pub use reading::ReadText;

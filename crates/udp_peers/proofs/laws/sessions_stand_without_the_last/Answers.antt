@@ -1,5 +1,0 @@
-use Rattle.udp_peers.proofs.Turning.{before_last, last_beside}
-use Rattle.udp_peers.proofs.laws.sessions_stand_without_the_last.Goals as goal
-
-pub returns : goal.returns
-returns g c = λ es cs p. (last_beside g.F.FileSeries.seen es cs p, before_last g.F.FileSeries.seen es cs p)
