@@ -9,7 +9,7 @@ bin/collectd: crates.txt HANDLES $(shell find crates \( -name out -o -name must-
 # README's first example, run without any proof.
 try: ; @cd crates/collectd_cli && rt try -- dump < ../../examples/one-flow.ipfix
 
-.PHONY: try test edits bench compare interop refusals hostile soak scale install dist deb packages clean
+.PHONY: try test edits bench compare interop refusals hostile soak scale install dist deb packages slim clean
 test: ; @tests/gate/run
 
 edits: ; @tests/more/try_edits
@@ -40,5 +40,8 @@ dist: bin/collectd ; @packaging/dist
 deb: bin/collectd ; @packaging/deb
 
 packages: dist deb ; @tests/more/packages
+
+# What the proofs kept goes (it is nearly all of a built tree), and the program stays.
+slim: bin/collectd ; rm -rf bin/proved bin/copy crates/*/out
 
 clean: ; rm -rf bin dist tests/out crates/*/out

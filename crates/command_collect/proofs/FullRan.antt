@@ -159,6 +159,10 @@ pub whatever : {X : Type 0} (o : Option X) (P : Type 0) → P → IfSome o (λ x
 whatever None P p = tt
 whatever (Some x) P p = p
 
+pub whatever_fault : {X : Type 0} (o : Option X) (P : X → Type 0) → ((x : X) → P x) → IfSome o P
+whatever_fault None P p = tt
+whatever_fault (Some x) P p = p x
+
 pub even_if_none : {X : Type 0} (o : Option X) (P : Type 0) → P → IfNone o P
 even_if_none None P p = p
 even_if_none (Some x) P p = tt

@@ -43,10 +43,11 @@ module _ {S : Type 0} (seen : S → SourceView) where
 -- ---- a run by a caller that has one status more, for what can't be opened
 
 -- arguments that have a fault
-pub refused_for : (pool : Pool) (sources count status : ℕ) (Untouched : Type 0) (Told : CollectFault → Type 0) → sources ≡ count → IfSome (fault_of_arguments pool sources) (λ fault. (status ≡ 3) × Untouched × Told fault)
-    → IfSome (fault_of_arguments pool count) (λ fault. ((status ≡ 2) ⊎ (status ≡ 3)) × Untouched)
-refused_for pool sources count status Untouched Told same refused =
-    IfSome_then (fault_of_arguments pool count) (subst (λ (n : ℕ). IfSome (fault_of_arguments pool n) (λ fault. (status ≡ 3) × Untouched × Told fault)) same refused) (λ fault told. (inr told.0, told.1))
+pub refused_for : (pool : Pool) (sources count status : ℕ) (Untouched : Type 0) (Told Tells : CollectFault → Type 0) → sources ≡ count → IfSome (fault_of_arguments pool sources) (λ fault. (status ≡ 3) × Untouched × Told fault)
+    → ((fault : CollectFault) → Told fault → Tells fault) → IfSome (fault_of_arguments pool count) (λ fault. ((status ≡ 2) ⊎ ((status ≡ 3) × Tells fault)) × Untouched)
+refused_for pool sources count status Untouched Told Tells same refused tells =
+    IfSome_then (fault_of_arguments pool count) (subst (λ (n : ℕ). IfSome (fault_of_arguments pool n) (λ fault. (status ≡ 3) × Untouched × Told fault)) same refused)
+    (λ fault told. (inr (told.0, tells fault told.2), told.1))
 
 -- ---- a test of a fault
 

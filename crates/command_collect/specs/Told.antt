@@ -46,3 +46,9 @@ pub record TellsFailedRun (AreOrigins : List Origin → Type 0) (telling : Telli
   pub origins : List Origin
   pub are_origins : AreOrigins origins
   pub told : TellsFault IsUntouched (λ line. AreTold (first ++ (opened_lines telling origins ++ line)))
+
+-- behind the lines of what was had only the line of the fault that the arguments have
+pub record TellsRefusal (AreOrigins : List Origin → Type 0) (telling : Telling) (first : List ℕ) (AreTold : List ℕ → Type 0) (fault : CollectFault) : Type 0 where
+  pub origins : List Origin
+  pub are_origins : AreOrigins origins
+  pub told : AreTold (first ++ (opened_lines telling origins ++ collect_fault_line fault))

@@ -2,5 +2,4 @@
 
 pub mod connections;
 pub mod files;
-pub mod paths;
 pub mod tcp;

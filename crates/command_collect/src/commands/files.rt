@@ -1,25 +1,22 @@
 //! Collecting from files.
 
-ghost use Rattle.std.specs.Prelude.{◌≡◌, [], length, map, IfNone};
+ghost use Rattle.std.specs.Prelude.{◌≡◌, [], length, map};
 ghost use Rattle.std.specs.List.{AllZip};
 ghost use Rattle.report_writing.specs.Told.{AreTold};
 ghost use Rattle.input_sources.specs.Origins.{IsFileNamed};
-ghost use Rattle.command_collect.specs.FullRuns.{fault_of_pool};
 ghost use Rattle.input_sources.specs.Had.{AreOpened};
-ghost use Rattle.command_collect.specs.Collects.{CollectsAlone, CollectsInFull, RefusesPool};
+ghost use Rattle.command_collect.specs.Collects.{CollectsAlone, CollectsInFull};
 ghost use Rattle.command_collect.specs.Told.{TellsNotOpened};
 
-use super::paths::run_paths;
-use crate::collect_fault::write_collect_fault;
-use crate::early::refused_early;
+use crate::full_run::run_in_full;
 use crate::job::CollectJob;
 use element_registry::Elements;
 use flow_collect::Pool;
 use flow_table::Plan;
-use input_sources::OpenSource;
+use input_sources::{NotOpened, OpenSource, OpenedAll, open_all};
 use ipfix_session::Source;
 use output_tables::Output;
-use report_writing::{NOTHING_MORE, Status, WriteLines};
+use report_writing::{NOTHING_MORE, Status, WriteLines, write_not_had_because};
 use std::alloc::Global;
 use std::io::Write;
 use std::rt::Clock;
@@ -62,13 +59,12 @@ pub fn run_files<
 {
     let elements = Elements::built_in(alloc);
     let job = CollectJob::plain(&elements, plan, pool, output);
-    run_paths(rt, alloc, files, paths, &job, progress, out, err)
+    run_files_in_full(rt, alloc, files, paths, &job, progress, out, err)
 }
 
 /// Does as [`run_files`], and tells more if `job.telling` asks for it, as [`run_in_full`](crate::run_in_full):
-/// in verbose lines each file that is opened, and the system's reason behind one that can't be. If the pool
-/// has a fault, no file is opened, and the status is 3.
-#[tactic(auto, using(crate::proofs::FullRan::whatever, crate::proofs::FullRan::even_if_none, crate::proofs::FullRan::not_if_some, crate::proofs::FullRan::not_if_none))]
+/// in verbose lines each file that is opened, and the system's reason after one that can't be. If the pool
+/// or the number of files has a fault, all files are opened first and none is read, and the status is 3.
 pub fn run_files_in_full<
     S: Source + Send + Drop,
     O: OpenSource<S>,
@@ -88,21 +84,23 @@ pub fn run_files_in_full<
 ) -> u8
     // The sources of the paths, in their order, each opened once, were run, as `run_in_full` says it, and no
     // others; or each file that was had was told, and then the path that can't be opened.
-    ensures collects { IfNone (fault_of_pool job.now.pool) (CollectsInFull S.seen
+    ensures collects { CollectsInFull S.seen
         (AreOpened (λ path. O.opens files.old path.now)
         paths.now (O.coming files.old) (O.coming files.new))
         (TellsNotOpened (map (λ path. path.now) paths.now) job.now.telling) (length paths.now)
         job.now.plan.now job.now.pool job.now.output W.contents out.old out.new
         (AreTold (E.contents err.old) (E.contents err.new) (E.failed err.new)) result
-        job.now.elements.now job.now.telling (AllZip (λ path. IsFileNamed path.now) paths.now) []) }
-    // No file is opened for a pool that has a fault.
-    ensures pool { RefusesPool job.now.pool result (out.new ≡ out.old)
-        (AreTold (E.contents err.old) (E.contents err.new) (E.failed err.new)) }
+        job.now.elements.now job.now.telling (AllZip (λ path. IsFileNamed path.now) paths.now) [] }
     ensures kept { E.failed err.old → E.failed err.new }
 {
-    if let Some(fault) = refused_early(job.pool, paths.len()) {
-        let _ = write_collect_fault(fault, err);
-        return Status::Failed.number();
+    match open_all(rt, alloc, files, paths, progress, job.telling, err) {
+        Ok(OpenedAll { sources, origins }) => {
+            let sources = sources.into_sources();
+            run_in_full(rt, alloc, sources, &origins, job, out, err)
+        }
+        Err(NotOpened { path, reason }) => {
+            let _ = write_not_had_because(job.telling, "open", path, reason, err);
+            Status::NotOpened.number()
+        }
     }
-    run_paths(rt, alloc, files, paths, job, progress, out, err)
 }

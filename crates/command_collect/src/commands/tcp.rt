@@ -121,7 +121,7 @@ pub fn run_tcp_in_full<
     ensures no_time { IfNone (fault_of_pool job.now.pool) (IfSome idle
         (λ limit. as_nanos limit ≡ 0 → 0 < count → result ≡ number_of Status.NotOpened)) }
     // No connection is accepted for a pool that has a fault.
-    ensures pool { RefusesPool job.now.pool result (out.new ≡ out.old)
+    ensures pool { RefusesPool job.now.pool count result (out.new ≡ out.old)
         (AreTold (E.contents err.old) (E.contents err.new) (E.failed err.new)) }
     ensures kept { E.failed err.old → E.failed err.new }
 {

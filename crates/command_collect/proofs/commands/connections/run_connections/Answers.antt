@@ -21,7 +21,7 @@ returns-in-Ok-clause-no_time g c = IfSome_then c.args.idle c.in-Ok.ensures.no_ti
 
 pub returns-in-Err-clause-collects : goal.returns-in-Err-clause-collects
 returns-in-Err-clause-collects g c =
-    not_collected _ _ _ _ _ _ _ (search rules) (search rules) (record {
+    not_collected _ _ _ _ _ _ _ _ (search rules) (search rules) (record {
       reason = c.in-Err.reason;
       stops = peers_then _ _ _ _ _ _ _ _ _ _ c.write_not_had_because.result (is_told _ _ _ c.write_listening.result _ c.write_listening.ensures.told c.write_listening.ensures.failed)
           c.in-Err.ensures.stopped c.write_not_had_because.ensures.told c.write_not_had_because.ensures.failed c.accept_all.ensures.kept c.write_not_had_because.ensures.kept;

@@ -4,7 +4,7 @@ use Rattle.report_writing.specs.Told.{AreTold}
 use Rattle.report_writing.proofs.LinesTold.{both_told}
 use Rattle.command_collect.proofs.Collected.{collected, not_collected}
 use Rattle.command_collect.proofs.LinesTold.{stops_then}
-use Rattle.command_collect.proofs.commands.paths.run_paths.Goals as goal
+use Rattle.command_collect.proofs.commands.files.run_files_in_full.Goals as goal
 
 pub returns-in-Ok-clause-collects : goal.returns-in-Ok-clause-collects
 returns-in-Ok-clause-collects g c =
@@ -15,7 +15,7 @@ returns-in-Ok-clause-collects g c =
 
 pub returns-in-Err-clause-collects : goal.returns-in-Err-clause-collects
 returns-in-Err-clause-collects g c =
-    not_collected _ _ _ _ _ _ _ (search rules) (search rules) (record {
+    not_collected _ _ _ _ _ _ _ _ (search rules) (search rules) (record {
       name = c.in-Err.field-0.path.now;
       reason = c.in-Err.field-0.reason;
       stops = stops_then _ _ _ _ _ _ _ _ _ c.write_not_had_because.result c.in-Err.ensures.stops c.write_not_had_because.ensures.told c.write_not_had_because.ensures.failed c.write_not_had_because.ensures.kept;
