@@ -1,11 +1,11 @@
 //! Collecting and writing the table, with reports in full.
 
-ghost use Rattle.std.specs.Prelude.{List, ◌≡◌, ◌≢◌, ◌⊎◌, ◌↔◌, All, IfSome, IsTrue, OnErr, OnOk, vec_len};
-ghost use Rattle.std.specs.Io.KnownBytes.{Appends};
+ghost use Rattle.std.specs.Prelude.{List, ◌≡◌, ◌≢◌, ◌⊎◌, ◌↔◌, All, IfSome, IsTrue, vec_len};
 ghost use Rattle.report_writing.specs.Statuses.{number_of};
 ghost use Rattle.flow_collect.specs.Refusals.{fault_of_arguments};
 ghost use Rattle.flow_collect.specs.Texts.{HasNoFault};
-ghost use Rattle.report_writing.specs.Told.{AreTold};
+ghost use Rattle.report_writing.specs.Told.{AreToldTo};
+ghost use Rattle.report_writing.specs.Writing.{Tells};
 ghost use Rattle.output_tables.specs.TableTexts.{WritesUnder};
 ghost use Rattle.command_collect.specs.Runs.{AddsUpWhole, WritesWholeTable};
 ghost use Rattle.flow_collect.specs.InFull.{HeadlineInFull};
@@ -50,7 +50,7 @@ pub fn run_in_full<S: Source + Send + Drop, W: Write, E: WriteLines, R: Threads 
         (λ fulls table.
         WritesUnder job.now.elements.now job.now.plan.now job.now.output
         (W.contents out.old) (W.contents out.new) table
-        × AreTold (E.contents err.old) (E.contents err.new) (E.failed err.new)
+        × AreToldTo E.contents E.failed err.old err.new
         (run_lines job.now.telling job.now.elements.now job.now.plan.now origins.now fulls table)) }
     // The table of all whole texts was written, and each of them ends with a whole message.
     ensures all { result ≡ number_of Status.Well
@@ -59,12 +59,11 @@ pub fn run_in_full<S: Source + Send + Drop, W: Write, E: WriteLines, R: Threads 
         (W.contents out.old) (W.contents out.new)) }
     // The line of a fault alone was told; and nothing was written, if it is one of collecting.
     ensures failed { result ≡ number_of Status.Failed → TellsFault (out.new ≡ out.old)
-        (AreTold (E.contents err.old) (E.contents err.new) (E.failed err.new)) }
+        (AreToldTo E.contents E.failed err.old err.new) }
     // Nothing was collected if the arguments have a fault, and that is told.
     ensures refused { IfSome (fault_of_arguments job.now.pool (vec_len sources))
         (λ fault. (result ≡ number_of Status.Failed) × (out.new ≡ out.old)
-        × AreTold (E.contents err.old) (E.contents err.new) (E.failed err.new)
-        (collect_fault_line fault)) }
+        × AreToldTo E.contents E.failed err.old err.new (collect_fault_line fault)) }
     ensures kept { E.failed err.old → E.failed err.new }
 {
     let collected = match collect_flat(rt, alloc, sources, job.plan, job.pool, &OpenGate) {
@@ -137,11 +136,9 @@ fn tell<S, E: WriteLines>(
     collected: &CollectedInFull<S, FlatTable>,
     err: &mut E,
 ) -> io::Result<()>
-    ensures told { OnOk result (Appends (E.contents err.old) (E.contents err.new)
+    ensures { Tells E.contents E.failed err.old err.new result
         (run_lines job.now.telling job.now.elements.now job.now.plan.now origins.now
-        collected.now.sessions.items collected.now.table)) }
-    ensures failed { OnErr result (E.failed err.new) }
-    ensures kept { E.failed err.old → E.failed err.new }
+        collected.now.sessions.items collected.now.table) }
 {
     write_told_reports(job.telling, job.elements, origins, &collected.sessions, err)?;
     tell_table(job, &collected.table, err)
@@ -149,10 +146,8 @@ fn tell<S, E: WriteLines>(
 
 // How many records there were of each class, and what of them lacked something.
 fn tell_table<E: WriteLines>(job: &CollectJob, table: &FlatTable, err: &mut E) -> io::Result<()>
-    ensures told { OnOk result (Appends (E.contents err.old) (E.contents err.new)
-        (table_told job.now.telling job.now.elements.now job.now.plan.now table.now)) }
-    ensures failed { OnErr result (E.failed err.new) }
-    ensures kept { E.failed err.old → E.failed err.new }
+    ensures { Tells E.contents E.failed err.old err.new result
+        (table_told job.now.telling job.now.elements.now job.now.plan.now table.now) }
 {
     write_tally(&table.tally(), err)?;
     write_missing(job.telling, job.elements, job.plan, &table.missing(), err)

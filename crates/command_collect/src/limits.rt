@@ -1,10 +1,10 @@
 //! The line that says what a pool and a number of sessions may be.
 
-ghost use Rattle.std.specs.Prelude.{◌≡◌, OnErr, OnOk};
-ghost use Rattle.std.specs.Io.KnownBytes.{Appends};
+ghost use Rattle.std.specs.Prelude.{◌≡◌};
 ghost use Rattle.flow_collect.specs.Refusals.{fault_of_arguments};
 ghost use Rattle.report_writing.specs.OpeningLines.{if_verbose};
 ghost use Rattle.command_collect.specs.Limits.{limit_line, limit_lines, limit_text, limit_words as words_of};
+ghost use Rattle.report_writing.specs.Writing.{Tells};
 
 use flow_collect::{CollectFault, Pool, refusal};
 use report_writing::{NOTHING_MORE, Telling, WriteLines};
@@ -18,10 +18,8 @@ pub fn write_limit<W: WriteLines>(
     sessions: usize,
     out: &mut W,
 ) -> io::Result<()>
-    ensures told { OnOk result (Appends (W.contents out.old) (W.contents out.new)
-        (limit_lines telling (fault_of_arguments pool sessions))) }
-    ensures failed { OnErr result (W.failed out.new) }
-    ensures kept { W.failed out.old → W.failed out.new }
+    ensures { Tells W.contents W.failed out.old out.new result
+        (limit_lines telling (fault_of_arguments pool sessions)) }
 {
     match refusal(pool, sessions) {
         Some(fault) => write_if_verbose(telling, fault, out),
@@ -34,10 +32,8 @@ fn write_if_verbose<W: WriteLines>(
     fault: CollectFault,
     out: &mut W,
 ) -> io::Result<()>
-    ensures told { OnOk result (Appends (W.contents out.old) (W.contents out.new)
-        (if_verbose telling (limit_line fault))) }
-    ensures failed { OnErr result (W.failed out.new) }
-    ensures kept { W.failed out.old → W.failed out.new }
+    ensures { Tells W.contents W.failed out.old out.new result
+        (if_verbose telling (limit_line fault)) }
 {
     if telling.verbose {
         write_words(fault.number(), fault.name(), limit_words(fault), out)
@@ -48,10 +44,8 @@ fn write_if_verbose<W: WriteLines>(
 
 #[tactic(auto, unfolding(crate::specs::Limits::limit_text))]
 fn write_words<W: WriteLines>(number: u8, name: &str, words: &str, out: &mut W) -> io::Result<()>
-    ensures told { OnOk result (Appends (W.contents out.old) (W.contents out.new)
-        (limit_text number name.now words.now)) }
-    ensures failed { OnErr result (W.failed out.new) }
-    ensures kept { W.failed out.old → W.failed out.new }
+    ensures { Tells W.contents W.failed out.old out.new result
+        (limit_text number name.now words.now) }
 {
     writeln!(out, "collectd: collect: fault {number} {name}{words}")
 }

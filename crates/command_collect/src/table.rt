@@ -4,7 +4,7 @@ ghost use Rattle.std.specs.Prelude.{◌≡◌, ◌≢◌, ◌⊎◌, ◌++◌, I
 ghost use Rattle.flow_collect.specs.Refusals.{fault_of_arguments};
 ghost use Rattle.report_writing.specs.Statuses.{number_of};
 ghost use Rattle.report_sessions.specs.ReportLines.{report_lines, tally_line};
-ghost use Rattle.report_writing.specs.Told.{AreTold};
+ghost use Rattle.report_writing.specs.Told.{AreToldTo};
 ghost use Rattle.command_collect.specs.CollectLines.{collect_fault_line};
 ghost use Rattle.command_collect.specs.Told.{TellsFault};
 ghost use Rattle.output_tables.specs.TableTexts.{Writes};
@@ -48,7 +48,7 @@ pub fn run<S: Source + Send + Drop, W: Write, E: WriteLines, R: Threads + Wait +
     ensures table { result ≢ number_of Status.Failed
         → WritesTable S.seen sources.items plan.now pool result
         (λ reports table. Writes plan.now output (W.contents out.old) (W.contents out.new) table
-        × AreTold (E.contents err.old) (E.contents err.new) (E.failed err.new)
+        × AreToldTo E.contents E.failed err.old err.new
         (report_lines reports ++ tally_line table.tally)) }
     // The table of all whole texts was written, and each of them ends with a whole message.
     ensures all { result ≡ number_of Status.Well
@@ -56,12 +56,11 @@ pub fn run<S: Source + Send + Drop, W: Write, E: WriteLines, R: Threads + Wait +
         (Writes plan.now output (W.contents out.old) (W.contents out.new)) }
     // The line of a fault alone was told; and nothing was written, if it is one of collecting.
     ensures failed { result ≡ number_of Status.Failed → TellsFault (out.new ≡ out.old)
-        (AreTold (E.contents err.old) (E.contents err.new) (E.failed err.new)) }
+        (AreToldTo E.contents E.failed err.old err.new) }
     // Nothing was collected if the arguments have a fault, and that is told.
     ensures refused { IfSome (fault_of_arguments pool (vec_len sources))
         (λ fault. (result ≡ number_of Status.Failed) × (out.new ≡ out.old)
-        × AreTold (E.contents err.old) (E.contents err.new) (E.failed err.new)
-        (collect_fault_line fault)) }
+        × AreToldTo E.contents E.failed err.old err.new (collect_fault_line fault)) }
     ensures kept { E.failed err.old → E.failed err.new }
 {
     let elements = Elements::built_in(alloc);

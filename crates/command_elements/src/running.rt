@@ -2,7 +2,7 @@
 
 ghost use Rattle.std.specs.Prelude.{◌≡◌, ◌⊎◌, true, false, [], map, option_map};
 ghost use Rattle.std.specs.Io.KnownBytes.{Appends};
-ghost use Rattle.report_writing.specs.Told.{AreTold};
+ghost use Rattle.report_writing.specs.Told.{AreToldTo};
 ghost use Rattle.command_elements.specs.ErrorLines.{failed_line, none_line};
 ghost use Rattle.command_elements.specs.Lines.{has_fitting, list_text};
 ghost use Rattle.command_elements.specs.Listed.{all_listed};
@@ -36,20 +36,19 @@ pub fn run_elements<T: ReadText, W: Write, E: WriteLines>(
     ensures listed { result ≡ Status.Well → Lists
         (Loads (T.has files.now) (T.refuses files.now) telling [] (map (λ path. path.now) paths.now))
         (option_map (λ w. w.now) word.entry) (Appends (W.contents out.old) (W.contents out.new))
-        (AreTold (E.contents err.old) (E.contents err.new) (E.failed err.new)) }
+        (AreToldTo E.contents E.failed err.old err.new) }
     // A file was not read, or the word fits none.
     ensures none { result ≡ Status.NotOpened → StopsAtFile
         (Loads (T.has files.now) (T.refuses files.now) telling [] (map (λ path. path.now) paths.now))
-        (AreTold (E.contents err.old) (E.contents err.new) (E.failed err.new))
+        (AreToldTo E.contents E.failed err.old err.new)
         ⊎ ListsNone
         (Loads (T.has files.now) (T.refuses files.now) telling [] (map (λ path. path.now) paths.now))
-        (option_map (λ w. w.now) word.entry)
-        (AreTold (E.contents err.old) (E.contents err.new) (E.failed err.new)) }
+        (option_map (λ w. w.now) word.entry) (AreToldTo E.contents E.failed err.old err.new) }
     ensures untouched { result ≡ Status.NotOpened
         → Appends (W.contents out.old) (W.contents out.new) [] }
     ensures failed { result ≡ Status.Failed → FailsToList
         (Loads (T.has files.now) (T.refuses files.now) telling [] (map (λ path. path.now) paths.now))
-        (AreTold (E.contents err.old) (E.contents err.new) (E.failed err.new)) }
+        (AreToldTo E.contents E.failed err.old err.new) }
     ensures kept { E.failed err.old → E.failed err.new }
 {
     match load_elements(files, alloc, paths, telling, err) {
@@ -74,9 +73,9 @@ fn list_known<W: Write, E: WriteLines>(
     ensures none { result ≡ Status.NotOpened
         → (has_fitting (option_map (λ w. w.now) word.entry) (all_listed elements.now) ≡ false)
         × Appends (W.contents out.old) (W.contents out.new) []
-        × AreTold (E.contents err.old) (E.contents err.new) (E.failed err.new) none_line }
+        × AreToldTo E.contents E.failed err.old err.new none_line }
     ensures failed { result ≡ Status.Failed
-        → AreTold (E.contents err.old) (E.contents err.new) (E.failed err.new) failed_line }
+        → AreToldTo E.contents E.failed err.old err.new failed_line }
     ensures kept { E.failed err.old → E.failed err.new }
 {
     match list_elements(elements, word, out) {

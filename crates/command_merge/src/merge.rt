@@ -3,7 +3,7 @@
 ghost use Rattle.std.specs.Prelude.{◌≡◌, ℕ, List, map, IfErr, IfOk, OnOk};
 ghost use Rattle.flow_table.specs.Fitting.{FitsPlan};
 ghost use Rattle.report_writing.specs.OpeningLines.{if_verbose};
-ghost use Rattle.report_writing.specs.Told.{AreTold};
+ghost use Rattle.report_writing.specs.Told.{AreToldTo};
 ghost use Rattle.output_tables.specs.TableTexts.{Writes, WritesUnder};
 ghost use Rattle.command_merge.specs.MergeLines.{file_opened_line, files_opened_lines};
 ghost use Rattle.command_merge.specs.Merges.{AddsFile, IsMerged, IsNotAdded, RunsMerge, StopsMerge};
@@ -44,7 +44,7 @@ pub fn run_merge<S: Source + Drop, O: OpenSource<S>, W: Write, E: WriteLines>(
         paths.now (O.coming files.old) (O.coming files.new))
         plan.now (map (λ path. path.now) paths.now) NOTHING_MORE
         (Writes plan.now output (W.contents out.old) (W.contents out.new)) (out.new ≡ out.old)
-        (AreTold (E.contents err.old) (E.contents err.new) (E.failed err.new)) result }
+        (AreToldTo E.contents E.failed err.old err.new) result }
     ensures kept { E.failed err.old → E.failed err.new }
 {
     let elements = Elements::built_in(alloc);
@@ -74,8 +74,7 @@ pub fn run_merge_in_full<S: Source + Drop, O: OpenSource<S>, W: Write, E: WriteL
         paths.now (O.coming files.old) (O.coming files.new))
         plan.now (map (λ path. path.now) paths.now) telling
         (WritesUnder elements.now plan.now output (W.contents out.old) (W.contents out.new))
-        (out.new ≡ out.old)
-        (AreTold (E.contents err.old) (E.contents err.new) (E.failed err.new)) result }
+        (out.new ≡ out.old) (AreToldTo E.contents E.failed err.old err.new) result }
     ensures kept { E.failed err.old → E.failed err.new }
 {
     let table = match merge_files(files, alloc, paths, plan, telling, err) {
@@ -106,10 +105,10 @@ fn merge_files<'a, S: Source + Drop, O: OpenSource<S>, E: WriteLines>(
         (IsMerged S.seen (AreOpened (λ path. O.opens files.old path.now)
         paths.now (O.coming files.old) (O.coming files.new)) plan.now) }
     ensures fits { IfOk result (FitsPlan plan.now) }
-    ensures told { OnOk result (AreTold (E.contents err.old) (E.contents err.new) (E.failed err.new)
+    ensures told { OnOk result (AreToldTo E.contents E.failed err.old err.new
         (files_opened_lines telling (map (λ path. path.now) paths.now))) }
     ensures stops { IfErr result (StopsMerge (map (λ path. path.now) paths.now) telling
-        (AreTold (E.contents err.old) (E.contents err.new) (E.failed err.new))) }
+        (AreToldTo E.contents E.failed err.old err.new)) }
     ensures kept { E.failed err.old → E.failed err.new }
 {
     let mut merging = match Merging::new(alloc, plan) {
@@ -138,10 +137,10 @@ fn add_file<'a, S: Source + Drop, O: OpenSource<S>, E: WriteLines>(
         (IsOpened (O.opens files.old path.now) (O.coming files.old) (O.coming files.new)) merging) }
     ensures same { (name : List ℕ) (source : S)
         → O.opens files.new name source → O.opens files.old name source }
-    ensures told { OnOk result (AreTold (E.contents err.old) (E.contents err.new) (E.failed err.new)
+    ensures told { OnOk result (AreToldTo E.contents E.failed err.old err.new
         (if_verbose telling (file_opened_line number path.now))) }
     ensures stops { IfErr result (IsNotAdded telling number path.now
-        (AreTold (E.contents err.old) (E.contents err.new) (E.failed err.new))) }
+        (AreToldTo E.contents E.failed err.old err.new)) }
     ensures kept { E.failed err.old → E.failed err.new }
 {
     let mut source = match files.open_source(path) {

@@ -1,11 +1,11 @@
 //! The lines that tell of merging.
 
-ghost use Rattle.std.specs.Prelude.{◌++◌, codes, OnErr, OnOk};
-ghost use Rattle.std.specs.Io.KnownBytes.{Appends};
+ghost use Rattle.std.specs.Prelude.{◌++◌, codes};
 ghost use Rattle.flow_merge.specs.MergeFaults.{number_of, name_of};
 ghost use Rattle.report_writing.specs.OpeningLines.{if_verbose};
 ghost use Rattle.report_writing.specs.FaultLines.{fault_text};
 ghost use Rattle.command_merge.specs.MergeLines.{file_fault_line, file_fault_lines, file_opened_line, file_start, merge_fault_line, merge_fault_text, merged_line, named_file_line, not_merged_lines};
+ghost use Rattle.report_writing.specs.Writing.{Tells};
 
 use crate::not_merged::NotMerged;
 use flow_merge::MergeFault;
@@ -17,10 +17,7 @@ use std::io;
 /// Writes the line that counts the files that were merged, and the rows of their table.
 #[tactic(auto, unfolding(crate::specs::MergeLines::merged_line))]
 pub fn write_merged<W: WriteLines>(files: usize, rows: usize, out: &mut W) -> io::Result<()>
-    ensures told { OnOk result (Appends (W.contents out.old) (W.contents out.new)
-        (merged_line files rows)) }
-    ensures failed { OnErr result (W.failed out.new) }
-    ensures kept { W.failed out.old → W.failed out.new }
+    ensures { Tells W.contents W.failed out.old out.new result (merged_line files rows) }
 {
     writeln!(out, "collectd: merged: files {files} rows {rows}")
 }
@@ -31,10 +28,8 @@ pub fn write_not_merged<W: WriteLines>(
     not_merged: &NotMerged,
     out: &mut W,
 ) -> io::Result<()>
-    ensures told { OnOk result (Appends (W.contents out.old) (W.contents out.new)
-        (not_merged_lines telling not_merged.now)) }
-    ensures failed { OnErr result (W.failed out.new) }
-    ensures kept { W.failed out.old → W.failed out.new }
+    ensures { Tells W.contents W.failed out.old out.new result
+        (not_merged_lines telling not_merged.now) }
 {
     match not_merged {
         NotMerged::NotOpened { path, reason } => {
@@ -51,10 +46,7 @@ pub fn write_not_merged<W: WriteLines>(
 
 // The line of a fault that is no file's.
 fn write_merge_fault<W: WriteLines>(fault: MergeFault, out: &mut W) -> io::Result<()>
-    ensures told { OnOk result (Appends (W.contents out.old) (W.contents out.new)
-        (merge_fault_line fault)) }
-    ensures failed { OnErr result (W.failed out.new) }
-    ensures kept { W.failed out.old → W.failed out.new }
+    ensures { Tells W.contents W.failed out.old out.new result (merge_fault_line fault) }
 {
     write_fault("merge", fault.number(), fault.name(), out)
 }
@@ -68,10 +60,8 @@ fn write_file_fault<W: WriteLines>(
     fault: MergeFault,
     out: &mut W,
 ) -> io::Result<()>
-    ensures told { OnOk result (Appends (W.contents out.old) (W.contents out.new)
-        (file_fault_lines telling file name.now fault)) }
-    ensures failed { OnErr result (W.failed out.new) }
-    ensures kept { W.failed out.old → W.failed out.new }
+    ensures { Tells W.contents W.failed out.old out.new result
+        (file_fault_lines telling file name.now fault) }
 {
     write_numbered_fault(file, fault, out)?;
     if telling.verbose {
@@ -86,10 +76,7 @@ fn write_numbered_fault<W: WriteLines>(
     fault: MergeFault,
     out: &mut W,
 ) -> io::Result<()>
-    ensures told { OnOk result (Appends (W.contents out.old) (W.contents out.new)
-        (file_fault_line file fault)) }
-    ensures failed { OnErr result (W.failed out.new) }
-    ensures kept { W.failed out.old → W.failed out.new }
+    ensures { Tells W.contents W.failed out.old out.new result (file_fault_line file fault) }
 {
     write_file_start(file, out)?;
     write_merge_fault_text(fault, out)
@@ -101,10 +88,8 @@ fn write_named_fault<W: WriteLines>(
     fault: MergeFault,
     out: &mut W,
 ) -> io::Result<()>
-    ensures told { OnOk result (Appends (W.contents out.old) (W.contents out.new)
-        (named_file_line file name.now (merge_fault_text fault))) }
-    ensures failed { OnErr result (W.failed out.new) }
-    ensures kept { W.failed out.old → W.failed out.new }
+    ensures { Tells W.contents W.failed out.old out.new result
+        (named_file_line file name.now (merge_fault_text fault)) }
 {
     write_file_start(file, out)?;
     write_origin(&Origin::File { name, size: None }, out)?;
@@ -113,10 +98,7 @@ fn write_named_fault<W: WriteLines>(
 
 // The fault of a file, and behind it that of its session or of its record, to the end of the line.
 fn write_merge_fault_text<W: WriteLines>(fault: MergeFault, out: &mut W) -> io::Result<()>
-    ensures told { OnOk result (Appends (W.contents out.old) (W.contents out.new)
-        (merge_fault_text fault)) }
-    ensures failed { OnErr result (W.failed out.new) }
-    ensures kept { W.failed out.old → W.failed out.new }
+    ensures { Tells W.contents W.failed out.old out.new result (merge_fault_text fault) }
 {
     match fault {
         MergeFault::Session(inner) => {
@@ -130,10 +112,8 @@ fn write_merge_fault_text<W: WriteLines>(fault: MergeFault, out: &mut W) -> io::
 // The last fault, behind what stands before it.
 #[tactic(auto, unfolding(report_writing::specs::FaultLines::fault_text))]
 fn write_inner<W: WriteLines>(what: &str, number: u8, name: &str, out: &mut W) -> io::Result<()>
-    ensures told { OnOk result (Appends (W.contents out.old) (W.contents out.new)
-        (what.now ++ fault_text number name.now)) }
-    ensures failed { OnErr result (W.failed out.new) }
-    ensures kept { W.failed out.old → W.failed out.new }
+    ensures { Tells W.contents W.failed out.old out.new result
+        (what.now ++ fault_text number name.now) }
 {
     writeln!(out, "{what}: fault {number} {name}")
 }
@@ -146,10 +126,8 @@ pub fn write_file_opened<W: WriteLines>(
     name: &str,
     out: &mut W,
 ) -> io::Result<()>
-    ensures told { OnOk result (Appends (W.contents out.old) (W.contents out.new)
-        (if_verbose telling (file_opened_line file name.now))) }
-    ensures failed { OnErr result (W.failed out.new) }
-    ensures kept { W.failed out.old → W.failed out.new }
+    ensures { Tells W.contents W.failed out.old out.new result
+        (if_verbose telling (file_opened_line file name.now)) }
 {
     if telling.verbose {
         write_opened_line(file, name, out)
@@ -159,10 +137,7 @@ pub fn write_file_opened<W: WriteLines>(
 }
 
 fn write_opened_line<W: WriteLines>(file: usize, name: &str, out: &mut W) -> io::Result<()>
-    ensures told { OnOk result (Appends (W.contents out.old) (W.contents out.new)
-        (file_opened_line file name.now)) }
-    ensures failed { OnErr result (W.failed out.new) }
-    ensures kept { W.failed out.old → W.failed out.new }
+    ensures { Tells W.contents W.failed out.old out.new result (file_opened_line file name.now) }
 {
     write_file_start(file, out)?;
     write_origin(&Origin::File { name, size: None }, out)?;
@@ -171,9 +146,7 @@ fn write_opened_line<W: WriteLines>(file: usize, name: &str, out: &mut W) -> io:
 
 #[tactic(auto, unfolding(crate::specs::MergeLines::file_start))]
 fn write_file_start<W: WriteLines>(file: usize, out: &mut W) -> io::Result<()>
-    ensures told { OnOk result (Appends (W.contents out.old) (W.contents out.new) (file_start file)) }
-    ensures failed { OnErr result (W.failed out.new) }
-    ensures kept { W.failed out.old → W.failed out.new }
+    ensures { Tells W.contents W.failed out.old out.new result (file_start file) }
 {
     write!(out, "collectd: merge: file {file}")
 }

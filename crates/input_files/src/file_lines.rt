@@ -1,9 +1,9 @@
 //! The lines that tell of files of elements.
 
-ghost use Rattle.std.specs.Prelude.{◌≡◌, ◌++◌, codes, OnErr, OnOk};
-ghost use Rattle.std.specs.Io.KnownBytes.{Appends};
+ghost use Rattle.std.specs.Prelude.{◌≡◌, ◌++◌, codes};
 ghost use Rattle.report_writing.specs.FaultLines.{fault_text};
 ghost use Rattle.input_files.specs.FileLines.{column_text, error_line, fault_end, file_start, place_of, place_text, unknown_type_line};
+ghost use Rattle.report_writing.specs.Writing.{Tells};
 
 use element_registry::{ElementsError, ElementsFault};
 use report_writing::WriteLines;
@@ -11,10 +11,7 @@ use std::io;
 
 /// Writes the line of what is wrong with a file of elements, and where.
 pub fn write_error<W: WriteLines>(path: &str, error: &ElementsError, out: &mut W) -> io::Result<()>
-    ensures told { OnOk result (Appends (W.contents out.old) (W.contents out.new)
-        (error_line path.now error.now)) }
-    ensures failed { OnErr result (W.failed out.new) }
-    ensures kept { W.failed out.old → W.failed out.new }
+    ensures { Tells W.contents W.failed out.old out.new result (error_line path.now error.now) }
 {
     write_file_start(path, out)?;
     write_place(error, out)?;
@@ -23,10 +20,7 @@ pub fn write_error<W: WriteLines>(path: &str, error: &ElementsError, out: &mut W
 
 /// Writes the line of the first row of a file that has a type that is not known.
 pub fn write_unknown_type<W: WriteLines>(path: &str, line: u64, out: &mut W) -> io::Result<()>
-    ensures told { OnOk result (Appends (W.contents out.old) (W.contents out.new)
-        (unknown_type_line path.now line)) }
-    ensures failed { OnErr result (W.failed out.new) }
-    ensures kept { W.failed out.old → W.failed out.new }
+    ensures { Tells W.contents W.failed out.old out.new result (unknown_type_line path.now line) }
 {
     write_file_start(path, out)?;
     write_line_number(line, out)?;
@@ -35,19 +29,13 @@ pub fn write_unknown_type<W: WriteLines>(path: &str, line: u64, out: &mut W) -> 
 
 #[tactic(auto, unfolding(crate::specs::FileLines::file_start))]
 fn write_file_start<W: WriteLines>(path: &str, out: &mut W) -> io::Result<()>
-    ensures told { OnOk result (Appends (W.contents out.old) (W.contents out.new)
-        (file_start path.now)) }
-    ensures failed { OnErr result (W.failed out.new) }
-    ensures kept { W.failed out.old → W.failed out.new }
+    ensures { Tells W.contents W.failed out.old out.new result (file_start path.now) }
 {
     write!(out, "collectd: elements: {path}")
 }
 
 fn write_place<W: WriteLines>(error: &ElementsError, out: &mut W) -> io::Result<()>
-    ensures told { OnOk result (Appends (W.contents out.old) (W.contents out.new)
-        (place_of error.now)) }
-    ensures failed { OnErr result (W.failed out.new) }
-    ensures kept { W.failed out.old → W.failed out.new }
+    ensures { Tells W.contents W.failed out.old out.new result (place_of error.now) }
 {
     match error.fault {
         ElementsFault::OutOfMemory => Ok(()),
@@ -57,19 +45,13 @@ fn write_place<W: WriteLines>(error: &ElementsError, out: &mut W) -> io::Result<
 
 #[tactic(auto, unfolding(crate::specs::FileLines::place_text))]
 fn write_line_number<W: WriteLines>(line: u64, out: &mut W) -> io::Result<()>
-    ensures told { OnOk result (Appends (W.contents out.old) (W.contents out.new)
-        (place_text line)) }
-    ensures failed { OnErr result (W.failed out.new) }
-    ensures kept { W.failed out.old → W.failed out.new }
+    ensures { Tells W.contents W.failed out.old out.new result (place_text line) }
 {
     write!(out, ": line {line}")
 }
 
 fn write_fault_end<W: WriteLines>(fault: ElementsFault, out: &mut W) -> io::Result<()>
-    ensures told { OnOk result (Appends (W.contents out.old) (W.contents out.new)
-        (fault_end fault)) }
-    ensures failed { OnErr result (W.failed out.new) }
-    ensures kept { W.failed out.old → W.failed out.new }
+    ensures { Tells W.contents W.failed out.old out.new result (fault_end fault) }
 {
     match fault {
         ElementsFault::Column(heading) => write_column_end(heading.name(), out),
@@ -79,20 +61,14 @@ fn write_fault_end<W: WriteLines>(fault: ElementsFault, out: &mut W) -> io::Resu
 
 #[tactic(auto, unfolding(crate::specs::FileLines::column_text))]
 fn write_column_end<W: WriteLines>(heading: &str, out: &mut W) -> io::Result<()>
-    ensures told { OnOk result (Appends (W.contents out.old) (W.contents out.new)
-        (column_text heading.now)) }
-    ensures failed { OnErr result (W.failed out.new) }
-    ensures kept { W.failed out.old → W.failed out.new }
+    ensures { Tells W.contents W.failed out.old out.new result (column_text heading.now) }
 {
     writeln!(out, ": fault 3 Column: {heading}")
 }
 
 #[tactic(auto, unfolding(report_writing::specs::FaultLines::fault_text))]
 fn write_number_and_name<W: WriteLines>(number: u8, name: &str, out: &mut W) -> io::Result<()>
-    ensures told { OnOk result (Appends (W.contents out.old) (W.contents out.new)
-        (fault_text number name.now)) }
-    ensures failed { OnErr result (W.failed out.new) }
-    ensures kept { W.failed out.old → W.failed out.new }
+    ensures { Tells W.contents W.failed out.old out.new result (fault_text number name.now) }
 {
     writeln!(out, ": fault {number} {name}")
 }

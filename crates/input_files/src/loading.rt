@@ -1,7 +1,7 @@
 //! Reading files of elements.
 
 ghost use Rattle.std.specs.Prelude.{ℕ, List, [], map, IfNone, IfSome};
-ghost use Rattle.report_writing.specs.Told.{AreTold};
+ghost use Rattle.report_writing.specs.Told.{AreToldTo};
 ghost use Rattle.input_files.specs.FileLines.{unknown_type_lines};
 ghost use Rattle.input_files.specs.Loaded.{Adds, Loads, Stops};
 
@@ -24,7 +24,7 @@ pub fn load_elements<T: ReadText, E: WriteLines>(
     // The files were added one after another, and exactly what there is to tell of them was told.
     ensures loads { (lines : List ℕ) × Loads (T.has files.now) (T.refuses files.now) telling []
         (map (λ path. path.now) paths.entry.now) result lines
-        × AreTold (E.contents err.old) (E.contents err.new) (E.failed err.new) lines }
+        × AreToldTo E.contents E.failed err.old err.new lines }
     ensures kept { E.failed err.old → E.failed err.new }
 {
     let mut elements = Elements::built_in(alloc);
@@ -46,10 +46,10 @@ fn add_path<T: ReadText, E: WriteLines>(
 ) -> Option<Elements>
     ensures adds { IfSome result (λ more. (lines : List ℕ)
         × Adds (T.has files.now) elements path.now more lines
-        × AreTold (E.contents err.old) (E.contents err.new) (E.failed err.new) lines) }
+        × AreToldTo E.contents E.failed err.old err.new lines) }
     ensures stops { IfNone result ((lines : List ℕ)
         × Stops (T.has files.now) (T.refuses files.now) telling elements path.now lines
-        × AreTold (E.contents err.old) (E.contents err.new) (E.failed err.new) lines) }
+        × AreToldTo E.contents E.failed err.old err.new lines) }
     ensures kept { E.failed err.old → E.failed err.new }
 {
     let octets = match files.read_text(alloc, path) {
@@ -72,7 +72,7 @@ fn add_path<T: ReadText, E: WriteLines>(
 }
 
 fn tell_unknown_type<E: WriteLines>(path: &str, unknown_type: Option<u64>, err: &mut E)
-    ensures told { AreTold (E.contents err.old) (E.contents err.new) (E.failed err.new)
+    ensures told { AreToldTo E.contents E.failed err.old err.new
         (unknown_type_lines path.now unknown_type) }
     ensures kept { E.failed err.old → E.failed err.new }
 {

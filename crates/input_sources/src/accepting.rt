@@ -2,7 +2,7 @@
 
 ghost use Rattle.std.specs.Prelude.{◌≡◌, ◌<◌, IfOk, IfSome, IsErr, OnErr};
 ghost use Rattle.std.specs.Duration.{as_nanos};
-ghost use Rattle.report_writing.specs.Told.{AreTold};
+ghost use Rattle.report_writing.specs.Told.{AreToldTo};
 ghost use Rattle.input_sources.specs.Origins.{ArePeers};
 ghost use Rattle.input_sources.specs.Had.{AreAccepted};
 ghost use Rattle.input_sources.specs.InputsTold.{opened_lines, TellsPeers};
@@ -97,11 +97,10 @@ pub fn accept_all<
     ensures closed { L.is_closed listener.new }
     ensures no_time { IfSome idle (λ limit. as_nanos limit ≡ 0 → 0 < count → IsErr result) }
     ensures peers { IfOk result (λ all. ArePeers count all.origins.items) }
-    ensures told { IfOk result
-        (λ all. AreTold (E.contents err.old) (E.contents err.new) (E.failed err.new)
+    ensures told { IfOk result (λ all. AreToldTo E.contents E.failed err.old err.new
         (opened_lines telling all.origins.items)) }
     ensures stopped { OnErr result (TellsPeers telling
-        (AreTold (E.contents err.old) (E.contents err.new) (E.failed err.new))) }
+        (AreToldTo E.contents E.failed err.old err.new)) }
     ensures kept { E.failed err.old → E.failed err.new }
 {
     let accepted = accept_each(rt, alloc, listener, count, idle, progress, telling, err);
@@ -131,11 +130,10 @@ fn accept_each<
         (L.coming listener.old) (L.coming listener.new) all.sources) }
     ensures no_time { IfSome idle (λ limit. as_nanos limit ≡ 0 → 0 < count → IsErr result) }
     ensures peers { IfOk result (λ all. ArePeers count all.origins.items) }
-    ensures told { IfOk result
-        (λ all. AreTold (E.contents err.old) (E.contents err.new) (E.failed err.new)
+    ensures told { IfOk result (λ all. AreToldTo E.contents E.failed err.old err.new
         (opened_lines telling all.origins.items)) }
     ensures stopped { OnErr result (TellsPeers telling
-        (AreTold (E.contents err.old) (E.contents err.new) (E.failed err.new))) }
+        (AreToldTo E.contents E.failed err.old err.new)) }
     ensures kept { E.failed err.old → E.failed err.new }
 {
     let mut sources = Unread::new(alloc);

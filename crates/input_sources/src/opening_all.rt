@@ -5,7 +5,7 @@ ghost use Rattle.std.specs.List.{AllZip};
 ghost use Rattle.input_sources.specs.Had.{IsUnread, AreOpened, Came};
 ghost use Rattle.input_sources.specs.Origins.{IsFileNamed};
 ghost use Rattle.input_sources.specs.InputsTold.{opened_lines, StopsAt};
-ghost use Rattle.report_writing.specs.Told.{AreTold};
+ghost use Rattle.report_writing.specs.Told.{AreToldTo};
 
 use crate::opening::{OpenSource, Opened};
 use crate::unread::Unread;
@@ -54,12 +54,11 @@ pub fn open_all<
         (O.coming files.old) (O.coming files.new) all.sources) }
     ensures named { IfOk result
         (λ all. AllZip (λ path. IsFileNamed path.now) paths.now all.origins.items) }
-    ensures told { IfOk result
-        (λ all. AreTold (E.contents err.old) (E.contents err.new) (E.failed err.new)
+    ensures told { IfOk result (λ all. AreToldTo E.contents E.failed err.old err.new
         (opened_lines telling all.origins.items)) }
     ensures stops { IfErr result
         (λ stopped. StopsAt (map (λ path. path.now) paths.now) telling
-        (AreTold (E.contents err.old) (E.contents err.new) (E.failed err.new)) stopped.path.now) }
+        (AreToldTo E.contents E.failed err.old err.new) stopped.path.now) }
     ensures kept { E.failed err.old → E.failed err.new }
 {
     let mut sources = Unread::new(alloc);

@@ -1,8 +1,8 @@
 //! The line that says where a plan has its fault.
 
-ghost use Rattle.std.specs.Prelude.{◌≡◌, ◌++◌, codes, OnErr, OnOk};
-ghost use Rattle.std.specs.Io.KnownBytes.{Appends};
+ghost use Rattle.std.specs.Prelude.{◌≡◌, ◌++◌, codes};
 ghost use Rattle.input_sources.specs.PlaceLines.{column_start, count_end, key_line, key_start, line_line, name_end, place_line, rule_line, text_end, toml_line, words_end};
+ghost use Rattle.report_writing.specs.Writing.{Tells};
 
 use crate::place_words::{kind_words, rule_words};
 use element_registry::Elements;
@@ -18,10 +18,7 @@ pub fn write_place<W: WriteLines>(
     error: &PlanTextError,
     out: &mut W,
 ) -> io::Result<()>
-    ensures told { OnOk result (Appends (W.contents out.old) (W.contents out.new)
-        (place_line elements.now error.now)) }
-    ensures failed { OnErr result (W.failed out.new) }
-    ensures kept { W.failed out.old → W.failed out.new }
+    ensures { Tells W.contents W.failed out.old out.new result (place_line elements.now error.now) }
 {
     match error {
         PlanTextError::NotUtf8 { line } => write_line(*line, "not UTF-8", out),
@@ -45,10 +42,7 @@ pub fn write_place<W: WriteLines>(
 
 #[tactic(auto, unfolding(crate::specs::PlaceLines::line_line))]
 fn write_line<W: WriteLines>(line: usize, words: &str, out: &mut W) -> io::Result<()>
-    ensures told { OnOk result (Appends (W.contents out.old) (W.contents out.new)
-        (line_line line words.now)) }
-    ensures failed { OnErr result (W.failed out.new) }
-    ensures kept { W.failed out.old → W.failed out.new }
+    ensures { Tells W.contents W.failed out.old out.new result (line_line line words.now) }
 {
     writeln!(out, "collectd: plan: line {line}: {words}")
 }
@@ -60,10 +54,7 @@ fn write_toml_line<W: WriteLines>(
     message: &str,
     out: &mut W,
 ) -> io::Result<()>
-    ensures told { OnOk result (Appends (W.contents out.old) (W.contents out.new)
-        (toml_line line column message.now)) }
-    ensures failed { OnErr result (W.failed out.new) }
-    ensures kept { W.failed out.old → W.failed out.new }
+    ensures { Tells W.contents W.failed out.old out.new result (toml_line line column message.now) }
 {
     write_column_start(line, column, out)?;
     write_octets(message.as_bytes(), out)?;
@@ -72,29 +63,20 @@ fn write_toml_line<W: WriteLines>(
 
 #[tactic(auto, unfolding(crate::specs::PlaceLines::column_start))]
 fn write_column_start<W: WriteLines>(line: usize, column: usize, out: &mut W) -> io::Result<()>
-    ensures told { OnOk result (Appends (W.contents out.old) (W.contents out.new)
-        (column_start line column)) }
-    ensures failed { OnErr result (W.failed out.new) }
-    ensures kept { W.failed out.old → W.failed out.new }
+    ensures { Tells W.contents W.failed out.old out.new result (column_start line column) }
 {
     write!(out, "collectd: plan: line {line}, column {column}: ")
 }
 
 fn write_key_line<W: WriteLines>(key: &str, words: &str, out: &mut W) -> io::Result<()>
-    ensures told { OnOk result (Appends (W.contents out.old) (W.contents out.new)
-        (key_line key.now words.now)) }
-    ensures failed { OnErr result (W.failed out.new) }
-    ensures kept { W.failed out.old → W.failed out.new }
+    ensures { Tells W.contents W.failed out.old out.new result (key_line key.now words.now) }
 {
     write_key(key, out)?;
     write_words_end(words, out)
 }
 
 fn write_key<W: WriteLines>(key: &str, out: &mut W) -> io::Result<()>
-    ensures told { OnOk result (Appends (W.contents out.old) (W.contents out.new)
-        (key_start key.now)) }
-    ensures failed { OnErr result (W.failed out.new) }
-    ensures kept { W.failed out.old → W.failed out.new }
+    ensures { Tells W.contents W.failed out.old out.new result (key_start key.now) }
 {
     write!(out, "collectd: plan: key ")?;
     write_quoted(key, out)
@@ -102,20 +84,14 @@ fn write_key<W: WriteLines>(key: &str, out: &mut W) -> io::Result<()>
 
 #[tactic(auto, unfolding(crate::specs::PlaceLines::words_end))]
 fn write_words_end<W: WriteLines>(words: &str, out: &mut W) -> io::Result<()>
-    ensures told { OnOk result (Appends (W.contents out.old) (W.contents out.new)
-        (words_end words.now)) }
-    ensures failed { OnErr result (W.failed out.new) }
-    ensures kept { W.failed out.old → W.failed out.new }
+    ensures { Tells W.contents W.failed out.old out.new result (words_end words.now) }
 {
     writeln!(out, ": {words}")
 }
 
 #[tactic(auto, unfolding(crate::specs::PlaceLines::name_end))]
 fn write_name_end<W: WriteLines>(text: &str, out: &mut W) -> io::Result<()>
-    ensures told { OnOk result (Appends (W.contents out.old) (W.contents out.new)
-        (name_end text.now)) }
-    ensures failed { OnErr result (W.failed out.new) }
-    ensures kept { W.failed out.old → W.failed out.new }
+    ensures { Tells W.contents W.failed out.old out.new result (name_end text.now) }
 {
     write!(out, ": no element is named ")?;
     write_quoted(text, out)?;
@@ -129,10 +105,8 @@ fn write_rule<W: WriteLines>(
     place: &PlanPlace,
     out: &mut W,
 ) -> io::Result<()>
-    ensures told { OnOk result (Appends (W.contents out.old) (W.contents out.new)
-        (rule_line elements.now fault place.now)) }
-    ensures failed { OnErr result (W.failed out.new) }
-    ensures kept { W.failed out.old → W.failed out.new }
+    ensures { Tells W.contents W.failed out.old out.new result
+        (rule_line elements.now fault place.now) }
 {
     let words = rule_words(elements, fault);
     match place {
@@ -150,19 +124,13 @@ fn write_rule<W: WriteLines>(
 
 #[tactic(auto, unfolding(crate::specs::PlaceLines::count_end))]
 fn write_count_end<W: WriteLines>(count: usize, words: &str, out: &mut W) -> io::Result<()>
-    ensures told { OnOk result (Appends (W.contents out.old) (W.contents out.new)
-        (count_end count words.now)) }
-    ensures failed { OnErr result (W.failed out.new) }
-    ensures kept { W.failed out.old → W.failed out.new }
+    ensures { Tells W.contents W.failed out.old out.new result (count_end count words.now) }
 {
     writeln!(out, ": {count} elements, {words}")
 }
 
 fn write_text_end<W: WriteLines>(text: &str, words: &str, out: &mut W) -> io::Result<()>
-    ensures told { OnOk result (Appends (W.contents out.old) (W.contents out.new)
-        (text_end text.now words.now)) }
-    ensures failed { OnErr result (W.failed out.new) }
-    ensures kept { W.failed out.old → W.failed out.new }
+    ensures { Tells W.contents W.failed out.old out.new result (text_end text.now words.now) }
 {
     write!(out, ": ")?;
     write_quoted(text, out)?;
@@ -170,10 +138,7 @@ fn write_text_end<W: WriteLines>(text: &str, words: &str, out: &mut W) -> io::Re
 }
 
 fn write_end<W: WriteLines>(words: &str, out: &mut W) -> io::Result<()>
-    ensures told { OnOk result (Appends (W.contents out.old) (W.contents out.new)
-        (words.now ++ codes "\n")) }
-    ensures failed { OnErr result (W.failed out.new) }
-    ensures kept { W.failed out.old → W.failed out.new }
+    ensures { Tells W.contents W.failed out.old out.new result (words.now ++ codes "\n") }
 {
     writeln!(out, "{words}")
 }

@@ -6,7 +6,7 @@ ghost use Rattle.std.specs.Str.{IsUtf8};
 ghost use Rattle.flow_table.specs.Plans.{IsPlan};
 ghost use Rattle.flow_plan.specs.PlanTexts.{plan_of_text};
 ghost use Rattle.flow_plan.specs.PlanTextsUnder.{plan_of_text_under};
-ghost use Rattle.report_writing.specs.Told.{AreTold};
+ghost use Rattle.report_writing.specs.Told.{AreToldTo};
 ghost use Rattle.input_sources.specs.PlansTold.{TellsNoPlan, TellsNoPlanUnder};
 
 use crate::plan_fault::write_plan_fault;
@@ -37,7 +37,7 @@ pub fn load_plan<T: ReadText, E: WriteLines>(
     ensures silent { IfSome result (λ _. err.new ≡ err.old) }
     // Else why the path has none was told, and nothing else.
     ensures told { IfNone result (TellsNoPlan (T.has files.now path.now) (T.refuses files.now path.now)
-        telling path.now (AreTold (E.contents err.old) (E.contents err.new) (E.failed err.new))) }
+        telling path.now (AreToldTo E.contents E.failed err.old err.new)) }
     ensures kept { E.failed err.old → E.failed err.new }
 {
     // (what a text says under no files is what it says without any)
@@ -66,7 +66,7 @@ pub fn load_plan_under<T: ReadText, E: WriteLines>(
     // Else why the path has none was told, and nothing else.
     ensures told { IfNone result (TellsNoPlanUnder elements.now (T.has files.now path.now)
         (T.refuses files.now path.now) telling path.now
-        (AreTold (E.contents err.old) (E.contents err.new) (E.failed err.new))) }
+        (AreToldTo E.contents E.failed err.old err.new)) }
     ensures kept { E.failed err.old → E.failed err.new }
 {
     let octets = match files.read_text(alloc, path) {

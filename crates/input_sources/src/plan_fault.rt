@@ -1,11 +1,11 @@
 //! The lines of a fault of a plan.
 
-ghost use Rattle.std.specs.Prelude.{◌++◌, codes, OnErr, OnOk};
-ghost use Rattle.std.specs.Io.KnownBytes.{Appends};
+ghost use Rattle.std.specs.Prelude.{◌++◌, codes};
 ghost use Rattle.flow_table.specs.PlanFaults as plan;
 ghost use Rattle.flow_plan.specs.Faults as text;
 ghost use Rattle.report_writing.specs.FaultLines.{fault_text};
 ghost use Rattle.input_sources.specs.PlaceLines.{plan_fault_text, plan_lines_under};
+ghost use Rattle.report_writing.specs.Writing.{Tells};
 
 use crate::places::write_place;
 use element_registry::Elements;
@@ -21,20 +21,16 @@ pub fn write_plan_fault<W: WriteLines>(
     error: &PlanTextError,
     out: &mut W,
 ) -> io::Result<()>
-    ensures told { OnOk result (Appends (W.contents out.old) (W.contents out.new)
-        (plan_lines_under elements.now error.now)) }
-    ensures failed { OnErr result (W.failed out.new) }
-    ensures kept { W.failed out.old → W.failed out.new }
+    ensures { Tells W.contents W.failed out.old out.new result
+        (plan_lines_under elements.now error.now) }
 {
     write_plan_fault_line(error.fault(), out)?;
     write_place(elements, error, out)
 }
 
 fn write_plan_fault_line<W: WriteLines>(fault: PlanTextFault, out: &mut W) -> io::Result<()>
-    ensures told { OnOk result (Appends (W.contents out.old) (W.contents out.new)
-        (codes "collectd: plan" ++ plan_fault_text fault)) }
-    ensures failed { OnErr result (W.failed out.new) }
-    ensures kept { W.failed out.old → W.failed out.new }
+    ensures { Tells W.contents W.failed out.old out.new result
+        (codes "collectd: plan" ++ plan_fault_text fault) }
 {
     match fault {
         PlanTextFault::Plan(inner) => write_inner_fault(inner, out),
@@ -43,20 +39,16 @@ fn write_plan_fault_line<W: WriteLines>(fault: PlanTextFault, out: &mut W) -> io
 }
 
 fn write_text_fault<W: WriteLines>(fault: PlanTextFault, out: &mut W) -> io::Result<()>
-    ensures told { OnOk result (Appends (W.contents out.old) (W.contents out.new)
-        (codes "collectd: plan" ++ fault_text (text.number_of fault) (text.name_of fault))) }
-    ensures failed { OnErr result (W.failed out.new) }
-    ensures kept { W.failed out.old → W.failed out.new }
+    ensures { Tells W.contents W.failed out.old out.new result
+        (codes "collectd: plan" ++ fault_text (text.number_of fault) (text.name_of fault)) }
 {
     write_fault("plan", fault.number(), fault.name(), out)
 }
 
 fn write_inner_fault<W: WriteLines>(fault: PlanFault, out: &mut W) -> io::Result<()>
-    ensures told { OnOk result (Appends (W.contents out.old) (W.contents out.new)
+    ensures { Tells W.contents W.failed out.old out.new result
         (codes "collectd: plan: fault 6 Plan"
-        ++ fault_text (plan.number_of fault) (plan.name_of fault))) }
-    ensures failed { OnErr result (W.failed out.new) }
-    ensures kept { W.failed out.old → W.failed out.new }
+        ++ fault_text (plan.number_of fault) (plan.name_of fault)) }
 {
     write_fault("plan: fault 6 Plan", fault.number(), fault.name(), out)
 }

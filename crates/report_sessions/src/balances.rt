@@ -1,9 +1,9 @@
 //! The lines of domains in which something wasn't counted.
 
-ghost use Rattle.std.specs.Prelude.{◌≡◌, OnErr, OnOk};
+ghost use Rattle.std.specs.Prelude.{◌≡◌};
 ghost use Rattle.std.specs.List.{flat_map};
-ghost use Rattle.std.specs.Io.KnownBytes.{Appends};
 ghost use Rattle.report_sessions.specs.ToldLines.{balance_lines, balance_text, balances_told, is_all_counted as all_counted, records_text, sets_text};
+ghost use Rattle.report_writing.specs.Writing.{Tells};
 
 use ipfix_message::PassedOver;
 use ipfix_session::DomainBalance;
@@ -18,10 +18,8 @@ pub fn write_balances<W: WriteLines>(
     balances: &[DomainBalance],
     out: &mut W,
 ) -> io::Result<()>
-    ensures told { OnOk result (Appends (W.contents out.old) (W.contents out.new)
-        (balances_told telling session origin.now balances.now)) }
-    ensures failed { OnErr result (W.failed out.new) }
-    ensures kept { W.failed out.old → W.failed out.new }
+    ensures { Tells W.contents W.failed out.old out.new result
+        (balances_told telling session origin.now balances.now) }
 {
     if telling.verbose || telling.strict {
         write_each(session, origin, balances, out)
@@ -36,10 +34,8 @@ fn write_each<W: WriteLines>(
     balances: &[DomainBalance],
     out: &mut W,
 ) -> io::Result<()>
-    ensures told { OnOk result (Appends (W.contents out.old) (W.contents out.new)
-        (flat_map (balance_lines session origin.now) balances.now)) }
-    ensures failed { OnErr result (W.failed out.new) }
-    ensures kept { W.failed out.old → W.failed out.new }
+    ensures { Tells W.contents W.failed out.old out.new result
+        (flat_map (balance_lines session origin.now) balances.now) }
 {
     for balance in balances {
         write_balance(session, origin, balance, out)?;
@@ -53,10 +49,8 @@ fn write_balance<W: WriteLines>(
     balance: &DomainBalance,
     out: &mut W,
 ) -> io::Result<()>
-    ensures told { OnOk result (Appends (W.contents out.old) (W.contents out.new)
-        (balance_lines session origin.now balance.now)) }
-    ensures failed { OnErr result (W.failed out.new) }
-    ensures kept { W.failed out.old → W.failed out.new }
+    ensures { Tells W.contents W.failed out.old out.new result
+        (balance_lines session origin.now balance.now) }
 {
     if is_all_counted(balance) {
         Ok(())
@@ -79,10 +73,7 @@ fn is_all_counted(balance: &DomainBalance) -> bool
 }
 
 fn write_balance_end<W: WriteLines>(balance: &DomainBalance, out: &mut W) -> io::Result<()>
-    ensures told { OnOk result (Appends (W.contents out.old) (W.contents out.new)
-        (balance_text balance.now)) }
-    ensures failed { OnErr result (W.failed out.new) }
-    ensures kept { W.failed out.old → W.failed out.new }
+    ensures { Tells W.contents W.failed out.old out.new result (balance_text balance.now) }
 {
     let passed_over = balance.passed_over;
     write_sets(balance.domain, passed_over, out)?;
@@ -91,10 +82,7 @@ fn write_balance_end<W: WriteLines>(balance: &DomainBalance, out: &mut W) -> io:
 
 #[tactic(auto, unfolding(crate::specs::ToldLines::sets_text))]
 fn write_sets<W: WriteLines>(domain: u32, passed_over: PassedOver, out: &mut W) -> io::Result<()>
-    ensures told { OnOk result (Appends (W.contents out.old) (W.contents out.new)
-        (sets_text domain passed_over)) }
-    ensures failed { OnErr result (W.failed out.new) }
-    ensures kept { W.failed out.old → W.failed out.new }
+    ensures { Tells W.contents W.failed out.old out.new result (sets_text domain passed_over) }
 {
     let unknown_sets = passed_over.unknown_sets;
     let skipped_sets = passed_over.skipped_sets;
@@ -110,10 +98,8 @@ fn write_records<W: WriteLines>(
     unaccounted: u64,
     out: &mut W,
 ) -> io::Result<()>
-    ensures told { OnOk result (Appends (W.contents out.old) (W.contents out.new)
-        (records_text ignored_withdrawals unaccounted)) }
-    ensures failed { OnErr result (W.failed out.new) }
-    ensures kept { W.failed out.old → W.failed out.new }
+    ensures { Tells W.contents W.failed out.old out.new result
+        (records_text ignored_withdrawals unaccounted) }
 {
     writeln!(
         out,

@@ -1,8 +1,7 @@
 //! The lines that tell how a session ended.
 
-ghost use Rattle.std.specs.Prelude.{OnErr, OnOk};
-ghost use Rattle.std.specs.Io.KnownBytes.{Appends};
 ghost use Rattle.report_sessions.specs.ToldLines.{end_told, ended_line, ended_text, fault_place_lines, left_text, number_left, place_text};
+ghost use Rattle.report_writing.specs.Writing.{Tells};
 
 use ipfix_session::{FullReport, MessagePlace, SessionFault};
 use report_writing::{Origin, Telling, WriteLines, write_session_start};
@@ -17,10 +16,8 @@ pub fn write_end<W: WriteLines>(
     full: &FullReport,
     out: &mut W,
 ) -> io::Result<()>
-    ensures told { OnOk result (Appends (W.contents out.old) (W.contents out.new)
-        (end_told telling session origin.now full.now)) }
-    ensures failed { OnErr result (W.failed out.new) }
-    ensures kept { W.failed out.old → W.failed out.new }
+    ensures { Tells W.contents W.failed out.old out.new result
+        (end_told telling session origin.now full.now) }
 {
     if telling.verbose {
         write_fault_place(session, origin, full.report.fault, full.stopped_at, out)?;
@@ -38,10 +35,8 @@ fn write_fault_place<W: WriteLines>(
     place: MessagePlace,
     out: &mut W,
 ) -> io::Result<()>
-    ensures told { OnOk result (Appends (W.contents out.old) (W.contents out.new)
-        (fault_place_lines session origin.now fault place)) }
-    ensures failed { OnErr result (W.failed out.new) }
-    ensures kept { W.failed out.old → W.failed out.new }
+    ensures { Tells W.contents W.failed out.old out.new result
+        (fault_place_lines session origin.now fault place) }
 {
     match fault {
         None => Ok(()),
@@ -60,10 +55,7 @@ fn write_place<W: WriteLines>(
     place: MessagePlace,
     out: &mut W,
 ) -> io::Result<()>
-    ensures told { OnOk result (Appends (W.contents out.old) (W.contents out.new)
-        (place_text number name.now place)) }
-    ensures failed { OnErr result (W.failed out.new) }
-    ensures kept { W.failed out.old → W.failed out.new }
+    ensures { Tells W.contents W.failed out.old out.new result (place_text number name.now place) }
 {
     let MessagePlace { message, octet } = place;
     write!(
@@ -73,10 +65,7 @@ fn write_place<W: WriteLines>(
 }
 
 fn write_left<W: WriteLines>(octets: Option<u64>, out: &mut W) -> io::Result<()>
-    ensures told { OnOk result (Appends (W.contents out.old) (W.contents out.new)
-        (left_text octets)) }
-    ensures failed { OnErr result (W.failed out.new) }
-    ensures kept { W.failed out.old → W.failed out.new }
+    ensures { Tells W.contents W.failed out.old out.new result (left_text octets) }
 {
     match octets {
         None => writeln!(out),
@@ -86,10 +75,7 @@ fn write_left<W: WriteLines>(octets: Option<u64>, out: &mut W) -> io::Result<()>
 
 #[tactic(auto, unfolding(crate::specs::ToldLines::number_left))]
 fn write_number_left<W: WriteLines>(octets: u64, out: &mut W) -> io::Result<()>
-    ensures told { OnOk result (Appends (W.contents out.old) (W.contents out.new)
-        (number_left octets)) }
-    ensures failed { OnErr result (W.failed out.new) }
-    ensures kept { W.failed out.old → W.failed out.new }
+    ensures { Tells W.contents W.failed out.old out.new result (number_left octets) }
 {
     writeln!(out, " unread {octets}")
 }
@@ -100,10 +86,8 @@ fn write_ended<W: WriteLines>(
     full: &FullReport,
     out: &mut W,
 ) -> io::Result<()>
-    ensures told { OnOk result (Appends (W.contents out.old) (W.contents out.new)
-        (ended_line session origin.now full.now)) }
-    ensures failed { OnErr result (W.failed out.new) }
-    ensures kept { W.failed out.old → W.failed out.new }
+    ensures { Tells W.contents W.failed out.old out.new result
+        (ended_line session origin.now full.now) }
 {
     write_session_start(session, origin, out)?;
     write_counts(
@@ -121,10 +105,8 @@ fn write_counts<W: WriteLines>(
     records: u64,
     out: &mut W,
 ) -> io::Result<()>
-    ensures told { OnOk result (Appends (W.contents out.old) (W.contents out.new)
-        (ended_text messages octets records)) }
-    ensures failed { OnErr result (W.failed out.new) }
-    ensures kept { W.failed out.old → W.failed out.new }
+    ensures { Tells W.contents W.failed out.old out.new result
+        (ended_text messages octets records) }
 {
     writeln!(
         out,

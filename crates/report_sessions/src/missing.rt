@@ -1,7 +1,6 @@
 //! The lines of what records lack.
 
-ghost use Rattle.std.specs.Prelude.{◌≡◌, ◌≤◌, false, length, OnErr, OnOk};
-ghost use Rattle.std.specs.Io.KnownBytes.{Appends};
+ghost use Rattle.std.specs.Prelude.{◌≡◌, ◌≤◌, false, length};
 ghost use Rattle.element_registry.specs.Registries.{name_under};
 ghost use Rattle.ipfix_elements.specs.Names.{numbered_text};
 ghost use Rattle.flow_export.specs.CsvText.{prefix_text};
@@ -25,10 +24,8 @@ pub fn write_missing<W: WriteLines>(
     missing: &Missing,
     out: &mut W,
 ) -> io::Result<()>
-    ensures told { OnOk result (Appends (W.contents out.old) (W.contents out.new)
-        (missing_told telling elements.now plan.now missing.now)) }
-    ensures failed { OnErr result (W.failed out.new) }
-    ensures kept { W.failed out.old → W.failed out.new }
+    ensures told { Tells W.contents W.failed out.old out.new result
+        (missing_told telling elements.now plan.now missing.now) }
     // Without these options nothing is written.
     ensures plain { telling.verbose ≡ false → telling.strict ≡ false → out.new ≡ out.old }
 {
@@ -157,10 +154,7 @@ fn write_element<W: WriteLines>(
 
 /// Writes the numbers of an element, as a dump spells one that has no name.
 pub fn write_numbers<W: WriteLines>(element: ElementId, out: &mut W) -> io::Result<()>
-    ensures told { OnOk result (Appends (W.contents out.old) (W.contents out.new)
-        (numbered_text element)) }
-    ensures failed { OnErr result (W.failed out.new) }
-    ensures kept { W.failed out.old → W.failed out.new }
+    ensures { Tells W.contents W.failed out.old out.new result (numbered_text element) }
 {
     let pen = element.pen;
     let number = element.number;

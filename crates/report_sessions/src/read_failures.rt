@@ -1,9 +1,8 @@
 //! The line that says why a session could not be read on.
 
-ghost use Rattle.std.specs.Prelude.{OnErr, OnOk};
-ghost use Rattle.std.specs.Io.KnownBytes.{Appends};
 ghost use Rattle.report_writing.specs.OpeningLines.{if_verbose};
 ghost use Rattle.report_sessions.specs.ReadFailures.{read_failed_line, reason_text};
+ghost use Rattle.report_writing.specs.Writing.{Tells};
 
 use ipfix_session::SessionFault;
 use report_writing::{Origin, Reason, Telling, WriteLines, write_session_start};
@@ -18,10 +17,8 @@ pub fn write_read_failed<W: WriteLines>(
     reason: Reason,
     out: &mut W,
 ) -> io::Result<()>
-    ensures told { OnOk result (Appends (W.contents out.old) (W.contents out.new)
-        (if_verbose telling (read_failed_line session origin.now reason))) }
-    ensures failed { OnErr result (W.failed out.new) }
-    ensures kept { W.failed out.old → W.failed out.new }
+    ensures { Tells W.contents W.failed out.old out.new result
+        (if_verbose telling (read_failed_line session origin.now reason)) }
 {
     if telling.verbose {
         write_read_failed_line(session, origin, reason, out)
@@ -36,10 +33,8 @@ fn write_read_failed_line<W: WriteLines>(
     reason: Reason,
     out: &mut W,
 ) -> io::Result<()>
-    ensures told { OnOk result (Appends (W.contents out.old) (W.contents out.new)
-        (read_failed_line session origin.now reason)) }
-    ensures failed { OnErr result (W.failed out.new) }
-    ensures kept { W.failed out.old → W.failed out.new }
+    ensures { Tells W.contents W.failed out.old out.new result
+        (read_failed_line session origin.now reason) }
 {
     let fault = SessionFault::ReadFailed;
     write_session_start(session, origin, out)?;
@@ -48,10 +43,8 @@ fn write_read_failed_line<W: WriteLines>(
 
 #[tactic(auto, unfolding(crate::specs::ReadFailures::reason_text))]
 fn write_reason<W: WriteLines>(number: u8, name: &str, words: &str, out: &mut W) -> io::Result<()>
-    ensures told { OnOk result (Appends (W.contents out.old) (W.contents out.new)
-        (reason_text number name.now words.now)) }
-    ensures failed { OnErr result (W.failed out.new) }
-    ensures kept { W.failed out.old → W.failed out.new }
+    ensures { Tells W.contents W.failed out.old out.new result
+        (reason_text number name.now words.now) }
 {
     writeln!(out, ": fault {number} {name}: {words}")
 }

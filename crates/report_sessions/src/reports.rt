@@ -1,10 +1,10 @@
 //! The lines that tell what sessions lost, and how they ended.
 
-ghost use Rattle.std.specs.Prelude.{◌++◌, codes, decimal, OnErr, OnOk};
+ghost use Rattle.std.specs.Prelude.{◌++◌, codes, decimal};
 ghost use Rattle.std.specs.List.{flat_map};
-ghost use Rattle.std.specs.Io.KnownBytes.{Appends};
 ghost use Rattle.report_sessions.specs.ReportLines.{domain_lines, loss_line, report_lines, session_lines};
 ghost use Rattle.report_writing.specs.FaultLines.{fault_text};
+ghost use Rattle.report_writing.specs.Writing.{Tells};
 
 use ipfix_session::{DomainReport, SessionReport};
 use report_writing::WriteLines;
@@ -13,10 +13,7 @@ use std::io;
 /// Writes what there is to tell of sessions, counted from 1: a line for each domain whose sequence
 /// numbers tell a loss or a step backward, and then a line for the session's fault.
 pub fn write_reports<W: WriteLines>(reports: &[SessionReport], out: &mut W) -> io::Result<()>
-    ensures told { OnOk result (Appends (W.contents out.old) (W.contents out.new)
-        (report_lines reports.now)) }
-    ensures failed { OnErr result (W.failed out.new) }
-    ensures kept { W.failed out.old → W.failed out.new }
+    ensures { Tells W.contents W.failed out.old out.new result (report_lines reports.now) }
 {
     for (index, report) in reports.iter().enumerate() {
         write_session(index + 1, report, out)?;
@@ -30,10 +27,7 @@ pub fn write_session<W: WriteLines>(
     report: &SessionReport,
     out: &mut W,
 ) -> io::Result<()>
-    ensures told { OnOk result (Appends (W.contents out.old) (W.contents out.new)
-        (session_lines session report.now)) }
-    ensures failed { OnErr result (W.failed out.new) }
-    ensures kept { W.failed out.old → W.failed out.new }
+    ensures { Tells W.contents W.failed out.old out.new result (session_lines session report.now) }
 {
     write_domains(session, &report.domains, out)?;
     if let Some(fault) = report.fault {
@@ -47,10 +41,8 @@ fn write_domains<W: WriteLines>(
     domains: &[DomainReport],
     out: &mut W,
 ) -> io::Result<()>
-    ensures told { OnOk result (Appends (W.contents out.old) (W.contents out.new)
-        (flat_map (domain_lines session) domains.now)) }
-    ensures failed { OnErr result (W.failed out.new) }
-    ensures kept { W.failed out.old → W.failed out.new }
+    ensures { Tells W.contents W.failed out.old out.new result
+        (flat_map (domain_lines session) domains.now) }
 {
     for domain in domains {
         if domain.lost > 0 || domain.backward > 0 {
@@ -62,10 +54,7 @@ fn write_domains<W: WriteLines>(
 
 #[tactic(auto, unfolding(crate::specs::ReportLines::loss_line))]
 fn write_loss<W: WriteLines>(session: usize, report: &DomainReport, out: &mut W) -> io::Result<()>
-    ensures told { OnOk result (Appends (W.contents out.old) (W.contents out.new)
-        (loss_line session report.now)) }
-    ensures failed { OnErr result (W.failed out.new) }
-    ensures kept { W.failed out.old → W.failed out.new }
+    ensures { Tells W.contents W.failed out.old out.new result (loss_line session report.now) }
 {
     let DomainReport {
         domain,
@@ -86,10 +75,8 @@ fn write_session_fault<W: WriteLines>(
     name: &str,
     out: &mut W,
 ) -> io::Result<()>
-    ensures told { OnOk result (Appends (W.contents out.old) (W.contents out.new)
-        (codes "collectd: session " ++ (decimal session ++ fault_text number name.now))) }
-    ensures failed { OnErr result (W.failed out.new) }
-    ensures kept { W.failed out.old → W.failed out.new }
+    ensures { Tells W.contents W.failed out.old out.new result
+        (codes "collectd: session " ++ (decimal session ++ fault_text number name.now)) }
 {
     writeln!(out, "collectd: session {session}: fault {number} {name}")
 }

@@ -1,8 +1,7 @@
 //! The line that counts the records of each class.
 
-ghost use Rattle.std.specs.Prelude.{OnErr, OnOk};
-ghost use Rattle.std.specs.Io.KnownBytes.{Appends};
 ghost use Rattle.report_sessions.specs.ReportLines.{first_counts, last_counts, tally_line};
+ghost use Rattle.report_writing.specs.Writing.{Tells};
 
 use flow_table::Tally;
 use report_writing::WriteLines;
@@ -10,10 +9,7 @@ use std::io;
 
 /// Writes the line that counts the records of each class.
 pub fn write_tally<W: WriteLines>(tally: &Tally, out: &mut W) -> io::Result<()>
-    ensures told { OnOk result (Appends (W.contents out.old) (W.contents out.new)
-        (tally_line tally.now)) }
-    ensures failed { OnErr result (W.failed out.new) }
-    ensures kept { W.failed out.old → W.failed out.new }
+    ensures { Tells W.contents W.failed out.old out.new result (tally_line tally.now) }
 {
     write_first_counts(tally, out)?;
     write_last_counts(tally, out)
@@ -21,10 +17,7 @@ pub fn write_tally<W: WriteLines>(tally: &Tally, out: &mut W) -> io::Result<()>
 
 #[tactic(auto, unfolding(crate::specs::ReportLines::first_counts))]
 fn write_first_counts<W: WriteLines>(tally: &Tally, out: &mut W) -> io::Result<()>
-    ensures told { OnOk result (Appends (W.contents out.old) (W.contents out.new)
-        (first_counts tally.now)) }
-    ensures failed { OnErr result (W.failed out.new) }
-    ensures kept { W.failed out.old → W.failed out.new }
+    ensures { Tells W.contents W.failed out.old out.new result (first_counts tally.now) }
 {
     let used = tally.used;
     let options = tally.options;
@@ -37,10 +30,7 @@ fn write_first_counts<W: WriteLines>(tally: &Tally, out: &mut W) -> io::Result<(
 
 #[tactic(auto, unfolding(crate::specs::ReportLines::last_counts))]
 fn write_last_counts<W: WriteLines>(tally: &Tally, out: &mut W) -> io::Result<()>
-    ensures told { OnOk result (Appends (W.contents out.old) (W.contents out.new)
-        (last_counts tally.now)) }
-    ensures failed { OnErr result (W.failed out.new) }
-    ensures kept { W.failed out.old → W.failed out.new }
+    ensures { Tells W.contents W.failed out.old out.new result (last_counts tally.now) }
 {
     let backward = tally.backward;
     let unkeyed = tally.unkeyed;

@@ -1,9 +1,10 @@
 //! The lines of sessions in full.
 
-ghost use Rattle.std.specs.Prelude.{◌≡◌, false, map, OnErr, OnOk};
+ghost use Rattle.std.specs.Prelude.{◌≡◌, false, map, OnOk};
 ghost use Rattle.std.specs.Io.KnownBytes.{Appends};
 ghost use Rattle.report_sessions.specs.ReportLines.{report_lines};
 ghost use Rattle.report_sessions.specs.ToldLines.{origin_of, told_lines, told_session};
+ghost use Rattle.report_writing.specs.Writing.{Tells};
 
 use crate::balances::write_balances;
 use crate::endings::write_end;
@@ -30,14 +31,12 @@ pub fn write_told_reports<W: WriteLines>(
     reports: &[FullReport],
     out: &mut W,
 ) -> io::Result<()>
-    ensures told { OnOk result (Appends (W.contents out.old) (W.contents out.new)
-        (told_lines telling elements.now origins.now reports.now)) }
+    ensures told { Tells W.contents W.failed out.old out.new result
+        (told_lines telling elements.now origins.now reports.now) }
     // Without these options nothing is added.
     ensures plain { telling.verbose ≡ false → telling.strict ≡ false
         → OnOk result (Appends (W.contents out.old) (W.contents out.new)
         (report_lines (map (λ full. full.report) reports.now))) }
-    ensures failed { OnErr result (W.failed out.new) }
-    ensures kept { W.failed out.old → W.failed out.new }
 {
     for (index, full) in reports.iter().enumerate() {
         write_numbered(telling, elements, index + 1, origins, full, out)?;
@@ -54,10 +53,8 @@ fn write_numbered<W: WriteLines>(
     full: &FullReport,
     out: &mut W,
 ) -> io::Result<()>
-    ensures told { OnOk result (Appends (W.contents out.old) (W.contents out.new)
-        (told_session telling elements.now session (origin_of origins.now session) full.now)) }
-    ensures failed { OnErr result (W.failed out.new) }
-    ensures kept { W.failed out.old → W.failed out.new }
+    ensures { Tells W.contents W.failed out.old out.new result
+        (told_session telling elements.now session (origin_of origins.now session) full.now) }
 {
     match origins.get(session.saturating_sub(1)) {
         Some(origin) => write_told_session(telling, elements, session, origin, full, out),
@@ -73,10 +70,8 @@ fn write_told_session<W: WriteLines>(
     full: &FullReport,
     out: &mut W,
 ) -> io::Result<()>
-    ensures told { OnOk result (Appends (W.contents out.old) (W.contents out.new)
-        (told_session telling elements.now session origin.now full.now)) }
-    ensures failed { OnErr result (W.failed out.new) }
-    ensures kept { W.failed out.old → W.failed out.new }
+    ensures { Tells W.contents W.failed out.old out.new result
+        (told_session telling elements.now session origin.now full.now) }
 {
     write_session(session, &full.report, out)?;
     write_balances(telling, session, origin, &full.balances, out)?;

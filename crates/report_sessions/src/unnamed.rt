@@ -1,13 +1,13 @@
 //! The line of the elements that nothing names.
 
-ghost use Rattle.std.specs.Prelude.{◌≡◌, ◌++◌, List, Some, length, nat_lt, take, if◌then◌else◌, OnErr, OnOk};
+ghost use Rattle.std.specs.Prelude.{◌≡◌, ◌++◌, List, Some, length, nat_lt, take, if◌then◌else◌};
 ghost use Rattle.std.specs.BTreeMap.{values};
 ghost use Rattle.std.specs.List.{flat_map};
-ghost use Rattle.std.specs.Io.KnownBytes.{Appends};
 ghost use Rattle.ipfix_wire.specs.declared.specifier.ElementId.{ElementId as Id};
 ghost use Rattle.report_sessions.specs.FirstElements.{KeepsFirst, with_element};
 ghost use Rattle.report_sessions.specs.UnnamedElements.{count_text, element_text, elements_line, is_unnamed, number_shown, over_text, templates_at, templates_of, unnamed_elements, unnamed_in, unnamed_told};
 ghost use Rattle.report_sessions.specs.declared.first_elements.TheConstants.{MOST_NAMED};
+ghost use Rattle.report_writing.specs.Writing.{Tells};
 
 use crate::first_elements::FirstElements;
 use crate::missing::write_numbers;
@@ -28,10 +28,8 @@ pub fn write_unnamed<W: WriteLines>(
     full: &FullReport,
     out: &mut W,
 ) -> io::Result<()>
-    ensures told { OnOk result (Appends (W.contents out.old) (W.contents out.new)
-        (unnamed_told telling elements.now session origin.now full.now)) }
-    ensures failed { OnErr result (W.failed out.new) }
-    ensures kept { W.failed out.old → W.failed out.new }
+    ensures { Tells W.contents W.failed out.old out.new result
+        (unnamed_told telling elements.now session origin.now full.now) }
 {
     if telling.verbose {
         write_elements_line(session, origin, &first_unnamed(elements, full), out)
@@ -119,10 +117,8 @@ fn write_elements_line<W: WriteLines>(
     unnamed: &FirstElements,
     out: &mut W,
 ) -> io::Result<()>
-    ensures told { OnOk result (Appends (W.contents out.old) (W.contents out.new)
-        (elements_line session origin.now unnamed.now.first unnamed.now.more)) }
-    ensures failed { OnErr result (W.failed out.new) }
-    ensures kept { W.failed out.old → W.failed out.new }
+    ensures { Tells W.contents W.failed out.old out.new result
+        (elements_line session origin.now unnamed.now.first unnamed.now.more) }
 {
     let first = unnamed.as_slice();
     if first.is_empty() {
@@ -135,10 +131,7 @@ fn write_elements_line<W: WriteLines>(
 }
 
 fn write_number<W: WriteLines>(count: usize, has_more: bool, out: &mut W) -> io::Result<()>
-    ensures told { OnOk result (Appends (W.contents out.old) (W.contents out.new)
-        (number_shown count has_more)) }
-    ensures failed { OnErr result (W.failed out.new) }
-    ensures kept { W.failed out.old → W.failed out.new }
+    ensures { Tells W.contents W.failed out.old out.new result (number_shown count has_more) }
 {
     if has_more {
         write_over(out)
@@ -149,28 +142,21 @@ fn write_number<W: WriteLines>(count: usize, has_more: bool, out: &mut W) -> io:
 
 #[tactic(auto, unfolding(crate::specs::UnnamedElements::over_text))]
 fn write_over<W: WriteLines>(out: &mut W) -> io::Result<()>
-    ensures told { OnOk result (Appends (W.contents out.old) (W.contents out.new) over_text) }
-    ensures failed { OnErr result (W.failed out.new) }
-    ensures kept { W.failed out.old → W.failed out.new }
+    ensures { Tells W.contents W.failed out.old out.new result over_text }
 {
     write!(out, ": elements without a name over 64:")
 }
 
 #[tactic(auto, unfolding(crate::specs::UnnamedElements::count_text))]
 fn write_count<W: WriteLines>(count: usize, out: &mut W) -> io::Result<()>
-    ensures told { OnOk result (Appends (W.contents out.old) (W.contents out.new)
-        (count_text count)) }
-    ensures failed { OnErr result (W.failed out.new) }
-    ensures kept { W.failed out.old → W.failed out.new }
+    ensures { Tells W.contents W.failed out.old out.new result (count_text count) }
 {
     write!(out, ": elements without a name {count}:")
 }
 
 fn write_elements<W: WriteLines>(elements: &[ElementId], out: &mut W) -> io::Result<()>
-    ensures told { OnOk result (Appends (W.contents out.old) (W.contents out.new)
-        (flat_map element_text elements.now)) }
-    ensures failed { OnErr result (W.failed out.new) }
-    ensures kept { W.failed out.old → W.failed out.new }
+    ensures { Tells W.contents W.failed out.old out.new result
+        (flat_map element_text elements.now) }
 {
     for element in elements {
         write_element(*element, out)?;
@@ -180,10 +166,7 @@ fn write_elements<W: WriteLines>(elements: &[ElementId], out: &mut W) -> io::Res
 
 #[tactic(auto, unfolding(crate::specs::UnnamedElements::element_text))]
 fn write_element<W: WriteLines>(element: ElementId, out: &mut W) -> io::Result<()>
-    ensures told { OnOk result (Appends (W.contents out.old) (W.contents out.new)
-        (element_text element)) }
-    ensures failed { OnErr result (W.failed out.new) }
-    ensures kept { W.failed out.old → W.failed out.new }
+    ensures { Tells W.contents W.failed out.old out.new result (element_text element) }
 {
     write!(out, " ")?;
     write_numbers(element, out)

@@ -1,9 +1,9 @@
 //! The lines that tell what was opened and what is waited for, and why something was not had.
 
-ghost use Rattle.std.specs.Prelude.{◌≡◌, ◌++◌, codes, OnErr, OnOk};
-ghost use Rattle.std.specs.Io.KnownBytes.{Appends};
+ghost use Rattle.std.specs.Prelude.{◌≡◌, ◌++◌, codes};
 ghost use Rattle.report_writing.specs.OpeningLines.{if_verbose, listening_line, not_had_lines, opened_line, opened_text as text_of_opened};
 ghost use Rattle.report_writing.specs.FaultLines.{not_had_line};
+ghost use Rattle.report_writing.specs.Writing.{Tells};
 
 use crate::faults::write_not_had;
 use crate::origin::{Origin, write_session_start};
@@ -20,10 +20,8 @@ pub fn write_opened<W: WriteLines>(
     origin: &Origin,
     out: &mut W,
 ) -> io::Result<()>
-    ensures told { OnOk result (Appends (W.contents out.old) (W.contents out.new)
-        (if_verbose telling (opened_line session origin.now))) }
-    ensures failed { OnErr result (W.failed out.new) }
-    ensures kept { W.failed out.old → W.failed out.new }
+    ensures { Tells W.contents W.failed out.old out.new result
+        (if_verbose telling (opened_line session origin.now)) }
 {
     if telling.verbose {
         write_opened_line(session, origin, out)
@@ -33,10 +31,7 @@ pub fn write_opened<W: WriteLines>(
 }
 
 fn write_opened_line<W: WriteLines>(session: usize, origin: &Origin, out: &mut W) -> io::Result<()>
-    ensures told { OnOk result (Appends (W.contents out.old) (W.contents out.new)
-        (opened_line session origin.now)) }
-    ensures failed { OnErr result (W.failed out.new) }
-    ensures kept { W.failed out.old → W.failed out.new }
+    ensures { Tells W.contents W.failed out.old out.new result (opened_line session origin.now) }
 {
     write_session_start(session, origin, out)?;
     out.write_all(opened_text(origin).as_bytes())
@@ -59,10 +54,8 @@ pub fn write_listening<W: WriteLines>(
     connections: usize,
     out: &mut W,
 ) -> io::Result<()>
-    ensures told { OnOk result (Appends (W.contents out.old) (W.contents out.new)
-        (if_verbose telling (listening_line address.now connections))) }
-    ensures failed { OnErr result (W.failed out.new) }
-    ensures kept { W.failed out.old → W.failed out.new }
+    ensures { Tells W.contents W.failed out.old out.new result
+        (if_verbose telling (listening_line address.now connections)) }
 {
     if telling.verbose {
         write_listening_line(address, connections, out)
@@ -77,10 +70,8 @@ fn write_listening_line<W: WriteLines>(
     connections: usize,
     out: &mut W,
 ) -> io::Result<()>
-    ensures told { OnOk result (Appends (W.contents out.old) (W.contents out.new)
-        (listening_line address.now connections)) }
-    ensures failed { OnErr result (W.failed out.new) }
-    ensures kept { W.failed out.old → W.failed out.new }
+    ensures { Tells W.contents W.failed out.old out.new result
+        (listening_line address.now connections) }
 {
     writeln!(
         out,
@@ -97,10 +88,8 @@ pub fn write_not_had_because<W: WriteLines>(
     reason: Reason,
     out: &mut W,
 ) -> io::Result<()>
-    ensures told { OnOk result (Appends (W.contents out.old) (W.contents out.new)
-        (not_had_lines telling what.now name.now reason)) }
-    ensures failed { OnErr result (W.failed out.new) }
-    ensures kept { W.failed out.old → W.failed out.new }
+    ensures { Tells W.contents W.failed out.old out.new result
+        (not_had_lines telling what.now name.now reason) }
 {
     if telling.verbose {
         write_because(what, name, reason.words(), out)
@@ -111,10 +100,8 @@ pub fn write_not_had_because<W: WriteLines>(
 
 #[tactic(auto, unfolding(crate::specs::FaultLines::not_had_line))]
 fn write_because<W: WriteLines>(what: &str, name: &str, words: &str, out: &mut W) -> io::Result<()>
-    ensures told { OnOk result (Appends (W.contents out.old) (W.contents out.new)
-        (not_had_line what.now (name.now ++ (codes ": " ++ words.now)))) }
-    ensures failed { OnErr result (W.failed out.new) }
-    ensures kept { W.failed out.old → W.failed out.new }
+    ensures { Tells W.contents W.failed out.old out.new result
+        (not_had_line what.now (name.now ++ (codes ": " ++ words.now))) }
 {
     writeln!(out, "collectd: {what}: {name}: {words}")
 }

@@ -1,9 +1,9 @@
 //! Whose session a line tells of.
 
-ghost use Rattle.std.specs.Prelude.{◌≡◌, OnErr, OnOk};
-ghost use Rattle.std.specs.Io.KnownBytes.{Appends};
+ghost use Rattle.std.specs.Prelude.{◌≡◌};
 ghost use Rattle.std.specs.Net.Text.{socket_text};
 ghost use Rattle.report_writing.specs.Origins.{number_text, octets_from, origin_text, peer_text, session_start, whole_name};
+ghost use Rattle.report_writing.specs.Writing.{Tells};
 
 use crate::quoting::write_octets;
 use crate::write_lines::WriteLines;
@@ -39,10 +39,7 @@ impl Origin<'_> {
 /// Writes whose session it is, as it stands behind the number of a session or of a file: a space, and a
 /// name in quotation marks or an address. Nothing is written if it isn't known.
 pub fn write_origin<W: WriteLines>(origin: &Origin, out: &mut W) -> io::Result<()>
-    ensures told { OnOk result (Appends (W.contents out.old) (W.contents out.new)
-        (origin_text origin.now)) }
-    ensures failed { OnErr result (W.failed out.new) }
-    ensures kept { W.failed out.old → W.failed out.new }
+    ensures { Tells W.contents W.failed out.old out.new result (origin_text origin.now) }
 {
     match origin {
         Origin::File { name, .. } => write_whole_name(name, out),
@@ -53,10 +50,7 @@ pub fn write_origin<W: WriteLines>(origin: &Origin, out: &mut W) -> io::Result<(
 
 // A name is not cut off, since a longer one is another file.
 fn write_whole_name<W: WriteLines>(name: &str, out: &mut W) -> io::Result<()>
-    ensures told { OnOk result (Appends (W.contents out.old) (W.contents out.new)
-        (whole_name name.now)) }
-    ensures failed { OnErr result (W.failed out.new) }
-    ensures kept { W.failed out.old → W.failed out.new }
+    ensures { Tells W.contents W.failed out.old out.new result (whole_name name.now) }
 {
     write!(out, " \"")?;
     write_octets(name.as_bytes(), out)?;
@@ -65,10 +59,7 @@ fn write_whole_name<W: WriteLines>(name: &str, out: &mut W) -> io::Result<()>
 
 #[tactic(auto, unfolding(crate::specs::Origins::peer_text))]
 fn write_peer<W: WriteLines>(address: SocketAddr, out: &mut W) -> io::Result<()>
-    ensures told { OnOk result (Appends (W.contents out.old) (W.contents out.new)
-        (peer_text (socket_text address))) }
-    ensures failed { OnErr result (W.failed out.new) }
-    ensures kept { W.failed out.old → W.failed out.new }
+    ensures { Tells W.contents W.failed out.old out.new result (peer_text (socket_text address)) }
 {
     write!(out, " {address}")
 }
@@ -79,10 +70,7 @@ pub fn write_session_start<W: WriteLines>(
     origin: &Origin,
     out: &mut W,
 ) -> io::Result<()>
-    ensures told { OnOk result (Appends (W.contents out.old) (W.contents out.new)
-        (session_start session origin.now)) }
-    ensures failed { OnErr result (W.failed out.new) }
-    ensures kept { W.failed out.old → W.failed out.new }
+    ensures { Tells W.contents W.failed out.old out.new result (session_start session origin.now) }
 {
     write_number(session, out)?;
     write_origin(origin, out)
@@ -90,10 +78,7 @@ pub fn write_session_start<W: WriteLines>(
 
 #[tactic(auto, unfolding(crate::specs::Origins::number_text))]
 fn write_number<W: WriteLines>(session: usize, out: &mut W) -> io::Result<()>
-    ensures told { OnOk result (Appends (W.contents out.old) (W.contents out.new)
-        (number_text session)) }
-    ensures failed { OnErr result (W.failed out.new) }
-    ensures kept { W.failed out.old → W.failed out.new }
+    ensures { Tells W.contents W.failed out.old out.new result (number_text session) }
 {
     write!(out, "collectd: session {session}")
 }

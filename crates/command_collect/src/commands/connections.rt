@@ -4,7 +4,7 @@ ghost use Rattle.std.specs.Prelude.{◌≡◌, ◌<◌, IfSome};
 ghost use Rattle.std.specs.Duration.{as_nanos};
 ghost use Rattle.report_writing.specs.Statuses.{number_of};
 ghost use Rattle.report_writing.specs.OpeningLines.{if_verbose, listening_line};
-ghost use Rattle.report_writing.specs.Told.{AreTold};
+ghost use Rattle.report_writing.specs.Told.{AreToldTo};
 ghost use Rattle.input_sources.specs.Origins.{ArePeers};
 ghost use Rattle.input_sources.specs.Had.{AreAccepted};
 ghost use Rattle.command_collect.specs.Collects.{CollectsInFull};
@@ -48,7 +48,7 @@ pub fn run_connections<
         (TellsNotAccepted job.now.telling (if_verbose job.now.telling (listening_line addr.now count))
         addr.now) count
         job.now.plan.now job.now.pool job.now.output W.contents out.old out.new
-        (AreTold (E.contents err.old) (E.contents err.new) (E.failed err.new)) result
+        (AreToldTo E.contents E.failed err.old err.new) result
         job.now.elements.now job.now.telling (ArePeers count)
         (if_verbose job.now.telling (listening_line addr.now count)) }
     ensures closed { L.is_closed listener.new }

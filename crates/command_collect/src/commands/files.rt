@@ -2,7 +2,7 @@
 
 ghost use Rattle.std.specs.Prelude.{◌≡◌, [], length, map};
 ghost use Rattle.std.specs.List.{AllZip};
-ghost use Rattle.report_writing.specs.Told.{AreTold};
+ghost use Rattle.report_writing.specs.Told.{AreToldTo};
 ghost use Rattle.input_sources.specs.Origins.{IsFileNamed};
 ghost use Rattle.input_sources.specs.Had.{AreOpened};
 ghost use Rattle.command_collect.specs.Collects.{CollectsAlone, CollectsInFull};
@@ -54,7 +54,7 @@ pub fn run_files<
         paths.now (O.coming files.old) (O.coming files.new))
         (TellsNotOpened (map (λ path. path.now) paths.now) NOTHING_MORE) (length paths.now)
         plan.now pool output W.contents out.old out.new
-        (AreTold (E.contents err.old) (E.contents err.new) (E.failed err.new)) result }
+        (AreToldTo E.contents E.failed err.old err.new) result }
     ensures kept { E.failed err.old → E.failed err.new }
 {
     let elements = Elements::built_in(alloc);
@@ -89,7 +89,7 @@ pub fn run_files_in_full<
         paths.now (O.coming files.old) (O.coming files.new))
         (TellsNotOpened (map (λ path. path.now) paths.now) job.now.telling) (length paths.now)
         job.now.plan.now job.now.pool job.now.output W.contents out.old out.new
-        (AreTold (E.contents err.old) (E.contents err.new) (E.failed err.new)) result
+        (AreToldTo E.contents E.failed err.old err.new) result
         job.now.elements.now job.now.telling (AllZip (λ path. IsFileNamed path.now) paths.now) [] }
     ensures kept { E.failed err.old → E.failed err.new }
 {

@@ -4,7 +4,7 @@ ghost use Rattle.std.specs.Prelude.{◌≡◌, ◌<◌, [], IfNone, IfSome};
 ghost use Rattle.std.specs.Duration.{as_nanos};
 ghost use Rattle.report_writing.specs.Statuses.{number_of};
 ghost use Rattle.report_writing.specs.OpeningLines.{if_verbose, listening_line};
-ghost use Rattle.report_writing.specs.Told.{AreTold};
+ghost use Rattle.report_writing.specs.Told.{AreToldTo};
 ghost use Rattle.input_sources.specs.Origins.{ArePeers};
 ghost use Rattle.command_collect.specs.FullRuns.{fault_of_pool};
 ghost use Rattle.input_sources.specs.Had.{AreAccepted};
@@ -67,7 +67,7 @@ pub fn run_tcp<
         (L.coming listener.old) (L.coming listener.new))
         (TellsNotAccepted NOTHING_MORE [] addr.now) count
         plan.now pool output W.contents out.old out.new
-        (AreTold (E.contents err.old) (E.contents err.new) (E.failed err.new)) result }
+        (AreToldTo E.contents E.failed err.old err.new) result }
     ensures closed { L.is_closed listener.new }
     // No connection can have a limit of no time.
     ensures no_time { IfSome idle
@@ -113,7 +113,7 @@ pub fn run_tcp_in_full<
         (TellsNotAccepted job.now.telling (if_verbose job.now.telling (listening_line addr.now count))
         addr.now) count
         job.now.plan.now job.now.pool job.now.output W.contents out.old out.new
-        (AreTold (E.contents err.old) (E.contents err.new) (E.failed err.new)) result
+        (AreToldTo E.contents E.failed err.old err.new) result
         job.now.elements.now job.now.telling (ArePeers count)
         (if_verbose job.now.telling (listening_line addr.now count))) }
     ensures closed { L.is_closed listener.new }
@@ -122,7 +122,7 @@ pub fn run_tcp_in_full<
         (λ limit. as_nanos limit ≡ 0 → 0 < count → result ≡ number_of Status.NotOpened)) }
     // No connection is accepted for a pool that has a fault.
     ensures pool { RefusesPool job.now.pool count result (out.new ≡ out.old)
-        (AreTold (E.contents err.old) (E.contents err.new) (E.failed err.new)) }
+        (AreToldTo E.contents E.failed err.old err.new) }
     ensures kept { E.failed err.old → E.failed err.new }
 {
     if let Some(fault) = refused_early(job.pool, count) {

@@ -1,6 +1,11 @@
 use Rattle.command_collect.proofs.LinesTold.{table_lines}
 use Rattle.command_collect.proofs.full_run.tell_table.Goals as goal
 
-pub returns-clause-told : goal.returns-clause-told
-returns-clause-told g c =
-    table_lines c.write_missing.result c.args.job.now.telling c.args.job.now.elements.now c.args.job.now.plan.now c.args.table.now c.tally.result c.missing.result _ _ _ c.tally.ensures c.missing.ensures c.in_ok-write_tally.ensures.told c.write_missing.ensures.told
+pub returns : goal.returns
+returns g c =
+    let missing = c.write_missing.ensures.told in
+    record {
+      told = table_lines c.write_missing.result c.args.job.now.telling c.args.job.now.elements.now c.args.job.now.plan.now c.args.table.now c.tally.result c.missing.result _ _ _ c.tally.ensures c.missing.ensures c.in_ok-write_tally.ensures.told missing.told;
+      failed = missing.failed;
+      kept = λ failed. missing.kept (c.write_tally.ensures.kept failed);
+    }

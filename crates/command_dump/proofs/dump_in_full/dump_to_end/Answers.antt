@@ -8,7 +8,7 @@ use Rattle.command_dump.proofs.dump_in_full.dump_to_end.Goals as goal
 pub returns-in-Ok-clause-runs : goal.returns-in-Ok-clause-runs
 returns-in-Ok-clause-runs g c =
     let well = zero_if_well c.end_of.result c.number.result _ c.number.ensures c.end_of.ensures.ends c.end_of.ensures.well in
-    let told = rw (c.from_ref.ensures.value, c.from_ref-in-Ok.ensures.value) at c.write_told_reports.ensures.told in
+    let told = rw (c.from_ref.ensures.value, c.from_ref-in-Ok.ensures.value) at c.write_told_reports.ensures.told.told in
     record {
       statuses = one_of_three c.end_of.result c.number.result c.number.ensures c.end_of.ensures.ends;
       all = λ zero.
@@ -17,7 +17,7 @@ returns-in-Ok-clause-runs g c =
       dumped = λ ran. record {
         full = c.in-Ok.full;
         dumps = c.in-Ok.ensures;
-        told = is_told _ _ _ c.write_told_reports.result _ told c.write_told_reports.ensures.failed;
+        told = is_told _ _ _ c.write_told_reports.result _ told c.write_told_reports.ensures.told.failed;
         status_is = well;
       };
       failed = never_three c.end_of.result c.number.result c.number.ensures c.end_of.ensures.ends;

@@ -3,5 +3,9 @@ use Rattle.std.proofs.KnownBytes.{Appends-trans}
 use Rattle.std.proofs.lemmas.Result.{on_ok_weaker}
 use Rattle.input_sources.proofs.places.write_key.Goals as goal
 
-pub returns-clause-told : goal.returns-clause-told
-returns-clause-told g c = on_ok_weaker c.write_quoted.result (λ h. Appends-trans _ _ _ (codes "collectd: plan: key ") _ c.in_ok-write.ensures.bytes h) c.write_quoted.ensures.told
+pub returns : goal.returns
+returns g c = record {
+  told = on_ok_weaker c.write_quoted.result (λ h. Appends-trans _ _ _ (codes "collectd: plan: key ") _ c.in_ok-write.ensures.bytes h) c.write_quoted.ensures.told;
+  failed = c.write_quoted.ensures.failed;
+  kept = λ failed. c.write_quoted.ensures.kept (c.write.ensures.kept failed);
+}

@@ -1,4 +1,4 @@
-use Rattle.report_writing.specs.Told.{AreTold}
+use Rattle.report_writing.specs.Told.{AreToldTo}
 use Rattle.input_sources.proofs.PlansUnder.{no_plan_without, plan_without}
 use Rattle.input_sources.proofs.plan.load_plan.Goals as goal
 
@@ -11,4 +11,4 @@ pub returns-clause-told : goal.returns-clause-told
 returns-clause-told g c =
     no_plan_without c.no_files.ensures.plan c.no_files.ensures.place c.built_in-elements.result c.built_in-elements.ensures c.load_plan_under.result
     (g.T.ReadText.has c.args.files.now c.args.path.now) (g.T.ReadText.refuses c.args.files.now c.args.path.now) c.args.telling c.args.path.now
-    (AreTold (g.E.WriteLines.contents c.args.err.now) (g.E.WriteLines.contents c.load_plan_under.new.err) (g.E.WriteLines.failed c.load_plan_under.new.err)) c.load_plan_under.ensures.told
+    (AreToldTo g.E.WriteLines.contents g.E.WriteLines.failed c.args.err.now c.load_plan_under.new.err) c.load_plan_under.ensures.told

@@ -1,6 +1,6 @@
 use Rattle.std.proofs.Common.{rules}
 use Rattle.std.proofs.lemmas.Option.{IfSome_then}
-use Rattle.report_writing.specs.Told.{AreTold}
+use Rattle.report_writing.specs.Told.{AreToldTo}
 use Rattle.report_writing.proofs.LinesTold.{both_told, is_told}
 use Rattle.command_collect.proofs.Collected.{collected, not_collected}
 use Rattle.command_collect.proofs.LinesTold.{peers_then}
@@ -9,7 +9,7 @@ use Rattle.command_collect.proofs.commands.connections.run_connections.Goals as 
 pub returns-in-Ok-clause-collects : goal.returns-in-Ok-clause-collects
 returns-in-Ok-clause-collects g c =
     let count = c.in-Ok.ensures.accepted.one_each in
-    collected _ _ _ _ _ _ _ _ _ _ _ _ _ _ _ (AreTold (g.E.WriteLines.contents c.accept_all.new.err) (g.E.WriteLines.contents c.run_in_full.new.err) (g.E.WriteLines.failed c.run_in_full.new.err))
+    collected _ _ _ _ _ _ _ _ _ _ _ _ _ _ _ (AreToldTo g.E.WriteLines.contents g.E.WriteLines.failed c.accept_all.new.err c.run_in_full.new.err)
     c.into_sources-sources.result.items c.in-Ok.field-0.sources c.into_sources-sources.result.len c.in-Ok.field-0.origins.items c.deref.result.now c.into_sources-sources.ensures.list c.in-Ok.ensures.accepted c.into_sources-sources.ensures.unread (search (rules, count)) c.in-Ok.ensures.peers c.deref.ensures.value
     (λ lines told.
     both_told _ _ _ _ _ _ _ (is_told _ _ _ c.write_listening.result _ c.write_listening.ensures.told c.write_listening.ensures.failed)

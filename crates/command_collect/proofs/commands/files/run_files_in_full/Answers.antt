@@ -1,6 +1,6 @@
 use Rattle.std.proofs.Common.{rules}
 use Rattle.std.proofs.lemmas.Slice.Zip.{AllZip-long}
-use Rattle.report_writing.specs.Told.{AreTold}
+use Rattle.report_writing.specs.Told.{AreToldTo}
 use Rattle.report_writing.proofs.LinesTold.{both_told}
 use Rattle.command_collect.proofs.Collected.{collected, not_collected}
 use Rattle.command_collect.proofs.LinesTold.{stops_then}
@@ -9,7 +9,7 @@ use Rattle.command_collect.proofs.commands.files.run_files_in_full.Goals as goal
 pub returns-in-Ok-clause-collects : goal.returns-in-Ok-clause-collects
 returns-in-Ok-clause-collects g c =
     let same = AllZip-long _ _ _ c.in-Ok.ensures.opened.one_each in
-    collected _ _ _ _ _ _ _ _ _ _ _ _ _ _ _ (AreTold (g.E.WriteLines.contents c.open_all.new.err) (g.E.WriteLines.contents c.run_in_full.new.err) (g.E.WriteLines.failed c.run_in_full.new.err))
+    collected _ _ _ _ _ _ _ _ _ _ _ _ _ _ _ (AreToldTo g.E.WriteLines.contents g.E.WriteLines.failed c.open_all.new.err c.run_in_full.new.err)
     c.into_sources-sources.result.items c.in-Ok.field-0.sources c.into_sources-sources.result.len c.in-Ok.field-0.origins.items c.deref.result.now c.into_sources-sources.ensures.list c.in-Ok.ensures.opened c.into_sources-sources.ensures.unread (search (rules, same)) c.in-Ok.ensures.named c.deref.ensures.value
     (λ lines told. both_told _ _ _ _ _ _ _ c.in-Ok.ensures.told told c.run_in_full.ensures.kept) c.run_in_full.ensures.statuses c.run_in_full.ensures.table c.run_in_full.ensures.failed c.run_in_full.ensures.refused
 
