@@ -4,21 +4,15 @@ ghost use Rattle.std.specs.Prelude.{◌≡◌, All, IsSome};
 ghost use Rattle.cli_words.specs.declared.format_words.TheConstants.{DUMP_FORMATS, TABLE_FORMATS};
 
 use flow_export::Format;
+use ipfix_dump::Form;
 
-/// How a data record is dumped.
-#[derive(Clone, Copy, Debug, PartialEq, Eq)]
-pub enum DumpFormat {
-    Text,
-    Json,
-}
-
-/// The format of a dump that a word names.
-pub fn dump_format(word: &str) -> Option<DumpFormat>
+/// The form of a dump that a word names.
+pub fn dump_form(word: &str) -> Option<Form>
     ensures each { All (λ w. word.now ≡ w.now → IsSome result) DUMP_FORMATS }
 {
     match word {
-        "text" => Some(DumpFormat::Text),
-        "json" => Some(DumpFormat::Json),
+        "text" => Some(Form::Text),
+        "json" => Some(Form::Json),
         _ => None,
     }
 }

@@ -1,6 +1,6 @@
 //! What a command is told, and where its table goes.
 
-use crate::formats::{DumpFormat, dump_format, table_format};
+use crate::formats::{dump_form, table_format};
 use crate::progress_output::{ProgressOutput, open_terminal};
 use crate::timers::ask_for_short_sleeps;
 use clap::ArgMatches;
@@ -10,6 +10,7 @@ use flow_export::ExportFault;
 use flow_table::Plan;
 use input_files::load_elements;
 use input_sources::{Noted, load_plan_under};
+use ipfix_dump::Form;
 use output_tables::{Output, write_export_fault};
 use report_writing::{Remembering, Status, Telling};
 use std::fs::File;
@@ -123,9 +124,9 @@ pub fn read_progress<'a>(
     }
 }
 
-/// How data records are dumped.
-pub fn read_dump_format(chosen: &ArgMatches) -> Option<DumpFormat> {
-    dump_format(chosen.get_str("format")?)
+/// What data records become in a dump.
+pub fn read_dump_form(chosen: &ArgMatches) -> Option<Form> {
+    dump_form(chosen.get_str("format")?)
 }
 
 /// What is told on standard error beside the lines that always stand.

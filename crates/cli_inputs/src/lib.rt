@@ -8,9 +8,8 @@ mod progress_output;
 mod refused;
 mod timers;
 
-pub use formats::DumpFormat;
 pub use inputs::{
-    Collecting, Job, buffered_output, read_collecting, read_dump_format, read_idle, read_job,
+    Collecting, Job, buffered_output, read_collecting, read_dump_form, read_idle, read_job,
     read_paths, read_progress, read_telling, table_output,
 };
 pub use listening::listen_on;

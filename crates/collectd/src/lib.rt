@@ -5,17 +5,14 @@ pub use command_collect::{
     CollectJob, run, run_files, run_files_in_full, run_in_full, run_tcp, run_tcp_in_full,
     write_collect_fault, write_limit,
 };
-pub use command_dump::{
-    run_dump, run_dump_in_full, run_dump_json, run_dump_json_in_full, run_dump_json_under,
-    run_dump_under, write_dump_fault,
-};
+pub use command_dump::{DumpJob, run_dump, run_dump_with, write_dump_fault};
 pub use command_merge::{run_merge, run_merge_in_full};
 pub use input_files::ReadText;
 pub use input_sources::{
     Accepted, Listener, Listening, Note, Noted, NotedPeer, OpenSource, Opened, SystemFiles,
     load_plan, load_plan_under, write_plan_fault,
 };
-pub use ipfix_dump::{DumpFault, dump, dump_json};
+pub use ipfix_dump::{DumpFault, Form, dump};
 pub use ipfix_session::MessageCounter;
 pub use output_tables::{Output, write_export_fault};
 pub use report_sessions::{write_read_failed, write_reports, write_tally};

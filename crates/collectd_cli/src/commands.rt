@@ -2,12 +2,12 @@
 
 use clap::ArgMatches;
 use cli_inputs::{
-    Collecting, DumpFormat, Job, buffered_output, listen_on, read_collecting, read_dump_format,
-    read_idle, read_job, read_paths, read_progress, read_telling, table_output, write_refused,
+    Collecting, Job, buffered_output, listen_on, read_collecting, read_dump_form, read_idle,
+    read_job, read_paths, read_progress, read_telling, table_output, write_refused,
     write_refused_exports, write_refused_files, write_refused_output, write_refused_peers,
 };
 use command_collect::{CollectJob, run_files_in_full, run_tcp_in_full, write_limit};
-use command_dump::{run_dump_json_under, run_dump_under, write_dump_fault};
+use command_dump::{DumpJob, run_dump_with, write_dump_fault};
 use command_merge::run_merge_in_full;
 use flow_collect::Pool;
 use input_sources::{Listening, Noted, SystemFiles};
@@ -43,7 +43,7 @@ pub fn dump(rt: &HostRuntime, chosen: &ArgMatches) -> Result<u8, Status> {
         &mut rt.stderr(),
     );
     write_refused_output(telling, &out, &mut rt.stderr());
-    Ok(status)
+    Ok(status.number())
 }
 
 // Dumps a source as the words say it.
@@ -53,21 +53,15 @@ fn dump_source<S: Source, W: Write>(
     source: &mut S,
     out: &mut W,
     err: &mut Remembering<Stderr>,
-) -> Result<u8, Status> {
-    let elements = chosen.get_strs("elements").unwrap_or(&[]);
-    let telling = read_telling(chosen);
-    let alloc = rt.alloc();
-    let origin = Origin::Unknown;
-    match read_dump_format(chosen) {
-        Some(DumpFormat::Text) => Ok(run_dump_under(
-            rt, alloc, elements, source, &origin, telling, out, err,
-        )),
-        Some(DumpFormat::Json) => Ok(run_dump_json_under(
-            rt, alloc, elements, source, &origin, telling, out, err,
-        )),
+) -> Result<Status, Status> {
+    let job = DumpJob {
         // (the parser lets no other word through)
-        None => Err(Status::NotOpened),
-    }
+        form: read_dump_form(chosen).ok_or(Status::NotOpened)?,
+        element_files: chosen.get_strs("elements").unwrap_or(&[]),
+        origin: Origin::Unknown,
+        telling: read_telling(chosen),
+    };
+    Ok(run_dump_with(rt, rt.alloc(), &job, source, out, err))
 }
 
 /// `collectd files`: the table of the sessions in files to standard output.

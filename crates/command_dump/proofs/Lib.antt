@@ -1,2 +1,1 @@
 mod FullDumped
-mod Loaded

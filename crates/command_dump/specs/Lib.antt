@@ -1,4 +1,4 @@
 -- What public contracts cite.
 pub mod Dumps
 pub mod DumpFaultLines
-pub mod UnderFiles
+pub mod ElementFiles

@@ -1,21 +1,30 @@
 //! What the command `collectd dump` does with what it is given.
 
+ghost use Rattle.std.specs.Prelude.{◌≡◌, false, [], ◌∷◌, map};
+ghost use Rattle.std.specs.Io.KnownBytes.{Appends};
 ghost use Rattle.ipfix_dump.specs.DumpLines.{dump_line};
-ghost use Rattle.ipfix_dump.specs.JsonLines.{json_line};
+ghost use Rattle.ipfix_dump.specs.Dumped.{line_in};
+ghost use Rattle.input_files.specs.Loaded.{Loads};
+ghost use Rattle.report_writing.specs.Statuses.{number_of};
 ghost use Rattle.report_writing.specs.Told.{AreTold};
+ghost use Rattle.report_sessions.specs.ReportLines.{report_lines};
+ghost use Rattle.report_sessions.specs.ToldLines.{told_lines};
 ghost use Rattle.command_dump.specs.Dumps.{RunsDump};
+ghost use Rattle.command_dump.specs.ElementFiles.{RunsAfterFiles};
 
-use crate::dump_in_full::dump_to_end;
+use crate::ending::dump_to_end;
+use crate::job::DumpJob;
 use element_registry::Elements;
-use ipfix_dump::{JsonLine, Line, RecordLine};
+use input_files::{ReadText, load_elements};
+use ipfix_dump::{DumpOptions, Form};
 use ipfix_session::Source;
-use report_writing::{NOTHING_MORE, Origin, WriteLines};
+use report_writing::{NOTHING_MORE, Origin, Status, WriteLines};
 use std::alloc::Global;
 use std::io::Write;
 
 /// Dumps a source to `out`, and answers the exit status: 0 if all went well; 1 if the session ended
 /// with a fault; 3 if a line couldn't be made or written. To `err` it writes the report of
-/// the session, or at status 3 the line of that fault alone. A fault of `err` is passed over.
+/// the session, or at status 3 only the line of that fault. A fault of `err` is passed over.
 pub fn run_dump<S: Source, W: Write, E: WriteLines>(
     alloc: Global,
     source: &mut S,
@@ -23,46 +32,51 @@ pub fn run_dump<S: Source, W: Write, E: WriteLines>(
     err: &mut E,
 ) -> u8
     ensures runs { RunsDump dump_line S.seen source.old source.new
-        (W.contents out.old) (W.contents out.new) result
+        (W.contents out.old) (W.contents out.new) result false
+        (λ full. report_lines (full.report ∷ []))
         (AreTold (E.contents err.old) (E.contents err.new) (E.failed err.new)) }
     ensures kept { E.failed err.old → E.failed err.new }
 {
     let elements = Elements::built_in(alloc);
-    let mut line = Line::new(alloc, &elements);
-    run_dump_by(alloc, &elements, &mut line, source, out, err)
-}
-
-/// Does the same with an object of JSON (RFC 8259) for each data record, on a line of its own.
-pub fn run_dump_json<S: Source, W: Write, E: WriteLines>(
-    alloc: Global,
-    source: &mut S,
-    out: &mut W,
-    err: &mut E,
-) -> u8
-    ensures runs { RunsDump json_line S.seen source.old source.new
-        (W.contents out.old) (W.contents out.new) result
-        (AreTold (E.contents err.old) (E.contents err.new) (E.failed err.new)) }
-    ensures kept { E.failed err.old → E.failed err.new }
-{
-    let elements = Elements::built_in(alloc);
-    let mut line = JsonLine::new(alloc, &elements);
-    run_dump_by(alloc, &elements, &mut line, source, out, err)
-}
-
-// Dumps with lines that `line` makes, and tells nothing more.
-fn run_dump_by<L: RecordLine, S: Source, W: Write, E: WriteLines>(
-    alloc: Global,
-    elements: &Elements,
-    line: &mut L,
-    source: &mut S,
-    out: &mut W,
-    err: &mut E,
-) -> u8
-    ensures runs { RunsDump (L.line_of line.old) S.seen source.old source.new
-        (W.contents out.old) (W.contents out.new) result
-        (AreTold (E.contents err.old) (E.contents err.new) (E.failed err.new)) }
-    ensures kept { E.failed err.old → E.failed err.new }
-{
+    let options = DumpOptions {
+        form: Form::Text,
+        elements: &elements,
+    };
     let (origin, telling) = (Origin::Unknown, NOTHING_MORE);
-    dump_to_end(alloc, elements, line, source, &origin, telling, out, err)
+    dump_to_end(alloc, &options, &origin, telling, source, out, err).number()
+}
+
+/// Reads files of elements, as [`load_elements`] does, and then does as [`run_dump`], in the form of the job,
+/// and with elements that are named and values that are read by these files. It tells more of the session if
+/// the job's telling asks for it, with the job's origin. If the telling is strict, the status is 1 also if
+/// anything shows that something which was sent wasn't dumped
+/// ([`are_spotless`](report_sessions::are_spotless)). It is `NotOpened` if a file was not read: then nothing is read of
+/// the source, and nothing is written.
+pub fn run_dump_with<T: ReadText, S: Source, W: Write, E: WriteLines>(
+    files: &T,
+    alloc: Global,
+    job: &DumpJob,
+    source: &mut S,
+    out: &mut W,
+    err: &mut E,
+) -> Status
+    ensures runs { RunsAfterFiles
+        (Loads (T.has files.now) (T.refuses files.now) job.now.telling []
+        (map (λ path. path.now) job.now.element_files.now))
+        (λ known. RunsDump (line_in job.now.form known) S.seen source.old source.new
+        (W.contents out.old) (W.contents out.new) (number_of result) job.now.telling.strict
+        (λ full. told_lines job.now.telling known (job.now.origin ∷ []) (full ∷ [])))
+        ((source.new ≡ source.old) × Appends (W.contents out.old) (W.contents out.new) [])
+        (AreTold (E.contents err.old) (E.contents err.new) (E.failed err.new)) result }
+    ensures kept { E.failed err.old → E.failed err.new }
+{
+    let elements = match load_elements(files, alloc, job.element_files, job.telling, err) {
+        Some(elements) => elements,
+        None => return Status::NotOpened,
+    };
+    let options = DumpOptions {
+        form: job.form,
+        elements: &elements,
+    };
+    dump_to_end(alloc, &options, &job.origin, job.telling, source, out, err)
 }

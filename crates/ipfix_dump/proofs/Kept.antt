@@ -7,7 +7,7 @@ use Rattle.std.proofs.lemmas.Option.{same_Some}
 use Rattle.ipfix_wire.specs.declared.specifier.ElementId.{ElementId}
 use Rattle.element_registry.specs.Registries.{Known}
 use Rattle.ipfix_dump.specs.LineParts.{IsKept, IsLabel}
-use Rattle.ipfix_dump.specs.declared.label.Form.{Form}
+use Rattle.ipfix_dump.specs.declared.options.Form.{Form}
 use Rattle.ipfix_dump.specs.declared.label.Label.{Label}
 
 same_element : (a b : ElementId) → true ≡ ((a.pen == b.pen) && (a.number == b.number)) → a ≡ b

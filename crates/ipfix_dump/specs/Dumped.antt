@@ -13,7 +13,14 @@ use Rattle.ipfix_session.specs.Places.{ReportsInFull}
 use Rattle.ipfix_session.specs.declared.driver.TheConstants.{READ_LIMIT}
 use Rattle.element_registry.specs.Registries.{Known}
 use Rattle.ipfix_dump.specs.DumpLines.{dump_line, dump_line_under}
-use Rattle.ipfix_dump.specs.JsonLines.{json_line, json_line_under}
+use Rattle.ipfix_dump.specs.JsonLines.{json_line_under}
+use Rattle.ipfix_dump.specs.declared.options.Form.{Form}
+use Rattle.ipfix_dump.specs.declared.options.Form.TheVariants.{Text, Json}
+
+-- the line of a record in a form, with the elements of files
+abbrev pub line_in : Form → List Known → DataRecord → List ℕ
+line_in Text = dump_line_under
+line_in Json = json_line_under
 
 -- with the line of a record
 module _ (line_of : DataRecord → List ℕ) where
@@ -26,10 +33,8 @@ module _ (line_of : DataRecord → List ℕ) where
   -- the same, and the full report is of these messages: what each domain passed over, what is unaccounted for in it, and
   -- where the first message begins that doesn't count
   pub record DumpsInFullBy {S : Type 0} (seen : S → SourceView) (before after : S) (old new : Option (List ℕ)) (full : FullReport) : Type 0 where
-    pub records : List DataRecord
-    pub given : IsGiven seen READ_LIMIT before after full.report records
-    pub in_full : ReportsInFull full given.counted (length records)
-    pub written : Appends old new (flat_map line_of records)
+    pub dumps : DumpsBy seen before after old new full.report
+    pub in_full : ReportsInFull full dumps.given.counted (length dumps.records)
 
   -- if a source tells its octets, the lines of all of them were written, and no fault was met
   abbrev pub DumpsAllBy : Option (List ℕ) → Option (List ℕ) → Option (List ℕ) → Type 0
@@ -39,14 +44,3 @@ module _ (line_of : DataRecord → List ℕ) where
 -- by lines of text
 abbrev pub Dumps : {S : Type 0} → (S → SourceView) → S → S → Option (List ℕ) → Option (List ℕ) → SessionReport → Type 0
 Dumps = DumpsBy dump_line
-
--- by lines of JSON
-abbrev pub DumpsJson : {S : Type 0} → (S → SourceView) → S → S → Option (List ℕ) → Option (List ℕ) → SessionReport → Type 0
-DumpsJson = DumpsBy json_line
-
--- with the elements of files
-abbrev pub DumpsUnder : List Known → {S : Type 0} → (S → SourceView) → S → S → Option (List ℕ) → Option (List ℕ) → SessionReport → Type 0
-DumpsUnder known = DumpsBy (dump_line_under known)
-
-abbrev pub DumpsJsonUnder : List Known → {S : Type 0} → (S → SourceView) → S → S → Option (List ℕ) → Option (List ℕ) → SessionReport → Type 0
-DumpsJsonUnder known = DumpsBy (json_line_under known)

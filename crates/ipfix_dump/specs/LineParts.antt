@@ -4,8 +4,8 @@ use Rattle.ipfix_wire.specs.declared.specifier.ElementId.{ElementId}
 use Rattle.ipfix_message.specs.declared.record.DataRecord.{DataRecord}
 use Rattle.element_registry.specs.Registries.{Known, kind_under, name_under}
 use Rattle.ipfix_dump.specs.DumpLines.{labelled}
-use Rattle.ipfix_dump.specs.declared.label.Form.{Form}
-use Rattle.ipfix_dump.specs.declared.label.Form.TheVariants.{Text, Json}
+use Rattle.ipfix_dump.specs.declared.options.Form.{Form}
+use Rattle.ipfix_dump.specs.declared.options.Form.TheVariants.{Text, Json}
 use Rattle.ipfix_dump.specs.declared.label.Label.{Label}
 
 -- what a line begins with: domain, template, export time and scope field count

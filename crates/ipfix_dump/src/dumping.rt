@@ -1,12 +1,13 @@
 //! Dumping a source: a line for each data record.
 
 ghost use Rattle.std.specs.Prelude.{IfOk};
-ghost use Rattle.ipfix_dump.specs.Dumped.{Dumps, DumpsBy, DumpsInFullBy, DumpsJson, DumpsJsonUnder, DumpsUnder};
+ghost use Rattle.ipfix_dump.specs.Dumped.{Dumps, DumpsInFullBy, line_in};
 
 use crate::fault::DumpFault;
 use crate::json_line::JsonLine;
 use crate::line::Line;
 use crate::line_sink::LineSink;
+use crate::options::{DumpOptions, Form};
 use crate::record_line::RecordLine;
 use element_registry::Elements;
 use ipfix_session::{FullReport, READ_LIMIT, SessionReport, Source, drive_in_full};
@@ -28,64 +29,35 @@ pub fn dump<S: Source, W: Write>(
         Dumps S.seen source.old source.new (W.contents out.old) (W.contents out.new) report) }
 {
     let elements = Elements::built_in(alloc);
-    dump_under(alloc, &elements, source, out)
+    let options = DumpOptions {
+        form: Form::Text,
+        elements: &elements,
+    };
+    let full = dump_with(alloc, &options, source, out)?;
+    Ok(full.report)
 }
 
-/// Does the same with an object of JSON (RFC 8259) for each data record, on a line of its own.
-pub fn dump_json<S: Source, W: Write>(
+/// Does what [`dump`] does, with the lines that `options` say, and reports in full: with the balances of the
+/// domains, and the place of the message that ended the session.
+pub fn dump_with<S: Source, W: Write>(
     alloc: Global,
+    options: &DumpOptions,
     source: &mut S,
     out: &mut W,
-) -> Result<SessionReport, DumpFault>
-    ensures { IfOk result (λ report.
-        DumpsJson S.seen source.old source.new (W.contents out.old) (W.contents out.new) report) }
+) -> Result<FullReport, DumpFault>
+    ensures { IfOk result (λ full.
+        DumpsInFullBy (line_in options.now.form options.now.elements.now) S.seen
+        source.old source.new (W.contents out.old) (W.contents out.new) full) }
 {
-    let elements = Elements::built_in(alloc);
-    dump_json_under(alloc, &elements, source, out)
+    let elements = options.elements;
+    match options.form {
+        Form::Text => dump_by(alloc, &mut Line::new(alloc, elements), source, out),
+        Form::Json => dump_by(alloc, &mut JsonLine::new(alloc, elements), source, out),
+    }
 }
 
-/// Does what [`dump`] does, and names elements and reads their values as `elements` says.
-pub fn dump_under<S: Source, W: Write>(
-    alloc: Global,
-    elements: &Elements,
-    source: &mut S,
-    out: &mut W,
-) -> Result<SessionReport, DumpFault>
-    ensures { IfOk result (λ report. DumpsUnder elements.now S.seen source.old source.new
-        (W.contents out.old) (W.contents out.new) report) }
-{
-    dump_by(alloc, &mut Line::new(alloc, elements), source, out)
-}
-
-/// Does what [`dump_json`] does, and names elements and reads their values as `elements` says.
-pub fn dump_json_under<S: Source, W: Write>(
-    alloc: Global,
-    elements: &Elements,
-    source: &mut S,
-    out: &mut W,
-) -> Result<SessionReport, DumpFault>
-    ensures { IfOk result (λ report. DumpsJsonUnder elements.now S.seen source.old source.new
-        (W.contents out.old) (W.contents out.new) report) }
-{
-    dump_by(alloc, &mut JsonLine::new(alloc, elements), source, out)
-}
-
-/// Does the same with lines that `line` makes.
-pub fn dump_by<L: RecordLine, S: Source, W: Write>(
-    alloc: Global,
-    line: &mut L,
-    source: &mut S,
-    out: &mut W,
-) -> Result<SessionReport, DumpFault>
-    ensures { IfOk result (λ report. DumpsBy (L.line_of line.old) S.seen source.old source.new
-        (W.contents out.old) (W.contents out.new) report) }
-{
-    Ok(dump_in_full_by(alloc, line, source, out)?.report)
-}
-
-/// Does what [`dump_by`] does, and reports in full: with the balances of the domains, and the place of
-/// the message that ended the session.
-pub fn dump_in_full_by<L: RecordLine, S: Source, W: Write>(
+// Does the same with lines that `line` makes.
+fn dump_by<L: RecordLine, S: Source, W: Write>(
     alloc: Global,
     line: &mut L,
     source: &mut S,

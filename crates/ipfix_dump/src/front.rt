@@ -2,9 +2,9 @@
 
 ghost use Rattle.std.specs.Prelude.{◌≡◌, ◌++◌, true, OnOk, IsTrue};
 ghost use Rattle.ipfix_dump.specs.LineParts.{front_of, front_text};
-ghost use Rattle.ipfix_dump.specs.declared.label.Form.TheVariants as forms;
+ghost use Rattle.ipfix_dump.specs.declared.options.Form.TheVariants as forms;
 
-use crate::label::Form;
+use crate::options::Form;
 use crate::text::append_labelled;
 use ipfix_message::DataRecord;
 use std::alloc::{AllocError, Global};

@@ -3,12 +3,12 @@
 ghost use Rattle.std.specs.Prelude.{◌≡◌, ◌++◌, false, OnOk};
 ghost use Rattle.ipfix_message.specs.FieldViews.{field_of};
 ghost use Rattle.ipfix_dump.specs.JsonLines.{comma_if, json_field_under, json_fields_by, json_line_under};
-ghost use Rattle.ipfix_dump.specs.declared.label.Form.TheVariants as forms;
+ghost use Rattle.ipfix_dump.specs.declared.options.Form.TheVariants as forms;
 
-use crate::label::Form;
 use crate::labels::Labels;
 use crate::line_octets::LineOctets;
 use crate::line_parts::LineParts;
+use crate::options::Form;
 use crate::record_line::RecordLine;
 use crate::text::append_json_value;
 use element_registry::Elements;

@@ -3,21 +3,13 @@
 ghost use Rattle.std.specs.Prelude.{◌≡◌, ◌++◌, IfOk, OnOk};
 ghost use Rattle.ipfix_dump.specs.LineParts.{before_name as before_in, behind_name as behind_in, label_text, IsLabel};
 
+use crate::options::Form;
 use element_registry::{ElementKind, Elements};
 use ipfix_wire::ElementId;
 use std::alloc::{AllocError, Global};
 
 /// Room for each name that an element has built in, with what stands around it.
 const TEXT_ROOM: usize = 48;
-
-/// What labels are part of.
-#[derive(Clone, Copy, Debug, PartialEq, Eq)]
-pub enum Form {
-    /// A line of text.
-    Text,
-    /// An object of JSON.
-    Json,
-}
 
 impl Form {
     fn before_name(self) -> &'static str

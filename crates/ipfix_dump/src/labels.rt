@@ -4,8 +4,9 @@ ghost use Rattle.std.specs.Prelude.{◌≡◌, ◌++◌, All, None, IfOk, IfSome
 ghost use Rattle.element_registry.specs.Registries.{kind_under};
 ghost use Rattle.ipfix_dump.specs.LineParts.{label_text, IsKept, IsLabel};
 
-use crate::label::{Form, Label};
+use crate::label::Label;
 use crate::line_octets::LineOctets;
+use crate::options::Form;
 use element_registry::{ElementKind, Elements};
 use ipfix_wire::ElementId;
 use std::alloc::{AllocError, Global};

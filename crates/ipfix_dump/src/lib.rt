@@ -12,11 +12,10 @@ mod line;
 mod line_octets;
 mod line_parts;
 mod line_sink;
+mod options;
 mod record_line;
 mod text;
 
-pub use dumping::{dump, dump_by, dump_in_full_by, dump_json, dump_json_under, dump_under};
+pub use dumping::{dump, dump_with};
 pub use fault::DumpFault;
-pub use json_line::JsonLine;
-pub use line::Line;
-pub use record_line::RecordLine;
+pub use options::{DumpOptions, Form};

@@ -4,9 +4,9 @@ ghost use Rattle.std.specs.Prelude.{◌≡◌, OnOk};
 ghost use Rattle.ipfix_dump.specs.LineParts.{front_of};
 
 use crate::front::Front;
-use crate::label::Form;
 use crate::labels::Labels;
 use crate::line_octets::LineOctets;
+use crate::options::Form;
 use element_registry::Elements;
 use ipfix_message::DataRecord;
 use std::alloc::{AllocError, Global};

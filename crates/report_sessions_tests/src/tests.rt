@@ -4,9 +4,10 @@ mod unnamed;
 
 use element_registry::Elements;
 use flow_table::{Missing, Tally};
-use ipfix_dump::{Line, dump_in_full_by};
+use ipfix_dump::{DumpOptions, Form, dump_with};
 use ipfix_session::{FromReader, FullReport};
 use report_sessions::*;
+use report_writing::*;
 use std::alloc::Global;
 use std::io::{self, ErrorKind};
 use std::net::{Ipv4Addr, SocketAddr, SocketAddrV4};
@@ -34,8 +35,11 @@ fn report_of(alloc: Global, text: &[u8]) -> Result<FullReport, Fail> {
     let mut source = FromReader::new(text);
     let mut out = Vec::new(alloc);
     let elements = Elements::built_in(alloc);
-    let mut line = Line::new(alloc, &elements);
-    Ok(dump_in_full_by(alloc, &mut line, &mut source, &mut out)?)
+    let options = DumpOptions {
+        form: Form::Text,
+        elements: &elements,
+    };
+    Ok(dump_with(alloc, &options, &mut source, &mut out)?)
 }
 
 // Two sessions. In the first a data set comes before its template, and the third message is cut.

@@ -1,9 +1,13 @@
-use Rattle.std.proofs.Common.{ap, ◌∙◌}
-use Rattle.ipfix_dump.specs.DumpLines.{dump_line_under}
+use Rattle.std.proofs.Common.{[], ◌∷◌, refl}
+use Rattle.std.proofs.Math.Path.{fun_ext}
 use Rattle.ipfix_dump.proofs.Under.{lines_as_ever}
-use Rattle.command_dump.proofs.FullDumped.{alone_as_ever}
+use Rattle.report_writing.specs.declared.origin.Origin.TheVariants.{Unknown}
+use Rattle.report_writing.specs.declared.telling.TheConstants.{NOTHING_MORE}
+use Rattle.report_sessions.proofs.Untold.{told_plain}
 use Rattle.command_dump.proofs.dump.run_dump.Goals as goal
 
 pub returns-clause-runs : goal.returns-clause-runs
 returns-clause-runs g c =
-    alone_as_ever _ _ _ _ _ _ _ _ (ap dump_line_under (c.new-line.ensures ∙ c.built_in-elements.ensures) ∙ lines_as_ever) _ c.run_dump_by.ensures.runs
+    let told = fun_ext (λ full. told_plain NOTHING_MORE refl refl [] (Unknown ∷ []) (full ∷ [])) in
+    let runs = rw (c.built_in-elements.ensures, lines_as_ever, told) at c.dump_to_end.ensures.runs in
+    rw c.number.ensures runs

@@ -1,4 +1,6 @@
 use Rattle.command_dump.proofs.dump_fault.write_dump_fault.Goals as goal
 
-pub returns-clause-told : goal.returns-clause-told
-returns-clause-told g c = rw (c.number.ensures, c.name.ensures) at c.write_fault.ensures.told
+pub returns : goal.returns
+returns g c =
+    let written = c.write_fault.ensures in
+    record { told = rw (c.number.ensures, c.name.ensures) at written.told; failed = written.failed; kept = written.kept }

@@ -1,14 +1,14 @@
-//! Dumping a source to its end, with the report in full.
+//! Dumping a source to its end, and telling how it ended.
 
 ghost use Rattle.std.specs.Prelude.{◌≡◌, ◌⊎◌, ◌↔◌, [], ◌∷◌, IfOk, IsTrue};
-ghost use Rattle.ipfix_dump.specs.Dumped.{DumpsInFullBy};
+ghost use Rattle.ipfix_dump.specs.Dumped.{DumpsInFullBy, line_in};
+ghost use Rattle.report_writing.specs.Statuses.{number_of};
 ghost use Rattle.report_writing.specs.Told.{AreTold};
 ghost use Rattle.report_sessions.specs.ToldLines.{told_lines};
-ghost use Rattle.command_dump.specs.Dumps.{EndedWell, RunsDumpInFull};
+ghost use Rattle.command_dump.specs.Dumps.{EndedWell, RunsDump};
 
 use crate::dump_fault::write_dump_fault;
-use element_registry::Elements;
-use ipfix_dump::{DumpFault, RecordLine, dump_in_full_by};
+use ipfix_dump::{DumpFault, DumpOptions, dump_with};
 use ipfix_session::{FullReport, Source};
 use report_sessions::{are_spotless, write_told_reports};
 use report_writing::{Origin, Status, Telling, WriteLines};
@@ -16,39 +16,39 @@ use std::alloc::Global;
 use std::io::Write;
 use std::slice;
 
-/// Dumps a source to `out` with lines that `line` makes, and answers the exit status. To `err` it writes what
-/// there is to tell of the session, or at status 3 the line of the fault alone. A fault of `err` is passed
+/// Dumps a source to `out` with the lines that `options` say, and answers how it ended. To `err` it writes what
+/// there is to tell of the session, or if the dump failed only the line of the fault. A fault of `err` is passed
 /// over.
-pub fn dump_to_end<L: RecordLine, S: Source, W: Write, E: WriteLines>(
+pub fn dump_to_end<S: Source, W: Write, E: WriteLines>(
     alloc: Global,
-    elements: &Elements,
-    line: &mut L,
-    source: &mut S,
+    options: &DumpOptions,
     origin: &Origin,
     telling: Telling,
+    source: &mut S,
     out: &mut W,
     err: &mut E,
-) -> u8
-    ensures runs { RunsDumpInFull (L.line_of line.old) S.seen source.old source.new
-        (W.contents out.old) (W.contents out.new) result telling.strict
-        (λ full. told_lines telling elements.now (origin.now ∷ []) (full ∷ []))
+) -> Status
+    ensures runs { RunsDump (line_in options.now.form options.now.elements.now) S.seen
+        source.old source.new (W.contents out.old) (W.contents out.new)
+        (number_of result) telling.strict
+        (λ full. told_lines telling options.now.elements.now (origin.now ∷ []) (full ∷ []))
         (AreTold (E.contents err.old) (E.contents err.new) (E.failed err.new)) }
     ensures kept { E.failed err.old → E.failed err.new }
 {
-    match dump_whole(alloc, line, source, out) {
+    match dump_whole(alloc, options, source, out) {
         Ok(full) => {
             let _ = write_told_reports(
                 telling,
-                elements,
+                options.elements,
                 slice::from_ref(origin),
                 slice::from_ref(&full),
                 err,
             );
-            end_of(telling.strict, &full).number()
+            end_of(telling.strict, &full)
         }
         Err(fault) => {
             let _ = write_dump_fault(fault, err);
-            Status::Failed.number()
+            Status::Failed
         }
     }
 }
@@ -77,16 +77,17 @@ fn ended_well(strict: bool, full: &FullReport) -> bool
 }
 
 // Dumps a source, and sees to it that nothing is left in the writer's buffer.
-fn dump_whole<L: RecordLine, S: Source, W: Write>(
+fn dump_whole<S: Source, W: Write>(
     alloc: Global,
-    line: &mut L,
+    options: &DumpOptions,
     source: &mut S,
     out: &mut W,
 ) -> Result<FullReport, DumpFault>
-    ensures { IfOk result (λ full. DumpsInFullBy (L.line_of line.old) S.seen source.old source.new
-        (W.contents out.old) (W.contents out.new) full) }
+    ensures { IfOk result (λ full.
+        DumpsInFullBy (line_in options.now.form options.now.elements.now) S.seen
+        source.old source.new (W.contents out.old) (W.contents out.new) full) }
 {
-    let full = dump_in_full_by(alloc, line, source, out)?;
+    let full = dump_with(alloc, options, source, out)?;
     match out.flush() {
         Ok(()) => Ok(full),
         Err(error) => Err(DumpFault::from(error)),

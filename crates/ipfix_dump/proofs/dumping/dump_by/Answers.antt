@@ -3,7 +3,7 @@ use Rattle.std.specs.List.{flat_map}
 use Rattle.std.specs.Io.KnownBytes.{Appends}
 use Rattle.ipfix_dump.proofs.InFull.{took_in_full}
 use Rattle.ipfix_dump.proofs.Writing.{writes_lines}
-use Rattle.ipfix_dump.proofs.dumping.dump_in_full_by.Goals as goal
+use Rattle.ipfix_dump.proofs.dumping.dump_by.Goals as goal
 
 pub returns-in-None : goal.returns-in-None
 returns-in-None g c =
@@ -14,4 +14,4 @@ returns-in-None g c =
     let name = same ∙ c.new-sink.ensures.same_writer in
     let lines = subst (λ l. Appends (held c.new-sink.result.out.now) (held c.drive_in_full-full.new.sink.out.now) (flat_map (line l) k.records)) c.new-sink.ensures.same_line written in
     let bytes = subst (λ w. Appends (held w) (held c.drive_in_full-full.new.sink.out.now) (flat_map (line c.args.line.now) k.records)) c.new-sink.ensures.nothing_written lines in
-    record { records = k.records; given = k.given; in_full = k.in_full; written = search rules }
+    record { dumps = record { records = k.records; given = k.given; written = search rules }; in_full = k.in_full }

@@ -1,0 +1,18 @@
+//! What a run of the dump is to do.
+
+use ipfix_dump::Form;
+use report_writing::{Origin, Telling};
+
+/// What a run of the dump is to do.
+#[derive(Clone, Copy)]
+pub struct DumpJob<'a> {
+    /// What each data record becomes.
+    pub form: Form,
+    /// The paths of files of elements, in the order in which they are read. By these files, elements are named
+    /// and their values are read.
+    pub element_files: &'a [&'a str],
+    /// Whose session it is.
+    pub origin: Origin<'a>,
+    /// What is told beside the lines that always stand.
+    pub telling: Telling,
+}
