@@ -12,7 +12,7 @@ use input_files::load_elements;
 use input_sources::{Noted, load_plan_under};
 use ipfix_dump::Form;
 use output_tables::{Output, write_export_fault};
-use report_writing::{Remembering, Status, Telling};
+use report_writing::{CheckedWriter, Status, Verbosity};
 use std::fs::File;
 use std::io::{BufWriter, Stderr, Stdout, Write};
 use std::time::Duration;
@@ -50,12 +50,12 @@ pub struct Job {
 /// The files of elements and the plan, which are read here, and the options. If a file has a fault, or there
 /// is no plan, standard error has a line.
 pub fn read_job(rt: &HostRuntime, chosen: &ArgMatches) -> Option<Job> {
-    let telling = read_telling(chosen);
-    let mut err = Remembering::new(rt.stderr());
+    let verbosity = read_verbosity(chosen);
+    let mut err = CheckedWriter::new(rt.stderr());
     let files = chosen.get_strs("elements").unwrap_or(&[]);
-    let elements = load_elements(rt, rt.alloc(), files, telling, &mut err)?;
+    let elements = load_elements(rt, rt.alloc(), files, verbosity, &mut err)?;
     let path = chosen.get_str("plan")?;
-    let plan = load_plan_under(rt, rt.alloc(), &elements, path, telling, &mut err)?;
+    let plan = load_plan_under(rt, rt.alloc(), &elements, path, verbosity, &mut err)?;
     let time = chosen.get_one::<u32>("time")?;
     let format = table_format(chosen.get_str("format")?)?;
     Some(Job {
@@ -130,8 +130,8 @@ pub fn read_dump_form(chosen: &ArgMatches) -> Option<Form> {
 }
 
 /// What is told on standard error beside the lines that always stand.
-pub fn read_telling(chosen: &ArgMatches) -> Telling {
-    Telling {
+pub fn read_verbosity(chosen: &ArgMatches) -> Verbosity {
+    Verbosity {
         verbose: chosen.get_flag("verbose"),
         strict: chosen.get_flag("strict"),
     }

@@ -10,7 +10,7 @@ mod timers;
 
 pub use inputs::{
     Collecting, Job, buffered_output, read_collecting, read_dump_form, read_idle, read_job,
-    read_paths, read_progress, read_telling, table_output,
+    read_paths, read_progress, read_verbosity, table_output,
 };
 pub use listening::listen_on;
 pub use progress_output::ProgressOutput;

@@ -1,6 +1,6 @@
-//! Listening for connections.
+//! SystemListener for connections.
 
-use report_writing::{Reason, Status, Telling, write_not_had_because};
+use report_writing::{Reason, Status, Verbosity, write_not_had_because};
 use std::io::Stderr;
 use std::net::TcpListener;
 
@@ -8,14 +8,14 @@ use std::net::TcpListener;
 pub fn listen_on(
     rt: &HostRuntime,
     addr: &str,
-    telling: Telling,
+    verbosity: Verbosity,
     err: &mut Stderr,
 ) -> Result<TcpListener, Status> {
     match TcpListener::bind(rt, addr) {
         Ok(listener) => Ok(listener),
         Err(error) => {
             let reason = Reason::of(&error);
-            let _ = write_not_had_because(telling, "listen", addr, reason, err);
+            let _ = write_not_had_because(verbosity, "listen", addr, reason, err);
             Err(Status::NotOpened)
         }
     }

@@ -9,7 +9,7 @@ pub use command_dump::{DumpJob, run_dump, run_dump_with, write_dump_fault};
 pub use command_merge::{run_merge, run_merge_in_full};
 pub use input_files::ReadText;
 pub use input_sources::{
-    Accepted, Listener, Listening, Note, Noted, NotedPeer, OpenSource, Opened, SystemFiles,
+    Accepted, Listener, Note, Noted, NotedPeer, OpenSource, Opened, SystemFiles, SystemListener,
     load_plan, load_plan_under, write_plan_fault,
 };
 pub use ipfix_dump::{DumpFault, Form, dump};
@@ -17,5 +17,5 @@ pub use ipfix_session::MessageCounter;
 pub use output_tables::{Output, write_export_fault};
 pub use report_sessions::{write_read_failed, write_reports, write_tally};
 pub use report_writing::{
-    Origin, Reason, Remembering, Status, Telling, write_not_had, write_not_had_because,
+    CheckedWriter, Origin, Reason, Status, Verbosity, write_not_had, write_not_had_because,
 };

@@ -3,17 +3,17 @@
 use clap::ArgMatches;
 use cli_inputs::{
     Collecting, Job, buffered_output, listen_on, read_collecting, read_dump_form, read_idle,
-    read_job, read_paths, read_progress, read_telling, table_output, write_refused,
+    read_job, read_paths, read_progress, read_verbosity, table_output, write_refused,
     write_refused_exports, write_refused_files, write_refused_output, write_refused_peers,
 };
 use command_collect::{CollectJob, run_files_in_full, run_tcp_in_full, write_limit};
 use command_dump::{DumpJob, run_dump_with, write_dump_fault};
 use command_merge::run_merge_in_full;
 use flow_collect::Pool;
-use input_sources::{Listening, Noted, SystemFiles};
+use input_sources::{Noted, SystemFiles, SystemListener};
 use ipfix_dump::DumpFault;
 use ipfix_session::{FromReader, Source};
-use report_writing::{Origin, Remembering, Status, Telling};
+use report_writing::{CheckedWriter, Origin, Status, Verbosity};
 use std::io::{Stderr, Write};
 use std::rt::Clock;
 use std::sync::Wait;
@@ -21,13 +21,13 @@ use std::thread::Threads;
 
 /// `collectd dump`: standard input to standard output.
 pub fn dump(rt: &HostRuntime, chosen: &ArgMatches) -> Result<u8, Status> {
-    let mut err = Remembering::new(rt.stderr());
+    let mut err = CheckedWriter::new(rt.stderr());
     let input = Noted::new(rt.alloc(), rt.stdin());
     let (Some(mut out), Ok(mut input)) = (buffered_output(rt), input) else {
         let _ = write_dump_fault(DumpFault::OutOfMemory, &mut err);
         return Err(Status::Failed);
     };
-    let telling = read_telling(chosen);
+    let verbosity = read_verbosity(chosen);
     let status = dump_source(
         rt,
         chosen,
@@ -36,13 +36,13 @@ pub fn dump(rt: &HostRuntime, chosen: &ArgMatches) -> Result<u8, Status> {
         &mut err,
     )?;
     write_refused(
-        telling,
+        verbosity,
         "read",
         "standard input",
         input.note(),
         &mut rt.stderr(),
     );
-    write_refused_output(telling, &out, &mut rt.stderr());
+    write_refused_output(verbosity, &out, &mut rt.stderr());
     Ok(status.number())
 }
 
@@ -52,14 +52,14 @@ fn dump_source<S: Source, W: Write>(
     chosen: &ArgMatches,
     source: &mut S,
     out: &mut W,
-    err: &mut Remembering<Stderr>,
+    err: &mut CheckedWriter<Stderr>,
 ) -> Result<Status, Status> {
     let job = DumpJob {
         // (the parser lets no other word through)
         form: read_dump_form(chosen).ok_or(Status::NotOpened)?,
         element_files: chosen.get_strs("elements").unwrap_or(&[]),
         origin: Origin::Unknown,
-        telling: read_telling(chosen),
+        verbosity: read_verbosity(chosen),
     };
     Ok(run_dump_with(rt, rt.alloc(), &job, source, out, err))
 }
@@ -71,7 +71,7 @@ pub fn files<R: Clock + Threads + Wait + Sync>(
     chosen: &ArgMatches,
 ) -> Result<u8, Status> {
     let mut err = rt.stderr();
-    let telling = read_telling(chosen);
+    let verbosity = read_verbosity(chosen);
     let paths = read_paths(chosen, &mut err)?;
     let Collecting {
         job,
@@ -85,14 +85,14 @@ pub fn files<R: Clock + Threads + Wait + Sync>(
         rt.alloc(),
         &mut files,
         paths,
-        &collect_job(&job, pool, telling),
+        &collect_job(&job, pool, verbosity),
         read_progress(&terminal, rt, chosen),
         &mut out,
-        &mut Remembering::new(rt.stderr()),
+        &mut CheckedWriter::new(rt.stderr()),
     );
-    write_refused_output(telling, &out, &mut err);
-    write_refused_pool(status, telling, pool, paths.len(), &mut err);
-    write_refused_files(status, telling, paths, files.notes(), &mut err);
+    write_refused_output(verbosity, &out, &mut err);
+    write_refused_pool(status, verbosity, pool, paths.len(), &mut err);
+    write_refused_files(status, verbosity, paths, files.notes(), &mut err);
     Ok(status)
 }
 
@@ -103,7 +103,7 @@ pub fn tcp<R: Clock + Threads + Wait + Sync>(
     chosen: &ArgMatches,
 ) -> Result<u8, Status> {
     let mut err = rt.stderr();
-    let telling = read_telling(chosen);
+    let verbosity = read_verbosity(chosen);
     let addr = chosen.get_str("listen").ok_or(Status::NotOpened)?;
     let sessions = chosen.get_one::<u32>("sessions").ok_or(Status::NotOpened)?;
     let Collecting {
@@ -112,8 +112,8 @@ pub fn tcp<R: Clock + Threads + Wait + Sync>(
         mut out,
         terminal,
     } = read_collecting(rt, chosen, &mut err)?;
-    let listener = listen_on(rt, addr, telling, &mut err)?;
-    let mut listening = Listening::new(rt.alloc(), listener);
+    let listener = listen_on(rt, addr, verbosity, &mut err)?;
+    let mut listening = SystemListener::new(rt.alloc(), listener);
     let status = run_tcp_in_full(
         threads,
         rt.alloc(),
@@ -121,14 +121,14 @@ pub fn tcp<R: Clock + Threads + Wait + Sync>(
         addr,
         sessions as usize,
         read_idle(chosen),
-        &collect_job(&job, pool, telling),
+        &collect_job(&job, pool, verbosity),
         read_progress(&terminal, rt, chosen),
         &mut out,
-        &mut Remembering::new(rt.stderr()),
+        &mut CheckedWriter::new(rt.stderr()),
     );
-    write_refused_output(telling, &out, &mut err);
-    write_refused_pool(status, telling, pool, sessions as usize, &mut err);
-    write_refused_peers(status, telling, listening.peers(), &mut err);
+    write_refused_output(verbosity, &out, &mut err);
+    write_refused_pool(status, verbosity, pool, sessions as usize, &mut err);
+    write_refused_peers(status, verbosity, listening.peers(), &mut err);
     Ok(status)
 }
 
@@ -139,7 +139,7 @@ pub fn merge(rt: &HostRuntime, chosen: &ArgMatches) -> Result<u8, Status> {
     let job = read_job(rt, chosen).ok_or(Status::NotOpened)?;
     let mut out = table_output(rt, &mut err)?;
     let mut files = SystemFiles::new(rt, rt.alloc());
-    let telling = read_telling(chosen);
+    let verbosity = read_verbosity(chosen);
     let status = run_merge_in_full(
         &mut files,
         rt.alloc(),
@@ -147,30 +147,36 @@ pub fn merge(rt: &HostRuntime, chosen: &ArgMatches) -> Result<u8, Status> {
         &job.elements,
         &job.plan,
         job.output,
-        telling,
+        verbosity,
         &mut out,
-        &mut Remembering::new(rt.stderr()),
+        &mut CheckedWriter::new(rt.stderr()),
     );
-    write_refused_output(telling, &out, &mut err);
-    write_refused_exports(telling, paths, files.notes(), &mut err);
+    write_refused_output(verbosity, &out, &mut err);
+    write_refused_exports(verbosity, paths, files.notes(), &mut err);
     Ok(status)
 }
 
 // What a run is to do with what it collects.
-fn collect_job<'a>(job: &'a Job, pool: Pool, telling: Telling) -> CollectJob<'a> {
+fn collect_job<'a>(job: &'a Job, pool: Pool, verbosity: Verbosity) -> CollectJob<'a> {
     CollectJob {
         elements: &job.elements,
         plan: &job.plan,
         pool,
         output: job.output,
-        telling,
+        verbosity,
     }
 }
 
 // What a pool and that many sessions may be, if the run failed by them: `err` has a
-// line if `telling` is verbose.
-fn write_refused_pool(status: u8, telling: Telling, pool: Pool, sessions: usize, err: &mut Stderr) {
+// line if `verbosity` is verbose.
+fn write_refused_pool(
+    status: u8,
+    verbosity: Verbosity,
+    pool: Pool,
+    sessions: usize,
+    err: &mut Stderr,
+) {
     if status == Status::Failed.number() {
-        let _ = write_limit(telling, pool, sessions, err);
+        let _ = write_limit(verbosity, pool, sessions, err);
     }
 }

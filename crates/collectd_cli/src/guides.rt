@@ -4,11 +4,11 @@ use clap::ArgMatches;
 use cli_inputs::{WITH_REASONS, buffered_output};
 use command_elements::{run_elements, write_out_of_memory};
 use command_explain::run_explain;
-use report_writing::{Remembering, Status};
+use report_writing::{CheckedWriter, Status};
 
 /// `collectd elements`: the elements that are known, or those that a word fits, to standard output.
 pub fn elements(rt: &HostRuntime, chosen: &ArgMatches) -> Result<u8, Status> {
-    let mut err = Remembering::new(rt.stderr());
+    let mut err = CheckedWriter::new(rt.stderr());
     let Some(mut out) = buffered_output(rt) else {
         let _ = write_out_of_memory(&mut err);
         return Err(Status::Failed);

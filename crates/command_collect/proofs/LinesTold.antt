@@ -16,7 +16,7 @@ use Rattle.report_writing.specs.OpeningLines.{if_verbose, opened_line}
 use Rattle.report_sessions.specs.ReportLines.{report_lines, tally_line}
 use Rattle.report_writing.specs.Told.{AreTold}
 use Rattle.report_writing.specs.declared.origin.Origin.{Origin}
-use Rattle.report_writing.specs.declared.telling.Telling.{Telling}
+use Rattle.report_writing.specs.declared.verbosity.Verbosity.{Verbosity}
 use Rattle.report_writing.proofs.LinesTold.{both_told, told_then}
 use Rattle.report_sessions.proofs.Untold.{told_plain}
 use Rattle.input_sources.specs.InputsTold.{opened_lines, StopsAt, TellsPeers}
@@ -29,34 +29,34 @@ fault_behind IsUntouched Told AreTold behind (inl collect) = inl (collect.0, col
 fault_behind IsUntouched Told AreTold behind (inr export) = inr (export.0, behind _ export.1)
 
 -- what is told of a table, by its tally and by what records lack
-pub table_lines : {T E : Type 0} (answer : Result T E) (telling : Telling) (known : List Known) (plan : PlanValue) (table : Table) (tally : Tally) (missing : Missing) (old mid new : Option (List ℕ)) → tally ≡ table.tally → missing ≡ table.missing
-    → Appends old mid (tally_line tally) → OnOk answer (Appends mid new (missing_told telling known plan missing)) → OnOk answer (Appends old new (table_told telling known plan table))
-table_lines (Ok x) telling known plan table tally missing old mid new is_tally is_missing first rest =
-    subst (λ (l : List ℕ). Appends old new l) (ap₂ (λ (x : Tally) (y : Missing). tally_line x ++ missing_told telling known plan y) is_tally is_missing)
-    (Appends-trans old mid new (tally_line tally) (missing_told telling known plan missing) first rest)
-table_lines (Err e) telling known plan table tally missing old mid new is_tally is_missing first rest = tt
+pub table_lines : {T E : Type 0} (answer : Result T E) (verbosity : Verbosity) (known : List Known) (plan : PlanValue) (table : Table) (tally : Tally) (missing : Missing) (old mid new : Option (List ℕ)) → tally ≡ table.tally → missing ≡ table.missing
+    → Appends old mid (tally_line tally) → OnOk answer (Appends mid new (missing_told verbosity known plan missing)) → OnOk answer (Appends old new (table_told verbosity known plan table))
+table_lines (Ok x) verbosity known plan table tally missing old mid new is_tally is_missing first rest =
+    subst (λ (l : List ℕ). Appends old new l) (ap₂ (λ (x : Tally) (y : Missing). tally_line x ++ missing_told verbosity known plan y) is_tally is_missing)
+    (Appends-trans old mid new (tally_line tally) (missing_told verbosity known plan missing) first rest)
+table_lines (Err e) verbosity known plan table tally missing old mid new is_tally is_missing first rest = tt
 
 -- without options nothing is told of it
-pub none_opened : (telling : Telling) → telling.verbose ≡ false → (n : ℕ) (origins : List Origin) → flat_map (λ (x : ℕ × Origin). if_verbose telling (opened_line x.0 x.1)) (enumerate_from n origins) ≡ []
-none_opened telling plain n [] = refl
-none_opened telling plain n (o ∷ origins) =
-    let nothing : if_verbose telling (opened_line n o) ≡ [] = rw plain refl in
-    ap (λ (l : List ℕ). l ++ flat_map (λ (x : ℕ × Origin). if_verbose telling (opened_line x.0 x.1)) (enumerate_from (n + 1) origins)) nothing ∙ none_opened telling plain (n + 1) origins
+pub none_opened : (verbosity : Verbosity) → verbosity.verbose ≡ false → (n : ℕ) (origins : List Origin) → flat_map (λ (x : ℕ × Origin). if_verbose verbosity (opened_line x.0 x.1)) (enumerate_from n origins) ≡ []
+none_opened verbosity plain n [] = refl
+none_opened verbosity plain n (o ∷ origins) =
+    let nothing : if_verbose verbosity (opened_line n o) ≡ [] = rw plain refl in
+    ap (λ (l : List ℕ). l ++ flat_map (λ (x : ℕ × Origin). if_verbose verbosity (opened_line x.0 x.1)) (enumerate_from (n + 1) origins)) nothing ∙ none_opened verbosity plain (n + 1) origins
 
-plain_table : (telling : Telling) → telling.verbose ≡ false → telling.strict ≡ false → (known : List Known) (plan : PlanValue) (table : Table) → table_told telling known plan table ≡ tally_line table.tally
-plain_table telling verbose strict known plan table =
-    let nothing : missing_told telling known plan table.missing ≡ [] = rw (verbose, strict) refl in
+plain_table : (verbosity : Verbosity) → verbosity.verbose ≡ false → verbosity.strict ≡ false → (known : List Known) (plan : PlanValue) (table : Table) → table_told verbosity known plan table ≡ tally_line table.tally
+plain_table verbosity verbose strict known plan table =
+    let nothing : missing_told verbosity known plan table.missing ≡ [] = rw (verbose, strict) refl in
     ap (λ (l : List ℕ). tally_line table.tally ++ l) nothing ∙ append-nil _
 
-pub plain_alone : (telling : Telling) → telling.verbose ≡ false → telling.strict ≡ false → (known : List Known) (plan : PlanValue) (origins : List Origin) (fulls : List FullReport) (table : Table)
-    → run_lines telling known plan origins fulls table ≡ report_lines (reports_in fulls) ++ tally_line table.tally
-plain_alone telling verbose strict known plan origins fulls table =
-    ap (λ (l : List ℕ). l ++ table_told telling known plan table) (told_plain telling verbose strict known origins fulls) ∙ ap (λ (l : List ℕ). report_lines (reports_in fulls) ++ l) (plain_table telling verbose strict known plan table)
+pub plain_alone : (verbosity : Verbosity) → verbosity.verbose ≡ false → verbosity.strict ≡ false → (known : List Known) (plan : PlanValue) (origins : List Origin) (fulls : List FullReport) (table : Table)
+    → run_lines verbosity known plan origins fulls table ≡ report_lines (reports_in fulls) ++ tally_line table.tally
+plain_alone verbosity verbose strict known plan origins fulls table =
+    ap (λ (l : List ℕ). l ++ table_told verbosity known plan table) (told_plain verbosity verbose strict known origins fulls) ∙ ap (λ (l : List ℕ). report_lines (reports_in fulls) ++ l) (plain_table verbosity verbose strict known plan table)
 
-pub plain_run : (telling : Telling) → telling.verbose ≡ false → telling.strict ≡ false → (known : List Known) (plan : PlanValue) (origins : List Origin) (fulls : List FullReport) (table : Table)
-    → opened_lines telling origins ++ run_lines telling known plan origins fulls table ≡ report_lines (reports_in fulls) ++ tally_line table.tally
-plain_run telling verbose strict known plan origins fulls table =
-    ap (λ (l : List ℕ). l ++ run_lines telling known plan origins fulls table) (none_opened telling verbose 1 origins) ∙ plain_alone telling verbose strict known plan origins fulls table
+pub plain_run : (verbosity : Verbosity) → verbosity.verbose ≡ false → verbosity.strict ≡ false → (known : List Known) (plan : PlanValue) (origins : List Origin) (fulls : List FullReport) (table : Table)
+    → opened_lines verbosity origins ++ run_lines verbosity known plan origins fulls table ≡ report_lines (reports_in fulls) ++ tally_line table.tally
+plain_run verbosity verbose strict known plan origins fulls table =
+    ap (λ (l : List ℕ). l ++ run_lines verbosity known plan origins fulls table) (none_opened verbosity verbose 1 origins) ∙ plain_alone verbosity verbose strict known plan origins fulls table
 
 -- ---- arguments that have a fault
 
@@ -69,25 +69,25 @@ refusal_told C (Some x) answered Status Untouched Told is status untouched told 
 -- ---- what stops a run
 
 -- a write behind the path at which a run stops
-pub stops_then : {T E : Type 0} (names : List (List ℕ)) (telling : Telling) (old mid new : Option (List ℕ)) (Before After : Type 0) (name ys : List ℕ) (answer : Result T E)
-    → StopsAt names telling (AreTold old mid Before) name → OnOk answer (Appends mid new ys) → OnErr answer After → (Before → After) → StopsAt names telling (λ lines. AreTold old new After (lines ++ ys)) name
-stops_then names telling old mid new Before After name ys answer stops ok err kept =
+pub stops_then : {T E : Type 0} (names : List (List ℕ)) (verbosity : Verbosity) (old mid new : Option (List ℕ)) (Before After : Type 0) (name ys : List ℕ) (answer : Result T E)
+    → StopsAt names verbosity (AreTold old mid Before) name → OnOk answer (Appends mid new ys) → OnErr answer After → (Before → After) → StopsAt names verbosity (λ lines. AreTold old new After (lines ++ ys)) name
+stops_then names verbosity old mid new Before After name ys answer stops ok err kept =
     record {
       before = stops.before;
       later = stops.later;
       place = stops.place;
       origins = stops.origins;
       named = stops.named;
-      told = told_then old mid new Before After answer (opened_lines telling stops.origins) ys stops.told ok err kept;
+      told = told_then old mid new Before After answer (opened_lines verbosity stops.origins) ys stops.told ok err kept;
     }
 
 -- and behind the connections that were accepted
-pub peers_then : {T E : Type 0} (telling : Telling) (old first mid new : Option (List ℕ)) (Start Before After : Type 0) (xs ys : List ℕ) (answer : Result T E)
-    → AreTold old first Start xs → TellsPeers telling (AreTold first mid Before) → OnOk answer (Appends mid new ys) → OnErr answer After → (Start → Before) → (Before → After)
-    → TellsPeers telling (λ lines. AreTold old new After (xs ++ (lines ++ ys)))
-peers_then telling old first mid new Start Before After xs ys answer start peers ok err before kept =
+pub peers_then : {T E : Type 0} (verbosity : Verbosity) (old first mid new : Option (List ℕ)) (Start Before After : Type 0) (xs ys : List ℕ) (answer : Result T E)
+    → AreTold old first Start xs → TellsPeers verbosity (AreTold first mid Before) → OnOk answer (Appends mid new ys) → OnErr answer After → (Start → Before) → (Before → After)
+    → TellsPeers verbosity (λ lines. AreTold old new After (xs ++ (lines ++ ys)))
+peers_then verbosity old first mid new Start Before After xs ys answer start peers ok err before kept =
     record {
       origins = peers.origins;
       peers = peers.peers;
-      told = both_told old first new Start After xs _ start (told_then first mid new Before After answer (opened_lines telling peers.origins) ys peers.told ok err kept) (λ failed. kept (before failed));
+      told = both_told old first new Start After xs _ start (told_then first mid new Before After answer (opened_lines verbosity peers.origins) ys peers.told ok err kept) (λ failed. kept (before failed));
     }

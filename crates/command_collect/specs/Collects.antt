@@ -10,7 +10,7 @@ use Rattle.flow_collect.specs.declared.collected.Pool.{Pool}
 use Rattle.flow_collect.specs.declared.fault.CollectFault.{CollectFault}
 use Rattle.report_sessions.specs.ReportLines.{report_lines, tally_line}
 use Rattle.report_writing.specs.declared.origin.Origin.{Origin}
-use Rattle.report_writing.specs.declared.telling.Telling.{Telling}
+use Rattle.report_writing.specs.declared.verbosity.Verbosity.{Verbosity}
 use Rattle.output_tables.specs.TableTexts.{Writes, WritesUnder}
 use Rattle.output_tables.specs.declared.output.Output.{Output}
 use Rattle.command_collect.specs.FullRuns.{fault_of_pool, RunsInFull}
@@ -47,8 +47,8 @@ module _ {S W : Type 0} (seen : S → SourceView) (AreHad : List S → Type 0) (
       (TellsFault (new ≡ old) AreTold) (TellsNotHad AreTold) (λ fault. AreTold (collect_fault_line fault))
 
   -- the same with the names that elements have under files, and told in full: behind the first lines, with origins
-  abbrev pub CollectsInFull : List Known → Telling → (List Origin → Type 0) → List ℕ → Type 0
-  CollectsInFull known telling AreOrigins first =
+  abbrev pub CollectsInFull : List Known → Verbosity → (List Origin → Type 0) → List ℕ → Type 0
+  CollectsInFull known verbosity AreOrigins first =
       Collects pool count status (new ≡ old)
-      (RunsInFull seen AreHad telling.strict plan pool status (λ fulls table. WritesUnder known plan output (contents old) (contents new) table × TellsRun AreOrigins telling known plan first AreTold fulls table))
-      (TellsFailedRun AreOrigins telling first (new ≡ old) AreTold) (TellsNotHad AreTold) (TellsRefusal AreOrigins telling first AreTold)
+      (RunsInFull seen AreHad verbosity.strict plan pool status (λ fulls table. WritesUnder known plan output (contents old) (contents new) table × TellsRun AreOrigins verbosity known plan first AreTold fulls table))
+      (TellsFailedRun AreOrigins verbosity first (new ≡ old) AreTold) (TellsNotHad AreTold) (TellsRefusal AreOrigins verbosity first AreTold)

@@ -15,7 +15,7 @@ use Rattle.flow_collect.specs.Texts.{AreTexts, HasNoFault}
 use Rattle.flow_collect.specs.declared.collected.CollectedInFull.{CollectedInFull}
 use Rattle.flow_collect.specs.declared.collected.Pool.{Pool}
 use Rattle.flow_collect.specs.declared.fault.CollectFault.{CollectFault}
-use Rattle.report_writing.specs.declared.telling.Telling.{Telling}
+use Rattle.report_writing.specs.declared.verbosity.Verbosity.{Verbosity}
 use Rattle.report_sessions.specs.MissingLines.{missing_told}
 use Rattle.report_sessions.specs.ReportLines.{tally_line}
 use Rattle.report_sessions.specs.Spotless.{IsSpotless}
@@ -33,8 +33,8 @@ WentWell true fulls table = IsSpotless fulls table.tally table.missing
 WentWell false fulls table = All (λ (full : FullReport). HasNoFault full.report) fulls
 
 -- what is told of a table: how many records there were of each class, and what they lack, by its name under files
-abbrev pub table_told : Telling → List Known → PlanValue → Table → List ℕ
-table_told telling known plan table = tally_line table.tally ++ missing_told telling known plan table.missing
+abbrev pub table_told : Verbosity → List Known → PlanValue → Table → List ℕ
+table_told verbosity known plan table = tally_line table.tally ++ missing_told verbosity known plan table.missing
 
 module _ {S : Type 0} (seen : S → SourceView) where
   -- what was collected ended as the last fact says it, of the sessions and their table; the status says that all was well

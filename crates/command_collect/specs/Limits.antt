@@ -4,7 +4,7 @@ use Rattle.flow_collect.specs.Faults.{number_of, name_of}
 use Rattle.flow_collect.specs.declared.fault.CollectFault.{CollectFault}
 use Rattle.flow_collect.specs.declared.fault.CollectFault.TheVariants.{Workers, Sessions, Link, NoThread, OutOfMemory, SumTooLarge}
 use Rattle.report_writing.specs.OpeningLines.{if_verbose}
-use Rattle.report_writing.specs.declared.telling.Telling.{Telling}
+use Rattle.report_writing.specs.declared.verbosity.Verbosity.{Verbosity}
 
 -- what is allowed where it has this fault; other faults have no limit
 abbrev pub limit_words : CollectFault → List ℕ
@@ -24,6 +24,6 @@ abbrev pub limit_line : CollectFault → List ℕ
 limit_line fault = limit_text (number_of fault) (name_of fault) (limit_words fault)
 
 -- only if it is asked for, and there is one
-abbrev pub limit_lines : Telling → Option CollectFault → List ℕ
-limit_lines telling (Some fault) = if_verbose telling (limit_line fault)
-limit_lines telling None = []
+abbrev pub limit_lines : Verbosity → Option CollectFault → List ℕ
+limit_lines verbosity (Some fault) = if_verbose verbosity (limit_line fault)
+limit_lines verbosity None = []

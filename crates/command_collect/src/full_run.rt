@@ -27,9 +27,9 @@ use std::io::{self, Write};
 use std::sync::Wait;
 use std::thread::Threads;
 
-/// Does as [`run`](crate::run), and tells more if `job.telling` asks for it: to `err` it writes the lines of the
+/// Does as [`run`](crate::run), and tells more if `job.verbosity` asks for it: to `err` it writes the lines of the
 /// sessions in full, each with the origin that has the session's place. Keys and counters have the names that
-/// `job.elements` give them. If the telling is strict, the status is 1 also if anything shows that something which
+/// `job.elements` give them. If the verbosity is strict, the status is 1 also if anything shows that something which
 /// was sent isn't in the table ([`is_spotless`](report_sessions::is_spotless)).
 pub fn run_in_full<S: Source + Send + Drop, W: Write, E: WriteLines, R: Threads + Wait + Sync>(
     rt: &R,
@@ -46,12 +46,12 @@ pub fn run_in_full<S: Source + Send + Drop, W: Write, E: WriteLines, R: Threads 
     // sessions and of the table's counts were told, and nothing else; all was well exactly if no session had
     // a fault, and if the run is strict exactly if it was spotless.
     ensures table { result ≢ number_of Status.Failed
-        → WritesTableInFull S.seen job.now.telling.strict sources.items job.now.plan.now job.now.pool result
+        → WritesTableInFull S.seen job.now.verbosity.strict sources.items job.now.plan.now job.now.pool result
         (λ fulls table.
         WritesUnder job.now.elements.now job.now.plan.now job.now.output
         (W.contents out.old) (W.contents out.new) table
         × AreToldTo E.contents E.failed err.old err.new
-        (run_lines job.now.telling job.now.elements.now job.now.plan.now origins.now fulls table)) }
+        (run_lines job.now.verbosity job.now.elements.now job.now.plan.now origins.now fulls table)) }
     // The table of all whole texts was written, and each of them ends with a whole message.
     ensures all { result ≡ number_of Status.Well
         → WritesWholeTable S.seen sources.items job.now.plan.now
@@ -79,7 +79,7 @@ pub fn run_in_full<S: Source + Send + Drop, W: Write, E: WriteLines, R: Threads 
         return Status::Failed.number();
     }
     let _ = tell(job, origins, &collected, err);
-    status_of(job.telling.strict, &collected).number()
+    status_of(job.verbosity.strict, &collected).number()
 }
 
 // How a run ended whose table is written.
@@ -137,18 +137,24 @@ fn tell<S, E: WriteLines>(
     err: &mut E,
 ) -> io::Result<()>
     ensures { Tells E.contents E.failed err.old err.new result
-        (run_lines job.now.telling job.now.elements.now job.now.plan.now origins.now
+        (run_lines job.now.verbosity job.now.elements.now job.now.plan.now origins.now
         collected.now.sessions.items collected.now.table) }
 {
-    write_told_reports(job.telling, job.elements, origins, &collected.sessions, err)?;
+    write_told_reports(
+        job.verbosity,
+        job.elements,
+        origins,
+        &collected.sessions,
+        err,
+    )?;
     tell_table(job, &collected.table, err)
 }
 
 // How many records there were of each class, and what of them lacked something.
 fn tell_table<E: WriteLines>(job: &CollectJob, table: &FlatTable, err: &mut E) -> io::Result<()>
     ensures { Tells E.contents E.failed err.old err.new result
-        (table_told job.now.telling job.now.elements.now job.now.plan.now table.now) }
+        (table_told job.now.verbosity job.now.elements.now job.now.plan.now table.now) }
 {
     write_tally(&table.tally(), err)?;
-    write_missing(job.telling, job.elements, job.plan, &table.missing(), err)
+    write_missing(job.verbosity, job.elements, job.plan, &table.missing(), err)
 }

@@ -6,7 +6,7 @@ use element_registry::Elements;
 use flow_collect::Pool;
 use flow_table::Plan;
 use output_tables::Output;
-use report_writing::{NOTHING_MORE, Telling};
+use report_writing::{NOTHING_MORE, Verbosity};
 
 /// What a run is to do with what it collects, wherever that comes from.
 #[derive(Clone, Copy)]
@@ -20,7 +20,7 @@ pub struct CollectJob<'a> {
     /// How the table is written.
     pub output: Output,
     /// What is told beside the lines that always stand.
-    pub telling: Telling,
+    pub verbosity: Verbosity,
 }
 
 impl<'a> CollectJob<'a> {
@@ -30,14 +30,14 @@ impl<'a> CollectJob<'a> {
         ensures plan { result.plan.now ≡ plan.now }
         ensures pool { result.pool ≡ pool }
         ensures output { result.output ≡ output }
-        ensures telling { result.telling ≡ NOTHING_MORE }
+        ensures verbosity { result.verbosity ≡ NOTHING_MORE }
     {
         CollectJob {
             elements,
             plan,
             pool,
             output,
-            telling: NOTHING_MORE,
+            verbosity: NOTHING_MORE,
         }
     }
 }

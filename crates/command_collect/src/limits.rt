@@ -7,35 +7,35 @@ ghost use Rattle.command_collect.specs.Limits.{limit_line, limit_lines, limit_te
 ghost use Rattle.report_writing.specs.Writing.{Tells};
 
 use flow_collect::{CollectFault, Pool, refusal};
-use report_writing::{NOTHING_MORE, Telling, WriteLines};
+use report_writing::{NOTHING_MORE, Verbosity, WriteLines};
 use std::io;
 
-/// Writes what is allowed, behind the fault, if `telling` is verbose and a run with this pool and so many
+/// Writes what is allowed, behind the fault, if `verbosity` is verbose and a run with this pool and so many
 /// sessions is refused for one of them. Otherwise nothing is written.
 pub fn write_limit<W: WriteLines>(
-    telling: Telling,
+    verbosity: Verbosity,
     pool: Pool,
     sessions: usize,
     out: &mut W,
 ) -> io::Result<()>
     ensures { Tells W.contents W.failed out.old out.new result
-        (limit_lines telling (fault_of_arguments pool sessions)) }
+        (limit_lines verbosity (fault_of_arguments pool sessions)) }
 {
     match refusal(pool, sessions) {
-        Some(fault) => write_if_verbose(telling, fault, out),
+        Some(fault) => write_if_verbose(verbosity, fault, out),
         None => Ok(()),
     }
 }
 
 fn write_if_verbose<W: WriteLines>(
-    telling: Telling,
+    verbosity: Verbosity,
     fault: CollectFault,
     out: &mut W,
 ) -> io::Result<()>
     ensures { Tells W.contents W.failed out.old out.new result
-        (if_verbose telling (limit_line fault)) }
+        (if_verbose verbosity (limit_line fault)) }
 {
-    if telling.verbose {
+    if verbosity.verbose {
         write_words(fault.number(), fault.name(), limit_words(fault), out)
     } else {
         Ok(())

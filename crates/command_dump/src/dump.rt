@@ -6,7 +6,7 @@ ghost use Rattle.ipfix_dump.specs.DumpLines.{dump_line};
 ghost use Rattle.ipfix_dump.specs.Dumped.{line_in};
 ghost use Rattle.input_files.specs.Loaded.{Loads};
 ghost use Rattle.report_writing.specs.Statuses.{number_of};
-ghost use Rattle.report_writing.specs.Told.{AreTold};
+ghost use Rattle.report_writing.specs.Told.{AreToldTo};
 ghost use Rattle.report_sessions.specs.ReportLines.{report_lines};
 ghost use Rattle.report_sessions.specs.ToldLines.{told_lines};
 ghost use Rattle.command_dump.specs.Dumps.{RunsDump};
@@ -34,7 +34,7 @@ pub fn run_dump<S: Source, W: Write, E: WriteLines>(
     ensures runs { RunsDump dump_line S.seen source.old source.new
         (W.contents out.old) (W.contents out.new) result false
         (λ full. report_lines (full.report ∷ []))
-        (AreTold (E.contents err.old) (E.contents err.new) (E.failed err.new)) }
+        (AreToldTo E.contents E.failed err.old err.new) }
     ensures kept { E.failed err.old → E.failed err.new }
 {
     let elements = Elements::built_in(alloc);
@@ -42,13 +42,13 @@ pub fn run_dump<S: Source, W: Write, E: WriteLines>(
         form: Form::Text,
         elements: &elements,
     };
-    let (origin, telling) = (Origin::Unknown, NOTHING_MORE);
-    dump_to_end(alloc, &options, &origin, telling, source, out, err).number()
+    let (origin, verbosity) = (Origin::Unknown, NOTHING_MORE);
+    dump_to_end(alloc, &options, &origin, verbosity, source, out, err).number()
 }
 
 /// Reads files of elements, as [`load_elements`] does, and then does as [`run_dump`], in the form of the job,
 /// and with elements that are named and values that are read by these files. It tells more of the session if
-/// the job's telling asks for it, with the job's origin. If the telling is strict, the status is 1 also if
+/// the job's verbosity asks for it, with the job's origin. If the verbosity is strict, the status is 1 also if
 /// anything shows that something which was sent wasn't dumped
 /// ([`are_spotless`](report_sessions::are_spotless)). It is `NotOpened` if a file was not read: then nothing is read of
 /// the source, and nothing is written.
@@ -61,16 +61,16 @@ pub fn run_dump_with<T: ReadText, S: Source, W: Write, E: WriteLines>(
     err: &mut E,
 ) -> Status
     ensures runs { RunsAfterFiles
-        (Loads (T.has files.now) (T.refuses files.now) job.now.telling []
+        (Loads (T.has files.now) (T.refuses files.now) job.now.verbosity []
         (map (λ path. path.now) job.now.element_files.now))
         (λ known. RunsDump (line_in job.now.form known) S.seen source.old source.new
-        (W.contents out.old) (W.contents out.new) (number_of result) job.now.telling.strict
-        (λ full. told_lines job.now.telling known (job.now.origin ∷ []) (full ∷ [])))
+        (W.contents out.old) (W.contents out.new) (number_of result) job.now.verbosity.strict
+        (λ full. told_lines job.now.verbosity known (job.now.origin ∷ []) (full ∷ [])))
         ((source.new ≡ source.old) × Appends (W.contents out.old) (W.contents out.new) [])
-        (AreTold (E.contents err.old) (E.contents err.new) (E.failed err.new)) result }
+        (AreToldTo E.contents E.failed err.old err.new) result }
     ensures kept { E.failed err.old → E.failed err.new }
 {
-    let elements = match load_elements(files, alloc, job.element_files, job.telling, err) {
+    let elements = match load_elements(files, alloc, job.element_files, job.verbosity, err) {
         Some(elements) => elements,
         None => return Status::NotOpened,
     };
@@ -78,5 +78,13 @@ pub fn run_dump_with<T: ReadText, S: Source, W: Write, E: WriteLines>(
         form: job.form,
         elements: &elements,
     };
-    dump_to_end(alloc, &options, &job.origin, job.telling, source, out, err)
+    dump_to_end(
+        alloc,
+        &options,
+        &job.origin,
+        job.verbosity,
+        source,
+        out,
+        err,
+    )
 }

@@ -1,9 +1,9 @@
-//! Dumping a source to its end, and telling how it ended.
+//! Dumping a source to its end, and verbosity how it ended.
 
 ghost use Rattle.std.specs.Prelude.{◌≡◌, ◌⊎◌, ◌↔◌, [], ◌∷◌, IfOk, IsTrue};
 ghost use Rattle.ipfix_dump.specs.Dumped.{DumpsInFullBy, line_in};
 ghost use Rattle.report_writing.specs.Statuses.{number_of};
-ghost use Rattle.report_writing.specs.Told.{AreTold};
+ghost use Rattle.report_writing.specs.Told.{AreToldTo};
 ghost use Rattle.report_sessions.specs.ToldLines.{told_lines};
 ghost use Rattle.command_dump.specs.Dumps.{EndedWell, RunsDump};
 
@@ -11,7 +11,7 @@ use crate::dump_fault::write_dump_fault;
 use ipfix_dump::{DumpFault, DumpOptions, dump_with};
 use ipfix_session::{FullReport, Source};
 use report_sessions::{are_spotless, write_told_reports};
-use report_writing::{Origin, Status, Telling, WriteLines};
+use report_writing::{Origin, Status, Verbosity, WriteLines};
 use std::alloc::Global;
 use std::io::Write;
 use std::slice;
@@ -23,28 +23,28 @@ pub fn dump_to_end<S: Source, W: Write, E: WriteLines>(
     alloc: Global,
     options: &DumpOptions,
     origin: &Origin,
-    telling: Telling,
+    verbosity: Verbosity,
     source: &mut S,
     out: &mut W,
     err: &mut E,
 ) -> Status
     ensures runs { RunsDump (line_in options.now.form options.now.elements.now) S.seen
         source.old source.new (W.contents out.old) (W.contents out.new)
-        (number_of result) telling.strict
-        (λ full. told_lines telling options.now.elements.now (origin.now ∷ []) (full ∷ []))
-        (AreTold (E.contents err.old) (E.contents err.new) (E.failed err.new)) }
+        (number_of result) verbosity.strict
+        (λ full. told_lines verbosity options.now.elements.now (origin.now ∷ []) (full ∷ []))
+        (AreToldTo E.contents E.failed err.old err.new) }
     ensures kept { E.failed err.old → E.failed err.new }
 {
     match dump_whole(alloc, options, source, out) {
         Ok(full) => {
             let _ = write_told_reports(
-                telling,
+                verbosity,
                 options.elements,
                 slice::from_ref(origin),
                 slice::from_ref(&full),
                 err,
             );
-            end_of(telling.strict, &full)
+            end_of(verbosity.strict, &full)
         }
         Err(fault) => {
             let _ = write_dump_fault(fault, err);

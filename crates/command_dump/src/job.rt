@@ -1,7 +1,7 @@
 //! What a run of the dump is to do.
 
 use ipfix_dump::Form;
-use report_writing::{Origin, Telling};
+use report_writing::{Origin, Verbosity};
 
 /// What a run of the dump is to do.
 #[derive(Clone, Copy)]
@@ -14,5 +14,5 @@ pub struct DumpJob<'a> {
     /// Whose session it is.
     pub origin: Origin<'a>,
     /// What is told beside the lines that always stand.
-    pub telling: Telling,
+    pub verbosity: Verbosity,
 }

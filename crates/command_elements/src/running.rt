@@ -13,7 +13,7 @@ use crate::error_lines::{write_failed, write_none};
 use crate::listing::list_elements;
 use element_registry::Elements;
 use input_files::{ReadText, load_elements};
-use report_writing::{Status, Telling, WriteLines};
+use report_writing::{Status, Verbosity, WriteLines};
 use std::alloc::Global;
 use std::io::Write;
 
@@ -26,7 +26,7 @@ pub fn run_elements<T: ReadText, W: Write, E: WriteLines>(
     alloc: Global,
     paths: &[&str],
     word: Option<&str>,
-    telling: Telling,
+    verbosity: Verbosity,
     out: &mut W,
     err: &mut E,
 ) -> Status
@@ -34,24 +34,24 @@ pub fn run_elements<T: ReadText, W: Write, E: WriteLines>(
         ⊎ (result ≡ Status.Failed) }
     // The lines of the elements that the word fits were written, and nothing else was; there is one.
     ensures listed { result ≡ Status.Well → Lists
-        (Loads (T.has files.now) (T.refuses files.now) telling [] (map (λ path. path.now) paths.now))
+        (Loads (T.has files.now) (T.refuses files.now) verbosity [] (map (λ path. path.now) paths.now))
         (option_map (λ w. w.now) word.entry) (Appends (W.contents out.old) (W.contents out.new))
         (AreToldTo E.contents E.failed err.old err.new) }
     // A file was not read, or the word fits none.
     ensures none { result ≡ Status.NotOpened → StopsAtFile
-        (Loads (T.has files.now) (T.refuses files.now) telling [] (map (λ path. path.now) paths.now))
+        (Loads (T.has files.now) (T.refuses files.now) verbosity [] (map (λ path. path.now) paths.now))
         (AreToldTo E.contents E.failed err.old err.new)
         ⊎ ListsNone
-        (Loads (T.has files.now) (T.refuses files.now) telling [] (map (λ path. path.now) paths.now))
+        (Loads (T.has files.now) (T.refuses files.now) verbosity [] (map (λ path. path.now) paths.now))
         (option_map (λ w. w.now) word.entry) (AreToldTo E.contents E.failed err.old err.new) }
     ensures untouched { result ≡ Status.NotOpened
         → Appends (W.contents out.old) (W.contents out.new) [] }
     ensures failed { result ≡ Status.Failed → FailsToList
-        (Loads (T.has files.now) (T.refuses files.now) telling [] (map (λ path. path.now) paths.now))
+        (Loads (T.has files.now) (T.refuses files.now) verbosity [] (map (λ path. path.now) paths.now))
         (AreToldTo E.contents E.failed err.old err.new) }
     ensures kept { E.failed err.old → E.failed err.new }
 {
-    match load_elements(files, alloc, paths, telling, err) {
+    match load_elements(files, alloc, paths, verbosity, err) {
         Some(elements) => list_known(&elements, word, out, err),
         None => Status::NotOpened,
     }

@@ -5,7 +5,7 @@ use Rattle.report_writing.specs.Statuses.{number_of}
 use Rattle.ipfix_session.specs.Sources.{SourceView}
 use Rattle.flow_table.specs.Plans.{PlanValue}
 use Rattle.flow_table.specs.declared.table.Table.{Table}
-use Rattle.report_writing.specs.declared.telling.Telling.{Telling}
+use Rattle.report_writing.specs.declared.verbosity.Verbosity.{Verbosity}
 use Rattle.command_merge.specs.MergeLines.{status_of}
 use Rattle.command_merge.specs.Merges.{EndsMerged, IsMerged, RunsMerge}
 use Rattle.command_merge.specs.MergesTold.{merge_lines, TellsNotExported, TellsNotMerged}
@@ -22,8 +22,8 @@ not_zero : {P : Type 0} (status : ℕ) → (status ≡ 2) ⊎ (status ≡ 3) →
 not_zero status (inl two) zero = absurd (omega (arith, two, zero))
 not_zero status (inr three) zero = absurd (omega (arith, three, zero))
 
-module _ {S : Type 0} (seen : S → SourceView) (AreHad : List S → Type 0) (plan : PlanValue) (names : List (List ℕ)) (telling : Telling) (IsWritten : Table → Type 0) (IsUntouched : Type 0) (AreTold : List ℕ → Type 0) (status : ℕ) where
-  pub merges_all : status ≡ 0 → EndsMerged seen AreHad plan IsWritten (λ table. AreTold (merge_lines telling names table)) → RunsMerge seen AreHad plan names telling IsWritten IsUntouched AreTold status
+module _ {S : Type 0} (seen : S → SourceView) (AreHad : List S → Type 0) (plan : PlanValue) (names : List (List ℕ)) (verbosity : Verbosity) (IsWritten : Table → Type 0) (IsUntouched : Type 0) (AreTold : List ℕ → Type 0) (status : ℕ) where
+  pub merges_all : status ≡ 0 → EndsMerged seen AreHad plan IsWritten (λ table. AreTold (merge_lines verbosity names table)) → RunsMerge seen AreHad plan names verbosity IsWritten IsUntouched AreTold status
   merges_all zero ends =
       record {
         statuses = inl zero;
@@ -32,7 +32,7 @@ module _ {S : Type 0} (seen : S → SourceView) (AreHad : List S → Type 0) (pl
         failed = λ three. absurd (omega (arith, zero, three));
       }
 
-  pub merges_none : (not_merged : NotMerged) → status ≡ number_of (status_of not_merged) → IsUntouched → TellsNotMerged names telling AreTold status → RunsMerge seen AreHad plan names telling IsWritten IsUntouched AreTold status
+  pub merges_none : (not_merged : NotMerged) → status ≡ number_of (status_of not_merged) → IsUntouched → TellsNotMerged names verbosity AreTold status → RunsMerge seen AreHad plan names verbosity IsWritten IsUntouched AreTold status
   merges_none not_merged is untouched told =
       record {
         statuses = inr (two_or_three not_merged status is);
@@ -41,7 +41,7 @@ module _ {S : Type 0} (seen : S → SourceView) (AreHad : List S → Type 0) (pl
         failed = λ three. inl (untouched, told);
       }
 
-  pub exports_none : (table : Table) → status ≡ 3 → IsMerged seen AreHad plan table → TellsNotExported names telling AreTold → RunsMerge seen AreHad plan names telling IsWritten IsUntouched AreTold status
+  pub exports_none : (table : Table) → status ≡ 3 → IsMerged seen AreHad plan table → TellsNotExported names verbosity AreTold → RunsMerge seen AreHad plan names verbosity IsWritten IsUntouched AreTold status
   exports_none table three merged told =
       record {
         statuses = inr (inr three);
@@ -51,7 +51,7 @@ module _ {S : Type 0} (seen : S → SourceView) (AreHad : List S → Type 0) (pl
       }
 
   -- what is written in other words
-  pub merges_so : (Other : Table → Type 0) → ((table : Table) → IsWritten table → Other table) → RunsMerge seen AreHad plan names telling IsWritten IsUntouched AreTold status → RunsMerge seen AreHad plan names telling Other IsUntouched AreTold status
+  pub merges_so : (Other : Table → Type 0) → ((table : Table) → IsWritten table → Other table) → RunsMerge seen AreHad plan names verbosity IsWritten IsUntouched AreTold status → RunsMerge seen AreHad plan names verbosity Other IsUntouched AreTold status
   merges_so Other other runs =
       record {
         statuses = runs.statuses;

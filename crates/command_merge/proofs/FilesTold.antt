@@ -6,7 +6,7 @@ use Rattle.std.proofs.lemmas.List.{length-map, map-append, map_more, length-take
 use Rattle.report_writing.specs.Statuses.{number_of}
 use Rattle.report_writing.specs.OpeningLines.{if_verbose}
 use Rattle.report_writing.specs.Told.{AreTold}
-use Rattle.report_writing.specs.declared.telling.Telling.{Telling}
+use Rattle.report_writing.specs.declared.verbosity.Verbosity.{Verbosity}
 use Rattle.report_writing.proofs.Numbering.{numbered-last}
 use Rattle.flow_table.specs.declared.table.Table.{Table}
 use Rattle.command_merge.specs.MergeLines.{file_opened_line, files_opened_lines, merged_line, not_merged_lines, status_of}
@@ -24,24 +24,24 @@ module _ {P : Type 0} (name_of : P → List ℕ) (paths : List P) where
   names_count : (i : ℕ) → i ≤ length paths → length (first_names i) ≡ i
   names_count i within = length-map (take i paths) name_of ∙ length-take-le i paths within
 
-  lines_more : (telling : Telling) (i : ℕ) (d : P) → i < length paths
-      → files_opened_lines telling (first_names (i + 1)) ≡ files_opened_lines telling (first_names i) ++ if_verbose telling (file_opened_line (i + 1) (name_of (get_or paths i d)))
-  lines_more telling i d less =
+  lines_more : (verbosity : Verbosity) (i : ℕ) (d : P) → i < length paths
+      → files_opened_lines verbosity (first_names (i + 1)) ≡ files_opened_lines verbosity (first_names i) ++ if_verbose verbosity (file_opened_line (i + 1) (name_of (get_or paths i d)))
+  lines_more verbosity i d less =
       let name = name_of (get_or paths i d) in
-      let line = λ (n : ℕ) (name : List ℕ). if_verbose telling (file_opened_line n name) in
-      ap (λ (l : List (List ℕ)). files_opened_lines telling l) (map_more name_of paths i d less) ∙ numbered-last line (first_names i) name
-      ∙ ap (λ (n : ℕ). files_opened_lines telling (first_names i) ++ line (n + 1) name) (names_count i (omega (arith, less)))
+      let line = λ (n : ℕ) (name : List ℕ). if_verbose verbosity (file_opened_line n name) in
+      ap (λ (l : List (List ℕ)). files_opened_lines verbosity l) (map_more name_of paths i d less) ∙ numbered-last line (first_names i) name
+      ∙ ap (λ (n : ℕ). files_opened_lines verbosity (first_names i) ++ line (n + 1) name) (names_count i (omega (arith, less)))
 
-  module _ (old mid new : Option (List ℕ)) (Before After : Type 0) (telling : Telling) where
+  module _ (old mid new : Option (List ℕ)) (Before After : Type 0) (verbosity : Verbosity) where
     -- one more
-    pub one_file_told : (i : ℕ) (d : P) → i < length paths → AreTold old mid Before (files_opened_lines telling (first_names i))
-        → AreTold mid new After (if_verbose telling (file_opened_line (i + 1) (name_of (get_or paths i d)))) → (Before → After) → AreTold old new After (files_opened_lines telling (first_names (i + 1)))
+    pub one_file_told : (i : ℕ) (d : P) → i < length paths → AreTold old mid Before (files_opened_lines verbosity (first_names i))
+        → AreTold mid new After (if_verbose verbosity (file_opened_line (i + 1) (name_of (get_or paths i d)))) → (Before → After) → AreTold old new After (files_opened_lines verbosity (first_names (i + 1)))
     one_file_told i d less first then kept =
-        subst (λ (l : List ℕ). AreTold old new After l) (sym (lines_more telling i d less)) (both_told old mid new Before After _ _ first then kept)
+        subst (λ (l : List ℕ). AreTold old new After l) (sym (lines_more verbosity i d less)) (both_told old mid new Before After _ _ first then kept)
 
     -- one that isn't added
-    pub stops_merge : (i : ℕ) (d : P) (not_merged : NotMerged) → i < length paths → AreTold old mid Before (files_opened_lines telling (first_names i))
-        → IsNotAdded telling (i + 1) (name_of (get_or paths i d)) (AreTold mid new After) not_merged → (Before → After) → StopsMerge (map name_of paths) telling (AreTold old new After) not_merged
+    pub stops_merge : (i : ℕ) (d : P) (not_merged : NotMerged) → i < length paths → AreTold old mid Before (files_opened_lines verbosity (first_names i))
+        → IsNotAdded verbosity (i + 1) (name_of (get_or paths i d)) (AreTold mid new After) not_merged → (Before → After) → StopsMerge (map name_of paths) verbosity (AreTold old new After) not_merged
     stops_merge i d (NotOpened path reason) less first not_added kept =
         record {
           opened = first_names i;
@@ -63,10 +63,10 @@ module _ {P : Type 0} (name_of : P → List ℕ) (paths : List P) where
     stops_merge i d (Whole fault) less first not_added kept = absurd not_added
 
 -- why they weren't merged, behind those that were opened
-pub tells_not_merged : {T E : Type 0} (names : List (List ℕ)) (telling : Telling) (old mid new : Option (List ℕ)) (Before After : Type 0) (not_merged : NotMerged) (status : ℕ) (answer : Result T E)
-    → StopsMerge names telling (AreTold old mid Before) not_merged → OnOk answer (Appends mid new (not_merged_lines telling not_merged)) → OnErr answer After → (Before → After)
-    → status ≡ number_of (status_of not_merged) → TellsNotMerged names telling (AreTold old new After) status
-tells_not_merged names telling old mid new Before After not_merged status answer stopped ok err kept is =
+pub tells_not_merged : {T E : Type 0} (names : List (List ℕ)) (verbosity : Verbosity) (old mid new : Option (List ℕ)) (Before After : Type 0) (not_merged : NotMerged) (status : ℕ) (answer : Result T E)
+    → StopsMerge names verbosity (AreTold old mid Before) not_merged → OnOk answer (Appends mid new (not_merged_lines verbosity not_merged)) → OnErr answer After → (Before → After)
+    → status ≡ number_of (status_of not_merged) → TellsNotMerged names verbosity (AreTold old new After) status
+tells_not_merged names verbosity old mid new Before After not_merged status answer stopped ok err kept is =
     record {
       opened = stopped.opened;
       not_merged = not_merged;

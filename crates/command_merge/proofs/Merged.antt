@@ -12,9 +12,9 @@ use Rattle.flow_table.specs.SameTables.{RowValue}
 use Rattle.flow_table.specs.declared.table.Table.{Table}
 use Rattle.flow_merge.specs.Merging.{AddsExport, GiveExports, GivesExport, StandsFor, merging_plan}
 use Rattle.flow_merge.specs.declared.merging.Merging.{Merging}
-use Rattle.input_sources.specs.Had.{AreOpened, Came, IsOpened, IsUnread}
+use Rattle.input_sources.specs.Had.{AreOpened, NextOnes, IsOpened, IsUnread}
 use Rattle.command_merge.specs.Merges.{AddsFile, IsMerged}
-use Rattle.input_sources.proofs.Had.{Came-nil, Came-trans}
+use Rattle.input_sources.proofs.Had.{NextOnes-nil, NextOnes-trans}
 use Rattle.ipfix_session.specs.declared.driver.TheConstants.{READ_LIMIT}
 
 abbrev pub all_rows : List (List RowValue) → List RowValue
@@ -26,7 +26,7 @@ module _ {S X : Type 0} (seen : S → SourceView) (opens : X → S → Type 0) (
     pub same_plan : merging_plan m ≡ plan
     pub sources : List S
     pub opened : AllZip opens paths sources
-    pub came : Came start now sources
+    pub came : NextOnes start now sources
     pub unread : All (IsUnread seen) sources
     pub exports : List (List RowValue)
     pub given : GiveExports seen READ_LIMIT plan sources exports
@@ -34,7 +34,7 @@ module _ {S X : Type 0} (seen : S → SourceView) (opens : X → S → Type 0) (
 
   pub none_read : (m : Merging) → merging_plan m ≡ plan → StandsFor m [] → Stands [] start m
   none_read m same stands =
-      record { same_plan = same; sources = []; opened = tt; came = Came-nil start; unread = All-nil (IsUnread seen); exports = []; given = tt; stands = stands }
+      record { same_plan = same; sources = []; opened = tt; came = NextOnes-nil start; unread = All-nil (IsUnread seen); exports = []; given = tt; stands = stands }
 
   one_read : (paths : List X) (path : X) (before after : Option (List S)) (opens_now : X → S → Type 0) (old new : Merging) → ((x : X) (s : S) → opens_now x s → opens x s)
       → AddsFile seen (IsOpened (opens_now path) before after) old new → Stands paths before old → Stands (paths ++ path ∷ []) after new
@@ -44,7 +44,7 @@ module _ {S X : Type 0} (seen : S → SourceView) (opens : X → S → Type 0) (
         same_plan = file.same_plan ∙ so_far.same_plan;
         sources = so_far.sources ++ file.before ∷ [];
         opened = all_zipped_more opens paths so_far.sources path file.before so_far.opened (same path file.before file.had.asked);
-        came = Came-trans start before after so_far.sources (file.before ∷ []) so_far.came file.had.came;
+        came = NextOnes-trans start before after so_far.sources (file.before ∷ []) so_far.came file.had.came;
         unread = All-push (IsUnread seen) so_far.sources file.before so_far.unread file.unread;
         exports = so_far.exports ++ one.more ∷ [];
         given = all_zipped_more (λ source rows. (left : S) × GivesExport seen READ_LIMIT plan source left rows) so_far.sources so_far.exports file.before one.more so_far.given

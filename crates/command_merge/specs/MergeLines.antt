@@ -11,7 +11,7 @@ use Rattle.flow_merge.specs.declared.merge_fault.MergeFault.TheVariants.{Session
 use Rattle.report_writing.specs.OpeningLines.{if_verbose, not_had_lines}
 use Rattle.report_writing.specs.Origins.{whole_name}
 use Rattle.report_writing.specs.FaultLines.{fault_text}
-use Rattle.report_writing.specs.declared.telling.Telling.{Telling}
+use Rattle.report_writing.specs.declared.verbosity.Verbosity.{Verbosity}
 use Rattle.command_merge.specs.declared.not_merged.NotMerged.{NotMerged}
 use Rattle.command_merge.specs.declared.not_merged.NotMerged.TheVariants.{NotOpened, File, Whole}
 
@@ -40,23 +40,23 @@ abbrev pub file_opened_line : ℕ → List ℕ → List ℕ
 file_opened_line file name = named_file_line file name (codes ": opened\n")
 
 -- the fault of a file, and once more with the file's name if that is asked for
-abbrev pub file_fault_lines : Telling → ℕ → List ℕ → MergeFault → List ℕ
-file_fault_lines telling file name fault =
-    file_fault_line file fault ++ if_verbose telling (named_file_line file name (merge_fault_text fault))
+abbrev pub file_fault_lines : Verbosity → ℕ → List ℕ → MergeFault → List ℕ
+file_fault_lines verbosity file name fault =
+    file_fault_line file fault ++ if_verbose verbosity (named_file_line file name (merge_fault_text fault))
 
 -- a fault that is no file's
 abbrev pub merge_fault_line : MergeFault → List ℕ
 merge_fault_line fault = codes "collectd: merge" ++ fault_text (merging.number_of fault) (merging.name_of fault)
 
 -- the files that were opened, counted from 1, if that is asked for
-abbrev pub files_opened_lines : Telling → List (List ℕ) → List ℕ
-files_opened_lines telling names = flat_map (λ x. if_verbose telling (file_opened_line x.0 x.1)) (enumerate_from 1 names)
+abbrev pub files_opened_lines : Verbosity → List (List ℕ) → List ℕ
+files_opened_lines verbosity names = flat_map (λ x. if_verbose verbosity (file_opened_line x.0 x.1)) (enumerate_from 1 names)
 
 -- why files were not merged, and how the run ends then
-abbrev pub not_merged_lines : Telling → NotMerged → List ℕ
-not_merged_lines telling (NotOpened path reason) = not_had_lines telling (codes "open") path.now reason
-not_merged_lines telling (File number path fault) = file_fault_lines telling number path.now fault
-not_merged_lines telling (Whole fault) = merge_fault_line fault
+abbrev pub not_merged_lines : Verbosity → NotMerged → List ℕ
+not_merged_lines verbosity (NotOpened path reason) = not_had_lines verbosity (codes "open") path.now reason
+not_merged_lines verbosity (File number path fault) = file_fault_lines verbosity number path.now fault
+not_merged_lines verbosity (Whole fault) = merge_fault_line fault
 
 abbrev pub status_of : NotMerged → Status
 status_of (NotOpened path reason) = status.NotOpened

@@ -11,7 +11,7 @@ use Rattle.flow_merge.specs.declared.merging.Merging.{Merging}
 use Rattle.input_sources.specs.Had.{IsUnread}
 use Rattle.ipfix_session.specs.declared.driver.TheConstants.{READ_LIMIT}
 use Rattle.report_writing.specs.OpeningLines.{if_verbose}
-use Rattle.report_writing.specs.declared.telling.Telling.{Telling}
+use Rattle.report_writing.specs.declared.verbosity.Verbosity.{Verbosity}
 use Rattle.command_merge.specs.MergeLines.{file_opened_line, files_opened_lines}
 use Rattle.command_merge.specs.MergesTold.{merge_lines, StopsBehind, TellsNotExported, TellsNotMerged}
 use Rattle.command_merge.specs.declared.not_merged.NotMerged.{NotMerged}
@@ -34,14 +34,14 @@ module _ {S : Type 0} (seen : S → SourceView) where
     pub told : IsTold table
 
   -- what the status of a merge of the files of these names says
-  pub record RunsMerge (AreHad : List S → Type 0) (plan : PlanValue) (names : List (List ℕ)) (telling : Telling) (IsWritten : Table → Type 0) (IsUntouched : Type 0) (AreTold : List ℕ → Type 0) (status : ℕ) : Type 0 where
+  pub record RunsMerge (AreHad : List S → Type 0) (plan : PlanValue) (names : List (List ℕ)) (verbosity : Verbosity) (IsWritten : Table → Type 0) (IsUntouched : Type 0) (AreTold : List ℕ → Type 0) (status : ℕ) : Type 0 where
     pub statuses : (status ≡ number_of ends.Well) ⊎ (status ≡ number_of ends.NotOpened) ⊎ (status ≡ number_of ends.Failed)
     -- how many files and rows there are was told, and nothing else
-    pub table : status ≡ number_of ends.Well → EndsMerged AreHad plan IsWritten (λ table. AreTold (merge_lines telling names table))
+    pub table : status ≡ number_of ends.Well → EndsMerged AreHad plan IsWritten (λ table. AreTold (merge_lines verbosity names table))
     -- nothing was written unless all were opened, and the one that can't be was told;
-    pub not_opened : status ≡ number_of ends.NotOpened → IsUntouched × TellsNotMerged names telling AreTold status
+    pub not_opened : status ≡ number_of ends.NotOpened → IsUntouched × TellsNotMerged names verbosity AreTold status
     -- nor unless all were merged, and the fault was told; else the table was had, and the fault of the export told
-    pub failed : status ≡ number_of ends.Failed → (IsUntouched × TellsNotMerged names telling AreTold status) ⊎ (((table : Table) × IsMerged AreHad plan table) × TellsNotExported names telling AreTold)
+    pub failed : status ≡ number_of ends.Failed → (IsUntouched × TellsNotMerged names verbosity AreTold status) ⊎ (((table : Table) × IsMerged AreHad plan table) × TellsNotExported names verbosity AreTold)
 
   -- the export of a source that was had as the first fact says it, and not read before, is added
   pub record AddsFile (IsHad : S → Type 0) (old new : Merging) : Type 0 where
@@ -53,13 +53,13 @@ module _ {S : Type 0} (seen : S → SourceView) where
     pub adds : (rows : List RowValue) → StandsFor old rows → AddsExport seen READ_LIMIT old before after rows new
 
 -- why the file of this name and number was not added, and what was told by then
-abbrev pub IsNotAdded : Telling → ℕ → List ℕ → (List ℕ → Type 0) → NotMerged → Type 0
-IsNotAdded telling file name AreTold (NotOpened path reason) = (path.now ≡ name) × AreTold []
-IsNotAdded telling file name AreTold (File number path fault) = (number ≡ file) × (path.now ≡ name) × AreTold (if_verbose telling (file_opened_line file name))
-IsNotAdded telling file name AreTold (Whole fault) = ⊥
+abbrev pub IsNotAdded : Verbosity → ℕ → List ℕ → (List ℕ → Type 0) → NotMerged → Type 0
+IsNotAdded verbosity file name AreTold (NotOpened path reason) = (path.now ≡ name) × AreTold []
+IsNotAdded verbosity file name AreTold (File number path fault) = (number ≡ file) × (path.now ≡ name) × AreTold (if_verbose verbosity (file_opened_line file name))
+IsNotAdded verbosity file name AreTold (Whole fault) = ⊥
 
 -- why files were not merged, and which of them were told as opened by then
-pub record StopsMerge (names : List (List ℕ)) (telling : Telling) (AreTold : List ℕ → Type 0) (not_merged : NotMerged) : Type 0 where
+pub record StopsMerge (names : List (List ℕ)) (verbosity : Verbosity) (AreTold : List ℕ → Type 0) (not_merged : NotMerged) : Type 0 where
   pub opened : List (List ℕ)
   pub stops : StopsBehind names opened not_merged
-  pub told : AreTold (files_opened_lines telling opened)
+  pub told : AreTold (files_opened_lines verbosity opened)

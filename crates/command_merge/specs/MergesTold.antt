@@ -4,14 +4,14 @@ use Rattle.report_writing.specs.Statuses.{number_of}
 use Rattle.flow_export.specs.declared.fault.ExportFault.{ExportFault}
 use Rattle.flow_table.specs.declared.table.Table.{Table}
 use Rattle.output_tables.specs.ExportFaultLines.{export_fault_line}
-use Rattle.report_writing.specs.declared.telling.Telling.{Telling}
+use Rattle.report_writing.specs.declared.verbosity.Verbosity.{Verbosity}
 use Rattle.command_merge.specs.MergeLines.{files_opened_lines, merged_line, not_merged_lines, status_of}
 use Rattle.command_merge.specs.declared.not_merged.NotMerged.{NotMerged}
 use Rattle.command_merge.specs.declared.not_merged.NotMerged.TheVariants.{NotOpened, File, Whole}
 
 -- the files that were opened, and then how many there are and how many rows their table has
-abbrev pub merge_lines : Telling → List (List ℕ) → Table → List ℕ
-merge_lines telling names table = files_opened_lines telling names ++ merged_line (length names) (length table.rows.items)
+abbrev pub merge_lines : Verbosity → List (List ℕ) → Table → List ℕ
+merge_lines verbosity names table = files_opened_lines verbosity names ++ merged_line (length names) (length table.rows.items)
 
 -- of the files of these names those were opened by then: all before the one that can't be opened; all up to the one that has
 -- a fault, whose number is its place; and none or all, if the fault is no file's
@@ -22,13 +22,13 @@ StopsBehind names opened (File number path fault) =
 StopsBehind names opened (Whole fault) = (opened ≡ []) ⊎ (opened ≡ names)
 
 -- the files that were opened are told, and then why they were not merged, and nothing else; the status says so
-pub record TellsNotMerged (names : List (List ℕ)) (telling : Telling) (AreTold : List ℕ → Type 0) (status : ℕ) : Type 0 where
+pub record TellsNotMerged (names : List (List ℕ)) (verbosity : Verbosity) (AreTold : List ℕ → Type 0) (status : ℕ) : Type 0 where
   pub opened : List (List ℕ)
   pub not_merged : NotMerged
   pub stops : StopsBehind names opened not_merged
-  pub told : AreTold (files_opened_lines telling opened ++ not_merged_lines telling not_merged)
+  pub told : AreTold (files_opened_lines verbosity opened ++ not_merged_lines verbosity not_merged)
   pub status_is : status ≡ number_of (status_of not_merged)
 
 -- all files are told, and then the fault of the export
-abbrev pub TellsNotExported : List (List ℕ) → Telling → (List ℕ → Type 0) → Type 0
-TellsNotExported names telling AreTold = (fault : ExportFault) × AreTold (files_opened_lines telling names ++ export_fault_line fault)
+abbrev pub TellsNotExported : List (List ℕ) → Verbosity → (List ℕ → Type 0) → Type 0
+TellsNotExported names verbosity AreTold = (fault : ExportFault) × AreTold (files_opened_lines verbosity names ++ export_fault_line fault)

@@ -17,7 +17,7 @@ use flow_table::{FlatTable, Plan};
 use input_sources::OpenSource;
 use ipfix_session::{READ_LIMIT, Source};
 use output_tables::{Output, export, write_export_fault};
-use report_writing::{NOTHING_MORE, Status, Telling, WriteLines};
+use report_writing::{NOTHING_MORE, Status, Verbosity, WriteLines};
 use std::alloc::Global;
 use std::io::Write;
 
@@ -48,13 +48,13 @@ pub fn run_merge<S: Source + Drop, O: OpenSource<S>, W: Write, E: WriteLines>(
     ensures kept { E.failed err.old → E.failed err.new }
 {
     let elements = Elements::built_in(alloc);
-    let telling = NOTHING_MORE;
+    let verbosity = NOTHING_MORE;
     run_merge_in_full(
-        files, alloc, paths, &elements, plan, output, telling, out, err,
+        files, alloc, paths, &elements, plan, output, verbosity, out, err,
     )
 }
 
-/// Does as [`run_merge`], and tells more if `telling` is verbose: each file that is opened or not merged, by its
+/// Does as [`run_merge`], and tells more if `verbosity` is verbose: each file that is opened or not merged, by its
 /// number and name, and the system's reason behind one that can't be opened. A strict merge is none other, since nothing is
 /// merged in which anything was lost or passed over. Keys and counters have the names that `elements` gives them.
 pub fn run_merge_in_full<S: Source + Drop, O: OpenSource<S>, W: Write, E: WriteLines>(
@@ -64,7 +64,7 @@ pub fn run_merge_in_full<S: Source + Drop, O: OpenSource<S>, W: Write, E: WriteL
     elements: &Elements,
     plan: &Plan,
     output: Output,
-    telling: Telling,
+    verbosity: Verbosity,
     out: &mut W,
     err: &mut E,
 ) -> u8
@@ -72,15 +72,15 @@ pub fn run_merge_in_full<S: Source + Drop, O: OpenSource<S>, W: Write, E: WriteL
     // added up, were written, and nothing else; or what kept them from it was told.
     ensures runs { RunsMerge S.seen (AreOpened (λ path. O.opens files.old path.now)
         paths.now (O.coming files.old) (O.coming files.new))
-        plan.now (map (λ path. path.now) paths.now) telling
+        plan.now (map (λ path. path.now) paths.now) verbosity
         (WritesUnder elements.now plan.now output (W.contents out.old) (W.contents out.new))
         (out.new ≡ out.old) (AreToldTo E.contents E.failed err.old err.new) result }
     ensures kept { E.failed err.old → E.failed err.new }
 {
-    let table = match merge_files(files, alloc, paths, plan, telling, err) {
+    let table = match merge_files(files, alloc, paths, plan, verbosity, err) {
         Ok(table) => table,
         Err(not_merged) => {
-            let _ = write_not_merged(telling, &not_merged, err);
+            let _ = write_not_merged(verbosity, &not_merged, err);
             return not_merged.status().number();
         }
     };
@@ -98,7 +98,7 @@ fn merge_files<'a, S: Source + Drop, O: OpenSource<S>, E: WriteLines>(
     alloc: Global,
     paths: &[&'a str],
     plan: &Plan,
-    telling: Telling,
+    verbosity: Verbosity,
     err: &mut E,
 ) -> Result<FlatTable, NotMerged<'a>>
     ensures merged { IfOk result
@@ -106,8 +106,8 @@ fn merge_files<'a, S: Source + Drop, O: OpenSource<S>, E: WriteLines>(
         paths.now (O.coming files.old) (O.coming files.new)) plan.now) }
     ensures fits { IfOk result (FitsPlan plan.now) }
     ensures told { OnOk result (AreToldTo E.contents E.failed err.old err.new
-        (files_opened_lines telling (map (λ path. path.now) paths.now))) }
-    ensures stops { IfErr result (StopsMerge (map (λ path. path.now) paths.now) telling
+        (files_opened_lines verbosity (map (λ path. path.now) paths.now))) }
+    ensures stops { IfErr result (StopsMerge (map (λ path. path.now) paths.now) verbosity
         (AreToldTo E.contents E.failed err.old err.new)) }
     ensures kept { E.failed err.old → E.failed err.new }
 {
@@ -116,7 +116,7 @@ fn merge_files<'a, S: Source + Drop, O: OpenSource<S>, E: WriteLines>(
         Err(fault) => return Err(NotMerged::Whole(fault)),
     };
     for (index, path) in paths.iter().enumerate() {
-        merging = add_file(files, merging, index + 1, *path, telling, err)?;
+        merging = add_file(files, merging, index + 1, *path, verbosity, err)?;
     }
     match merging.finish() {
         Ok(table) => Ok(table),
@@ -130,7 +130,7 @@ fn add_file<'a, S: Source + Drop, O: OpenSource<S>, E: WriteLines>(
     merging: Merging,
     number: usize,
     path: &'a str,
-    telling: Telling,
+    verbosity: Verbosity,
     err: &mut E,
 ) -> Result<Merging, NotMerged<'a>>
     ensures added { IfOk result (AddsFile S.seen
@@ -138,8 +138,8 @@ fn add_file<'a, S: Source + Drop, O: OpenSource<S>, E: WriteLines>(
     ensures same { (name : List ℕ) (source : S)
         → O.opens files.new name source → O.opens files.old name source }
     ensures told { OnOk result (AreToldTo E.contents E.failed err.old err.new
-        (if_verbose telling (file_opened_line number path.now))) }
-    ensures stops { IfErr result (IsNotAdded telling number path.now
+        (if_verbose verbosity (file_opened_line number path.now))) }
+    ensures stops { IfErr result (IsNotAdded verbosity number path.now
         (AreToldTo E.contents E.failed err.old err.new)) }
     ensures kept { E.failed err.old → E.failed err.new }
 {
@@ -147,7 +147,7 @@ fn add_file<'a, S: Source + Drop, O: OpenSource<S>, E: WriteLines>(
         Ok(opened) => opened.source,
         Err(reason) => return Err(NotMerged::NotOpened { path, reason }),
     };
-    let _ = write_file_opened(telling, number, path, err);
+    let _ = write_file_opened(verbosity, number, path, err);
     match merging.read(&mut source, READ_LIMIT) {
         Ok(merging) => Ok(merging),
         Err(fault) => Err(NotMerged::File {

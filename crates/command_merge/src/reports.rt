@@ -10,7 +10,7 @@ ghost use Rattle.report_writing.specs.Writing.{Tells};
 use crate::not_merged::NotMerged;
 use flow_merge::MergeFault;
 use report_writing::{
-    Origin, Telling, WriteLines, write_fault, write_not_had_because, write_origin,
+    Origin, Verbosity, WriteLines, write_fault, write_not_had_because, write_origin,
 };
 use std::io;
 
@@ -24,22 +24,22 @@ pub fn write_merged<W: WriteLines>(files: usize, rows: usize, out: &mut W) -> io
 
 /// Writes why files were not merged.
 pub fn write_not_merged<W: WriteLines>(
-    telling: Telling,
+    verbosity: Verbosity,
     not_merged: &NotMerged,
     out: &mut W,
 ) -> io::Result<()>
     ensures { Tells W.contents W.failed out.old out.new result
-        (not_merged_lines telling not_merged.now) }
+        (not_merged_lines verbosity not_merged.now) }
 {
     match not_merged {
         NotMerged::NotOpened { path, reason } => {
-            write_not_had_because(telling, "open", path, *reason, out)
+            write_not_had_because(verbosity, "open", path, *reason, out)
         }
         NotMerged::File {
             number,
             path,
             fault,
-        } => write_file_fault(telling, *number, path, *fault, out),
+        } => write_file_fault(verbosity, *number, path, *fault, out),
         NotMerged::Whole(fault) => write_merge_fault(*fault, out),
     }
 }
@@ -52,19 +52,19 @@ fn write_merge_fault<W: WriteLines>(fault: MergeFault, out: &mut W) -> io::Resul
 }
 
 // The line of a file, counted from 1, that was not merged: the fault, and behind it that of its session or of
-// its record. If `telling` is verbose, the same line follows with the file's name.
+// its record. If `verbosity` is verbose, the same line follows with the file's name.
 fn write_file_fault<W: WriteLines>(
-    telling: Telling,
+    verbosity: Verbosity,
     file: usize,
     name: &str,
     fault: MergeFault,
     out: &mut W,
 ) -> io::Result<()>
     ensures { Tells W.contents W.failed out.old out.new result
-        (file_fault_lines telling file name.now fault) }
+        (file_fault_lines verbosity file name.now fault) }
 {
     write_numbered_fault(file, fault, out)?;
-    if telling.verbose {
+    if verbosity.verbose {
         write_named_fault(file, name, fault, out)
     } else {
         Ok(())
@@ -119,17 +119,17 @@ fn write_inner<W: WriteLines>(what: &str, number: u8, name: &str, out: &mut W) -
 }
 
 /// Writes the line of a file, counted from 1, that was opened, with its name. Nothing is written unless
-/// `telling` is verbose.
+/// `verbosity` is verbose.
 pub fn write_file_opened<W: WriteLines>(
-    telling: Telling,
+    verbosity: Verbosity,
     file: usize,
     name: &str,
     out: &mut W,
 ) -> io::Result<()>
     ensures { Tells W.contents W.failed out.old out.new result
-        (if_verbose telling (file_opened_line file name.now)) }
+        (if_verbose verbosity (file_opened_line file name.now)) }
 {
-    if telling.verbose {
+    if verbosity.verbose {
         write_opened_line(file, name, out)
     } else {
         Ok(())

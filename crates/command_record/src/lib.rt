@@ -6,4 +6,4 @@ mod recording;
 mod system;
 
 pub use recording::record;
-pub use system::{Entrances, run_recorder};
+pub use system::{Sockets, run_recorder};

@@ -1,6 +1,6 @@
 //! Recording as the words say it.
 
-use crate::system::{Entrances, run_recorder};
+use crate::system::{Sockets, run_recorder};
 use clap::ArgMatches;
 use cli_inputs::{WITH_REASONS, listen_on, read_idle};
 use network_prefixes::{PeerFilter, Prefix};
@@ -27,7 +27,7 @@ pub fn record<R: Clock + Threads + Wait + Sync>(
     let path = chosen.get_str("into").ok_or(Status::NotOpened)?;
     let order = read_order(rt, chosen, &mut err)?;
     let limits = read_limits(chosen).ok_or(Status::NotOpened)?;
-    let entrances = Entrances {
+    let sockets = Sockets {
         listener: read_listener(rt, chosen, &mut err)?,
         socket: read_socket(rt, chosen, &mut err)?,
     };
@@ -36,7 +36,7 @@ pub fn record<R: Clock + Threads + Wait + Sync>(
             threads,
             rt,
             rt.alloc(),
-            entrances,
+            sockets,
             &folder,
             &order,
             limits,

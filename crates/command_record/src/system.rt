@@ -2,7 +2,7 @@
 
 ghost use Rattle.std.specs.Prelude.{◌≡◌};
 
-use recording_connections::{FrontDesk, RecordOrder, run_record};
+use recording_connections::{RecordOrder, SharedCounts, run_record};
 use recording_datagrams::{PeerLimits, SystemSocket, run_datagrams};
 use recording_folder::Folder;
 use recording_lines::Log;
@@ -16,19 +16,19 @@ use std::thread::{self, Threads};
 
 /// Where sessions come from.
 #[derive(Drop)]
-pub struct Entrances {
+pub struct Sockets {
     pub listener: Option<TcpListener>,
     pub socket: Option<SystemSocket>,
 }
 
-/// Records in a folder what comes through the entrances, for ever: connections in as many threads as the order
+/// Records in a folder what comes through the sockets, for ever: connections in as many threads as the order
 /// says, and all datagrams in one, beside which others finish the files of peers. It ends only if no thread can be
 /// started.
 pub fn run_recorder<E: Write + Copy + Send + Sync + Drop, R: Clock + Threads + Wait + Sync>(
     threads: &R,
     rt: &HostRuntime,
     alloc: Global,
-    entrances: Entrances,
+    sockets: Sockets,
     folder: &Folder,
     order: &RecordOrder,
     limits: PeerLimits,
@@ -36,18 +36,18 @@ pub fn run_recorder<E: Write + Copy + Send + Sync + Drop, R: Clock + Threads + W
 ) -> Status
     ensures { result ≡ Status.Failed }
 {
-    let desk = Mutex::new(FrontDesk::new());
-    let Entrances { listener, socket } = entrances;
+    let shared = Mutex::new(SharedCounts::new());
+    let Sockets { listener, socket } = sockets;
     match (listener, socket) {
         (Some(listener), Some(socket)) => run_both(
-            threads, rt, alloc, listener, socket, folder, order, limits, &desk, err,
+            threads, rt, alloc, listener, socket, folder, order, limits, &shared, err,
         ),
         (Some(listener), None) => {
-            run_record(threads, rt, alloc, listener, folder, order, &desk, err)
+            run_record(threads, rt, alloc, listener, folder, order, &shared, err)
         }
         (None, Some(socket)) => {
             run_datagrams(
-                threads, rt, alloc, socket, folder, order, limits, &desk, err,
+                threads, rt, alloc, socket, folder, order, limits, &shared, err,
             );
             Status::Failed
         }
@@ -65,7 +65,7 @@ fn run_both<E: Write + Copy + Send + Sync + Drop, R: Clock + Threads + Wait + Sy
     folder: &Folder,
     order: &RecordOrder,
     limits: PeerLimits,
-    desk: &Mutex<FrontDesk>,
+    shared: &Mutex<SharedCounts>,
     err: E,
 ) -> Status
     ensures { result ≡ Status.Failed }
@@ -77,13 +77,13 @@ fn run_both<E: Write + Copy + Send + Sync + Drop, R: Clock + Threads + Wait + Sy
             ensures { result ≡ Status.Failed }
         {
             let run = move || run_datagrams(
-                threads, rt, alloc, socket, folder, order, limits, desk, err,
+                threads, rt, alloc, socket, folder, order, limits, shared, err,
             );
             if scope.spawn(run).is_err() {
                 let _ = Log::new(err).tell_threads(0, 1);
                 return Status::Failed;
             }
-            run_record(threads, rt, alloc, listener, folder, order, desk, err)
+            run_record(threads, rt, alloc, listener, folder, order, shared, err)
         },
     )
 }

@@ -13,11 +13,11 @@ use Rattle.flow_table.specs.Bags.{IsSameBag}
 use Rattle.flow_table.specs.Fitting.{FitsPlan}
 use Rattle.flow_table.specs.Plans.{PlanValue}
 use Rattle.flow_table.specs.declared.table.Table.{Table}
-use Rattle.flow_collect.specs.Dealt.{IsPaired, IsNewLot, IsNewStart, IsDealt, start_link}
-use Rattle.flow_collect.specs.Finished.{HasTaken, lanes_of, ended_link, SettlesEnds, CameOver, FinishedAs, IsOverfull}
+use Rattle.flow_collect.specs.Dealt.{IsPaired, IsNewShare, IsNewStart, IsDealt, start_link}
+use Rattle.flow_collect.specs.Finished.{HasTaken, link_ends_of, ended_link, SettlesEnds, CameOver, FinishedAs, IsOverfull}
 use Rattle.flow_collect.specs.Headline.{all_of}
 use Rattle.flow_collect.specs.InFull.{HeadlineInFull, reports_in}
-use Rattle.flow_collect.specs.Lanes.{IsEnded, WorkerRan, lane_key, receivers_of}
+use Rattle.flow_collect.specs.LinkEnds.{IsEnded, WorkerRan, link_end_key, receivers_of}
 use Rattle.flow_collect.specs.Places.{Each3, Each4}
 use Rattle.flow_collect.specs.Promises.{IsSettled}
 use Rattle.flow_collect.specs.Refusals.{AreTooLarge}
@@ -26,57 +26,57 @@ use Rattle.flow_collect.specs.declared.collected.CollectedInFull.{CollectedInFul
 use Rattle.flow_collect.specs.declared.collected.Pool.{Pool}
 use Rattle.flow_collect.specs.declared.session_thread.EndedSession.{EndedSession}
 use Rattle.flow_collect.specs.declared.session_thread.Start.{Start}
-use Rattle.flow_collect.specs.declared.worker.Lane.{Lane}
-use Rattle.flow_collect.specs.declared.worker.Lot.{Lot}
+use Rattle.flow_collect.specs.declared.worker.LinkEnd.{LinkEnd}
+use Rattle.flow_collect.specs.declared.worker.WorkerShare.{WorkerShare}
 use Rattle.flow_collect.proofs.GivenLists.{too_large_due}
 use Rattle.flow_collect.proofs.InFull.{given_short}
-use Rattle.flow_collect.proofs.LaneLists.{taken_weighs}
+use Rattle.flow_collect.proofs.LinkEndLists.{taken_weighs}
 use Rattle.flow_collect.proofs.Runs.{told, run_headline}
 
 -- ---- workers
 
-ended_lanes : (lanes : List Lane) → All (λ (r : ReceiverView). has_last r.received ≡ true) (receivers_of lanes) → All IsEnded lanes
-ended_lanes [] h = All-nil IsEnded
-ended_lanes (lane ∷ lanes) h =
+ended_link_ends : (link_ends : List LinkEnd) → All (λ (r : ReceiverView). has_last r.received ≡ true) (receivers_of link_ends) → All IsEnded link_ends
+ended_link_ends [] h = All-nil IsEnded
+ended_link_ends (link_end ∷ link_ends) h =
     let P = λ (r : ReceiverView). has_last r.received ≡ true in
-    All-cons IsEnded lane lanes (All-head P lane.receiver (receivers_of lanes) h) (ended_lanes lanes (All-tail P lane.receiver (receivers_of lanes) h))
+    All-cons IsEnded link_end link_ends (All-head P link_end.receiver (receivers_of link_ends) h) (ended_link_ends link_ends (All-tail P link_end.receiver (receivers_of link_ends) h))
 
-has_taken : (plan : PlanValue) (links : List LinkName) (lot : Lot) (w : Lot) → WorkerRan lot w → IsNewLot plan links lot → HasTaken plan w
-has_taken plan links lot w ran new =
+has_taken : (plan : PlanValue) (links : List LinkName) (share : WorkerShare) (w : WorkerShare) → WorkerRan share w → IsNewShare plan links share → HasTaken plan w
+has_taken plan links share w ran new =
     record {
       plan_is = ran.took.plan_is ∙ new.plan_is;
-      ended = ended_lanes w.lanes.items ran.took.ended;
-      table = record { records = ran.took.records; stands = ran.took.stands; weighs = λ weight. ran.took.are_taken weight ∙ taken_weighs weight w.lanes.items };
+      ended = ended_link_ends w.link_ends.items ran.took.ended;
+      table = record { records = ran.took.records; stands = ran.took.stands; weighs = λ weight. ran.took.are_taken weight ∙ taken_weighs weight w.link_ends.items };
     }
 
-pub all_taken : (plan : PlanValue) (links : List LinkName) (lots : List Lot) (ws : List Lot) → AllZip WorkerRan lots ws → All (IsNewLot plan links) lots → All (HasTaken plan) ws
+pub all_taken : (plan : PlanValue) (links : List LinkName) (shares : List WorkerShare) (ws : List WorkerShare) → AllZip WorkerRan shares ws → All (IsNewShare plan links) shares → All (HasTaken plan) ws
 all_taken plan links [] [] e h = All-nil (HasTaken plan)
 all_taken plan links [] (w ∷ ws) e h = absurd e
-all_taken plan links (l ∷ lots) [] e h = absurd e
-all_taken plan links (l ∷ lots) (w ∷ ws) e h =
-    let P = IsNewLot plan links in
-    All-cons (HasTaken plan) w ws (has_taken plan links l w e.0 (All-head P l lots h)) (all_taken plan links lots ws e.1 (All-tail P l lots h))
+all_taken plan links (l ∷ shares) [] e h = absurd e
+all_taken plan links (l ∷ shares) (w ∷ ws) e h =
+    let P = IsNewShare plan links in
+    All-cons (HasTaken plan) w ws (has_taken plan links l w e.0 (All-head P l shares h)) (all_taken plan links shares ws e.1 (All-tail P l shares h))
 
--- what is said of the lanes' keys alone goes over to lanes with the same keys
-all_by_keys : (P : ℕ × LinkName → Type 0) (xs ys : List Lane) → map lane_key xs ≡ map lane_key ys → All (λ (lane : Lane). P (lane_key lane)) ys → All (λ (lane : Lane). P (lane_key lane)) xs
-all_by_keys P [] ys e h = All-nil (λ (lane : Lane). P (lane_key lane))
+-- what is said of the link_ends' keys alone goes over to link_ends with the same keys
+all_by_keys : (P : ℕ × LinkName → Type 0) (xs ys : List LinkEnd) → map link_end_key xs ≡ map link_end_key ys → All (λ (link_end : LinkEnd). P (link_end_key link_end)) ys → All (λ (link_end : LinkEnd). P (link_end_key link_end)) xs
+all_by_keys P [] ys e h = All-nil (λ (link_end : LinkEnd). P (link_end_key link_end))
 all_by_keys P (x ∷ xs) [] e h = cc e
 all_by_keys P (x ∷ xs) (y ∷ ys) e h =
-    let Q = λ (lane : Lane). P (lane_key lane) in
-    let first : lane_key x ≡ lane_key y = cc e in
-    let rest : map lane_key xs ≡ map lane_key ys = cc e in
+    let Q = λ (link_end : LinkEnd). P (link_end_key link_end) in
+    let first : link_end_key x ≡ link_end_key y = cc e in
+    let rest : map link_end_key xs ≡ map link_end_key ys = cc e in
     All-cons Q x xs (subst P (sym first) (All-head Q y ys h)) (all_by_keys P xs ys rest (All-tail Q y ys h))
 
-pub all_paired : (plan : PlanValue) (links : List LinkName) (lots : List Lot) (ws : List Lot) → AllZip WorkerRan lots ws → All (IsNewLot plan links) lots → All (IsPaired links) (lanes_of ws)
+pub all_paired : (plan : PlanValue) (links : List LinkName) (shares : List WorkerShare) (ws : List WorkerShare) → AllZip WorkerRan shares ws → All (IsNewShare plan links) shares → All (IsPaired links) (link_ends_of ws)
 all_paired plan links [] [] e h = All-nil (IsPaired links)
 all_paired plan links [] (w ∷ ws) e h = absurd e
-all_paired plan links (l ∷ lots) [] e h = absurd e
-all_paired plan links (l ∷ lots) (w ∷ ws) e h =
-    let P = IsNewLot plan links in
-    let first = All-head P l lots h in
-    All-append (IsPaired links) w.lanes.items (lanes_of ws)
-    (all_by_keys (λ k. slice_get links k.0 ≡ Some k.1) w.lanes.items l.lanes.items e.0.keys first.paired)
-    (all_paired plan links lots ws e.1 (All-tail P l lots h))
+all_paired plan links (l ∷ shares) [] e h = absurd e
+all_paired plan links (l ∷ shares) (w ∷ ws) e h =
+    let P = IsNewShare plan links in
+    let first = All-head P l shares h in
+    All-append (IsPaired links) w.link_ends.items (link_ends_of ws)
+    (all_by_keys (λ k. slice_get links k.0 ≡ Some k.1) w.link_ends.items l.link_ends.items e.0.keys first.paired)
+    (all_paired plan links shares ws e.1 (All-tail P l shares h))
 
 -- ---- sessions
 
@@ -89,7 +89,7 @@ module _ {S : Type 0} (seen : S → SourceView) where
       let first : ended_link t ≡ start_link s = e.0.link_is in
       let rest = links_same starts ts e.1 in cc
 
-  sessions_settled : (capacity : ℕ) (starts : List (Start S)) (ts : List (EndedSession S)) (ls : List Lane) (ks : List Settled)
+  sessions_settled : (capacity : ℕ) (starts : List (Start S)) (ts : List (EndedSession S)) (ls : List LinkEnd) (ks : List Settled)
       → AllZip (SessionRan seen) starts ts → All (IsNewStart capacity) starts → Each3 SettlesEnds ts ls ks → All IsEnded ls
       → Each4 (IsSettled seen capacity) (map (λ (s : Start S). s.source) starts) (map (λ (t : EndedSession S). t.source) ts) (map (λ (t : EndedSession S). t.report) ts) ks
   sessions_settled capacity [] [] [] [] e n z h = tt
@@ -110,29 +110,29 @@ module _ {S : Type 0} (seen : S → SourceView) where
       )
   sessions_settled capacity starts ts ls ks e n z h = absurd z
 
-  came_settled : (plan : PlanValue) (capacity : ℕ) (sources : List S) (starts : List (Start S)) (lots : List Lot) (ts : List (EndedSession S)) (reports : List FullReport) (links : List Settled) (afters : List S) (records : List DataRecord)
-      → IsDealt plan capacity sources starts lots → AllZip (SessionRan seen) starts ts → CameOver ts reports links afters records
+  came_settled : (plan : PlanValue) (capacity : ℕ) (sources : List S) (starts : List (Start S)) (shares : List WorkerShare) (ts : List (EndedSession S)) (reports : List FullReport) (links : List Settled) (afters : List S) (records : List DataRecord)
+      → IsDealt plan capacity sources starts shares → AllZip (SessionRan seen) starts ts → CameOver ts reports links afters records
       → Each4 (IsSettled seen capacity) sources afters reports links
-  came_settled plan capacity sources starts lots ts reports links afters records d e came =
-      rw (sym d.sources_are, came.settled.sources_are, came.settled.reports_are) (sessions_settled capacity starts ts came.lanes links e d.new_starts came.settled.links_are came.ended)
+  came_settled plan capacity sources starts shares ts reports links afters records d e came =
+      rw (sym d.sources_are, came.settled.sources_are, came.settled.reports_are) (sessions_settled capacity starts ts came.link_ends links e d.new_starts came.settled.links_are came.ended)
 
-  finished : (plan : PlanValue) (pool : Pool) (sources : List S) (starts : List (Start S)) (lots : List Lot) (ts : List (EndedSession S)) (c : CollectedInFull S Table)
-      → IsDealt plan pool.capacity sources starts lots → AllZip (SessionRan seen) starts ts → FinishedAs plan ts c
+  finished : (plan : PlanValue) (pool : Pool) (sources : List S) (starts : List (Start S)) (shares : List WorkerShare) (ts : List (EndedSession S)) (c : CollectedInFull S Table)
+      → IsDealt plan pool.capacity sources starts shares → AllZip (SessionRan seen) starts ts → FinishedAs plan ts c
       → HeadlineInFull seen sources plan pool c × FitsPlan plan c.table
-  finished plan pool sources starts lots ts c d e f =
-      let each = came_settled plan pool.capacity sources starts lots ts c.sessions.items c.links.items c.sources.items f.records d e f.came in
+  finished plan pool sources starts shares ts c d e f =
+      let each = came_settled plan pool.capacity sources starts shares ts c.sessions.items c.links.items c.sources.items f.records d e f.came in
       (run_headline seen sources plan pool c f.records each f.came.same f.table_is f.small, f.fits)
 
-  overfull : (plan : PlanValue) (capacity : ℕ) (sources : List S) (starts : List (Start S)) (lots : List Lot) (ts : List (EndedSession S))
-      → IsDealt plan capacity sources starts lots → AllZip (SessionRan seen) starts ts → IsOverfull plan ts → AreTooLarge seen plan sources
-  overfull plan capacity sources starts lots ts d e f =
-      let each = came_settled plan capacity sources starts lots ts f.reports f.links f.sources f.records d e f.came in
+  overfull : (plan : PlanValue) (capacity : ℕ) (sources : List S) (starts : List (Start S)) (shares : List WorkerShare) (ts : List (EndedSession S))
+      → IsDealt plan capacity sources starts shares → AllZip (SessionRan seen) starts ts → IsOverfull plan ts → AreTooLarge seen plan sources
+  overfull plan capacity sources starts shares ts d e f =
+      let each = came_settled plan capacity sources starts shares ts f.reports f.links f.sources f.records d e f.came in
       let all = told seen capacity sources f.sources f.reports f.links each in
       let same : IsSameBag f.records (all_of all.records) = subst (λ (x : List DataRecord). IsSameBag f.records x) all.all f.came.same in
       too_large_due seen plan sources f.sources (reports_in f.reports) all.records f.records (given_short seen sources f.sources f.reports all.records all.given) same f.large
 
-  pub answered : (plan : PlanValue) (pool : Pool) (sources : List S) (starts : List (Start S)) (lots : List Lot) (ts : List (EndedSession S)) (answer : Option (CollectedInFull S Table))
-      → IsDealt plan pool.capacity sources starts lots → AllZip (SessionRan seen) starts ts → MatchOption answer (IsOverfull plan ts) (λ c. FinishedAs plan ts c)
+  pub answered : (plan : PlanValue) (pool : Pool) (sources : List S) (starts : List (Start S)) (shares : List WorkerShare) (ts : List (EndedSession S)) (answer : Option (CollectedInFull S Table))
+      → IsDealt plan pool.capacity sources starts shares → AllZip (SessionRan seen) starts ts → MatchOption answer (IsOverfull plan ts) (λ c. FinishedAs plan ts c)
       → MatchOption answer (AreTooLarge seen plan sources) (λ c. HeadlineInFull seen sources plan pool c × FitsPlan plan c.table)
-  answered plan pool sources starts lots ts None d e f = overfull plan pool.capacity sources starts lots ts d e f
-  answered plan pool sources starts lots ts (Some c) d e f = finished plan pool sources starts lots ts c d e f
+  answered plan pool sources starts shares ts None d e f = overfull plan pool.capacity sources starts shares ts d e f
+  answered plan pool sources starts shares ts (Some c) d e f = finished plan pool sources starts shares ts c d e f

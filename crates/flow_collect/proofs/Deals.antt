@@ -7,10 +7,10 @@ use Rattle.flow_link.specs.Ends.{LinkName}
 use Rattle.flow_table.specs.Partials.{StandsFor, plan_of}
 use Rattle.flow_table.specs.Plans.{PlanValue}
 use Rattle.flow_table.specs.declared.partial.Partial.{Partial}
-use Rattle.flow_collect.specs.Dealt.{IsPaired, IsNewLot, IsNewStart, IsDealt, DealsOne, start_link}
+use Rattle.flow_collect.specs.Dealt.{IsPaired, IsNewShare, IsNewStart, IsDealt, DealsOne, start_link}
 use Rattle.flow_collect.specs.declared.session_thread.Start.{Start}
-use Rattle.flow_collect.specs.declared.worker.Lane.{Lane}
-use Rattle.flow_collect.specs.declared.worker.Lot.{Lot}
+use Rattle.flow_collect.specs.declared.worker.LinkEnd.{LinkEnd}
+use Rattle.flow_collect.specs.declared.worker.WorkerShare.{WorkerShare}
 
 get_more : {A : Type 0} (xs ys : List A) (n : ℕ) (x : A) → slice_get xs n ≡ Some x → slice_get (xs ++ ys) n ≡ Some x
 get_more [] ys n x e = cc e
@@ -21,64 +21,64 @@ pub at_seam : {A B : Type 0} (f : A → B) (xs : List A) (x : A) (ys : List A) �
 at_seam f [] x ys = refl
 at_seam f (a ∷ xs) x ys = at_seam f xs x ys
 
-lot_more : (plan : PlanValue) (links more : List LinkName) (lot : Lot) → IsNewLot plan links lot → IsNewLot plan (links ++ more) lot
-lot_more plan links more lot h =
+share_more : (plan : PlanValue) (links more : List LinkName) (share : WorkerShare) → IsNewShare plan links share → IsNewShare plan (links ++ more) share
+share_more plan links more share h =
     record {
       plan_is = h.plan_is;
       unused = h.unused;
-      paired = All-weaker (IsPaired links) (IsPaired (links ++ more)) (λ lane p. get_more links more lane.session lane.receiver.link p) lot.lanes.items h.paired;
+      paired = All-weaker (IsPaired links) (IsPaired (links ++ more)) (λ link_end p. get_more links more link_end.session link_end.receiver.link p) share.link_ends.items h.paired;
     }
 
--- a lot with one lane more
-lot_on : (plan : PlanValue) (links : List LinkName) (first dealt : Lot) (lane : Lane) → IsNewLot plan links first → dealt.partial ≡ first.partial → dealt.lanes.items ≡ first.lanes.items ++ lane ∷ []
-    → lane.receiver.received ≡ [] → IsPaired links lane → IsNewLot plan links dealt
-lot_on plan links first dealt lane h partial lanes new paired =
-    let New = λ (lane : Lane). lane.receiver.received ≡ [] in
+-- a share with one link_end more
+share_on : (plan : PlanValue) (links : List LinkName) (first dealt : WorkerShare) (link_end : LinkEnd) → IsNewShare plan links first → dealt.partial ≡ first.partial → dealt.link_ends.items ≡ first.link_ends.items ++ link_end ∷ []
+    → link_end.receiver.received ≡ [] → IsPaired links link_end → IsNewShare plan links dealt
+share_on plan links first dealt link_end h partial link_ends new paired =
+    let New = λ (link_end : LinkEnd). link_end.receiver.received ≡ [] in
     record {
       plan_is = ap plan_of partial ∙ h.plan_is;
       unused = (
         subst (λ (p : Partial). StandsFor p []) (sym partial) h.unused.0,
-        subst (All New) (sym lanes) (All-push New first.lanes.items lane h.unused.1 new),
+        subst (All New) (sym link_ends) (All-push New first.link_ends.items link_end h.unused.1 new),
       );
-      paired = subst (All (IsPaired links)) (sym lanes) (All-push (IsPaired links) first.lanes.items lane h.paired paired);
+      paired = subst (All (IsPaired links)) (sym link_ends) (All-push (IsPaired links) first.link_ends.items link_end h.paired paired);
     }
 
-pub deal_on : {S : Type 0} (plan : PlanValue) (capacity : ℕ) (sources : List S) (source : S) (starts : List (Start S)) (lots : List Lot) (starts' : List (Start S)) (lots' : List Lot)
-    → IsDealt plan capacity sources starts lots → DealsOne capacity source starts lots starts' lots' → IsDealt plan capacity (sources ++ source ∷ []) starts' lots'
-deal_on {S} plan capacity sources source starts lots starts' lots' d one =
+pub deal_on : {S : Type 0} (plan : PlanValue) (capacity : ℕ) (sources : List S) (source : S) (starts : List (Start S)) (shares : List WorkerShare) (starts' : List (Start S)) (shares' : List WorkerShare)
+    → IsDealt plan capacity sources starts shares → DealsOne capacity source starts shares starts' shares' → IsDealt plan capacity (sources ++ source ∷ []) starts' shares'
+deal_on {S} plan capacity sources source starts shares starts' shares' d one =
     let links = map start_link starts ++ start_link one.start ∷ [] in
     let links_are : map start_link starts' ≡ links = ap (map start_link) one.starts_are ∙ map_push start_link starts one.start in
-    let P = IsNewLot plan links in
-    let all : All P (one.first ∷ one.others) = subst (All P) one.lots_were (All-weaker (IsNewLot plan (map start_link starts)) P (λ lot h. lot_more plan (map start_link starts) (start_link one.start ∷ []) lot h) lots d.new_lots) in
+    let P = IsNewShare plan links in
+    let all : All P (one.first ∷ one.others) = subst (All P) one.shares_were (All-weaker (IsNewShare plan (map start_link starts)) P (λ share h. share_more plan (map start_link starts) (start_link one.start ∷ []) share h) shares d.new_shares) in
     let seam : slice_get links (length starts) ≡ Some (start_link one.start) = sym (ap (λ xs. slice_get xs (length starts)) (map_push start_link starts one.start)) ∙ at_seam start_link starts one.start [] in
-    let here : IsPaired links one.lane = rw one.session_is (seam ∙ ap Some one.link.pair) in
-    let dealt : P one.dealt = lot_on plan links one.first one.dealt one.lane (All-head P one.first one.others all) one.partial_is one.lanes_are one.link.nothing_received here in
+    let here : IsPaired links one.link_end = rw one.session_is (seam ∙ ap Some one.link.pair) in
+    let dealt : P one.dealt = share_on plan links one.first one.dealt one.link_end (All-head P one.first one.others all) one.partial_is one.link_ends_are one.link.nothing_received here in
     record {
       sources_are = ap (map (λ (start : Start S). start.source)) one.starts_are ∙ (map_push (λ (start : Start S). start.source) starts one.start ∙ (ap (λ r. r ++ one.start.source ∷ []) d.sources_are ∙ ap (λ s. sources ++ s ∷ []) one.source_is));
       new_starts = rw one.starts_are (All-push (IsNewStart capacity) starts one.start d.new_starts (one.link.nothing_sent, one.link.sender_capacity));
-      new_lots = rw (links_are, one.lots_are) (All-push P one.others one.dealt (All-tail P one.first one.others all) dealt);
+      new_shares = rw (links_are, one.shares_are) (All-push P one.others one.dealt (All-tail P one.first one.others all) dealt);
     }
 
-pub empty_lot : (plan : PlanValue) (lot : Lot) → plan_of lot.partial ≡ plan → StandsFor lot.partial [] → lot.lanes.items ≡ [] → IsNewLot plan [] lot
-empty_lot plan lot is stands e =
+pub empty_share : (plan : PlanValue) (share : WorkerShare) → plan_of share.partial ≡ plan → StandsFor share.partial [] → share.link_ends.items ≡ [] → IsNewShare plan [] share
+empty_share plan share is stands e =
     record {
       plan_is = is;
-      unused = (stands, subst (All (λ (lane : Lane). lane.receiver.received ≡ [])) (sym e) (All-nil (λ (lane : Lane). lane.receiver.received ≡ [])));
+      unused = (stands, subst (All (λ (link_end : LinkEnd). link_end.receiver.received ≡ [])) (sym e) (All-nil (λ (link_end : LinkEnd). link_end.receiver.received ≡ [])));
       paired = subst (All (IsPaired [])) (sym e) (All-nil (IsPaired []));
     }
 
-pub lots_more : (plan : PlanValue) (lots lots' : List Lot) (lot : Lot) → All (IsNewLot plan []) lots → IsNewLot plan [] lot → lots' ≡ lots ++ lot ∷ [] → All (IsNewLot plan []) lots'
-lots_more plan lots lots' lot h new e = rw e (All-push (IsNewLot plan []) lots lot h new)
+pub shares_more : (plan : PlanValue) (shares shares' : List WorkerShare) (share : WorkerShare) → All (IsNewShare plan []) shares → IsNewShare plan [] share → shares' ≡ shares ++ share ∷ [] → All (IsNewShare plan []) shares'
+shares_more plan shares shares' share h new e = rw e (All-push (IsNewShare plan []) shares share h new)
 
-pub first_dealt : {S : Type 0} (plan : PlanValue) (capacity : ℕ) (starts : List (Start S)) (lots : List Lot) → starts ≡ [] → All (IsNewLot plan []) lots → IsDealt plan capacity [] starts lots
-first_dealt {S} plan capacity starts lots e h =
-    rw e (record { sources_are = refl; new_starts = All-nil (IsNewStart {S = S} capacity); new_lots = h })
+pub first_dealt : {S : Type 0} (plan : PlanValue) (capacity : ℕ) (starts : List (Start S)) (shares : List WorkerShare) → starts ≡ [] → All (IsNewShare plan []) shares → IsDealt plan capacity [] starts shares
+first_dealt {S} plan capacity starts shares e h =
+    rw e (record { sources_are = refl; new_starts = All-nil (IsNewStart {S = S} capacity); new_shares = h })
 
--- there are as many lots as before
-pub as_many : {S : Type 0} (capacity : ℕ) (source : S) (starts : List (Start S)) (lots : List Lot) (starts' : List (Start S)) (lots' : List Lot)
-    → DealsOne capacity source starts lots starts' lots' → length lots' ≡ length lots
-as_many capacity source starts lots starts' lots' one =
-    let more = ap length one.lots_are in
-    let were = ap length one.lots_were in
+-- there are as many shares as before
+pub as_many : {S : Type 0} (capacity : ℕ) (source : S) (starts : List (Start S)) (shares : List WorkerShare) (starts' : List (Start S)) (shares' : List WorkerShare)
+    → DealsOne capacity source starts shares starts' shares' → length shares' ≡ length shares
+as_many capacity source starts shares starts' shares' one =
+    let more = ap length one.shares_are in
+    let were = ap length one.shares_were in
     let both = length-append one.others (one.dealt ∷ []) in
     omega (arith, more, were, both)

@@ -6,7 +6,7 @@ pub mod Settled
 pub mod Runs
 pub mod Serials
 pub mod SendLists
-pub mod LaneLists
+pub mod LinkEndLists
 pub mod ZipLists
 pub mod Deals
 pub mod SettleLists

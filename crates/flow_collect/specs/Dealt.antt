@@ -4,24 +4,24 @@ use Rattle.flow_link.specs.Ends.{LinkName, IsNewLink}
 use Rattle.flow_link.specs.declared.making.TheConstants.{MAX_CAPACITY}
 use Rattle.flow_table.specs.Partials.{plan_of}
 use Rattle.flow_table.specs.Plans.{PlanValue}
-use Rattle.flow_collect.specs.Lanes.{IsUnused}
+use Rattle.flow_collect.specs.LinkEnds.{IsUnused}
 use Rattle.flow_collect.specs.declared.session_thread.Start.{Start}
-use Rattle.flow_collect.specs.declared.worker.Lane.{Lane}
-use Rattle.flow_collect.specs.declared.worker.Lot.{Lot}
+use Rattle.flow_collect.specs.declared.worker.LinkEnd.{LinkEnd}
+use Rattle.flow_collect.specs.declared.worker.WorkerShare.{WorkerShare}
 
 -- what a link may hold
 abbrev pub IsCapacity : ℕ → Type 0
 IsCapacity n = (0 < n) × (n ≤ MAX_CAPACITY)
 
--- the lane's link is that of its session
-abbrev pub IsPaired : List LinkName → Lane → Type 0
-IsPaired links lane = slice_get links lane.session ≡ Some lane.receiver.link
+-- the link_end's link is that of its session
+abbrev pub IsPaired : List LinkName → LinkEnd → Type 0
+IsPaired links link_end = slice_get links link_end.session ≡ Some link_end.receiver.link
 
--- a lot of the plan, unused, each lane with the link of its session
-pub record IsNewLot (plan : PlanValue) (links : List LinkName) (lot : Lot) : Type 0 where
-  pub plan_is : plan_of lot.partial ≡ plan
-  pub unused : IsUnused lot
-  pub paired : All (IsPaired links) lot.lanes.items
+-- a share of the plan, unused, each link_end with the link of its session
+pub record IsNewShare (plan : PlanValue) (links : List LinkName) (share : WorkerShare) : Type 0 where
+  pub plan_is : plan_of share.partial ≡ plan
+  pub unused : IsUnused share
+  pub paired : All (IsPaired links) share.link_ends.items
 
 module _ {S : Type 0} where
   abbrev pub start_link : Start S → LinkName
@@ -31,26 +31,26 @@ module _ {S : Type 0} where
   abbrev pub IsNewStart : ℕ → Start S → Type 0
   IsNewStart capacity start = (start.sender.sent ≡ []) × (start.sender.capacity ≡ capacity)
 
-  -- each source has a new link, whose other end is in a lot
-  pub record IsDealt (plan : PlanValue) (capacity : ℕ) (sources : List S) (starts : List (Start S)) (lots : List Lot) : Type 0 where
+  -- each source has a new link, whose other end is in a share
+  pub record IsDealt (plan : PlanValue) (capacity : ℕ) (sources : List S) (starts : List (Start S)) (shares : List WorkerShare) : Type 0 where
     pub sources_are : map (λ (start : Start S). start.source) starts ≡ sources
     pub new_starts : All (IsNewStart capacity) starts
-    pub new_lots : All (IsNewLot plan (map start_link starts)) lots
+    pub new_shares : All (IsNewShare plan (map start_link starts)) shares
 
-  -- a new link: its sender goes to the source, and its receiver to the first lot, which goes to the end
-  pub record DealsOne (capacity : ℕ) (source : S) (starts : List (Start S)) (lots : List Lot) (starts' : List (Start S)) (lots' : List Lot) : Type 0 where
+  -- a new link: its sender goes to the source, and its receiver to the first share, which goes to the end
+  pub record DealsOne (capacity : ℕ) (source : S) (starts : List (Start S)) (shares : List WorkerShare) (starts' : List (Start S)) (shares' : List WorkerShare) : Type 0 where
     pub start : Start S
-    pub lane : Lane
-    pub first : Lot
-    pub dealt : Lot
-    pub others : List Lot
+    pub link_end : LinkEnd
+    pub first : WorkerShare
+    pub dealt : WorkerShare
+    pub others : List WorkerShare
     pub source_is : start.source ≡ source
     pub number_is : start.session ≡ length starts
-    pub link : IsNewLink capacity start.sender lane.receiver
-    pub session_is : lane.session ≡ length starts
+    pub link : IsNewLink capacity start.sender link_end.receiver
+    pub session_is : link_end.session ≡ length starts
     pub starts_are : starts' ≡ starts ++ start ∷ []
-    pub lots_were : lots ≡ first ∷ others
-    pub lots_are : lots' ≡ others ++ dealt ∷ []
-    pub lanes_are : dealt.lanes.items ≡ first.lanes.items ++ lane ∷ []
+    pub shares_were : shares ≡ first ∷ others
+    pub shares_are : shares' ≡ others ++ dealt ∷ []
+    pub link_ends_are : dealt.link_ends.items ≡ first.link_ends.items ++ link_end ∷ []
     pub partial_is : dealt.partial ≡ first.partial
     pub worker_is : dealt.worker ≡ first.worker

@@ -12,27 +12,27 @@ use Rattle.flow_table.specs.Partials.{plan_of}
 use Rattle.flow_table.specs.Plans.{PlanValue}
 use Rattle.flow_table.specs.declared.table.Table.{Table}
 use Rattle.flow_table.specs.Tables.{IsTable, IsTooLarge}
-use Rattle.flow_collect.specs.Lanes.{StandsForLanes, IsEnded}
+use Rattle.flow_collect.specs.LinkEnds.{StandsForLinkEnds, IsEnded}
 use Rattle.flow_collect.specs.Places.{Each3}
 use Rattle.flow_collect.specs.Promises.{settled_records}
 use Rattle.flow_collect.specs.declared.collected.CollectedInFull.{CollectedInFull}
 use Rattle.flow_collect.specs.declared.session_thread.EndedSession.{EndedSession}
-use Rattle.flow_collect.specs.declared.worker.Lane.{Lane}
-use Rattle.flow_collect.specs.declared.worker.Lot.{Lot}
+use Rattle.flow_collect.specs.declared.worker.LinkEnd.{LinkEnd}
+use Rattle.flow_collect.specs.declared.worker.WorkerShare.{WorkerShare}
 
--- a worker took Last of each of its lanes, and has the table of all that came over them
-pub record HasTaken (plan : PlanValue) (w : Lot) : Type 0 where
+-- a worker took Last of each of its link_ends, and has the table of all that came over them
+pub record HasTaken (plan : PlanValue) (w : WorkerShare) : Type 0 where
   pub plan_is : plan_of w.partial ≡ plan
-  pub ended : All IsEnded w.lanes.items
-  pub table : StandsForLanes w.partial w.lanes.items
+  pub ended : All IsEnded w.link_ends.items
+  pub table : StandsForLinkEnds w.partial w.link_ends.items
 
-abbrev pub lanes_of : List Lot → List Lane
-lanes_of ws = flat_map (λ (w : Lot). w.lanes.items) ws
+abbrev pub link_ends_of : List WorkerShare → List LinkEnd
+link_ends_of ws = flat_map (λ (w : WorkerShare). w.link_ends.items) ws
 
 -- as if one worker had taken all that these took
-pub record IsMerged (ws : List Lot) (all : Lot) : Type 0 where
-  pub lanes_are : all.lanes.items ≡ lanes_of ws
-  pub table : StandsForLanes all.partial all.lanes.items
+pub record IsMerged (ws : List WorkerShare) (all : WorkerShare) : Type 0 where
+  pub link_ends_are : all.link_ends.items ≡ link_ends_of ws
+  pub table : StandsForLinkEnds all.partial all.link_ends.items
   pub plan_is : (plan : PlanValue) → All (HasTaken plan) ws → plan_of all.partial ≡ plan
 
 module _ {S : Type 0} where
@@ -40,28 +40,28 @@ module _ {S : Type 0} where
   ended_link t = t.sender.link
 
   -- both ends of the link were settled
-  abbrev pub SettlesEnds : EndedSession S → Lane → Settled → Type 0
-  SettlesEnds t lane link = Settles t.sender lane.receiver link
+  abbrev pub SettlesEnds : EndedSession S → LinkEnd → Settled → Type 0
+  SettlesEnds t link_end link = Settles t.sender link_end.receiver link
 
   -- of each session its report, its settled link and its source
-  pub record SettledAll (ts : List (EndedSession S)) (lanes : List Lane) (reports : List FullReport) (links : List Settled) (sources : List S) : Type 0 where
+  pub record SettledAll (ts : List (EndedSession S)) (link_ends : List LinkEnd) (reports : List FullReport) (links : List Settled) (sources : List S) : Type 0 where
     pub reports_are : reports ≡ map (λ (t : EndedSession S). t.report) ts
     pub sources_are : sources ≡ map (λ (t : EndedSession S). t.source) ts
-    pub links_are : Each3 SettlesEnds ts lanes links
+    pub links_are : Each3 SettlesEnds ts link_ends links
 
   -- one session more
-  pub record SettlesOne (t : EndedSession S) (lane : Lane) (reports : List FullReport) (links : List Settled) (sources : List S) (reports' : List FullReport) (links' : List Settled) (sources' : List S) : Type 0 where
+  pub record SettlesOne (t : EndedSession S) (link_end : LinkEnd) (reports : List FullReport) (links : List Settled) (sources : List S) (reports' : List FullReport) (links' : List Settled) (sources' : List S) : Type 0 where
     pub link : Settled
     pub reports_are : reports' ≡ reports ++ t.report ∷ []
     pub links_are : links' ≡ links ++ link ∷ []
     pub sources_are : sources' ≡ sources ++ t.source ∷ []
-    pub settled : SettlesEnds t lane link
+    pub settled : SettlesEnds t link_end link
 
   -- all links were settled once Last had been taken, and these are the records that came over them, in some order
   pub record CameOver (ts : List (EndedSession S)) (reports : List FullReport) (links : List Settled) (sources : List S) (records : List DataRecord) : Type 0 where
-    pub lanes : List Lane
-    pub settled : SettledAll ts lanes reports links sources
-    pub ended : All IsEnded lanes
+    pub link_ends : List LinkEnd
+    pub settled : SettledAll ts link_ends reports links sources
+    pub ended : All IsEnded link_ends
     pub same : IsSameBag records (settled_records links)
 
   -- the table is of these records

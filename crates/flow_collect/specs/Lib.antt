@@ -11,6 +11,6 @@ pub mod Adds
 pub mod Serials
 pub mod Promises
 pub mod Sessions
-pub mod Lanes
+pub mod LinkEnds
 pub mod Dealt
 pub mod Finished

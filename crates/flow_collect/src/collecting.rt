@@ -2,18 +2,18 @@
 //!
 //! ```text
 //! deal         makes of each source a Start: its number, the source, and its link's sender, unused;
-//!              makes for each link a Lane: the session's number, and the receiver, unused;
-//!              makes for each worker a Lot: its number, its lanes, and the table of no records.
+//!              makes for each link a LinkEnd: the session's number, and the receiver, unused;
+//!              makes for each worker a WorkerShare: its number, its link_ends, and the table of no records.
 //!
 //! in_threads   gives each Start to a thread of its own, which hands back an EndedSession: the
 //!              source as it was left, the report, and the sender, with all records and then Last sent;
-//!              gives each Lot to a thread of its own, which hands it back with Last taken from each
-//!              lane, and the table of all records that came over them.
+//!              gives each WorkerShare to a thread of its own, which hands it back with Last taken from each
+//!              link_end, and the table of all records that came over them.
 //!              A thread that couldn't send or take all hands back nothing: the run has no answer.
 //!
-//! finish_all   makes of all lots one: the lanes of all sessions, in order, and the table of all
+//! finish_all   makes of all shares one: the link_ends of all sessions, in order, and the table of all
 //!              records;
-//!              makes of each EndedSession and its Lane a place in Parts: the report, the link, with
+//!              makes of each EndedSession and its LinkEnd a place in Parts: the report, the link, with
 //!              both ends settled, and the source;
 //!              makes of Parts and the table what `collect_flat` answers, CollectedInFull.
 //! ```
@@ -148,8 +148,8 @@ fn collect_judged<S: Source + Send + Drop, G: Gate + Sync, R: Threads + Wait + S
     ensures { IfOk result (λ answer. MatchOption answer (AreTooLarge S.seen plan.now sources.items)
         (λ c. HeadlineInFull S.seen sources.items plan.now pool c × FitsPlan plan.now c.table)) }
 {
-    let (starts, lots) = deal(alloc, sources, plan, pool)?;
-    let (ended, worked) = in_threads(rt, alloc, gate, starts, lots)?;
+    let (starts, shares) = deal(alloc, sources, plan, pool)?;
+    let (ended, worked) = in_threads(rt, alloc, gate, starts, shares)?;
     let answer = finish_all(rt, alloc, ended, worked)?;
     Ok(answer)
 }

@@ -2,25 +2,25 @@
 
 ghost use Rattle.std.specs.Prelude.{◌≡◌, [], All, IfOk, OnOk, IfSome, length};
 ghost use Rattle.flow_link.specs.Ends.{IsNewLink};
-ghost use Rattle.flow_collect.specs.Dealt.{IsCapacity, IsDealt, IsNewLot, DealsOne};
+ghost use Rattle.flow_collect.specs.Dealt.{IsCapacity, IsDealt, IsNewShare, DealsOne};
 
 use crate::collected::Pool;
 use crate::session_thread::Start;
 use crate::shortage::Shortage;
-use crate::worker::{Lane, Lot};
+use crate::worker::{LinkEnd, WorkerShare};
 use flow_link::{LinkFault, Receiver, Sender, link};
 use flow_table::{Partial, Plan};
 use std::alloc::Global;
 use std::collections::VecDeque;
 
 /// Makes a link for each source. Its sending end stands in the first part, in the order of the
-/// sources. Its receiving end goes to the lots of the workers, by turns.
+/// sources. Its receiving end goes to the shares of the workers, by turns.
 pub fn deal<S: Drop>(
     alloc: Global,
     sources: Vec<S>,
     plan: &Plan,
     pool: Pool,
-) -> Result<(VecDeque<Start<S>>, VecDeque<Lot>), Shortage>
+) -> Result<(VecDeque<Start<S>>, VecDeque<WorkerShare>), Shortage>
     requires { IsCapacity pool.capacity }
     ensures dealt { IfOk result (λ d. IsDealt plan.now pool.capacity sources.items
         d.0.items d.1.items) }
@@ -28,64 +28,68 @@ pub fn deal<S: Drop>(
 {
     let mut sources = VecDeque::from_vec(sources);
     let mut starts = VecDeque::new(alloc);
-    let mut lots = empty_lots(alloc, plan, pool.workers)?;
+    let mut shares = empty_shares(alloc, plan, pool.workers)?;
     while let Some(source) = sources.pop_front() {
-        deal_one(alloc, pool.capacity, source, &mut starts, &mut lots)?;
+        deal_one(alloc, pool.capacity, source, &mut starts, &mut shares)?;
     }
-    Ok((starts, lots))
+    Ok((starts, shares))
 }
 
-fn empty_lots(alloc: Global, plan: &Plan, workers: usize) -> Result<VecDeque<Lot>, Shortage>
-    ensures new { IfOk result (λ lots. All (IsNewLot plan.now []) lots.items) }
-    ensures count { IfOk result (λ lots. length lots.items ≡ workers) }
+fn empty_shares(
+    alloc: Global,
+    plan: &Plan,
+    workers: usize,
+) -> Result<VecDeque<WorkerShare>, Shortage>
+    ensures new { IfOk result (λ shares. All (IsNewShare plan.now []) shares.items) }
+    ensures count { IfOk result (λ shares. length shares.items ≡ workers) }
 {
-    let mut lots = VecDeque::new(alloc);
+    let mut shares = VecDeque::new(alloc);
     for worker in 0..workers {
-        let lot = empty_lot(alloc, plan, worker)?;
-        lots.push_back(lot)?;
+        let share = empty_share(alloc, plan, worker)?;
+        shares.push_back(share)?;
     }
-    Ok(lots)
+    Ok(shares)
 }
 
-fn empty_lot(alloc: Global, plan: &Plan, worker: usize) -> Result<Lot, Shortage>
-    ensures { IfOk result (λ lot. IsNewLot plan.now [] lot) }
+fn empty_share(alloc: Global, plan: &Plan, worker: usize) -> Result<WorkerShare, Shortage>
+    ensures { IfOk result (λ share. IsNewShare plan.now [] share) }
 {
     let Ok(partial) = Partial::new(alloc, plan) else {
         return Err(Shortage::OutOfMemory);
     };
-    Ok(Lot {
+    Ok(WorkerShare {
         worker,
-        lanes: Vec::new(alloc),
+        link_ends: Vec::new(alloc),
         partial,
     })
 }
 
-// A new link: its sender goes to the source, and its receiver to the first lot, which goes to the
+// A new link: its sender goes to the source, and its receiver to the first share, which goes to the
 // end.
 fn deal_one<S: Drop>(
     alloc: Global,
     capacity: usize,
     source: S,
     starts: &mut VecDeque<Start<S>>,
-    lots: &mut VecDeque<Lot>,
+    shares: &mut VecDeque<WorkerShare>,
 ) -> Result<(), Shortage>
     requires { IsCapacity capacity }
-    ensures { OnOk result (DealsOne capacity source starts.old.items lots.old.items
-        starts.new.items lots.new.items) }
+    ensures { OnOk result (DealsOne capacity source starts.old.items shares.old.items
+        starts.new.items shares.new.items) }
 {
     let (sender, receiver) = new_link(alloc, capacity)?;
-    let Some(mut lot) = lots.pop_front() else {
+    let Some(mut share) = shares.pop_front() else {
         return Err(Shortage::NoThread);
     };
     let session = starts.len();
-    let lane = new_lane(session, receiver);
+    let link_end = new_link_end(session, receiver);
     starts.push_back(Start {
         session,
         source,
         sender,
     })?;
-    lot.lanes.push(lane)?;
-    lots.push_back(lot)?;
+    share.link_ends.push(link_end)?;
+    shares.push_back(share)?;
     Ok(())
 }
 
@@ -100,11 +104,11 @@ fn new_link(alloc: Global, capacity: usize) -> Result<(Sender, Receiver), Shorta
     }
 }
 
-fn new_lane(session: usize, receiver: Receiver) -> Lane
+fn new_link_end(session: usize, receiver: Receiver) -> LinkEnd
     requires { receiver.received ≡ [] }
     ensures { (result.session ≡ session) × (result.receiver ≡ receiver) }
 {
-    Lane {
+    LinkEnd {
         session,
         receiver,
         last: false,

@@ -12,7 +12,7 @@ pub use rounds::run_worker;
 
 /// The worker's end of a session's link.
 #[derive(Drop)]
-pub struct Lane {
+pub struct LinkEnd {
     /// The session's number.
     pub session: usize,
     pub receiver: Receiver,
@@ -23,9 +23,9 @@ pub struct Lane {
 
 /// What a worker's thread is given, and what it hands back once each of its links gave Last.
 #[derive(Drop)]
-pub struct Lot {
+pub struct WorkerShare {
     /// The worker's number, counted from 0.
     pub worker: usize,
-    pub lanes: Vec<Lane>,
+    pub link_ends: Vec<LinkEnd>,
     pub partial: Partial,
 }

@@ -6,7 +6,7 @@ use Rattle.element_registry.specs.declared.added.Added.{Added}
 use Rattle.element_registry.specs.declared.fault.ElementsError.{ElementsError}
 use Rattle.report_writing.specs.OpeningLines.{not_had_lines}
 use Rattle.report_writing.specs.declared.reason.Reason.{Reason}
-use Rattle.report_writing.specs.declared.telling.Telling.{Telling}
+use Rattle.report_writing.specs.declared.verbosity.Verbosity.{Verbosity}
 use Rattle.input_files.specs.FileLines.{error_line, unknown_type_lines}
 
 -- a path has a text that is read so, behind those before it
@@ -19,17 +19,17 @@ Adds Has known path more lines =
     (added : Added) × IsRead Has known path (Ok added) × (more ≡ added.elements) × (lines ≡ unknown_type_lines path added.unknown_type)
 
 -- a file can't be had, or has a fault, and that was told
-abbrev pub Stops : (List ℕ → List ℕ → Type 0) → (List ℕ → Reason → Type 0) → Telling → List Known → List ℕ → List ℕ → Type 0
-Stops Has Refuses telling known path lines =
-    ((reason : Reason) × Refuses path reason × (lines ≡ not_had_lines telling (codes "open") path reason))
+abbrev pub Stops : (List ℕ → List ℕ → Type 0) → (List ℕ → Reason → Type 0) → Verbosity → List Known → List ℕ → List ℕ → Type 0
+Stops Has Refuses verbosity known path lines =
+    ((reason : Reason) × Refuses path reason × (lines ≡ not_had_lines verbosity (codes "open") path reason))
     ⊎ ((error : ElementsError) × IsRead Has known path (Err error) × (lines ≡ error_line path error))
 
 -- files were added one after another, up to the first that stops: what is known then, or nothing, and what was told of them
-abbrev pub Loads : (List ℕ → List ℕ → Type 0) → (List ℕ → Reason → Type 0) → Telling → List Known → List (List ℕ) → Option (List Known) → List ℕ → Type 0
-Loads Has Refuses telling known [] result lines = (result ≡ Some known) × (lines ≡ [])
-Loads Has Refuses telling known (path ∷ paths) result lines =
-    (Stops Has Refuses telling known path lines × (result ≡ None))
-    ⊎ ((more : List Known) × (first : List ℕ) × (later : List ℕ) × Adds Has known path more first × Loads Has Refuses telling more paths result later
+abbrev pub Loads : (List ℕ → List ℕ → Type 0) → (List ℕ → Reason → Type 0) → Verbosity → List Known → List (List ℕ) → Option (List Known) → List ℕ → Type 0
+Loads Has Refuses verbosity known [] result lines = (result ≡ Some known) × (lines ≡ [])
+Loads Has Refuses verbosity known (path ∷ paths) result lines =
+    (Stops Has Refuses verbosity known path lines × (result ≡ None))
+    ⊎ ((more : List Known) × (first : List ℕ) × (later : List ℕ) × Adds Has known path more first × Loads Has Refuses verbosity more paths result later
     × (lines ≡ first ++ later))
 
 -- a file was not read, which was told

@@ -8,7 +8,7 @@ ghost use Rattle.input_files.specs.Loaded.{Adds, Loads, Stops};
 use crate::file_lines::{write_error, write_unknown_type};
 use crate::reading::ReadText;
 use element_registry::{Elements, add_file};
-use report_writing::{Telling, WriteLines, write_not_had_because};
+use report_writing::{Verbosity, WriteLines, write_not_had_because};
 use std::alloc::Global;
 
 /// Reads files of elements in their order, as [`add_file`] does. If one can't be had, or has a fault, the answer is
@@ -18,18 +18,18 @@ pub fn load_elements<T: ReadText, E: WriteLines>(
     files: &T,
     alloc: Global,
     mut paths: &[&str],
-    telling: Telling,
+    verbosity: Verbosity,
     err: &mut E,
 ) -> Option<Elements>
     // The files were added one after another, and exactly what there is to tell of them was told.
-    ensures loads { (lines : List ℕ) × Loads (T.has files.now) (T.refuses files.now) telling []
+    ensures loads { (lines : List ℕ) × Loads (T.has files.now) (T.refuses files.now) verbosity []
         (map (λ path. path.now) paths.entry.now) result lines
         × AreToldTo E.contents E.failed err.old err.new lines }
     ensures kept { E.failed err.old → E.failed err.new }
 {
     let mut elements = Elements::built_in(alloc);
     while let [path, rest @ ..] = paths {
-        elements = add_path(files, alloc, elements, path, telling, err)?;
+        elements = add_path(files, alloc, elements, path, verbosity, err)?;
         paths = rest;
     }
     Some(elements)
@@ -41,21 +41,21 @@ fn add_path<T: ReadText, E: WriteLines>(
     alloc: Global,
     elements: Elements,
     path: &str,
-    telling: Telling,
+    verbosity: Verbosity,
     err: &mut E,
 ) -> Option<Elements>
     ensures adds { IfSome result (λ more. (lines : List ℕ)
         × Adds (T.has files.now) elements path.now more lines
         × AreToldTo E.contents E.failed err.old err.new lines) }
     ensures stops { IfNone result ((lines : List ℕ)
-        × Stops (T.has files.now) (T.refuses files.now) telling elements path.now lines
+        × Stops (T.has files.now) (T.refuses files.now) verbosity elements path.now lines
         × AreToldTo E.contents E.failed err.old err.new lines) }
     ensures kept { E.failed err.old → E.failed err.new }
 {
     let octets = match files.read_text(alloc, path) {
         Ok(octets) => octets,
         Err(reason) => {
-            let _ = write_not_had_because(telling, "open", path, reason, err);
+            let _ = write_not_had_because(verbosity, "open", path, reason, err);
             return None;
         }
     };

@@ -4,21 +4,21 @@ use Rattle.std.proofs.lemmas.List.{length-append, take_more, take_all}
 use Rattle.std.proofs.lemmas.List.Elements.{All-push}
 use Rattle.std.proofs.lemmas.Slice.Zip.{all_zipped_more}
 use Rattle.std.specs.List.{AllZip}
-use Rattle.input_sources.specs.Had.{Came}
+use Rattle.input_sources.specs.Had.{NextOnes}
 
-pub Came-nil : {S : Type 0} (a : Option (List S)) → Came a a []
-Came-nil None = tt
-Came-nil (Some all) = refl
+pub NextOnes-nil : {S : Type 0} (a : Option (List S)) → NextOnes a a []
+NextOnes-nil None = tt
+NextOnes-nil (Some all) = refl
 
-pub Came-trans : {S : Type 0} (a b c : Option (List S)) (xs ys : List S) → Came a b xs → Came b c ys → Came a c (xs ++ ys)
-Came-trans None b c xs ys first then = tt
-Came-trans (Some all) None c xs ys first then = absurd first
-Came-trans (Some all) (Some left) None xs ys first then = absurd then
-Came-trans (Some all) (Some left) (Some rest) xs ys first then = first ∙ ap (λ l. xs ++ l) then ∙ sym (append_assoc xs ys rest)
+pub NextOnes-trans : {S : Type 0} (a b c : Option (List S)) (xs ys : List S) → NextOnes a b xs → NextOnes b c ys → NextOnes a c (xs ++ ys)
+NextOnes-trans None b c xs ys first then = tt
+NextOnes-trans (Some all) None c xs ys first then = absurd first
+NextOnes-trans (Some all) (Some left) None xs ys first then = absurd then
+NextOnes-trans (Some all) (Some left) (Some rest) xs ys first then = first ∙ ap (λ l. xs ++ l) then ∙ sym (append_assoc xs ys rest)
 
 -- one more
-pub one_came : {S : Type 0} (a b c : Option (List S)) (had new : List S) (source : S) → new ≡ had ++ source ∷ [] → Came a b had → Came b c (source ∷ []) → Came a c new
-one_came a b c had new source is first one = rw is (Came-trans a b c had (source ∷ []) first one)
+pub one_came : {S : Type 0} (a b c : Option (List S)) (had new : List S) (source : S) → new ≡ had ++ source ∷ [] → NextOnes a b had → NextOnes b c (source ∷ []) → NextOnes a c new
+one_came a b c had new source is first one = rw is (NextOnes-trans a b c had (source ∷ []) first one)
 
 -- ---- sources that are opened by their paths
 

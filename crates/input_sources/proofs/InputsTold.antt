@@ -8,30 +8,30 @@ use Rattle.std.proofs.lemmas.List.{map-append}
 use Rattle.report_writing.specs.OpeningLines.{if_verbose, opened_line}
 use Rattle.report_writing.specs.Told.{AreTold}
 use Rattle.report_writing.specs.declared.origin.Origin.{Origin}
-use Rattle.report_writing.specs.declared.telling.Telling.{Telling}
+use Rattle.report_writing.specs.declared.verbosity.Verbosity.{Verbosity}
 use Rattle.report_writing.proofs.LinesTold.{none_told, told_then}
 use Rattle.report_writing.proofs.Numbering.{numbered-last}
 use Rattle.input_sources.specs.InputsTold.{opened_lines, StopsAt}
 use Rattle.input_sources.specs.Origins.{IsFileNamed}
 
-abbrev pub line_of : Telling → ℕ → Origin → List ℕ
-line_of telling session origin = if_verbose telling (opened_line session origin)
+abbrev pub line_of : Verbosity → ℕ → Origin → List ℕ
+line_of verbosity session origin = if_verbose verbosity (opened_line session origin)
 
 -- none yet
-pub nothing_opened : (a : Option (List ℕ)) (HasFailed : Type 0) (telling : Telling) (origins : List Origin) → origins ≡ [] → AreTold a a HasFailed (opened_lines telling origins)
-nothing_opened a HasFailed telling origins none = rw none (none_told a HasFailed)
+pub nothing_opened : (a : Option (List ℕ)) (HasFailed : Type 0) (verbosity : Verbosity) (origins : List Origin) → origins ≡ [] → AreTold a a HasFailed (opened_lines verbosity origins)
+nothing_opened a HasFailed verbosity origins none = rw none (none_told a HasFailed)
 
 -- one more
-pub opened_more : (telling : Telling) (origins : List Origin) (origin : Origin) (n : ℕ) → length origins ≡ n → opened_lines telling (origins ++ origin ∷ []) ≡ opened_lines telling origins ++ line_of telling (n + 1) origin
-opened_more telling origins origin n is =
-    numbered-last (line_of telling) origins origin ∙ ap (λ (k : ℕ). opened_lines telling origins ++ line_of telling (k + 1) origin) is
+pub opened_more : (verbosity : Verbosity) (origins : List Origin) (origin : Origin) (n : ℕ) → length origins ≡ n → opened_lines verbosity (origins ++ origin ∷ []) ≡ opened_lines verbosity origins ++ line_of verbosity (n + 1) origin
+opened_more verbosity origins origin n is =
+    numbered-last (line_of verbosity) origins origin ∙ ap (λ (k : ℕ). opened_lines verbosity origins ++ line_of verbosity (k + 1) origin) is
 
 -- and its line is told
-pub opened_told : (old mid new : Option (List ℕ)) (Before After : Type 0) (telling : Telling) (origins all : List Origin) (origin : Origin) (n : ℕ) {T E : Type 0} (answer : Result T E) → all ≡ origins ++ origin ∷ [] → length origins ≡ n
-    → AreTold old mid Before (opened_lines telling origins) → OnOk answer (Appends mid new (line_of telling (n + 1) origin)) → OnErr answer After → (Before → After) → AreTold old new After (opened_lines telling all)
-opened_told old mid new Before After telling origins all origin n answer is count first ok err kept =
-    rw is (subst (λ (l : List ℕ). AreTold old new After l) (sym (opened_more telling origins origin n count))
-    (told_then old mid new Before After answer (opened_lines telling origins) (line_of telling (n + 1) origin) first ok err kept))
+pub opened_told : (old mid new : Option (List ℕ)) (Before After : Type 0) (verbosity : Verbosity) (origins all : List Origin) (origin : Origin) (n : ℕ) {T E : Type 0} (answer : Result T E) → all ≡ origins ++ origin ∷ [] → length origins ≡ n
+    → AreTold old mid Before (opened_lines verbosity origins) → OnOk answer (Appends mid new (line_of verbosity (n + 1) origin)) → OnErr answer After → (Before → After) → AreTold old new After (opened_lines verbosity all)
+opened_told old mid new Before After verbosity origins all origin n answer is count first ok err kept =
+    rw is (subst (λ (l : List ℕ). AreTold old new After l) (sym (opened_more verbosity origins origin n count))
+    (told_then old mid new Before After answer (opened_lines verbosity origins) (line_of verbosity (n + 1) origin) first ok err kept))
 
 -- ---- where it stops
 
@@ -47,9 +47,9 @@ map-at {P} f xs i d less =
     let place : xs ≡ take i xs ++ (get_or xs i d ∷ drop (suc i) xs) = sym (take-append-drop i xs) ∙ ap (λ (l : List P). take i xs ++ l) (drop-cons xs i d less) in
     ap (map f) place ∙ map-append f (take i xs) (get_or xs i d ∷ drop (suc i) xs)
 
-pub stops_at : {P : Type 0} (name_of : P → List ℕ) (paths : List P) (telling : Telling) (Told : List ℕ → Type 0) (i : ℕ) (d : P) (stopped : List ℕ) (origins : List Origin) → i < length paths → stopped ≡ name_of (get_or paths i d)
-    → AllZip (λ p. IsFileNamed (name_of p)) (take i paths) origins → Told (opened_lines telling origins) → StopsAt (map name_of paths) telling Told stopped
-stops_at name_of paths telling Told i d stopped origins less same named told =
+pub stops_at : {P : Type 0} (name_of : P → List ℕ) (paths : List P) (verbosity : Verbosity) (Told : List ℕ → Type 0) (i : ℕ) (d : P) (stopped : List ℕ) (origins : List Origin) → i < length paths → stopped ≡ name_of (get_or paths i d)
+    → AllZip (λ p. IsFileNamed (name_of p)) (take i paths) origins → Told (opened_lines verbosity origins) → StopsAt (map name_of paths) verbosity Told stopped
+stops_at name_of paths verbosity Told i d stopped origins less same named told =
     record {
       before = map name_of (take i paths);
       later = map name_of (drop (suc i) paths);

@@ -10,7 +10,7 @@ use Rattle.flow_plan.specs.PlacesUnder.{TellsUnder}
 use Rattle.flow_plan.specs.declared.error.PlanTextError.{PlanTextError}
 use Rattle.input_sources.specs.PlaceLines.{plan_lines_under}
 use Rattle.report_writing.specs.declared.reason.Reason.{Reason}
-use Rattle.report_writing.specs.declared.telling.Telling.{Telling}
+use Rattle.report_writing.specs.declared.verbosity.Verbosity.{Verbosity}
 use Rattle.input_sources.specs.PlansTold.{IsPlanError, IsPlanErrorUnder, TellsNoPlan, TellsNoPlanUnder}
 
 module _ (plans : (text : List ℕ) → plan_of_text_under [] text ≡ plan_of_text text) where
@@ -29,13 +29,13 @@ module _ (plans : (text : List ℕ) → plan_of_text_under [] text ≡ plan_of_t
           not_utf8 = is.not_utf8;
         }
 
-    told_without : (Has : List ℕ → Type 0) (Refuses : Reason → Type 0) (telling : Telling) (path : List ℕ) (AreTold : List ℕ → Type 0)
-        → TellsNoPlanUnder known Has Refuses telling path AreTold → TellsNoPlan Has Refuses telling path AreTold
-    told_without Has Refuses telling path AreTold (inl refused) = inl refused
-    told_without Has Refuses telling path AreTold (inr read) =
+    told_without : (Has : List ℕ → Type 0) (Refuses : Reason → Type 0) (verbosity : Verbosity) (path : List ℕ) (AreTold : List ℕ → Type 0)
+        → TellsNoPlanUnder known Has Refuses verbosity path AreTold → TellsNoPlan Has Refuses verbosity path AreTold
+    told_without Has Refuses verbosity path AreTold (inl refused) = inl refused
+    told_without Has Refuses verbosity path AreTold (inr read) =
         inr (read.0, read.1, (read.2.0, error_without read.0 read.2.0 read.2.1, subst (λ (k : List Known). AreTold (plan_lines_under k read.2.0)) none read.2.2))
 
-    pub no_plan_without : {X : Type 0} (o : Option X) (Has : List ℕ → Type 0) (Refuses : Reason → Type 0) (telling : Telling) (path : List ℕ) (AreTold : List ℕ → Type 0)
-        → IfNone o (TellsNoPlanUnder known Has Refuses telling path AreTold) → IfNone o (TellsNoPlan Has Refuses telling path AreTold)
-    no_plan_without (Some x) Has Refuses telling path AreTold told = tt
-    no_plan_without None Has Refuses telling path AreTold told = told_without Has Refuses telling path AreTold told
+    pub no_plan_without : {X : Type 0} (o : Option X) (Has : List ℕ → Type 0) (Refuses : Reason → Type 0) (verbosity : Verbosity) (path : List ℕ) (AreTold : List ℕ → Type 0)
+        → IfNone o (TellsNoPlanUnder known Has Refuses verbosity path AreTold) → IfNone o (TellsNoPlan Has Refuses verbosity path AreTold)
+    no_plan_without (Some x) Has Refuses verbosity path AreTold told = tt
+    no_plan_without None Has Refuses verbosity path AreTold told = told_without Has Refuses verbosity path AreTold told

@@ -10,23 +10,23 @@ pub record IsUnread {S : Type 0} (seen : S → SourceView) (source : S) : Type 0
   pub ended : (seen source).ended ≡ false
 
 -- of the sources that were still to come, if they are told, exactly these came, in this order
-abbrev pub Came : {S : Type 0} → Option (List S) → Option (List S) → List S → Type 0
-Came None after sources = Unit {0}
-Came (Some all) None sources = ⊥
-Came (Some all) (Some left) sources = all ≡ sources ++ left
+abbrev pub NextOnes : {S : Type 0} → Option (List S) → Option (List S) → List S → Type 0
+NextOnes None after sources = Unit {0}
+NextOnes (Some all) None sources = ⊥
+NextOnes (Some all) (Some left) sources = all ≡ sources ++ left
 
 -- the next source came, which is the one that was asked for
 pub record IsOpened {S : Type 0} (IsAsked : S → Type 0) (before after : Option (List S)) (source : S) : Type 0 where
   pub asked : IsAsked source
-  pub came : Came before after (source ∷ [])
+  pub came : NextOnes before after (source ∷ [])
 
 -- each path was opened once, in their order: there is one source for each, and exactly these came
 pub record AreOpened {P S : Type 0} (opens : P → S → Type 0) (paths : List P) (before after : Option (List S)) (sources : List S) : Type 0 where
   pub one_each : AllZip opens paths sources
-  pub came : Came before after sources
+  pub came : NextOnes before after sources
 
 -- so many connections were accepted, in this order, each of them as it was asked for, and exactly these came
 pub record AreAccepted {S : Type 0} (IsAsked : S → Type 0) (count : ℕ) (before after : Option (List S)) (sources : List S) : Type 0 where
   pub one_each : length sources ≡ count
   pub asked : All IsAsked sources
-  pub came : Came before after sources
+  pub came : NextOnes before after sources

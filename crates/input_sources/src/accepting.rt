@@ -7,10 +7,10 @@ ghost use Rattle.input_sources.specs.Origins.{ArePeers};
 ghost use Rattle.input_sources.specs.Had.{AreAccepted};
 ghost use Rattle.input_sources.specs.InputsTold.{opened_lines, TellsPeers};
 
-use crate::unread::Unread;
-use crate::watched::Watched;
+use crate::unread_sources::UnreadSources;
+use crate::with_progress::WithProgress;
 use ipfix_session::Source;
-use report_writing::{Origin, Reason, Telling, WriteLines, write_opened};
+use report_writing::{Origin, Reason, Verbosity, WriteLines, write_opened};
 use std::alloc::Global;
 use std::io::Write;
 use std::net::SocketAddr;
@@ -30,7 +30,7 @@ pub trait Listener<S: Source> {
     ghost use Rattle.std.specs.Prelude.{◌≡◌, List, [], ◌∷◌, Option, IfOk, IfSome, IsErr, OnErr};
     ghost use Rattle.std.specs.declared.time.Duration.{Duration};
     ghost use Rattle.input_sources.specs.Had.{IsUnread};
-    ghost use Rattle.input_sources.specs.Had.{Came};
+    ghost use Rattle.input_sources.specs.Had.{NextOnes};
 
     /// Whether a source is a connection with this limit of a read's time, as it is before it is read.
     ghost gives: { Self → Option Duration → S → Type 0 };
@@ -49,7 +49,7 @@ pub trait Listener<S: Source> {
         ensures unread { IfOk result (λ accepted. IsUnread S.seen accepted.source) }
         // It is the next one that was to come.
         ensures came { IfOk result
-            (λ accepted. Came (coming self.old) (coming self.new) (accepted.source ∷ [])) }
+            (λ accepted. NextOnes (coming self.old) (coming self.new) (accepted.source ∷ [])) }
         ensures none_came { OnErr result (coming self.new ≡ coming self.old) }
         ensures no_time { IfSome idle (λ limit. as_nanos limit ≡ 0 → IsErr result) }
         ensures closed { is_closed self.old → IsErr result }
@@ -66,12 +66,12 @@ pub trait Listener<S: Source> {
 /// Connections that were accepted, and the origins of their sessions.
 #[derive(Drop)]
 pub struct AcceptedAll<S: Source + Drop> {
-    pub sources: Unread<S>,
+    pub sources: UnreadSources<S>,
     pub origins: Vec<Origin<'static>>,
 }
 
 /// So many connections as sources, each with this limit of a read's time. Behind the last, and if one can't
-/// be accepted, the listener is closed. `err` has a line for each that was accepted, if `telling` is verbose;
+/// be accepted, the listener is closed. `err` has a line for each that was accepted, if `verbosity` is verbose;
 /// a fault of `err` is passed over.
 pub fn accept_all<
     'r,
@@ -87,9 +87,9 @@ pub fn accept_all<
     count: usize,
     idle: Option<Duration>,
     progress: Option<P>,
-    telling: Telling,
+    verbosity: Verbosity,
     err: &mut E,
-) -> Result<AcceptedAll<Watched<'r, S, R, P>>, Reason>
+) -> Result<AcceptedAll<WithProgress<'r, S, R, P>>, Reason>
     // So many came, each was accepted, and nothing else.
     ensures accepted { IfOk result (λ all. AreAccepted (L.gives listener.old idle) count
         (L.coming listener.old) (L.coming listener.new) all.sources) }
@@ -98,12 +98,12 @@ pub fn accept_all<
     ensures no_time { IfSome idle (λ limit. as_nanos limit ≡ 0 → 0 < count → IsErr result) }
     ensures peers { IfOk result (λ all. ArePeers count all.origins.items) }
     ensures told { IfOk result (λ all. AreToldTo E.contents E.failed err.old err.new
-        (opened_lines telling all.origins.items)) }
-    ensures stopped { OnErr result (TellsPeers telling
+        (opened_lines verbosity all.origins.items)) }
+    ensures stopped { OnErr result (TellsPeers verbosity
         (AreToldTo E.contents E.failed err.old err.new)) }
     ensures kept { E.failed err.old → E.failed err.new }
 {
-    let accepted = accept_each(rt, alloc, listener, count, idle, progress, telling, err);
+    let accepted = accept_each(rt, alloc, listener, count, idle, progress, verbosity, err);
     listener.close();
     accepted
 }
@@ -123,32 +123,32 @@ fn accept_each<
     count: usize,
     idle: Option<Duration>,
     progress: Option<P>,
-    telling: Telling,
+    verbosity: Verbosity,
     err: &mut E,
-) -> Result<AcceptedAll<Watched<'r, S, R, P>>, Reason>
+) -> Result<AcceptedAll<WithProgress<'r, S, R, P>>, Reason>
     ensures accepted { IfOk result (λ all. AreAccepted (L.gives listener.old idle) count
         (L.coming listener.old) (L.coming listener.new) all.sources) }
     ensures no_time { IfSome idle (λ limit. as_nanos limit ≡ 0 → 0 < count → IsErr result) }
     ensures peers { IfOk result (λ all. ArePeers count all.origins.items) }
     ensures told { IfOk result (λ all. AreToldTo E.contents E.failed err.old err.new
-        (opened_lines telling all.origins.items)) }
-    ensures stopped { OnErr result (TellsPeers telling
+        (opened_lines verbosity all.origins.items)) }
+    ensures stopped { OnErr result (TellsPeers verbosity
         (AreToldTo E.contents E.failed err.old err.new)) }
     ensures kept { E.failed err.old → E.failed err.new }
 {
-    let mut sources = Unread::new(alloc);
+    let mut sources = UnreadSources::new(alloc);
     let mut origins = Vec::new(alloc);
     for number in 0..count {
         let Accepted { source, peer } = listener.next_source(idle)?;
         let origin = Origin::Peer(peer);
-        let watched = Watched::new(alloc, rt, number + 1, source, None, progress);
+        let watched = WithProgress::new(alloc, rt, number + 1, source, None, progress);
         let Ok(()) = sources.push(watched) else {
             return Err(Reason::OutOfMemory);
         };
         let Ok(()) = origins.push(origin) else {
             return Err(Reason::OutOfMemory);
         };
-        let _ = write_opened(telling, number + 1, &origin, err);
+        let _ = write_opened(verbosity, number + 1, &origin, err);
     }
     Ok(AcceptedAll { sources, origins })
 }

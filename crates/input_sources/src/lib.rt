@@ -3,7 +3,6 @@
 #![tactic(auto)]
 
 mod accepting;
-mod listening;
 mod noted;
 mod opening;
 mod opening_all;
@@ -12,16 +11,17 @@ mod places;
 mod plan;
 mod plan_fault;
 mod progress;
-mod unread;
-mod watched;
+mod system_listener;
+mod unread_sources;
+mod with_progress;
 
 pub use accepting::{Accepted, AcceptedAll, Listener, accept_all};
-pub use listening::{Listening, NotedPeer};
 pub use noted::{Note, Noted};
 pub use opening::{OpenSource, Opened, SystemFiles};
 pub use opening_all::{NotOpened, OpenedAll, open_all};
 pub use plan::{load_plan, load_plan_under};
 pub use plan_fault::write_plan_fault;
 pub use progress::Progress;
-pub use unread::Unread;
-pub use watched::Watched;
+pub use system_listener::{NotedPeer, SystemListener};
+pub use unread_sources::UnreadSources;
+pub use with_progress::WithProgress;

@@ -27,7 +27,7 @@ pub struct Opened<S> {
 pub trait OpenSource<S: Source> {
     ghost use Rattle.std.specs.Prelude.{◌≡◌, ℕ, List, [], ◌∷◌, Option, IfOk, OnErr};
     ghost use Rattle.input_sources.specs.Had.{IsUnread};
-    ghost use Rattle.input_sources.specs.Had.{Came};
+    ghost use Rattle.input_sources.specs.Had.{NextOnes};
 
     /// Whether a source is the one that a path opens, as it is before it is read.
     ghost opens: { Self → List ℕ → S → Type 0 };
@@ -41,7 +41,7 @@ pub trait OpenSource<S: Source> {
         ensures unread { IfOk result (λ opened. IsUnread S.seen opened.source) }
         // It is the next one that was to come.
         ensures came { IfOk result
-            (λ opened. Came (coming self.old) (coming self.new) (opened.source ∷ [])) }
+            (λ opened. NextOnes (coming self.old) (coming self.new) (opened.source ∷ [])) }
         ensures none_came { OnErr result (coming self.new ≡ coming self.old) }
         // No path has another source than before.
         ensures same { (name : List ℕ) (source : S)

@@ -2,16 +2,16 @@
 
 ghost use Rattle.std.specs.Prelude.{◌≡◌, ℕ, List, [], ◌∷◌, map, IfErr, IfOk};
 ghost use Rattle.std.specs.List.{AllZip};
-ghost use Rattle.input_sources.specs.Had.{IsUnread, AreOpened, Came};
+ghost use Rattle.input_sources.specs.Had.{IsUnread, AreOpened, NextOnes};
 ghost use Rattle.input_sources.specs.Origins.{IsFileNamed};
 ghost use Rattle.input_sources.specs.InputsTold.{opened_lines, StopsAt};
 ghost use Rattle.report_writing.specs.Told.{AreToldTo};
 
 use crate::opening::{OpenSource, Opened};
-use crate::unread::Unread;
-use crate::watched::Watched;
+use crate::unread_sources::UnreadSources;
+use crate::with_progress::WithProgress;
 use ipfix_session::Source;
-use report_writing::{Origin, Reason, Telling, WriteLines, write_opened};
+use report_writing::{Origin, Reason, Verbosity, WriteLines, write_opened};
 use std::alloc::Global;
 use std::io::Write;
 use std::rt::Clock;
@@ -19,7 +19,7 @@ use std::rt::Clock;
 /// Files that were opened, and the origins of their sessions.
 #[derive(Drop)]
 pub struct OpenedAll<'a, S: Source + Drop> {
-    pub sources: Unread<S>,
+    pub sources: UnreadSources<S>,
     pub origins: Vec<Origin<'a>>,
 }
 
@@ -31,7 +31,7 @@ pub struct NotOpened<'a> {
 }
 
 /// The sources of the paths, in order, or the first path that can't be opened. `err` has a line for each
-/// that was opened, if `telling` is verbose; a fault of `err` is passed over.
+/// that was opened, if `verbosity` is verbose; a fault of `err` is passed over.
 pub fn open_all<
     'r,
     'a,
@@ -46,22 +46,22 @@ pub fn open_all<
     files: &mut O,
     paths: &[&'a str],
     progress: Option<P>,
-    telling: Telling,
+    verbosity: Verbosity,
     err: &mut E,
-) -> Result<OpenedAll<'a, Watched<'r, S, R, P>>, NotOpened<'a>>
+) -> Result<OpenedAll<'a, WithProgress<'r, S, R, P>>, NotOpened<'a>>
     // Each path was opened once, and nothing else.
     ensures opened { IfOk result (λ all. AreOpened (λ path. O.opens files.old path.now) paths.now
         (O.coming files.old) (O.coming files.new) all.sources) }
     ensures named { IfOk result
         (λ all. AllZip (λ path. IsFileNamed path.now) paths.now all.origins.items) }
     ensures told { IfOk result (λ all. AreToldTo E.contents E.failed err.old err.new
-        (opened_lines telling all.origins.items)) }
+        (opened_lines verbosity all.origins.items)) }
     ensures stops { IfErr result
-        (λ stopped. StopsAt (map (λ path. path.now) paths.now) telling
+        (λ stopped. StopsAt (map (λ path. path.now) paths.now) verbosity
         (AreToldTo E.contents E.failed err.old err.new) stopped.path.now) }
     ensures kept { E.failed err.old → E.failed err.new }
 {
-    let mut sources = Unread::new(alloc);
+    let mut sources = UnreadSources::new(alloc);
     let mut origins = Vec::new(alloc);
     for (index, path) in paths.iter().enumerate() {
         let session = index + 1;
@@ -72,7 +72,7 @@ pub fn open_all<
         let Ok(()) = origins.push(origin) else {
             return Err(without_memory(*path));
         };
-        let _ = write_opened(telling, session, &origin, err);
+        let _ = write_opened(verbosity, session, &origin, err);
     }
     Ok(OpenedAll { sources, origins })
 }
@@ -94,10 +94,10 @@ fn open_watched<'r, 'a, S: Source + Drop, O: OpenSource<S>, P: Write + Copy + Dr
     session: usize,
     path: &'a str,
     progress: Option<P>,
-) -> Result<(Watched<'r, S, R, P>, Origin<'a>), NotOpened<'a>>
+) -> Result<(WithProgress<'r, S, R, P>, Origin<'a>), NotOpened<'a>>
     ensures opened { IfOk result (λ had. O.opens files.old path.now had.0) }
     ensures came { IfOk result
-        (λ had. Came (O.coming files.old) (O.coming files.new) (had.0 ∷ [])) }
+        (λ had. NextOnes (O.coming files.old) (O.coming files.new) (had.0 ∷ [])) }
     ensures same { (name : List ℕ) (source : S)
         → O.opens files.new name source → O.opens files.old name source }
     ensures stopped { IfErr result (λ stopped. stopped.path.now ≡ path.now) }
@@ -110,7 +110,7 @@ fn open_watched<'r, 'a, S: Source + Drop, O: OpenSource<S>, P: Write + Copy + Dr
                 name: path,
                 size: size.map(|octets| octets.get()),
             };
-            let watched = Watched::new(alloc, rt, session, source, size, progress);
+            let watched = WithProgress::new(alloc, rt, session, source, size, progress);
             Ok((watched, origin))
         }
         Err(reason) => Err(NotOpened { path, reason }),

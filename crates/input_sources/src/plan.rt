@@ -15,17 +15,17 @@ use flow_plan::laws::no_files;
 use flow_plan::read_plan_octets_under;
 use flow_table::Plan;
 use input_files::ReadText;
-use report_writing::{Telling, WriteLines, write_not_had_because};
+use report_writing::{Verbosity, WriteLines, write_not_had_because};
 use std::alloc::Global;
 
 /// Reads the plan in the text of a path. If there is no such text, or it is no plan, the answer is `None`
-/// and `err` has a line that says so, if `telling` is verbose with the system's reason; and for the fault of a
+/// and `err` has a line that says so, if `verbosity` is verbose with the system's reason; and for the fault of a
 /// text a second one that says where it is.
 pub fn load_plan<T: ReadText, E: WriteLines>(
     files: &T,
     alloc: Global,
     path: &str,
-    telling: Telling,
+    verbosity: Verbosity,
     err: &mut E,
 ) -> Option<Plan>
     // The plan is that of the text that the path has, which is UTF-8.
@@ -37,13 +37,13 @@ pub fn load_plan<T: ReadText, E: WriteLines>(
     ensures silent { IfSome result (λ _. err.new ≡ err.old) }
     // Else why the path has none was told, and nothing else.
     ensures told { IfNone result (TellsNoPlan (T.has files.now path.now) (T.refuses files.now path.now)
-        telling path.now (AreToldTo E.contents E.failed err.old err.new)) }
+        verbosity path.now (AreToldTo E.contents E.failed err.old err.new)) }
     ensures kept { E.failed err.old → E.failed err.new }
 {
     // (what a text says under no files is what it says without any)
     no_files();
     let elements = Elements::built_in(alloc);
-    load_plan_under(files, alloc, &elements, path, telling, err)
+    load_plan_under(files, alloc, &elements, path, verbosity, err)
 }
 
 /// Does as [`load_plan`] with a text that may name elements of files, too.
@@ -52,7 +52,7 @@ pub fn load_plan_under<T: ReadText, E: WriteLines>(
     alloc: Global,
     elements: &Elements,
     path: &str,
-    telling: Telling,
+    verbosity: Verbosity,
     err: &mut E,
 ) -> Option<Plan>
     // The plan is that of the text that the path has, which is UTF-8.
@@ -65,14 +65,14 @@ pub fn load_plan_under<T: ReadText, E: WriteLines>(
     ensures silent { IfSome result (λ _. err.new ≡ err.old) }
     // Else why the path has none was told, and nothing else.
     ensures told { IfNone result (TellsNoPlanUnder elements.now (T.has files.now path.now)
-        (T.refuses files.now path.now) telling path.now
+        (T.refuses files.now path.now) verbosity path.now
         (AreToldTo E.contents E.failed err.old err.new)) }
     ensures kept { E.failed err.old → E.failed err.new }
 {
     let octets = match files.read_text(alloc, path) {
         Ok(octets) => octets,
         Err(reason) => {
-            let _ = write_not_had_because(telling, "open", path, reason, err);
+            let _ = write_not_had_because(verbosity, "open", path, reason, err);
             return None;
         }
     };

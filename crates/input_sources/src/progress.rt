@@ -1,4 +1,4 @@
-//! Telling what a session has read, while it reads.
+//! Verbosity what a session has read, while it reads.
 
 ghost use Rattle.std.specs.Prelude.{◌≡◌, ◌≤◌, ◌<◌, ◌+◌, [], IsTrue, ◌↔◌, OnOk, IfSome, IfNone, option_map};
 ghost use Rattle.std.specs.Int.NonZero.{non_zero_u64_get};

@@ -2,7 +2,7 @@
 use Rattle.std.specs.Prelude.{ℕ, Option, Some, None}
 use Rattle.std.specs.declared.net.socket_addr.SocketAddr.{SocketAddr}
 use Rattle.ipfix_session.specs.Sources.{one_more}
-use Rattle.recording_connections.specs.declared.front_desk.RefusedPeers.{RefusedPeers}
+use Rattle.recording_connections.specs.declared.shared_counts.RefusedPeers.{RefusedPeers}
 
 abbrev pub refused_count : Option RefusedPeers → ℕ
 refused_count None = 0

@@ -2,18 +2,18 @@
 #![tactic(auto)]
 
 mod connection;
-mod front_desk;
 mod patient_reader;
 mod place;
 mod running;
 mod serving;
+mod shared_counts;
 mod system;
 
 pub use connection::{Connection, ConnectionSource, NotAccepted, PatientListener};
-pub use front_desk::{FrontDesk, RefusedPeers};
 pub use patient_reader::PatientReader;
 pub use place::{Recording, RecordingFiles, SessionPlace};
 pub use recording_folder::FolderFault;
 pub use running::record_connections;
 pub use serving::{record_connection, tell_session};
+pub use shared_counts::{RefusedPeers, SharedCounts};
 pub use system::{LoggedPlace, RecordOrder, open_recordings, run_record};

@@ -6,9 +6,9 @@ ghost use Rattle.network_prefixes.specs.Peers.{LetsIn};
 ghost use Rattle.recording_connections.specs.Serving.{IsServed};
 
 use crate::connection::{Connection, ConnectionSource};
-use crate::front_desk::FrontDesk;
 use crate::place::{RecordingFiles, SessionPlace};
 use crate::serving::record_connection;
+use crate::shared_counts::SharedCounts;
 use ipfix_session::Source;
 use network_prefixes::PeerFilter;
 use recording_files::PeriodClock;
@@ -28,7 +28,7 @@ const PAUSE: u64 = 100;
 const BETWEEN_LINES: u64 = 1;
 
 /// Records what comes over connections in so many threads, each of which accepts one after another. Sessions
-/// are numbered at the desk. Where no connection can be accepted that is told, and tried again. It ends only
+/// are numbered at the shared. Where no connection can be accepted that is told, and tried again. It ends only
 /// if no thread can be started.
 pub fn record_connections<
     S: Source + Send + Drop,
@@ -45,7 +45,7 @@ pub fn record_connections<
     place: &P,
     filter: &PeerFilter,
     threads: usize,
-    desk: &Mutex<FrontDesk>,
+    shared: &Mutex<SharedCounts>,
     err: E,
 ) -> Status
     ensures { result ≡ Status.Failed }
@@ -57,7 +57,7 @@ pub fn record_connections<
             ensures { result ≡ Status.Failed }
         {
             run_all(
-                scope, rt, alloc, listener, place, filter, threads, desk, err,
+                scope, rt, alloc, listener, place, filter, threads, shared, err,
             )
         },
     )
@@ -82,7 +82,7 @@ fn run_all<
     place: &'s P,
     filter: &'s PeerFilter,
     threads: usize,
-    desk: &'s Mutex<FrontDesk>,
+    shared: &'s Mutex<SharedCounts>,
     err: E,
 ) -> Status
     ensures { result ≡ Status.Failed }
@@ -90,7 +90,7 @@ fn run_all<
     let mut log = Log::new(err);
     let mut started: usize = 0;
     for _ in 0..threads {
-        let run = move || accept_forever(rt, alloc, listener, place, filter, desk, err);
+        let run = move || accept_forever(rt, alloc, listener, place, filter, shared, err);
         if scope.spawn(run).is_ok() {
             started = started.saturating_add(1);
         }
@@ -99,7 +99,7 @@ fn run_all<
         let _ = log.tell_threads(started, threads);
     }
     if started > 0 {
-        tell_forever(rt, desk, &mut log);
+        tell_forever(rt, shared, &mut log);
     }
     Status::Failed
 }
@@ -119,7 +119,7 @@ fn accept_forever<
     listener: &L,
     place: &P,
     filter: &PeerFilter,
-    desk: &Mutex<FrontDesk>,
+    shared: &Mutex<SharedCounts>,
     err: E,
 ) {
     let mut log = Log::new(err);
@@ -127,11 +127,11 @@ fn accept_forever<
         match listener.next_connection() {
             Ok(connection) => {
                 // (a log that can't be written stops nothing)
-                let _ = serve(rt, alloc, connection, place, filter, desk, &mut log);
+                let _ = serve(rt, alloc, connection, place, filter, shared, &mut log);
             }
             // No descriptor is free, or the connection has gone: wait, and go on.
             Err(_) => {
-                desk.lock(rt).count_not_accepted();
+                shared.lock(rt).count_not_accepted();
                 thread::sleep(rt, Duration::from_millis(PAUSE));
             }
         }
@@ -152,7 +152,7 @@ fn serve<
     connection: Connection<S>,
     place: &P,
     filter: &PeerFilter,
-    desk: &Mutex<FrontDesk>,
+    shared: &Mutex<SharedCounts>,
     log: &mut Log<E>,
 ) -> io::Result<()>
     // A peer that may not send is counted, and nothing of it is read or told here.
@@ -162,26 +162,26 @@ fn serve<
         connection.source connection.peer number log.old log.new result }
 {
     if !filter.lets_in(connection.peer.ip()) {
-        desk.lock(rt).refuse(connection.peer);
+        shared.lock(rt).refuse(connection.peer);
         return Ok(());
     }
-    let number = desk.lock(rt).next_session();
+    let number = shared.lock(rt).next_session();
     record_connection(alloc, connection, number, place, log)
 }
 
 // Tells once a second which peers were refused, and how often none could be accepted, if that was so.
 fn tell_forever<E: Write + Drop, R: Clock + Wait>(
     rt: &R,
-    desk: &Mutex<FrontDesk>,
+    shared: &Mutex<SharedCounts>,
     log: &mut Log<E>,
 ) {
     for _ in rt.forever() {
         thread::sleep(rt, Duration::from_secs(BETWEEN_LINES));
-        let refused = desk.lock(rt).take_refused();
+        let refused = shared.lock(rt).take_refused();
         if let Some(refused) = refused {
             let _ = log.tell_refused(refused.count, refused.last);
         }
-        let not_accepted = desk.lock(rt).take_not_accepted();
+        let not_accepted = shared.lock(rt).take_not_accepted();
         if not_accepted > 0 {
             let _ = log.tell_not_accepted(not_accepted);
         }

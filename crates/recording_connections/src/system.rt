@@ -3,9 +3,9 @@
 ghost use Rattle.std.specs.Prelude.{◌≡◌, ⊤};
 
 use crate::connection::PatientListener;
-use crate::front_desk::FrontDesk;
 use crate::place::{Recording, RecordingFiles, SessionPlace};
 use crate::running::record_connections;
+use crate::shared_counts::SharedCounts;
 use network_prefixes::PeerFilter;
 use recording_files::{FileReport, NotWritten};
 use recording_folder::{
@@ -93,7 +93,7 @@ pub fn open_recordings<E: Write + Drop, H: Files<File = File> + Alloc<A = Global
     }
 }
 
-/// Records in a folder what comes over connections, for ever. Sessions are numbered at the desk. It ends only
+/// Records in a folder what comes over connections, for ever. Sessions are numbered at the shared. It ends only
 /// if no thread can be started.
 pub fn run_record<E: Write + Copy + Send + Sync + Drop, R: Clock + Threads + Wait + Sync>(
     threads: &R,
@@ -102,7 +102,7 @@ pub fn run_record<E: Write + Copy + Send + Sync + Drop, R: Clock + Threads + Wai
     listener: TcpListener,
     folder: &Folder,
     order: &RecordOrder,
-    desk: &Mutex<FrontDesk>,
+    shared: &Mutex<SharedCounts>,
     err: E,
 ) -> Status
     ensures { result ≡ Status.Failed }
@@ -123,7 +123,7 @@ pub fn run_record<E: Write + Copy + Send + Sync + Drop, R: Clock + Threads + Wai
         &place,
         &order.filter,
         order.sessions,
-        desk,
+        shared,
         err,
     )
 }

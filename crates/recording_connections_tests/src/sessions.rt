@@ -3,7 +3,7 @@
 use super::places::{NoConnections, SmallPlace};
 use ipfix_session::ScriptSource;
 use network_prefixes::PeerFilter;
-use recording_connections::{Connection, FrontDesk, record_connection, record_connections};
+use recording_connections::{Connection, SharedCounts, record_connection, record_connections};
 use recording_lines::Log;
 use report_writing::Status;
 use std::alloc::Global;
@@ -113,7 +113,7 @@ fn no_threads(rt: HostRuntime) -> Result<(), Fail> {
         &PLACE,
         &filter,
         0,
-        &Mutex::new(FrontDesk::new()),
+        &Mutex::new(SharedCounts::new()),
         rt.stderr(),
     );
     assert_eq!(rt; status, Status::Failed);

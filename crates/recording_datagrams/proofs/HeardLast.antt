@@ -15,144 +15,144 @@ use Rattle.recording_peers.specs.Steps.{Records, first_by, kept_by}
 use Rattle.recording_peers.specs.Table.{same_peer, of_peer, others_for}
 use Rattle.recording_peers.specs.declared.datagram_source.NoDatagram.{NoDatagram}
 use Rattle.recording_peers.specs.declared.datagram_source.NoDatagram.TheVariants.{Tick, Failed}
-use Rattle.recording_peers.specs.declared.kept_peer.KeptPeer.{KeptPeer}
+use Rattle.recording_peers.specs.declared.peer_state.PeerState.{PeerState}
 use Rattle.recording_peers.specs.declared.outcome.Became.{Became}
 use Rattle.recording_peers.specs.declared.outcome.Became.TheVariants.{Recorded, Refused, Ended, NoMemory}
-use Rattle.recording_connections.specs.declared.front_desk.FrontDesk.{FrontDesk}
-use Rattle.recording_datagrams.specs.Taking.{Arrival, IsTakenIf}
+use Rattle.recording_connections.specs.declared.shared_counts.SharedCounts.{SharedCounts}
+use Rattle.recording_datagrams.specs.Taking.{Arrival, IsProcessedIf}
 use Rattle.recording_datagrams.specs.Turns.{HadTurns}
 use Rattle.recording_datagrams.specs.Rounds.{Round, HadTurnsIf, TakesGiven, TellsAndEnds, IsRound, AreRounds}
 use Rattle.recording_datagrams.specs.Standing.{AreHeard}
-use Rattle.recording_datagrams.specs.declared.reception.Reception.{Reception}
+use Rattle.recording_datagrams.specs.declared.datagram_taker.DatagramTaker.{DatagramTaker}
 
 -- the latest first, and none behind a second
-abbrev IsInOrder : {F : Type 0} → ℕ → List (SocketAddr × KeptPeer F) → Type 0
+abbrev IsInOrder : {F : Type 0} → ℕ → List (SocketAddr × PeerState F) → Type 0
 IsInOrder second [] = Unit {0}
 IsInOrder second (e ∷ es) = (e.1.heard ≤ second) × IsInOrder e.1.heard es
 
 module _ {F : Type 0} where
-  later : (second now : ℕ) (es : List (SocketAddr × KeptPeer F)) → second ≤ now → IsInOrder second es → IsInOrder now es
+  later : (second now : ℕ) (es : List (SocketAddr × PeerState F)) → second ≤ now → IsInOrder second es → IsInOrder now es
   later second now [] h o = tt
   later second now (e ∷ es) h o = let was = o.0 in (omega arith, o.1)
 
-  rest : (second : ℕ) (e : SocketAddr × KeptPeer F) (es : List (SocketAddr × KeptPeer F)) → IsInOrder second (e ∷ es) → IsInOrder second es
+  rest : (second : ℕ) (e : SocketAddr × PeerState F) (es : List (SocketAddr × PeerState F)) → IsInOrder second (e ∷ es) → IsInOrder second es
   rest second e es o = later e.1.heard second es o.0 o.1
 
-  taken : (second n : ℕ) (es : List (SocketAddr × KeptPeer F)) → IsInOrder second es → IsInOrder second (take n es)
+  taken : (second n : ℕ) (es : List (SocketAddr × PeerState F)) → IsInOrder second es → IsInOrder second (take n es)
   taken second zero es o = tt
   taken second (suc n) [] o = tt
   taken second (suc n) (e ∷ es) o = (o.0, taken e.1.heard n es o.1)
 
-  removed : (second : ℕ) (peer : SocketAddr) (es : List (SocketAddr × KeptPeer F)) → IsInOrder second es → IsInOrder second (remove_entry (same_peer peer) es)
+  removed : (second : ℕ) (peer : SocketAddr) (es : List (SocketAddr × PeerState F)) → IsInOrder second es → IsInOrder second (remove_entry (same_peer peer) es)
   removed second peer [] o = tt
   removed second peer (e ∷ es) o = elim (same_peer peer e.0) as (λ b. IsInOrder second (cond b es (e ∷ remove_entry (same_peer peer) es))) [
     | true ↦ rest second e es o
     | false ↦ (o.0, removed e.1.heard peer es o.1)
   ]
 
-  others : (second most : ℕ) (peer : SocketAddr) (es : List (SocketAddr × KeptPeer F)) → IsInOrder second es → IsInOrder second (others_for most peer es)
+  others : (second most : ℕ) (peer : SocketAddr) (es : List (SocketAddr × PeerState F)) → IsInOrder second es → IsInOrder second (others_for most peer es)
   others second most peer es o = elim (is_some (of_peer peer es)) as (λ b. IsInOrder second (cond b (remove_entry (same_peer peer) es) (take (most - 1) es))) [
     | true ↦ removed second peer es o
     | false ↦ taken second (most - 1) es o
   ]
 
-  front : (second : ℕ) (after gone : List (SocketAddr × KeptPeer F)) → IsInOrder second (after ++ gone) → IsInOrder second after
+  front : (second : ℕ) (after gone : List (SocketAddr × PeerState F)) → IsInOrder second (after ++ gone) → IsInOrder second after
   front second [] gone o = tt
   front second (e ∷ after) gone o = (o.0, front e.1.heard after gone o.1)
 
   -- where the last isn't silent nobody is
-  all_heard : (second since : ℕ) (es : List (SocketAddr × KeptPeer F)) → IsInOrder second es → IfSome (last_entry es) (λ e. since ≤ e.1.heard) → AreHeard since es
+  all_heard : (second since : ℕ) (es : List (SocketAddr × PeerState F)) → IsInOrder second es → IfSome (last_entry es) (λ e. since ≤ e.1.heard) → AreHeard since es
   all_heard second since [] o h = tt
   all_heard second since (e ∷ []) o h = (h, tt)
   all_heard second since (e ∷ f ∷ es) o h =
       let less : length (e ∷ f ∷ es) - 1 ≡ suc (length (f ∷ es) - 1) = omega arith in
-      let on = all_heard e.1.heard since (f ∷ es) o.1 (subst (λ n. IfSome (slice_get (e ∷ f ∷ es) n) (λ (x : SocketAddr × KeptPeer F). since ≤ x.1.heard)) less h) in
+      let on = all_heard e.1.heard since (f ∷ es) o.1 (subst (λ n. IfSome (slice_get (e ∷ f ∷ es) n) (λ (x : SocketAddr × PeerState F). since ≤ x.1.heard)) less h) in
       let first = on.0 in let before = o.1.0 in
       (omega arith, on)
 
-  by_answer : (answer : Result PeerAnswer RecordFault) (now most : ℕ) (peer : SocketAddr) (k : KeptPeer F) (es after : List (SocketAddr × KeptPeer F)) → IsInOrder now es → k.heard ≡ now → after ≡ kept_by answer most peer k es → IsInOrder now after
+  by_answer : (answer : Result PeerAnswer RecordFault) (now most : ℕ) (peer : SocketAddr) (k : PeerState F) (es after : List (SocketAddr × PeerState F)) → IsInOrder now es → k.heard ≡ now → after ≡ kept_by answer most peer k es → IsInOrder now after
   by_answer (Ok answer) now most peer k es after o h e =
-      subst (λ (l : List (SocketAddr × KeptPeer F)). IsInOrder now l) (sym e) ((omega arith, subst (λ n. IsInOrder n (others_for most peer es)) (sym h) (others now most peer es o)))
-  by_answer (Err fault) now most peer k es after o h e = subst (λ (l : List (SocketAddr × KeptPeer F)). IsInOrder now l) (sym e) (others now most peer es o)
+      subst (λ (l : List (SocketAddr × PeerState F)). IsInOrder now l) (sym e) ((omega arith, subst (λ n. IsInOrder n (others_for most peer es)) (sym h) (others now most peer es o)))
+  by_answer (Err fault) now most peer k es after o h e = subst (λ (l : List (SocketAddr × PeerState F)). IsInOrder now l) (sym e) (others now most peer es o)
 
-  turned : (answer : Result (Unit {0}) RecordFault) (second : ℕ) (e : SocketAddr × KeptPeer F) (new : KeptPeer F) (behind after : List (SocketAddr × KeptPeer F)) → e.1.heard ≤ second → new.heard ≡ e.1.heard → IsInOrder e.1.heard behind
+  turned : (answer : Result (Unit {0}) RecordFault) (second : ℕ) (e : SocketAddr × PeerState F) (new : PeerState F) (behind after : List (SocketAddr × PeerState F)) → e.1.heard ≤ second → new.heard ≡ e.1.heard → IsInOrder e.1.heard behind
       → after ≡ first_by answer e.0 new behind → IsInOrder second after
   turned (Ok x) second e new behind after h same o is =
-      subst (λ (l : List (SocketAddr × KeptPeer F)). IsInOrder second l) (sym is) ((omega arith, subst (λ n. IsInOrder n behind) (sym same) o))
-  turned (Err fault) second e new behind after h same o is = subst (λ (l : List (SocketAddr × KeptPeer F)). IsInOrder second l) (sym is) (later e.1.heard second behind h o)
+      subst (λ (l : List (SocketAddr × PeerState F)). IsInOrder second l) (sym is) ((omega arith, subst (λ n. IsInOrder n behind) (sym same) o))
+  turned (Err fault) second e new behind after h same o is = subst (λ (l : List (SocketAddr × PeerState F)). IsInOrder second l) (sym is) (later e.1.heard second behind h o)
 
 module _ {F : Type 0} (seen : F → FilesView) where
-  same_heard : (is_over : Bool) (old new : KeptPeer F) (answer : Result (Unit {0}) RecordFault) → FinishesIf is_over seen (record old { refused = None }) new answer → new.heard ≡ old.heard
+  same_heard : (is_over : Bool) (old new : PeerState F) (answer : Result (Unit {0}) RecordFault) → FinishesIf is_over seen (record old { refused = None }) new answer → new.heard ≡ old.heard
   same_heard true old new answer f = f.heard
-  same_heard false old new answer f = ap (λ (k : KeptPeer F). k.heard) f.1
+  same_heard false old new answer f = ap (λ (k : PeerState F). k.heard) f.1
 
-  records : (became : Became F) (leaving : Option (SocketAddr × KeptPeer F)) (most now : ℕ) (es after : List (SocketAddr × KeptPeer F)) (peer : SocketAddr) (m : List ℕ) → IsInOrder now es → Records seen became leaving most es after peer m now → IsInOrder now after
-  records NoMemory leaving most now es after peer m o r = subst (λ (l : List (SocketAddr × KeptPeer F)). IsInOrder now l) (sym r.0.same) o
+  records : (became : Became F) (leaving : Option (SocketAddr × PeerState F)) (most now : ℕ) (es after : List (SocketAddr × PeerState F)) (peer : SocketAddr) (m : List ℕ) → IsInOrder now es → Records seen became leaving most es after peer m now → IsInOrder now after
+  records NoMemory leaving most now es after peer m o r = subst (λ (l : List (SocketAddr × PeerState F)). IsInOrder now l) (sym r.0.same) o
   records Recorded leaving most now es after peer m o r = by_answer r.0.answer now most peer r.0.new es after o r.0.takes.heard r.0.others
   records (Refused fault) leaving most now es after peer m o r = by_answer r.0.answer now most peer r.0.new es after o r.0.takes.heard r.0.others
   records (Ended k) leaving most now es after peer m o r = by_answer r.0.answer now most peer r.0.new es after o r.0.takes.heard r.0.others
 
   module _ (finishes : F → FileReport → Result (Unit {0}) NotWritten → Type 0) where
-    had_turns : (is_over : Bool) (second : ℕ) (es after : List (SocketAddr × KeptPeer F)) (lines : List ℕ) → IsInOrder second es → HadTurns seen finishes is_over es after lines → IsInOrder second after
-    had_turns is_over second [] after lines o t = subst (λ (l : List (SocketAddr × KeptPeer F)). IsInOrder second l) (sym t.0) tt
+    had_turns : (is_over : Bool) (second : ℕ) (es after : List (SocketAddr × PeerState F)) (lines : List ℕ) → IsInOrder second es → HadTurns seen finishes is_over es after lines → IsInOrder second after
+    had_turns is_over second [] after lines o t = subst (λ (l : List (SocketAddr × PeerState F)). IsInOrder second l) (sym t.0) tt
     had_turns is_over second (e ∷ es) after lines o t =
         turned t.4.answer second e t.4.new t.0 after o.0 (same_heard is_over e.1 t.4.new t.4.answer t.4.turn.finishes) (had_turns is_over e.1.heard es t.0 t.1 o.1 t.3) t.4.kept
 
-    had_turns_if : (is_over : Bool) (second : ℕ) (es after : List (SocketAddr × KeptPeer F)) (lines : List ℕ) → IsInOrder second es → HadTurnsIf seen finishes is_over es after lines → IsInOrder second after
+    had_turns_if : (is_over : Bool) (second : ℕ) (es after : List (SocketAddr × PeerState F)) (lines : List ℕ) → IsInOrder second es → HadTurnsIf seen finishes is_over es after lines → IsInOrder second after
     had_turns_if true second es after lines o t = had_turns true second es after lines o t
-    had_turns_if false second es after lines o t = subst (λ (l : List (SocketAddr × KeptPeer F)). IsInOrder second l) (sym t.0) o
+    had_turns_if false second es after lines o t = subst (λ (l : List (SocketAddr × PeerState F)). IsInOrder second l) (sym t.0) o
 
-    takes_if : (may_send : Bool) (before after : LruCache SocketAddr (KeptPeer F)) (desk then : FrontDesk) (from : SocketAddr) (m : List ℕ) (now : ℕ) (lines : List ℕ) → IsInOrder now before.entries
-        → IsTakenIf seen finishes before after may_send desk then from m now lines → IsInOrder now after.entries
-    takes_if true before after desk then from m now lines o t = records t.1.became t.1.gone before.cap now before.entries after.entries from m o t.1.records
-    takes_if false before after desk then from m now lines o t = subst (λ (k : LruCache SocketAddr (KeptPeer F)). IsInOrder now k.entries) (sym t.1) o
+    takes_if : (may_send : Bool) (before after : LruCache SocketAddr (PeerState F)) (shared then : SharedCounts) (from : SocketAddr) (m : List ℕ) (now : ℕ) (lines : List ℕ) → IsInOrder now before.entries
+        → IsProcessedIf seen finishes before after may_send shared then from m now lines → IsInOrder now after.entries
+    takes_if true before after shared then from m now lines o t = records t.1.became t.1.gone before.cap now before.entries after.entries from m o t.1.records
+    takes_if false before after shared then from m now lines o t = subst (λ (k : LruCache SocketAddr (PeerState F)). IsInOrder now k.entries) (sym t.1) o
 
 module _ {F P E : Type 0} (seen : F → FilesView) (finishes : F → FileReport → Result (Unit {0}) NotWritten → Type 0) (asked : P → ClockView) where
-  takes_given : (given : Result Arrival NoDatagram) (now : ℕ) (old new : Reception F P E) (lines : List ℕ) → IsInOrder now old.peers.kept.entries → TakesGiven seen finishes asked given now old new lines → IsInOrder now new.peers.kept.entries
+  takes_given : (given : Result Arrival NoDatagram) (now : ℕ) (old new : DatagramTaker F P E) (lines : List ℕ) → IsInOrder now old.peers.kept.entries → TakesGiven seen finishes asked given now old new lines → IsInOrder now new.peers.kept.entries
   takes_given (Ok a) now old new lines o t = takes_if seen finishes a.may_send old.peers.kept new.peers.kept old.unserved new.unserved a.peer a.octets now lines o t.arrives.taken
-  takes_given (Err Tick) now old new lines o t = subst (λ (r : Reception F P E). IsInOrder now r.peers.kept.entries) (sym t.0) o
-  takes_given (Err Failed) now old new lines o t = subst (λ (r : Reception F P E). IsInOrder now r.peers.kept.entries) (sym t.0) o
+  takes_given (Err Tick) now old new lines o t = subst (λ (r : DatagramTaker F P E). IsInOrder now r.peers.kept.entries) (sym t.0) o
+  takes_given (Err Failed) now old new lines o t = subst (λ (r : DatagramTaker F P E). IsInOrder now r.peers.kept.entries) (sym t.0) o
 
-  same_second : (given : Result Arrival NoDatagram) (now : ℕ) (old new : Reception F P E) (lines : List ℕ) → TakesGiven seen finishes asked given now old new lines → new.second ≡ old.second
-  same_second (Ok a) now old new lines t = ap (λ (r : Reception F P E). r.second) t.others
-  same_second (Err Tick) now old new lines t = ap (λ (r : Reception F P E). r.second) t.0
-  same_second (Err Failed) now old new lines t = ap (λ (r : Reception F P E). r.second) t.0
+  same_second : (given : Result Arrival NoDatagram) (now : ℕ) (old new : DatagramTaker F P E) (lines : List ℕ) → TakesGiven seen finishes asked given now old new lines → new.second ≡ old.second
+  same_second (Ok a) now old new lines t = ap (λ (r : DatagramTaker F P E). r.second) t.others
+  same_second (Err Tick) now old new lines t = ap (λ (r : DatagramTaker F P E). r.second) t.0
+  same_second (Err Failed) now old new lines t = ap (λ (r : DatagramTaker F P E). r.second) t.0
 
-  same_idle : (given : Result Arrival NoDatagram) (now : ℕ) (old new : Reception F P E) (lines : List ℕ) → TakesGiven seen finishes asked given now old new lines → new.idle ≡ old.idle
-  same_idle (Ok a) now old new lines t = ap (λ (r : Reception F P E). r.idle) t.others
-  same_idle (Err Tick) now old new lines t = ap (λ (r : Reception F P E). r.idle) t.0
-  same_idle (Err Failed) now old new lines t = ap (λ (r : Reception F P E). r.idle) t.0
+  same_idle : (given : Result Arrival NoDatagram) (now : ℕ) (old new : DatagramTaker F P E) (lines : List ℕ) → TakesGiven seen finishes asked given now old new lines → new.idle ≡ old.idle
+  same_idle (Ok a) now old new lines t = ap (λ (r : DatagramTaker F P E). r.idle) t.others
+  same_idle (Err Tick) now old new lines t = ap (λ (r : DatagramTaker F P E). r.idle) t.0
+  same_idle (Err Failed) now old new lines t = ap (λ (r : DatagramTaker F P E). r.idle) t.0
 
-  ends_in_order : (now : ℕ) (old new : Reception F P E) (lines : List ℕ) → IsInOrder now old.peers.kept.entries → TellsAndEnds seen finishes asked now old new lines → IsInOrder now new.peers.kept.entries
+  ends_in_order : (now : ℕ) (old new : DatagramTaker F P E) (lines : List ℕ) → IsInOrder now old.peers.kept.entries → TellsAndEnds seen finishes asked now old new lines → IsInOrder now new.peers.kept.entries
   ends_in_order now old new lines o t =
       let turned = had_turns seen finishes false now old.peers.kept.entries t.between t.told o t.turns in
-      front now new.peers.kept.entries t.silent.gone (subst (λ (l : List (SocketAddr × KeptPeer F)). IsInOrder now l) t.silent.those turned)
+      front now new.peers.kept.entries t.silent.gone (subst (λ (l : List (SocketAddr × PeerState F)). IsInOrder now l) t.silent.those turned)
 
-  before_end : (r : Round) (old new : Reception F P E) → IsInOrder old.second old.peers.kept.entries → (is : IsRound seen finishes asked r old new) → IsInOrder r.second is.taken.peers.kept.entries
+  before_end : (r : Round) (old new : DatagramTaker F P E) → IsInOrder old.second old.peers.kept.entries → (is : IsRound seen finishes asked r old new) → IsInOrder r.second is.taken.peers.kept.entries
   before_end r old new o is =
       let kept = had_turns_if seen finishes r.is_over r.second old.peers.kept.entries is.kept.peers.kept.entries is.kept_lines (later old.second r.second old.peers.kept.entries is.forward o) is.keeps.turns in
       takes_given r.given r.second is.kept is.taken is.taken_lines kept is.takes
 
-  at_second : (r : Round) (old new : Reception F P E) → (is : IsRound seen finishes asked r old new) → is.taken.second ≡ old.second
-  at_second r old new is = same_second r.given r.second is.kept is.taken is.taken_lines is.takes ∙ ap (λ (x : Reception F P E). x.second) is.keeps.others
+  at_second : (r : Round) (old new : DatagramTaker F P E) → (is : IsRound seen finishes asked r old new) → is.taken.second ≡ old.second
+  at_second r old new is = same_second r.given r.second is.kept is.taken is.taken_lines is.takes ∙ ap (λ (x : DatagramTaker F P E). x.second) is.keeps.others
 
-  round_in_order : (r : Round) (old new : Reception F P E) → IsInOrder old.second old.peers.kept.entries → IsRound seen finishes asked r old new → IsInOrder new.second new.peers.kept.entries
+  round_in_order : (r : Round) (old new : DatagramTaker F P E) → IsInOrder old.second old.peers.kept.entries → IsRound seen finishes asked r old new → IsInOrder new.second new.peers.kept.entries
   round_in_order r old new o is = elim is.goes_on [
-    | inl same ↦ subst (λ (x : Reception F P E). IsInOrder x.second x.peers.kept.entries) (sym same.1) (later r.second is.taken.second is.taken.peers.kept.entries same.0 (before_end r old new o is))
-    | inr ends ↦ subst (λ n. IsInOrder n new.peers.kept.entries) (sym (ap (λ (x : Reception F P E). x.second) ends.1.others)) (ends_in_order r.second is.taken new is.last_lines (before_end r old new o is) ends.1)
+    | inl same ↦ subst (λ (x : DatagramTaker F P E). IsInOrder x.second x.peers.kept.entries) (sym same.1) (later r.second is.taken.second is.taken.peers.kept.entries same.0 (before_end r old new o is))
+    | inr ends ↦ subst (λ n. IsInOrder n new.peers.kept.entries) (sym (ap (λ (x : DatagramTaker F P E). x.second) ends.1.others)) (ends_in_order r.second is.taken new is.last_lines (before_end r old new o is) ends.1)
   ]
 
-  rounds_in_order : (rs : List Round) (old new : Reception F P E) → IsInOrder old.second old.peers.kept.entries → AreRounds seen finishes asked rs old new → IsInOrder new.second new.peers.kept.entries
-  rounds_in_order [] old new o are = subst (λ (x : Reception F P E). IsInOrder x.second x.peers.kept.entries) (sym are) o
+  rounds_in_order : (rs : List Round) (old new : DatagramTaker F P E) → IsInOrder old.second old.peers.kept.entries → AreRounds seen finishes asked rs old new → IsInOrder new.second new.peers.kept.entries
+  rounds_in_order [] old new o are = subst (λ (x : DatagramTaker F P E). IsInOrder x.second x.peers.kept.entries) (sym are) o
   rounds_in_order (r ∷ rs) old new o are = rounds_in_order rs are.0 new (round_in_order r old are.0 o are.1) are.2
 
-  pub nobody_silent : (rs : List Round) (r : Round) (old mid new : Reception F P E) → old.peers.kept.entries ≡ [] → AreRounds seen finishes asked rs old mid → IsRound seen finishes asked r mid new → mid.second < r.second
+  pub nobody_silent : (rs : List Round) (r : Round) (old mid new : DatagramTaker F P E) → old.peers.kept.entries ≡ [] → AreRounds seen finishes asked rs old mid → IsRound seen finishes asked r mid new → mid.second < r.second
       → AreHeard (r.second - mid.idle) new.peers.kept.entries
   nobody_silent rs r old mid new none are is h =
-      let first : IsInOrder old.second old.peers.kept.entries = subst (λ (l : List (SocketAddr × KeptPeer F)). IsInOrder old.second l) (sym none) tt in
+      let first : IsInOrder old.second old.peers.kept.entries = subst (λ (l : List (SocketAddr × PeerState F)). IsInOrder old.second l) (sym none) tt in
       let o = before_end r mid new (rounds_in_order rs old mid first are) is in
       let at = at_second r mid new is in
-      let idle : is.taken.idle ≡ mid.idle = same_idle r.given r.second is.kept is.taken is.taken_lines is.takes ∙ ap (λ (x : Reception F P E). x.idle) is.keeps.others in
+      let idle : is.taken.idle ≡ mid.idle = same_idle r.given r.second is.kept is.taken is.taken_lines is.takes ∙ ap (λ (x : DatagramTaker F P E). x.idle) is.keeps.others in
       elim is.goes_on [
         | inl same ↦ let early = same.0 in absurd (omega arith)
         | inr ends ↦ subst (λ n. AreHeard (r.second - n) new.peers.kept.entries) idle

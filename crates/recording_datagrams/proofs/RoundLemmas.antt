@@ -13,9 +13,9 @@ use Rattle.recording_peers.specs.Answers.{Answer, Gives, answer_of}
 use Rattle.recording_peers.specs.declared.datagram_source.Datagram.{Datagram}
 use Rattle.recording_peers.specs.declared.datagram_source.NoDatagram.{NoDatagram}
 use Rattle.ipfix_session.specs.Sources.{one_more}
-use Rattle.recording_connections.specs.declared.front_desk.FrontDesk.{FrontDesk}
+use Rattle.recording_connections.specs.declared.shared_counts.SharedCounts.{SharedCounts}
 use Rattle.recording_datagrams.specs.Rounds.{Round, one_not_received, answer_in, answers_of, lines_of, IsRound, AreRounds, TakesRound, TakesRounds}
-use Rattle.recording_datagrams.specs.declared.reception.Reception.{Reception}
+use Rattle.recording_datagrams.specs.declared.datagram_taker.DatagramTaker.{DatagramTaker}
 use Rattle.recording_datagrams.proofs.Told.{and_told, told_nothing}
 
 -- ---- what the source answered
@@ -40,14 +40,14 @@ lines-push rs r = flat_map-append (λ (x : Round). x.lines) rs (r ∷ []) ∙ ap
 -- ---- what they did
 
 module _ {F P E : Type 0} (seen : F → FilesView) (finishes : F → FileReport → Result (Unit {0}) NotWritten → Type 0) (asked : P → ClockView) where
-  rounds-push : (rs : List Round) (r : Round) (old mid new : Reception F P E) → AreRounds seen finishes asked rs old mid → IsRound seen finishes asked r mid new → AreRounds seen finishes asked (rs ++ r ∷ []) old new
-  rounds-push [] r old mid new are is = (new, subst (λ (x : Reception F P E). IsRound seen finishes asked r x new) are is, refl)
+  rounds-push : (rs : List Round) (r : Round) (old mid new : DatagramTaker F P E) → AreRounds seen finishes asked rs old mid → IsRound seen finishes asked r mid new → AreRounds seen finishes asked (rs ++ r ∷ []) old new
+  rounds-push [] r old mid new are is = (new, subst (λ (x : DatagramTaker F P E). IsRound seen finishes asked r x new) are is, refl)
   rounds-push (q ∷ rs) r old mid new are is = (are.0, are.1, rounds-push rs r are.0 mid new are.2 is)
 
-  pub no_rounds : {D A : Type 0} (answered : D → List Answer → Type 0) (contents : E → Option (List ℕ)) (source : D) (old : Reception F P E) → TakesRounds seen finishes asked {A = A} answered contents 0 source source old old (Ok tt)
+  pub no_rounds : {D A : Type 0} (answered : D → List Answer → Type 0) (contents : E → Option (List ℕ)) (source : D) (old : DatagramTaker F P E) → TakesRounds seen finishes asked {A = A} answered contents 0 source source old old (Ok tt)
   no_rounds answered contents source old = record { rounds = []; as_many = refl; are = refl; given = gives_none answered source; told = told_nothing (contents old.log) }
 
-  pub one_more_round : {D A : Type 0} (answered : D → List Answer → Type 0) (contents : E → Option (List ℕ)) (count : ℕ) (before between after : D) (old mid new : Reception F P E) (told answer : Result (Unit {0}) A)
+  pub one_more_round : {D A : Type 0} (answered : D → List Answer → Type 0) (contents : E → Option (List ℕ)) (count : ℕ) (before between after : D) (old mid new : DatagramTaker F P E) (told answer : Result (Unit {0}) A)
       → TakesRounds seen finishes asked answered contents count before between old mid told → TakesRound seen finishes asked answered contents between after mid new answer
       → TakesRounds seen finishes asked answered contents (count + 1) before after old new (result_and told answer)
   one_more_round answered contents count before between after old mid new told answer rs r =
@@ -63,6 +63,6 @@ module _ {F P E : Type 0} (seen : F → FilesView) (finishes : F → FileReport 
       }
 
 -- a failure is counted
-pub counted_so : {F P E : Type 0} (old : Reception F P E) (desk : FrontDesk) → desk.not_accepted ≡ one_more old.unserved.not_accepted → desk.sessions ≡ old.unserved.sessions → desk.refused ≡ old.unserved.refused
-    → (record old { unserved = desk }) ≡ record old { unserved = one_not_received old.unserved }
-counted_so old desk n s r = λ i. record old { unserved = record { sessions = s i; refused = r i; not_accepted = n i } }
+pub counted_so : {F P E : Type 0} (old : DatagramTaker F P E) (shared : SharedCounts) → shared.not_accepted ≡ one_more old.unserved.not_accepted → shared.sessions ≡ old.unserved.sessions → shared.refused ≡ old.unserved.refused
+    → (record old { unserved = shared }) ≡ record old { unserved = one_not_received old.unserved }
+counted_so old shared n s r = λ i. record old { unserved = record { sessions = s i; refused = r i; not_accepted = n i } }

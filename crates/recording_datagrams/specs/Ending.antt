@@ -10,7 +10,7 @@ use Rattle.ipfix_datagrams.specs.Reaches.{AdvancesView, told_of}
 use Rattle.ipfix_datagrams.specs.declared.domain_advance.DomainAdvance.{DomainAdvance}
 use Rattle.recording_peer.specs.Recording.{Tells, answer_of}
 use Rattle.recording_peer.specs.declared.peer_session.PeerSession.{PeerSession}
-use Rattle.recording_peers.specs.declared.kept_peer.KeptPeer.{KeptPeer}
+use Rattle.recording_peers.specs.declared.peer_state.PeerState.{PeerState}
 use Rattle.recording_peers.specs.declared.refusals.Refusals.{Refusals}
 use Rattle.recording_lines.specs.RecordLines.{advance_line, peer_ended_line, refused_datagrams_line}
 use Rattle.recording_connections.specs.Serving.{session_lines}
@@ -49,7 +49,7 @@ ending_lines peer refused cause session finished = refusal_lines peer refused ++
 
 -- the last file of a peer was finished with its report, and the session's reports and advances are of the datagrams that its
 -- recorder counted; these lines tell it
-pub record Ends {F : Type 0} (finishes : F → FileReport → Result (Unit {0}) NotWritten → Type 0) (peer : SocketAddr) (kept : KeptPeer F)
+pub record Ends {F : Type 0} (finishes : F → FileReport → Result (Unit {0}) NotWritten → Type 0) (peer : SocketAddr) (kept : PeerState F)
     (cause : Option EndCause) (lines : List ℕ) : Type 0 where
   pub session : PeerSession
   pub reports : Tells kept.recorder.told session
@@ -65,5 +65,5 @@ pub record AreTold {E A : Type 0} (contents : E → Option (List ℕ)) (Tells : 
   pub told : OnOk answer (Appends (contents old) (contents new) lines)
 
 abbrev pub IsEnded : {F E A : Type 0} → (F → FileReport → Result (Unit {0}) NotWritten → Type 0) → (E → Option (List ℕ))
-    → SocketAddr → KeptPeer F → Option EndCause → E → E → Result (Unit {0}) A → Type 0
+    → SocketAddr → PeerState F → Option EndCause → E → E → Result (Unit {0}) A → Type 0
 IsEnded finishes contents peer kept cause old new answer = AreTold contents (Ends finishes peer kept cause) old new answer

@@ -9,13 +9,13 @@ use Rattle.recording_files.specs.declared.file_report.FileReport.{FileReport}
 use Rattle.recording_files.specs.declared.file_series.NotWritten.{NotWritten}
 use Rattle.recording_files.specs.declared.record_fault.RecordFault.TheVariants as faults
 use Rattle.recording_peers.specs.Steps.{Records}
-use Rattle.recording_peers.specs.declared.kept_peer.KeptPeer.{KeptPeer}
+use Rattle.recording_peers.specs.declared.peer_state.PeerState.{PeerState}
 use Rattle.recording_peers.specs.declared.outcome.Became.{Became}
 use Rattle.recording_peers.specs.declared.outcome.Became.TheVariants.{Recorded, Refused, Ended, NoMemory}
 use Rattle.network_prefixes.specs.Peers.{LetsIn}
 use Rattle.recording_connections.specs.Refusals.{one_more_refused}
 use Rattle.recording_connections.specs.Serving.{fault_line}
-use Rattle.recording_connections.specs.declared.front_desk.FrontDesk.{FrontDesk}
+use Rattle.recording_connections.specs.declared.shared_counts.SharedCounts.{SharedCounts}
 use Rattle.network_prefixes.specs.declared.peer_filter.PeerFilter.{PeerFilter}
 use Rattle.recording_datagrams.specs.Ending.{Ends}
 use Rattle.recording_datagrams.specs.declared.ending.EndCause.TheVariants.{LongestSilent}
@@ -27,42 +27,42 @@ pub record Arrival : Type 0 where
   pub may_send : Bool
 
 -- a datagram of a peer that may not send is counted
-abbrev pub one_turned_away : FrontDesk → SocketAddr → FrontDesk
-one_turned_away desk from = record desk { refused = Some (one_more_refused desk.refused from) }
+abbrev pub one_turned_away : SharedCounts → SocketAddr → SharedCounts
+one_turned_away shared from = record shared { refused = Some (one_more_refused shared.refused from) }
 
 module _ {F : Type 0} (finishes : F → FileReport → Result (Unit {0}) NotWritten → Type 0) where
   -- the session of a peer that went ends, with these lines
-  abbrev pub Goes : Option (SocketAddr × KeptPeer F) → List ℕ → Type 0
-  Goes None lines = lines ≡ []
-  Goes (Some gone) lines = Ends finishes gone.0 gone.1 (Some LongestSilent) lines
+  abbrev pub EvictedLines : Option (SocketAddr × PeerState F) → List ℕ → Type 0
+  EvictedLines None lines = lines ≡ []
+  EvictedLines (Some gone) lines = Ends finishes gone.0 gone.1 (Some LongestSilent) lines
 
   -- the lines of what became of a datagram: of one that was recorded none; refused ones are told later
-  abbrev pub Becomes : SocketAddr → Became F → List ℕ → Type 0
-  Becomes peer Recorded lines = lines ≡ []
-  Becomes peer (Refused fault) lines = lines ≡ []
-  Becomes peer (Ended kept) lines = Ends finishes peer kept None lines
-  Becomes peer NoMemory lines = lines ≡ fault_line peer (faults.Message OutOfMemory)
+  abbrev pub OutcomeLines : SocketAddr → Became F → List ℕ → Type 0
+  OutcomeLines peer Recorded lines = lines ≡ []
+  OutcomeLines peer (Refused fault) lines = lines ≡ []
+  OutcomeLines peer (Ended kept) lines = Ends finishes peer kept None lines
+  OutcomeLines peer NoMemory lines = lines ≡ fault_line peer (faults.Message OutOfMemory)
 
 module _ {F : Type 0} (seen : F → FilesView) (finishes : F → FileReport → Result (Unit {0}) NotWritten → Type 0)
-    (before after : LruCache SocketAddr (KeptPeer F)) where
+    (before after : LruCache SocketAddr (PeerState F)) where
   -- a datagram was recorded or refused among the peers that are kept, and what went or ended at that was finished and told
-  pub record IsTaken (from : SocketAddr) (m : List ℕ) (now : ℕ) (lines : List ℕ) : Type 0 where
+  pub record IsProcessed (from : SocketAddr) (m : List ℕ) (now : ℕ) (lines : List ℕ) : Type 0 where
     pub became : Became F
-    pub gone : Option (SocketAddr × KeptPeer F)
+    pub gone : Option (SocketAddr × PeerState F)
     pub records : Records seen became gone before.cap before.entries after.entries from m now
     pub room : after.cap ≡ before.cap
     pub gone_lines : List ℕ
-    pub goes : Goes finishes gone gone_lines
+    pub goes : EvictedLines finishes gone gone_lines
     pub own_lines : List ℕ
-    pub becomes : Becomes finishes from became own_lines
+    pub becomes : OutcomeLines finishes from became own_lines
     pub lines_are : lines ≡ gone_lines ++ own_lines
 
   -- one of a peer that may send is taken; of another it is counted that it came, and no more
-  abbrev pub IsTakenIf : Bool → FrontDesk → FrontDesk → SocketAddr → List ℕ → ℕ → List ℕ → Type 0
-  IsTakenIf true desk then from m now lines = (then ≡ desk) × IsTaken from m now lines
-  IsTakenIf false desk then from m now lines = (then ≡ one_turned_away desk from) × (after ≡ before) × (lines ≡ [])
+  abbrev pub IsProcessedIf : Bool → SharedCounts → SharedCounts → SocketAddr → List ℕ → ℕ → List ℕ → Type 0
+  IsProcessedIf true shared then from m now lines = (then ≡ shared) × IsProcessed from m now lines
+  IsProcessedIf false shared then from m now lines = (then ≡ one_turned_away shared from) × (after ≡ before) × (lines ≡ [])
 
   -- by the filter
-  pub record Arrives (filter : PeerFilter) (desk then : FrontDesk) (a : Arrival) (now : ℕ) (lines : List ℕ) : Type 0 where
+  pub record Arrives (filter : PeerFilter) (shared then : SharedCounts) (a : Arrival) (now : ℕ) (lines : List ℕ) : Type 0 where
     pub may_send : IsTrue a.may_send ↔ LetsIn filter (socket_ip a.peer)
-    pub taken : IsTakenIf a.may_send desk then a.peer a.octets now lines
+    pub taken : IsProcessedIf a.may_send shared then a.peer a.octets now lines

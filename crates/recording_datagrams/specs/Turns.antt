@@ -10,11 +10,11 @@ use Rattle.recording_files.specs.declared.record_fault.RecordFault.{RecordFault}
 use Rattle.recording_peers.specs.Kept.{TakesTurn}
 use Rattle.recording_peers.specs.Steps.{GoesOn, ended_by, first_by}
 use Rattle.recording_peers.specs.declared.in_turn.InTurn.{InTurn}
-use Rattle.recording_peers.specs.declared.kept_peer.KeptPeer.{KeptPeer}
+use Rattle.recording_peers.specs.declared.peer_state.PeerState.{PeerState}
 use Rattle.recording_peers.specs.declared.refusals.Refusals.{Refusals}
 use Rattle.recording_lines.specs.RecordLines.{not_received_line, turned_away_line}
-use Rattle.recording_connections.specs.declared.front_desk.FrontDesk.{FrontDesk}
-use Rattle.recording_connections.specs.declared.front_desk.RefusedPeers.{RefusedPeers}
+use Rattle.recording_connections.specs.declared.shared_counts.SharedCounts.{SharedCounts}
+use Rattle.recording_connections.specs.declared.shared_counts.RefusedPeers.{RefusedPeers}
 use Rattle.recording_datagrams.specs.Ending.{Ends, refusal_lines}
 use Rattle.recording_datagrams.specs.declared.ending.EndCause.TheVariants.{Idle}
 
@@ -22,26 +22,26 @@ use Rattle.recording_datagrams.specs.declared.ending.EndCause.TheVariants.{Idle}
 
 module _ {F : Type 0} (finishes : F → FileReport → Result (Unit {0}) NotWritten → Type 0) where
   -- a session that ended with a fault in its turn, if it did, is finished with these lines
-  abbrev pub Falls : SocketAddr → Option (KeptPeer F) → List ℕ → Type 0
-  Falls peer None lines = lines ≡ []
-  Falls peer (Some kept) lines = Ends finishes peer kept None lines
+  abbrev pub EndedLines : SocketAddr → Option (PeerState F) → List ℕ → Type 0
+  EndedLines peer None lines = lines ≡ []
+  EndedLines peer (Some kept) lines = Ends finishes peer kept None lines
 
   -- a peer's refused datagrams are told, and what ended it
-  pub record IsTurnTold (peer : SocketAddr) (refused : Option Refusals) (ended : Option (KeptPeer F)) (lines : List ℕ) : Type 0 where
+  pub record IsTurnTold (peer : SocketAddr) (refused : Option Refusals) (ended : Option (PeerState F)) (lines : List ℕ) : Type 0 where
     pub fall : List ℕ
-    pub falls : Falls peer ended fall
+    pub falls : EndedLines peer ended fall
     pub lines_are : lines ≡ refusal_lines peer refused ++ fall
 
 module _ {F : Type 0} (seen : F → FilesView) (finishes : F → FileReport → Result (Unit {0}) NotWritten → Type 0) (is_over : Bool) where
   -- the peer that was silent for longest had its turn
-  pub record IsTurn (before after : List (SocketAddr × KeptPeer F)) (lines : List ℕ) : Type 0 where
+  pub record IsTurn (before after : List (SocketAddr × PeerState F)) (lines : List ℕ) : Type 0 where
     pub turn : InTurn F
     pub goes_on : GoesOn seen is_over before after turn
     pub is_told : IsTurnTold finishes turn.peer turn.refused turn.ended lines
 
   -- a peer had its turn behind others of which these are kept: it is kept before them, unless its session ended
-  pub record HadTurn (e : SocketAddr × KeptPeer F) (others after : List (SocketAddr × KeptPeer F)) (lines : List ℕ) : Type 0 where
-    pub new : KeptPeer F
+  pub record HadTurn (e : SocketAddr × PeerState F) (others after : List (SocketAddr × PeerState F)) (lines : List ℕ) : Type 0 where
+    pub new : PeerState F
     pub refused : Option Refusals
     pub answer : Result (Unit {0}) RecordFault
     pub turn : TakesTurn seen is_over e.1 new refused answer
@@ -49,35 +49,35 @@ module _ {F : Type 0} (seen : F → FilesView) (finishes : F → FileReport → 
     pub is_told : IsTurnTold finishes e.0 refused (ended_by answer new) lines
 
   -- each of these peers had one turn, the last one first, and they are kept in their order
-  abbrev pub HadTurns : List (SocketAddr × KeptPeer F) → List (SocketAddr × KeptPeer F) → List ℕ → Type 0
+  abbrev pub HadTurns : List (SocketAddr × PeerState F) → List (SocketAddr × PeerState F) → List ℕ → Type 0
   HadTurns [] after lines = (after ≡ []) × (lines ≡ [])
   HadTurns (e ∷ es) after lines =
-      (others : List (SocketAddr × KeptPeer F)) × (before : List ℕ) × (own : List ℕ)
+      (others : List (SocketAddr × PeerState F)) × (before : List ℕ) × (own : List ℕ)
       × HadTurns es others before × HadTurn e others after own × (lines ≡ before ++ own)
 
 -- ---- silent peers
 
 module _ {F : Type 0} (finishes : F → FileReport → Result (Unit {0}) NotWritten → Type 0) (since : ℕ) where
   -- a peer whose last datagram came before then: its session ends with these lines
-  pub record IsSilent (e : SocketAddr × KeptPeer F) (lines : List ℕ) : Type 0 where
+  pub record IsSilent (e : SocketAddr × PeerState F) (lines : List ℕ) : Type 0 where
     pub silent : e.1.heard < since
     pub ends : Ends finishes e.0 e.1 (Some Idle) lines
 
   -- the peer that was silent for longest goes
-  pub record IsSilence (before after : List (SocketAddr × KeptPeer F)) (lines : List ℕ) : Type 0 where
-    pub gone : SocketAddr × KeptPeer F
+  pub record EndsOneSilent (before after : List (SocketAddr × PeerState F)) (lines : List ℕ) : Type 0 where
+    pub gone : SocketAddr × PeerState F
     pub last : last_entry before ≡ Some gone
     pub others : after ≡ take (length before - 1) before
     pub is_silent : IsSilent gone lines
 
   -- all of these, the last one first
-  abbrev pub AreSilent : List (SocketAddr × KeptPeer F) → List ℕ → Type 0
+  abbrev pub AreSilent : List (SocketAddr × PeerState F) → List ℕ → Type 0
   AreSilent [] lines = lines ≡ []
   AreSilent (e ∷ es) lines = (before : List ℕ) × (own : List ℕ) × AreSilent es before × IsSilent e own × (lines ≡ before ++ own)
 
   -- those go that stand behind the last one of which a datagram came since then
-  pub record EndsSilent (before after : List (SocketAddr × KeptPeer F)) (lines : List ℕ) : Type 0 where
-    pub gone : List (SocketAddr × KeptPeer F)
+  pub record EndsSilent (before after : List (SocketAddr × PeerState F)) (lines : List ℕ) : Type 0 where
+    pub gone : List (SocketAddr × PeerState F)
     pub those : before ≡ after ++ gone
     pub heard : IfSome (last_entry after) (λ e. since ≤ e.1.heard)
     pub are_silent : AreSilent gone lines
@@ -92,9 +92,9 @@ abbrev pub not_received_lines : ℕ → List ℕ
 not_received_lines zero = []
 not_received_lines (suc n) = not_received_line (suc n)
 
-abbrev pub unserved_lines : FrontDesk → List ℕ
-unserved_lines desk = turned_away_lines desk.refused ++ not_received_lines desk.not_accepted
+abbrev pub unserved_lines : SharedCounts → List ℕ
+unserved_lines shared = turned_away_lines shared.refused ++ not_received_lines shared.not_accepted
 
 -- all is told
-abbrev pub none_unserved : FrontDesk → FrontDesk
-none_unserved desk = record desk { refused = None; not_accepted = 0 }
+abbrev pub none_unserved : SharedCounts → SharedCounts
+none_unserved shared = record shared { refused = None; not_accepted = 0 }

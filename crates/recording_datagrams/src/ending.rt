@@ -10,7 +10,7 @@ use recording_connections::{RecordingFiles, tell_session};
 use recording_files::NotWritten;
 use recording_lines::Log;
 use recording_peer::PeerSession;
-use recording_peers::{KeptPeer, Refusals};
+use recording_peers::{PeerState, Refusals};
 use std::io::{self, Write};
 use std::net::SocketAddr;
 
@@ -40,13 +40,13 @@ impl EndCause {
 /// ledger says, and its faults.
 pub fn end_peer<F: RecordingFiles, E: Write + Drop>(
     peer: SocketAddr,
-    kept: KeptPeer<F>,
+    kept: PeerState<F>,
     cause: Option<EndCause>,
     log: &mut Log<E>,
 ) -> io::Result<()>
     ensures { IsEnded F.finishes E.contents peer kept cause log.old log.new result }
 {
-    let KeptPeer {
+    let PeerState {
         recorder,
         files,
         heard: _,

@@ -2,25 +2,25 @@
 #![tactic(auto)]
 
 mod datagram_faults;
+mod datagram_taker;
 mod ending;
 mod finishing;
 pub mod laws;
 mod peer_folder;
 mod peer_limits;
 mod receiving;
-mod reception;
 mod running;
 mod system_socket;
 mod taking;
 mod ticking;
 
 pub use datagram_faults::{fault_name, fault_number};
+pub use datagram_taker::DatagramTaker;
 pub use ending::{EndCause, end_peer, tell_refusals};
 pub use finishing::{FileQueue, QueueFinisher};
 pub use peer_folder::PeerFolder;
 pub use peer_limits::PeerLimits;
 pub use receiving::run_datagrams;
-pub use reception::Reception;
 pub use running::record_datagrams;
 pub use system_socket::SystemSocket;
 pub use taking::take_datagram;

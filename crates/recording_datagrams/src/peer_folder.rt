@@ -1,7 +1,7 @@
 //! The files of peers in a folder of recordings.
 
 use crate::finishing::{FileQueue, QueueFinisher};
-use recording_connections::FrontDesk;
+use recording_connections::SharedCounts;
 use recording_files::PeriodClock;
 use recording_folder::{SessionFiles, SystemPeriods, SystemPlace};
 use recording_lines::Log;
@@ -17,14 +17,14 @@ use std::sync::{Mutex, Wait};
 type PeerFiles<'a, R, W, E> = SessionFiles<'a, R, QueueFinisher<'a, R, W, E>>;
 
 /// Makes the files of peers in a folder, all in the periods of one clock. They are finished by threads
-/// of their own, and told; and each session has the next number of the desk.
+/// of their own, and told; and each session has the next number of the shared.
 #[derive(Drop)]
 pub struct PeerFolder<'a, R: Files + Clock, W: Wait, E: Write + Copy + Drop> {
     pub place: SystemPlace<'a, R>,
     pub periods: SystemPeriods<'a, R>,
     /// Where they wait, if a thread finishes them.
     pub queue: Option<&'a FileQueue<R::File>>,
-    pub desk: &'a Mutex<FrontDesk>,
+    pub shared: &'a Mutex<SharedCounts>,
     pub waiting: &'a W,
     pub err: E,
 }
@@ -43,7 +43,7 @@ impl<'a, R: Files + Clock, W: Wait, E: Write + Copy + Drop> PeerPlace<PeerFiles<
         alloc: Global,
         peer: SocketAddr,
     ) -> Result<PeerFiles<'a, R, W, E>, AllocError> {
-        let number = self.desk.lock(self.waiting).next_session();
+        let number = self.shared.lock(self.waiting).next_session();
         let finisher = QueueFinisher {
             at_once: self.place.finisher(alloc, Log::new(self.err)),
             queue: self.queue,

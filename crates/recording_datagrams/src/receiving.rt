@@ -1,13 +1,13 @@
 //! The thread that takes datagrams, beside those that finish the files of peers.
 
+use crate::datagram_taker::DatagramTaker;
 use crate::finishing::{FileQueue, start_finishers};
 use crate::peer_folder::PeerFolder;
 use crate::peer_limits::PeerLimits;
-use crate::reception::Reception;
 use crate::running::record_datagrams;
 use crate::system_socket::SystemSocket;
 use crossbeam_channel::bounded;
-use recording_connections::{FrontDesk, RecordOrder, RecordingFiles};
+use recording_connections::{RecordOrder, RecordingFiles, SharedCounts};
 use recording_files::PeriodClock;
 use recording_folder::{Folder, SystemPlace};
 use recording_lines::Log;
@@ -33,10 +33,14 @@ pub fn run_datagrams<E: Write + Copy + Send + Drop, R: Clock + Threads + Wait + 
     folder: &Folder,
     order: &RecordOrder,
     limits: PeerLimits,
-    desk: &Mutex<FrontDesk>,
+    shared: &Mutex<SharedCounts>,
     err: E,
 ) {
-    if take_all(threads, rt, alloc, socket, folder, order, limits, desk, err).is_err() {
+    if take_all(
+        threads, rt, alloc, socket, folder, order, limits, shared, err,
+    )
+    .is_err()
+    {
         let _ = Log::new(err).tell_threads(0, 1);
     }
 }
@@ -50,13 +54,13 @@ fn take_all<E: Write + Copy + Send + Drop, R: Clock + Threads + Wait + Sync>(
     folder: &Folder,
     order: &RecordOrder,
     limits: PeerLimits,
-    desk: &Mutex<FrontDesk>,
+    shared: &Mutex<SharedCounts>,
     err: E,
 ) -> io::Result<()> {
     let (enter, leave) = bounded(alloc, limits.most.get())?;
     let queue = FileQueue { enter, leave };
     take_beside_finishers(
-        threads, rt, alloc, socket, folder, order, limits, &queue, desk, err,
+        threads, rt, alloc, socket, folder, order, limits, &queue, shared, err,
     )
 }
 
@@ -70,35 +74,35 @@ fn take_beside_finishers<'x, E: Write + Copy + Send + Drop, R: Clock + Threads +
     order: &'x RecordOrder,
     limits: PeerLimits,
     queue: &'x FileQueue<File>,
-    desk: &'x Mutex<FrontDesk>,
+    shared: &'x Mutex<SharedCounts>,
     err: E,
 ) -> io::Result<()> {
     let buffer = vec![in alloc; 0; MOST_OCTETS]?;
     let place = SystemPlace::new(rt, folder, order.every.get());
     let periods = place.periods(alloc)?;
-    let reception = Reception {
+    let taker = DatagramTaker {
         alloc,
         peers: Peers::new(alloc, limits.most, RandomState::new(rt)?)?,
         place: PeerFolder {
             place,
             periods,
             queue: Some(queue),
-            desk,
+            shared,
             waiting: threads,
             err,
         },
         filter: &order.filter,
         idle: limits.idle,
         second: 0,
-        unserved: FrontDesk::new(),
+        unserved: SharedCounts::new(),
         log: Log::new(err),
     };
     thread::scope(thread::scope_env(), threads, move |scope| {
-        let mut reception = reception;
+        let mut taker = taker;
         if start_finishers(scope, threads, rt, alloc, folder, queue, err) == 0 {
-            reception.place.finish_at_once();
+            taker.place.finish_at_once();
         }
-        take_forever(threads, socket, buffer, reception);
+        take_forever(threads, socket, buffer, taker);
     });
     Ok(())
 }
@@ -109,10 +113,10 @@ fn take_forever<
     P: PeerPlace<F> + PeriodClock + Drop,
     E: Write + Drop,
     R: Clock + Wait,
->(waiting: &R, socket: SystemSocket, buffer: Vec<u8>, reception: Reception<F, P, E>) {
+>(waiting: &R, socket: SystemSocket, buffer: Vec<u8>, taker: DatagramTaker<F, P, E>) {
     let mut socket = socket;
     let mut buffer = buffer;
-    let mut reception = reception;
+    let mut taker = taker;
     let start = Instant::now(waiting).ok();
     for _ in waiting.forever() {
         // (a log that can't be written stops nothing)
@@ -121,7 +125,7 @@ fn take_forever<
             start,
             &mut socket,
             buffer.as_mut_slice(),
-            &mut reception,
+            &mut taker,
             u64::MAX,
         );
     }

@@ -4,7 +4,7 @@ ghost use Rattle.std.specs.Prelude.{◌≡◌, ◌≤◌, [], ◌∷◌, length,
 ghost use Rattle.recording_peers.specs.Answers.{Gives, answer_of};
 ghost use Rattle.recording_datagrams.specs.Rounds.{TakesRound, TakesRounds};
 
-use crate::reception::Reception;
+use crate::datagram_taker::DatagramTaker;
 use recording_connections::RecordingFiles;
 use recording_files::PeriodClock;
 use recording_peers::{Datagram, DatagramSource, NoDatagram, PeerPlace};
@@ -31,15 +31,15 @@ pub fn record_datagrams<
     start: Option<Instant>,
     source: &mut D,
     buffer: &mut [u8],
-    reception: &mut Reception<F, P, E>,
+    taker: &mut DatagramTaker<F, P, E>,
     rounds: u64,
 ) -> io::Result<()>
     ensures { TakesRounds F.seen F.finishes P.asked D.answered E.contents rounds
-        source.old source.new reception.old reception.new result }
+        source.old source.new taker.old taker.new result }
 {
     let mut told: io::Result<()> = Ok(());
     for _ in 0..rounds {
-        told = told.and(take_round(rt, start, source, buffer, reception));
+        told = told.and(take_round(rt, start, source, buffer, taker));
     }
     told
 }
@@ -72,16 +72,16 @@ fn take_round<
     start: Option<Instant>,
     source: &mut D,
     buffer: &mut [u8],
-    reception: &mut Reception<F, P, E>,
+    taker: &mut DatagramTaker<F, P, E>,
 ) -> io::Result<()>
     ensures { TakesRound F.seen F.finishes P.asked D.answered E.contents
-        source.old source.new reception.old reception.new result }
+        source.old source.new taker.old taker.new result }
 {
     let received = ask(rt, source, buffer);
-    let now = seconds_since(rt, start).max(reception.second);
-    let kept = reception.keep_to_periods();
-    let taken = reception.take(received, buffer, now);
-    kept.and(taken.and(reception.go_on_to(now)))
+    let now = seconds_since(rt, start).max(taker.second);
+    let kept = taker.keep_to_periods();
+    let taken = taker.take(received, buffer, now);
+    kept.and(taken.and(taker.go_on_to(now)))
 }
 
 // How many seconds have passed since then; 0 if a time isn't known.

@@ -6,15 +6,15 @@ ghost use Rattle.recording_connections.specs.Serving.{fault_line};
 ghost use Rattle.ipfix_message.specs.declared.fault.MessageFault.TheVariants.{OutOfMemory};
 ghost use Rattle.recording_files.specs.declared.record_fault.RecordFault.TheVariants as faults;
 ghost use Rattle.recording_datagrams.specs.Ending.{AreTold};
-ghost use Rattle.recording_datagrams.specs.Taking.{Arrives, Becomes, Goes, IsTaken};
+ghost use Rattle.recording_datagrams.specs.Taking.{Arrives, OutcomeLines, EvictedLines, IsProcessed};
 
 use crate::ending::{EndCause, end_peer};
 use ipfix_message::MessageFault;
 use network_prefixes::PeerFilter;
-use recording_connections::{FrontDesk, RecordingFiles};
+use recording_connections::{RecordingFiles, SharedCounts};
 use recording_files::RecordFault;
 use recording_lines::Log;
-use recording_peers::{Became, KeptPeer, Outcome, PeerPlace, Peers};
+use recording_peers::{Became, Outcome, PeerPlace, PeerState, Peers};
 use std::alloc::Global;
 use std::io::{self, Write};
 use std::net::SocketAddr;
@@ -27,7 +27,7 @@ pub fn take_datagram<F: RecordingFiles + Drop, P: PeerPlace<F>, E: Write + Drop>
     peers: &mut Peers<F>,
     place: &mut P,
     filter: &PeerFilter,
-    unserved: &mut FrontDesk,
+    unserved: &mut SharedCounts,
     from: SocketAddr,
     datagram: &[u8],
     now: u64,
@@ -56,7 +56,7 @@ fn record_and_tell<F: RecordingFiles + Drop, P: PeerPlace<F>, E: Write + Drop>(
     log: &mut Log<E>,
 ) -> io::Result<()>
     ensures { AreTold E.contents
-        (IsTaken F.seen F.finishes peers.old.kept peers.new.kept from datagram.now now)
+        (IsProcessed F.seen F.finishes peers.old.kept peers.new.kept from datagram.now now)
         log.old log.new result }
 {
     let Outcome { became, gone } = peers.record(alloc, place, from, datagram, now);
@@ -66,10 +66,10 @@ fn record_and_tell<F: RecordingFiles + Drop, P: PeerPlace<F>, E: Write + Drop>(
 
 // Ends the session of a peer that went, since there was no room for one more.
 fn tell_gone<F: RecordingFiles, E: Write + Drop>(
-    gone: Option<(SocketAddr, KeptPeer<F>)>,
+    gone: Option<(SocketAddr, PeerState<F>)>,
     log: &mut Log<E>,
 ) -> io::Result<()>
-    ensures { AreTold E.contents (Goes F.finishes gone) log.old log.new result }
+    ensures { AreTold E.contents (EvictedLines F.finishes gone) log.old log.new result }
 {
     match gone {
         None => Ok(()),
@@ -83,7 +83,7 @@ fn tell_became<F: RecordingFiles, E: Write + Drop>(
     became: Became<F>,
     log: &mut Log<E>,
 ) -> io::Result<()>
-    ensures { AreTold E.contents (Becomes F.finishes peer became) log.old log.new result }
+    ensures { AreTold E.contents (OutcomeLines F.finishes peer became) log.old log.new result }
 {
     match became {
         Became::Recorded => Ok(()),

@@ -4,16 +4,16 @@ ghost use Rattle.std.specs.Prelude.{◌≡◌, ◌≤◌, ◌⊎◌, [], None, I
 ghost use Rattle.std.specs.Io.KnownBytes.{Appends};
 ghost use Rattle.lru.specs.LruCache.{last_entry};
 ghost use Rattle.recording_datagrams.specs.Ending.{AreTold};
-ghost use Rattle.recording_datagrams.specs.Turns.{EndsSilent, Falls, HadTurns, IsSilence, IsTurn, IsTurnTold, none_unserved, not_received_lines, turned_away_lines, unserved_lines};
+ghost use Rattle.recording_datagrams.specs.Turns.{EndsSilent, EndedLines, HadTurns, EndsOneSilent, IsTurn, IsTurnTold, none_unserved, not_received_lines, turned_away_lines, unserved_lines};
 
 use crate::ending::{EndCause, end_peer, tell_refusals};
-use recording_connections::{FrontDesk, RecordingFiles, RefusedPeers};
+use recording_connections::{RecordingFiles, RefusedPeers, SharedCounts};
 use recording_lines::Log;
-use recording_peers::{InTurn, KeptPeer, Peers};
+use recording_peers::{InTurn, PeerState, Peers};
 use std::io::{self, Write};
 use std::net::SocketAddr;
 
-/// Goes over all peers: tells which of their datagrams were refused, and finishes their files if a period is
+/// EvictedLines over all peers: tells which of their datagrams were refused, and finishes their files if a period is
 /// over. A session whose file can't be finished ends. A log that can't be written stops nothing; its first
 /// error is the answer.
 pub fn go_over<F: RecordingFiles + Drop, E: Write + Drop>(
@@ -69,10 +69,10 @@ fn tell_turn<F: RecordingFiles, E: Write + Drop>(
 // Ends a session that ended with a fault in its turn.
 fn end_if<F: RecordingFiles, E: Write + Drop>(
     peer: SocketAddr,
-    ended: Option<KeptPeer<F>>,
+    ended: Option<PeerState<F>>,
     log: &mut Log<E>,
 ) -> io::Result<()>
-    ensures { AreTold E.contents (Falls F.finishes peer ended) log.old log.new result }
+    ensures { AreTold E.contents (EndedLines F.finishes peer ended) log.old log.new result }
 {
     match ended {
         None => Ok(()),
@@ -109,7 +109,7 @@ fn end_one<F: RecordingFiles + Drop, E: Write + Drop>(
 ) -> Option<io::Result<()>>
     ensures none { result ≡ None → (peers.new ≡ peers.old) × (log.new ≡ log.old)
         × IfSome (last_entry peers.old.kept.entries) (λ e. since ≤ e.1.heard) }
-    ensures silent { IfSome result (λ answer. AreTold E.contents (IsSilence F.finishes since
+    ensures silent { IfSome result (λ answer. AreTold E.contents (EndsOneSilent F.finishes since
         peers.old.kept.entries peers.new.kept.entries) log.old log.new answer) }
     ensures room { peers.new.kept.cap ≡ peers.old.kept.cap }
 {
@@ -121,7 +121,10 @@ fn end_one<F: RecordingFiles + Drop, E: Write + Drop>(
 
 /// Tells how many datagrams came from peers that may not send, and how often none could be received, if that
 /// was so. They are counted anew then, though the log can't be written; its first error is the answer.
-pub fn tell_unserved<E: Write + Drop>(unserved: &mut FrontDesk, log: &mut Log<E>) -> io::Result<()>
+pub fn tell_unserved<E: Write + Drop>(
+    unserved: &mut SharedCounts,
+    log: &mut Log<E>,
+) -> io::Result<()>
     ensures told { OnOk result (Appends (E.contents log.old) (E.contents log.new)
         (unserved_lines unserved.old)) }
     ensures none_left { unserved.new ≡ none_unserved unserved.old }

@@ -7,4 +7,4 @@ mod places;
 #[cfg(test)]
 mod rounds;
 #[cfg(test)]
-mod telling;
+mod verbosity;

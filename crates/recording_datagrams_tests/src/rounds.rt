@@ -1,9 +1,9 @@
 //! Rounds of taking datagrams.
 
 use super::places::{PlaceInPeriods, SmallPlace};
-use super::telling::{FLOW, only_from};
-use recording_connections::FrontDesk;
-use recording_datagrams::{Reception, record_datagrams};
+use super::verbosity::{FLOW, only_from};
+use recording_connections::SharedCounts;
+use recording_datagrams::{DatagramTaker, record_datagrams};
 use recording_files::ScriptClock;
 use recording_lines::Log;
 use recording_peers::{NoDatagram, Peers, ScriptDatagrams, ScriptedDatagram};
@@ -38,7 +38,7 @@ fn each_datagram_is_taken_once(rt: HostRuntime) -> Result<(), Fail> {
     let mut source = source_of(alloc, &[1, 2, 1])?;
     let mut out = FailingWriter::new(alloc, 1000, 1000);
     let filter = only_from(alloc, "192.0.2.0/24")?;
-    let mut reception = Reception {
+    let mut taker = DatagramTaker {
         alloc,
         peers: Peers::new(alloc, NonZeroUsize::new(2).unwrap(), RandomState::new(&rt)?)?,
         place: PlaceInPeriods {
@@ -48,18 +48,18 @@ fn each_datagram_is_taken_once(rt: HostRuntime) -> Result<(), Fail> {
         filter: &filter,
         idle: 10,
         second: 0,
-        unserved: FrontDesk::new(),
+        unserved: SharedCounts::new(),
         log: Log::new(&mut out),
     };
     let mut buffer = [0; 200];
-    record_datagrams(&rt, None, &mut source, &mut buffer, &mut reception, 5)?;
+    record_datagrams(&rt, None, &mut source, &mut buffer, &mut taker, 5)?;
     let length = message_of_flows(alloc, 0, 1, &[FLOW])?.len();
-    let left = |number: u8| match reception.peers.kept.peek(&peer(number)) {
+    let left = |number: u8| match taker.peers.kept.peek(&peer(number)) {
         Some(kept) => kept.files.room,
         None => 0,
     };
     let one = 1000_usize.saturating_sub(length);
     assert_eq!(rt; (left(1), left(2)), (one.saturating_sub(length), one));
-    assert_eq!(rt; reception.unserved.not_accepted, 1);
+    assert_eq!(rt; taker.unserved.not_accepted, 1);
     Ok(())
 }

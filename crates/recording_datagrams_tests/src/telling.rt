@@ -2,7 +2,7 @@
 
 use super::places::{SmallFiles, SmallPlace};
 use network_prefixes::{PeerFilter, Prefix};
-use recording_connections::FrontDesk;
+use recording_connections::SharedCounts;
 use recording_datagrams::{end_silent, go_over, take_datagram, tell_unserved};
 use recording_lines::Log;
 use recording_peers::Peers;
@@ -48,7 +48,7 @@ fn tell_all(rt: &HostRuntime, out: &mut FailingWriter) -> Result<(), Fail> {
     let most = NonZeroUsize::new(2).unwrap();
     let mut peers: Peers<SmallFiles> = Peers::new(alloc, most, RandomState::new(rt)?)?;
     let filter = only_from(alloc, "192.0.2.0/24")?;
-    let mut unserved = FrontDesk::new();
+    let mut unserved = SharedCounts::new();
     // (the second flow of a peer finds no room)
     for (network, number, is_flow, now) in [
         (2, 1, true, 0),

@@ -33,7 +33,7 @@ use Rattle.recording_files.specs.Faithful.{all_messages, all_given}
 use Rattle.recording_files.specs.Files.{Contents, grown, turned, FilesView, with_more, with_next, failing, IsEmpty}
 use Rattle.recording_files.specs.Periods.{unfinished_in, with_file, finished_at}
 use Rattle.recording_files.specs.Sessions.{HasMessage, file_octets, parts, files_of, Stands, IsCutOff, Holds, HoldsSome, HoldsEarlier, HoldsAll, HoldsCut}
-use Rattle.recording_files.specs.Between.{IsBetween, GoesNoFurther}
+use Rattle.recording_files.specs.Between.{IsBetween, StopsRecording}
 use Rattle.recording_files.proofs.Growing.{writes-append}
 use Rattle.recording_files.proofs.Gatherings.{octets-append}
 
@@ -455,6 +455,6 @@ read_earlier text piece files first v after s c d left out counts b r g is count
 
 pub read_fault : (text piece : List ℕ) (files : List (List Message)) (first v after : FilesView) (s : State) (c d : Told) (left out : List ℕ) (counts : List MessageCount) (e : MessageFault) (b : IsBetween text files first v s c left) → IsRest left
     → (g : GathersUpTo e (all_given b.finished) b.last.given (left ++ piece) out counts) → after ≡ with_more v out → Counted d (all_given b.finished) (b.last.given ++ g.some.given)
-    → GoesNoFurther (OfMessage e) (text ++ piece) text files first after d
+    → StopsRecording (OfMessage e) (text ++ piece) text files first after d
 read_fault text piece files first v after s c d left out counts OutOfMemory b r g is counted = read_earlier text piece files first v after s c d left out counts b r g.some is counted
 read_fault text piece files first v after s c d left out counts e b r g is counted = read_all text piece files first v after s c d left out counts e b r g is counted (λ h. cc h)

@@ -27,7 +27,7 @@ use Rattle.recording_files.specs.Faithful.{all_given}
 use Rattle.recording_files.specs.Files.{FilesView, IsEmpty}
 use Rattle.recording_files.specs.Periods.{ClockView, IsAnswer, AskedRead, IsAskedRead, AreAskedReads, source_behind, clock_behind, octets_read, octets_before, finished_at, finished_by}
 use Rattle.recording_files.specs.Sessions.{HoldsSome, HoldsEarlier, HoldsAll, HoldsCut, HoldsBy, fault_of, RecordsTo}
-use Rattle.recording_files.specs.Between.{IsBetween, GoesNoFurther}
+use Rattle.recording_files.specs.Between.{IsBetween, StopsRecording}
 use Rattle.recording_files.proofs.Going.{out_behind, between_first, open_yet, stop_is, all_held}
 
 -- a read that gave this piece, and did not end the source
@@ -136,7 +136,7 @@ module _ {S C : Type 0} (seen : S → SourceView) (asked : C → ClockView) wher
 
 -- ---- why it goes no further
 
-due_by : (limit : ℕ) (before after : SourceView) (text earlier : List ℕ) (files : List (List Message)) (first v : FilesView) (c : Told) (f : RecordFault) → GoesNoFurther f text earlier files first v c
+due_by : (limit : ℕ) (before after : SourceView) (text earlier : List ℕ) (files : List (List Message)) (first v : FilesView) (c : Told) (f : RecordFault) → StopsRecording f text earlier files first v c
     → IsDue (fault_of (Err f)) limit text before after
 due_by limit before after text earlier files first v c (OfMessage OutOfMemory) g = tt
 due_by limit before after text earlier files first v c (OfMessage e) g = g.0
@@ -145,7 +145,7 @@ due_by limit before after text earlier files first v c Truncated g = absurd g
 due_by limit before after text earlier files first v c ReadFailed g = absurd g
 due_by limit before after text earlier files first v c TooManyReads g = absurd g
 
-holds_by : (text earlier : List ℕ) (files : List (List Message)) (first v : FilesView) (c : Told) (f : RecordFault) → GoesNoFurther f text earlier files first v c → HoldsBy (Counted c) (Err f) text earlier files first v
+holds_by : (text earlier : List ℕ) (files : List (List Message)) (first v : FilesView) (c : Told) (f : RecordFault) → StopsRecording f text earlier files first v c → HoldsBy (Counted c) (Err f) text earlier files first v
 holds_by text earlier files first v c (OfMessage OutOfMemory) g = g
 holds_by text earlier files first v c (OfMessage e) g = g.1
 holds_by text earlier files first v c NotWritten g = g
@@ -162,7 +162,7 @@ short_is (b ∷ w) (Fault f) some e is_open = absurd is_open
 module _ {S F C : Type 0} (seen : S → SourceView) (view : F → FilesView) (asked : C → ClockView) where
   pub records_fault : (limit n : ℕ) (before now after : S) (first last more : F) (start clock then : C) (s : State) (c e : Told) (left piece : List ℕ) (is_over : Bool) (f : RecordFault)
       → (d : Reading seen asked n before now start clock (view first) (view last) s c left) → n < limit → length piece ≤ READ_SIZE → ReadsOn (seen now) (seen after) piece → IsAnswer (asked clock) is_over (asked then)
-      → GoesNoFurther f (octets_read d.reads ++ piece) (octets_read d.reads) (finished_at is_over (octets_read d.reads) (finished_by d.reads)) (view first) (view more) e
+      → StopsRecording f (octets_read d.reads ++ piece) (octets_read d.reads) (finished_at is_over (octets_read d.reads) (finished_by d.reads)) (view first) (view more) e
       → RecordsTo seen view asked limit before after first more start then (Err f) (Counted e)
   unfolding stops_at
   records_fault limit n before now after first last more start clock then s c e left piece is_over f d less room on answer g =

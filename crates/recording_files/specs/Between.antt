@@ -31,10 +31,10 @@ pub record IsBetween (text : List ℕ) (files : List (List Message)) (first afte
   pub rest : (cut text).rest ≡ (cut left).rest
 
 -- why it went no further than a read, before which this had come of the text, and what is counted then
-abbrev pub GoesNoFurther : RecordFault → List ℕ → List ℕ → List (List Message) → FilesView → FilesView → Told → Type 0
-GoesNoFurther (OfMessage OutOfMemory) text earlier files first after c = HoldsEarlier (Counted c) text earlier files first after
-GoesNoFurther (OfMessage e) text earlier files first after c = (stop_of text ≡ Fault e) × HoldsAll (Counted c) text files first after
-GoesNoFurther NotWritten text earlier files first after c = HoldsCut (Counted c) text earlier files first after
-GoesNoFurther Truncated text earlier files first after c = ⊥
-GoesNoFurther ReadFailed text earlier files first after c = ⊥
-GoesNoFurther TooManyReads text earlier files first after c = ⊥
+abbrev pub StopsRecording : RecordFault → List ℕ → List ℕ → List (List Message) → FilesView → FilesView → Told → Type 0
+StopsRecording (OfMessage OutOfMemory) text earlier files first after c = HoldsEarlier (Counted c) text earlier files first after
+StopsRecording (OfMessage e) text earlier files first after c = (stop_of text ≡ Fault e) × HoldsAll (Counted c) text files first after
+StopsRecording NotWritten text earlier files first after c = HoldsCut (Counted c) text earlier files first after
+StopsRecording Truncated text earlier files first after c = ⊥
+StopsRecording ReadFailed text earlier files first after c = ⊥
+StopsRecording TooManyReads text earlier files first after c = ⊥

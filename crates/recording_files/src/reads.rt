@@ -7,7 +7,7 @@ ghost use Rattle.recording_files.specs.Recorders.{AreCountsOf, Counted, Keeps};
 ghost use Rattle.recording_files.specs.Files.{Appends, FilesView};
 ghost use Rattle.recording_files.specs.Periods.{finished_at};
 ghost use Rattle.recording_files.specs.Gathering.{Gathers, GathersUpTo, HasGathered};
-ghost use Rattle.recording_files.specs.Between.{IsBetween, GoesNoFurther};
+ghost use Rattle.recording_files.specs.Between.{IsBetween, StopsRecording};
 
 use crate::file_series::{FileSeries, NotWritten};
 use crate::gathering::Gathering;
@@ -28,7 +28,7 @@ fn turn_if_over<F: FileSeries>(
         → MatchResult result
         (λ _. IsBetween text (finished_at is_over text finished) first (F.seen files.new)
         gathering.new.recorder gathering.new.counts.told left)
-        (λ fault. (piece : List ℕ) → GoesNoFurther fault (text ++ piece) text
+        (λ fault. (piece : List ℕ) → StopsRecording fault (text ++ piece) text
         (finished_at is_over text finished) first (F.seen files.new)
         gathering.new.counts.told) }
 {
@@ -107,7 +107,7 @@ pub fn take_read<F: FileSeries>(
         (λ _. IsBetween (text ++ piece.now) (finished_at is_over text finished) first
         (F.seen files.new) gathering.new.recorder gathering.new.counts.told buffer.new.items
         × IsRest buffer.new.items)
-        (λ fault. GoesNoFurther fault (text ++ piece.now) text (finished_at is_over text finished)
+        (λ fault. StopsRecording fault (text ++ piece.now) text (finished_at is_over text finished)
         first (F.seen files.new) gathering.new.counts.told) }
 {
     turn_if_over(is_over, gathering, files)?;

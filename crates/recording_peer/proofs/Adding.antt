@@ -17,7 +17,7 @@ use Rattle.recording_files.proofs.Going.{reports-push}
 use Rattle.recording_files.proofs.FilesGive.{contents_are}
 use Rattle.recording_peer.specs.declared.peer_session.PeerSession.{PeerSession}
 use Rattle.recording_peer.specs.Peers.{Taken, PeerFile, givens}
-use Rattle.recording_peer.specs.Recording.{PeerTold, Holds, StopsAt, TurnedUnknown, HasStopped, IsPeerTold, Tells, finished_now, part_of, taken_in}
+use Rattle.recording_peer.specs.Recording.{PeerTold, FilesHold, StopsAt, TurnedUnknown, HasStopped, IsPeerTold, Tells, finished_now, part_of, taken_in}
 use Rattle.recording_peer.proofs.PeerFiles.{givens-append}
 
 -- the messages of a file, as a part of the session
@@ -40,14 +40,14 @@ all_reports : (finished : List (List Taken)) (here : List Taken) (r : RecordedSe
 all_reports finished here r told = adds_up (map part_with finished) (part_with here) r (subst (λ (ms : List Message). IsTold r ms (givens here)) (sym (all_given_with finished)) told)
 
 -- the reports that were given
-given_with : (first after : FilesView) (start now : Contents) (finished : List (List Taken)) (here : List Taken) (cut_off : List ℕ) → Holds first after finished here cut_off → first.contents ≡ Some start → start.reports ≡ [] → after.contents ≡ Some now
+given_with : (first after : FilesView) (start now : Contents) (finished : List (List Taken)) (here : List Taken) (cut_off : List ℕ) → FilesHold first after finished here cut_off → first.contents ≡ Some start → start.reports ≡ [] → after.contents ≡ Some now
     → now.reports ≡ reports_of finished
 given_with first after start now finished here cut_off h is none there =
     let last : PeerFile = record { freed = h.freed; taken = here; file = h.file } in
     let t = contents_are first.contents after.contents start now (map part_of h.files) (part_of last) cut_off is there h.stands in
     t.1 ∙ ap (λ (rs : List FileReport). rs ++ file_reports [] (map part_of h.files)) none ∙ reports_same [] h.files ∙ ap reports_of h.are
 
-pub adds_to_session : (first after : FilesView) (start now : Contents) (finished : List (List Taken)) (here : List Taken) (cut_off : List ℕ) (r : PeerSession) → Holds first after finished here cut_off → IsPeerTold r finished here
+pub adds_to_session : (first after : FilesView) (start now : Contents) (finished : List (List Taken)) (here : List Taken) (cut_off : List ℕ) (r : PeerSession) → FilesHold first after finished here cut_off → IsPeerTold r finished here
     → first.contents ≡ Some start → start.reports ≡ [] → after.contents ≡ Some now → AddUp (now.reports ++ r.session.last ∷ []) r.session.report
 adds_to_session first after start now finished here cut_off r h told is none there =
     subst (λ (rs : List FileReport). AddUp (rs ++ r.session.last ∷ []) r.session.report) (sym (given_with first after start now finished here cut_off h is none there))

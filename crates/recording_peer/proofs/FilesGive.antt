@@ -13,7 +13,7 @@ use Rattle.recording_files.specs.Sessions.{file_octets}
 use Rattle.recording_files.proofs.Together.{is_faithful}
 use Rattle.recording_files.proofs.FilesGive.{all_clean, all_records, contents_are}
 use Rattle.recording_peer.specs.Peers.{Taken, AreTaken, PeerFile, AreFiles, records_over_udp}
-use Rattle.recording_peer.specs.Recording.{Holds, all_taken, part_of}
+use Rattle.recording_peer.specs.Recording.{FilesHold, all_taken, part_of}
 use Rattle.recording_peer.proofs.PeerFiles.{flat_given, session_of, files_recorded, files-push}
 
 -- those of the files, among the parts of the session
@@ -26,7 +26,7 @@ of_files (f ∷ fs) all =
 pub read_alone : (fs : List PeerFile) → AreFiles [] fs → All IsReadAlone (map part_of fs)
 read_alone fs are = of_files fs (is_faithful (session_of fs) (files_recorded [] fs are)).files
 
-pub files_give : (first after : FilesView) (start now : Contents) (finished : List (List Taken)) (here : List Taken) → Holds first after finished here [] → first.contents ≡ Some start → start.finished ≡ [] → after.contents ≡ Some now
+pub files_give : (first after : FilesView) (start now : Contents) (finished : List (List Taken)) (here : List Taken) → FilesHold first after finished here [] → first.contents ≡ Some start → start.finished ≡ [] → after.contents ≡ Some now
     → AreTaken [] (all_taken finished here) × All (λ file. stop_of file ≡ Clean) (all_of now) × (flat_map records_of (all_of now) ≡ records_over_udp (all_taken finished here))
 files_give first after start now finished here h is none there =
     let last : PeerFile = record { freed = h.freed; taken = here; file = h.file } in

@@ -16,7 +16,7 @@ use Rattle.recording_files.specs.Files.{Contents, FilesView, all_of}
 use Rattle.recording_files.specs.Sessions.{file_octets}
 use Rattle.recording_files.proofs.FilesGive.{kept, all_records, contents_are}
 use Rattle.recording_peer.specs.Peers.{Taken, AreTaken, PeerFile, records_over_udp, givens}
-use Rattle.recording_peer.specs.Recording.{Holds, IsCutOff, StopsAt, HasStopped, KeepsWhole, PeerTold, all_taken, finished_now, part_of}
+use Rattle.recording_peer.specs.Recording.{FilesHold, IsCutOff, StopsAt, HasStopped, KeepsWhole, PeerTold, all_taken, finished_now, part_of}
 use Rattle.recording_peer.proofs.PeerFiles.{files-push, flat_given}
 use Rattle.recording_peer.proofs.Taking.{all_taken-now}
 use Rattle.recording_peer.proofs.FilesGive.{read_alone, files_give}
@@ -27,7 +27,7 @@ open_each (w ∷ ws) all =
     All-cons (λ file. IsOpen (stop_of file)) w ws (subst IsOpen (sym (All-head (λ file. stop_of file ≡ Clean) w ws all)) tt) (open_each ws (All-tail (λ file. stop_of file ≡ Clean) w ws all))
 
 -- no octet stands behind the datagrams
-keeps_all : (first after : FilesView) (start now : Contents) (finished : List (List Taken)) (here : List Taken) (m : List ℕ) → Holds first after finished here [] → first.contents ≡ Some start → start.finished ≡ [] → after.contents ≡ Some now
+keeps_all : (first after : FilesView) (start now : Contents) (finished : List (List Taken)) (here : List Taken) (m : List ℕ) → FilesHold first after finished here [] → first.contents ≡ Some start → start.finished ≡ [] → after.contents ≡ Some now
     → KeepsWhole (all_taken finished here) m (all_of now)
 keeps_all first after start now finished here m h is none there =
     let g = files_give first after start now finished here h is none there in

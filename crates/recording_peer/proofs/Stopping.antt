@@ -18,12 +18,12 @@ use Rattle.recording_files.proofs.Going.{stands_cut}
 use Rattle.ipfix_datagrams.specs.Datagrams.{IsTaken}
 use Rattle.ipfix_datagrams.proofs.Readings.{only_memory}
 use Rattle.recording_peer.specs.Peers.{Taken, givens, all_before, PeerFile}
-use Rattle.recording_peer.specs.Recording.{PeerTold, PeerView, part_of, all_taken, Holds, Counts, IsPeer, finished_now, HasStopped}
+use Rattle.recording_peer.specs.Recording.{PeerTold, PeerView, part_of, all_taken, FilesHold, Counts, IsPeer, finished_now, HasStopped}
 use Rattle.recording_peer.specs.Ready.{IsReady}
 use Rattle.recording_peer.proofs.Taking.{holds_turned, taken_as, read_so, file_with, octets_with, taken_with}
 
 -- other files with the same octets
-pub holds_same : (first v after : FilesView) (finished : List (List Taken)) (here : List Taken) → Holds first v finished here [] → after.contents ≡ v.contents → Holds first after finished here []
+pub holds_same : (first v after : FilesView) (finished : List (List Taken)) (here : List Taken) → FilesHold first v finished here [] → after.contents ≡ v.contents → FilesHold first after finished here []
 holds_same first v after finished here h is = record {
   taken = h.taken;
   files = h.files;
@@ -55,7 +55,7 @@ stops_turning first v after s finished (x ∷ xs) report c p some reported told 
     }
 
 -- memory ran out, and nothing was written
-pub stops_out : (fault : MessageFault) (first v : FilesView) (s : PeerView) (finished : List (List Taken)) (here : List Taken) (c : PeerTold) (m : List ℕ) → fault ≡ OutOfMemory → Holds first v finished here [] → v.failed ≡ first.failed → Counts s.told finished here → c ≡ s.told
+pub stops_out : (fault : MessageFault) (first v : FilesView) (s : PeerView) (finished : List (List Taken)) (here : List Taken) (c : PeerTold) (m : List ℕ) → fault ≡ OutOfMemory → FilesHold first v finished here [] → v.failed ≡ first.failed → Counts s.told finished here → c ≡ s.told
     → HasStopped (OfMessage fault) first v c finished here m
 stops_out fault first v s finished here c m memory holds same counted told = record {
   fails = (ap (λ (f : MessageFault). of_message f) memory, same);

@@ -27,7 +27,7 @@ use Rattle.ipfix_datagrams.proofs.Answered.{freed_knows}
 use Rattle.ipfix_datagrams.specs.Withdrawals.{withdrawal_message}
 use Rattle.ipfix_datagrams.proofs.Readings.{header_same}
 use Rattle.recording_peer.specs.Peers.{Taken, AreTaken, PeerFile, datagrams, givens, all_before, freeing_header, Frees, IsFile}
-use Rattle.recording_peer.specs.Recording.{PeerTold, PeerView, part_of, all_taken, HasDatagram, Holds, Counts, IsPeer, finished_now, finished_before, here_before}
+use Rattle.recording_peer.specs.Recording.{PeerTold, PeerView, part_of, all_taken, HasDatagram, FilesHold, Counts, IsPeer, finished_now, finished_before, here_before}
 use Rattle.recording_peer.specs.Freeing.{BeginsFreed}
 use Rattle.ipfix_datagrams.specs.Reaches.{reaches_of}
 use Rattle.recording_peer.specs.Ready.{IsReady}
@@ -58,26 +58,26 @@ peer_first v s empty on keeps counted none = record {
 -- ---- the next file
 
 -- the file that isn't finished, as it is finished
-abbrev pub file_now : (first v : FilesView) (finished : List (List Taken)) (here : List Taken) → Holds first v finished here [] → PeerFile
+abbrev pub file_now : (first v : FilesView) (finished : List (List Taken)) (here : List Taken) → FilesHold first v finished here [] → PeerFile
 file_now first v finished here h = record { freed = h.freed; taken = here; file = h.file }
 
 -- the files behind it
-abbrev pub files_now : (first v : FilesView) (finished : List (List Taken)) (here : List Taken) → Holds first v finished here [] → List PeerFile
+abbrev pub files_now : (first v : FilesView) (finished : List (List Taken)) (here : List Taken) → FilesHold first v finished here [] → List PeerFile
 files_now first v finished here h = h.files ++ file_now first v finished here h ∷ []
 
-pub before_turned : (first v : FilesView) (finished : List (List Taken)) (here : List Taken) (h : Holds first v finished here [])
+pub before_turned : (first v : FilesView) (finished : List (List Taken)) (here : List Taken) (h : FilesHold first v finished here [])
     → all_before (files_now first v finished here h) ++ [] ≡ (all_before h.files ++ h.freed.given) ++ givens here
 before_turned first v finished here h =
     append-nil (all_before (files_now first v finished here h)) ∙ all_before-push h.files (file_now first v finished here h) ∙ sym (append_assoc (all_before h.files) h.freed.given (givens here))
 
 -- what is counted of the file is what is to be told of it
-pub reported : (first v : FilesView) (finished : List (List Taken)) (here : List Taken) (c : PeerTold) (h : Holds first v finished here []) → Counts c finished here → c.counts.file ≡ file_report (all_given (map part_of h.files)) (givens here)
+pub reported : (first v : FilesView) (finished : List (List Taken)) (here : List Taken) (c : PeerTold) (h : FilesHold first v finished here []) → Counts c finished here → c.counts.file ≡ file_report (all_given (map part_of h.files)) (givens here)
 reported first v finished here c h counted =
     counted.counted.file ∙ ap (λ (ms : List Message). file_report ms (givens here)) (sym (given_is h.files ∙ ap (λ (tss : List (List Taken)). givens (flat_map (λ (ts : List Taken). ts) tss)) h.are))
 
 -- it is finished
-pub holds_turned : (first v after : FilesView) (finished : List (List Taken)) (here : List Taken) (c : PeerTold) → Holds first v finished here [] → Counts c finished here → here ≢ [] → after.contents ≡ (with_next v c.counts.file).contents
-    → Holds first after (finished ++ here ∷ []) [] []
+pub holds_turned : (first v after : FilesView) (finished : List (List Taken)) (here : List Taken) (c : PeerTold) → FilesHold first v finished here [] → Counts c finished here → here ≢ [] → after.contents ≡ (with_next v c.counts.file).contents
+    → FilesHold first after (finished ++ here ∷ []) [] []
 holds_turned first v after finished here c h counted some is = record {
   taken = subst (AreTaken []) (sym (all_taken-turned finished here)) h.taken;
   files = files_now first v finished here h;

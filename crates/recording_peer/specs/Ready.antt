@@ -7,10 +7,10 @@ use Rattle.recording_files.specs.Recorders.{Keeps}
 use Rattle.recording_files.specs.Files.{FilesView}
 use Rattle.ipfix_datagrams.specs.Datagrams.{with_freed}
 use Rattle.recording_peer.specs.Peers.{Taken, datagrams, givens, all_before, Frees}
-use Rattle.recording_peer.specs.Recording.{PeerView, Holds, Counts, all_taken}
+use Rattle.recording_peer.specs.Recording.{PeerView, FilesHold, Counts, all_taken}
 
 pub record IsReady (first after : FilesView) (s : PeerView) (finished : List (List Taken)) (here : List Taken) (h : Header) (ids : List ℕ) : Type 0 where
-  pub holds : Holds first after finished here []
+  pub holds : FilesHold first after finished here []
   pub not_failed : after.failed ≡ first.failed
   pub goes_on : s.ended ≡ None
   pub counted : Counts s.told finished here

@@ -46,7 +46,7 @@ HasDatagram ts = ts ≢ []
 
 -- these datagrams were taken, and stand in the files that came after the first ones: those of each finished file, and those of
 -- the file that isn't finished, behind which stand these octets
-pub record Holds (first after : FilesView) (finished : List (List Taken)) (here : List Taken) (cut_off : List ℕ) : Type 0 where
+pub record FilesHold (first after : FilesView) (finished : List (List Taken)) (here : List Taken) (cut_off : List ℕ) : Type 0 where
   pub taken : AreTaken [] (all_taken finished here)
   pub files : List PeerFile
   pub are : taken_in files ≡ finished
@@ -65,7 +65,7 @@ pub record Counts (c : PeerTold) (finished : List (List Taken)) (here : List Tak
 
 -- the recorder stands for them
 pub record IsPeer (first after : FilesView) (s : PeerView) (finished : List (List Taken)) (here : List Taken) : Type 0 where
-  pub holds : Holds first after finished here []
+  pub holds : FilesHold first after finished here []
   pub not_failed : after.failed ≡ first.failed
   pub goes_on : s.ended ≡ None
   pub counted : Counts s.told finished here
@@ -92,7 +92,7 @@ here_before (id ∷ ids) here = []
 -- a call of the files failed: behind the datagrams stand the first octets of what was to stand there for this one
 pub record IsCutOff (first after : FilesView) (finished : List (List Taken)) (here : List Taken) (m : List ℕ) : Type 0 where
   pub cut_off : List ℕ
-  pub holds : Holds first after finished here cut_off
+  pub holds : FilesHold first after finished here cut_off
   pub next : Taken
   pub datagram : next.datagram ≡ m
   pub taken : AreTaken [] (all_taken finished (here ++ next ∷ []))
@@ -103,12 +103,12 @@ pub record IsCutOff (first after : FilesView) (finished : List (List Taken)) (he
 
 -- the files have these datagrams, and at most some octets of the next, and they are counted
 pub record StopsAt (first after : FilesView) (c : PeerTold) (finished : List (List Taken)) (here : List Taken) (m : List ℕ) : Type 0 where
-  pub there : Holds first after finished here [] ⊎ IsCutOff first after finished here m
+  pub there : FilesHold first after finished here [] ⊎ IsCutOff first after finished here m
   pub counted : Counts c finished here
 
 -- a file was finished, but the answer was that it wasn't: its datagrams are told as those of the file that isn't finished
 pub record TurnedUnknown (first after : FilesView) (c : PeerTold) (finished : List (List Taken)) (here : List Taken) : Type 0 where
-  pub holds : Holds first after (finished_now finished here) [] []
+  pub holds : FilesHold first after (finished_now finished here) [] []
   pub counted : Counts c finished here
 
 -- how many calls of the files failed by the fault: one, or memory ran out

@@ -9,14 +9,14 @@ ghost use Rattle.recording_files.specs.FileReports.{AddUp};
 ghost use Rattle.recording_files.specs.Files.{Contents, FilesView, all_of};
 ghost use Rattle.recording_peer.specs.declared.peer_session.PeerSession.{PeerSession};
 ghost use Rattle.recording_peer.specs.Peers.{Taken, AreTaken, records_over_udp};
-ghost use Rattle.recording_peer.specs.Recording.{HasStopped, Holds, IsPeerTold, KeepsWhole, PeerTold, Tells, all_taken};
+ghost use Rattle.recording_peer.specs.Recording.{HasStopped, FilesHold, IsPeerTold, KeepsWhole, PeerTold, Tells, all_taken};
 
 /// The files of a peer, with the one that isn't finished, are each read by itself as a session of a
 /// connection is, with no fault; and one after another they give the data records of the datagrams that
 /// were taken, each once, in their order, under the templates in force after the rules over UDP.
 pub fn files_give_the_records_over_udp()
     ensures { (first after : FilesView) (start now : Contents) (finished : List (List Taken))
-        (here : List Taken) → Holds first after finished here []
+        (here : List Taken) → FilesHold first after finished here []
         → first.contents ≡ Some start → start.finished ≡ [] → after.contents ≡ Some now
         → AreTaken [] (all_taken finished here)
         × All (λ file. stop_of file ≡ Clean) (all_of now)
@@ -39,7 +39,7 @@ pub fn files_keep_whole_datagrams()
 pub fn file_reports_add_up()
     ensures told { (first after : FilesView) (start now : Contents) (finished : List (List Taken))
         (here : List Taken) (cut_off : List ℕ) (r : PeerSession)
-        → Holds first after finished here cut_off → IsPeerTold r finished here
+        → FilesHold first after finished here cut_off → IsPeerTold r finished here
         → first.contents ≡ Some start → start.reports ≡ [] → after.contents ≡ Some now
         → AddUp (now.reports ++ r.session.last ∷ []) r.session.report }
     ensures stopped { (fault : RecordFault) (first after : FilesView) (start now : Contents)

@@ -5,12 +5,12 @@ use Rattle.std.specs.Map.{lookup, lookup_key, remove_entry}
 use Rattle.std.specs.declared.net.socket_addr.SocketAddr.{SocketAddr}
 use Rattle.std.specs.contracts.net.socket_addr.SocketAddrEq.TheImpl.Laws.{laws-law}
 use Rattle.recording_files.specs.Files.{FilesView}
-use Rattle.recording_peers.specs.declared.kept_peer.KeptPeer.{KeptPeer}
+use Rattle.recording_peers.specs.declared.peer_state.PeerState.{PeerState}
 use Rattle.recording_peers.specs.declared.outcome.Became.{Became}
 use Rattle.recording_peers.specs.declared.outcome.Became.TheVariants.{Recorded, Refused, Ended, NoMemory}
 use Rattle.recording_peers.specs.Table.{same_peer, of_peer, others_for, with_first}
-use Rattle.recording_peers.specs.Sessions.{Came, came_of, with_datagram, StandFor, StandBehind}
-use Rattle.recording_peers.specs.Runs.{Reception, AreRecorded, came_by, came_after, own_of, IsSettled, GoesThrough}
+use Rattle.recording_peers.specs.Sessions.{PeerDatagrams, came_of, with_datagram, StandFor, StandBehind}
+use Rattle.recording_peers.specs.Runs.{Reception, AreRecorded, came_by, came_after, own_of, IsSettled, IsNeverEvicted}
 use Rattle.recording_peers.proofs.Standing.{stand_behind}
 
 module _ {K X : Type 0} (test : K → Bool) where
@@ -76,7 +76,7 @@ same_option (Some v) q h k = sym (h v refl)
 
 module _ (peer : SocketAddr) (most : ℕ) where
   -- its own datagram
-  settled : (q : SocketAddr) (m : List ℕ) (cs : Came) → same_peer peer q ≡ true → of_peer peer (with_datagram most cs q m) ≡ Some (came_of peer cs ++ m ∷ [])
+  settled : (q : SocketAddr) (m : List ℕ) (cs : PeerDatagrams) → same_peer peer q ≡ true → of_peer peer (with_datagram most cs q m) ≡ Some (came_of peer cs ++ m ∷ [])
   settled q m cs e = first_is most peer q cs (came_of q cs ++ m ∷ []) e ∙ ap (λ o. Some (unwrap_or o [] ++ m ∷ [])) (same_of most peer q cs e)
 
 module _ {F : Type 0} (peer : SocketAddr) (most : ℕ) where
@@ -87,7 +87,7 @@ module _ {F : Type 0} (peer : SocketAddr) (most : ℕ) where
   ]
 
   -- another's datagram
-  theirs : (became : Became F) (q : SocketAddr) (m : List ℕ) (cs : Came) → same_peer peer q ≡ false → (IsSome (of_peer peer cs) → IsSome (of_peer peer (came_by became most q m cs)))
+  theirs : (became : Became F) (q : SocketAddr) (m : List ℕ) (cs : PeerDatagrams) → same_peer peer q ≡ false → (IsSome (of_peer peer cs) → IsSome (of_peer peer (came_by became most q m cs)))
       → of_peer peer (came_by became most q m cs) ≡ of_peer peer cs
   theirs Recorded q m cs e k = same_option (of_peer peer (with_datagram most cs q m)) (of_peer peer cs) (λ v h. in_first most peer q cs (came_of q cs ++ m ∷ []) v e h) k
   theirs (Refused fault) q m cs e k = same_option (of_peer peer (with_datagram most cs q m)) (of_peer peer cs) (λ v h. in_first most peer q cs (came_of q cs ++ m ∷ []) v e h) k
@@ -95,20 +95,20 @@ module _ {F : Type 0} (peer : SocketAddr) (most : ℕ) where
   theirs NoMemory q m cs e k = refl
 
   -- or its own
-  its : (became : Became F) (q : SocketAddr) (m : List ℕ) (cs : Came) → same_peer peer q ≡ true → IsSettled became → of_peer peer (came_by became most q m cs) ≡ Some (came_of peer cs ++ m ∷ [])
+  its : (became : Became F) (q : SocketAddr) (m : List ℕ) (cs : PeerDatagrams) → same_peer peer q ≡ true → IsSettled became → of_peer peer (came_by became most q m cs) ≡ Some (came_of peer cs ++ m ∷ [])
   its Recorded q m cs e s = settled peer most q m cs e
   its (Refused fault) q m cs e s = settled peer most q m cs e
   its (Ended k) q m cs e s = absurd s
   its NoMemory q m cs e s = absurd s
 
-  pub one : (r : Reception F) (cs : Came) → (same_peer peer r.peer ≡ true → IsSettled r.became) → (IsSome (of_peer peer cs) → IsSome (of_peer peer (came_by r.became most r.peer r.octets cs)))
+  pub one : (r : Reception F) (cs : PeerDatagrams) → (same_peer peer r.peer ≡ true → IsSettled r.became) → (IsSome (of_peer peer cs) → IsSome (of_peer peer (came_by r.became most r.peer r.octets cs)))
       → came_of peer (came_by r.became most r.peer r.octets cs) ≡ came_of peer cs ++ cond (same_peer peer r.peer) (r.octets ∷ []) []
   one r cs s k = (elim (same_peer peer r.peer) as (λ b. same_peer peer r.peer ≡ b → came_of peer (came_by r.became most r.peer r.octets cs) ≡ came_of peer cs ++ cond b (r.octets ∷ []) []) [
     | true ↦ λ e. ap (λ o. unwrap_or o []) (its r.became r.peer r.octets cs e (s e))
     | false ↦ λ e. ap (λ o. unwrap_or o []) (theirs r.became r.peer r.octets cs e k) ∙ sym (append-nil (came_of peer cs))
   ]) refl
 
-  pub alone : (rs : List (Reception F)) (cs : Came) → GoesThrough peer most rs cs → came_of peer (came_after most rs cs) ≡ came_of peer cs ++ own_of peer rs
+  pub alone : (rs : List (Reception F)) (cs : PeerDatagrams) → IsNeverEvicted peer most rs cs → came_of peer (came_after most rs cs) ≡ came_of peer cs ++ own_of peer rs
   alone [] cs g = sym (append-nil (came_of peer cs))
   alone (r ∷ rs) cs g =
       alone rs (came_by r.became most r.peer r.octets cs) g.2
@@ -117,13 +117,13 @@ module _ {F : Type 0} (peer : SocketAddr) (most : ℕ) where
       ∙ ap (λ ms. came_of peer cs ++ ms) (sym (own_cons r rs))
 
 module _ {F : Type 0} (seen : F → FilesView) (most : ℕ) where
-  pub stand_by : (became : Became F) (leaving : Option (SocketAddr × KeptPeer F)) (after : List (SocketAddr × KeptPeer F)) (cs : Came) (peer : SocketAddr) (m : List ℕ) → StandBehind seen became leaving most after cs peer m → StandFor seen after (came_by became most peer m cs)
+  pub stand_by : (became : Became F) (leaving : Option (SocketAddr × PeerState F)) (after : List (SocketAddr × PeerState F)) (cs : PeerDatagrams) (peer : SocketAddr) (m : List ℕ) → StandBehind seen became leaving most after cs peer m → StandFor seen after (came_by became most peer m cs)
   stand_by Recorded leaving after cs peer m s = s.0
   stand_by (Refused fault) leaving after cs peer m s = s.0
   stand_by (Ended k) leaving after cs peer m s = s.0
   stand_by NoMemory leaving after cs peer m s = s.0
 
-  pub stand_after : (rs : List (Reception F)) (es after : List (SocketAddr × KeptPeer F)) (cs : Came) → StandFor seen es cs → AreRecorded seen most rs es after → StandFor seen after (came_after most rs cs)
+  pub stand_after : (rs : List (Reception F)) (es after : List (SocketAddr × PeerState F)) (cs : PeerDatagrams) → StandFor seen es cs → AreRecorded seen most rs es after → StandFor seen after (came_after most rs cs)
   stand_after [] es after cs p r = subst (λ l. StandFor seen l cs) (sym r) p
   stand_after (r ∷ rs) es after cs p a =
       let behind = stand_behind seen most r.now es a.0 cs r.peer r.octets r.became r.gone p a.1 in

@@ -8,7 +8,7 @@ use Rattle.recording_peer.specs.Peers.{Taken}
 use Rattle.recording_peer.specs.Recording.{IsPeer, Answers, all_taken, finished_now, finished_before, here_before}
 use Rattle.recording_peer.proofs.PeerFiles.{all_taken-push}
 use Rattle.recording_peer.proofs.Taking.{all_taken-now}
-use Rattle.recording_peers.specs.declared.kept_peer.KeptPeer.{KeptPeer}
+use Rattle.recording_peers.specs.declared.peer_state.PeerState.{PeerState}
 use Rattle.recording_peers.specs.Kept.{Settles, IsSession, HasEnded, Takes, Finishes}
 
 -- one more behind those that are settled
@@ -26,11 +26,11 @@ taken_behind (id ∷ ids) finished here x = all_taken-push (finished_now finishe
 
 module _ {F : Type 0} (seen : F → FilesView) where
   -- what a session stands for behind a datagram, by the answer
-  abbrev pub StandsBy : Result PeerAnswer RecordFault → KeptPeer F → List (List ℕ) → List ℕ → Type 0
+  abbrev pub StandsBy : Result PeerAnswer RecordFault → PeerState F → List (List ℕ) → List ℕ → Type 0
   StandsBy (Ok answer) new came m = IsSession seen new (came ++ m ∷ [])
   StandsBy (Err fault) new came m = HasEnded seen new came m
 
-  by_answer : (answer : Result PeerAnswer RecordFault) (old new : KeptPeer F) (came : List (List ℕ)) (m : List ℕ) (s : IsSession seen old came)
+  by_answer : (answer : Result PeerAnswer RecordFault) (old new : PeerState F) (came : List (List ℕ)) (m : List ℕ) (s : IsSession seen old came)
       → Answers answer m s.first (seen old.files) (seen new.files) old.recorder new.recorder s.finished s.here → StandsBy answer new came m
   by_answer (Ok Recorded) old new came m s a = record {
     first = s.first;
@@ -59,11 +59,11 @@ module _ {F : Type 0} (seen : F → FilesView) where
     settles = s.settles;
   }
 
-  pub takes_on : (answer : Result PeerAnswer RecordFault) (old new : KeptPeer F) (came : List (List ℕ)) (m : List ℕ) (now : ℕ) → IsSession seen old came → Takes seen old new m now answer → StandsBy answer new came m
+  pub takes_on : (answer : Result PeerAnswer RecordFault) (old new : PeerState F) (came : List (List ℕ)) (m : List ℕ) (now : ℕ) → IsSession seen old came → Takes seen old new m now answer → StandsBy answer new came m
   takes_on answer old new came m now s t = by_answer answer old new came m s (t.answers s.first s.finished s.here s.is)
 
   -- one whose file is finished stands for the same
-  pub finished_session : (old new : KeptPeer F) (came : List (List ℕ)) → IsSession seen old came → Finishes seen old new (Ok tt) → IsSession seen new came
+  pub finished_session : (old new : PeerState F) (came : List (List ℕ)) → IsSession seen old came → Finishes seen old new (Ok tt) → IsSession seen new came
   finished_session old new came s f = record {
     first = s.first;
     empty = s.empty;
@@ -73,7 +73,7 @@ module _ {F : Type 0} (seen : F → FilesView) where
     settles = subst (Settles [] came) (sym (all_taken-now s.finished s.here)) s.settles;
   }
 
-  pub ended_session : (old new : KeptPeer F) (came : List (List ℕ)) (fault : RecordFault) → IsSession seen old came → Finishes seen old new (Err fault) → HasEnded seen new came []
+  pub ended_session : (old new : PeerState F) (came : List (List ℕ)) (fault : RecordFault) → IsSession seen old came → Finishes seen old new (Err fault) → HasEnded seen new came []
   ended_session old new came fault s f = let a = f.finishes s.first s.finished s.here s.is in record {
     first = s.first;
     empty = s.empty;

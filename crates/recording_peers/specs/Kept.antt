@@ -10,7 +10,7 @@ use Rattle.recording_peer.specs.declared.peer_answer.PeerAnswer.{PeerAnswer}
 use Rattle.recording_peer.specs.declared.peer_answer.PeerAnswer.TheVariants.{Recorded, Refused}
 use Rattle.recording_peer.specs.Peers.{Taken, givens}
 use Rattle.recording_peer.specs.Recording.{IsPeer, Answers, HasStopped, all_taken, finished_now}
-use Rattle.recording_peers.specs.declared.kept_peer.KeptPeer.{KeptPeer}
+use Rattle.recording_peers.specs.declared.peer_state.PeerState.{PeerState}
 use Rattle.recording_peers.specs.declared.refusals.Refusals.{Refusals}
 
 -- ---- the datagrams of a peer
@@ -23,7 +23,7 @@ Settles before (m ∷ ms) all = ((x : Taken) × (x.datagram ≡ m) × Settles (b
 
 -- the files and the recorder of a peer stand for the datagrams that came since the session began: each was recorded in the
 -- files, in its order and as it came, or it was refused, and changed nothing
-pub record IsSession {F : Type 0} (seen : F → FilesView) (k : KeptPeer F) (came : List (List ℕ)) : Type 0 where
+pub record IsSession {F : Type 0} (seen : F → FilesView) (k : PeerState F) (came : List (List ℕ)) : Type 0 where
   pub first : FilesView
   pub empty : IsEmpty first.contents
   pub finished : List (List Taken)
@@ -32,7 +32,7 @@ pub record IsSession {F : Type 0} (seen : F → FilesView) (k : KeptPeer F) (cam
   pub settles : Settles [] came (all_taken finished here)
 
 -- the session has ended with a fault, while this datagram was taken behind them, or a file was finished
-pub record HasEnded {F : Type 0} (seen : F → FilesView) (k : KeptPeer F) (came : List (List ℕ)) (m : List ℕ) : Type 0 where
+pub record HasEnded {F : Type 0} (seen : F → FilesView) (k : PeerState F) (came : List (List ℕ)) (m : List ℕ) : Type 0 where
   pub first : FilesView
   pub empty : IsEmpty first.contents
   pub finished : List (List Taken)
@@ -58,14 +58,14 @@ refused_by (Ok Recorded) r = r
 refused_by (Err fault) r = r
 
 -- a datagram was taken by the peer's recorder
-pub record Takes {F : Type 0} (seen : F → FilesView) (old new : KeptPeer F) (m : List ℕ) (now : ℕ) (answer : Result PeerAnswer RecordFault) : Type 0 where
+pub record Takes {F : Type 0} (seen : F → FilesView) (old new : PeerState F) (m : List ℕ) (now : ℕ) (answer : Result PeerAnswer RecordFault) : Type 0 where
   pub answers : (first : FilesView) (finished : List (List Taken)) (here : List Taken) → IsPeer first (seen old.files) old.recorder finished here
       → Answers answer m first (seen old.files) (seen new.files) old.recorder new.recorder finished here
   pub heard : new.heard ≡ now
   pub refused : new.refused ≡ refused_by answer old.refused
 
 -- a file was finished by the peer's recorder
-pub record Finishes {F : Type 0} (seen : F → FilesView) (old new : KeptPeer F) (answer : Result (Unit {0}) RecordFault) : Type 0 where
+pub record Finishes {F : Type 0} (seen : F → FilesView) (old new : PeerState F) (answer : Result (Unit {0}) RecordFault) : Type 0 where
   pub finishes : (first : FilesView) (finished : List (List Taken)) (here : List Taken) → IsPeer first (seen old.files) old.recorder finished here
       → MatchResult answer (λ x. IsPeer first (seen new.files) new.recorder (finished_now finished here) [])
       (λ fault. (new.recorder.ended ≡ Some fault) × HasStopped fault first (seen new.files) new.recorder.told finished here [])
@@ -73,10 +73,10 @@ pub record Finishes {F : Type 0} (seen : F → FilesView) (old new : KeptPeer F)
   pub refused : new.refused ≡ old.refused
 
 -- a session in its turn: what was refused is told, and its file is finished if a period is over
-abbrev pub FinishesIf : Bool → {F : Type 0} → (F → FilesView) → KeptPeer F → KeptPeer F → Result (Unit {0}) RecordFault → Type 0
+abbrev pub FinishesIf : Bool → {F : Type 0} → (F → FilesView) → PeerState F → PeerState F → Result (Unit {0}) RecordFault → Type 0
 FinishesIf true seen old new answer = Finishes seen old new answer
 FinishesIf false seen old new answer = (answer ≡ Ok tt) × (new ≡ old)
 
-pub record TakesTurn {F : Type 0} (seen : F → FilesView) (is_over : Bool) (old new : KeptPeer F) (told : Option Refusals) (answer : Result (Unit {0}) RecordFault) : Type 0 where
+pub record TakesTurn {F : Type 0} (seen : F → FilesView) (is_over : Bool) (old new : PeerState F) (told : Option Refusals) (answer : Result (Unit {0}) RecordFault) : Type 0 where
   pub told_is : told ≡ old.refused
   pub finishes : FinishesIf is_over seen (record old { refused = None }) new answer

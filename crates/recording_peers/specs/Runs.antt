@@ -2,12 +2,12 @@
 use Rattle.std.specs.Prelude.{◌≡◌, ℕ, true, List, [], ◌∷◌, map, filter, Option, IsSome}
 use Rattle.std.specs.declared.net.socket_addr.SocketAddr.{SocketAddr}
 use Rattle.recording_files.specs.Files.{FilesView}
-use Rattle.recording_peers.specs.declared.kept_peer.KeptPeer.{KeptPeer}
+use Rattle.recording_peers.specs.declared.peer_state.PeerState.{PeerState}
 use Rattle.recording_peers.specs.declared.outcome.Became.{Became}
 use Rattle.recording_peers.specs.declared.outcome.Became.TheVariants.{Recorded, Refused, Ended, NoMemory}
 use Rattle.recording_peers.specs.Table.{same_peer, of_peer, others_for}
 use Rattle.recording_peers.specs.Steps.{Records}
-use Rattle.recording_peers.specs.Sessions.{Came, with_datagram}
+use Rattle.recording_peers.specs.Sessions.{PeerDatagrams, with_datagram}
 
 -- a datagram that came, and what it led to
 pub record Reception (F : Type 0) : Type 0 where
@@ -15,22 +15,22 @@ pub record Reception (F : Type 0) : Type 0 where
   pub octets : List ℕ
   pub now : ℕ
   pub became : Became F
-  pub gone : Option (SocketAddr × KeptPeer F)
+  pub gone : Option (SocketAddr × PeerState F)
 
 -- they were recorded one after another
-abbrev pub AreRecorded : {F : Type 0} → (F → FilesView) → ℕ → List (Reception F) → List (SocketAddr × KeptPeer F) → List (SocketAddr × KeptPeer F) → Type 0
+abbrev pub AreRecorded : {F : Type 0} → (F → FilesView) → ℕ → List (Reception F) → List (SocketAddr × PeerState F) → List (SocketAddr × PeerState F) → Type 0
 AreRecorded seen most [] es after = after ≡ es
 AreRecorded {F} seen most (r ∷ rs) es after =
-    (between : List (SocketAddr × KeptPeer F)) × Records seen r.became r.gone most es between r.peer r.octets r.now × AreRecorded seen most rs between after
+    (between : List (SocketAddr × PeerState F)) × Records seen r.became r.gone most es between r.peer r.octets r.now × AreRecorded seen most rs between after
 
 -- the peers that are kept then, each with its datagrams that came since its session began
-abbrev pub came_by : {F : Type 0} → Became F → ℕ → SocketAddr → List ℕ → Came → Came
+abbrev pub came_by : {F : Type 0} → Became F → ℕ → SocketAddr → List ℕ → PeerDatagrams → PeerDatagrams
 came_by Recorded most peer m cs = with_datagram most cs peer m
 came_by (Refused fault) most peer m cs = with_datagram most cs peer m
 came_by (Ended k) most peer m cs = others_for most peer cs
 came_by NoMemory most peer m cs = cs
 
-abbrev pub came_after : {F : Type 0} → ℕ → List (Reception F) → Came → Came
+abbrev pub came_after : {F : Type 0} → ℕ → List (Reception F) → PeerDatagrams → PeerDatagrams
 came_after most [] cs = cs
 came_after most (r ∷ rs) cs = came_after most rs (came_by r.became most r.peer r.octets cs)
 
@@ -48,9 +48,9 @@ IsSettled (Ended k) = ⊥
 IsSettled NoMemory = ⊥
 
 -- its own were settled, and its session didn't go out
-abbrev pub GoesThrough : {F : Type 0} → SocketAddr → ℕ → List (Reception F) → Came → Type 0
-GoesThrough peer most [] cs = Unit {0}
-GoesThrough peer most (r ∷ rs) cs =
+abbrev pub IsNeverEvicted : {F : Type 0} → SocketAddr → ℕ → List (Reception F) → PeerDatagrams → Type 0
+IsNeverEvicted peer most [] cs = Unit {0}
+IsNeverEvicted peer most (r ∷ rs) cs =
     (same_peer peer r.peer ≡ true → IsSettled r.became)
     × (IsSome (of_peer peer cs) → IsSome (of_peer peer (came_by r.became most r.peer r.octets cs)))
-    × GoesThrough peer most rs (came_by r.became most r.peer r.octets cs)
+    × IsNeverEvicted peer most rs (came_by r.became most r.peer r.octets cs)

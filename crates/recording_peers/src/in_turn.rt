@@ -1,6 +1,6 @@
 //! A peer in its turn.
 
-use crate::kept_peer::KeptPeer;
+use crate::peer_state::PeerState;
 use crate::refusals::Refusals;
 use std::net::SocketAddr;
 
@@ -11,5 +11,5 @@ pub struct InTurn<F> {
     /// Its datagrams that were refused and are told now, if there are any.
     pub refused: Option<Refusals>,
     /// Its session, where that ended with a fault, since the file could not be finished.
-    pub ended: Option<KeptPeer<F>>,
+    pub ended: Option<PeerState<F>>,
 }

@@ -4,10 +4,10 @@
 
 mod datagram_source;
 mod in_turn;
-mod kept_peer;
 pub mod laws;
 mod outcome;
 mod peer_place;
+mod peer_state;
 mod peers;
 mod refusals;
 mod script_datagrams;
@@ -15,9 +15,9 @@ mod taking;
 
 pub use datagram_source::{Datagram, DatagramSource, NoDatagram};
 pub use in_turn::InTurn;
-pub use kept_peer::KeptPeer;
 pub use outcome::{Became, Outcome};
 pub use peer_place::PeerPlace;
+pub use peer_state::PeerState;
 pub use peers::Peers;
 pub use refusals::Refusals;
 pub use script_datagrams::{ScriptDatagrams, ScriptedDatagram};

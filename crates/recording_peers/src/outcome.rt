@@ -1,6 +1,6 @@
 //! What becomes of a datagram.
 
-use crate::kept_peer::KeptPeer;
+use crate::peer_state::PeerState;
 use ipfix_datagrams::DatagramFault;
 use std::net::SocketAddr;
 
@@ -12,7 +12,7 @@ pub enum Became<F> {
     /// It was refused, counted, and changed nothing.
     Refused(DatagramFault),
     /// Its peer's session ended with a fault that its recorder tells. The next datagram begins another.
-    Ended(KeptPeer<F>),
+    Ended(PeerState<F>),
     /// There was no memory to begin a session of its peer, and nothing has changed.
     NoMemory,
 }
@@ -23,5 +23,5 @@ pub struct Outcome<F> {
     /// What became of it.
     pub became: Became<F>,
     /// The peer that was silent for longest, which went, since there was no room for one more.
-    pub gone: Option<(SocketAddr, KeptPeer<F>)>,
+    pub gone: Option<(SocketAddr, PeerState<F>)>,
 }

@@ -6,9 +6,9 @@ ghost use Rattle.lru.specs.LruCache.{lru_cache, last_entry};
 ghost use Rattle.recording_peers.specs.Steps.{Records, GoesOn};
 
 use crate::in_turn::InTurn;
-use crate::kept_peer::KeptPeer;
 use crate::outcome::Outcome;
 use crate::peer_place::PeerPlace;
+use crate::peer_state::PeerState;
 use lru::LruCache;
 use recording_files::FileSeries;
 use std::alloc::{AllocError, Global};
@@ -20,7 +20,7 @@ use std::num::NonZeroUsize;
 #[derive(Drop)]
 pub struct Peers<F> {
     /// The session of each, under its address and port.
-    pub kept: LruCache<SocketAddr, KeptPeer<F>, RandomState>,
+    pub kept: LruCache<SocketAddr, PeerState<F>, RandomState>,
 }
 
 impl<F: FileSeries + Drop> Peers<F> {
@@ -101,7 +101,7 @@ impl<F: FileSeries + Drop> Peers<F> {
     }
 
     /// Takes out the peer that was silent for longest, if its last datagram came before a time in seconds.
-    pub fn take_silent(&mut self, since: u64) -> Option<(SocketAddr, KeptPeer<F>)>
+    pub fn take_silent(&mut self, since: u64) -> Option<(SocketAddr, PeerState<F>)>
         ensures none { result ≡ None → (self.new ≡ self.old)
             × IfSome (last_entry self.old.kept.entries) (λ e. since ≤ e.1.heard) }
         ensures silent { IfSome result (λ e. (last_entry self.old.kept.entries ≡ Some e)
@@ -119,7 +119,7 @@ impl<F: FileSeries + Drop> Peers<F> {
     }
 
     /// Takes out the peer that was silent for longest.
-    pub fn take_out(&mut self) -> Option<(SocketAddr, KeptPeer<F>)>
+    pub fn take_out(&mut self) -> Option<(SocketAddr, PeerState<F>)>
         ensures last { result ≡ last_entry self.old.kept.entries }
         ensures others { self.new.kept.entries
             ≡ take (length self.old.kept.entries - 1) self.old.kept.entries }

@@ -5,9 +5,9 @@ ghost use Rattle.recording_peers.specs.Kept.{IsSession};
 ghost use Rattle.recording_peers.specs.Table.{of_peer, with_first, gone_for};
 ghost use Rattle.recording_peers.specs.Steps.{Records, TakesIn, became_by};
 
-use crate::kept_peer::KeptPeer;
 use crate::outcome::{Became, Outcome};
 use crate::peer_place::PeerPlace;
+use crate::peer_state::PeerState;
 use crate::peers::Peers;
 use recording_files::FileSeries;
 use recording_peer::PeerAnswer;
@@ -51,18 +51,18 @@ impl<F: FileSeries + Drop> Peers<F> {
         place: &mut P,
         peer: SocketAddr,
         now: u64,
-    ) -> Result<Option<(SocketAddr, KeptPeer<F>)>, AllocError>
+    ) -> Result<Option<(SocketAddr, PeerState<F>)>, AllocError>
         requires { of_peer peer self.old.kept.entries ≡ None }
         ensures begun { MatchResult result
             (λ gone. (gone ≡ gone_for self.old.kept.cap peer self.old.kept.entries)
-            × ((k : KeptPeer F) × IsSession F.seen k []
+            × ((k : PeerState F) × IsSession F.seen k []
             × (self.new.kept.entries
             ≡ with_first self.old.kept.cap peer k self.old.kept.entries)))
             (λ _. self.new.kept.entries ≡ self.old.kept.entries) }
         ensures room { self.new.kept.cap ≡ self.old.kept.cap }
     {
         let files = place.files(alloc, peer)?;
-        match self.kept.push(peer, KeptPeer::new(alloc, files, now)) {
+        match self.kept.push(peer, PeerState::new(alloc, files, now)) {
             Ok(gone) => Ok(gone),
             Err(_) => Err(AllocError),
         }
@@ -78,7 +78,7 @@ impl<F: FileSeries + Drop> Peers<F> {
     ) -> Option<Became<F>>
         ensures unknown { result ≡ None
             → (of_peer peer self.old.kept.entries ≡ None) × (self.new ≡ self.old) }
-        ensures taken { IfSome result (λ became. (old : KeptPeer F)
+        ensures taken { IfSome result (λ became. (old : PeerState F)
             × (of_peer peer self.old.kept.entries ≡ Some old)
             × TakesIn F.seen self.old.kept.cap self.old.kept.entries
             self.new.kept.entries peer datagram.now now became) }
@@ -100,7 +100,7 @@ impl<F: FileSeries + Drop> Peers<F> {
 
 // What became of a datagram that a peer's recorder answered so.
 fn became_of<F>(answer: PeerAnswer) -> Became<F>
-    ensures { (kept : KeptPeer F) → result ≡ became_by (Ok answer) kept }
+    ensures { (kept : PeerState F) → result ≡ became_by (Ok answer) kept }
 {
     match answer {
         PeerAnswer::Recorded => Became::Recorded,

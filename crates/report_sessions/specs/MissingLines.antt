@@ -8,7 +8,7 @@ use Rattle.flow_table.specs.declared.key.Key.{Key}
 use Rattle.flow_table.specs.declared.missing.Missing.{Missing}
 use Rattle.flow_export.specs.CsvText.{prefix_text}
 use Rattle.report_writing.specs.Origins.{tells_balances}
-use Rattle.report_writing.specs.declared.telling.Telling.{Telling}
+use Rattle.report_writing.specs.declared.verbosity.Verbosity.{Verbosity}
 
 -- used records without a counter
 unfoldable pub counter_text : List Known → ElementId → List ℕ
@@ -42,5 +42,5 @@ missing_lines known plan m =
     ++ (lack_line (time_text (codes "end")) m.end ++ lack_lines (unkeyed_text known) plan.keys m.keys))
 
 -- the same, if either option asks for it
-abbrev pub missing_told : Telling → List Known → PlanValue → Missing → List ℕ
-missing_told telling known plan m = if tells_balances telling then missing_lines known plan m else []
+abbrev pub missing_told : Verbosity → List Known → PlanValue → Missing → List ℕ
+missing_told verbosity known plan m = if tells_balances verbosity then missing_lines known plan m else []

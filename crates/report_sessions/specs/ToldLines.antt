@@ -13,7 +13,7 @@ use Rattle.report_writing.specs.Origins.{octets_from, session_start, tells_balan
 use Rattle.report_sessions.specs.UnnamedElements.{unnamed_told}
 use Rattle.report_writing.specs.declared.origin.Origin.{Origin}
 use Rattle.report_writing.specs.declared.origin.Origin.TheVariants.{Unknown}
-use Rattle.report_writing.specs.declared.telling.Telling.{Telling}
+use Rattle.report_writing.specs.declared.verbosity.Verbosity.{Verbosity}
 
 -- ---- what wasn't counted
 
@@ -37,8 +37,8 @@ abbrev pub balance_lines : ℕ → Origin → DomainBalance → List ℕ
 balance_lines session origin b = if is_all_counted b then [] else session_start session origin ++ balance_text b
 
 -- the domains in order, if either option asks for them
-abbrev pub balances_told : Telling → ℕ → Origin → List DomainBalance → List ℕ
-balances_told telling session origin balances = if tells_balances telling then flat_map (balance_lines session origin) balances else []
+abbrev pub balances_told : Verbosity → ℕ → Origin → List DomainBalance → List ℕ
+balances_told verbosity session origin balances = if tells_balances verbosity then flat_map (balance_lines session origin) balances else []
 
 -- ---- how it ended
 
@@ -73,23 +73,23 @@ abbrev pub end_lines : ℕ → Origin → FullReport → List ℕ
 end_lines session origin full = fault_place_lines session origin full.report.fault full.stopped_at ++ ended_line session origin full
 
 -- both, if verbose lines are asked for
-abbrev pub end_told : Telling → ℕ → Origin → FullReport → List ℕ
-end_told telling session origin full = if telling.verbose then end_lines session origin full else []
+abbrev pub end_told : Verbosity → ℕ → Origin → FullReport → List ℕ
+end_told verbosity session origin full = if verbosity.verbose then end_lines session origin full else []
 
 -- ---- a session, and all of them
 
 -- a session's lines that always stand, and then those that are added
-abbrev pub added_lines : Telling → List Known → ℕ → Origin → FullReport → List ℕ
-added_lines telling known session origin full =
-    balances_told telling session origin full.balances.items ++ (unnamed_told telling known session origin full ++ end_told telling session origin full)
+abbrev pub added_lines : Verbosity → List Known → ℕ → Origin → FullReport → List ℕ
+added_lines verbosity known session origin full =
+    balances_told verbosity session origin full.balances.items ++ (unnamed_told verbosity known session origin full ++ end_told verbosity session origin full)
 
-abbrev pub told_session : Telling → List Known → ℕ → Origin → FullReport → List ℕ
-told_session telling known session origin full = session_lines session full.report ++ added_lines telling known session origin full
+abbrev pub told_session : Verbosity → List Known → ℕ → Origin → FullReport → List ℕ
+told_session verbosity known session origin full = session_lines session full.report ++ added_lines verbosity known session origin full
 
 -- the origin of a session, counted from 1; unknown, where none stands
 abbrev pub origin_of : List Origin → ℕ → Origin
 origin_of origins session = unwrap_or (slice_get origins (session - 1)) Unknown
 
 -- the sessions in order, counted from 1, each with the origin that has its place, under files of elements
-abbrev pub told_lines : Telling → List Known → List Origin → List FullReport → List ℕ
-told_lines telling known origins fulls = flat_map (λ x. told_session telling known x.0 (origin_of origins x.0) x.1) (enumerate_from 1 fulls)
+abbrev pub told_lines : Verbosity → List Known → List Origin → List FullReport → List ℕ
+told_lines verbosity known origins fulls = flat_map (λ x. told_session verbosity known x.0 (origin_of origins x.0) x.1) (enumerate_from 1 fulls)

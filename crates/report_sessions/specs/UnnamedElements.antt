@@ -12,7 +12,7 @@ use Rattle.ipfix_session.specs.declared.report.FullReport.{FullReport}
 use Rattle.report_writing.specs.Origins.{session_start}
 use Rattle.report_sessions.specs.declared.first_elements.TheConstants.{MOST_NAMED}
 use Rattle.report_writing.specs.declared.origin.Origin.{Origin}
-use Rattle.report_writing.specs.declared.telling.Telling.{Telling}
+use Rattle.report_writing.specs.declared.verbosity.Verbosity.{Verbosity}
 
 -- ---- the templates in force (RFC 7011, section 8)
 
@@ -76,5 +76,5 @@ unnamed_line known session origin full =
     elements_line session origin (take MOST_NAMED all) (nat_lt MOST_NAMED (length all))
 
 -- the same, if verbose lines are asked for
-abbrev pub unnamed_told : Telling → List Known → ℕ → Origin → FullReport → List ℕ
-unnamed_told telling known session origin full = if telling.verbose then unnamed_line known session origin full else []
+abbrev pub unnamed_told : Verbosity → List Known → ℕ → Origin → FullReport → List ℕ
+unnamed_told verbosity known session origin full = if verbosity.verbose then unnamed_line known session origin full else []

@@ -7,21 +7,21 @@ ghost use Rattle.report_writing.specs.Writing.{Tells};
 
 use ipfix_message::PassedOver;
 use ipfix_session::DomainBalance;
-use report_writing::{Origin, Telling, WriteLines, write_session_start};
+use report_writing::{Origin, Verbosity, WriteLines, write_session_start};
 use std::io;
 
 /// Writes a line for each domain in which something wasn't counted, if either option asks for it.
 pub fn write_balances<W: WriteLines>(
-    telling: Telling,
+    verbosity: Verbosity,
     session: usize,
     origin: &Origin,
     balances: &[DomainBalance],
     out: &mut W,
 ) -> io::Result<()>
     ensures { Tells W.contents W.failed out.old out.new result
-        (balances_told telling session origin.now balances.now) }
+        (balances_told verbosity session origin.now balances.now) }
 {
-    if telling.verbose || telling.strict {
+    if verbosity.verbose || verbosity.strict {
         write_each(session, origin, balances, out)
     } else {
         Ok(())

@@ -4,22 +4,22 @@ ghost use Rattle.report_sessions.specs.ToldLines.{end_told, ended_line, ended_te
 ghost use Rattle.report_writing.specs.Writing.{Tells};
 
 use ipfix_session::{FullReport, MessagePlace, SessionFault};
-use report_writing::{Origin, Telling, WriteLines, write_session_start};
+use report_writing::{Origin, Verbosity, WriteLines, write_session_start};
 use std::io;
 
 /// Writes how a session ended, if verbose lines are asked for: the place of its fault, and then how much
 /// of it counts.
 pub fn write_end<W: WriteLines>(
-    telling: Telling,
+    verbosity: Verbosity,
     session: usize,
     origin: &Origin,
     full: &FullReport,
     out: &mut W,
 ) -> io::Result<()>
     ensures { Tells W.contents W.failed out.old out.new result
-        (end_told telling session origin.now full.now) }
+        (end_told verbosity session origin.now full.now) }
 {
-    if telling.verbose {
+    if verbosity.verbose {
         write_fault_place(session, origin, full.report.fault, full.stopped_at, out)?;
         write_ended(session, origin, full, out)
     } else {

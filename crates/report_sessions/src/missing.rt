@@ -10,26 +10,26 @@ ghost use Rattle.report_writing.specs.Writing.{Tells};
 use element_registry::Elements;
 use flow_table::{Key, Missing, Plan};
 use ipfix_wire::ElementId;
-use report_writing::{Telling, WriteLines};
+use report_writing::{Verbosity, WriteLines};
 use std::io;
 
-/// Writes what records lack, if `telling` is verbose or strict: a line for each counter of the plan that
+/// Writes what records lack, if `verbosity` is verbose or strict: a line for each counter of the plan that
 /// used records lack, with how many do; then one for untimed records without a start and one for those
 /// without an end; then one for each key of the plan that is the first which unkeyed records lack. A line
 /// whose number is 0 is left out. Counters and keys have the names that `elements` gives them.
 pub fn write_missing<W: WriteLines>(
-    telling: Telling,
+    verbosity: Verbosity,
     elements: &Elements,
     plan: &Plan,
     missing: &Missing,
     out: &mut W,
 ) -> io::Result<()>
     ensures told { Tells W.contents W.failed out.old out.new result
-        (missing_told telling elements.now plan.now missing.now) }
+        (missing_told verbosity elements.now plan.now missing.now) }
     // Without these options nothing is written.
-    ensures plain { telling.verbose ≡ false → telling.strict ≡ false → out.new ≡ out.old }
+    ensures plain { verbosity.verbose ≡ false → verbosity.strict ≡ false → out.new ≡ out.old }
 {
-    if telling.verbose || telling.strict {
+    if verbosity.verbose || verbosity.strict {
         write_lines(elements, plan, missing, out)
     } else {
         Ok(())

@@ -5,22 +5,22 @@ ghost use Rattle.report_sessions.specs.ReadFailures.{read_failed_line, reason_te
 ghost use Rattle.report_writing.specs.Writing.{Tells};
 
 use ipfix_session::SessionFault;
-use report_writing::{Origin, Reason, Telling, WriteLines, write_session_start};
+use report_writing::{Origin, Reason, Verbosity, WriteLines, write_session_start};
 use std::io;
 
 /// Writes the line of a session, counted from 1, that ended as ReadFailed, with the reason that the system gave.
-/// Nothing is written unless `telling` is verbose.
+/// Nothing is written unless `verbosity` is verbose.
 pub fn write_read_failed<W: WriteLines>(
-    telling: Telling,
+    verbosity: Verbosity,
     session: usize,
     origin: &Origin,
     reason: Reason,
     out: &mut W,
 ) -> io::Result<()>
     ensures { Tells W.contents W.failed out.old out.new result
-        (if_verbose telling (read_failed_line session origin.now reason)) }
+        (if_verbose verbosity (read_failed_line session origin.now reason)) }
 {
-    if telling.verbose {
+    if verbosity.verbose {
         write_read_failed_line(session, origin, reason, out)
     } else {
         Ok(())

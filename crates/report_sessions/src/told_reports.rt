@@ -12,11 +12,11 @@ use crate::reports::write_session;
 use crate::unnamed::write_unnamed;
 use element_registry::Elements;
 use ipfix_session::FullReport;
-use report_writing::{Origin, Telling, WriteLines};
+use report_writing::{Origin, Verbosity, WriteLines};
 use std::io;
 
 /// Writes what there is to tell of sessions, counted from 1: for each first what
-/// [`write_reports`](crate::write_reports) writes, and that is all if `telling` asks for nothing.
+/// [`write_reports`](crate::write_reports) writes, and that is all if `verbosity` asks for nothing.
 ///
 /// If it is verbose or strict, a line follows for each domain in which something wasn't counted: unknown
 /// sets, skipped sets, ignored withdrawals, and records that are unaccounted for. If it is verbose, there
@@ -25,28 +25,28 @@ use std::io;
 /// it counts. Each of these lines has the origin that stands at the session's place in `origins` behind
 /// the session's number; none if it is missing there.
 pub fn write_told_reports<W: WriteLines>(
-    telling: Telling,
+    verbosity: Verbosity,
     elements: &Elements,
     origins: &[Origin],
     reports: &[FullReport],
     out: &mut W,
 ) -> io::Result<()>
     ensures told { Tells W.contents W.failed out.old out.new result
-        (told_lines telling elements.now origins.now reports.now) }
+        (told_lines verbosity elements.now origins.now reports.now) }
     // Without these options nothing is added.
-    ensures plain { telling.verbose ≡ false → telling.strict ≡ false
+    ensures plain { verbosity.verbose ≡ false → verbosity.strict ≡ false
         → OnOk result (Appends (W.contents out.old) (W.contents out.new)
         (report_lines (map (λ full. full.report) reports.now))) }
 {
     for (index, full) in reports.iter().enumerate() {
-        write_numbered(telling, elements, index + 1, origins, full, out)?;
+        write_numbered(verbosity, elements, index + 1, origins, full, out)?;
     }
     Ok(())
 }
 
 // The lines of the session of this number, counted from 1.
 fn write_numbered<W: WriteLines>(
-    telling: Telling,
+    verbosity: Verbosity,
     elements: &Elements,
     session: usize,
     origins: &[Origin],
@@ -54,16 +54,16 @@ fn write_numbered<W: WriteLines>(
     out: &mut W,
 ) -> io::Result<()>
     ensures { Tells W.contents W.failed out.old out.new result
-        (told_session telling elements.now session (origin_of origins.now session) full.now) }
+        (told_session verbosity elements.now session (origin_of origins.now session) full.now) }
 {
     match origins.get(session.saturating_sub(1)) {
-        Some(origin) => write_told_session(telling, elements, session, origin, full, out),
-        None => write_told_session(telling, elements, session, &Origin::Unknown, full, out),
+        Some(origin) => write_told_session(verbosity, elements, session, origin, full, out),
+        None => write_told_session(verbosity, elements, session, &Origin::Unknown, full, out),
     }
 }
 
 fn write_told_session<W: WriteLines>(
-    telling: Telling,
+    verbosity: Verbosity,
     elements: &Elements,
     session: usize,
     origin: &Origin,
@@ -71,10 +71,10 @@ fn write_told_session<W: WriteLines>(
     out: &mut W,
 ) -> io::Result<()>
     ensures { Tells W.contents W.failed out.old out.new result
-        (told_session telling elements.now session origin.now full.now) }
+        (told_session verbosity elements.now session origin.now full.now) }
 {
     write_session(session, &full.report, out)?;
-    write_balances(telling, session, origin, &full.balances, out)?;
-    write_unnamed(telling, elements, session, origin, full, out)?;
-    write_end(telling, session, origin, full, out)
+    write_balances(verbosity, session, origin, &full.balances, out)?;
+    write_unnamed(verbosity, elements, session, origin, full, out)?;
+    write_end(verbosity, session, origin, full, out)
 }

@@ -15,13 +15,13 @@ use element_registry::Elements;
 use ipfix_message::{Domains, Template, Templates};
 use ipfix_session::{DomainReport, FullReport};
 use ipfix_wire::ElementId;
-use report_writing::{Origin, Telling, WriteLines, write_session_start};
+use report_writing::{Origin, Verbosity, WriteLines, write_session_start};
 use std::io;
 
 /// Writes which elements of the templates that are in force at the end of a session nothing names, if verbose
 /// lines are asked for and there are any.
 pub fn write_unnamed<W: WriteLines>(
-    telling: Telling,
+    verbosity: Verbosity,
     elements: &Elements,
     session: usize,
     origin: &Origin,
@@ -29,9 +29,9 @@ pub fn write_unnamed<W: WriteLines>(
     out: &mut W,
 ) -> io::Result<()>
     ensures { Tells W.contents W.failed out.old out.new result
-        (unnamed_told telling elements.now session origin.now full.now) }
+        (unnamed_told verbosity elements.now session origin.now full.now) }
 {
-    if telling.verbose {
+    if verbosity.verbose {
         write_elements_line(session, origin, &first_unnamed(elements, full), out)
     } else {
         Ok(())

@@ -15,17 +15,17 @@ use std::test::Fail;
 use worked_examples::sequences::*;
 use worked_examples::{header, text_of};
 
-const PLAIN: Telling = Telling {
+const PLAIN: Verbosity = Verbosity {
     verbose: false,
     strict: false,
 };
 
-const VERBOSE: Telling = Telling {
+const VERBOSE: Verbosity = Verbosity {
     verbose: true,
     strict: false,
 };
 
-const STRICT: Telling = Telling {
+const STRICT: Verbosity = Verbosity {
     verbose: false,
     strict: true,
 };
@@ -69,7 +69,7 @@ fn origins() -> [Origin<'static>; 2] {
 fn writes_sessions_in_full(rt: HostRuntime) -> Result<(), Fail> {
     let reports = two_sessions(rt.alloc())?;
     let elements = Elements::built_in(rt.alloc());
-    let cases: [(Telling, &str); 3] = [
+    let cases: [(Verbosity, &str); 3] = [
         (PLAIN, "collectd: session 1: fault 14 Truncated\n"),
         (
             STRICT,
@@ -87,9 +87,15 @@ collectd: session 2 192.0.2.1:4711: ended: messages 1 octets 40 records 2
 "#,
         ),
     ];
-    for (telling, wanted) in cases {
+    for (verbosity, wanted) in cases {
         let mut err = Vec::new(rt.alloc());
-        write_told_reports(telling, &elements, &origins(), reports.as_slice(), &mut err)?;
+        write_told_reports(
+            verbosity,
+            &elements,
+            &origins(),
+            reports.as_slice(),
+            &mut err,
+        )?;
         assert_eq!(rt; err.as_slice(), wanted.as_bytes());
     }
     Ok(())
@@ -98,12 +104,12 @@ collectd: session 2 192.0.2.1:4711: ended: messages 1 octets 40 records 2
 #[test]
 fn writes_what_was_opened(rt: HostRuntime) -> Result<(), Fail> {
     let mut err = Vec::new(rt.alloc());
-    for telling in [PLAIN, VERBOSE] {
-        write_listening(telling, "127.0.0.1:4739", 2, &mut err)?;
+    for verbosity in [PLAIN, VERBOSE] {
+        write_listening(verbosity, "127.0.0.1:4739", 2, &mut err)?;
         for origin in &origins() {
-            write_opened(telling, 1, origin, &mut err)?;
+            write_opened(verbosity, 1, origin, &mut err)?;
         }
-        write_opened(telling, 2, &Origin::Unknown, &mut err)?;
+        write_opened(verbosity, 2, &Origin::Unknown, &mut err)?;
     }
     let wanted = r#"collectd: listening: 127.0.0.1:4739: connections 2
 collectd: session 1 "flows \x1b.ipfix": opened

@@ -6,7 +6,7 @@ use Rattle.report_writing.specs.FaultLines.{not_had_line}
 use Rattle.report_writing.specs.declared.origin.Origin.{Origin}
 use Rattle.report_writing.specs.declared.origin.Origin.TheVariants.{File, Peer, Unknown}
 use Rattle.report_writing.specs.declared.reason.Reason.{Reason}
-use Rattle.report_writing.specs.declared.telling.Telling.{Telling}
+use Rattle.report_writing.specs.declared.verbosity.Verbosity.{Verbosity}
 
 -- a file is opened, and a connection is accepted
 abbrev pub opened_text : Origin → List ℕ
@@ -26,8 +26,8 @@ abbrev pub because_line : List ℕ → List ℕ → Reason → List ℕ
 because_line what name reason = not_had_line what (name ++ (codes ": " ++ words_of reason))
 
 -- what is told only if it is asked for
-abbrev pub if_verbose : Telling → List ℕ → List ℕ
-if_verbose telling line = if telling.verbose then line else []
+abbrev pub if_verbose : Verbosity → List ℕ → List ℕ
+if_verbose verbosity line = if verbosity.verbose then line else []
 
-abbrev pub not_had_lines : Telling → List ℕ → List ℕ → Reason → List ℕ
-not_had_lines telling what name reason = if telling.verbose then because_line what name reason else not_had_line what name
+abbrev pub not_had_lines : Verbosity → List ℕ → List ℕ → Reason → List ℕ
+not_had_lines verbosity what name reason = if verbosity.verbose then because_line what name reason else not_had_line what name

@@ -5,7 +5,7 @@ use Rattle.std.specs.Net.Text.{socket_text}
 use Rattle.report_writing.specs.Quoting.{octet_shown}
 use Rattle.report_writing.specs.declared.origin.Origin.{Origin}
 use Rattle.report_writing.specs.declared.origin.Origin.TheVariants.{File, Peer, Unknown}
-use Rattle.report_writing.specs.declared.telling.Telling.{Telling}
+use Rattle.report_writing.specs.declared.verbosity.Verbosity.{Verbosity}
 
 -- a name in quotation marks, all of it, as a terminal may show it
 abbrev pub whole_name : List ℕ → List ℕ
@@ -36,5 +36,5 @@ octets_from (Peer address) octet = None
 octets_from Unknown octet = None
 
 -- both options tell what wasn't counted
-abbrev pub tells_balances : Telling → Bool
-tells_balances telling = telling.verbose || telling.strict
+abbrev pub tells_balances : Verbosity → Bool
+tells_balances verbosity = verbosity.verbose || verbosity.strict

@@ -8,7 +8,7 @@ mod origin;
 mod quoting;
 mod reason;
 mod status;
-mod telling;
+mod verbosity;
 mod write_lines;
 
 pub use faults::{write_fault, write_not_had};
@@ -17,5 +17,5 @@ pub use origin::{Origin, write_origin, write_session_start};
 pub use quoting::{write_octets, write_quoted};
 pub use reason::Reason;
 pub use status::Status;
-pub use telling::{NOTHING_MORE, Telling};
-pub use write_lines::{Remembering, WriteLines};
+pub use verbosity::{NOTHING_MORE, Verbosity};
+pub use write_lines::{CheckedWriter, WriteLines};

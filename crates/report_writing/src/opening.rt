@@ -8,22 +8,22 @@ ghost use Rattle.report_writing.specs.Writing.{Tells};
 use crate::faults::write_not_had;
 use crate::origin::{Origin, write_session_start};
 use crate::reason::Reason;
-use crate::telling::Telling;
+use crate::verbosity::Verbosity;
 use crate::write_lines::WriteLines;
 use std::io;
 
 /// Writes the line of a session, counted from 1, whose file was opened or whose connection was accepted.
-/// Nothing is written unless `telling` is verbose.
+/// Nothing is written unless `verbosity` is verbose.
 pub fn write_opened<W: WriteLines>(
-    telling: Telling,
+    verbosity: Verbosity,
     session: usize,
     origin: &Origin,
     out: &mut W,
 ) -> io::Result<()>
     ensures { Tells W.contents W.failed out.old out.new result
-        (if_verbose telling (opened_line session origin.now)) }
+        (if_verbose verbosity (opened_line session origin.now)) }
 {
-    if telling.verbose {
+    if verbosity.verbose {
         write_opened_line(session, origin, out)
     } else {
         Ok(())
@@ -47,17 +47,17 @@ fn opened_text(origin: &Origin) -> &'static str
 }
 
 /// Writes the line that says for how many connections there is a wait at an address. Nothing is written
-/// unless `telling` is verbose.
+/// unless `verbosity` is verbose.
 pub fn write_listening<W: WriteLines>(
-    telling: Telling,
+    verbosity: Verbosity,
     address: &str,
     connections: usize,
     out: &mut W,
 ) -> io::Result<()>
     ensures { Tells W.contents W.failed out.old out.new result
-        (if_verbose telling (listening_line address.now connections)) }
+        (if_verbose verbosity (listening_line address.now connections)) }
 {
-    if telling.verbose {
+    if verbosity.verbose {
         write_listening_line(address, connections, out)
     } else {
         Ok(())
@@ -80,18 +80,18 @@ fn write_listening_line<W: WriteLines>(
 }
 
 /// Writes the line of what the system did not give, as [`write_not_had`] does, and the reason at its end
-/// if `telling` is verbose.
+/// if `verbosity` is verbose.
 pub fn write_not_had_because<W: WriteLines>(
-    telling: Telling,
+    verbosity: Verbosity,
     what: &str,
     name: &str,
     reason: Reason,
     out: &mut W,
 ) -> io::Result<()>
     ensures { Tells W.contents W.failed out.old out.new result
-        (not_had_lines telling what.now name.now reason) }
+        (not_had_lines verbosity what.now name.now reason) }
 {
-    if telling.verbose {
+    if verbosity.verbose {
         write_because(what, name, reason.words(), out)
     } else {
         write_not_had(what, name, out)

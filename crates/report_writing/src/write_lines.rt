@@ -71,37 +71,37 @@ impl<W: Write> WriteLines for W {
 
 /// A writer that remembers whether a write to it failed.
 #[derive(Drop)]
-pub struct Remembering<W: Write + Drop> {
+pub struct CheckedWriter<W: Write + Drop> {
     out: W,
     failed: bool,
 }
 
-impl<W: Write + Drop> Remembering<W> {
+impl<W: Write + Drop> CheckedWriter<W> {
     /// Over a writer, to which no write failed yet.
     pub fn new(out: W) -> Self
-        ensures holds { ⟦<Remembering<W> as WriteLines>⟧.contents result ≡ W.contents out }
-        ensures not_failed { ⟦<Remembering<W> as WriteLines>⟧.failed result → ⊥ }
+        ensures holds { ⟦<CheckedWriter<W> as WriteLines>⟧.contents result ≡ W.contents out }
+        ensures not_failed { ⟦<CheckedWriter<W> as WriteLines>⟧.failed result → ⊥ }
     {
-        Remembering { out, failed: false }
+        CheckedWriter { out, failed: false }
     }
 
     /// Whether a write failed.
     pub fn has_failed(&self) -> bool
-        ensures { IsTrue result ↔ ⟦<Remembering<W> as WriteLines>⟧.failed self.now }
+        ensures { IsTrue result ↔ ⟦<CheckedWriter<W> as WriteLines>⟧.failed self.now }
     {
         self.failed
     }
 
     /// The writer.
     pub fn into_inner(self) -> W
-        ensures { W.contents result ≡ ⟦<Remembering<W> as WriteLines>⟧.contents self }
+        ensures { W.contents result ≡ ⟦<CheckedWriter<W> as WriteLines>⟧.contents self }
     {
-        let Remembering { out, .. } = self;
+        let CheckedWriter { out, .. } = self;
         out
     }
 }
 
-impl<W: Write + Drop> WriteLines for Remembering<W> {
+impl<W: Write + Drop> WriteLines for CheckedWriter<W> {
     ghost contents = { λ r. W.contents r.out };
 
     ghost failed = { λ r. r.failed ≡ true };

@@ -5,7 +5,7 @@ ghost use Rattle.input_sources.specs.Had.{IsUnread};
 
 use super::sessions::{BY_SOURCE, CSV, POOL};
 use collectd::{
-    Accepted, CollectJob, Listener, OpenSource, Opened, Reason, Telling, run_files,
+    Accepted, CollectJob, Listener, OpenSource, Opened, Reason, Verbosity, run_files,
     run_files_in_full, run_merge, run_tcp, run_tcp_in_full,
 };
 use element_registry::Elements;
@@ -164,7 +164,7 @@ fn run_told<R: Clock + Threads + Wait + Sync>(
     alloc: Global,
     paths: &[&str],
     pool: Pool,
-    telling: Telling,
+    verbosity: Verbosity,
 ) -> Result<Vec<u8>, Fail> {
     let mut inputs = Inputs::new(alloc);
     let plan = read_plan(alloc, BY_SOURCE)?;
@@ -175,7 +175,7 @@ fn run_told<R: Clock + Threads + Wait + Sync>(
         plan: &plan,
         pool,
         output: CSV,
-        telling,
+        verbosity,
     };
     let status = run_files_in_full(
         rt,
@@ -192,11 +192,11 @@ fn run_told<R: Clock + Threads + Wait + Sync>(
 
 #[test]
 fn tells_files_by_their_names(rt: HostRuntime) -> Result<(), Fail> {
-    let telling = Telling {
+    let verbosity = Verbosity {
         verbose: true,
         strict: true,
     };
-    let text = run_told(&rt, rt.alloc(), &["flows", "cut"], POOL, telling)?;
+    let text = run_told(&rt, rt.alloc(), &["flows", "cut"], POOL, verbosity)?;
     let want = b"start,end,sourceIPv4Address,octetDeltaCount,flows
 0,59999,192.0.2.1,4500,3
 collectd: session 1 \"flows\": opened
@@ -217,11 +217,11 @@ fn opens_no_file_for_a_pool_without_workers(rt: HostRuntime) -> Result<(), Fail>
         workers: 0,
         capacity: 64,
     };
-    let telling = Telling {
+    let verbosity = Verbosity {
         verbose: true,
         strict: false,
     };
-    let text = run_told(&rt, rt.alloc(), &["flows", "missing"], pool, telling)?;
+    let text = run_told(&rt, rt.alloc(), &["flows", "missing"], pool, verbosity)?;
     assert_eq!(rt;
         text.as_slice(),
         b"collectd: collect: fault 1 Workers\n3".as_slice()
@@ -292,13 +292,13 @@ fn tells_connections_by_their_peers(rt: HostRuntime) -> Result<(), Fail> {
     let mut inputs = Inputs::new(rt.alloc());
     let plan = read_plan(rt.alloc(), BY_SOURCE)?;
     let (mut out, mut err) = (Vec::new(rt.alloc()), Vec::new(rt.alloc()));
-    let telling = Telling {
+    let verbosity = Verbosity {
         verbose: true,
         strict: false,
     };
     let elements = Elements::built_in(rt.alloc());
     let job = CollectJob {
-        telling,
+        verbosity,
         ..CollectJob::plain(&elements, &plan, POOL, CSV)
     };
     let status = run_tcp_in_full(

@@ -3,7 +3,7 @@
 ghost use Rattle.std.specs.Prelude.{◌≡◌, ⊤, string_bytes};
 
 use super::sessions::BY_SOURCE;
-use collectd::{ReadText, Reason, Telling, load_plan, write_plan_fault};
+use collectd::{ReadText, Reason, Verbosity, load_plan, write_plan_fault};
 use element_registry::Elements;
 use flow_plan::PlanTextError;
 use std::alloc::Global;
@@ -36,12 +36,12 @@ fn loaded(alloc: Global, octets: &[u8], path: &str, verbose: bool) -> Result<Vec
         path: String::from_str(alloc, "plan")?,
         octets: Vec::from_slice(alloc, octets)?,
     };
-    let telling = Telling {
+    let verbosity = Verbosity {
         verbose,
         strict: false,
     };
     let mut err = Vec::new(alloc);
-    if let Some(plan) = load_plan(&text, alloc, path, telling, &mut err) {
+    if let Some(plan) = load_plan(&text, alloc, path, verbosity, &mut err) {
         let length = format!(in alloc; "{}", plan.length())?;
         err.extend_from_slice(length.as_bytes())?;
     }

@@ -45,25 +45,34 @@ pub fn run_connections<
     ensures collects { CollectsInFull S.seen
         (AreAccepted (L.gives listener.old idle) count
         (L.coming listener.old) (L.coming listener.new))
-        (TellsNotAccepted job.now.telling (if_verbose job.now.telling (listening_line addr.now count))
+        (TellsNotAccepted job.now.verbosity (if_verbose job.now.verbosity (listening_line addr.now count))
         addr.now) count
         job.now.plan.now job.now.pool job.now.output W.contents out.old out.new
         (AreToldTo E.contents E.failed err.old err.new) result
-        job.now.elements.now job.now.telling (ArePeers count)
-        (if_verbose job.now.telling (listening_line addr.now count)) }
+        job.now.elements.now job.now.verbosity (ArePeers count)
+        (if_verbose job.now.verbosity (listening_line addr.now count)) }
     ensures closed { L.is_closed listener.new }
     ensures no_time { IfSome idle
         (λ limit. as_nanos limit ≡ 0 → 0 < count → result ≡ number_of Status.NotOpened) }
     ensures kept { E.failed err.old → E.failed err.new }
 {
-    let _ = write_listening(job.telling, addr, count, err);
-    match accept_all(rt, alloc, listener, count, idle, progress, job.telling, err) {
+    let _ = write_listening(job.verbosity, addr, count, err);
+    match accept_all(
+        rt,
+        alloc,
+        listener,
+        count,
+        idle,
+        progress,
+        job.verbosity,
+        err,
+    ) {
         Ok(AcceptedAll { sources, origins }) => {
             let sources = sources.into_sources();
             run_in_full(rt, alloc, sources, &origins, job, out, err)
         }
         Err(reason) => {
-            let _ = write_not_had_because(job.telling, "listen", addr, reason, err);
+            let _ = write_not_had_because(job.verbosity, "listen", addr, reason, err);
             Status::NotOpened.number()
         }
     }

@@ -62,7 +62,7 @@ pub fn run_files<
     run_files_in_full(rt, alloc, files, paths, &job, progress, out, err)
 }
 
-/// Does as [`run_files`], and tells more if `job.telling` asks for it, as [`run_in_full`](crate::run_in_full):
+/// Does as [`run_files`], and tells more if `job.verbosity` asks for it, as [`run_in_full`](crate::run_in_full):
 /// in verbose lines each file that is opened, and the system's reason after one that can't be. If the pool
 /// or the number of files has a fault, all files are opened first and none is read, and the status is 3.
 pub fn run_files_in_full<
@@ -87,19 +87,19 @@ pub fn run_files_in_full<
     ensures collects { CollectsInFull S.seen
         (AreOpened (λ path. O.opens files.old path.now)
         paths.now (O.coming files.old) (O.coming files.new))
-        (TellsNotOpened (map (λ path. path.now) paths.now) job.now.telling) (length paths.now)
+        (TellsNotOpened (map (λ path. path.now) paths.now) job.now.verbosity) (length paths.now)
         job.now.plan.now job.now.pool job.now.output W.contents out.old out.new
         (AreToldTo E.contents E.failed err.old err.new) result
-        job.now.elements.now job.now.telling (AllZip (λ path. IsFileNamed path.now) paths.now) [] }
+        job.now.elements.now job.now.verbosity (AllZip (λ path. IsFileNamed path.now) paths.now) [] }
     ensures kept { E.failed err.old → E.failed err.new }
 {
-    match open_all(rt, alloc, files, paths, progress, job.telling, err) {
+    match open_all(rt, alloc, files, paths, progress, job.verbosity, err) {
         Ok(OpenedAll { sources, origins }) => {
             let sources = sources.into_sources();
             run_in_full(rt, alloc, sources, &origins, job, out, err)
         }
         Err(NotOpened { path, reason }) => {
-            let _ = write_not_had_because(job.telling, "open", path, reason, err);
+            let _ = write_not_had_because(job.verbosity, "open", path, reason, err);
             Status::NotOpened.number()
         }
     }

@@ -81,7 +81,7 @@ pub fn run_tcp<
     )
 }
 
-/// Does as [`run_tcp`], and tells more if `job.telling` asks for it, as
+/// Does as [`run_tcp`], and tells more if `job.verbosity` asks for it, as
 /// [`run_in_full`](crate::run_in_full): in verbose lines that it waits for connections, each that is accepted,
 /// and the system's reason behind one that can't be. If the pool has a fault, no connection is accepted, and the
 /// status is 3.
@@ -110,12 +110,12 @@ pub fn run_tcp_in_full<
     ensures collects { IfNone (fault_of_pool job.now.pool) (CollectsInFull S.seen
         (AreAccepted (L.gives listener.old idle) count
         (L.coming listener.old) (L.coming listener.new))
-        (TellsNotAccepted job.now.telling (if_verbose job.now.telling (listening_line addr.now count))
+        (TellsNotAccepted job.now.verbosity (if_verbose job.now.verbosity (listening_line addr.now count))
         addr.now) count
         job.now.plan.now job.now.pool job.now.output W.contents out.old out.new
         (AreToldTo E.contents E.failed err.old err.new) result
-        job.now.elements.now job.now.telling (ArePeers count)
-        (if_verbose job.now.telling (listening_line addr.now count))) }
+        job.now.elements.now job.now.verbosity (ArePeers count)
+        (if_verbose job.now.verbosity (listening_line addr.now count))) }
     ensures closed { L.is_closed listener.new }
     // No connection can have a limit of no time.
     ensures no_time { IfNone (fault_of_pool job.now.pool) (IfSome idle

@@ -3,7 +3,7 @@
 ghost use Rattle.std.specs.Prelude.{◌≡◌, All, IfOk, MatchOption, map};
 ghost use Rattle.flow_table.specs.Plans.{PlanValue};
 ghost use Rattle.flow_collect.specs.Dealt.{IsPaired};
-ghost use Rattle.flow_collect.specs.Finished.{HasTaken, ended_link, lanes_of, FinishedAs, IsOverfull};
+ghost use Rattle.flow_collect.specs.Finished.{HasTaken, ended_link, link_ends_of, FinishedAs, IsOverfull};
 
 use super::Parts;
 use super::gathering::gather;
@@ -11,7 +11,7 @@ use super::pairing::settle_all;
 use crate::collected::CollectedInFull;
 use crate::session_thread::EndedSession;
 use crate::shortage::Shortage;
-use crate::worker::Lot;
+use crate::worker::WorkerShare;
 use flow_table::{FlatTable, TableFault};
 use std::alloc::Global;
 use std::collections::VecDeque;
@@ -22,17 +22,21 @@ pub fn finish_all<S: Drop, R: Threads + Sync>(
     rt: &R,
     alloc: Global,
     ended: VecDeque<EndedSession<S>>,
-    worked: VecDeque<Lot>,
+    worked: VecDeque<WorkerShare>,
 ) -> Result<Option<CollectedInFull<S, FlatTable>>, Shortage>
     requires taken { (plan : PlanValue) × All (HasTaken plan) worked.items }
-    requires paired { All (IsPaired (map ended_link ended.items)) (lanes_of worked.items) }
+    requires paired { All (IsPaired (map ended_link ended.items)) (link_ends_of worked.items) }
     ensures { (plan : PlanValue) → All (HasTaken plan) worked.items
         → IfOk result (λ answer. MatchOption answer
         (IsOverfull plan ended.items) (λ c. FinishedAs plan ended.items c)) }
 {
     let all = gather(rt, worked)?;
-    let Lot { lanes, partial, .. } = all;
-    let parts = settle_all(alloc, ended, VecDeque::from_vec(lanes))?;
+    let WorkerShare {
+        link_ends,
+        partial,
+        ..
+    } = all;
+    let parts = settle_all(alloc, ended, VecDeque::from_vec(link_ends))?;
     let table = match partial.finish_flat() {
         Ok(table) => table,
         Err(TableFault::SumTooLarge) => return Ok(None),

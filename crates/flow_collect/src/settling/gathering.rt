@@ -5,35 +5,41 @@ ghost use Rattle.std.specs.Thread.{IsSync};
 ghost use Rattle.ipfix_message.specs.declared.record.DataRecord.{DataRecord};
 ghost use Rattle.flow_table.specs.Partials.{StandsFor, plan_of};
 ghost use Rattle.flow_table.specs.Plans.{PlanValue};
-ghost use Rattle.flow_collect.specs.Finished.{HasTaken, IsMerged, lanes_of};
-ghost use Rattle.flow_collect.specs.Lanes.{AreInOrder, StandsForLanes};
+ghost use Rattle.flow_collect.specs.Finished.{HasTaken, IsMerged, link_ends_of};
+ghost use Rattle.flow_collect.specs.LinkEnds.{AreInOrder, StandsForLinkEnds};
 
 use crate::shortage::Shortage;
-use crate::worker::{Lane, Lot};
+use crate::worker::{LinkEnd, WorkerShare};
 use flow_table::TableFault;
 use std::collections::VecDeque;
 use std::thread::{Threads, join};
 
-/// Merges the workers' tables, and puts their lanes in the order of the sessions, as if one worker
+/// Merges the workers' tables, and puts their link_ends in the order of the sessions, as if one worker
 /// had taken all. If a worker ran out of memory, that is answered before any sum that is too
 /// large.
-pub fn gather<R: Threads + Sync>(rt: &R, worked: VecDeque<Lot>) -> Result<Lot, Shortage>
+pub fn gather<R: Threads + Sync>(
+    rt: &R,
+    worked: VecDeque<WorkerShare>,
+) -> Result<WorkerShare, Shortage>
     requires { (plan : PlanValue) × All (HasTaken plan) worked.items }
-    ensures lanes { IfOk result (λ all. IsPermutation (lanes_of worked.items) all.lanes.items) }
-    ensures order { IfOk result (λ all. AreInOrder all.lanes.items) }
-    ensures table { IfOk result (λ all. StandsForLanes all.partial all.lanes.items) }
+    ensures link_ends { IfOk result (λ all. IsPermutation (link_ends_of worked.items) all.link_ends.items) }
+    ensures order { IfOk result (λ all. AreInOrder all.link_ends.items) }
+    ensures table { IfOk result (λ all. StandsForLinkEnds all.partial all.link_ends.items) }
     ensures plan { (plan : PlanValue) → All (HasTaken plan) worked.items
         → IfOk result (λ all. plan_of all.partial ≡ plan) }
 {
     let mut all = merge_all(rt, worked)?;
-    sort_lanes(&mut all.lanes);
+    sort_link_ends(&mut all.link_ends);
     Ok(all)
 }
 
 // Merges each half by itself and then both: the first in a thread of its own or, if none can be
 // started, on this one. No merge waits for another than those of its own halves.
 #[cycle(halves)]
-fn merge_all<R: Threads + Sync>(rt: &R, worked: VecDeque<Lot>) -> Result<Lot, Shortage>
+fn merge_all<R: Threads + Sync>(
+    rt: &R,
+    worked: VecDeque<WorkerShare>,
+) -> Result<WorkerShare, Shortage>
     requires { (plan : PlanValue) × All (HasTaken plan) worked.items }
     ensures { IfOk result (IsMerged worked.items) }
 {
@@ -42,11 +48,11 @@ fn merge_all<R: Threads + Sync>(rt: &R, worked: VecDeque<Lot>) -> Result<Lot, Sh
     }
     let mut low = worked;
     let high = low.split_off(low.len() / 2)?;
-    let front = move || -> Result<Lot, Shortage>
+    let front = move || -> Result<WorkerShare, Shortage>
         requires { IsSync R.row × ((plan : PlanValue) × All (HasTaken plan) low.items) }
         ensures { IfOk result (IsMerged low.items) }
     { merge_all(rt, low) };
-    let back = move || -> Result<Lot, Shortage>
+    let back = move || -> Result<WorkerShare, Shortage>
         requires { IsSync R.row × ((plan : PlanValue) × All (HasTaken plan) high.items) }
         ensures { IfOk result (IsMerged high.items) }
     { merge_all(rt, high) };
@@ -56,7 +62,7 @@ fn merge_all<R: Threads + Sync>(rt: &R, worked: VecDeque<Lot>) -> Result<Lot, Sh
     Ok(all)
 }
 
-fn merge_in_turn(worked: VecDeque<Lot>) -> Result<Lot, Shortage>
+fn merge_in_turn(worked: VecDeque<WorkerShare>) -> Result<WorkerShare, Shortage>
     requires { (plan : PlanValue) × All (HasTaken plan) worked.items }
     ensures { IfOk result (IsMerged worked.items) }
 {
@@ -73,30 +79,30 @@ fn merge_in_turn(worked: VecDeque<Lot>) -> Result<Lot, Shortage>
 
 // Adds what another worker took. A fault stays in the table, and comes out when it is finished. But
 // if the other's is want of memory, it is answered, so that no sum that is too large hides it.
-fn merge_one(all: &mut Lot, other: Lot) -> Result<(), Shortage>
+fn merge_one(all: &mut WorkerShare, other: WorkerShare) -> Result<(), Shortage>
     requires { plan_of other.partial ≡ plan_of all.old.partial }
-    ensures lanes { OnOk result (all.new.lanes.items ≡ all.old.lanes.items ++ other.lanes.items) }
+    ensures link_ends { OnOk result (all.new.link_ends.items ≡ all.old.link_ends.items ++ other.link_ends.items) }
     ensures plan { OnOk result (plan_of all.new.partial ≡ plan_of all.old.partial) }
     ensures merges { OnOk result ((rs qs : List DataRecord)
         → StandsFor all.old.partial rs → StandsFor other.partial qs
         → StandsFor all.new.partial (rs ++ qs)) }
 {
-    let Lot {
-        mut lanes,
+    let WorkerShare {
+        mut link_ends,
         partial,
         ..
     } = other;
     if partial.fault() == Some(TableFault::OutOfMemory) {
         return Err(Shortage::OutOfMemory);
     }
-    all.lanes.append(&mut lanes)?;
+    all.link_ends.append(&mut link_ends)?;
     let _ = all.partial.merge(partial);
     Ok(())
 }
 
-fn sort_lanes(lanes: &mut Vec<Lane>)
-    ensures same { IsPermutation lanes.old.items lanes.new.items }
-    ensures order { AreInOrder lanes.new.items }
+fn sort_link_ends(link_ends: &mut Vec<LinkEnd>)
+    ensures same { IsPermutation link_ends.old.items link_ends.new.items }
+    ensures order { AreInOrder link_ends.new.items }
 {
-    lanes.sort_unstable_by_key(|lane| lane.session);
+    link_ends.sort_unstable_by_key(|link_end| link_end.session);
 }

@@ -7,38 +7,38 @@ ghost use Rattle.flow_collect.specs.Finished.{ended_link, SettledAll, SettlesOne
 use super::Parts;
 use crate::session_thread::EndedSession;
 use crate::shortage::Shortage;
-use crate::worker::Lane;
+use crate::worker::LinkEnd;
 use flow_link::{Settled, settle};
 use ipfix_session::FullReport;
 use std::alloc::{AllocError, Global};
 use std::collections::VecDeque;
 
-/// Settles each session's link. The lanes stand in the order of the sessions.
+/// Settles each session's link. The link_ends stand in the order of the sessions.
 pub fn settle_all<S: Drop>(
     alloc: Global,
     sessions: VecDeque<EndedSession<S>>,
-    lanes: VecDeque<Lane>,
+    link_ends: VecDeque<LinkEnd>,
 ) -> Result<Parts<S>, Shortage>
-    requires { All (IsPaired (map ended_link sessions.items)) lanes.items }
-    ensures { IfOk result (λ p. SettledAll sessions.items lanes.items
+    requires { All (IsPaired (map ended_link sessions.items)) link_ends.items }
+    ensures { IfOk result (λ p. SettledAll sessions.items link_ends.items
         p.sessions.items p.links.items p.sources.items) }
 {
     let mut sessions = sessions;
-    let mut lanes = lanes;
+    let mut link_ends = link_ends;
     let mut parts = new_parts(alloc);
     for number in 0..sessions.len() {
         let Some(session) = sessions.pop_front() else {
             return Err(Shortage::NoThread);
         };
-        let Some(lane) = lanes.pop_front() else {
+        let Some(link_end) = link_ends.pop_front() else {
             return Err(Shortage::NoThread);
         };
-        if lane.session != number {
+        if link_end.session != number {
             return Err(Shortage::NoThread);
         }
-        settle_one(alloc, &mut parts, session, lane)?;
+        settle_one(alloc, &mut parts, session, link_end)?;
     }
-    if !sessions.is_empty() || !lanes.is_empty() {
+    if !sessions.is_empty() || !link_ends.is_empty() {
         return Err(Shortage::NoThread);
     }
     Ok(parts)
@@ -59,10 +59,10 @@ fn settle_one<S: Drop>(
     alloc: Global,
     parts: &mut Parts<S>,
     session: EndedSession<S>,
-    lane: Lane,
+    link_end: LinkEnd,
 ) -> Result<(), Shortage>
-    requires { ended_link session ≡ lane.receiver.link }
-    ensures { OnOk result (SettlesOne session lane
+    requires { ended_link session ≡ link_end.receiver.link }
+    ensures { OnOk result (SettlesOne session link_end
         parts.old.sessions.items parts.old.links.items parts.old.sources.items
         parts.new.sessions.items parts.new.links.items parts.new.sources.items) }
 {
@@ -71,7 +71,7 @@ fn settle_one<S: Drop>(
         source,
         sender,
     } = session;
-    let Lane { receiver, .. } = lane;
+    let LinkEnd { receiver, .. } = link_end;
     let Ok(link) = settle(alloc, sender, receiver) else {
         return Err(Shortage::OutOfMemory);
     };

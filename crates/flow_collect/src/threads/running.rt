@@ -3,7 +3,7 @@
 ghost use Rattle.std.specs.Prelude.{◌≡◌, ◌≤◌, [], All, IfOk};
 ghost use Rattle.std.specs.List.{AllZip};
 ghost use Rattle.std.specs.VecDeque.{deque_len, deque_capacity};
-ghost use Rattle.flow_collect.specs.Lanes.{WorkerRan, IsUnused};
+ghost use Rattle.flow_collect.specs.LinkEnds.{WorkerRan, IsUnused};
 ghost use Rattle.flow_collect.specs.Sessions.{SessionRan};
 
 use super::joining::join_all;
@@ -12,7 +12,7 @@ use super::workers::start_workers;
 use crate::gate::Gate;
 use crate::session_thread::{EndedSession, Start};
 use crate::shortage::Shortage;
-use crate::worker::Lot;
+use crate::worker::WorkerShare;
 use ipfix_session::Source;
 use std::alloc::{AllocError, Global};
 use std::collections::VecDeque;
@@ -26,23 +26,23 @@ pub fn in_threads<S: Source + Send + Drop, G: Gate + Sync, R: Threads + Wait + S
     alloc: Global,
     gate: &G,
     starts: VecDeque<Start<S>>,
-    lots: VecDeque<Lot>,
-) -> Result<(VecDeque<EndedSession<S>>, VecDeque<Lot>), Shortage>
+    shares: VecDeque<WorkerShare>,
+) -> Result<(VecDeque<EndedSession<S>>, VecDeque<WorkerShare>), Shortage>
     requires unused { All (λ start. start.sender.sent ≡ []) starts.items }
-    requires lots { All IsUnused lots.items }
+    requires shares { All IsUnused shares.items }
     ensures sessions { IfOk result (λ r. AllZip (SessionRan S.seen) starts.items r.0.items) }
-    ensures workers { IfOk result (λ r. AllZip WorkerRan lots.items r.1.items) }
+    ensures workers { IfOk result (λ r. AllZip WorkerRan shares.items r.1.items) }
 {
     thread::scope(
         thread::scope_env(),
         rt,
-        |scope| -> Result<(VecDeque<EndedSession<S>>, VecDeque<Lot>), Shortage>
+        |scope| -> Result<(VecDeque<EndedSession<S>>, VecDeque<WorkerShare>), Shortage>
             requires unused { All (λ start. start.sender.sent ≡ []) starts.items }
-            requires lots { All IsUnused lots.items }
+            requires shares { All IsUnused shares.items }
             ensures sessions { IfOk result
                 (λ r. AllZip (SessionRan S.seen) starts.items r.0.items) }
-            ensures workers { IfOk result (λ r. AllZip WorkerRan lots.items r.1.items) }
-        { run_all(scope, rt, alloc, gate, starts, lots) },
+            ensures workers { IfOk result (λ r. AllZip WorkerRan shares.items r.1.items) }
+        { run_all(scope, rt, alloc, gate, starts, shares) },
     )
 }
 
@@ -54,18 +54,18 @@ fn run_all<'s, 'e, S: Source + Send + Drop + 's, G: Gate + Sync, R: Threads + Wa
     alloc: Global,
     gate: &'s G,
     starts: VecDeque<Start<S>>,
-    lots: VecDeque<Lot>,
-) -> Result<(VecDeque<EndedSession<S>>, VecDeque<Lot>), Shortage>
+    shares: VecDeque<WorkerShare>,
+) -> Result<(VecDeque<EndedSession<S>>, VecDeque<WorkerShare>), Shortage>
     requires unused { All (λ start. start.sender.sent ≡ []) starts.items }
-    requires lots { All IsUnused lots.items }
+    requires shares { All IsUnused shares.items }
     ensures sessions { IfOk result (λ r. AllZip (SessionRan S.seen) starts.items r.0.items) }
-    ensures workers { IfOk result (λ r. AllZip WorkerRan lots.items r.1.items) }
+    ensures workers { IfOk result (λ r. AllZip WorkerRan shares.items r.1.items) }
 {
-    let for_workers = room(alloc, lots.len())?;
-    let for_worked = room(alloc, lots.len())?;
+    let for_workers = room(alloc, shares.len())?;
+    let for_worked = room(alloc, shares.len())?;
     let for_sessions = room(alloc, starts.len())?;
     let for_ended = room(alloc, starts.len())?;
-    let (workers, all_work) = start_workers(scope, rt, gate, lots, for_workers);
+    let (workers, all_work) = start_workers(scope, rt, gate, shares, for_workers);
     if !all_work {
         drop(starts);
         join_all(rt, workers, for_worked);

@@ -3,37 +3,37 @@
 ghost use Rattle.std.specs.Prelude.{◌≡◌, [], ◌∷◌, All, IfSome, IsTrue};
 ghost use Rattle.flow_link.specs.Parcels.{is_last, records_in};
 ghost use Rattle.flow_collect.specs.Adds.{AddsAll};
-ghost use Rattle.flow_collect.specs.Lanes.{TakesInto, RoundsInto, IsEnded, IsUnused, WorkerRan};
+ghost use Rattle.flow_collect.specs.LinkEnds.{TakesInto, RoundsInto, IsEnded, IsUnused, WorkerRan};
 
-use super::{Lane, Lot};
+use super::{LinkEnd, WorkerShare};
 use crate::gate::Gate;
 use flow_link::{Parcel, Patience, Taken};
 use flow_table::Partial;
 use std::sync::Wait;
 
 /// Takes by turns until each link gave Last. `None` if a sender was gone before that.
-pub fn run_worker<G: Gate, R: Wait>(rt: &R, gate: &G, lot: Lot) -> Option<Lot>
-    requires { IsUnused lot }
-    ensures { IfSome result (WorkerRan lot) }
+pub fn run_worker<G: Gate, R: Wait>(rt: &R, gate: &G, share: WorkerShare) -> Option<WorkerShare>
+    requires { IsUnused share }
+    ensures { IfSome result (WorkerRan share) }
 {
-    let Lot {
+    let WorkerShare {
         worker,
-        lanes,
+        link_ends,
         partial,
-    } = lot;
-    let mut lanes = lanes;
+    } = share;
+    let mut link_ends = link_ends;
     let mut partial = partial;
-    let mut patience = patience_for(&lanes);
+    let mut patience = patience_for(&link_ends);
     let mut taken = 0;
     for _ in rt.forever() {
-        let round = go_round(gate, worker, taken, &mut lanes, &mut partial);
+        let round = go_round(gate, worker, taken, &mut link_ends, &mut partial);
         if round.gone {
             return None;
         }
-        if all_ended(&lanes) {
-            return Some(Lot {
+        if all_ended(&link_ends) {
+            return Some(WorkerShare {
                 worker,
-                lanes,
+                link_ends,
                 partial,
             });
         }
@@ -44,9 +44,9 @@ pub fn run_worker<G: Gate, R: Wait>(rt: &R, gate: &G, lot: Lot) -> Option<Lot>
 }
 
 // The links of a worker have the same capacity.
-fn patience_for(lanes: &[Lane]) -> Patience {
-    match lanes.first() {
-        Some(lane) => Patience::new(lane.receiver.capacity()),
+fn patience_for(link_ends: &[LinkEnd]) -> Patience {
+    match link_ends.first() {
+        Some(link_end) => Patience::new(link_end.receiver.capacity()),
         None => Patience::new(1),
     }
 }
@@ -60,11 +60,11 @@ fn rest<R: Wait>(rt: &R, patience: &mut Patience, found: u64) {
     }
 }
 
-fn all_ended(lanes: &[Lane]) -> bool
-    ensures { IsTrue result → All IsEnded lanes.now }
+fn all_ended(link_ends: &[LinkEnd]) -> bool
+    ensures { IsTrue result → All IsEnded link_ends.now }
 {
-    for lane in lanes {
-        if !lane.last {
+    for link_end in link_ends {
+        if !link_end.last {
             return false;
         }
     }
@@ -83,35 +83,35 @@ fn go_round<G: Gate>(
     gate: &G,
     worker: usize,
     taken: u64,
-    lanes: &mut Vec<Lane>,
+    link_ends: &mut Vec<LinkEnd>,
     partial: &mut Partial,
 ) -> Round
-    ensures { RoundsInto lanes.old.items partial.old lanes.new.items partial.new }
+    ensures { RoundsInto link_ends.old.items partial.old link_ends.new.items partial.new }
 {
     let mut round = Round { taken, gone: false };
-    for place in 0..lanes.len() {
-        try_lane(gate, worker, &mut round, &mut lanes[place], partial);
+    for place in 0..link_ends.len() {
+        try_link_end(gate, worker, &mut round, &mut link_ends[place], partial);
     }
     round
 }
 
 // One try at a link, unless it gave Last.
-fn try_lane<G: Gate>(
+fn try_link_end<G: Gate>(
     gate: &G,
     worker: usize,
     round: &mut Round,
-    lane: &mut Lane,
+    link_end: &mut LinkEnd,
     partial: &mut Partial,
 )
-    ensures { TakesInto lane.old partial.old lane.new partial.new }
+    ensures { TakesInto link_end.old partial.old link_end.new partial.new }
 {
-    if lane.last {
+    if link_end.last {
         return;
     }
     gate.before_take(worker, round.taken);
-    match lane.receiver.try_recv() {
+    match link_end.receiver.try_recv() {
         Taken::Got(parcel) => {
-            lane.last = absorb(partial, parcel);
+            link_end.last = absorb(partial, parcel);
             round.taken = round.taken.saturating_add(1);
         }
         Taken::Empty => (),

@@ -3,7 +3,7 @@
 use ipfix_datagrams::DatagramFault;
 use recording_files::MemoryFiles;
 use recording_peers::{
-    Became, Datagram, DatagramSource, KeptPeer, Outcome, PeerPlace, Peers, ScriptDatagrams,
+    Became, Datagram, DatagramSource, Outcome, PeerPlace, PeerState, Peers, ScriptDatagrams,
     ScriptedDatagram,
 };
 use std::alloc::{AllocError, Global};
@@ -82,7 +82,7 @@ fn answer_of(became: Became<MemoryFiles>) -> Answer {
 }
 
 /// The peer of a session that went.
-pub fn peer_of(gone: Option<(SocketAddr, KeptPeer<MemoryFiles>)>) -> Option<SocketAddr> {
+pub fn peer_of(gone: Option<(SocketAddr, PeerState<MemoryFiles>)>) -> Option<SocketAddr> {
     match gone {
         Some((peer, _)) => Some(peer),
         None => None,

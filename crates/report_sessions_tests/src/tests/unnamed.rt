@@ -3,7 +3,7 @@
 use super::{STRICT, VERBOSE, report_of};
 use element_registry::{Elements, add_file};
 use report_sessions::write_told_reports;
-use report_writing::{Origin, Telling};
+use report_writing::{Origin, Verbosity};
 use std::alloc::{AllocError, Global};
 use std::slice;
 use std::test::*;
@@ -41,7 +41,7 @@ fn append_template(
 // What is told of a session of these octets, without the line of its end.
 fn told(
     alloc: Global,
-    telling: Telling,
+    verbosity: Verbosity,
     elements: &Elements,
     text: &[u8],
 ) -> Result<Vec<u8>, Fail> {
@@ -49,7 +49,7 @@ fn told(
     let mut err = Vec::new(alloc);
     let origin = Origin::Unknown;
     write_told_reports(
-        telling,
+        verbosity,
         elements,
         slice::from_ref(&origin),
         slice::from_ref(&full),

@@ -20,7 +20,7 @@ returns-in-Err-export-clause-failed g c = λ failed.
 pub returns-clause-table : goal.returns-clause-table
 returns-clause-table g c = λ ran.
     let well = zero_if_well c.status_of.result c.number-2.result _ c.number-2.ensures c.status_of.ensures.ends c.status_of.ensures.well in
-    writes_in_full g.S.Source.seen c.args.job.now.telling.strict c.args.sources.items c.args.job.now.plan.now c.args.job.now.pool c.number-2.result _ c.in-Ok.collected c.in-Ok.ensures.ok well
+    writes_in_full g.S.Source.seen c.args.job.now.verbosity.strict c.args.sources.items c.args.job.now.plan.now c.args.job.now.pool c.number-2.result _ c.in-Ok.collected c.in-Ok.ensures.ok well
     (λ zero. c.status_of.ensures.whole c.args.sources.items c.args.job.now.plan.now c.args.job.now.pool c.in-Ok.ensures.ok (well.0 zero))
     (search rules, is_told _ _ _ c.tell.result _ c.tell.ensures.told c.tell.ensures.failed)
 

@@ -2,7 +2,7 @@ use Rattle.std.proofs.Common.{[], ◌∷◌, refl}
 use Rattle.std.proofs.Math.Path.{fun_ext}
 use Rattle.ipfix_dump.proofs.Under.{lines_as_ever}
 use Rattle.report_writing.specs.declared.origin.Origin.TheVariants.{Unknown}
-use Rattle.report_writing.specs.declared.telling.TheConstants.{NOTHING_MORE}
+use Rattle.report_writing.specs.declared.verbosity.TheConstants.{NOTHING_MORE}
 use Rattle.report_sessions.proofs.Untold.{told_plain}
 use Rattle.command_dump.proofs.dump.run_dump.Goals as goal
 

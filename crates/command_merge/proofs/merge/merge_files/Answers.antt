@@ -19,14 +19,14 @@ loop-index-preserved g c =
       stands = one_path _ _ c.args.plan.now _ c.args.paths.now c.loop-index.index _ _ _ _ c.loop-index.merging c.in_ok-merging.merging c.loop-index-test.true
           (λ path source opens. so_far.same path.now source opens) c.in_ok-merging.ensures.added so_far.stands;
       same = λ name source opens. so_far.same name source (c.add_file.ensures.same name source opens);
-      told = one_file_told (λ path. path.now) c.args.paths.now _ _ _ _ _ c.args.telling c.loop-index.index _ c.loop-index-test.true so_far.told c.in_ok-merging.ensures.told c.add_file.ensures.kept;
+      told = one_file_told (λ path. path.now) c.args.paths.now _ _ _ _ _ c.args.verbosity c.loop-index.index _ c.loop-index-test.true so_far.told c.in_ok-merging.ensures.told c.add_file.ensures.kept;
       kept = λ failed. c.add_file.ensures.kept (so_far.kept failed);
     }
 
 pub returns-in_err-merging-clause-stops : goal.returns-in_err-merging-clause-stops
 returns-in_err-merging-clause-stops g c =
     passed_on c.from_residual.result c.in_err-merging.field-0.0 _ c.from_residual.ensures.1
-    (stops_merge (λ path. path.now) c.args.paths.now _ _ _ _ _ c.args.telling c.loop-index.index _ _ c.loop-index-test.true c.loop-index.invariant.told c.in_err-merging.ensures.stops c.add_file.ensures.kept)
+    (stops_merge (λ path. path.now) c.args.paths.now _ _ _ _ _ c.args.verbosity c.loop-index.index _ _ c.loop-index-test.true c.loop-index.invariant.told c.in_err-merging.ensures.stops c.add_file.ensures.kept)
 
 pub returns-in-Ok-finish-clause-merged : goal.returns-in-Ok-finish-clause-merged
 returns-in-Ok-finish-clause-merged g c =

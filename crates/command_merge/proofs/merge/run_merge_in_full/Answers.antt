@@ -7,7 +7,7 @@ use Rattle.command_merge.proofs.merge.run_merge_in_full.Goals as goal
 pub returns-in-Err-clause-runs : goal.returns-in-Err-clause-runs
 returns-in-Err-clause-runs g c =
     merges_none _ _ _ _ _ _ _ _ _ c.in-Err.not_merged (search rules) (search rules)
-    (tells_not_merged _ c.args.telling _ _ _ _ _ c.in-Err.not_merged _ c.write_not_merged.result c.in-Err.ensures.stops c.write_not_merged.ensures.told c.write_not_merged.ensures.failed c.write_not_merged.ensures.kept (search rules))
+    (tells_not_merged _ c.args.verbosity _ _ _ _ _ c.in-Err.not_merged _ c.write_not_merged.result c.in-Err.ensures.stops c.write_not_merged.ensures.told c.write_not_merged.ensures.failed c.write_not_merged.ensures.kept (search rules))
 
 pub returns-in-Err-export-clause-runs : goal.returns-in-Err-export-clause-runs
 returns-in-Err-export-clause-runs g c =

@@ -7,18 +7,18 @@ returns g c =
     let place : c.len-session.result ≡ length c.args.starts.now.items = omega (arith, c.args.starts.now.ok.0) in
     record {
       start = record { session = c.len-session.result; source = c.args.source; sender = c.in_ok-sender.sender };
-      lane = c.new_lane-lane.result;
-      first = c.in-Some.lot;
-      dealt = record c.in-Some.lot { lanes = c.push.new.self };
+      link_end = c.new_link_end-link_end.result;
+      first = c.in-Some.share;
+      dealt = record c.in-Some.share { link_ends = c.push.new.self };
       others = c.pop_front.new.self.items;
       source_is = refl;
       number_is = place;
-      link = subst (λ (r : ReceiverView). IsNewLink c.args.capacity c.in_ok-sender.sender r) (sym c.new_lane-lane.ensures.1) c.in_ok-sender.ensures;
-      session_is = c.new_lane-lane.ensures.0 ∙ place;
+      link = subst (λ (r : ReceiverView). IsNewLink c.args.capacity c.in_ok-sender.sender r) (sym c.new_link_end-link_end.ensures.1) c.in_ok-sender.ensures;
+      session_is = c.new_link_end-link_end.ensures.0 ∙ place;
       starts_are = c.in_ok-push_back.ensures.items;
-      lots_were = c.in-Some.ensures.items;
-      lots_are = c.in_ok-push_back-2.ensures.items;
-      lanes_are = c.in_ok-push.ensures.items;
+      shares_were = c.in-Some.ensures.items;
+      shares_are = c.in_ok-push_back-2.ensures.items;
+      link_ends_are = c.in_ok-push.ensures.items;
       partial_is = refl;
       worker_is = refl;
     }

@@ -8,8 +8,8 @@ use Rattle.input_files.proofs.loading.load_elements.Given as goal
 abbrev pub invariant-loop-paths : goal.invariant-loop-paths
 invariant-loop-paths g l = record {
   loads : (told : List ℕ) × AreTold (g.E.WriteLines.contents l.initial.err) (g.E.WriteLines.contents l.err) (g.E.WriteLines.failed l.err) told
-      × ((result : Option (List Known)) (lines : List ℕ) → Loads (g.T.ReadText.has l.files) (g.T.ReadText.refuses l.files) l.telling l.elements (map (λ path. path.now) l.paths) result lines
-      → Loads (g.T.ReadText.has l.files) (g.T.ReadText.refuses l.files) l.telling [] (map (λ path. path.now) l.initial.paths) result (told ++ lines));
+      × ((result : Option (List Known)) (lines : List ℕ) → Loads (g.T.ReadText.has l.files) (g.T.ReadText.refuses l.files) l.verbosity l.elements (map (λ path. path.now) l.paths) result lines
+      → Loads (g.T.ReadText.has l.files) (g.T.ReadText.refuses l.files) l.verbosity [] (map (λ path. path.now) l.initial.paths) result (told ++ lines));
   kept : g.E.WriteLines.failed l.initial.err → g.E.WriteLines.failed l.err;
 }
 

@@ -1,6 +1,6 @@
 use Rattle.std.proofs.Common.{refl, rules, arith}
 use Rattle.std.proofs.lemmas.Option.{IfSome_then}
-use Rattle.input_sources.proofs.Had.{Came-nil, one_came, one_longer, one_more}
+use Rattle.input_sources.proofs.Had.{NextOnes-nil, one_came, one_longer, one_more}
 use Rattle.input_sources.specs.Origins.{IsPeer}
 use Rattle.input_sources.proofs.InputsTold.{always, even_if_ok, nothing_opened, opened_told}
 use Rattle.input_sources.proofs.accepting.accept_each.Goals as goal
@@ -9,12 +9,12 @@ pub loop-number-init : goal.loop-number-init
 loop-number-init g c = record {
   one_each = search rules;
   asked = search rules;
-  came = rw c.new-sources.ensures (Came-nil (g.L.Listener.coming c.args.listener.now));
+  came = rw c.new-sources.ensures (NextOnes-nil (g.L.Listener.coming c.args.listener.now));
   same = λ limit source gives. gives;
   in_time = always c.args.idle (λ limit zero. refl);
   count = search rules;
   peers = search rules;
-  told = nothing_opened (g.E.WriteLines.contents c.args.err.now) (g.E.WriteLines.failed c.args.err.now) c.args.telling c.new-origins.result.items (search rules);
+  told = nothing_opened (g.E.WriteLines.contents c.args.err.now) (g.E.WriteLines.failed c.args.err.now) c.args.verbosity c.new-origins.result.items (search rules);
   kept = λ failed. failed;
 }
 
@@ -29,7 +29,7 @@ loop-number-preserved g c =
       in_time = IfSome_then c.args.idle c.in_ok-source.ensures.no_time (λ limit never zero. absurd (cc (never zero)));
       count = one_longer _ _ _ _ c.in-Ok-push.ensures.items so_far.count;
       peers = one_more IsPeer _ _ _ c.in-Ok-push.ensures.items so_far.peers tt;
-      told = opened_told _ _ _ _ _ c.args.telling c.loop-number.origins.items _ _ _ c.write_opened.result c.in-Ok-push.ensures.items so_far.count so_far.told c.write_opened.ensures.told c.write_opened.ensures.failed c.write_opened.ensures.kept;
+      told = opened_told _ _ _ _ _ c.args.verbosity c.loop-number.origins.items _ _ _ c.write_opened.result c.in-Ok-push.ensures.items so_far.count so_far.told c.write_opened.ensures.told c.write_opened.ensures.failed c.write_opened.ensures.kept;
       kept = λ failed. c.write_opened.ensures.kept (so_far.kept failed);
     }
 

@@ -3,7 +3,7 @@ use Rattle.std.specs.Duration.{as_nanos}
 use Rattle.std.specs.declared.time.Duration.{Duration}
 use Rattle.report_writing.specs.Told.{AreTold}
 use Rattle.input_sources.specs.Origins.{IsPeer}
-use Rattle.input_sources.specs.Had.{Came}
+use Rattle.input_sources.specs.Had.{NextOnes}
 use Rattle.input_sources.specs.InputsTold.{opened_lines}
 use Rattle.input_sources.proofs.accepting.accept_each.Given as goal
 
@@ -12,11 +12,11 @@ abbrev pub invariant-loop-number : goal.invariant-loop-number
 invariant-loop-number g l = record {
   one_each : length l.sources ≡ l.number;
   asked : All (g.L.Listener.gives l.fn.listener l.fn.idle) l.sources;
-  came : Came (g.L.Listener.coming l.fn.listener) (g.L.Listener.coming l.listener) l.sources;
+  came : NextOnes (g.L.Listener.coming l.fn.listener) (g.L.Listener.coming l.listener) l.sources;
   same : (limit : Option Duration) (source : _) → g.L.Listener.gives l.listener limit source → g.L.Listener.gives l.fn.listener limit source;
   in_time : IfSome l.fn.idle (λ limit. as_nanos limit ≡ 0 → l.number ≡ 0);
   count : length l.origins.items ≡ l.number;
   peers : All IsPeer l.origins.items;
-  told : AreTold (g.E.WriteLines.contents l.fn.err) (g.E.WriteLines.contents l.err) (g.E.WriteLines.failed l.err) (opened_lines l.fn.telling l.origins.items);
+  told : AreTold (g.E.WriteLines.contents l.fn.err) (g.E.WriteLines.contents l.err) (g.E.WriteLines.failed l.err) (opened_lines l.fn.verbosity l.origins.items);
   kept : g.E.WriteLines.failed l.fn.err → g.E.WriteLines.failed l.err;
 }

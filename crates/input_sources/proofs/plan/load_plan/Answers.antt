@@ -10,5 +10,5 @@ returns-clause-text g c = λ plan is.
 pub returns-clause-told : goal.returns-clause-told
 returns-clause-told g c =
     no_plan_without c.no_files.ensures.plan c.no_files.ensures.place c.built_in-elements.result c.built_in-elements.ensures c.load_plan_under.result
-    (g.T.ReadText.has c.args.files.now c.args.path.now) (g.T.ReadText.refuses c.args.files.now c.args.path.now) c.args.telling c.args.path.now
+    (g.T.ReadText.has c.args.files.now c.args.path.now) (g.T.ReadText.refuses c.args.files.now c.args.path.now) c.args.verbosity c.args.path.now
     (AreToldTo g.E.WriteLines.contents g.E.WriteLines.failed c.args.err.now c.load_plan_under.new.err) c.load_plan_under.ensures.told

@@ -12,11 +12,11 @@ pub loop-index-preserved : goal.loop-index-preserved
 loop-index-preserved g c =
     let held = g.W.WriteLines.contents in
     let rs = c.args.reports.now in
-    let lines = λ (n : ℕ) (full : FullReport). told_session c.args.telling c.args.elements.now n (origin_of c.args.origins.now n) full in
+    let lines = λ (n : ℕ) (full : FullReport). told_session c.args.verbosity c.args.elements.now n (origin_of c.args.origins.now n) full in
     let more = numbered-more lines rs c.loop-index.index c.index-reports-index.result c.loop-index-test.true c.index-reports-index.is in
     record {
       told = subst (λ l. Appends (held c.args.out.now) (held c.write_numbered.new.out) l) (sym more)
-          (Appends-trans _ _ _ (told_lines c.args.telling c.args.elements.now c.args.origins.now (take c.loop-index.index rs)) _ c.loop-index.invariant.told c.in_ok-write_numbered.ensures.told);
+          (Appends-trans _ _ _ (told_lines c.args.verbosity c.args.elements.now c.args.origins.now (take c.loop-index.index rs)) _ c.loop-index.invariant.told c.in_ok-write_numbered.ensures.told);
       kept = λ failed. c.write_numbered.ensures.kept (c.loop-index.invariant.kept failed);
     }
 
@@ -25,5 +25,5 @@ returns-clause-plain g c = λ verbose strict.
     let held = g.W.WriteLines.contents in
     let a = c.args in
     let all : take c.loop-index.index a.reports.now ≡ a.reports.now = take_all _ a.reports.now (omega (arith, c.loop-index-test.false)) in
-    let told = subst (λ (rs : List FullReport). Appends (held a.out.now) (held c.loop-index.out) (told_lines a.telling a.elements.now a.origins.now rs)) all c.loop-index.invariant.told in
-    subst (λ (l : List ℕ). Appends (held a.out.now) (held c.loop-index.out) l) (told_plain a.telling verbose strict a.elements.now a.origins.now a.reports.now) told
+    let told = subst (λ (rs : List FullReport). Appends (held a.out.now) (held c.loop-index.out) (told_lines a.verbosity a.elements.now a.origins.now rs)) all c.loop-index.invariant.told in
+    subst (λ (l : List ℕ). Appends (held a.out.now) (held c.loop-index.out) l) (told_plain a.verbosity verbose strict a.elements.now a.origins.now a.reports.now) told

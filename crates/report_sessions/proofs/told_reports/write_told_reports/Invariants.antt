@@ -5,6 +5,6 @@ use Rattle.report_sessions.proofs.told_reports.write_told_reports.Given as goal
 
 abbrev pub invariant-loop-index : goal.invariant-loop-index
 invariant-loop-index g l = record {
-  told : Appends (g.W.WriteLines.contents l.initial.out) (g.W.WriteLines.contents l.out) (told_lines l.telling l.elements l.origins (take l.index l.reports));
+  told : Appends (g.W.WriteLines.contents l.initial.out) (g.W.WriteLines.contents l.out) (told_lines l.verbosity l.elements l.origins (take l.index l.reports));
   kept : g.W.WriteLines.failed l.initial.out → g.W.WriteLines.failed l.out;
 }

@@ -6,19 +6,19 @@ use Rattle.flow_table.specs.Plans.{PlanValue}
 use Rattle.flow_table.specs.Tables.{IsTable, IsTooLarge}
 use Rattle.flow_collect.specs.Dealt.{IsPaired}
 use Rattle.flow_collect.specs.Finished.{ended_link}
-use Rattle.flow_collect.specs.Lanes.{StandsForLanes, IsEnded}
-use Rattle.flow_collect.proofs.SettleLists.{came_over, lanes_ended}
+use Rattle.flow_collect.specs.LinkEnds.{StandsForLinkEnds, IsEnded}
+use Rattle.flow_collect.proofs.SettleLists.{came_over, link_ends_ended}
 use Rattle.flow_collect.proofs.settling.finishing.finish_all.Goals as goal
 
 pub settle_all-requires : goal.settle_all-requires
 settle_all-requires g c =
     let P = IsPaired (map ended_link c.args.ended.items) in
-    subst (All P) (sym c.from_vec.ensures.items) (All-permutation P _ _ c.in_ok-all.ensures.lanes c.requires.paired)
+    subst (All P) (sym c.from_vec.ensures.items) (All-permutation P _ _ c.in_ok-all.ensures.link_ends c.requires.paired)
 
 pub returns-in-Err-SumTooLarge : goal.returns-in-Err-SumTooLarge
 returns-in-Err-SumTooLarge g c = λ plan taken.
-    let ended = subst (All IsEnded) (sym c.from_vec.ensures.items) (All-permutation IsEnded _ _ c.in_ok-all.ensures.lanes (lanes_ended plan _ taken)) in
-    let table = subst (StandsForLanes c.in_ok-all.all.partial) (sym c.from_vec.ensures.items) c.in_ok-all.ensures.table in
+    let ended = subst (All IsEnded) (sym c.from_vec.ensures.items) (All-permutation IsEnded _ _ c.in_ok-all.ensures.link_ends (link_ends_ended plan _ taken)) in
+    let table = subst (StandsForLinkEnds c.in_ok-all.all.partial) (sym c.from_vec.ensures.items) c.in_ok-all.ensures.table in
     let is = c.in_ok-all.ensures.plan plan taken in
     record {
       reports = c.in_ok-parts.parts.sessions.items;
@@ -31,8 +31,8 @@ returns-in-Err-SumTooLarge g c = λ plan taken.
 
 pub returns : goal.returns
 returns g c = λ plan taken.
-    let ended = subst (All IsEnded) (sym c.from_vec.ensures.items) (All-permutation IsEnded _ _ c.in_ok-all.ensures.lanes (lanes_ended plan _ taken)) in
-    let table = subst (StandsForLanes c.in_ok-all.all.partial) (sym c.from_vec.ensures.items) c.in_ok-all.ensures.table in
+    let ended = subst (All IsEnded) (sym c.from_vec.ensures.items) (All-permutation IsEnded _ _ c.in_ok-all.ensures.link_ends (link_ends_ended plan _ taken)) in
+    let table = subst (StandsForLinkEnds c.in_ok-all.all.partial) (sym c.from_vec.ensures.items) c.in_ok-all.ensures.table in
     let is = c.in_ok-all.ensures.plan plan taken in
     record {
       records = table.records;

@@ -1,4 +1,4 @@
-use Rattle.flow_collect.specs.Lanes.{WorkerRan}
+use Rattle.flow_collect.specs.LinkEnds.{WorkerRan}
 use Rattle.flow_collect.specs.Sessions.{SessionRan}
 use Rattle.flow_collect.proofs.ZipLists.{zip_join}
 use Rattle.flow_collect.proofs.threads.running.run_all.Goals as goal
@@ -10,5 +10,5 @@ returns-clause-sessions g c =
 
 pub returns-clause-workers : goal.returns-clause-workers
 returns-clause-workers g c =
-    zip_join (λ h. h.promise.lot.value) WorkerRan _ _ _
+    zip_join (λ h. h.promise.share.value) WorkerRan _ _ _
     (c.start_workers-workers.ensures.started c.if-not-all_work.false) (c.join_all-worked.ensures c.if-not-all_taken.false)

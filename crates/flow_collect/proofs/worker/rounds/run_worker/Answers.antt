@@ -1,7 +1,7 @@
 use Rattle.std.proofs.Common.{◌∙◌, refl, subst}
 use Rattle.std.specs.Prelude.{All}
-use Rattle.flow_collect.specs.Lanes.{IsEnded}
-use Rattle.flow_collect.proofs.LaneLists.{stands_first, stands_on, worker_ran}
+use Rattle.flow_collect.specs.LinkEnds.{IsEnded}
+use Rattle.flow_collect.proofs.LinkEndLists.{stands_first, stands_on, worker_ran}
 use Rattle.flow_collect.proofs.worker.rounds.run_worker.Goals as goal
 
 pub loop-init : goal.loop-init

@@ -13,7 +13,7 @@ use std::alloc::Global;
 
 /// A session of a peer, while its datagrams are recorded.
 #[derive(Drop)]
-pub struct KeptPeer<F> {
+pub struct PeerState<F> {
     /// What records them.
     pub recorder: PeerRecorder,
     /// The session's files.
@@ -24,7 +24,7 @@ pub struct KeptPeer<F> {
     pub refused: Option<Refusals>,
 }
 
-impl<F: FileSeries> KeptPeer<F> {
+impl<F: FileSeries> PeerState<F> {
     /// The session of a peer of which nothing has come, with files in which nothing stands, at a time in
     /// seconds.
     pub fn new(alloc: Global, files: F, now: u64) -> Self
@@ -32,7 +32,7 @@ impl<F: FileSeries> KeptPeer<F> {
         ensures session { IsSession F.seen result [] }
         ensures heard { result.heard ≡ now }
     {
-        KeptPeer {
+        PeerState {
             recorder: PeerRecorder::new(alloc),
             files,
             heard: now,

@@ -20,18 +20,18 @@ pub struct NotedPeer {
 
 /// The system's listener. It keeps the peers that it has accepted.
 #[derive(Drop)]
-pub struct Listening {
+pub struct SystemListener {
     alloc: Global,
     listener: Option<TcpListener>,
     peers: Vec<NotedPeer>,
 }
 
-impl Listening {
+impl SystemListener {
     /// A listener that is open.
     pub fn new(alloc: Global, listener: TcpListener) -> Self
         ensures { result.listener ≡ Some listener }
     {
-        Listening {
+        SystemListener {
             alloc,
             listener: Some(listener),
             peers: Vec::new(alloc),
@@ -59,7 +59,7 @@ impl Listening {
     }
 }
 
-impl Listener<FromReader<Noted<TcpStream>>> for Listening {
+impl Listener<FromReader<Noted<TcpStream>>> for SystemListener {
     ghost gives = { λ _ _ _. ⊤ };
 
     ghost coming = { λ _. None };

@@ -1,6 +1,6 @@
 use Rattle.std.proofs.Common.{refl, ◌∙◌}
 use Rattle.recording_datagrams.proofs.Told.{and_told}
-use Rattle.recording_datagrams.proofs.reception.Reception.tell_and_end.Goals as goal
+use Rattle.recording_datagrams.proofs.datagram_taker.DatagramTaker.tell_and_end.Goals as goal
 
 pub returns : goal.returns
 returns g c =

@@ -14,18 +14,18 @@ use std::rt::Clock;
 
 /// A source of which is told, if that is asked for, what was read. Contracts see the source alone.
 #[derive(Drop)]
-pub struct Watched<'a, S: Source + Drop, C: Clock, P: Write + Drop> {
+pub struct WithProgress<'a, S: Source + Drop, C: Clock, P: Write + Drop> {
     source: S,
     progress: Option<Progress<'a, C, P>>,
 }
 
-impl<'a, S: Source + Drop, C: Clock, P: Write + Drop> Model for Watched<'a, S, C, P> {
+impl<'a, S: Source + Drop, C: Clock, P: Write + Drop> Model for WithProgress<'a, S, C, P> {
     ghost Value = { S };
 
     ghost view = { λ w. w.source };
 }
 
-impl<'a, S: Source + Drop, C: Clock, P: Write + Drop> Watched<'a, S, C, P> {
+impl<'a, S: Source + Drop, C: Clock, P: Write + Drop> WithProgress<'a, S, C, P> {
     /// The source of the session of this number, counted from 1, which begins now. If there is an `out`,
     /// it is told there what was read, and of how many octets if that is known.
     pub fn new(
@@ -42,11 +42,11 @@ impl<'a, S: Source + Drop, C: Clock, P: Write + Drop> Watched<'a, S, C, P> {
             Some(out) => Progress::new(alloc, clock, session, size, out),
             None => None,
         };
-        Watched { source, progress }
+        WithProgress { source, progress }
     }
 }
 
-impl<'a, S: Source + Drop, C: Clock, P: Write + Drop> Source for Watched<'a, S, C, P> {
+impl<'a, S: Source + Drop, C: Clock, P: Write + Drop> Source for WithProgress<'a, S, C, P> {
     ghost seen = { S.seen };
 
     ghost ended_is_end = { S.ended_is_end };

@@ -1,5 +1,5 @@
 use Rattle.std.proofs.Common.{[], refl}
-use Rattle.recording_peers.proofs.kept_peer.KeptPeer.new.Goals as goal
+use Rattle.recording_peers.proofs.peer_state.PeerState.new.Goals as goal
 
 pub returns-clause-session : goal.returns-clause-session
 returns-clause-session g c = record {

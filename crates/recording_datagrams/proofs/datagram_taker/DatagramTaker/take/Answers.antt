@@ -3,7 +3,7 @@ use Rattle.recording_peers.specs.declared.datagram_source.NoDatagram.{NoDatagram
 use Rattle.recording_peers.specs.declared.datagram_source.NoDatagram.TheVariants.{Tick, Failed}
 use Rattle.recording_datagrams.proofs.Told.{told_nothing}
 use Rattle.recording_datagrams.proofs.RoundLemmas.{counted_so, so_answered}
-use Rattle.recording_datagrams.proofs.reception.Reception.take.Goals as goal
+use Rattle.recording_datagrams.proofs.datagram_taker.DatagramTaker.take.Goals as goal
 
 pub returns-in-Ok : goal.returns-in-Ok
 returns-in-Ok g c =

@@ -9,11 +9,11 @@ use std::marker::Model;
 
 /// Sources of which none was read yet. Contracts see their list.
 #[derive(Drop)]
-pub struct Unread<S: Source + Drop> {
+pub struct UnreadSources<S: Source + Drop> {
     sources: Vec<S>,
 }
 
-impl<S: Source + Drop> Model for Unread<S> {
+impl<S: Source + Drop> Model for UnreadSources<S> {
     ghost use Rattle.std.specs.Prelude.{List, All};
     ghost use Rattle.input_sources.specs.Had.{IsUnread};
 
@@ -24,12 +24,12 @@ impl<S: Source + Drop> Model for Unread<S> {
     ghost invariant = { λ u. All (IsUnread S.seen) u.sources.items };
 }
 
-impl<S: Source + Drop> Unread<S> {
+impl<S: Source + Drop> UnreadSources<S> {
     /// No sources.
     pub fn new(alloc: Global) -> Self
         ensures { result ≡ [] }
     {
-        Unread {
+        UnreadSources {
             sources: Vec::new(alloc),
         }
     }
@@ -48,7 +48,7 @@ impl<S: Source + Drop> Unread<S> {
         ensures list { result.items ≡ self }
         ensures unread { All (IsUnread S.seen) self }
     {
-        let Unread { sources } = self;
+        let UnreadSources { sources } = self;
         sources
     }
 }

@@ -3,7 +3,7 @@
 use crate::taking::take_datagram;
 use crate::ticking::{end_silent, go_over, tell_unserved};
 use network_prefixes::PeerFilter;
-use recording_connections::{FrontDesk, RecordingFiles};
+use recording_connections::{RecordingFiles, SharedCounts};
 use recording_files::PeriodClock;
 use recording_lines::Log;
 use recording_peers::{Datagram, NoDatagram, PeerPlace, Peers};
@@ -13,7 +13,7 @@ use std::net::SocketAddr;
 
 /// What takes datagrams.
 #[derive(Drop)]
-pub struct Reception<'a, F, P, E: Write + Drop> {
+pub struct DatagramTaker<'a, F, P, E: Write + Drop> {
     pub alloc: Global,
     /// The peers that are kept.
     pub peers: Peers<F>,
@@ -26,11 +26,11 @@ pub struct Reception<'a, F, P, E: Write + Drop> {
     /// The second that it is at. It never goes back.
     pub second: u64,
     /// The datagrams of peers that may not send, and those that could not be received.
-    pub unserved: FrontDesk,
+    pub unserved: SharedCounts,
     pub log: Log<E>,
 }
 
-impl<'a, F: RecordingFiles + Drop, P: PeerPlace<F> + PeriodClock, E: Write + Drop> Reception<
+impl<'a, F: RecordingFiles + Drop, P: PeerPlace<F> + PeriodClock, E: Write + Drop> DatagramTaker<
     'a,
     F,
     P,
@@ -41,7 +41,7 @@ impl<'a, F: RecordingFiles + Drop, P: PeerPlace<F> + PeriodClock, E: Write + Dro
     ghost use Rattle.recording_peers.specs.declared.datagram_source.Datagram.{Datagram};
     ghost use Rattle.recording_peers.specs.declared.datagram_source.NoDatagram.{NoDatagram};
     ghost use Rattle.recording_datagrams.specs.Ending.{AreTold};
-    ghost use Rattle.recording_datagrams.specs.Rounds.{GoesOnTo, KeepsToPeriods, TakesArrival, TakesGiven, TellsAndEnds, answer_in};
+    ghost use Rattle.recording_datagrams.specs.Rounds.{KeepsToSeconds, KeepsToPeriods, TakesArrival, TakesGiven, TellsAndEnds, answer_in};
     ghost use Rattle.recording_datagrams.specs.Taking.{Arrival};
 
     /// Finishes the files of all peers, if the period of the place is over.
@@ -101,10 +101,10 @@ impl<'a, F: RecordingFiles + Drop, P: PeerPlace<F> + PeriodClock, E: Write + Dro
         )
     }
 
-    /// Goes on to a second. If it is a new one, what was refused is told, and the sessions of peers end that
+    /// EvictedLines on to a second. If it is a new one, what was refused is told, and the sessions of peers end that
     /// have been silent for longer than they may be.
     pub fn go_on_to(&mut self, now: u64) -> io::Result<()>
-        ensures { AreTold E.contents (GoesOnTo F.seen F.finishes P.asked now self.old self.new)
+        ensures { AreTold E.contents (KeepsToSeconds F.seen F.finishes P.asked now self.old self.new)
             self.old.log self.new.log result }
     {
         if now <= self.second {

@@ -17,7 +17,7 @@ pub struct RefusedPeers {
 
 /// What the threads share: the number of the last session, and what is to be told of peers that have none.
 #[derive(Debug, PartialEq, Eq, Drop)]
-pub struct FrontDesk {
+pub struct SharedCounts {
     /// The number of the last session, counted from 1, up to `u64::MAX`.
     pub sessions: u64,
     pub refused: Option<RefusedPeers>,
@@ -25,14 +25,14 @@ pub struct FrontDesk {
     pub not_accepted: u64,
 }
 
-impl FrontDesk {
+impl SharedCounts {
     /// No session has begun, and nobody was refused.
     pub fn new() -> Self
         ensures sessions { result.sessions ≡ 0 }
         ensures refused { result.refused ≡ None }
         ensures not_accepted { result.not_accepted ≡ 0 }
     {
-        FrontDesk {
+        SharedCounts {
             sessions: 0,
             refused: None,
             not_accepted: 0,

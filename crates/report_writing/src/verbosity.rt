@@ -2,7 +2,7 @@
 
 /// What is told beside the lines that always stand.
 #[derive(Clone, Copy, Debug, PartialEq, Eq)]
-pub struct Telling {
+pub struct Verbosity {
     /// What was opened, what wasn't counted, how each session ended, and the reasons of the system.
     pub verbose: bool,
     /// What wasn't counted.
@@ -10,7 +10,7 @@ pub struct Telling {
 }
 
 /// Nothing is told beside them.
-pub const NOTHING_MORE: Telling = Telling {
+pub const NOTHING_MORE: Verbosity = Verbosity {
     verbose: false,
     strict: false,
 };
