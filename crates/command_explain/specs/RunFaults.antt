@@ -1,173 +1,138 @@
 -- The faults that end a run: which of them a word names, and its explanation.
-use Rattle.std.specs.Prelude.{ℕ, List, ◌++◌, Bool, Option, codes, find}
+use Rattle.std.specs.Prelude.{◌≢◌, ℕ, List, [], ◌++◌, Bool, Option, None, Some, codes, decimal, find}
 use Rattle.std.specs.Str.{str_eq_ignore_ascii_case}
+use Rattle.ipfix_message.specs.declared.fault.MessageFault.TheVariants.{OutOfMemory}
+use Rattle.flow_plan.specs.Faults as of_texts
+use Rattle.flow_plan.specs.declared.fault.PlanTextFault.TheVariants as texts
+use Rattle.flow_table.specs.PlanFaults as of_plans
+use Rattle.flow_table.specs.declared.plan_fault.PlanFault.TheVariants as plans
+use Rattle.element_registry.specs.Faults as of_elements
+use Rattle.element_registry.specs.declared.fault.ElementsFault.TheVariants as elements
+use Rattle.flow_collect.specs.Faults as of_collects
+use Rattle.flow_collect.specs.declared.fault.CollectFault.TheVariants as collects
+use Rattle.flow_merge.specs.MergeFaults as of_merges
+use Rattle.flow_merge.specs.declared.merge_fault.MergeFault.TheVariants as merges
+use Rattle.flow_merge.specs.RowFaults as of_rows
+use Rattle.flow_merge.specs.declared.row_fault.RowFault.TheVariants as rows
+use Rattle.flow_export.specs.Faults as of_exports
+use Rattle.flow_export.specs.declared.fault.ExportFault.TheVariants as exports
+use Rattle.ipfix_dump.specs.Faults as of_dumps
+use Rattle.ipfix_dump.specs.declared.fault.DumpFault.TheVariants as dumps
+use Rattle.element_registry.specs.declared.fault.Heading.TheVariants as headings
+use Rattle.ipfix_session.specs.declared.fault.SessionFault.TheVariants as sessions
 use Rattle.command_explain.specs.declared.run_faults.RunFault.{RunFault}
-use Rattle.command_explain.specs.declared.run_faults.RunFault.TheVariants.{NotToml, UnknownField, Missing, WrongKind, UnknownElement, Plan, Length, Spread, KeyCount, KeyKind, Prefix, CounterCount, CounterKind, Repeated, NotCsv, Column, Number, Enterprise, Name, NumberTwice, NameTwice, TooMany, Workers, Sessions, Link, NoThread, SumTooLarge, Session, NotAnExport, Lost, Row, Template, Fields, Interval, Flows, WriteFailed, TooManyRows}
+use Rattle.command_explain.specs.declared.run_faults.RunFault.TheVariants.{PlanText, Plan, Elements, Collect, Merge, Row, Export, Dump}
 use Rattle.command_explain.specs.declared.run_faults.TheConstants.{RUN_FAULTS}
+use Rattle.command_explain.specs.Guide.{texts_of_message}
 
--- its name
-abbrev pub run_name : RunFault → List ℕ
-run_name NotToml = codes "NotToml"
-run_name UnknownField = codes "UnknownField"
-run_name Missing = codes "Missing"
-run_name WrongKind = codes "WrongKind"
-run_name UnknownElement = codes "UnknownElement"
-run_name Plan = codes "Plan"
-run_name Length = codes "Length"
-run_name Spread = codes "Spread"
-run_name KeyCount = codes "KeyCount"
-run_name KeyKind = codes "KeyKind"
-run_name Prefix = codes "Prefix"
-run_name CounterCount = codes "CounterCount"
-run_name CounterKind = codes "CounterKind"
-run_name Repeated = codes "Repeated"
-run_name NotCsv = codes "NotCsv"
-run_name Column = codes "Column"
-run_name Number = codes "Number"
-run_name Enterprise = codes "Enterprise"
-run_name Name = codes "Name"
-run_name NumberTwice = codes "NumberTwice"
-run_name NameTwice = codes "NameTwice"
-run_name TooMany = codes "TooMany"
-run_name Workers = codes "Workers"
-run_name Sessions = codes "Sessions"
-run_name Link = codes "Link"
-run_name NoThread = codes "NoThread"
-run_name SumTooLarge = codes "SumTooLarge"
-run_name Session = codes "Session"
-run_name NotAnExport = codes "NotAnExport"
-run_name Lost = codes "Lost"
-run_name Row = codes "Row"
-run_name Template = codes "Template"
-run_name Fields = codes "Fields"
-run_name Interval = codes "Interval"
-run_name Flows = codes "Flows"
-run_name WriteFailed = codes "WriteFailed"
-run_name TooManyRows = codes "TooManyRows"
+-- the name that its enum gives it
+abbrev pub name_of : RunFault → List ℕ
+name_of (PlanText fault) = of_texts.name_of fault
+name_of (Plan fault) = of_plans.name_of fault
+name_of (Elements fault) = of_elements.name_of fault
+name_of (Collect fault) = of_collects.name_of fault
+name_of (Merge fault) = of_merges.name_of fault
+name_of (Row fault) = of_rows.name_of fault
+name_of (Export fault) = of_exports.name_of fault
+name_of (Dump fault) = of_dumps.name_of fault
 
--- how the lines begin that have it
-abbrev pub run_place : RunFault → List ℕ
-run_place NotToml = codes "plan: fault 1"
-run_place UnknownField = codes "plan: fault 2"
-run_place Missing = codes "plan: fault 3"
-run_place WrongKind = codes "plan: fault 4"
-run_place UnknownElement = codes "plan: fault 5"
-run_place Plan = codes "plan: fault 6"
-run_place Length = codes "plan: fault 6 Plan: fault 1"
-run_place Spread = codes "plan: fault 6 Plan: fault 2"
-run_place KeyCount = codes "plan: fault 6 Plan: fault 3"
-run_place KeyKind = codes "plan: fault 6 Plan: fault 4"
-run_place Prefix = codes "plan: fault 6 Plan: fault 9; merge: fault 6 Row: fault 5"
-run_place CounterCount = codes "plan: fault 6 Plan: fault 5"
-run_place CounterKind = codes "plan: fault 6 Plan: fault 6"
-run_place Repeated = codes "plan: fault 6 Plan: fault 7"
-run_place NotCsv = codes "elements: fault 2"
-run_place Column = codes "elements: fault 3"
-run_place Number = codes "elements: fault 4"
-run_place Enterprise = codes "elements: fault 5"
-run_place Name = codes "elements: fault 6"
-run_place NumberTwice = codes "elements: fault 7"
-run_place NameTwice = codes "elements: fault 8"
-run_place TooMany = codes "elements: fault 9"
-run_place Workers = codes "collect: fault 1"
-run_place Sessions = codes "collect: fault 2"
-run_place Link = codes "collect: fault 3"
-run_place NoThread = codes "collect: fault 4"
-run_place SumTooLarge = codes "collect: fault 6; merge: fault 2"
-run_place Session = codes "merge: fault 3"
-run_place NotAnExport = codes "merge: fault 4"
-run_place Lost = codes "merge: fault 5"
-run_place Row = codes "merge: fault 6"
-run_place Template = codes "merge: fault 6 Row: fault 2"
-run_place Fields = codes "merge: fault 6 Row: fault 3"
-run_place Interval = codes "merge: fault 6 Row: fault 4"
-run_place Flows = codes "merge: fault 6 Row: fault 6"
-run_place WriteFailed = codes "export: fault 2; dump: fault 2; explain: fault 2"
-run_place TooManyRows = codes "export: fault 3"
+-- how the lines of a family begin that have a fault of this number
+unfoldable pub place : List ℕ → ℕ → List ℕ
+place family number = family ++ (codes ": fault " ++ decimal number)
 
--- what was found
-abbrev pub run_found : RunFault → List ℕ
-run_found NotToml = codes "the file is no TOML document"
-run_found UnknownField = codes "the file has a key that no plan has"
-run_found Missing = codes "a key of the plan is missing"
-run_found WrongKind = codes "the value of a key has another type, or is out of range"
-run_found UnknownElement = codes "no element has this name"
-run_found Plan = codes "the values make no plan"
-run_found Length = codes "the length of an interval is 0"
-run_found Spread = codes "max_spread is not 1 to 4096"
-run_found KeyCount = codes "more than 8 keys"
-run_found KeyKind = codes "a key is no number and no address"
-run_found Prefix = codes "a key with a prefix that it can't have, or an address with bits behind its prefix"
-run_found CounterCount = codes "no counter, or more than 4"
-run_found CounterKind = codes "a counter that is not added up"
-run_found Repeated = codes "an element twice among keys and counters"
-run_found NotCsv = codes "a row has more or fewer fields than the first line"
-run_found Column = codes "the first line lacks a column"
-run_found Number = codes "the number is not decimal, or above 32767"
-run_found Enterprise = codes "the enterprise is not decimal, or above 4294967295"
-run_found Name = codes "the name is not a letter and then letters, digits, _ and -, 64 in all"
-run_found NumberTwice = codes "an earlier row has the element"
-run_found NameTwice = codes "another element has the name"
-run_found TooMany = codes "there are more elements than 16384"
-run_found Workers = codes "--workers is not 1 to 16"
-run_found Sessions = codes "more than 64 sessions"
-run_found Link = codes "--ring is not 1 to 65536"
-run_found NoThread = codes "a thread could not be started"
-run_found SumTooLarge = codes "a sum or a count would be 2^64 or more"
-run_found Session = codes "a file is damaged or cut"
-run_found NotAnExport = codes "a file is no table of this program"
-run_found Lost = codes "rows of a file are missing, or come twice"
-run_found Row = codes "a record of a file is no row under the plan"
-run_found Template = codes "a record has another template than the rows of tables"
-run_found Fields = codes "a row has other keys or counters than the plan"
-run_found Interval = codes "a row has another interval than the plan"
-run_found Flows = codes "a row has no flow"
-run_found WriteFailed = codes "standard output could not be written"
-run_found TooManyRows = codes "2^32 rows or more, too many for IPFIX"
+-- the same of each fault; one that stands within another has the number and the name of that first
+abbrev pub place_of : RunFault → List ℕ
+place_of (PlanText fault) = place (codes "plan") (of_texts.number_of fault)
+place_of (Plan fault) = place (codes "plan") (of_texts.number_of (texts.Plan fault)) ++ (codes " " ++ place (of_texts.name_of (texts.Plan fault)) (of_plans.number_of fault))
+place_of (Elements fault) = place (codes "elements") (of_elements.number_of fault)
+place_of (Collect fault) = place (codes "collect") (of_collects.number_of fault)
+place_of (Merge fault) = place (codes "merge") (of_merges.number_of fault)
+place_of (Row fault) = place (codes "merge") (of_merges.number_of (merges.Row fault)) ++ (codes " " ++ place (of_merges.name_of (merges.Row fault)) (of_rows.number_of fault))
+place_of (Export fault) = place (codes "export") (of_exports.number_of fault)
+place_of (Dump fault) = place (codes "dump") (of_dumps.number_of fault) ++ (codes "; " ++ place (codes "explain") (of_dumps.number_of fault))
 
--- what an operator does about it
-abbrev pub run_advice : RunFault → List ℕ
-run_advice NotToml = codes "The next line on standard error says in which line of the file, counted from 1."
-run_advice UnknownField = codes "The keys are interval_ms, method, max_spread, keys and counters. Remove any other."
-run_advice Missing = codes "interval_ms, method, keys and counters are required; max_spread is not."
-run_advice WrongKind = codes "Numbers have no quotation marks, method is a text, keys and counters are arrays of texts."
-run_advice UnknownElement = codes "`collectd elements` lists the names. Their case matters, and only keys have prefixes."
-run_advice Plan = codes "The same line names a second fault. Look for that one."
-run_advice Length = codes "Let interval_ms be 1 or more, as 60000 for a minute."
-run_advice Spread = codes "Take a number of that range, or leave max_spread out."
-run_advice KeyCount = codes "Leave some of them out."
-run_advice KeyKind = codes "`collectd elements` marks those that can, with --elements also those that files name.\nTimes and octets can't be keys, nor can elements that have no type. Leave it out."
-run_advice Prefix = codes "A prefix is 0 to 32 bits of an IPv4 address. Merge tables that have the same prefixes."
-run_advice CounterCount = codes "Name 1 to 4 counters. Make a second table for more."
-run_advice CounterKind = codes "Counters are octetDeltaCount, packetDeltaCount, deltaFlowCount, postOctetDeltaCount,\npostPacketDeltaCount, droppedOctetDeltaCount and droppedPacketDeltaCount; with --elements\nalso the delta counters of files. Totals are none: flows would be counted twice."
-run_advice Repeated = codes "Leave one of them out. An address with a prefix counts as the element of prefixes, too."
-run_advice NotCsv = codes "The next line on standard error says in which line of the file the row begins."
-run_advice Column = codes "The first line has ElementID, Name and Abstract Data Type, as that of IANA's file."
-run_advice Number = codes "Write the element's number without its enterprise bit."
-run_advice Enterprise = codes "Write the enterprise's number, or nothing for an element of IANA."
-run_advice Name = codes "Give the element another name; start, end and flows are taken, too."
-run_advice NumberTwice = codes "Leave one of the two rows out, also where they stand in two files."
-run_advice NameTwice = codes "Give one of the two another name; those that are built in are taken, too."
-run_advice TooMany = codes "Leave out those that no exporter sends."
-run_advice Workers = codes "Take no more than there are sessions or processors."
-run_advice Sessions = codes "Give up to 64 files to a run, and merge the tables of several runs."
-run_advice Link = codes "Leave it out, or take 1024."
-run_advice NoThread = codes "Allow the process more threads or memory, or take fewer sessions and workers."
-run_advice SumTooLarge = codes "Take shorter intervals; or find the session that has such a counter, and leave it out\n(docs/RECIPES.md, A sum that is too large)."
-run_advice Session = codes "The same line names the fault of its session. Copy the file again, or make it again."
-run_advice NotAnExport = codes "Merge files that were written with --format ipfix."
-run_advice Lost = codes "The file was damaged on its way. Copy it again, or make it again."
-run_advice Row = codes "The same line names a second fault. Look for that one."
-run_advice Template = codes "Merge files that were written with --format ipfix."
-run_advice Fields = codes "Give all runs, and the merge, the same plan."
-run_advice Interval = codes "Give all runs, and the merge, the same plan."
-run_advice Flows = codes "Merge files that were written with --format ipfix, and not changed since."
-run_advice WriteFailed = codes "Look for a full disk, or for a pipe whose reader has ended. What was written is not whole."
-run_advice TooManyRows = codes "Write the table as CSV or JSON, or take longer intervals or fewer keys."
+-- the fault of another family that has its name, and is explained with it
+abbrev pub namesake : RunFault → Option RunFault
+namesake (Plan plans.Prefix) = Some (Row rows.Prefix)
+namesake (Collect collects.SumTooLarge) = Some (Merge merges.SumTooLarge)
+namesake (Export exports.WriteFailed) = Some (Dump dumps.WriteFailed)
+namesake fault = None
+
+abbrev pub further_places : Option RunFault → List ℕ
+further_places None = []
+further_places (Some fault) = codes "; " ++ place_of fault
+
+-- the fault of the list with which it is explained
+abbrev pub listed_of : RunFault → RunFault
+listed_of (PlanText (texts.Plan _)) = PlanText (texts.Plan plans.Length)
+listed_of (Elements (elements.Column _)) = Elements (elements.Column headings.Number)
+listed_of (Merge (merges.Session _)) = Merge (merges.Session sessions.Truncated)
+listed_of (Merge (merges.Row _)) = Merge (merges.Row rows.Template)
+listed_of (Merge merges.SumTooLarge) = Collect collects.SumTooLarge
+listed_of (Row rows.Prefix) = Plan plans.Prefix
+listed_of (Dump dumps.WriteFailed) = Export exports.WriteFailed
+listed_of fault = fault
+
+-- all are but that memory was refused, which is explained as a session's fault
+abbrev pub IsListed : RunFault → Type 0
+IsListed fault = name_of fault ≢ codes "OutOfMemory"
+
+-- what was found, and what an operator does about it
+pub record Words : Type 0 where
+  pub found : List ℕ
+  pub advice : List ℕ
+
+abbrev pub words : List ℕ → List ℕ → Words
+words found advice = record { found = found; advice = advice }
+
+-- those of a fault of the list; that memory was refused has those of sessions
+abbrev pub words_of : RunFault → Words
+words_of (PlanText texts.NotToml) = words (codes "the file is no TOML document") (codes "The next line on standard error says in which line of the file, counted from 1.")
+words_of (PlanText texts.UnknownField) = words (codes "the file has a key that no plan has") (codes "The keys are interval_ms, method, max_spread, keys and counters. Remove any other.")
+words_of (PlanText texts.Missing) = words (codes "a key of the plan is missing") (codes "interval_ms, method, keys and counters are required; max_spread is not.")
+words_of (PlanText texts.WrongKind) = words (codes "the value of a key has another type, or is out of range") (codes "Numbers have no quotation marks, method is a text, keys and counters are arrays of texts.")
+words_of (PlanText texts.UnknownElement) = words (codes "no element has this name") (codes "`collectd elements` lists the names. Their case matters, and only keys have prefixes.")
+words_of (PlanText (texts.Plan _)) = words (codes "the values make no plan") (codes "The same line names a second fault. Look for that one.")
+words_of (Plan plans.Length) = words (codes "the length of an interval is 0") (codes "Let interval_ms be 1 or more, as 60000 for a minute.")
+words_of (Plan plans.Spread) = words (codes "max_spread is not 1 to 4096") (codes "Take a number of that range, or leave max_spread out.")
+words_of (Plan plans.KeyCount) = words (codes "more than 8 keys") (codes "Leave some of them out.")
+words_of (Plan plans.KeyKind) = words (codes "a key is no number and no address") (codes "`collectd elements` marks those that can, with --elements also those that files name.\nTimes and octets can't be keys, nor can elements that have no type. Leave it out.")
+words_of (Plan plans.Prefix) = words (codes "a key with a prefix that it can't have, or an address with bits behind its prefix") (codes "A prefix is 0 to 32 bits of an IPv4 address. Merge tables that have the same prefixes.")
+words_of (Plan plans.CounterCount) = words (codes "no counter, or more than 4") (codes "Name 1 to 4 counters. Make a second table for more.")
+words_of (Plan plans.CounterKind) = words (codes "a counter that is not added up") (codes "Counters are octetDeltaCount, packetDeltaCount, deltaFlowCount, postOctetDeltaCount,\npostPacketDeltaCount, droppedOctetDeltaCount and droppedPacketDeltaCount; with --elements\nalso the delta counters of files. Totals are none: flows would be counted twice.")
+words_of (Plan plans.Repeated) = words (codes "an element twice among keys and counters") (codes "Leave one of them out. An address with a prefix counts as the element of prefixes, too.")
+words_of (Elements elements.NotCsv) = words (codes "a row has more or fewer fields than the first line") (codes "The next line on standard error says in which line of the file the row begins.")
+words_of (Elements (elements.Column _)) = words (codes "the first line lacks a column") (codes "The first line has ElementID, Name and Abstract Data Type, as that of IANA's file.")
+words_of (Elements elements.Number) = words (codes "the number is not decimal, or above 32767") (codes "Write the element's number without its enterprise bit.")
+words_of (Elements elements.Enterprise) = words (codes "the enterprise is not decimal, or above 4294967295") (codes "Write the enterprise's number, or nothing for an element of IANA.")
+words_of (Elements elements.Name) = words (codes "the name is not a letter and then letters, digits, _ and -, 64 in all") (codes "Give the element another name; start, end and flows are taken, too.")
+words_of (Elements elements.NumberTwice) = words (codes "an earlier row has the element") (codes "Leave one of the two rows out, also where they stand in two files.")
+words_of (Elements elements.NameTwice) = words (codes "another element has the name") (codes "Give one of the two another name; those that are built in are taken, too.")
+words_of (Elements elements.TooMany) = words (codes "there are more elements than 16384") (codes "Leave out those that no exporter sends.")
+words_of (Collect collects.Workers) = words (codes "--workers is not 1 to 16") (codes "Take no more than there are sessions or processors.")
+words_of (Collect collects.Sessions) = words (codes "more than 64 sessions") (codes "Give up to 64 files to a run, and merge the tables of several runs.")
+words_of (Collect collects.Link) = words (codes "--ring is not 1 to 65536") (codes "Leave it out, or take 1024.")
+words_of (Collect collects.NoThread) = words (codes "a thread could not be started") (codes "Allow the process more threads or memory, or take fewer sessions and workers.")
+words_of (Collect collects.SumTooLarge) = words (codes "a sum or a count would be 2^64 or more") (codes "Take shorter intervals; or find the session that has such a counter, and leave it out\n(docs/RECIPES.md, A sum that is too large).")
+words_of (Merge (merges.Session _)) = words (codes "a file is damaged or cut") (codes "The same line names the fault of its session. Copy the file again, or make it again.")
+words_of (Merge merges.NotAnExport) = words (codes "a file is no table of this program") (codes "Merge files that were written with --format ipfix.")
+words_of (Merge merges.Lost) = words (codes "rows of a file are missing, or come twice") (codes "The file was damaged on its way. Copy it again, or make it again.")
+words_of (Merge (merges.Row _)) = words (codes "a record of a file is no row under the plan") (codes "The same line names a second fault. Look for that one.")
+words_of (Row rows.Template) = words (codes "a record has another template than the rows of tables") (codes "Merge files that were written with --format ipfix.")
+words_of (Row rows.Fields) = words (codes "a row has other keys or counters than the plan") (codes "Give all runs, and the merge, the same plan.")
+words_of (Row rows.Interval) = words (codes "a row has another interval than the plan") (codes "Give all runs, and the merge, the same plan.")
+words_of (Row rows.Flows) = words (codes "a row has no flow") (codes "Merge files that were written with --format ipfix, and not changed since.")
+words_of (Export exports.WriteFailed) = words (codes "standard output could not be written") (codes "Look for a full disk, or for a pipe whose reader has ended. What was written is not whole.")
+words_of (Export exports.TooManyRows) = words (codes "2^32 rows or more, too many for IPFIX") (codes "Write the table as CSV or JSON, or take longer intervals or fewer keys.")
+words_of fault = words (texts_of_message OutOfMemory).found (texts_of_message OutOfMemory).advice
+
+-- those of each fault
+abbrev pub guide_of : RunFault → Words
+guide_of fault = words_of (listed_of fault)
 
 -- a word is the fault's name, in any letter case
 abbrev pub names_run_fault : List ℕ → RunFault → Bool
-names_run_fault word fault = str_eq_ignore_ascii_case word (run_name fault)
+names_run_fault word fault = str_eq_ignore_ascii_case word (name_of fault)
 
 -- the fault that a word names
 unfoldable pub run_fault_of : List ℕ → Option RunFault
@@ -175,11 +140,11 @@ run_fault_of word = find (names_run_fault word) RUN_FAULTS
 
 -- a fault's name, the lines that have it, and what was found
 unfoldable pub run_fault_line : RunFault → List ℕ
-run_fault_line fault = run_name fault ++ (codes " (" ++ (run_place fault ++ (codes "): " ++ (run_found fault ++ codes "\n"))))
+run_fault_line fault = name_of fault ++ (codes " (" ++ (place_of fault ++ (further_places (namesake fault) ++ (codes "): " ++ ((guide_of fault).found ++ codes "\n")))))
 
 -- then what to do about it
 unfoldable pub advice_lines : RunFault → List ℕ
-advice_lines fault = run_advice fault ++ codes "\n"
+advice_lines fault = (guide_of fault).advice ++ codes "\n"
 
 abbrev pub run_fault_text : RunFault → List ℕ
 run_fault_text fault = codes "fault " ++ (run_fault_line fault ++ advice_lines fault)

@@ -4,6 +4,7 @@ ghost use Rattle.std.specs.Prelude.{◌≡◌};
 ghost use Rattle.command_explain.specs.EndingFaults.{number_of, name_of};
 
 use ipfix_session::SessionFault;
+use recording_files::RecordFault;
 
 /// A fault that ends a session, or for which a datagram is refused.
 #[derive(Clone, Copy, Debug, PartialEq, Eq)]
@@ -23,7 +24,7 @@ impl EndingFault {
     {
         match self {
             EndingFault::Session(fault) => fault.number(),
-            EndingFault::NotWritten => 19,
+            EndingFault::NotWritten => RecordFault::NotWritten.number(),
             EndingFault::Withdrawal => 20,
         }
     }
@@ -34,7 +35,7 @@ impl EndingFault {
     {
         match self {
             EndingFault::Session(fault) => fault.name(),
-            EndingFault::NotWritten => "NotWritten",
+            EndingFault::NotWritten => RecordFault::NotWritten.name(),
             EndingFault::Withdrawal => "Withdrawal",
         }
     }

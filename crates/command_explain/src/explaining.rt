@@ -5,13 +5,16 @@ ghost use Rattle.std.specs.List.{flat_map};
 ghost use Rattle.std.specs.Option.{option_map};
 ghost use Rattle.std.specs.Io.KnownBytes.{Appends};
 ghost use Rattle.command_explain.specs.declared.ending_fault.EndingFault.{EndingFault};
-ghost use Rattle.command_explain.specs.Explained.{IsWordOf, answer, explanation_text, failed_line, fault_line, list_text, named, names, rule_lines};
+ghost use Rattle.command_explain.specs.Explained.{IsWordOf, answer, explanation_text, failed_line, fault_line, line_of_writing, list_text, named, names, rule_lines};
 
 use crate::ending_fault::EndingFault;
 use crate::faults::FAULTS;
 use crate::guide::Explanation;
-use crate::run_explaining::{explain_run_fault, run_fault_named, write_run_fault_lines};
+use crate::run_explaining::{
+    explain_run_fault, run_fault_named, write_number, write_run_fault_lines,
+};
 use crate::run_faults::RUN_FAULTS;
+use ipfix_dump::DumpFault;
 use itoa::Buffer;
 use report_writing::Status;
 use std::io::{self, Write};
@@ -144,9 +147,19 @@ fn status_of<E: Write>(written: io::Result<()>, err: &mut E) -> Status
     }
 }
 
-// The line of a fault of writing, which has this number and name wherever something is written.
+// The line that the explanation could not be written.
 fn write_failed<E: Write>(err: &mut E) -> io::Result<()>
     ensures { OnOk result (Appends (E.contents err.old) (E.contents err.new) failed_line) }
 {
-    writeln!(err, "collectd: explain: fault 2 WriteFailed")
+    write_fault_of_writing(DumpFault::WriteFailed, err)
+}
+
+#[tactic(auto, unfolding(crate::specs::Explained::line_of_writing))]
+fn write_fault_of_writing<E: Write>(fault: DumpFault, err: &mut E) -> io::Result<()>
+    ensures { OnOk result (Appends (E.contents err.old) (E.contents err.new)
+        (line_of_writing fault)) }
+{
+    write_number("collectd: explain", fault.number(), err)?;
+    let name = fault.name();
+    writeln!(err, " {name}")
 }

@@ -75,7 +75,8 @@ fn explanation_of_session(fault: SessionFault) -> Explanation
     }
 }
 
-fn explanation_of_message(fault: MessageFault) -> Explanation
+/// The explanation of a message's fault.
+pub fn explanation_of_message(fault: MessageFault) -> Explanation
     ensures found { result.found.now ≡ (texts_of_message fault).found }
     ensures rule { result.rule.now ≡ (texts_of_message fault).rule }
     ensures advice { result.advice.now ≡ (texts_of_message fault).advice }

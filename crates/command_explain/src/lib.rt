@@ -9,7 +9,6 @@ mod laws;
 mod run_explaining;
 mod run_faults;
 mod run_guide;
-mod run_names;
 
 pub use ending_fault::EndingFault;
 pub use explaining::{explain, fault_named, list_faults, run_explain};

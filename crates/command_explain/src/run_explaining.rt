@@ -1,19 +1,22 @@
 //! Finding a fault that ends a run, and writing its explanation.
 
-ghost use Rattle.std.specs.Prelude.{◌≡◌, find, Some, OnOk};
+ghost use Rattle.std.specs.Prelude.{◌≡◌, ◌++◌, find, Some, OnOk};
 ghost use Rattle.std.specs.List.{flat_map};
 ghost use Rattle.std.specs.Io.KnownBytes.{Appends};
 ghost use Rattle.command_explain.specs.declared.run_faults.RunFault.{RunFault};
 ghost use Rattle.command_explain.specs.Explained.{IsSameWord};
-ghost use Rattle.command_explain.specs.RunFaults.{advice_lines, names_run_fault, run_fault_line, run_fault_of, run_fault_text, run_name};
+ghost use Rattle.command_explain.specs.RunFaults.{IsListed, advice_lines, further_places, listed_of, name_of, names_run_fault, namesake, place, place_of, run_fault_line, run_fault_of, run_fault_text};
 
 use crate::run_faults::{RUN_FAULTS, RunFault};
+use flow_merge::MergeFault;
+use flow_plan::PlanTextFault;
 use std::io::{self, Write};
 
 /// The fault that a word names, of those that end a run: by its name in any letter case.
 pub fn run_fault_named(word: &str) -> Option<RunFault>
-    // Each fault is found.
-    ensures each { (fault : RunFault) → IsSameWord word.now (run_name fault) → result ≡ Some fault }
+    // Each fault of the enums is found, but OutOfMemory, which is a session's.
+    ensures each { (fault : RunFault) → IsListed fault → IsSameWord word.now (name_of fault)
+        → result ≡ Some (listed_of fault) }
     ensures exact { result ≡ run_fault_of word.now }
 {
     named_run_fault(word)
@@ -60,8 +63,61 @@ fn write_run_fault_line<W: Write>(fault: RunFault, out: &mut W) -> io::Result<()
     ensures { OnOk result (Appends (W.contents out.old) (W.contents out.new)
         (run_fault_line fault)) }
 {
-    let (name, place, found) = (fault.name(), fault.place(), fault.found());
-    writeln!(out, "{name} ({place}): {found}")
+    let (name, found) = (fault.name(), fault.found());
+    write!(out, "{name} (")?;
+    write_places(fault, out)?;
+    writeln!(out, "): {found}")
+}
+
+fn write_places<W: Write>(fault: RunFault, out: &mut W) -> io::Result<()>
+    ensures { OnOk result (Appends (W.contents out.old) (W.contents out.new)
+        (place_of fault ++ further_places (namesake fault))) }
+{
+    write_place(fault, out)?;
+    if let Some(fault) = fault.namesake() {
+        write!(out, "; ")?;
+        write_place(fault, out)?;
+    }
+    Ok(())
+}
+
+// Writes how the lines on standard error begin that have the fault, with its number there.
+fn write_place<W: Write>(fault: RunFault, out: &mut W) -> io::Result<()>
+    ensures { OnOk result (Appends (W.contents out.old) (W.contents out.new) (place_of fault)) }
+{
+    match fault {
+        RunFault::PlanText(fault) => write_number("plan", fault.number(), out),
+        RunFault::Plan(fault) => {
+            let outer = PlanTextFault::Plan(fault);
+            write_number("plan", outer.number(), out)?;
+            write!(out, " ")?;
+            write_number(outer.name(), fault.number(), out)
+        }
+        RunFault::Elements(fault) => write_number("elements", fault.number(), out),
+        RunFault::Collect(fault) => write_number("collect", fault.number(), out),
+        RunFault::Merge(fault) => write_number("merge", fault.number(), out),
+        RunFault::Row(fault) => {
+            let outer = MergeFault::Row(fault);
+            write_number("merge", outer.number(), out)?;
+            write!(out, " ")?;
+            write_number(outer.name(), fault.number(), out)
+        }
+        RunFault::Export(fault) => write_number("export", fault.number(), out),
+        RunFault::Dump(fault) => {
+            write_number("dump", fault.number(), out)?;
+            write!(out, "; ")?;
+            write_number("explain", fault.number(), out)
+        }
+    }
+}
+
+/// Writes how the lines of a family begin that have a fault of this number.
+#[tactic(auto, unfolding(crate::specs::RunFaults::place))]
+pub fn write_number<W: Write>(family: &str, number: u8, out: &mut W) -> io::Result<()>
+    ensures { OnOk result (Appends (W.contents out.old) (W.contents out.new)
+        (place family.now number)) }
+{
+    write!(out, "{family}: fault {number}")
 }
 
 #[tactic(auto, unfolding(crate::specs::RunFaults::advice_lines))]

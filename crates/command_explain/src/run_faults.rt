@@ -1,123 +1,111 @@
 //! The faults that end a run.
 
+ghost use Rattle.std.specs.Prelude.{◌≡◌};
+ghost use Rattle.command_explain.specs.RunFaults.{name_of, namesake as namesake_of};
+
+use element_registry::{ElementsFault, Heading};
+use flow_collect::CollectFault;
+use flow_export::ExportFault;
+use flow_merge::{MergeFault, RowFault};
+use flow_plan::PlanTextFault;
+use flow_table::PlanFault;
+use ipfix_dump::DumpFault;
+use ipfix_session::SessionFault;
+
 /// A fault of a plan, of a file of elements, of collecting, of merging or of writing, none of which is a
 /// session's.
 #[derive(Clone, Copy, Debug)]
 pub enum RunFault {
-    /// The file is no TOML document.
-    NotToml,
-    /// The file has a key that no plan has.
-    UnknownField,
-    /// A key of the plan is missing.
-    Missing,
-    /// The value of a key has another type, or is out of range.
-    WrongKind,
-    /// No element has this name.
-    UnknownElement,
-    /// The values make no plan.
-    Plan,
-    /// The length of an interval is 0.
-    Length,
-    /// Max_spread is not 1 to 4096.
-    Spread,
-    /// More than 8 keys.
-    KeyCount,
-    /// A key is no number and no address.
-    KeyKind,
-    /// A key with a prefix that it can't have, or an address with bits behind its prefix.
-    Prefix,
-    /// No counter, or more than 4.
-    CounterCount,
-    /// A counter that is not added up.
-    CounterKind,
-    /// An element twice among keys and counters.
-    Repeated,
-    /// A row of a file of elements has more or fewer fields than the first line.
-    NotCsv,
-    /// The first line of a file of elements lacks a column.
-    Column,
-    /// The number of an element is not decimal, or above 32767.
-    Number,
-    /// An enterprise is not decimal, or above 4294967295.
-    Enterprise,
-    /// The name of an element has another form than names have.
-    Name,
-    /// Two rows have one element.
-    NumberTwice,
-    /// Two elements have one name.
-    NameTwice,
-    /// There are more elements than 16384.
-    TooMany,
-    /// `--workers` is not 1 to 16.
-    Workers,
-    /// More than 64 sessions.
-    Sessions,
-    /// `--ring` is not 1 to 65536.
-    Link,
-    /// A thread could not be started.
-    NoThread,
-    /// A sum or a count would be 2^64 or more.
-    SumTooLarge,
-    /// A file is damaged or cut.
-    Session,
-    /// A file is no table of this program.
-    NotAnExport,
-    /// Rows of a file are missing, or come twice.
-    Lost,
-    /// A record of a file is no row under the plan.
-    Row,
-    /// A record has another template than the rows of tables.
-    Template,
-    /// A row has other keys or counters than the plan.
-    Fields,
-    /// A row has another interval than the plan.
-    Interval,
-    /// A row has no flow.
-    Flows,
-    /// Standard output could not be written.
-    WriteFailed,
-    /// 2^32 rows or more, too many for IPFIX.
-    TooManyRows,
+    /// A text is no plan.
+    PlanText(PlanTextFault),
+    /// The values of such a text make no plan.
+    Plan(PlanFault),
+    /// A file says no elements.
+    Elements(ElementsFault),
+    /// Nothing was collected.
+    Collect(CollectFault),
+    /// A file was not merged.
+    Merge(MergeFault),
+    /// A record of such a file is no row.
+    Row(RowFault),
+    /// A table was not written.
+    Export(ExportFault),
+    /// A dump or an explanation was not written.
+    Dump(DumpFault),
 }
 
-/// Each of them, in the order of the lines that have them. OutOfMemory is a session's fault, too,
-/// and so is not among them.
+impl RunFault {
+    /// Its name, which faults of several families may have.
+    pub fn name(&self) -> &'static str
+        ensures { result.now ≡ name_of self.now }
+    {
+        match self {
+            RunFault::PlanText(fault) => fault.name(),
+            RunFault::Plan(fault) => fault.name(),
+            RunFault::Elements(fault) => fault.name(),
+            RunFault::Collect(fault) => fault.name(),
+            RunFault::Merge(fault) => fault.name(),
+            RunFault::Row(fault) => fault.name(),
+            RunFault::Export(fault) => fault.name(),
+            RunFault::Dump(fault) => fault.name(),
+        }
+    }
+
+    /// The fault of another family that has its name, and is explained with it.
+    pub fn namesake(&self) -> Option<RunFault>
+        ensures { result ≡ namesake_of self.now }
+    {
+        match self {
+            RunFault::Plan(PlanFault::Prefix) => Some(RunFault::Row(RowFault::Prefix)),
+            RunFault::Collect(CollectFault::SumTooLarge) => {
+                Some(RunFault::Merge(MergeFault::SumTooLarge))
+            }
+            RunFault::Export(ExportFault::WriteFailed) => {
+                Some(RunFault::Dump(DumpFault::WriteFailed))
+            }
+            _ => None,
+        }
+    }
+}
+
+/// Each of them that is explained, in the order of the lines that have them. A fault within which there are
+/// others stands here with the first of them. OutOfMemory is a session's fault, too, and so is not among them.
 pub const RUN_FAULTS: [RunFault; 37] = [
-    RunFault::NotToml,
-    RunFault::UnknownField,
-    RunFault::Missing,
-    RunFault::WrongKind,
-    RunFault::UnknownElement,
-    RunFault::Plan,
-    RunFault::Length,
-    RunFault::Spread,
-    RunFault::KeyCount,
-    RunFault::KeyKind,
-    RunFault::Prefix,
-    RunFault::CounterCount,
-    RunFault::CounterKind,
-    RunFault::Repeated,
-    RunFault::NotCsv,
-    RunFault::Column,
-    RunFault::Number,
-    RunFault::Enterprise,
-    RunFault::Name,
-    RunFault::NumberTwice,
-    RunFault::NameTwice,
-    RunFault::TooMany,
-    RunFault::Workers,
-    RunFault::Sessions,
-    RunFault::Link,
-    RunFault::NoThread,
-    RunFault::SumTooLarge,
-    RunFault::Session,
-    RunFault::NotAnExport,
-    RunFault::Lost,
-    RunFault::Row,
-    RunFault::Template,
-    RunFault::Fields,
-    RunFault::Interval,
-    RunFault::Flows,
-    RunFault::WriteFailed,
-    RunFault::TooManyRows,
+    RunFault::PlanText(PlanTextFault::NotToml),
+    RunFault::PlanText(PlanTextFault::UnknownField),
+    RunFault::PlanText(PlanTextFault::Missing),
+    RunFault::PlanText(PlanTextFault::WrongKind),
+    RunFault::PlanText(PlanTextFault::UnknownElement),
+    RunFault::PlanText(PlanTextFault::Plan(PlanFault::Length)),
+    RunFault::Plan(PlanFault::Length),
+    RunFault::Plan(PlanFault::Spread),
+    RunFault::Plan(PlanFault::KeyCount),
+    RunFault::Plan(PlanFault::KeyKind),
+    RunFault::Plan(PlanFault::Prefix),
+    RunFault::Plan(PlanFault::CounterCount),
+    RunFault::Plan(PlanFault::CounterKind),
+    RunFault::Plan(PlanFault::Repeated),
+    RunFault::Elements(ElementsFault::NotCsv),
+    RunFault::Elements(ElementsFault::Column(Heading::Number)),
+    RunFault::Elements(ElementsFault::Number),
+    RunFault::Elements(ElementsFault::Enterprise),
+    RunFault::Elements(ElementsFault::Name),
+    RunFault::Elements(ElementsFault::NumberTwice),
+    RunFault::Elements(ElementsFault::NameTwice),
+    RunFault::Elements(ElementsFault::TooMany),
+    RunFault::Collect(CollectFault::Workers),
+    RunFault::Collect(CollectFault::Sessions),
+    RunFault::Collect(CollectFault::Link),
+    RunFault::Collect(CollectFault::NoThread),
+    RunFault::Collect(CollectFault::SumTooLarge),
+    RunFault::Merge(MergeFault::Session(SessionFault::Truncated)),
+    RunFault::Merge(MergeFault::NotAnExport),
+    RunFault::Merge(MergeFault::Lost),
+    RunFault::Merge(MergeFault::Row(RowFault::Template)),
+    RunFault::Row(RowFault::Template),
+    RunFault::Row(RowFault::Fields),
+    RunFault::Row(RowFault::Interval),
+    RunFault::Row(RowFault::Flows),
+    RunFault::Export(ExportFault::WriteFailed),
+    RunFault::Export(ExportFault::TooManyRows),
 ];

@@ -1,125 +1,164 @@
 //! The explanation of each fault that ends a run.
 
 ghost use Rattle.std.specs.Prelude.{◌≡◌};
-ghost use Rattle.command_explain.specs.RunFaults.{run_found, run_advice};
+ghost use Rattle.command_explain.specs.RunFaults.{guide_of};
 
-use crate::run_faults::RunFault;
+use crate::guide::explanation_of_message;
+use crate::run_faults::RunFault::{
+    self, Collect, Dump, Elements, Export, Merge, Plan, PlanText, Row,
+};
+use element_registry::ElementsFault;
+use flow_collect::CollectFault;
+use flow_export::ExportFault;
+use flow_merge::{MergeFault, RowFault};
+use flow_plan::PlanTextFault;
+use flow_table::PlanFault;
+use ipfix_dump::DumpFault;
+use ipfix_message::MessageFault;
 
 impl RunFault {
     /// What was found, without a capital letter and a full stop.
     pub fn found(self) -> &'static str
-        ensures { result.now ≡ run_found self }
+        ensures { result.now ≡ (guide_of self).found }
     {
         match self {
-            RunFault::NotToml => "the file is no TOML document",
-            RunFault::UnknownField => "the file has a key that no plan has",
-            RunFault::Missing => "a key of the plan is missing",
-            RunFault::WrongKind => "the value of a key has another type, or is out of range",
-            RunFault::UnknownElement => "no element has this name",
-            RunFault::Plan => "the values make no plan",
-            RunFault::Length => "the length of an interval is 0",
-            RunFault::Spread => "max_spread is not 1 to 4096",
-            RunFault::KeyCount => "more than 8 keys",
-            RunFault::KeyKind => "a key is no number and no address",
-            RunFault::Prefix =>
+            PlanText(PlanTextFault::NotToml) => "the file is no TOML document",
+            PlanText(PlanTextFault::UnknownField) => "the file has a key that no plan has",
+            PlanText(PlanTextFault::Missing) => "a key of the plan is missing",
+            PlanText(PlanTextFault::WrongKind) =>
+                "the value of a key has another type, or is out of range",
+            PlanText(PlanTextFault::UnknownElement) => "no element has this name",
+            PlanText(PlanTextFault::Plan(_)) => "the values make no plan",
+            Plan(PlanFault::Length) => "the length of an interval is 0",
+            Plan(PlanFault::Spread) => "max_spread is not 1 to 4096",
+            Plan(PlanFault::KeyCount) => "more than 8 keys",
+            Plan(PlanFault::KeyKind) => "a key is no number and no address",
+            Plan(PlanFault::Prefix) | Row(RowFault::Prefix) =>
                 "a key with a prefix that it can't have, or an address with bits behind its prefix",
-            RunFault::CounterCount => "no counter, or more than 4",
-            RunFault::CounterKind => "a counter that is not added up",
-            RunFault::Repeated => "an element twice among keys and counters",
-            RunFault::NotCsv => "a row has more or fewer fields than the first line",
-            RunFault::Column => "the first line lacks a column",
-            RunFault::Number => "the number is not decimal, or above 32767",
-            RunFault::Enterprise => "the enterprise is not decimal, or above 4294967295",
-            RunFault::Name =>
+            Plan(PlanFault::CounterCount) => "no counter, or more than 4",
+            Plan(PlanFault::CounterKind) => "a counter that is not added up",
+            Plan(PlanFault::Repeated) => "an element twice among keys and counters",
+            Elements(ElementsFault::NotCsv) => "a row has more or fewer fields than the first line",
+            Elements(ElementsFault::Column(_)) => "the first line lacks a column",
+            Elements(ElementsFault::Number) => "the number is not decimal, or above 32767",
+            Elements(ElementsFault::Enterprise) =>
+                "the enterprise is not decimal, or above 4294967295",
+            Elements(ElementsFault::Name) =>
                 "the name is not a letter and then letters, digits, _ and -, 64 in all",
-            RunFault::NumberTwice => "an earlier row has the element",
-            RunFault::NameTwice => "another element has the name",
-            RunFault::TooMany => "there are more elements than 16384",
-            RunFault::Workers => "--workers is not 1 to 16",
-            RunFault::Sessions => "more than 64 sessions",
-            RunFault::Link => "--ring is not 1 to 65536",
-            RunFault::NoThread => "a thread could not be started",
-            RunFault::SumTooLarge => "a sum or a count would be 2^64 or more",
-            RunFault::Session => "a file is damaged or cut",
-            RunFault::NotAnExport => "a file is no table of this program",
-            RunFault::Lost => "rows of a file are missing, or come twice",
-            RunFault::Row => "a record of a file is no row under the plan",
-            RunFault::Template => "a record has another template than the rows of tables",
-            RunFault::Fields => "a row has other keys or counters than the plan",
-            RunFault::Interval => "a row has another interval than the plan",
-            RunFault::Flows => "a row has no flow",
-            RunFault::WriteFailed => "standard output could not be written",
-            RunFault::TooManyRows => "2^32 rows or more, too many for IPFIX",
+            Elements(ElementsFault::NumberTwice) => "an earlier row has the element",
+            Elements(ElementsFault::NameTwice) => "another element has the name",
+            Elements(ElementsFault::TooMany) => "there are more elements than 16384",
+            Collect(CollectFault::Workers) => "--workers is not 1 to 16",
+            Collect(CollectFault::Sessions) => "more than 64 sessions",
+            Collect(CollectFault::Link) => "--ring is not 1 to 65536",
+            Collect(CollectFault::NoThread) => "a thread could not be started",
+            Collect(CollectFault::SumTooLarge) | Merge(MergeFault::SumTooLarge) =>
+                "a sum or a count would be 2^64 or more",
+            Merge(MergeFault::Session(_)) => "a file is damaged or cut",
+            Merge(MergeFault::NotAnExport) => "a file is no table of this program",
+            Merge(MergeFault::Lost) => "rows of a file are missing, or come twice",
+            Merge(MergeFault::Row(_)) => "a record of a file is no row under the plan",
+            Row(RowFault::Template) => "a record has another template than the rows of tables",
+            Row(RowFault::Fields) => "a row has other keys or counters than the plan",
+            Row(RowFault::Interval) => "a row has another interval than the plan",
+            Row(RowFault::Flows) => "a row has no flow",
+            Export(ExportFault::WriteFailed) | Dump(DumpFault::WriteFailed) =>
+                "standard output could not be written",
+            Export(ExportFault::TooManyRows) => "2^32 rows or more, too many for IPFIX",
+            PlanText(PlanTextFault::OutOfMemory)
+            | Plan(PlanFault::OutOfMemory)
+            | Elements(ElementsFault::OutOfMemory)
+            | Collect(CollectFault::OutOfMemory)
+            | Merge(MergeFault::OutOfMemory)
+            | Row(RowFault::OutOfMemory)
+            | Export(ExportFault::OutOfMemory)
+            | Dump(DumpFault::OutOfMemory) => explanation_of_message(
+                MessageFault::OutOfMemory,
+            ).found,
         }
     }
 
     /// What an operator does about it, in sentences. A line has at most 90 octets.
     pub fn advice(self) -> &'static str
-        ensures { result.now ≡ run_advice self }
+        ensures { result.now ≡ (guide_of self).advice }
     {
         match self {
-            RunFault::NotToml =>
+            PlanText(PlanTextFault::NotToml) =>
                 "The next line on standard error says in which line of the file, counted from 1.",
-            RunFault::UnknownField =>
+            PlanText(PlanTextFault::UnknownField) =>
                 "The keys are interval_ms, method, max_spread, keys and counters. Remove any other.",
-            RunFault::Missing =>
+            PlanText(PlanTextFault::Missing) =>
                 "interval_ms, method, keys and counters are required; max_spread is not.",
-            RunFault::WrongKind =>
+            PlanText(PlanTextFault::WrongKind) =>
                 "Numbers have no quotation marks, method is a text, keys and counters are arrays of texts.",
-            RunFault::UnknownElement =>
+            PlanText(PlanTextFault::UnknownElement) =>
                 "`collectd elements` lists the names. Their case matters, and only keys have prefixes.",
-            RunFault::Plan => "The same line names a second fault. Look for that one.",
-            RunFault::Length => "Let interval_ms be 1 or more, as 60000 for a minute.",
-            RunFault::Spread => "Take a number of that range, or leave max_spread out.",
-            RunFault::KeyCount => "Leave some of them out.",
-            RunFault::KeyKind =>
+            PlanText(PlanTextFault::Plan(_)) =>
+                "The same line names a second fault. Look for that one.",
+            Plan(PlanFault::Length) => "Let interval_ms be 1 or more, as 60000 for a minute.",
+            Plan(PlanFault::Spread) => "Take a number of that range, or leave max_spread out.",
+            Plan(PlanFault::KeyCount) => "Leave some of them out.",
+            Plan(PlanFault::KeyKind) =>
                 "`collectd elements` marks those that can, with --elements also those that files name.\n\
                 Times and octets can't be keys, nor can elements that have no type. Leave it out.",
-            RunFault::Prefix =>
+            Plan(PlanFault::Prefix) | Row(RowFault::Prefix) =>
                 "A prefix is 0 to 32 bits of an IPv4 address. Merge tables that have the same prefixes.",
-            RunFault::CounterCount => "Name 1 to 4 counters. Make a second table for more.",
-            RunFault::CounterKind =>
+            Plan(PlanFault::CounterCount) => "Name 1 to 4 counters. Make a second table for more.",
+            Plan(PlanFault::CounterKind) =>
                 "Counters are octetDeltaCount, packetDeltaCount, deltaFlowCount, postOctetDeltaCount,\n\
                 postPacketDeltaCount, droppedOctetDeltaCount and droppedPacketDeltaCount; with --elements\n\
                 also the delta counters of files. Totals are none: flows would be counted twice.",
-            RunFault::Repeated =>
+            Plan(PlanFault::Repeated) =>
                 "Leave one of them out. An address with a prefix counts as the element of prefixes, too.",
-            RunFault::NotCsv =>
+            Elements(ElementsFault::NotCsv) =>
                 "The next line on standard error says in which line of the file the row begins.",
-            RunFault::Column =>
+            Elements(ElementsFault::Column(_)) =>
                 "The first line has ElementID, Name and Abstract Data Type, as that of IANA's file.",
-            RunFault::Number => "Write the element's number without its enterprise bit.",
-            RunFault::Enterprise =>
+            Elements(ElementsFault::Number) =>
+                "Write the element's number without its enterprise bit.",
+            Elements(ElementsFault::Enterprise) =>
                 "Write the enterprise's number, or nothing for an element of IANA.",
-            RunFault::Name => "Give the element another name; start, end and flows are taken, too.",
-            RunFault::NumberTwice =>
+            Elements(ElementsFault::Name) =>
+                "Give the element another name; start, end and flows are taken, too.",
+            Elements(ElementsFault::NumberTwice) =>
                 "Leave one of the two rows out, also where they stand in two files.",
-            RunFault::NameTwice =>
+            Elements(ElementsFault::NameTwice) =>
                 "Give one of the two another name; those that are built in are taken, too.",
-            RunFault::TooMany => "Leave out those that no exporter sends.",
-            RunFault::Workers => "Take no more than there are sessions or processors.",
-            RunFault::Sessions =>
+            Elements(ElementsFault::TooMany) => "Leave out those that no exporter sends.",
+            Collect(CollectFault::Workers) => "Take no more than there are sessions or processors.",
+            Collect(CollectFault::Sessions) =>
                 "Give up to 64 files to a run, and merge the tables of several runs.",
-            RunFault::Link => "Leave it out, or take 1024.",
-            RunFault::NoThread =>
+            Collect(CollectFault::Link) => "Leave it out, or take 1024.",
+            Collect(CollectFault::NoThread) =>
                 "Allow the process more threads or memory, or take fewer sessions and workers.",
-            RunFault::SumTooLarge =>
+            Collect(CollectFault::SumTooLarge) | Merge(MergeFault::SumTooLarge) =>
                 "Take shorter intervals; or find the session that has such a counter, and leave it out\n\
                 (docs/RECIPES.md, A sum that is too large).",
-            RunFault::Session =>
+            Merge(MergeFault::Session(_)) =>
                 "The same line names the fault of its session. Copy the file again, or make it again.",
-            RunFault::NotAnExport => "Merge files that were written with --format ipfix.",
-            RunFault::Lost => "The file was damaged on its way. Copy it again, or make it again.",
-            RunFault::Row => "The same line names a second fault. Look for that one.",
-            RunFault::Template => "Merge files that were written with --format ipfix.",
-            RunFault::Fields => "Give all runs, and the merge, the same plan.",
-            RunFault::Interval => "Give all runs, and the merge, the same plan.",
-            RunFault::Flows =>
+            Merge(MergeFault::NotAnExport) => "Merge files that were written with --format ipfix.",
+            Merge(MergeFault::Lost) =>
+                "The file was damaged on its way. Copy it again, or make it again.",
+            Merge(MergeFault::Row(_)) => "The same line names a second fault. Look for that one.",
+            Row(RowFault::Template) => "Merge files that were written with --format ipfix.",
+            Row(RowFault::Fields) => "Give all runs, and the merge, the same plan.",
+            Row(RowFault::Interval) => "Give all runs, and the merge, the same plan.",
+            Row(RowFault::Flows) =>
                 "Merge files that were written with --format ipfix, and not changed since.",
-            RunFault::WriteFailed =>
+            Export(ExportFault::WriteFailed) | Dump(DumpFault::WriteFailed) =>
                 "Look for a full disk, or for a pipe whose reader has ended. What was written is not whole.",
-            RunFault::TooManyRows =>
+            Export(ExportFault::TooManyRows) =>
                 "Write the table as CSV or JSON, or take longer intervals or fewer keys.",
+            PlanText(PlanTextFault::OutOfMemory)
+            | Plan(PlanFault::OutOfMemory)
+            | Elements(ElementsFault::OutOfMemory)
+            | Collect(CollectFault::OutOfMemory)
+            | Merge(MergeFault::OutOfMemory)
+            | Row(RowFault::OutOfMemory)
+            | Export(ExportFault::OutOfMemory)
+            | Dump(DumpFault::OutOfMemory) => explanation_of_message(
+                MessageFault::OutOfMemory,
+            ).advice,
         }
     }
 }
