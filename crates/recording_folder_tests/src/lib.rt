@@ -3,4 +3,26 @@
 #![tactic(auto)]
 
 #[cfg(test)]
+mod apart;
+#[cfg(test)]
+mod folders;
+#[cfg(test)]
+mod kept_files;
+#[cfg(test)]
 mod names;
+#[cfg(test)]
+mod recovering;
+#[cfg(test)]
+mod refusals;
+#[cfg(test)]
+mod script_disk;
+#[cfg(test)]
+mod script_file;
+#[cfg(test)]
+mod script_tree;
+#[cfg(test)]
+mod sessions;
+#[cfg(test)]
+mod standing;
+#[cfg(test)]
+mod trial;

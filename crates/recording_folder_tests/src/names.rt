@@ -1,8 +1,7 @@
 //! The names in a folder, with values worked out by `date -u` and by hand.
 
-use recording_folder::{
-    period_name, period_of, read_unfinished_name, session_name, whole_messages,
-};
+use ipfix_session::whole_messages;
+use recording_folder::{period_name, period_of, read_unfinished_name, session_name};
 use std::net::{IpAddr, Ipv4Addr, Ipv6Addr, SocketAddr};
 
 #[test]
