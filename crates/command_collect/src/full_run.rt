@@ -29,7 +29,7 @@ use std::thread::Threads;
 
 /// Does as [`run`](crate::run), and tells more if `job.verbosity` asks for it: to `err` it writes the lines of the
 /// sessions in full, each with the origin that has the session's place. Keys and counters have the names that
-/// `job.elements` give them. If the verbosity is strict, the status is 1 also if anything shows that something which
+/// `job.elements` give them. If it is strict, the status is 1 also if anything shows that something which
 /// was sent isn't in the table ([`is_spotless`](report_sessions::is_spotless)).
 pub fn run_in_full<S: Source + Send + Drop, W: Write, E: WriteLines, R: Threads + Wait + Sync>(
     rt: &R,

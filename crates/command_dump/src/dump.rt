@@ -48,7 +48,7 @@ pub fn run_dump<S: Source, W: Write, E: WriteLines>(
 
 /// Reads files of elements, as [`load_elements`] does, and then does as [`run_dump`], in the form of the job,
 /// and with elements that are named and values that are read by these files. It tells more of the session if
-/// the job's verbosity asks for it, with the job's origin. If the verbosity is strict, the status is 1 also if
+/// the job's verbosity asks for it, with the job's origin. If that is strict, the status is 1 also if
 /// anything shows that something which was sent wasn't dumped
 /// ([`are_spotless`](report_sessions::are_spotless)). It is `NotOpened` if a file was not read: then nothing is read of
 /// the source, and nothing is written.

@@ -1,4 +1,4 @@
-//! Dumping a source to its end, and verbosity how it ended.
+//! Dumping a source to its end, and the status that says how it ended.
 
 ghost use Rattle.std.specs.Prelude.{◌≡◌, ◌⊎◌, ◌↔◌, [], ◌∷◌, IfOk, IsTrue};
 ghost use Rattle.ipfix_dump.specs.Dumped.{DumpsInFullBy, line_in};

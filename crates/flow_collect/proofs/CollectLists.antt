@@ -57,7 +57,7 @@ all_taken plan links (l ∷ shares) (w ∷ ws) e h =
     let P = IsNewShare plan links in
     All-cons (HasTaken plan) w ws (has_taken plan links l w e.0 (All-head P l shares h)) (all_taken plan links shares ws e.1 (All-tail P l shares h))
 
--- what is said of the link_ends' keys alone goes over to link_ends with the same keys
+-- what is said of the keys of ends of links alone goes over to ends of links with the same keys
 all_by_keys : (P : ℕ × LinkName → Type 0) (xs ys : List LinkEnd) → map link_end_key xs ≡ map link_end_key ys → All (λ (link_end : LinkEnd). P (link_end_key link_end)) ys → All (λ (link_end : LinkEnd). P (link_end_key link_end)) xs
 all_by_keys P [] ys e h = All-nil (λ (link_end : LinkEnd). P (link_end_key link_end))
 all_by_keys P (x ∷ xs) [] e h = cc e

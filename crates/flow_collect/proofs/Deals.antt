@@ -29,7 +29,7 @@ share_more plan links more share h =
       paired = All-weaker (IsPaired links) (IsPaired (links ++ more)) (λ link_end p. get_more links more link_end.session link_end.receiver.link p) share.link_ends.items h.paired;
     }
 
--- a share with one link_end more
+-- a share with one end of a link more
 share_on : (plan : PlanValue) (links : List LinkName) (first dealt : WorkerShare) (link_end : LinkEnd) → IsNewShare plan links first → dealt.partial ≡ first.partial → dealt.link_ends.items ≡ first.link_ends.items ++ link_end ∷ []
     → link_end.receiver.received ≡ [] → IsPaired links link_end → IsNewShare plan links dealt
 share_on plan links first dealt link_end h partial link_ends new paired =

@@ -16,7 +16,7 @@ use Rattle.flow_collect.specs.LinkEnds.{link_end_key, link_end_records, link_end
 use Rattle.flow_collect.specs.declared.worker.LinkEnd.{LinkEnd}
 use Rattle.flow_collect.specs.declared.worker.WorkerShare.{WorkerShare}
 
--- what was taken of one link_end joins what was taken in the round
+-- what was taken of one end of a link joins what was taken in the round
 pub rounds_on : (link_ends : List LinkEnd) (p : Partial) (mid : List LinkEnd) (q : Partial) (k : ℕ) (link_end link_end' : LinkEnd) (q' : Partial) → k < length mid → link_end ≡ get_or mid k link_end
     → RoundsInto link_ends p mid q → TakesInto link_end q link_end' q' → RoundsInto link_ends p (set mid k link_end') q'
 rounds_on link_ends p mid q k link_end link_end' q' in_range here r t =

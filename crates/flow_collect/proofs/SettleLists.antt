@@ -25,7 +25,7 @@ use Rattle.flow_collect.specs.declared.worker.WorkerShare.{WorkerShare}
 use Rattle.flow_collect.proofs.Deals.{at_seam}
 use Rattle.flow_collect.proofs.ZipLists.{each3_more}
 
--- the link_end at a session's place has that session's link
+-- the end at a session's place has that session's link
 pub paired_here : {S : Type 0} (all ts rest rest' : List (EndedSession S)) (t : EndedSession S) (number : ℕ) (link_end : LinkEnd)
     → all ≡ ts ++ rest → rest ≡ t ∷ rest' → number ≡ length ts → link_end.session ≡ number → IsPaired (map ended_link all) link_end → ended_link t ≡ link_end.receiver.link
 paired_here all ts rest rest' t number link_end e f n m p =
@@ -66,7 +66,7 @@ merged_halves ws low high n first second all front back a b link_ends plan merge
       plan_is = λ p taken. plan ∙ a.plan_is p (rw front (All-take (HasTaken p) n ws taken));
     }
 
--- the link_ends weigh what the settled links weigh
+-- the ends of links weigh what the settled links weigh
 pub links_weigh : {S : Type 0} (w : DataRecord → ℕ) (ts : List (EndedSession S)) (ls : List LinkEnd) (ks : List Settled)
     → Each3 SettlesEnds ts ls ks → sum_by (link_end_weight w) ls ≡ sum_by w (settled_records ks)
 links_weigh w [] [] [] e = refl

@@ -13,11 +13,11 @@ use Rattle.flow_collect.specs.declared.worker.WorkerShare.{WorkerShare}
 abbrev pub IsCapacity : ℕ → Type 0
 IsCapacity n = (0 < n) × (n ≤ MAX_CAPACITY)
 
--- the link_end's link is that of its session
+-- an end's link is that of its session
 abbrev pub IsPaired : List LinkName → LinkEnd → Type 0
 IsPaired links link_end = slice_get links link_end.session ≡ Some link_end.receiver.link
 
--- a share of the plan, unused, each link_end with the link of its session
+-- a share of the plan, unused, each end of a link with the link of its session
 pub record IsNewShare (plan : PlanValue) (links : List LinkName) (share : WorkerShare) : Type 0 where
   pub plan_is : plan_of share.partial ≡ plan
   pub unused : IsUnused share

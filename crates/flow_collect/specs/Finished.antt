@@ -20,7 +20,7 @@ use Rattle.flow_collect.specs.declared.session_thread.EndedSession.{EndedSession
 use Rattle.flow_collect.specs.declared.worker.LinkEnd.{LinkEnd}
 use Rattle.flow_collect.specs.declared.worker.WorkerShare.{WorkerShare}
 
--- a worker took Last of each of its link_ends, and has the table of all that came over them
+-- a worker took Last of each of its ends of links, and has the table of all that came over them
 pub record HasTaken (plan : PlanValue) (w : WorkerShare) : Type 0 where
   pub plan_is : plan_of w.partial ≡ plan
   pub ended : All IsEnded w.link_ends.items

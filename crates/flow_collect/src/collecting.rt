@@ -3,15 +3,15 @@
 //! ```text
 //! deal         makes of each source a Start: its number, the source, and its link's sender, unused;
 //!              makes for each link a LinkEnd: the session's number, and the receiver, unused;
-//!              makes for each worker a WorkerShare: its number, its link_ends, and the table of no records.
+//!              makes for each worker a WorkerShare: its number, its ends of links, and the table of no records.
 //!
 //! in_threads   gives each Start to a thread of its own, which hands back an EndedSession: the
 //!              source as it was left, the report, and the sender, with all records and then Last sent;
 //!              gives each WorkerShare to a thread of its own, which hands it back with Last taken from each
-//!              link_end, and the table of all records that came over them.
+//!              end, and the table of all records that came over them.
 //!              A thread that couldn't send or take all hands back nothing: the run has no answer.
 //!
-//! finish_all   makes of all shares one: the link_ends of all sessions, in order, and the table of all
+//! finish_all   makes of all shares one: the ends of all sessions' links, in order, and the table of all
 //!              records;
 //!              makes of each EndedSession and its LinkEnd a place in Parts: the report, the link, with
 //!              both ends settled, and the source;

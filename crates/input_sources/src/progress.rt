@@ -1,4 +1,4 @@
-//! Verbosity what a session has read, while it reads.
+//! What a session has read, written while it reads.
 
 ghost use Rattle.std.specs.Prelude.{◌≡◌, ◌≤◌, ◌<◌, ◌+◌, [], IsTrue, ◌↔◌, OnOk, IfSome, IfNone, option_map};
 ghost use Rattle.std.specs.Int.NonZero.{non_zero_u64_get};

@@ -5,3 +5,5 @@
 pub mod calling;
 #[cfg(test)]
 mod tests;
+#[cfg(test)]
+mod whole_messages;

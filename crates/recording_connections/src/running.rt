@@ -28,7 +28,7 @@ const PAUSE: u64 = 100;
 const BETWEEN_LINES: u64 = 1;
 
 /// Records what comes over connections in so many threads, each of which accepts one after another. Sessions
-/// are numbered at the shared. Where no connection can be accepted that is told, and tried again. It ends only
+/// are numbered by the shared counts. Where no connection can be accepted that is told, and tried again. It ends only
 /// if no thread can be started.
 pub fn record_connections<
     S: Source + Send + Drop,

@@ -93,7 +93,7 @@ pub fn open_recordings<E: Write + Drop, H: Files<File = File> + Alloc<A = Global
     }
 }
 
-/// Records in a folder what comes over connections, for ever. Sessions are numbered at the shared. It ends only
+/// Records in a folder what comes over connections, for ever. Sessions are numbered by the shared counts. It ends only
 /// if no thread can be started.
 pub fn run_record<E: Write + Copy + Send + Sync + Drop, R: Clock + Threads + Wait + Sync>(
     threads: &R,

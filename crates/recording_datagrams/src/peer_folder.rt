@@ -17,7 +17,7 @@ use std::sync::{Mutex, Wait};
 type PeerFiles<'a, R, W, E> = SessionFiles<'a, R, QueueFinisher<'a, R, W, E>>;
 
 /// Makes the files of peers in a folder, all in the periods of one clock. They are finished by threads
-/// of their own, and told; and each session has the next number of the shared.
+/// of their own, and told; and each session has the next number of the shared counts.
 #[derive(Drop)]
 pub struct PeerFolder<'a, R: Files + Clock, W: Wait, E: Write + Copy + Drop> {
     pub place: SystemPlace<'a, R>,

@@ -3,8 +3,8 @@
 #![tactic(auto)]
 
 #[cfg(test)]
+mod endings;
+#[cfg(test)]
 mod places;
 #[cfg(test)]
 mod rounds;
-#[cfg(test)]
-mod verbosity;

@@ -191,15 +191,22 @@ fn whole_messages_of_an_earlier_run_stay_wherever_the_next_is_killed(
     Ok(())
 }
 
+// Cuts the power at each call in turn, until a run comes to its end: whether one did.
+fn try_each_call(rt: &HostRuntime, folder: &Folder, left: NamesLeft) -> Result<bool, Fail> {
+    for first in 0..MANY_CALLS {
+        if !try_power_cut(rt, folder, first, left)? {
+            return Ok(true);
+        }
+    }
+    Ok(false)
+}
+
 #[test]
 fn whole_messages_of_an_earlier_run_outlive_a_power_cut(rt: HostRuntime) -> Result<(), Fail> {
     let folder = open_folder(&rt, rt.alloc(), "recordings")?;
     for left in NamesLeft::EACH {
-        let mut first = 0;
-        while first < MANY_CALLS && try_power_cut(&rt, &folder, first, left)? {
-            first += 1;
-        }
-        assert!(rt; first < MANY_CALLS);
+        let has_ended = try_each_call(&rt, &folder, left)?;
+        assert!(rt; has_ended);
     }
     Ok(())
 }

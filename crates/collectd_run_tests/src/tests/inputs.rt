@@ -211,8 +211,12 @@ collectd: records: used 3 options 0 untimed 0 backward 0 unkeyed 0 too_long 0
     Ok(())
 }
 
-#[test]
-fn opens_no_file_for_a_pool_without_workers(rt: HostRuntime) -> Result<(), Fail> {
+// What is written of these files with no workers.
+fn run_without_workers<R: Clock + Threads + Wait + Sync>(
+    rt: &R,
+    alloc: Global,
+    paths: &[&str],
+) -> Result<Vec<u8>, Fail> {
     let pool = Pool {
         workers: 0,
         capacity: 64,
@@ -221,11 +225,29 @@ fn opens_no_file_for_a_pool_without_workers(rt: HostRuntime) -> Result<(), Fail>
         verbose: true,
         strict: false,
     };
-    let text = run_told(&rt, rt.alloc(), &["flows", "missing"], pool, verbosity)?;
-    assert_eq!(rt;
-        text.as_slice(),
-        b"collectd: collect: fault 1 Workers\n3".as_slice()
-    );
+    run_told(rt, alloc, paths, pool, verbosity)
+}
+
+#[test]
+fn a_file_that_is_missing_comes_before_a_pool_without_workers(rt: HostRuntime) -> Result<(), Fail> {
+    let text = run_without_workers(&rt, rt.alloc(), &["flows", "missing"])?;
+    let want = b"collectd: session 1 \"flows\": opened
+collectd: open: missing: no such file
+2";
+    assert_eq!(rt; text.as_slice(), want.as_slice());
+    Ok(())
+}
+
+#[test]
+fn a_pool_without_workers_is_refused_after_all_files_were_opened(
+    rt: HostRuntime,
+) -> Result<(), Fail> {
+    let text = run_without_workers(&rt, rt.alloc(), &["flows", "cut"])?;
+    let want = b"collectd: session 1 \"flows\": opened
+collectd: session 2 \"cut\": opened
+collectd: collect: fault 1 Workers
+3";
+    assert_eq!(rt; text.as_slice(), want.as_slice());
     Ok(())
 }
 

@@ -14,7 +14,7 @@ use flow_table::TableFault;
 use std::collections::VecDeque;
 use std::thread::{Threads, join};
 
-/// Merges the workers' tables, and puts their link_ends in the order of the sessions, as if one worker
+/// Merges the workers' tables, and puts their ends of links in the order of the sessions, as if one worker
 /// had taken all. If a worker ran out of memory, that is answered before any sum that is too
 /// large.
 pub fn gather<R: Threads + Sync>(

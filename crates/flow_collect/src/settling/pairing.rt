@@ -13,7 +13,7 @@ use ipfix_session::FullReport;
 use std::alloc::{AllocError, Global};
 use std::collections::VecDeque;
 
-/// Settles each session's link. The link_ends stand in the order of the sessions.
+/// Settles each session's link. The ends stand in the order of the sessions.
 pub fn settle_all<S: Drop>(
     alloc: Global,
     sessions: VecDeque<EndedSession<S>>,
