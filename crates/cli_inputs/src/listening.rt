@@ -1,4 +1,4 @@
-//! SystemListener for connections.
+//! Listening for connections.
 
 use report_writing::{Reason, Status, Verbosity, write_not_had_because};
 use std::io::Stderr;

@@ -101,7 +101,7 @@ impl<'a, F: RecordingFiles + Drop, P: PeerPlace<F> + PeriodClock, E: Write + Dro
         )
     }
 
-    /// EvictedLines on to a second. If it is a new one, what was refused is told, and the sessions of peers end that
+    /// Goes on to a second. If it is a new one, what was refused is told, and the sessions of peers end that
     /// have been silent for longer than they may be.
     pub fn go_on_to(&mut self, now: u64) -> io::Result<()>
         ensures { AreTold E.contents (KeepsToSeconds F.seen F.finishes P.asked now self.old self.new)

@@ -13,7 +13,7 @@ use recording_peers::{InTurn, PeerState, Peers};
 use std::io::{self, Write};
 use std::net::SocketAddr;
 
-/// EvictedLines over all peers: tells which of their datagrams were refused, and finishes their files if a period is
+/// Goes over all peers: tells which of their datagrams were refused, and finishes their files if a period is
 /// over. A session whose file can't be finished ends. A log that can't be written stops nothing; its first
 /// error is the answer.
 pub fn go_over<F: RecordingFiles + Drop, E: Write + Drop>(
