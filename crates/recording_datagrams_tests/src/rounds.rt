@@ -1,7 +1,7 @@
 //! Rounds of taking datagrams.
 
-use super::places::{PlaceInPeriods, SmallPlace};
 use super::endings::{FLOW, only_from};
+use super::places::{PlaceInPeriods, SmallPlace};
 use recording_connections::SharedCounts;
 use recording_datagrams::{DatagramTaker, record_datagrams};
 use recording_files::ScriptClock;
