@@ -30,7 +30,7 @@ pub record Collects (pool : Pool) (count status : ℕ) (IsUntouched Ran TellsFai
   pub failed : status ≡ number_of Failed → TellsFailed
   pub stopped : status ≡ number_of NotOpened → TellsNotHad
 
--- no source is had for a pool that has a fault with however many: the fault that it has with so many is told, and nothing is written
+-- a pool that has a fault with however many sources is refused: the fault that it has with so many is told, and nothing is written
 abbrev pub RefusesPool : Pool → ℕ → ℕ → Type 0 → (List ℕ → Type 0) → Type 0
 RefusesPool pool count status IsUntouched AreTold =
     IfSome (fault_of_pool pool) (λ any. (status ≡ number_of Failed) × IsUntouched × IfSome (fault_of_arguments pool count) (λ fault. AreTold (collect_fault_line fault)))

@@ -120,7 +120,7 @@ pub fn run_tcp_in_full<
     // No connection can have a limit of no time.
     ensures no_time { IfNone (fault_of_pool job.now.pool) (IfSome idle
         (λ limit. as_nanos limit ≡ 0 → 0 < count → result ≡ number_of Status.NotOpened)) }
-    // No connection is accepted for a pool that has a fault.
+    // A pool that has a fault is refused, and the fault that it has is told.
     ensures pool { RefusesPool job.now.pool count result (out.new ≡ out.old)
         (AreToldTo E.contents E.failed err.old err.new) }
     ensures kept { E.failed err.old → E.failed err.new }
