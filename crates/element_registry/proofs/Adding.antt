@@ -9,7 +9,7 @@ use Rattle.ipfix_wire.specs.declared.specifier.ElementId.{ElementId}
 use Rattle.ipfix_elements.specs.Elements.{entry_of}
 use Rattle.ipfix_elements.specs.Names.{element_named}
 use Rattle.ipfix_elements.proofs.Lookups.{ComparesKeys, are_distinct, find_head, find_rest}
-use Rattle.element_registry.specs.Registries.{Known, IsRegistry, is_of, is_named, same_element, same_name, are_apart, element_under}
+use Rattle.element_registry.specs.Registries.{Known, IsRegistry, is_of, is_named, same_element, same_name, are_apart, element_by_name}
 use Rattle.element_registry.proofs.Registered.{by_element, by_name, distinct}
 use Rattle.element_registry.proofs.Apart.{not_false, turned}
 
@@ -37,7 +37,7 @@ apart_with same keys known k apart none =
 
 -- what is known stays a registry
 pub added : (known : List Known) (k : Known) → IsRegistry known → is_none (entry_of k.element) ≡ true → is_some (find (is_of k.element) known) ≡ false
-    → is_some (element_under known k.name) ≡ false → IsRegistry (known ++ k ∷ [])
+    → is_some (element_by_name known k.name) ≡ false → IsRegistry (known ++ k ∷ [])
 added known k good built_in number name =
     let free = free_parts (element_named k.name) (find (is_named k.name) known) name in
     record {

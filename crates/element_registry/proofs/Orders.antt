@@ -11,7 +11,7 @@ use Rattle.ipfix_elements.specs.Elements.{entry_of, name_of}
 use Rattle.ipfix_elements.specs.Names.{numbered_text, element_named}
 use Rattle.ipfix_elements.specs.declared.kind.Kind.TheVariants.{Octets}
 use Rattle.element_registry.specs.declared.kind.ElementKind.TheVariants.{Plain}
-use Rattle.element_registry.specs.Registries.{Known, IsRegistry, is_of, is_named, same_element, same_name, are_apart, kind_under, name_under, element_under}
+use Rattle.element_registry.specs.Registries.{Known, IsRegistry, is_of, is_named, same_element, same_name, are_apart, element_kind, element_name, element_by_name}
 use Rattle.ipfix_elements.proofs.Lookups.{ComparesKeys}
 use Rattle.element_registry.proofs.Registered.{by_name, by_element, distinct, element_is}
 use Rattle.element_registry.proofs.Apart.{exchanged, found_either}
@@ -45,14 +45,14 @@ found_of a b e good = found_either (is_of e) same_element (same_of e) a b (sym (
 found_named : (a b : List Known) (t : List ℕ) → IsRegistry (a ++ b) → find (is_named t) (a ++ b) ≡ find (is_named t) (b ++ a)
 found_named a b t good = found_either (is_named t) same_name (same_named t) a b (sym (distinct same_name (a ++ b)) ∙ good.names_apart)
 
-pub kind_exchanged : (a b : List Known) (e : ElementId) → IsRegistry (a ++ b) → kind_under (a ++ b) e ≡ kind_under (b ++ a) e
+pub kind_exchanged : (a b : List Known) (e : ElementId) → IsRegistry (a ++ b) → element_kind (a ++ b) e ≡ element_kind (b ++ a) e
 kind_exchanged a b e good =
     ap (λ (o : Option Known). option_map_or (λ r. Plain r.kind) (entry_of e) (option_map_or (λ k. k.kind) o (Plain Octets))) (found_of a b e good)
 
-pub name_exchanged : (a b : List Known) (e : ElementId) → IsRegistry (a ++ b) → name_under (a ++ b) e ≡ name_under (b ++ a) e
+pub name_exchanged : (a b : List Known) (e : ElementId) → IsRegistry (a ++ b) → element_name (a ++ b) e ≡ element_name (b ++ a) e
 name_exchanged a b e good =
     ap (λ (o : Option Known). unwrap_or (option_or (name_of e) (option_map (λ k. k.name) o)) (numbered_text e)) (found_of a b e good)
 
-pub named_exchanged : (a b : List Known) (t : List ℕ) → IsRegistry (a ++ b) → element_under (a ++ b) t ≡ element_under (b ++ a) t
+pub named_exchanged : (a b : List Known) (t : List ℕ) → IsRegistry (a ++ b) → element_by_name (a ++ b) t ≡ element_by_name (b ++ a) t
 named_exchanged a b t good =
     ap (λ (o : Option Known). option_or (element_named t) (option_map (λ k. k.element) o)) (found_named a b t good)

@@ -12,7 +12,7 @@ use Rattle.ipfix_elements.specs.Elements.{Entry, entry_of, name_of}
 use Rattle.ipfix_elements.specs.Names.{IsElement, numbered_text, element_named}
 use Rattle.ipfix_elements.proofs.Lookups.{ComparesKeys, are_distinct, find_head, find_rest, find_passes, find_again, mapped, cases_Option}
 use Rattle.ipfix_elements.proofs.Named.{named_only, named_so}
-use Rattle.element_registry.specs.Registries.{Known, IsRegistry, IsNameUnder, is_of, is_named, same_element, same_name, are_apart, listed_name, name_under, element_under}
+use Rattle.element_registry.specs.Registries.{Known, IsRegistry, IsElementName, is_of, is_named, same_element, same_name, are_apart, listed_name, element_name, element_by_name}
 
 pub by_name : ComparesKeys same_name
 by_name = record { itself = λ k. (bytes_eq-Decides k.name k.name).1 refl; alike = λ a b e k. ap (λ (n : List ℕ). bytes_eq k.name n) ((bytes_eq-Decides a.name b.name).0 e) }
@@ -49,14 +49,14 @@ none_is : {X : Type 0} (o : Option X) → is_none o ≡ true → o ≡ None
 none_is None h = refl
 none_is (Some x) h = absurd cc
 
-pub before : (known : List Known) (t : List ℕ) (e : ElementId) → element_named t ≡ Some e → element_under known t ≡ Some e
+pub before : (known : List Known) (t : List ℕ) (e : ElementId) → element_named t ≡ Some e → element_by_name known t ≡ Some e
 before known t e h = ap (λ (o : Option ElementId). option_or o (option_map (λ k. k.element) (find (is_named t) known))) h
 
-behind : (known : List Known) (t : List ℕ) (k : Known) → element_named t ≡ None → find (is_named t) known ≡ Some k → element_under known t ≡ Some k.element
+behind : (known : List Known) (t : List ℕ) (k : Known) → element_named t ≡ None → find (is_named t) known ≡ Some k → element_by_name known t ≡ Some k.element
 behind known t k none found =
     ap (λ (o : Option ElementId). option_or o (option_map (λ k. k.element) (find (is_named t) known))) none ∙ ap (λ (o : Option Known). option_map (λ k. k.element) o) found
 
-of_file : (known : List Known) (t : List ℕ) (e : ElementId) → IsRegistry known → option_map (λ (k : Known). k.name) (find (is_of e) known) ≡ Some t → element_under known t ≡ Some e
+of_file : (known : List Known) (t : List ℕ) (e : ElementId) → IsRegistry known → option_map (λ (k : Known). k.name) (find (is_of e) known) ≡ Some t → element_by_name known t ≡ Some e
 of_file known t e good h =
     let at = mapped (λ (k : Known). k.name) (find (is_of e) known) t h in
     let apart = sym (distinct same_name known) ∙ good.names_apart in
@@ -67,27 +67,27 @@ of_file known t e good h =
     behind known t at.0 none found ∙ ap (λ (d : ElementId). Some d) (element_is e at.0 (find_passes (is_of e) known at.0 at.1))
 
 of_listed : (known : List Known) (t : List ℕ) (e : ElementId) (o : Option (List ℕ)) → name_of e ≡ o → IsRegistry known
-    → option_or o (option_map (λ (k : Known). k.name) (find (is_of e) known)) ≡ Some t → element_under known t ≡ Some e
+    → option_or o (option_map (λ (k : Known). k.name) (find (is_of e) known)) ≡ Some t → element_by_name known t ≡ Some e
 of_listed known t e None is good h = of_file known t e good h
 of_listed known t e (Some n) is good h = before known t e (named_only t e (inl (is ∙ h)))
 
-pub named_under : (known : List Known) (t : List ℕ) (e : ElementId) → IsRegistry known → IsNameUnder known e t → element_under known t ≡ Some e
+pub named_under : (known : List Known) (t : List ℕ) (e : ElementId) → IsRegistry known → IsElementName known e t → element_by_name known t ≡ Some e
 named_under known t e good (inl h) = of_listed known t e (name_of e) refl good h
 named_under known t e good (inr h) = before known t e (named_only t e (inr h))
 
-pub written_name : (known : List Known) (e : ElementId) → IsElement e → IsNameUnder known e (name_under known e)
+pub written_name : (known : List Known) (e : ElementId) → IsElement e → IsElementName known e (element_name known e)
 written_name known e fits =
     elim (cases_Option (listed_name known e)) [
       | inl none ↦ inr (fits, ap (λ (o : Option (List ℕ)). unwrap_or o (numbered_text e)) none)
       | inr name ↦ inl (name.1 ∙ ap (λ (n : List ℕ). Some n) (sym (ap (λ (o : Option (List ℕ)). unwrap_or o (numbered_text e)) name.1)))
     ]
 
-pub written_under : (known : List Known) (e : ElementId) → IsRegistry known → IsElement e → element_under known (name_under known e) ≡ Some e
-written_under known e good fits = named_under known (name_under known e) e good (written_name known e fits)
+pub written_under : (known : List Known) (e : ElementId) → IsRegistry known → IsElement e → element_by_name known (element_name known e) ≡ Some e
+written_under known e good fits = named_under known (element_name known e) e good (written_name known e fits)
 
-pub written_apart : (known : List Known) (d e : ElementId) → IsRegistry known → IsElement d → IsElement e → name_under known d ≡ name_under known e → d ≡ e
+pub written_apart : (known : List Known) (d e : ElementId) → IsRegistry known → IsElement d → IsElement e → element_name known d ≡ element_name known e → d ≡ e
 written_apart known d e good fits_d fits_e same =
-    same_Some d e (sym (written_under known d good fits_d) ∙ ap (element_under known) same ∙ written_under known e good fits_e)
+    same_Some d e (sym (written_under known d good fits_d) ∙ ap (element_by_name known) same ∙ written_under known e good fits_e)
 
 -- ---- what is found has the name
 
@@ -95,7 +95,7 @@ written_apart known d e good fits_d fits_e same =
 listed_before : (known : List Known) (t : List ℕ) (e : ElementId) → name_of e ≡ Some t → listed_name known e ≡ Some t
 listed_before known t e h = ap (λ (o : Option (List ℕ)). option_or o (option_map (λ (k : Known). k.name) (find (is_of e) known))) h
 
-so_before : (known : List Known) (t : List ℕ) (e : ElementId) → element_named t ≡ Some e → IsNameUnder known e t
+so_before : (known : List Known) (t : List ℕ) (e : ElementId) → element_named t ≡ Some e → IsElementName known e t
 so_before known t e h =
     elim (named_so t e h) [
       | inl listed ↦ inl (listed_before known t e listed)
@@ -105,7 +105,7 @@ so_before known t e h =
 no_name : (e : ElementId) → entry_of e ≡ None → name_of e ≡ None
 no_name e h = ap (option_map (λ (r : Entry). r.name)) h
 
-so_behind : (known : List Known) (t : List ℕ) (k : Known) → IsRegistry known → find (is_named t) known ≡ Some k → IsNameUnder known k.element t
+so_behind : (known : List Known) (t : List ℕ) (k : Known) → IsRegistry known → find (is_named t) known ≡ Some k → IsElementName known k.element t
 so_behind known t k good h =
     let apart = sym (distinct same_element known) ∙ good.numbers_apart in
     let again = find_again (is_named t) same_element by_element known k apart h in
@@ -116,11 +116,11 @@ so_behind known t k good h =
     ∙ ap (option_map (λ (k : Known). k.name)) again ∙ ap (λ (n : List ℕ). Some n) name)
 
 so_either : (known : List Known) (t : List ℕ) (e : ElementId) (o : Option ElementId) → element_named t ≡ o → IsRegistry known
-    → option_or o (option_map (λ (k : Known). k.element) (find (is_named t) known)) ≡ Some e → IsNameUnder known e t
+    → option_or o (option_map (λ (k : Known). k.element) (find (is_named t) known)) ≡ Some e → IsElementName known e t
 so_either known t e (Some d) is good h = so_before known t e (is ∙ h)
 so_either known t e None is good h =
     let at = mapped (λ (k : Known). k.element) (find (is_named t) known) e h in
-    subst (λ (d : ElementId). IsNameUnder known d t) at.2 (so_behind known t at.0 good at.1)
+    subst (λ (d : ElementId). IsElementName known d t) at.2 (so_behind known t at.0 good at.1)
 
-pub named_so_under : (known : List Known) (t : List ℕ) (e : ElementId) → IsRegistry known → element_under known t ≡ Some e → IsNameUnder known e t
+pub named_so_under : (known : List Known) (t : List ℕ) (e : ElementId) → IsRegistry known → element_by_name known t ≡ Some e → IsElementName known e t
 named_so_under known t e good h = so_either known t e (element_named t) refl good h

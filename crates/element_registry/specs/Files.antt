@@ -12,7 +12,7 @@ use Rattle.element_registry.specs.declared.fault.ElementsFault.TheVariants.{Colu
 use Rattle.element_registry.specs.Faults.{Read, Fails, fault_of}
 use Rattle.element_registry.specs.declared.fault.ElementsError.{ElementsError}
 use Rattle.element_registry.specs.declared.added.Added.{Added}
-use Rattle.element_registry.specs.Registries.{Known, is_of, element_under}
+use Rattle.element_registry.specs.Registries.{Known, is_of, element_by_name}
 use Rattle.element_registry.specs.Rows.{and_then, columns_in, entry_in, has_unknown_type}
 
 -- the records of a text of comma-separated values, its first line among them
@@ -27,7 +27,7 @@ most = 16384
 abbrev pub with_entry : List Known → Known → Read (List Known)
 with_entry known k =
     if is_some (find (is_of k.element) known) then Err NumberTwice
-    else if is_some (element_under known k.name) then Err NameTwice
+    else if is_some (element_by_name known k.name) then Err NameTwice
     else if nat_lt (length known) most then Ok (known ++ k ∷ [])
     else Err TooMany
 

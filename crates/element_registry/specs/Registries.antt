@@ -28,22 +28,22 @@ abbrev pub is_named : List ℕ → Known → Bool
 is_named t k = bytes_eq k.name t
 
 -- a built-in element before those of files
-abbrev pub kind_under : List Known → ElementId → ElementKind
-kind_under known e = option_map_or (λ r. Plain r.kind) (entry_of e) (option_map_or (λ k. k.kind) (find (is_of e) known) (Plain Octets))
+abbrev pub element_kind : List Known → ElementId → ElementKind
+element_kind known e = option_map_or (λ r. Plain r.kind) (entry_of e) (option_map_or (λ k. k.kind) (find (is_of e) known) (Plain Octets))
 
 abbrev pub listed_name : List Known → ElementId → Option (List ℕ)
 listed_name known e = option_or (name_of e) (option_map (λ k. k.name) (find (is_of e) known))
 
-abbrev pub name_under : List Known → ElementId → List ℕ
-name_under known e = unwrap_or (listed_name known e) (numbered_text e)
+abbrev pub element_name : List Known → ElementId → List ℕ
+element_name known e = unwrap_or (listed_name known e) (numbered_text e)
 
 -- t names the element: by its name, or by its numbers
-abbrev pub IsNameUnder : List Known → ElementId → List ℕ → Type 0
-IsNameUnder known e t = (listed_name known e ≡ Some t) ⊎ (IsElement e × (t ≡ numbered_text e))
+abbrev pub IsElementName : List Known → ElementId → List ℕ → Type 0
+IsElementName known e t = (listed_name known e ≡ Some t) ⊎ (IsElement e × (t ≡ numbered_text e))
 
 -- a text names an element as it does without files, or by the name that one of them says
-abbrev pub element_under : List Known → List ℕ → Option ElementId
-element_under known t = option_or (element_named t) (option_map (λ k. k.element) (find (is_named t) known))
+abbrev pub element_by_name : List Known → List ℕ → Option ElementId
+element_by_name known t = option_or (element_named t) (option_map (λ k. k.element) (find (is_named t) known))
 
 -- no two of a list are the same
 abbrev pub are_apart : (Known → Known → Bool) → List Known → Bool

@@ -41,7 +41,7 @@ impl Elements {
     ghost use Rattle.element_registry.specs.Faults.{Fails};
     ghost use Rattle.element_registry.specs.Files.{with_entry};
     ghost use Rattle.ipfix_elements.specs.Writers.{Writes};
-    ghost use Rattle.element_registry.specs.Registries.{IsRegistry, is_of, shown, kind_under, listed_name, name_under, element_under};
+    ghost use Rattle.element_registry.specs.Registries.{IsRegistry, is_of, shown, element_kind, listed_name, element_name, element_by_name};
 
     /// The built-in elements alone.
     pub fn built_in(alloc: Global) -> Elements
@@ -92,7 +92,7 @@ impl Elements {
 
     /// The kind that an element's fields are read by: octets for each element that is not known.
     pub fn kind_of(&self, element: ElementId) -> ElementKind
-        ensures { result ≡ kind_under self.now element }
+        ensures { result ≡ element_kind self.now element }
     {
         if name_of(element).is_some() {
             return ElementKind::Plain(kind_of(element));
@@ -115,7 +115,7 @@ impl Elements {
 
     /// Writes an element's name, or `e<pen>.<number>` if it has none. An `Err` is the writer's.
     pub fn write_name<W: Write>(&self, element: ElementId, out: &mut W) -> io::Result<()>
-        ensures { OnOk result (Writes W.contents out.old out.new (name_under self.now element)) }
+        ensures { OnOk result (Writes W.contents out.old out.new (element_name self.now element)) }
     {
         if name_of(element).is_some() {
             return write_name(element, out);
@@ -128,7 +128,7 @@ impl Elements {
 
     /// The element that a text names: as [`by_name`] says, or by the name that a file says.
     pub fn by_name(&self, name: &str) -> Option<ElementId>
-        ensures { result ≡ element_under self.now name.now }
+        ensures { result ≡ element_by_name self.now name.now }
     {
         match by_name(name) {
             Some(element) => Some(element),

@@ -5,7 +5,7 @@ use Rattle.std.specs.List.{flat_map, zip}
 use Rattle.std.proofs.lemmas.List.{append-nil, get_or_default, take_all, length-map, map-append}
 use Rattle.std.proofs.lemmas.Grind.{flat_map-append}
 use Rattle.std.proofs.lemmas.Slice.Zip.{get_or-zip, length-zip}
-use Rattle.element_registry.specs.Registries.{name_under}
+use Rattle.element_registry.specs.Registries.{element_name}
 use Rattle.ipfix_elements.specs.declared.cell.Cell.{Cell}
 use Rattle.flow_table.specs.Plans.{PlanValue}
 use Rattle.flow_table.specs.SameTables.{value_of}
@@ -81,7 +81,7 @@ same_counts plan labels row made fits =
     let counters = ap length made.counters in
     let cells = same_length plan.kinds row.key.items fits.fields.key.fit in (
       omega (arith, keys, cells, length-map labels.keys.items text_of, length-map (map (key_text_under labels.elements.now) plan.keys) label, length-map plan.keys (key_text_under labels.elements.now), fits.fields.key.beside),
-      omega (arith, counters, fits.fields.sums, length-map labels.counters.items text_of, length-map (map (name_under labels.elements.now) plan.counters) label, length-map plan.counters (name_under labels.elements.now)),
+      omega (arith, counters, fits.fields.sums, length-map labels.counters.items text_of, length-map (map (element_name labels.elements.now) plan.counters) label, length-map plan.counters (element_name labels.elements.now)),
     )
 
 three_parts : (ps qs : List (List ℕ × List ℕ)) (p : List ℕ × List ℕ)
@@ -95,12 +95,12 @@ three_parts ps qs p =
 
 -- the members behind the first two
 tail_members : (plan : PlanValue) (labels : RowLabels) (row : Row) → AreLabels plan labels → IsExportable plan (value_of row)
-    → flat_map next (map member (zip (map (key_text_under labels.elements.now) plan.keys ++ (map (name_under labels.elements.now) plan.counters ++ codes "flows" ∷ [])) (map json_cell row.key.items ++ (map json_number row.sums.items ++ json_number row.flows ∷ []))))
+    → flat_map next (map member (zip (map (key_text_under labels.elements.now) plan.keys ++ (map (element_name labels.elements.now) plan.counters ++ codes "flows" ∷ [])) (map json_cell row.key.items ++ (map json_number row.sums.items ++ json_number row.flows ∷ []))))
     ≡ cells_of labels row ++ (sums_of labels row ++ (codes ",\"flows\":" ++ json_number row.flows))
 tail_members plan labels row made fits =
     let counts = same_counts plan labels row made fits in
     let names = map (key_text_under labels.elements.now) plan.keys in
-    let more_names = map (name_under labels.elements.now) plan.counters in
+    let more_names = map (element_name labels.elements.now) plan.counters in
     let values = map json_cell row.key.items in
     let more_values = map json_number row.sums.items in
     let keys : length names ≡ length values = omega (arith, counts.0, ap length made.keys, length-map labels.keys.items text_of, length-map names label, length-map row.key.items json_cell) in
@@ -121,7 +121,7 @@ object_parts : (plan : PlanValue) (labels : RowLabels) (row : Row) → AreLabels
 object_parts plan labels row made fits =
     let first = member (codes "start", json_number (first_of plan (value_of row))) in
     let second = member (codes "end", json_number (last_of plan (value_of row))) in
-    let rest = map member (zip (map (key_text_under labels.elements.now) plan.keys ++ (map (name_under labels.elements.now) plan.counters ++ codes "flows" ∷ [])) (map json_cell row.key.items ++ (map json_number row.sums.items ++ json_number row.flows ∷ []))) in
+    let rest = map member (zip (map (key_text_under labels.elements.now) plan.keys ++ (map (element_name labels.elements.now) plan.counters ++ codes "flows" ∷ [])) (map json_cell row.key.items ++ (map json_number row.sums.items ++ json_number row.flows ∷ []))) in
     ap (λ (t : List ℕ). codes "{" ++ (t ++ codes "}\n"))
     (behind_commas first (second ∷ rest) ∙ ap (λ (t : List ℕ). first ++ (next second ++ t)) (tail_members plan labels row made fits))
     ∙ ap (λ (t : List ℕ). codes "{" ++ t) (joined first (next second) (cells_of labels row) (sums_of labels row) (codes ",\"flows\":" ++ json_number row.flows) (codes "}\n"))

@@ -13,7 +13,7 @@ use Rattle.ipfix_elements.specs.Names.{name_text, numbered_text}
 use Rattle.ipfix_elements.specs.Elements.{entry_of, name_of}
 use Rattle.element_registry.specs.Faults.{Read}
 use Rattle.element_registry.specs.Files.{with_entry_if, with_row, with_rows, with_file, most}
-use Rattle.element_registry.specs.Registries.{Known, is_of, element_under, name_under}
+use Rattle.element_registry.specs.Registries.{Known, is_of, element_by_name, element_name}
 use Rattle.element_registry.specs.Rows.{and_then, begins_with_letter, columns_in, element_in, entry, entry_in, entry_of_element, field, full_name, is_name, is_name_octet, is_reserved}
 use Rattle.element_registry.specs.declared.columns.Columns.{Columns}
 use Rattle.element_registry.specs.declared.fault.ElementsFault.TheVariants.{NotCsv, Name, NumberTwice, NameTwice, TooMany}
@@ -36,7 +36,7 @@ no_others : {X : Type 0} (o : Option X) → option_or o None ≡ o
 no_others None = refl
 no_others (Some x) = refl
 
-no_files_name : (e : ElementId) → name_under [] e ≡ name_text e
+no_files_name : (e : ElementId) → element_name [] e ≡ name_text e
 no_files_name e = ap (λ (o : Option (List ℕ)). unwrap_or o (numbered_text e)) (no_others (name_of e))
 
 no_files_key : (k : Key) → key_text_under [] k ≡ key_text k
@@ -45,7 +45,7 @@ no_files_key k = ap (λ (t : List ℕ). t ++ prefix_text k.prefix) (no_files_nam
 no_files_heading : (plan : PlanValue) → heading_under [] plan ≡ heading plan
 no_files_heading plan =
     ap₂ (λ (ks cs : List (List ℕ)). codes "start" ∷ codes "end" ∷ (ks ++ (cs ++ codes "flows" ∷ [])))
-    (map_same (key_text_under []) key_text no_files_key plan.keys) (map_same (name_under []) name_text no_files_name plan.counters)
+    (map_same (key_text_under []) key_text no_files_key plan.keys) (map_same (element_name []) name_text no_files_name plan.counters)
 
 pub no_files_csv : (plan : PlanValue) (rows : List RowValue) → csv_text_under [] plan rows ≡ csv_text plan rows
 no_files_csv plan rows =
@@ -156,7 +156,7 @@ with_one known all None plain each h =
     let are : known ≡ all = cc in
     subst (λ (ks : List Known). have_plain_names ks ≡ true) are plain
 with_one known all (Some k) plain each h =
-    one_more (is_some (find (is_of k.element) known)) (is_some (element_under known k.name)) (nat_lt (length known) most) known all k plain (each k refl) h
+    one_more (is_some (find (is_of k.element) known)) (is_some (element_by_name known k.name)) (nat_lt (length known) most) known all k plain (each k refl) h
 
 rows_plain : (at : Columns) (known all : List Known) (rows : List (List (List ℕ))) → have_plain_names known ≡ true → with_rows at known rows ≡ Ok all → have_plain_names all ≡ true
 rows_plain at known all [] plain h =

@@ -2,7 +2,7 @@
 use Rattle.std.specs.Prelude.{◌≡◌, ℕ, ◌+◌, ◌-◌, ◌*◌, List, ◌++◌, codes, flat_map, map}
 use Rattle.std.specs.List.{zip}
 use Rattle.ipfix_elements.specs.JsonValues.{json_cell, json_number}
-use Rattle.element_registry.specs.Registries.{name_under}
+use Rattle.element_registry.specs.Registries.{element_name}
 use Rattle.ipfix_elements.specs.declared.cell.Cell.{Cell}
 use Rattle.flow_table.specs.Plans.{PlanValue}
 use Rattle.flow_export.specs.TextsUnder.{key_text_under}
@@ -23,7 +23,7 @@ AreLabelsOf names labels = map text_of labels ≡ map label names
 -- the labels of a plan's keys and counters, by the names that elements have there
 pub record AreLabels (plan : PlanValue) (labels : RowLabels) : Type 0 where
   pub keys : AreLabelsOf (map (key_text_under labels.elements.now) plan.keys) labels.keys.items
-  pub counters : AreLabelsOf (map (name_under labels.elements.now) plan.counters) labels.counters.items
+  pub counters : AreLabelsOf (map (element_name labels.elements.now) plan.counters) labels.counters.items
 
 -- a value behind its label
 abbrev pub labelled : {X : Type 0} → (X → List ℕ) → MemberLabel × X → List ℕ

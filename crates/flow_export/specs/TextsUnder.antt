@@ -3,7 +3,7 @@ use Rattle.std.specs.Prelude.{ℕ, ◌==◌, ◌||◌, Bool, List, [], ◌∷◌
 use Rattle.std.specs.List.{list_all, zip}
 use Rattle.csv.specs.Writing.{default_writer, row_text}
 use Rattle.ipfix_elements.specs.Ascii.{dot}
-use Rattle.element_registry.specs.Registries.{Known, name_under}
+use Rattle.element_registry.specs.Registries.{Known, element_name}
 use Rattle.element_registry.specs.Rows.{is_name_octet}
 use Rattle.flow_table.specs.declared.key.Key.{Key}
 use Rattle.flow_table.specs.Plans.{PlanValue}
@@ -13,12 +13,12 @@ use Rattle.flow_export.specs.JsonText.{object_line, row_values}
 
 -- a key by its element's name, and a slash and the prefix if it has one
 abbrev pub key_text_under : List Known → Key → List ℕ
-key_text_under known key = name_under known key.element ++ prefix_text key.prefix
+key_text_under known key = element_name known key.element ++ prefix_text key.prefix
 
 -- the names of the fields
 abbrev pub heading_under : List Known → PlanValue → List (List ℕ)
 heading_under known plan =
-    codes "start" ∷ codes "end" ∷ (map (key_text_under known) plan.keys ++ (map (name_under known) plan.counters ++ codes "flows" ∷ []))
+    codes "start" ∷ codes "end" ∷ (map (key_text_under known) plan.keys ++ (map (element_name known) plan.counters ++ codes "flows" ∷ []))
 
 -- a line of names, in quotes where they need it (RFC 4180, section 2), and then a line for each row
 abbrev pub csv_text_under : List Known → PlanValue → List RowValue → List ℕ

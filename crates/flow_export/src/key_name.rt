@@ -1,7 +1,7 @@
 //! The names of elements and keys, which the heading of CSV and the objects of JSON share.
 
 ghost use Rattle.std.specs.Prelude.{◌≡◌, ◌++◌, OnOk};
-ghost use Rattle.element_registry.specs.Registries.{name_under};
+ghost use Rattle.element_registry.specs.Registries.{element_name};
 ghost use Rattle.flow_export.specs.TextsUnder.{key_text_under};
 
 use element_registry::Elements;
@@ -16,7 +16,7 @@ pub fn append_name(
     element: ElementId,
     text: &mut Vec<u8>,
 ) -> Result<(), AllocError>
-    ensures { OnOk result (text.new.items ≡ text.old.items ++ name_under elements.now element) }
+    ensures { OnOk result (text.new.items ≡ text.old.items ++ element_name elements.now element) }
 {
     // A vector fails only if memory runs out.
     elements.write_name(element, text).map_err(|_| AllocError)

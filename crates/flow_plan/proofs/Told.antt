@@ -7,7 +7,7 @@ use Rattle.flow_table.specs.declared.key.Key.{Key}
 use Rattle.flow_table.specs.Plans.{PlanValue}
 use Rattle.toml.specs.Data.{Members}
 use Rattle.toml.specs.Parse.{parse_document}
-use Rattle.element_registry.specs.Registries.{Known, element_under}
+use Rattle.element_registry.specs.Registries.{Known, element_by_name}
 use Rattle.flow_plan.specs.declared.fault.PlanTextFault.{PlanTextFault}
 use Rattle.flow_plan.specs.declared.fault.PlanTextFault.TheVariants as faults
 use Rattle.flow_plan.specs.declared.error.PlanKey.TheVariants.{Counters}
@@ -27,7 +27,7 @@ given (Some x) fault = refl
 
 -- a counter that names no element, where each key names one
 pub of_counters : (known : List Known) (f : Fields) (keys : List Key) (e : PlanTextError) → ok_or (all_of (key_under known) f.keys) faults.UnknownElement ≡ Ok keys
-    → Fails (fault_of e) (ok_or (all_of (element_under known) f.counters) faults.UnknownElement) × IsOfText Counters (no_counter_under known f.counters) e
+    → Fails (fault_of e) (ok_or (all_of (element_by_name known) f.counters) faults.UnknownElement) × IsOfText Counters (no_counter_under known f.counters) e
     → Fails (fault_of e) (plan_of_fields_under known f) × IsOfValues known f e
 of_counters known f keys (UnknownElement key text) named h = (
   rw named (rw h.0 refl),

@@ -9,7 +9,7 @@ use Rattle.toml.specs.Parse.{parse_document}
 use Rattle.ipfix_wire.specs.declared.specifier.ElementId.{ElementId}
 use Rattle.ipfix_elements.specs.Elements.{kind_of}
 use Rattle.ipfix_elements.specs.Names.{element_named}
-use Rattle.element_registry.specs.Registries.{Known, element_under}
+use Rattle.element_registry.specs.Registries.{Known, element_by_name}
 use Rattle.element_registry.proofs.Registered.{before}
 use Rattle.flow_table.specs.declared.key.Key.{Key}
 use Rattle.flow_table.specs.declared.plan_fault.PlanFault.{PlanFault}
@@ -39,7 +39,7 @@ no_more : (o : Option ElementId) → option_or o None ≡ o
 no_more None = refl
 no_more (Some e) = refl
 
-no_files_element : (text : List ℕ) → element_under [] text ≡ element_named text
+no_files_element : (text : List ℕ) → element_by_name [] text ≡ element_named text
 no_files_element text = no_more (element_named text)
 
 -- the key of a text, by what its part before a slash names, and by what the whole names
@@ -59,7 +59,7 @@ no_files_keys : (texts : List (List ℕ)) → keys_under [] texts ≡ keys_in te
 no_files_keys texts = ap (λ o. ok_or o UnknownElement) (all_same (key_under []) key_named no_files_key texts)
 
 no_files_counters : (texts : List (List ℕ)) → counters_under [] texts ≡ counters_in texts
-no_files_counters texts = ap (λ o. ok_or o UnknownElement) (all_same (element_under []) element_named no_files_element texts)
+no_files_counters texts = ap (λ o. ok_or o UnknownElement) (all_same (element_by_name []) element_named no_files_element texts)
 
 -- ---- plans without files
 
@@ -128,7 +128,7 @@ no_files_no_key : (texts : List (List ℕ)) → no_key_under [] texts ≡ no_key
 no_files_no_key texts = find_same (λ t. is_none (key_under [] t)) (λ t. is_none (key_named t)) (λ t. ap is_none (no_files_key t)) texts
 
 no_files_no_counter : (texts : List (List ℕ)) → no_counter_under [] texts ≡ no_counter_in texts
-no_files_no_counter texts = find_same (λ t. is_none (element_under [] t)) (λ t. is_none (element_named t)) (λ t. ap is_none (no_files_element t)) texts
+no_files_no_counter texts = find_same (λ t. is_none (element_by_name [] t)) (λ t. is_none (element_named t)) (λ t. ap is_none (no_files_element t)) texts
 
 no_files_blamed : (fault : PlanFault) (ks : List Key) (cs : List ElementId) → blamed_under [] fault ks cs ≡ blamed fault ks cs
 no_files_blamed KeyKind ks cs =
@@ -232,8 +232,8 @@ mapped_kept (Some x) p f y kept h = rw (kept x refl) h
 key_kept : (known : List Known) (text : List ℕ) (k : Key) → key_named text ≡ Some k → key_under known text ≡ Some k
 key_kept known text k h =
     chosen_kept (list_any is_slash text) _ _ _ _ k
-    (chained_kept (element_named (before_first is_slash text)) (element_under known (before_first is_slash text)) (λ element. option_map (prefix_key element) (bits_in (after_first is_slash text))) k (before known (before_first is_slash text)))
-    (mapped_kept (element_named text) (element_under known text) whole_key k (before known text)) h
+    (chained_kept (element_named (before_first is_slash text)) (element_by_name known (before_first is_slash text)) (λ element. option_map (prefix_key element) (bits_in (after_first is_slash text))) k (before known (before_first is_slash text)))
+    (mapped_kept (element_named text) (element_by_name known text) whole_key k (before known text)) h
 
 both_kept : {X : Type 0} (first first' : Option X) (rest rest' : Option (List X)) (ys : List X) → ((y : X) → first ≡ Some y → first' ≡ Some y) → ((zs : List X) → rest ≡ Some zs → rest' ≡ Some zs)
     → option_and_then (λ y. option_map (λ zs. y ∷ zs) rest) first ≡ Some ys → option_and_then (λ y. option_map (λ zs. y ∷ zs) rest') first' ≡ Some ys
@@ -255,7 +255,7 @@ keys_kept known texts ks h =
 
 counters_kept : (known : List Known) (texts : List (List ℕ)) (cs : List ElementId) → counters_in texts ≡ Ok cs → counters_under known texts ≡ Ok cs
 counters_kept known texts cs h =
-    ok_kept (all_of element_named texts) (all_of (element_under known) texts) UnknownElement cs (all_kept element_named (element_under known) (before known) texts) h
+    ok_kept (all_of element_named texts) (all_of (element_by_name known) texts) UnknownElement cs (all_kept element_named (element_by_name known) (before known) texts) h
 
 -- ---- plans stay
 

@@ -2,7 +2,7 @@
 use Rattle.std.specs.Prelude.{◌≡◌, ℕ, List, find, Option, Some, None, is_none, Ok, string_bytes}
 use Rattle.toml.specs.Data.{Members}
 use Rattle.toml.specs.Parse.{parse_document}
-use Rattle.element_registry.specs.Registries.{Known, element_under}
+use Rattle.element_registry.specs.Registries.{Known, element_by_name}
 use Rattle.flow_plan.specs.declared.error.PlanKey.{PlanKey}
 use Rattle.flow_plan.specs.declared.error.PlanKey.TheVariants.{Keys, Counters}
 use Rattle.flow_plan.specs.declared.error.PlanTextError.{PlanTextError}
@@ -18,7 +18,7 @@ no_key_under known texts = find (λ text. is_none (key_under known text)) texts
 
 -- the first text that names no counter
 abbrev pub no_counter_under : List Known → List (List ℕ) → Option (List ℕ)
-no_counter_under known texts = find (λ text. is_none (element_under known text)) texts
+no_counter_under known texts = find (λ text. is_none (element_by_name known text)) texts
 
 -- the first text that names no element, of the keys and then of the counters
 abbrev pub IsUnknownUnder : List Known → Fields → PlanKey → List ℕ → Type 0

@@ -5,7 +5,7 @@ use Rattle.std.specs.List.{list_any, before_first, after_first}
 use Rattle.toml.specs.Data.{Members}
 use Rattle.toml.specs.Parse.{parse_document}
 use Rattle.ipfix_wire.specs.declared.specifier.ElementId.{ElementId}
-use Rattle.element_registry.specs.Registries.{Known, element_under}
+use Rattle.element_registry.specs.Registries.{Known, element_by_name}
 use Rattle.flow_table.specs.declared.key.Key.{Key}
 use Rattle.flow_table.specs.Plans.{PlanValue}
 use Rattle.flow_table.specs.PlansUnder.{plan_under, first_fault_under}
@@ -17,8 +17,8 @@ use Rattle.flow_plan.specs.PlanTexts.{Fields, all_of, bits_in, checked, fields_o
 abbrev pub key_under : List Known → List ℕ → Option Key
 key_under known text =
     if list_any is_slash text
-    then option_and_then (λ element. option_map (prefix_key element) (bits_in (after_first is_slash text))) (element_under known (before_first is_slash text))
-    else option_map whole_key (element_under known text)
+    then option_and_then (λ element. option_map (prefix_key element) (bits_in (after_first is_slash text))) (element_by_name known (before_first is_slash text))
+    else option_map whole_key (element_by_name known text)
 
 -- the keys that texts name
 abbrev pub keys_under : List Known → List (List ℕ) → Read (List Key)
@@ -26,7 +26,7 @@ keys_under known texts = ok_or (all_of (key_under known) texts) faults.UnknownEl
 
 -- the counters that texts name
 abbrev pub counters_under : List Known → List (List ℕ) → Read (List ElementId)
-counters_under known texts = ok_or (all_of (element_under known) texts) faults.UnknownElement
+counters_under known texts = ok_or (all_of (element_by_name known) texts) faults.UnknownElement
 
 abbrev pub plan_of_fields_under : List Known → Fields → Read PlanValue
 plan_of_fields_under known f =

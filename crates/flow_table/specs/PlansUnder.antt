@@ -6,7 +6,7 @@ use Rattle.ipfix_elements.specs.Elements.{entry_of}
 use Rattle.ipfix_elements.specs.declared.kind.Kind.{Kind}
 use Rattle.ipfix_elements.specs.declared.kind.Kind.TheVariants as kinds
 use Rattle.ipfix_elements.specs.declared.kind.Width.TheVariants.{One}
-use Rattle.element_registry.specs.Registries.{Known, kind_under, is_of}
+use Rattle.element_registry.specs.Registries.{Known, element_kind, is_of}
 use Rattle.element_registry.specs.declared.kind.ElementKind.{ElementKind}
 use Rattle.element_registry.specs.declared.kind.ElementKind.TheVariants.{Plain, Boolean, Signed, Micros, Nanos, Text}
 use Rattle.flow_table.specs.declared.method.Method.{Method}
@@ -27,7 +27,7 @@ field_kind Nanos = kinds.Octets
 field_kind Text = kinds.Octets
 
 abbrev pub key_kind_under : List Known → ElementId → Kind
-key_kind_under known e = field_kind (kind_under known e)
+key_kind_under known e = field_kind (element_kind known e)
 
 abbrev pub kinds_under : List Known → List Key → List Kind
 kinds_under known keys = map (λ k. key_kind_under known k.element) keys

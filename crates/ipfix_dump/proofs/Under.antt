@@ -10,7 +10,7 @@ use Rattle.ipfix_elements.specs.Names.{name_text, numbered_text}
 use Rattle.ipfix_elements.specs.declared.kind.Kind.TheVariants.{Octets}
 use Rattle.ipfix_message.specs.Fields.{Field}
 use Rattle.ipfix_message.specs.declared.record.DataRecord.{DataRecord}
-use Rattle.element_registry.specs.Registries.{Known, is_of, kind_under, name_under}
+use Rattle.element_registry.specs.Registries.{Known, is_of, element_kind, element_name}
 use Rattle.element_registry.specs.declared.kind.ElementKind.{ElementKind}
 use Rattle.element_registry.specs.declared.kind.ElementKind.TheVariants.{Plain}
 use Rattle.element_values.specs.FieldTexts.{json_under, text_under}
@@ -34,10 +34,10 @@ name_same (Some r) e known h = refl
 name_same None e known (inl some) = absurd cc
 name_same None e known (inr none) = rw none refl
 
-kind_as_ever : (known : List Known) (e : ElementId) → IsAsEver known e → kind_under known e ≡ Plain (kind_of e)
+kind_as_ever : (known : List Known) (e : ElementId) → IsAsEver known e → element_kind known e ≡ Plain (kind_of e)
 kind_as_ever known e h = kind_same (entry_of e) e known h
 
-name_as_ever : (known : List Known) (e : ElementId) → IsAsEver known e → name_under known e ≡ name_text e
+name_as_ever : (known : List Known) (e : ElementId) → IsAsEver known e → element_name known e ≡ name_text e
 name_as_ever known e h = name_same (entry_of e) e known h
 
 pub field_as_ever : (known : List Known) (f : Field) → IsAsEver known f.element → field_under known f ≡ field_text f

@@ -6,7 +6,7 @@ use Rattle.ipfix_elements.specs.Names.{name_text}
 use Rattle.ipfix_elements.specs.Texts.{value_text}
 use Rattle.ipfix_message.specs.Fields.{Field}
 use Rattle.ipfix_message.specs.declared.record.DataRecord.{DataRecord}
-use Rattle.element_registry.specs.Registries.{Known, kind_under, name_under}
+use Rattle.element_registry.specs.Registries.{Known, element_kind, element_name}
 use Rattle.element_values.specs.FieldTexts.{text_under}
 
 -- a space and a field: its element's name, and its value by the element's kind
@@ -15,7 +15,7 @@ field_text f = codes " " ++ (name_text f.element ++ (codes "=" ++ value_text (ki
 
 -- the same with the elements of files
 abbrev pub field_under : List Known → Field → List ℕ
-field_under known f = codes " " ++ (name_under known f.element ++ (codes "=" ++ text_under (kind_under known f.element) f.octets))
+field_under known f = codes " " ++ (element_name known f.element ++ (codes "=" ++ text_under (element_kind known f.element) f.octets))
 
 -- a label and a number
 abbrev pub labelled : List ℕ → ℕ → List ℕ

@@ -5,7 +5,7 @@ use Rattle.ipfix_elements.specs.Names.{name_text}
 use Rattle.ipfix_message.specs.Fields.{Field}
 use Rattle.ipfix_message.specs.declared.record.DataRecord.{DataRecord}
 use Rattle.ipfix_elements.specs.JsonValues.{json_value}
-use Rattle.element_registry.specs.Registries.{Known, kind_under, name_under}
+use Rattle.element_registry.specs.Registries.{Known, element_kind, element_name}
 use Rattle.element_values.specs.FieldTexts.{json_under}
 use Rattle.ipfix_dump.specs.DumpLines.{labelled}
 
@@ -16,7 +16,7 @@ json_field f = codes "{\"name\":\"" ++ (name_text f.element ++ (codes "\",\"valu
 -- the same with the elements of files
 unfoldable pub json_field_under : List Known → Field → List ℕ
 json_field_under known f =
-    codes "{\"name\":\"" ++ (name_under known f.element ++ (codes "\",\"value\":" ++ (json_under (kind_under known f.element) f.octets ++ codes "}")))
+    codes "{\"name\":\"" ++ (element_name known f.element ++ (codes "\",\"value\":" ++ (json_under (element_kind known f.element) f.octets ++ codes "}")))
 
 abbrev pub comma_if : Bool → List ℕ
 comma_if true = codes ","

@@ -2,7 +2,7 @@
 use Rattle.std.specs.Prelude.{◌≡◌, ℕ, List, ◌++◌, codes, Option, Some}
 use Rattle.ipfix_wire.specs.declared.specifier.ElementId.{ElementId}
 use Rattle.ipfix_message.specs.declared.record.DataRecord.{DataRecord}
-use Rattle.element_registry.specs.Registries.{Known, kind_under, name_under}
+use Rattle.element_registry.specs.Registries.{Known, element_kind, element_name}
 use Rattle.ipfix_dump.specs.DumpLines.{labelled}
 use Rattle.ipfix_dump.specs.declared.options.Form.{Form}
 use Rattle.ipfix_dump.specs.declared.options.Form.TheVariants.{Text, Json}
@@ -32,11 +32,11 @@ behind_name Json = codes "\",\"value\":"
 
 -- what stands before the value of a field
 abbrev pub label_text : Form → List Known → ElementId → List ℕ
-label_text form known e = before_name form ++ (name_under known e ++ behind_name form)
+label_text form known e = before_name form ++ (element_name known e ++ behind_name form)
 
 -- a label is an element's
 abbrev pub IsLabel : Form → List Known → ElementId → Label → Type 0
-IsLabel form known e label = (label.kind ≡ kind_under known e) × (label.text.items ≡ label_text form known e)
+IsLabel form known e label = (label.kind ≡ element_kind known e) × (label.text.items ≡ label_text form known e)
 
 -- what is kept is the label of the element that it says
 abbrev pub IsKept : Form → List Known → Option Label → Type 0

@@ -1,7 +1,7 @@
 //! What stands before the values of fields, kept for the records that follow.
 
 ghost use Rattle.std.specs.Prelude.{◌≡◌, ◌++◌, All, None, IfOk, IfSome, OnOk, slice_set, vec_len, ◌<◌, Some};
-ghost use Rattle.element_registry.specs.Registries.{kind_under};
+ghost use Rattle.element_registry.specs.Registries.{element_kind};
 ghost use Rattle.ipfix_dump.specs.LineParts.{label_text, IsKept, IsLabel};
 
 use crate::label::Label;
@@ -45,7 +45,7 @@ impl<'a> Labels<'a> {
         element: ElementId,
         out: &mut LineOctets,
     ) -> Result<ElementKind, AllocError>
-        ensures kind { IfOk result (λ kind. kind ≡ kind_under self.old.elements.now element) }
+        ensures kind { IfOk result (λ kind. kind ≡ element_kind self.old.elements.now element) }
         ensures text { OnOk result (out.new
             ≡ out.old ++ label_text self.old.form self.old.elements.now element) }
         ensures elements { self.new.elements.now ≡ self.old.elements.now }
@@ -78,7 +78,7 @@ impl<'a> Labels<'a> {
         element: ElementId,
         out: &mut LineOctets,
     ) -> Result<ElementKind, AllocError>
-        ensures kind { IfOk result (λ kind. kind ≡ kind_under self.old.elements.now element) }
+        ensures kind { IfOk result (λ kind. kind ≡ element_kind self.old.elements.now element) }
         ensures text { OnOk result (out.new
             ≡ out.old ++ label_text self.old.form self.old.elements.now element) }
         ensures elements { self.new.elements.now ≡ self.old.elements.now }

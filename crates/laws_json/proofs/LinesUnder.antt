@@ -20,7 +20,7 @@ use Rattle.ipfix_elements.specs.declared.cell.Cell.{Cell}
 use Rattle.ipfix_elements.specs.declared.cell.Cell.TheVariants.{Number}
 use Rattle.ipfix_elements.specs.declared.cell.Cell.TheVariants as cells
 use Rattle.ipfix_elements.specs.declared.kind.Kind.TheVariants as kinds
-use Rattle.element_registry.specs.Registries.{Known, kind_under, name_under}
+use Rattle.element_registry.specs.Registries.{Known, element_kind, element_name}
 use Rattle.element_registry.specs.declared.kind.ElementKind.{ElementKind}
 use Rattle.element_registry.specs.declared.kind.ElementKind.TheVariants.{Plain, Boolean, Signed, Micros, Nanos, Text}
 use Rattle.element_values.specs.FieldTexts.{boolean_text, json_signed, json_under, misfit_text}
@@ -115,12 +115,12 @@ module _ (known : List Known) (plain : have_plain_names known ≡ true) where
   field_is : (f : Field) → has_octets f → IsText (object_of_field_under known f) (json_field_under known f)
   unfolding json_field_under
   field_is f all =
-      let name = name_under known f.element in
-      let value = json_under (kind_under known f.element) f.octets in
+      let name = element_name known f.element in
+      let value = json_under (element_kind known f.element) f.octets in
       let last = 125 ∷ [] in
       let rest = 44 ∷ (codes "\"value\"" ++ 58 ∷ (value ++ last)) in
-      let value_member : AreMembers true (member (codes "value") (value_under (kind_under known f.element) f.octets) no_members) rest =
-      (codes "\"value\"", value, last, refl, key_spells (codes "value") (codes "\"value\"") keys.1, value_is (kind_under known f.element) f.octets all, refl) in (
+      let value_member : AreMembers true (member (codes "value") (value_under (element_kind known f.element) f.octets) no_members) rest =
+      (codes "\"value\"", value, last, refl, key_spells (codes "value") (codes "\"value\"") keys.1, value_is (element_kind known f.element) f.octets all, refl) in (
         codes "\"name\"" ++ 58 ∷ (in_quotes name ++ rest),
         field_text name value,
         (codes "\"name\"", in_quotes name, rest, refl, key_spells (codes "name") (codes "\"name\"") keys.0, plain_spells name (name_plain_under known plain f.element), value_member),
@@ -238,11 +238,11 @@ value_flat Text octets = holds_either IsFlat (λ s. string s) (string_in octets)
 
 fields_numbers : (known : List Known) (fs : List Field) → TextsOfItems IsSigned (items_of (map (object_of_field_under known) fs))
 fields_numbers known [] = tt
-fields_numbers known (f ∷ fs) = ((tt, (value_numbers (kind_under known f.element) f.octets, tt)), fields_numbers known fs)
+fields_numbers known (f ∷ fs) = ((tt, (value_numbers (element_kind known f.element) f.octets, tt)), fields_numbers known fs)
 
 fields_shallow : (known : List Known) (fs : List Field) → items_depth (items_of (map (object_of_field_under known) fs)) ≤ 1
 fields_shallow known [] = omega arith
-fields_shallow known (f ∷ fs) = omega (arith, fields_shallow known fs, value_flat (kind_under known f.element) f.octets)
+fields_shallow known (f ∷ fs) = omega (arith, fields_shallow known fs, value_flat (element_kind known f.element) f.octets)
 
 record_numbers : (known : List Known) (r : DataRecord) → FitsTypes r → HasExactSigned (object_under known r)
 record_numbers known r fits = (

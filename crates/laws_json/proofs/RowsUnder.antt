@@ -12,7 +12,7 @@ use Rattle.ipfix_wire.specs.declared.specifier.ElementId.{ElementId}
 use Rattle.ipfix_elements.specs.Elements.{Entry, entry_of}
 use Rattle.ipfix_elements.specs.Names.{numbered_text}
 use Rattle.ipfix_elements.specs.declared.cell.Cell.TheVariants.{Number}
-use Rattle.element_registry.specs.Registries.{Known, is_of, name_under}
+use Rattle.element_registry.specs.Registries.{Known, is_of, element_name}
 use Rattle.flow_table.specs.declared.key.Key.{Key}
 use Rattle.flow_table.specs.Plans.{PlanValue}
 use Rattle.flow_table.specs.SameTables.{RowValue}
@@ -67,30 +67,30 @@ listed_plain e None (Some k) h g = g k refl
 listed_plain e None None h g = numbered_plain e
 
 module _ (known : List Known) (plain : have_plain_names known ≡ true) where
-  pub name_plain_under : (e : ElementId) → IsPlain (name_under known e)
+  pub name_plain_under : (e : ElementId) → IsPlain (element_name known e)
   name_plain_under e = listed_plain e (entry_of e) (find (is_of e) known) (in_elements e) (λ k found. octets_plain k.name (find_all is_plain_known (is_of e) known k plain found))
 
   key_plain_under : (k : Key) → IsPlain (key_text_under known k)
-  key_plain_under k = IsPlain-append (name_under known k.element) (prefix_text k.prefix) (name_plain_under k.element) (prefix_plain k.prefix)
+  key_plain_under k = IsPlain-append (element_name known k.element) (prefix_text k.prefix) (name_plain_under k.element) (prefix_plain k.prefix)
 
   keys_plain_under : (keys : List Key) → AllPlain (map (key_text_under known) keys)
   keys_plain_under [] = tt
   keys_plain_under (k ∷ ks) = (key_plain_under k, keys_plain_under ks)
 
-  names_plain_under : (elements : List ElementId) → AllPlain (map (name_under known) elements)
+  names_plain_under : (elements : List ElementId) → AllPlain (map (element_name known) elements)
   names_plain_under [] = tt
   names_plain_under (e ∷ es) = (name_plain_under e, names_plain_under es)
 
   heading_plain_under : (plan : PlanValue) → AllPlain (heading_under known plan)
   heading_plain_under plan =
-      (start_plain, (end_plain, AllPlain-append (map (key_text_under known) plan.keys) _ (keys_plain_under plan.keys) (AllPlain-append (map (name_under known) plan.counters) _ (names_plain_under plan.counters) (flows_plain, tt))))
+      (start_plain, (end_plain, AllPlain-append (map (key_text_under known) plan.keys) _ (keys_plain_under plan.keys) (AllPlain-append (map (element_name known) plan.counters) _ (names_plain_under plan.counters) (flows_plain, tt))))
 
   -- ---- lines
 
   row_is_under : (plan : PlanValue) (row : RowValue) → HasAddresses row → row_object_under known plan row ≡ compact_text (object_of_row_under known plan row) ++ codes "\n"
   row_is_under plan row all =
       ap (λ (values : List (List ℕ)). object_line (zip (heading_under known plan) values)) (sym (values_are plan row all))
-      ∙ line_is (codes "start") (codes "end" ∷ (map (key_text_under known) plan.keys ++ (map (name_under known) plan.counters ++ codes "flows" ∷ []))) (value_of_cell (Number (first_of plan row)))
+      ∙ line_is (codes "start") (codes "end" ∷ (map (key_text_under known) plan.keys ++ (map (element_name known) plan.counters ++ codes "flows" ∷ []))) (value_of_cell (Number (first_of plan row)))
       (value_of_cell (Number (last_of plan row)) ∷ map value_of_cell (row.key ++ (map (λ n. Number n) row.sums ++ Number row.flows ∷ []))) (heading_plain_under plan)
 
   numbers_of : (P : ℕ → Type 0) → OfExact P → (plan : PlanValue) (row : RowValue) → NumbersAre P (object_of_row_under known plan row)

@@ -11,7 +11,7 @@ use Rattle.ipfix_elements.specs.Values.{cell_in}
 use Rattle.ipfix_elements.specs.declared.cell.Cell.{Cell}
 use Rattle.ipfix_elements.specs.declared.cell.Cell.TheVariants.{Number, Ipv4, Ipv6, Mac}
 use Rattle.ipfix_elements.specs.JsonValues.{is_exact}
-use Rattle.element_registry.specs.Registries.{Known, kind_under, name_under}
+use Rattle.element_registry.specs.Registries.{Known, element_kind, element_name}
 use Rattle.element_registry.specs.declared.kind.ElementKind.{ElementKind}
 use Rattle.element_registry.specs.declared.kind.ElementKind.TheVariants.{Plain, Boolean, Signed, Micros, Nanos, Text}
 use Rattle.element_values.specs.FieldTexts.{misfit_text}
@@ -89,7 +89,7 @@ value_under Text octets = option_map_or (λ s. string s) (string_in octets) (mis
 
 abbrev pub object_of_field_under : List Known → Field → Json
 object_of_field_under known f =
-    object_with ((codes "name", string (name_under known f.element)) ∷ (codes "value", value_under (kind_under known f.element) f.octets) ∷ [])
+    object_with ((codes "name", string (element_name known f.element)) ∷ (codes "value", value_under (element_kind known f.element) f.octets) ∷ [])
 
 abbrev pub object_under : List Known → DataRecord → Json
 object_under known r = object_with_fields r (map (object_of_field_under known) r.fields)

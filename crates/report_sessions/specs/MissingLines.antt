@@ -2,7 +2,7 @@
 use Rattle.std.specs.Prelude.{ℕ, List, [], ◌++◌, codes, decimal, ◌==◌, slice_index_or, if◌then◌else◌}
 use Rattle.std.specs.List.{flat_map, enumerate_from}
 use Rattle.ipfix_wire.specs.declared.specifier.ElementId.{ElementId}
-use Rattle.element_registry.specs.Registries.{Known, name_under}
+use Rattle.element_registry.specs.Registries.{Known, element_name}
 use Rattle.flow_table.specs.Plans.{PlanValue}
 use Rattle.flow_table.specs.declared.key.Key.{Key}
 use Rattle.flow_table.specs.declared.missing.Missing.{Missing}
@@ -12,7 +12,7 @@ use Rattle.report_writing.specs.declared.verbosity.Verbosity.{Verbosity}
 
 -- used records without a counter
 unfoldable pub counter_text : List Known → ElementId → List ℕ
-counter_text known element = codes "collectd: records: without " ++ name_under known element
+counter_text known element = codes "collectd: records: without " ++ element_name known element
 
 -- untimed records without a start or without an end
 unfoldable pub time_text : List ℕ → List ℕ
@@ -20,7 +20,7 @@ time_text time = codes "collectd: records: untimed without " ++ time
 
 -- unkeyed records that lack a key first
 unfoldable pub unkeyed_text : List Known → Key → List ℕ
-unkeyed_text known key = codes "collectd: records: unkeyed without " ++ (name_under known key.element ++ prefix_text key.prefix)
+unkeyed_text known key = codes "collectd: records: unkeyed without " ++ (element_name known key.element ++ prefix_text key.prefix)
 
 -- how many they are, at the end of a line
 unfoldable pub count_end : ℕ → List ℕ

@@ -1,7 +1,7 @@
 //! The lines of what records lack.
 
 ghost use Rattle.std.specs.Prelude.{◌≡◌, ◌≤◌, false, length};
-ghost use Rattle.element_registry.specs.Registries.{name_under};
+ghost use Rattle.element_registry.specs.Registries.{element_name};
 ghost use Rattle.ipfix_elements.specs.Names.{numbered_text};
 ghost use Rattle.flow_export.specs.CsvText.{prefix_text};
 ghost use Rattle.report_sessions.specs.MissingLines.{count_end, counter_text, lack_line, lack_lines, missing_lines, missing_told, time_text, unkeyed_text};
@@ -144,7 +144,7 @@ fn write_element<W: WriteLines>(
     element: ElementId,
     out: &mut W,
 ) -> io::Result<()>
-    ensures { Tells W.contents W.failed out.old out.new result (name_under elements.now element) }
+    ensures { Tells W.contents W.failed out.old out.new result (element_name elements.now element) }
 {
     match elements.name_of(element) {
         Some(name) => out.write_all(name.as_bytes()),

@@ -2,7 +2,7 @@
 
 ghost use Rattle.std.specs.Prelude.{◌≡◌, [], OnOk, map};
 ghost use Rattle.csv.specs.Records.{fields_of, partial_of};
-ghost use Rattle.element_registry.specs.Registries.{name_under};
+ghost use Rattle.element_registry.specs.Registries.{element_name};
 ghost use Rattle.flow_export.specs.TextsUnder.{heading_under, key_text_under};
 ghost use Rattle.flow_export.specs.Written.{AddsFields};
 
@@ -58,7 +58,7 @@ fn push_names(
 ) -> Result<(), AllocError>
     requires { partial_of line.old ≡ [] }
     ensures fields { OnOk result
-        (AddsFields line.old line.new (map (name_under elements.now) counters.now)) }
+        (AddsFields line.old line.new (map (element_name elements.now) counters.now)) }
     ensures partial { OnOk result (partial_of line.new ≡ []) }
 {
     for counter in counters {

@@ -1,7 +1,7 @@
 //! The names of a row's members, as they stand before the values. They are the same in each row.
 
 ghost use Rattle.std.specs.Prelude.{◌≡◌, IfOk, map};
-ghost use Rattle.element_registry.specs.Registries.{name_under};
+ghost use Rattle.element_registry.specs.Registries.{element_name};
 ghost use Rattle.flow_export.specs.JsonParts.{AreLabels, AreLabelsOf, label, text_of};
 ghost use Rattle.flow_export.specs.TextsUnder.{key_text_under};
 
@@ -62,7 +62,7 @@ fn counter_labels(
     counters: &[ElementId],
 ) -> Result<Vec<MemberLabel>, AllocError>
     ensures { IfOk result (λ labels.
-        AreLabelsOf (map (name_under elements.now) counters.now) labels.items) }
+        AreLabelsOf (map (element_name elements.now) counters.now) labels.items) }
 {
     let mut labels = Vec::new(alloc);
     for counter in counters {
@@ -88,7 +88,7 @@ fn counter_label(
     elements: &Elements,
     counter: ElementId,
 ) -> Result<MemberLabel, AllocError>
-    ensures { IfOk result (λ made. text_of made ≡ label (name_under elements.now counter)) }
+    ensures { IfOk result (λ made. text_of made ≡ label (element_name elements.now counter)) }
 {
     let mut text = Vec::new(alloc);
     text.extend_from_slice(b",\"")?;

@@ -1,7 +1,7 @@
 use Rattle.std.proofs.Common.{◌≡◌, ◌+◌, ◌<◌, length, arith, refl, sym, ◌∙◌}
 use Rattle.std.proofs.lemmas.Bool.{le-ltb}
 use Rattle.std.proofs.lemmas.Option.{same_Some}
-use Rattle.element_registry.specs.Registries.{element_under}
+use Rattle.element_registry.specs.Registries.{element_by_name}
 use Rattle.flow_plan.specs.PlanTextsUnder.{key_under}
 use Rattle.flow_plan.specs.Shown.{shown}
 use Rattle.flow_plan.proofs.Again.{found_again}
@@ -23,7 +23,7 @@ text_at-requires-else-index-keys c =
     let found = found_again c.args.keys.now c.args.counters.now c.requires.repeated in
     let same : found.0 ≡ c.unwrap-index.result = same_Some found.0 c.unwrap-index.result (sym (c.in_ok-first_repeat.ensures ∙ found.1) ∙ c.unwrap-index.ensures) in
     let below : found.0 < length c.args.keys.now + length c.args.counters.now = found.2 in
-    let each : length c.args.counters.now ≡ length c.args.fields.now.counters.items = named_length (element_under c.args.elements.now) c.args.fields.now.counters.items c.args.counters.now c.requires.named.1 in
+    let each : length c.args.counters.now ≡ length c.args.fields.now.counters.items = named_length (element_by_name c.args.elements.now) c.args.fields.now.counters.items c.args.counters.now c.requires.named.1 in
     rw c.deref-else-index-keys.ensures.value (omega (arith, c.if-index-keys.false))
 
 pub returns-else-index-keys : goal.returns-else-index-keys

@@ -2,7 +2,7 @@ use Rattle.std.proofs.Common.{List, ℕ, ◌++◌, codes, subst}
 use Rattle.std.specs.Io.KnownBytes.{Appends}
 use Rattle.std.proofs.KnownBytes.{Appends-trans}
 use Rattle.std.proofs.lemmas.Result.{on_ok_weaker}
-use Rattle.element_registry.specs.Registries.{name_under}
+use Rattle.element_registry.specs.Registries.{element_name}
 use Rattle.flow_export.specs.CsvText.{prefix_text}
 use Rattle.report_sessions.specs.MissingLines.{unkeyed_text}
 use Rattle.report_sessions.proofs.missing.KeyLack.write_words.Goals as goal
@@ -11,7 +11,7 @@ pub returns : goal.returns
 unfolding unkeyed_text
 returns g c =
     let held = g.W.WriteLines.contents in
-    let name = name_under c.args.elements.now c.args.self.now.element in
+    let name = element_name c.args.elements.now c.args.self.now.element in
     let prefix = prefix_text c.args.self.now.prefix in
     let words = subst (λ (t : List ℕ). Appends (held c.args.out.now) (held c.write_all.new.self) t) c.as_bytes.ensures.value c.in_ok-write_all.ensures.bytes in
     record {
