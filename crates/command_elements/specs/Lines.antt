@@ -4,7 +4,7 @@ use Rattle.std.specs.List.{flat_map, list_any}
 use Rattle.ipfix_elements.specs.Names.{numbered_text}
 use Rattle.ipfix_wire.specs.declared.specifier.ElementId.{ElementId}
 use Rattle.element_registry.specs.Registries.{Known}
-use Rattle.flow_table.specs.PlansUnder.{is_counter_under, is_key_under}
+use Rattle.flow_table.specs.Plans.{is_counter, is_key}
 use Rattle.command_elements.specs.Fitting.{fits}
 use Rattle.command_elements.specs.Listed.{Listed, all_listed, type_name}
 
@@ -14,7 +14,7 @@ column width text = text ++ (replicate (width - length text) 32 ++ codes " ")
 
 -- what an element may be in a plan under files
 abbrev pub uses : List Known → ElementId → List ℕ
-uses known e = (if is_key_under known e then codes " key" else []) ++ (if is_counter_under known e then codes " counter" else [])
+uses known e = (if is_key known e then codes " key" else []) ++ (if is_counter known e then codes " counter" else [])
 
 -- its numbers, its type, its name, its uses
 abbrev pub element_line : List Known → Listed → List ℕ

@@ -14,8 +14,7 @@ use Rattle.flow_table.specs.declared.key.Key.{Key}
 use Rattle.flow_table.specs.declared.plan.TheConstants.{MAX_KEYS, MAX_COUNTERS, MAX_SPREAD}
 use Rattle.flow_table.specs.declared.plan_fault.PlanFault.{PlanFault}
 use Rattle.flow_table.specs.declared.plan_fault.PlanFault.TheVariants.{Length, Spread, KeyCount, KeyKind, Prefix, CounterCount, CounterKind, Repeated, OutOfMemory}
-use Rattle.flow_table.specs.Plans.{is_between, is_prefix_of, exported_element, has_twice, or_else, fault_unless}
-use Rattle.flow_table.specs.PlansUnder.{is_key_under, is_counter_under, first_fault_under}
+use Rattle.flow_table.specs.Plans.{is_between, is_prefix_of, exported_element, has_twice, or_else, fault_unless, is_key, is_counter, first_fault}
 use Rattle.flow_plan.specs.declared.error.PlanKey.{PlanKey}
 use Rattle.flow_plan.specs.declared.error.PlanPlace.{PlanPlace}
 use Rattle.flow_plan.specs.declared.error.PlanPlace.TheVariants.{Value, Count, Text}
@@ -61,7 +60,7 @@ fails fault true true true true true true true false is = subst (λ x. test_of x
 fails fault true true true true true true true true is = absurd (none-some fault is)
 
 abbrev are_keys : List Known → List Key → Bool
-are_keys known keys = list_all (λ k. is_key_under known k.element) keys
+are_keys known keys = list_all (λ k. is_key known k.element) keys
 
 abbrev have_prefixes : List Key → Bool
 have_prefixes keys = list_all (λ k. is_prefix_of k.element k.prefix) keys
@@ -69,9 +68,9 @@ have_prefixes keys = list_all (λ k. is_prefix_of k.element k.prefix) keys
 abbrev are_apart : List Key → List ElementId → Bool
 are_apart keys counters = not (has_twice (map (λ k. k.element) keys ++ counters) || has_twice (map exported_element keys ++ counters))
 
-test_fails : (known : List Known) (fault : PlanFault) (len : ℕ) (keys : List Key) (counters : List ElementId) (spread : ℕ) → first_fault_under known len keys counters spread ≡ Some fault
+test_fails : (known : List Known) (fault : PlanFault) (len : ℕ) (keys : List Key) (counters : List ElementId) (spread : ℕ) → first_fault known len keys counters spread ≡ Some fault
     → test_of fault (nat_lt 0 len) (is_between 1 MAX_SPREAD spread) (nat_le (length keys) MAX_KEYS) (are_keys known keys) (have_prefixes keys)
-    (is_between 1 MAX_COUNTERS (length counters)) (list_all (is_counter_under known) counters) (are_apart keys counters) ≡ false
+    (is_between 1 MAX_COUNTERS (length counters)) (list_all (is_counter known) counters) (are_apart keys counters) ≡ false
 test_fails known fault len keys counters spread is = fails fault _ _ _ _ _ _ _ _ is
 
 -- ---- the first that fails a test
@@ -133,22 +132,22 @@ within f texts xs place o n named is found chosen =
 -- ---- the first that has the fault
 
 pub key_found : (known : List Known) (len : ℕ) (keys : List Key) (counters : List ElementId) (spread : ℕ) (fault : PlanFault) → fault ≡ KeyKind
-    → (fault ≢ OutOfMemory → first_fault_under known len keys counters spread ≡ Some fault) → (i : ℕ) × (position_from (is_unfit_key_under known) 0 keys ≡ Some i) × (i < length keys)
+    → (fault ≢ OutOfMemory → first_fault known len keys counters spread ≡ Some fault) → (i : ℕ) × (position_from (is_unfit_key_under known) 0 keys ≡ Some i) × (i < length keys)
 key_found known len keys counters spread fault is first =
-    let fits : first_fault_under known len keys counters spread ≡ Some KeyKind = first (λ e. let d : KeyKind ≡ OutOfMemory = sym is ∙ e in cc) ∙ ap (λ (f : PlanFault). Some f) is in
-    first_failing (λ k. is_key_under known k.element) keys (test_fails known KeyKind len keys counters spread fits)
+    let fits : first_fault known len keys counters spread ≡ Some KeyKind = first (λ e. let d : KeyKind ≡ OutOfMemory = sym is ∙ e in cc) ∙ ap (λ (f : PlanFault). Some f) is in
+    first_failing (λ k. is_key known k.element) keys (test_fails known KeyKind len keys counters spread fits)
 
 pub prefix_found : (known : List Known) (len : ℕ) (keys : List Key) (counters : List ElementId) (spread : ℕ) (fault : PlanFault) → fault ≡ Prefix
-    → (fault ≢ OutOfMemory → first_fault_under known len keys counters spread ≡ Some fault) → (i : ℕ) × (position_from is_unfit_prefix 0 keys ≡ Some i) × (i < length keys)
+    → (fault ≢ OutOfMemory → first_fault known len keys counters spread ≡ Some fault) → (i : ℕ) × (position_from is_unfit_prefix 0 keys ≡ Some i) × (i < length keys)
 prefix_found known len keys counters spread fault is first =
-    let fits : first_fault_under known len keys counters spread ≡ Some Prefix = first (λ e. let d : Prefix ≡ OutOfMemory = sym is ∙ e in cc) ∙ ap (λ (f : PlanFault). Some f) is in
+    let fits : first_fault known len keys counters spread ≡ Some Prefix = first (λ e. let d : Prefix ≡ OutOfMemory = sym is ∙ e in cc) ∙ ap (λ (f : PlanFault). Some f) is in
     first_failing (λ k. is_prefix_of k.element k.prefix) keys (test_fails known Prefix len keys counters spread fits)
 
 pub counter_found : (known : List Known) (len : ℕ) (keys : List Key) (counters : List ElementId) (spread : ℕ) (fault : PlanFault) → fault ≡ CounterKind
-    → (fault ≢ OutOfMemory → first_fault_under known len keys counters spread ≡ Some fault) → (i : ℕ) × (position_from (is_unfit_counter_under known) 0 counters ≡ Some i) × (i < length counters)
+    → (fault ≢ OutOfMemory → first_fault known len keys counters spread ≡ Some fault) → (i : ℕ) × (position_from (is_unfit_counter_under known) 0 counters ≡ Some i) × (i < length counters)
 counter_found known len keys counters spread fault is first =
-    let fits : first_fault_under known len keys counters spread ≡ Some CounterKind = first (λ e. let d : CounterKind ≡ OutOfMemory = sym is ∙ e in cc) ∙ ap (λ (f : PlanFault). Some f) is in
-    first_failing (is_counter_under known) counters (test_fails known CounterKind len keys counters spread fits)
+    let fits : first_fault known len keys counters spread ≡ Some CounterKind = first (λ e. let d : CounterKind ≡ OutOfMemory = sym is ∙ e in cc) ∙ ap (λ (f : PlanFault). Some f) is in
+    first_failing (is_counter known) counters (test_fails known CounterKind len keys counters spread fits)
 
 -- ---- the text at the place that is blamed
 

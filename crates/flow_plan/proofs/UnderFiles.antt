@@ -1,22 +1,20 @@
 -- Plans as texts under files: without files they are those of built-in names, and files change no plan that needs none.
-use Rattle.std.proofs.Common.{◌≡◌, ℕ, ◌+◌, Bool, true, false, cond, List, [], ◌∷◌, ◌&&◌, find, Option, Some, None, is_none, option_map, option_and_then, refl, sym, ap, ap₂, subst, ◌∙◌}
-use Rattle.std.specs.Prelude.{not, Result, Ok, Err, IfErr, string_bytes}
+use Rattle.std.proofs.Common.{◌≡◌, ℕ, Bool, true, false, cond, List, [], ◌∷◌, find, Option, Some, None, is_none, option_map, option_and_then, refl, sym, ap, ap₂, subst, ◌∙◌}
+use Rattle.std.specs.Prelude.{Result, Ok, Err, IfErr, string_bytes}
 use Rattle.std.specs.Option.{ok_or, option_or}
-use Rattle.std.specs.List.{list_any, before_first, after_first, position_from}
+use Rattle.std.specs.List.{list_any, before_first, after_first}
 use Rattle.std.proofs.lemmas.Option.{none-some}
 use Rattle.toml.specs.Data.{Members}
 use Rattle.toml.specs.Parse.{parse_document}
 use Rattle.ipfix_wire.specs.declared.specifier.ElementId.{ElementId}
-use Rattle.ipfix_elements.specs.Elements.{kind_of}
 use Rattle.ipfix_elements.specs.Names.{element_named}
 use Rattle.element_registry.specs.Registries.{Known, element_by_name}
 use Rattle.element_registry.proofs.Registered.{before}
 use Rattle.flow_table.specs.declared.key.Key.{Key}
 use Rattle.flow_table.specs.declared.plan_fault.PlanFault.{PlanFault}
 use Rattle.flow_table.specs.declared.plan_fault.PlanFault.TheVariants.{Length, Spread, KeyCount, KeyKind, Prefix, CounterCount, CounterKind, Repeated, OutOfMemory}
-use Rattle.flow_table.specs.Plans.{PlanValue, plan_value, is_key_kind, is_counter, or_else, fault_unless, first_fault}
-use Rattle.flow_table.specs.PlansUnder.{plan_under, is_key_under, is_counter_under, first_fault_under}
-use Rattle.flow_table.proofs.UnderFiles.{kept_fault, kept_plan, no_files_fault, no_files_plan}
+use Rattle.flow_table.specs.Plans.{PlanValue, plan_value, first_fault}
+use Rattle.flow_table.proofs.MadePlans.{kept_fault, kept_plan}
 use Rattle.flow_plan.specs.declared.error.PlanKey.{PlanKey}
 use Rattle.flow_plan.specs.declared.error.PlanKey.TheVariants as keys
 use Rattle.flow_plan.specs.declared.error.PlanPlace.{PlanPlace}
@@ -28,8 +26,8 @@ use Rattle.flow_plan.specs.declared.fault.PlanTextFault.TheVariants.{NotToml, Un
 use Rattle.flow_plan.specs.Faults.{Read, ◌>>=◌}
 use Rattle.flow_plan.specs.PlanTexts.{Fields, all_of, bits_in, checked, counters_in, fields_of, has_known_fields, is_slash, key_named, keys_in, plan_of_document, plan_of_fields, plan_of_text, prefix_key, whole_key}
 use Rattle.flow_plan.specs.PlanTextsUnder.{counters_under, key_under, keys_under, plan_of_document_under, plan_of_fields_under, plan_of_text_under}
-use Rattle.flow_plan.specs.Blames.{blamed, is_unfit_counter, is_unfit_key, IsBlamed, IsPlace}
-use Rattle.flow_plan.specs.BlamesUnder.{blamed_under, is_unfit_counter_under, is_unfit_key_under, IsBlamedUnder, IsPlaceUnder}
+use Rattle.flow_plan.specs.Blames.{blamed, IsBlamed, IsPlace}
+use Rattle.flow_plan.specs.BlamesUnder.{blamed_under, IsBlamedUnder, IsPlaceUnder}
 use Rattle.flow_plan.specs.Places.{no_counter_in, no_key_in, IsUnknown, Tells}
 use Rattle.flow_plan.specs.PlacesUnder.{no_counter_under, no_key_under, IsUnknownUnder, TellsUnder}
 
@@ -69,14 +67,13 @@ then_same (Err e) f g same = refl
 
 -- the plan of the fields but for their texts
 abbrev made_under : List Known → Fields → List Key → List ElementId → Read PlanValue
-made_under known f ks cs = checked (plan_under known f.length f.method ks cs f.max_spread) (first_fault_under known f.length ks cs f.max_spread)
+made_under known f ks cs = checked (plan_value known f.length f.method ks cs f.max_spread) (first_fault known f.length ks cs f.max_spread)
 
 no_files_fields : (f : Fields) → plan_of_fields_under [] f ≡ plan_of_fields f
 no_files_fields f =
     ap₂ (λ (ks : Read (List Key)) (cs : Read (List ElementId)). ks >>= λ keys. cs >>= λ counters. made_under [] f keys counters) (no_files_keys f.keys) (no_files_counters f.counters)
     ∙ then_same (keys_in f.keys) _ _
-    (λ ks. then_same (counters_in f.counters) _ _
-    (λ cs. ap₂ checked (no_files_plan f.length f.method ks cs f.max_spread) (no_files_fault f.length ks cs f.max_spread)))
+    (λ ks. then_same (counters_in f.counters) _ _ (λ cs. refl))
 
 no_files_document : (d : Members) → plan_of_document_under [] d ≡ plan_of_document d
 no_files_document d =
@@ -88,41 +85,11 @@ no_files_text text = then_same (ok_or (parse_document text) NotToml) (plan_of_do
 pub none_known : (known : List Known) (text : List ℕ) → known ≡ [] → plan_of_text_under known text ≡ plan_of_text text
 none_known known text none = ap (λ (k : List Known). plan_of_text_under k text) none ∙ no_files_text text
 
--- ---- elements without files, by the faults of plans of one element
-
-abbrev key_fault_by : Bool → Option PlanFault
-key_fault_by fits = or_else (or_else (fault_unless (fits && true) KeyKind) None) (Some CounterCount)
-
-told_by_key : (a b : Bool) → key_fault_by a ≡ key_fault_by b → a ≡ b
-told_by_key true true h = refl
-told_by_key false false h = refl
-told_by_key true false h = absurd cc
-told_by_key false true h = absurd cc
-
-no_files_is_key : (e : ElementId) → is_key_under [] e ≡ is_key_kind (kind_of e)
-no_files_is_key e = told_by_key (is_key_under [] e) (is_key_kind (kind_of e)) (no_files_fault 1 (whole_key e ∷ []) [] 1)
-
-abbrev counter_fault_by : Bool → Option PlanFault
-counter_fault_by fits = or_else (fault_unless (fits && true) CounterKind) None
-
-told_by_counter : (a b : Bool) → counter_fault_by a ≡ counter_fault_by b → a ≡ b
-told_by_counter true true h = refl
-told_by_counter false false h = refl
-told_by_counter true false h = absurd cc
-told_by_counter false true h = absurd cc
-
-no_files_is_counter : (e : ElementId) → is_counter_under [] e ≡ is_counter e
-no_files_is_counter e = told_by_counter (is_counter_under [] e) (is_counter e) (no_files_fault 1 [] (e ∷ []) 1)
-
 -- ---- places without files
 
 find_same : {A : Type 0} (p q : A → Bool) → ((x : A) → p x ≡ q x) → (xs : List A) → find p xs ≡ find q xs
 find_same p q same [] = refl
 find_same p q same (x ∷ xs) = ap₂ (λ b rest. cond b (Some x) rest) (same x) (find_same p q same xs)
-
-position_same : {A : Type 0} (p q : A → Bool) → ((x : A) → p x ≡ q x) → (n : ℕ) (xs : List A) → position_from p n xs ≡ position_from q n xs
-position_same p q same n [] = refl
-position_same p q same n (x ∷ xs) = ap₂ (λ b rest. cond b (Some n) rest) (same x) (position_same p q same (n + 1) xs)
 
 no_files_no_key : (texts : List (List ℕ)) → no_key_under [] texts ≡ no_key_in texts
 no_files_no_key texts = find_same (λ t. is_none (key_under [] t)) (λ t. is_none (key_named t)) (λ t. ap is_none (no_files_key t)) texts
@@ -131,10 +98,8 @@ no_files_no_counter : (texts : List (List ℕ)) → no_counter_under [] texts �
 no_files_no_counter texts = find_same (λ t. is_none (element_by_name [] t)) (λ t. is_none (element_named t)) (λ t. ap is_none (no_files_element t)) texts
 
 no_files_blamed : (fault : PlanFault) (ks : List Key) (cs : List ElementId) → blamed_under [] fault ks cs ≡ blamed fault ks cs
-no_files_blamed KeyKind ks cs =
-    ap (option_map (λ (n : ℕ). (keys.Keys, n))) (position_same (is_unfit_key_under []) is_unfit_key (λ k. ap not (no_files_is_key k.element)) 0 ks)
-no_files_blamed CounterKind ks cs =
-    ap (option_map (λ (n : ℕ). (keys.Counters, n))) (position_same (is_unfit_counter_under []) is_unfit_counter (λ e. ap not (no_files_is_counter e)) 0 cs)
+no_files_blamed KeyKind ks cs = refl
+no_files_blamed CounterKind ks cs = refl
 no_files_blamed Length ks cs = refl
 no_files_blamed Spread ks cs = refl
 no_files_blamed KeyCount ks cs = refl
@@ -268,9 +233,9 @@ passed plan p None h = refl
 passed plan p (Some fault) h = absurd cc
 
 checked_kept : (known : List Known) (f : Fields) (ks : List Key) (cs : List ElementId) (p : PlanValue)
-    → checked (plan_value f.length f.method ks cs f.max_spread) (first_fault f.length ks cs f.max_spread) ≡ Ok p → made_under known f ks cs ≡ Ok p
+    → checked (plan_value [] f.length f.method ks cs f.max_spread) (first_fault [] f.length ks cs f.max_spread) ≡ Ok p → made_under known f ks cs ≡ Ok p
 checked_kept known f ks cs p h =
-    let none = passed (plan_value f.length f.method ks cs f.max_spread) p (first_fault f.length ks cs f.max_spread) h in
+    let none = passed (plan_value [] f.length f.method ks cs f.max_spread) p (first_fault [] f.length ks cs f.max_spread) h in
     ap₂ checked (kept_plan known f.length f.method ks cs f.max_spread none) (kept_fault known f.length ks cs f.max_spread none ∙ sym none) ∙ h
 
 fields_kept : (known : List Known) (p : PlanValue) (f : Fields) → plan_of_fields f ≡ Ok p → plan_of_fields_under known f ≡ Ok p

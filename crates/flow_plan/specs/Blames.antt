@@ -2,11 +2,10 @@
 use Rattle.std.specs.Prelude.{◌≡◌, ℕ, ◌+◌, ◌-◌, ◌||◌, nat_lt, not, Bool, List, [], ◌∷◌, ◌++◌, length, map, Option, Some, None, option_map, Ok, if◌then◌else◌, slice_get, string_bytes}
 use Rattle.std.specs.List.{list_any, position_from}
 use Rattle.ipfix_wire.specs.declared.specifier.ElementId.{ElementId}
-use Rattle.ipfix_elements.specs.Elements.{kind_of}
 use Rattle.flow_table.specs.declared.key.Key.{Key}
 use Rattle.flow_table.specs.declared.plan_fault.PlanFault.{PlanFault}
 use Rattle.flow_table.specs.declared.plan_fault.PlanFault.TheVariants.{Length, Spread, KeyCount, KeyKind, Prefix, CounterCount, CounterKind, Repeated}
-use Rattle.flow_table.specs.Plans.{is_key_kind, is_prefix_of, is_counter, same_element, exported_element}
+use Rattle.flow_table.specs.Plans.{is_key, is_prefix_of, is_counter, same_element, exported_element}
 use Rattle.flow_plan.specs.declared.error.PlanKey.{PlanKey}
 use Rattle.flow_plan.specs.declared.error.PlanKey.TheVariants.{IntervalMs, MaxSpread, Keys, Counters}
 use Rattle.flow_plan.specs.declared.error.PlanPlace.{PlanPlace}
@@ -30,13 +29,13 @@ counted_key _ = None
 -- ---- elements
 
 abbrev pub is_unfit_key : Key → Bool
-is_unfit_key k = not (is_key_kind (kind_of k.element))
+is_unfit_key k = not (is_key [] k.element)
 
 abbrev pub is_unfit_prefix : Key → Bool
 is_unfit_prefix k = not (is_prefix_of k.element k.prefix)
 
 abbrev pub is_unfit_counter : ElementId → Bool
-is_unfit_counter e = not (is_counter e)
+is_unfit_counter e = not (is_counter [] e)
 
 -- whether two keys have one element, in the records that are read or in those that are exported
 abbrev pub has_one_element : Key → Key → Bool

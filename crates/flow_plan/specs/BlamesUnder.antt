@@ -6,7 +6,7 @@ use Rattle.element_registry.specs.Registries.{Known}
 use Rattle.flow_table.specs.declared.key.Key.{Key}
 use Rattle.flow_table.specs.declared.plan_fault.PlanFault.{PlanFault}
 use Rattle.flow_table.specs.declared.plan_fault.PlanFault.TheVariants.{KeyKind, CounterKind}
-use Rattle.flow_table.specs.PlansUnder.{is_key_under, is_counter_under}
+use Rattle.flow_table.specs.Plans.{is_key, is_counter}
 use Rattle.flow_plan.specs.declared.error.PlanKey.{PlanKey}
 use Rattle.flow_plan.specs.declared.error.PlanKey.TheVariants.{Keys, Counters}
 use Rattle.flow_plan.specs.declared.error.PlanPlace.{PlanPlace}
@@ -16,10 +16,10 @@ use Rattle.flow_plan.specs.PlanTextsUnder.{keys_under, counters_under}
 use Rattle.flow_plan.specs.Blames.{blamed, texts_at, IsPlace}
 
 abbrev pub is_unfit_key_under : List Known → Key → Bool
-is_unfit_key_under known k = not (is_key_under known k.element)
+is_unfit_key_under known k = not (is_key known k.element)
 
 abbrev pub is_unfit_counter_under : List Known → ElementId → Bool
-is_unfit_counter_under known e = not (is_counter_under known e)
+is_unfit_counter_under known e = not (is_counter known e)
 
 -- the place of the first element that has the fault: files say which elements are keys and counters, and no more
 abbrev pub blamed_under : List Known → PlanFault → List Key → List ElementId → Option (PlanKey × ℕ)

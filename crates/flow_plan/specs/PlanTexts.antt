@@ -12,7 +12,7 @@ use Rattle.flow_table.specs.declared.key.Key.{Key}
 use Rattle.flow_table.specs.declared.method.Method.{Method}
 use Rattle.flow_table.specs.declared.method.Method.TheVariants.{Start, End, Mid, Uniform, Proportional}
 use Rattle.flow_table.specs.declared.plan_fault.PlanFault.{PlanFault}
-use Rattle.flow_table.specs.Plans.{PlanValue, plan_value, first_fault_of}
+use Rattle.flow_table.specs.Plans.{PlanValue, plan_value, first_fault}
 use Rattle.flow_plan.specs.declared.fault.PlanTextFault.TheVariants as faults
 use Rattle.flow_plan.specs.Faults.{Read, ◌>>=◌}
 
@@ -136,7 +136,7 @@ abbrev pub plan_of_fields : Fields → Read PlanValue
 plan_of_fields f =
     keys_in f.keys >>= λ keys.
     counters_in f.counters >>= λ counters.
-    let plan = plan_value f.length f.method keys counters f.max_spread in checked plan (first_fault_of plan)
+    checked (plan_value [] f.length f.method keys counters f.max_spread) (first_fault [] f.length keys counters f.max_spread)
 
 abbrev pub plan_of_document : Members → Read PlanValue
 plan_of_document d = if has_known_fields d then fields_of d >>= plan_of_fields else Err faults.UnknownField

@@ -7,8 +7,7 @@ use Rattle.toml.specs.Parse.{parse_document}
 use Rattle.ipfix_wire.specs.declared.specifier.ElementId.{ElementId}
 use Rattle.element_registry.specs.Registries.{Known, element_by_name}
 use Rattle.flow_table.specs.declared.key.Key.{Key}
-use Rattle.flow_table.specs.Plans.{PlanValue}
-use Rattle.flow_table.specs.PlansUnder.{plan_under, first_fault_under}
+use Rattle.flow_table.specs.Plans.{PlanValue, plan_value, first_fault}
 use Rattle.flow_plan.specs.declared.fault.PlanTextFault.TheVariants as faults
 use Rattle.flow_plan.specs.Faults.{Read, ◌>>=◌}
 use Rattle.flow_plan.specs.PlanTexts.{Fields, all_of, bits_in, checked, fields_of, has_known_fields, is_slash, prefix_key, whole_key}
@@ -32,7 +31,7 @@ abbrev pub plan_of_fields_under : List Known → Fields → Read PlanValue
 plan_of_fields_under known f =
     keys_under known f.keys >>= λ keys.
     counters_under known f.counters >>= λ counters.
-    checked (plan_under known f.length f.method keys counters f.max_spread) (first_fault_under known f.length keys counters f.max_spread)
+    checked (plan_value known f.length f.method keys counters f.max_spread) (first_fault known f.length keys counters f.max_spread)
 
 abbrev pub plan_of_document_under : List Known → Members → Read PlanValue
 plan_of_document_under known d = if has_known_fields d then fields_of d >>= plan_of_fields_under known else Err faults.UnknownField

@@ -2,8 +2,7 @@
 
 ghost use Rattle.std.specs.Prelude.{◌≡◌, ◌≢◌, ◌<◌, Some, IfOk, length};
 ghost use Rattle.std.specs.List.{position_from};
-ghost use Rattle.flow_table.specs.Plans.{repeat_fault};
-ghost use Rattle.flow_table.specs.PlansUnder.{first_fault_under};
+ghost use Rattle.flow_table.specs.Plans.{first_fault, repeat_fault};
 ghost use Rattle.flow_plan.specs.Blames.{is_unfit_prefix};
 ghost use Rattle.flow_plan.specs.BlamesUnder.{is_unfit_counter_under, is_unfit_key_under, IsPlaceUnder, NamesAllUnder};
 ghost use Rattle.flow_plan.specs.Shown.{shown, shown_all, IsTextAt};
@@ -28,7 +27,7 @@ pub fn place_of(
 ) -> Result<PlanPlace, AllocError>
     requires named { NamesAllUnder elements.now (shown fields.now) keys.now counters.now }
     requires first { fault ≢ PlanFault.OutOfMemory
-        → first_fault_under elements.now fields.now.length keys.now counters.now
+        → first_fault elements.now fields.now.length keys.now counters.now
         fields.now.max_spread ≡ Some fault }
     ensures { IfOk result (IsPlaceUnder elements.now (shown fields.now) fault) }
 {

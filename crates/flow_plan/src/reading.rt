@@ -46,7 +46,7 @@ pub fn read_plan(alloc: Global, text: &str) -> Result<Plan, PlanTextFault>
 }
 
 /// As [`read_plan`], where the texts of `keys` and `counters` may name elements of files, too, and
-/// the faults of a plan are those of [`Plan::under`](flow_table::Plan::under).
+/// the faults of a plan are those of [`Plan::with_elements`](flow_table::Plan::with_elements).
 pub fn read_plan_under(
     alloc: Global,
     elements: &Elements,
@@ -84,7 +84,7 @@ pub fn read_plan_octets(alloc: Global, octets: &[u8]) -> Result<Plan, PlanTextEr
 }
 
 /// As [`read_plan_octets`], where the texts of `keys` and `counters` may name elements of files, too,
-/// and the faults of a plan are those of [`Plan::under`](flow_table::Plan::under).
+/// and the faults of a plan are those of [`Plan::with_elements`](flow_table::Plan::with_elements).
 pub fn read_plan_octets_under(
     alloc: Global,
     elements: &Elements,
@@ -145,7 +145,7 @@ fn make_plan(alloc: Global, elements: &Elements, fields: &Fields) -> Result<Plan
 {
     let keys = keys_named(alloc, elements, &fields.keys)?;
     let counters = counters_named(alloc, elements, &fields.counters)?;
-    match Plan::under(
+    match Plan::with_elements(
         alloc,
         elements,
         fields.length,

@@ -49,7 +49,7 @@ fn reads_elements_of_a_file(rt: HostRuntime) -> Result<(), Fail> {
     ];
     let counters = [of_enterprise(4), ElementId::iana(1)];
     let plan = read_plan_under(rt.alloc(), &elements, text.as_str())?;
-    let want = Plan::under(
+    let want = Plan::with_elements(
         rt.alloc(),
         &elements,
         1,

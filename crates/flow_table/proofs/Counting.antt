@@ -8,7 +8,7 @@ use Rattle.ipfix_wire.specs.declared.specifier.ElementId.{ElementId}
 use Rattle.ipfix_elements.proofs.Lookups.{find_head, find_rest}
 use Rattle.element_registry.specs.Registries.{Known, IsRegistry, are_apart, is_of, same_element}
 use Rattle.element_registry.proofs.Registered.{element_is}
-use Rattle.flow_table.specs.PlansUnder.{is_delta_of, is_unsigned}
+use Rattle.flow_table.specs.Plans.{is_delta_of, is_unsigned}
 
 abbrev pub counts : Option Known → Bool
 counts None = false

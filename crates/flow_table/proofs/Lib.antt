@@ -5,7 +5,7 @@ pub mod Places
 pub mod UsedRecords
 pub mod PlanKeys
 pub mod WordSteps
-pub mod UnderFiles
+pub mod MadePlans
 pub mod Bags
 pub mod Dues
 pub mod Faults

@@ -1,7 +1,6 @@
 -- What public contracts cite.
 pub mod Plans
 pub mod PlanFaults
-pub mod PlansUnder
 pub mod Intervals
 pub mod Reading
 pub mod Missing

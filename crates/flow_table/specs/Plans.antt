@@ -1,12 +1,17 @@
--- Plans of an aggregation (RFC 7015, section 5), and what makes arguments no plan.
-use Rattle.std.specs.Prelude.{◌≡◌, ℕ, ◌≤◌, ◌^◌, ◌==◌, ◌&&◌, ◌||◌, not, Bool, true, false, nat_lt, nat_le, List, [], ◌∷◌, ◌++◌, length, map, zip, Option, Some, None, is_some, if◌then◌else◌}
+-- Plans of an aggregation (RFC 7015, section 5), and what makes arguments no plan. Their elements are built in, or known
+-- from files.
+use Rattle.std.specs.Prelude.{◌≡◌, ℕ, ◌≤◌, ◌^◌, ◌==◌, ◌&&◌, ◌||◌, not, Bool, true, false, nat_lt, nat_le, List, [], ◌∷◌, ◌++◌, length, map, zip, Option, Some, None, is_some, is_none, if◌then◌else◌}
 use Rattle.std.specs.List.{list_any, list_all}
 use Rattle.std.specs.Option.{ForSome}
 use Rattle.ipfix_wire.specs.declared.specifier.ElementId.{ElementId}
 use Rattle.ipfix_elements.specs.declared.iana.TheConstants.{OCTET_DELTA_COUNT, PACKET_DELTA_COUNT, DELTA_FLOW_COUNT, POST_OCTET_DELTA_COUNT, POST_PACKET_DELTA_COUNT, DROPPED_OCTET_DELTA_COUNT, DROPPED_PACKET_DELTA_COUNT, SOURCE_IPV4_ADDRESS, DESTINATION_IPV4_ADDRESS, SOURCE_IPV4_PREFIX, DESTINATION_IPV4_PREFIX, FLOW_START_SECONDS, FLOW_END_SECONDS, FLOW_START_MILLISECONDS, FLOW_END_MILLISECONDS}
-use Rattle.ipfix_elements.specs.Elements.{kind_of}
+use Rattle.ipfix_elements.specs.Elements.{entry_of}
 use Rattle.ipfix_elements.specs.declared.kind.Kind.{Kind}
 use Rattle.ipfix_elements.specs.declared.kind.Kind.TheVariants as kinds
+use Rattle.ipfix_elements.specs.declared.kind.Width.TheVariants.{One}
+use Rattle.element_registry.specs.Registries.{Known, element_kind, is_of}
+use Rattle.element_registry.specs.declared.kind.ElementKind.{ElementKind}
+use Rattle.element_registry.specs.declared.kind.ElementKind.TheVariants.{Plain, Boolean, Signed, Micros, Nanos, Text}
 use Rattle.flow_table.specs.declared.method.Method.{Method}
 use Rattle.flow_table.specs.declared.key.Key.{Key}
 use Rattle.flow_table.specs.declared.key.Side.{Side}
@@ -25,17 +30,29 @@ pub record PlanValue : Type 0 where
   pub counters : List ElementId
   pub max_spread : ℕ
 
--- the kinds of built-in elements that are keys
-abbrev pub kinds_of : List Key → List Kind
-kinds_of keys = map (λ k. kind_of k.element) keys
+-- the kind that a key is read by: a truth value is a number of one octet, whichever it is (1 and 2 are those of RFC 7011,
+-- section 6.1.5), and what has a sign, is a time or a text is no key
+abbrev pub field_kind : ElementKind → Kind
+field_kind (Plain kind) = kind
+field_kind Boolean = kinds.Unsigned One
+field_kind (Signed width) = kinds.Octets
+field_kind Micros = kinds.Octets
+field_kind Nanos = kinds.Octets
+field_kind Text = kinds.Octets
+
+abbrev pub key_kind : List Known → ElementId → Kind
+key_kind known e = field_kind (element_kind known e)
+
+abbrev pub kinds_of : List Known → List Key → List Kind
+kinds_of known keys = map (λ k. key_kind known k.element) keys
 
 abbrev pub plan_with : ℕ → Method → List Key → List Kind → List ElementId → ℕ → PlanValue
 plan_with length method keys kinds counters max_spread =
     record { length = length; method = method; keys = keys; kinds = kinds; counters = counters; max_spread = max_spread }
 
--- a plan of built-in elements
-abbrev pub plan_value : ℕ → Method → List Key → List ElementId → ℕ → PlanValue
-plan_value length method keys counters max_spread = plan_with length method keys (kinds_of keys) counters max_spread
+-- a plan whose elements are built in or known from files
+abbrev pub plan_value : List Known → ℕ → Method → List Key → List ElementId → ℕ → PlanValue
+plan_value known length method keys counters max_spread = plan_with length method keys (kinds_of known keys) counters max_spread
 
 -- the keys of a plan, each with its kind
 abbrev pub keys_and_kinds : PlanValue → List (Key × Kind)
@@ -43,6 +60,10 @@ keys_and_kinds plan = zip plan.keys plan.kinds
 
 abbrev pub is_between : ℕ → ℕ → ℕ → Bool
 is_between low high n = nat_le low n && nat_le n high
+
+-- numbers that are in range (RFC 7011, section 3.2)
+abbrev pub is_element : ElementId → Bool
+is_element e = nat_lt e.pen (2 ^ 32) && nat_lt e.number (2 ^ 15)
 
 abbrev pub same_element : ElementId → ElementId → Bool
 same_element a b = (a.pen == b.pen) && (a.number == b.number)
@@ -61,6 +82,9 @@ is_key_kind kinds.Seconds = false
 is_key_kind kinds.Millis = false
 is_key_kind kinds.Octets = false
 
+abbrev pub is_key : List Known → ElementId → Bool
+is_key known e = is_element e && is_key_kind (key_kind known e)
+
 -- the IPv4 addresses of a flow's ends may have a prefix of up to 32 bits
 abbrev pub is_prefix_of : ElementId → Option ℕ → Bool
 is_prefix_of e None = true
@@ -71,10 +95,22 @@ abbrev pub HasPrefix : Key → Type 0
 HasPrefix k = ForSome k.prefix (λ bits. bits ≤ 32)
 
 -- the delta counters of octets, packets and flows
-abbrev pub is_counter : ElementId → Bool
-is_counter e =
+abbrev pub is_built_in_counter : ElementId → Bool
+is_built_in_counter e =
     is_of_iana (OCTET_DELTA_COUNT ∷ PACKET_DELTA_COUNT ∷ DELTA_FLOW_COUNT ∷ POST_OCTET_DELTA_COUNT ∷ POST_PACKET_DELTA_COUNT
     ∷ DROPPED_OCTET_DELTA_COUNT ∷ DROPPED_PACKET_DELTA_COUNT ∷ []) e
+
+abbrev pub is_unsigned : ElementKind → Bool
+is_unsigned (Plain (kinds.Unsigned width)) = true
+is_unsigned kind = false
+
+-- what a file says of an element makes it a counter: a number whose values may be added up, not a total (RFC 7012, section 3.2)
+abbrev pub is_delta_of : ElementId → Known → Bool
+is_delta_of e k = is_of e k && (k.is_delta && is_unsigned k.kind)
+
+-- a built-in counter, or one of a file
+abbrev pub is_counter : List Known → ElementId → Bool
+is_counter known e = is_built_in_counter e || (is_element e && (is_none (entry_of e) && list_any (is_delta_of e) known))
 
 -- the element of a prefix of an address
 abbrev pub prefix_element : ElementId → ElementId
@@ -113,38 +149,31 @@ length_fault length = fault_unless (nat_lt 0 length) Length
 abbrev pub spread_fault : ℕ → Option PlanFault
 spread_fault max_spread = fault_unless (is_between 1 MAX_SPREAD max_spread) Spread
 
-abbrev pub key_fault : List Key → Option PlanFault
-key_fault keys =
+abbrev pub key_fault : List Known → List Key → Option PlanFault
+key_fault known keys =
     or_else (fault_unless (nat_le (length keys) MAX_KEYS) KeyCount)
-    (or_else (fault_unless (list_all (λ k. is_key_kind (kind_of k.element)) keys) KeyKind)
+    (or_else (fault_unless (list_all (λ k. is_key known k.element) keys) KeyKind)
     (fault_unless (list_all (λ k. is_prefix_of k.element k.prefix) keys) Prefix))
 
-abbrev pub counter_fault : List ElementId → Option PlanFault
-counter_fault counters =
+abbrev pub counter_fault : List Known → List ElementId → Option PlanFault
+counter_fault known counters =
     or_else (fault_unless (is_between 1 MAX_COUNTERS (length counters)) CounterCount)
-    (fault_unless (list_all is_counter counters) CounterKind)
+    (fault_unless (list_all (is_counter known) counters) CounterKind)
 
 -- no element may stand twice, neither in the records that are read nor in those that are exported
 abbrev pub repeat_fault : List Key → List ElementId → Option PlanFault
 repeat_fault keys counters = fault_unless (not (has_twice (elements_in Read keys counters) || has_twice (elements_in Exported keys counters))) Repeated
 
 -- the first fault that fits arguments
-abbrev pub first_fault : ℕ → List Key → List ElementId → ℕ → Option PlanFault
-first_fault length keys counters max_spread =
+abbrev pub first_fault : List Known → ℕ → List Key → List ElementId → ℕ → Option PlanFault
+first_fault known length keys counters max_spread =
     or_else (length_fault length)
     (or_else (spread_fault max_spread)
-    (or_else (key_fault keys)
-    (or_else (counter_fault counters)
+    (or_else (key_fault known keys)
+    (or_else (counter_fault known counters)
     (repeat_fault keys counters))))
 
-abbrev pub first_fault_of : PlanValue → Option PlanFault
-first_fault_of p = first_fault p.length p.keys p.counters p.max_spread
-
 -- ---- what holds of every plan
-
--- numbers that are in range (RFC 7011, section 3.2)
-abbrev pub is_element : ElementId → Bool
-is_element e = nat_lt e.pen (2 ^ 32) && nat_lt e.number (2 ^ 15)
 
 -- a flow's start or end
 abbrev pub is_time : ElementId → Bool

@@ -2,8 +2,8 @@
 
 ghost use Rattle.std.specs.Prelude.{◌≡◌};
 ghost use Rattle.std.specs.List.{list_all, list_any};
-ghost use Rattle.flow_table.specs.Plans.{is_prefix_of as is_prefix_of_in, has_twice as has_twice_in, same_element, element_in, elements_in};
-ghost use Rattle.flow_table.specs.PlansUnder.{is_key_under, is_counter_under, key_fault_under, counter_fault_under, first_fault_under};
+ghost use Rattle.flow_table.specs.Plans as plans;
+ghost use Rattle.flow_table.specs.Plans.{same_element, element_in, elements_in};
 
 use crate::key::{Key, Side};
 use crate::plan::{MAX_COUNTERS, MAX_KEYS, MAX_SPREAD};
@@ -14,20 +14,20 @@ use ipfix_wire::ElementId;
 
 // Whether the elements of all keys may be keys.
 fn are_keys(elements: &Elements, keys: &[Key]) -> bool
-    ensures { result ≡ list_all (λ k. is_key_under elements.now k.element) keys.now }
+    ensures { result ≡ list_all (λ k. plans.is_key elements.now k.element) keys.now }
 {
     keys.iter().all(|key| is_key(elements, key.element))
 }
 
 // Whether the elements of all keys may have their prefixes.
 fn have_prefixes(keys: &[Key]) -> bool
-    ensures { result ≡ list_all (λ k. is_prefix_of_in k.element k.prefix) keys.now }
+    ensures { result ≡ list_all (λ k. plans.is_prefix_of k.element k.prefix) keys.now }
 {
     keys.iter().all(|key| is_prefix_of(key.element, key.prefix))
 }
 
 fn are_counters(elements: &Elements, counters: &[ElementId]) -> bool
-    ensures { result ≡ list_all (is_counter_under elements.now) counters.now }
+    ensures { result ≡ list_all (plans.is_counter elements.now) counters.now }
 {
     counters
         .iter()
@@ -35,7 +35,7 @@ fn are_counters(elements: &Elements, counters: &[ElementId]) -> bool
 }
 
 fn has_twice(mut elements: &[ElementId]) -> bool
-    ensures { result ≡ has_twice_in elements.entry.now }
+    ensures { result ≡ plans.has_twice elements.entry.now }
 {
     while let [element, rest @ ..] = elements {
         if rest.contains(element) {
@@ -63,7 +63,7 @@ fn is_among(element: ElementId, keys: &[Key], counters: &[ElementId], side: Side
 
 // Whether an element stands twice among keys and counters on that side.
 fn is_repeated(mut keys: &[Key], counters: &[ElementId], side: Side) -> bool
-    ensures { result ≡ has_twice_in (elements_in side keys.entry.now counters.now) }
+    ensures { result ≡ plans.has_twice (elements_in side keys.entry.now counters.now) }
 {
     while let [key, rest @ ..] = keys {
         if is_among(key.element_in(side), rest, counters, side) {
@@ -75,7 +75,7 @@ fn is_repeated(mut keys: &[Key], counters: &[ElementId], side: Side) -> bool
 }
 
 fn key_fault(elements: &Elements, keys: &[Key]) -> Option<PlanFault>
-    ensures { result ≡ key_fault_under elements.now keys.now }
+    ensures { result ≡ plans.key_fault elements.now keys.now }
 {
     if keys.len() > MAX_KEYS {
         return Some(PlanFault::KeyCount);
@@ -90,7 +90,7 @@ fn key_fault(elements: &Elements, keys: &[Key]) -> Option<PlanFault>
 }
 
 fn counter_fault(elements: &Elements, counters: &[ElementId]) -> Option<PlanFault>
-    ensures { result ≡ counter_fault_under elements.now counters.now }
+    ensures { result ≡ plans.counter_fault elements.now counters.now }
 {
     if counters.is_empty() || counters.len() > MAX_COUNTERS {
         return Some(PlanFault::CounterCount);
@@ -109,7 +109,7 @@ pub fn first_fault(
     counters: &[ElementId],
     max_spread: u32,
 ) -> Option<PlanFault>
-    ensures { result ≡ first_fault_under elements.now length keys.now counters.now max_spread }
+    ensures { result ≡ plans.first_fault elements.now length keys.now counters.now max_spread }
 {
     if length == 0 {
         return Some(PlanFault::Length);

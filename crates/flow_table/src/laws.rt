@@ -12,7 +12,6 @@ ghost use Rattle.flow_table.specs.Intervals.{covered_by, share};
 ghost use Rattle.flow_table.specs.Missing.{missing_of};
 ghost use Rattle.element_registry.specs.Registries.{Known};
 ghost use Rattle.flow_table.specs.Plans.{PlanValue, IsPlan, plan_value, first_fault};
-ghost use Rattle.flow_table.specs.PlansUnder.{plan_under, first_fault_under};
 ghost use Rattle.flow_table.specs.declared.key.Key.{Key};
 ghost use Rattle.flow_table.specs.declared.method.Method.{Method};
 ghost use Rattle.ipfix_wire.specs.declared.specifier.ElementId.{ElementId};
@@ -29,35 +28,25 @@ pub fn plans_compare_by_value()
     ensures { (a b : PlanValue) → (⟦<Plan as PartialEq>⟧.eq a b ≡ true) ↔ (a ≡ b) }
 {}
 
-/// Without files of elements plans and their faults are those of built-in elements, and a plan of
-/// built-in elements is the same plan under all files.
-pub fn plans_under_files()
-    ensures plan { (length : ℕ) (method : Method) (keys : List Key) (counters : List ElementId)
-        (max_spread : ℕ) → plan_under [] length method keys counters max_spread
-        ≡ plan_value length method keys counters max_spread }
-    ensures fault { (length : ℕ) (keys : List Key) (counters : List ElementId) (max_spread : ℕ)
-        → first_fault_under [] length keys counters max_spread
-        ≡ first_fault length keys counters max_spread }
+/// A plan of built-in elements is the same plan whatever files say.
+pub fn built_in_plans_stay()
     ensures no_fault { (known : List Known) (length : ℕ) (keys : List Key)
         (counters : List ElementId) (max_spread : ℕ)
-        → first_fault length keys counters max_spread ≡ None
-        → first_fault_under known length keys counters max_spread ≡ None }
+        → first_fault [] length keys counters max_spread ≡ None
+        → first_fault known length keys counters max_spread ≡ None }
     ensures same { (known : List Known) (length : ℕ) (method : Method) (keys : List Key)
         (counters : List ElementId) (max_spread : ℕ)
-        → first_fault length keys counters max_spread ≡ None
-        → plan_under known length method keys counters max_spread
-        ≡ plan_value length method keys counters max_spread }
+        → first_fault [] length keys counters max_spread ≡ None
+        → plan_value known length method keys counters max_spread
+        ≡ plan_value [] length method keys counters max_spread }
 {}
 
-/// Every plan that no fault fits is one, with or without files.
+/// Every plan that no fault fits is one.
 pub fn faultless_plans()
-    ensures built_in { (length : ℕ) (method : Method) (keys : List Key) (counters : List ElementId)
-        (max_spread : ℕ) → first_fault length keys counters max_spread ≡ None
-        → IsPlan (plan_value length method keys counters max_spread) }
-    ensures under { (known : List Known) (length : ℕ) (method : Method) (keys : List Key)
+    ensures { (known : List Known) (length : ℕ) (method : Method) (keys : List Key)
         (counters : List ElementId) (max_spread : ℕ)
-        → first_fault_under known length keys counters max_spread ≡ None
-        → IsPlan (plan_under known length method keys counters max_spread) }
+        → first_fault known length keys counters max_spread ≡ None
+        → IsPlan (plan_value known length method keys counters max_spread) }
 {}
 
 /// By every method the shares of the intervals that a flow covers add up to its counter (RFC 7015,

@@ -46,10 +46,9 @@ impl Model for Plan {
 }
 
 impl Plan {
-    ghost use Rattle.std.specs.Prelude.{◌≡◌, ◌≢◌, ◌≤◌, ◌<◌, Some, None, length, All, IfOk, IfErr, OnOk, IsErrOf};
+    ghost use Rattle.std.specs.Prelude.{◌≡◌, ◌≢◌, ◌≤◌, ◌<◌, [], Some, None, length, All, IfOk, IfErr, OnOk, IsErrOf};
     ghost use Rattle.std.specs.List.{AllPass};
-    ghost use Rattle.flow_table.specs.Plans.{IsPlan, HasPrefix, is_value, is_key_kind, plan_value, first_fault_of};
-    ghost use Rattle.flow_table.specs.PlansUnder.{plan_under, first_fault_under};
+    ghost use Rattle.flow_table.specs.Plans.{IsPlan, HasPrefix, is_value, is_key_kind, plan_value, first_fault};
 
     /// The plan of the arguments, or the first fault that fits them, in this order: `Length`,
     /// `Spread`, `KeyCount`, `KeyKind`, `Prefix`, `CounterCount`, `CounterKind`, `Repeated`.
@@ -63,26 +62,25 @@ impl Plan {
         max_spread: u32,
     ) -> Result<Plan, PlanFault>
         ensures ok { IfOk result (λ plan. plan
-            ≡ plan_value length method keys.now counters.now max_spread) }
+            ≡ plan_value [] length method keys.now counters.now max_spread) }
         ensures sound { OnOk result
-            (IsPlan (plan_value length method keys.now counters.now max_spread)) }
+            (IsPlan (plan_value [] length method keys.now counters.now max_spread)) }
         ensures faultless { OnOk result
-            (first_fault_of (plan_value length method keys.now counters.now max_spread) ≡ None) }
+            (first_fault [] length keys.now counters.now max_spread ≡ None) }
         ensures fault { IfErr result (λ fault. fault ≢ PlanFault.OutOfMemory
-            → first_fault_of (plan_value length method keys.now counters.now max_spread)
-            ≡ Some fault) }
+            → first_fault [] length keys.now counters.now max_spread ≡ Some fault) }
         ensures memory { IsErrOf result PlanFault.OutOfMemory
-            → first_fault_of (plan_value length method keys.now counters.now max_spread) ≡ None }
+            → first_fault [] length keys.now counters.now max_spread ≡ None }
     {
         let elements = Elements::built_in(alloc);
-        Plan::under(alloc, &elements, length, method, keys, counters, max_spread)
+        Plan::with_elements(alloc, &elements, length, method, keys, counters, max_spread)
     }
 
     /// The plan of the arguments, whose elements may be built in or known from files, or the first
     /// fault that fits them, in the order of [`Plan::new`]. A truth value may be a key: it is read
     /// as a number of one octet. A counter of a file is an unsigned number and a delta counter.
     /// `OutOfMemory` comes only if no fault fits.
-    pub fn under(
+    pub fn with_elements(
         alloc: Global,
         elements: &Elements,
         length: u32,
@@ -92,14 +90,13 @@ impl Plan {
         max_spread: u32,
     ) -> Result<Plan, PlanFault>
         ensures ok { IfOk result (λ plan. plan
-            ≡ plan_under elements.now length method keys.now counters.now max_spread) }
+            ≡ plan_value elements.now length method keys.now counters.now max_spread) }
         ensures faultless { OnOk result
-            (first_fault_under elements.now length keys.now counters.now max_spread ≡ None) }
+            (first_fault elements.now length keys.now counters.now max_spread ≡ None) }
         ensures fault { IfErr result (λ fault. fault ≢ PlanFault.OutOfMemory
-            → first_fault_under elements.now length keys.now counters.now max_spread
-            ≡ Some fault) }
+            → first_fault elements.now length keys.now counters.now max_spread ≡ Some fault) }
         ensures memory { IsErrOf result PlanFault.OutOfMemory
-            → first_fault_under elements.now length keys.now counters.now max_spread ≡ None }
+            → first_fault elements.now length keys.now counters.now max_spread ≡ None }
     {
         if let Some(fault) = first_fault(elements, length, keys, counters, max_spread) {
             return Err(fault);

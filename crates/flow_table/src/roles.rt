@@ -2,8 +2,7 @@
 
 ghost use Rattle.std.specs.Prelude.{◌≡◌, IfOk};
 ghost use Rattle.std.specs.List.{list_any};
-ghost use Rattle.flow_table.specs.Plans.{is_element as is_element_in, is_key_kind as is_key_kind_in, is_prefix_of as is_prefix_of_in, is_counter as is_counter_in};
-ghost use Rattle.flow_table.specs.PlansUnder.{field_kind as field_kind_in, key_kind_under, kinds_under, is_key_under, is_unsigned as is_unsigned_in, is_delta_of as is_delta_of_in, is_counter_under};
+ghost use Rattle.flow_table.specs.Plans as plans;
 
 use crate::key::Key;
 use element_registry::{ElementKind, Elements};
@@ -30,13 +29,13 @@ const COUNTERS: [u16; 7] = [
 ];
 
 fn is_element(element: ElementId) -> bool
-    ensures { result ≡ is_element_in element }
+    ensures { result ≡ plans.is_element element }
 {
     element.number < NUMBER_LIMIT
 }
 
 fn is_key_kind(kind: Kind) -> bool
-    ensures { result ≡ is_key_kind_in kind }
+    ensures { result ≡ plans.is_key_kind kind }
 {
     match kind {
         Kind::Unsigned(_) | Kind::Ipv4 | Kind::Ipv6 | Kind::Mac => true,
@@ -46,7 +45,7 @@ fn is_key_kind(kind: Kind) -> bool
 
 // The kind that a key is read by: that of octets, if it can be no key.
 fn field_kind(kind: ElementKind) -> Kind
-    ensures { result ≡ field_kind_in kind }
+    ensures { result ≡ plans.field_kind kind }
 {
     match kind {
         ElementKind::Plain(kind) => kind,
@@ -58,14 +57,14 @@ fn field_kind(kind: ElementKind) -> Kind
 
 /// The kind that an element's fields are read by as those of a key.
 pub fn key_kind(elements: &Elements, element: ElementId) -> Kind
-    ensures { result ≡ key_kind_under elements.now element }
+    ensures { result ≡ plans.key_kind elements.now element }
 {
     field_kind(elements.kind_of(element))
 }
 
 /// The kinds of keys, in their order.
 pub fn kinds_of(alloc: Global, elements: &Elements, keys: &[Key]) -> Result<Vec<Kind>, AllocError>
-    ensures { IfOk result (λ kinds. kinds.items ≡ kinds_under elements.now keys.now) }
+    ensures { IfOk result (λ kinds. kinds.items ≡ plans.kinds_of elements.now keys.now) }
 {
     keys.iter()
         .map(|key| key_kind(elements, key.element))
@@ -75,7 +74,7 @@ pub fn kinds_of(alloc: Global, elements: &Elements, keys: &[Key]) -> Result<Vec<
 /// Whether an element may be a key of a plan: a number, a truth value or an address, built in or named
 /// by a file, and with a number up to 32767 (RFC 7011, section 3.2).
 pub fn is_key(elements: &Elements, element: ElementId) -> bool
-    ensures { result ≡ is_key_under elements.now element }
+    ensures { result ≡ plans.is_key elements.now element }
 {
     is_element(element) && is_key_kind(key_kind(elements, element))
 }
@@ -83,7 +82,7 @@ pub fn is_key(elements: &Elements, element: ElementId) -> bool
 /// Whether a key of the element may have the prefix: the IPv4 addresses of a flow's ends may, of up to
 /// 32 bits.
 pub fn is_prefix_of(element: ElementId, prefix: Option<u8>) -> bool
-    ensures { result ≡ is_prefix_of_in element prefix }
+    ensures { result ≡ plans.is_prefix_of element prefix }
 {
     match prefix {
         None => true,
@@ -92,13 +91,13 @@ pub fn is_prefix_of(element: ElementId, prefix: Option<u8>) -> bool
 }
 
 fn is_built_in_counter(element: ElementId) -> bool
-    ensures { result ≡ is_counter_in element }
+    ensures { result ≡ plans.is_built_in_counter element }
 {
     element.pen == 0 && COUNTERS.contains(&element.number)
 }
 
 fn is_unsigned(kind: ElementKind) -> bool
-    ensures { result ≡ is_unsigned_in kind }
+    ensures { result ≡ plans.is_unsigned kind }
 {
     matches!(kind, ElementKind::Plain(Kind::Unsigned(_)))
 }
@@ -106,7 +105,7 @@ fn is_unsigned(kind: ElementKind) -> bool
 // Whether what a file says makes the element a counter.
 #[tactic(auto, using(crate::proofs::Counting::counts_once))]
 fn is_delta(elements: &Elements, element: ElementId) -> bool
-    ensures { result ≡ list_any (is_delta_of_in element) elements.now }
+    ensures { result ≡ list_any (plans.is_delta_of element) elements.now }
 {
     match elements.find_entry(element) {
         Some(entry) => entry.is_delta && is_unsigned(entry.kind),
@@ -117,7 +116,7 @@ fn is_delta(elements: &Elements, element: ElementId) -> bool
 /// Whether an element may be a counter of a plan: a delta counter of octets, packets or flows that is
 /// built in, or an unsigned number that a file names as a delta counter (RFC 7012, section 3.2.3).
 pub fn is_counter(elements: &Elements, element: ElementId) -> bool
-    ensures { result ≡ is_counter_under elements.now element }
+    ensures { result ≡ plans.is_counter elements.now element }
 {
     is_built_in_counter(element)
         || is_element(element) && name_of(element).is_none() && is_delta(elements, element)

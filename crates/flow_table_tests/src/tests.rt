@@ -1,6 +1,6 @@
 mod calling;
 mod memory;
+mod named;
 mod plans;
 mod records;
 mod tables;
-mod under;

@@ -40,7 +40,7 @@ fn by_source(alloc: Global, elements: &Elements) -> Result<Plan, PlanFault> {
         pen: 32473,
         number: 5,
     };
-    Plan::under(
+    Plan::with_elements(
         alloc,
         elements,
         60_000,

@@ -56,7 +56,7 @@ fn plan_of(
     counter: ElementId,
 ) -> Result<Plan, PlanFault> {
     let key = Key { element, prefix };
-    Plan::under(
+    Plan::with_elements(
         alloc,
         elements,
         60_000,
@@ -119,7 +119,7 @@ fn without_files_there_are_built_in_elements_alone(rt: HostRuntime) {
 }
 
 #[test]
-fn a_plan_tells_the_kinds_of_its_keys(rt: HostRuntime) -> Result<(), Fail> {
+fn a_plan_has_the_kinds_of_its_keys(rt: HostRuntime) -> Result<(), Fail> {
     let elements = known(rt.alloc())?;
     let octet = Kind::Unsigned(Width::One);
     let port = Kind::Unsigned(Width::Two);

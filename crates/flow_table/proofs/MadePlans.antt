@@ -1,0 +1,231 @@
+-- What passes the tests is a plan, and files change none of built-in elements.
+use Rattle.std.proofs.Common.{◌≡◌, ℕ, Bool, true, false, eqb, nat_lt, nat_le, ◌||◌, ◌&&◌, not, List, [], ◌∷◌, length, map, find, Option, Some, None, is_none, refl, sym, ap, ap₂, subst, ◌∙◌, inl, inr}
+use Rattle.std.specs.List.{list_all, list_any}
+use Rattle.std.specs.Option.{option_map_or}
+use Rattle.std.proofs.lemmas.Bool.{false≢true, cases_Bool, and_parts, and_from, eqb-true}
+use Rattle.std.proofs.lemmas.List.{length-map}
+use Rattle.std.proofs.lemmas.List.Folds.{list_all-map}
+use Rattle.ipfix_wire.specs.declared.specifier.ElementId.{ElementId}
+use Rattle.ipfix_elements.specs.Elements.{Entry, entry_of, elements, iana}
+use Rattle.ipfix_elements.specs.declared.kind.Kind.{Kind}
+use Rattle.ipfix_elements.specs.declared.kind.Kind.TheVariants.{Octets}
+use Rattle.element_registry.specs.Registries.{Known, is_of}
+use Rattle.element_registry.specs.declared.kind.ElementKind.TheVariants.{Plain}
+use Rattle.flow_table.specs.declared.key.Key.{Key}
+use Rattle.flow_table.specs.declared.key.Side.TheVariants.{Read, Exported}
+use Rattle.flow_table.specs.declared.method.Method.{Method}
+use Rattle.flow_table.specs.declared.plan_fault.PlanFault.{PlanFault}
+use Rattle.flow_table.specs.declared.plan_fault.PlanFault.TheVariants.{KeyCount, KeyKind, Prefix, CounterCount, CounterKind}
+use Rattle.flow_table.specs.Plans.{IsPlan, plan_value, plan_with, field_kind, key_kind, is_between, is_element, is_time, is_value, is_key, is_key_kind, is_built_in_counter, is_counter, is_delta_of, is_prefix_of, has_twice, elements_in, or_else, fault_unless, length_fault, spread_fault, repeat_fault, first_fault}
+
+-- ---- lists
+
+-- what holds of each of some numbers
+abbrev Each : (ℕ → Type 0) → List ℕ → Type 0
+Each P [] = Unit {0}
+Each P (n ∷ ns) = P n × Each P ns
+
+any_of : (P : ℕ → Type 0) (ns : List ℕ) (x : ℕ) → Each P ns → list_any (λ n. eqb n x) ns ≡ true → P x
+any_of P [] x each any = absurd cc
+any_of P (n ∷ ns) x each any = elim (cases_Bool (eqb n x)) [
+  | inl t ↦ subst P (eqb-true n x t) each.0
+  | inr f ↦ any_of P ns x each.1 (rw f at any)
+]
+
+pub all_weaker : {X : Type 0} (p q : X → Bool) → ((x : X) → p x ≡ true → q x ≡ true) → (xs : List X) → list_all p xs ≡ true → list_all q xs ≡ true
+all_weaker p q weaker [] all = refl
+all_weaker p q weaker (x ∷ xs) all =
+    let both = and_parts (p x) (list_all p xs) all in
+    and_from (q x) (list_all q xs) (weaker x both.0) (all_weaker p q weaker xs both.1)
+
+all_mapped : {X Y : Type 0} (f g : X → Y) (p : X → Bool) → ((x : X) → p x ≡ true → f x ≡ g x) → (xs : List X) → list_all p xs ≡ true → map f xs ≡ map g xs
+all_mapped f g p same [] all = refl
+all_mapped f g p same (x ∷ xs) all =
+    let both = and_parts (p x) (list_all p xs) all in
+    ap₂ (λ y ys. y ∷ ys) (same x both.0) (all_mapped f g p same xs both.1)
+
+-- ---- built-in elements
+
+-- one of the numbers, of IANA's registry
+has_number : (P : ElementId → Type 0) (ns : List ℕ) (e : ElementId) → Each (λ n. P (iana n)) ns → (eqb e.pen 0 && list_any (λ n. eqb n e.number) ns) ≡ true → P e
+has_number P ns e each any =
+    let both = and_parts (eqb e.pen 0) (list_any (λ n. eqb n e.number) ns) any in
+    let same : iana e.number ≡ e = rw (eqb-true e.pen 0 both.0) refl in
+    subst P same (any_of (λ n. P (iana n)) ns e.number each both.1)
+
+-- a key without files is built in
+has_entry : (o : Option Entry) → is_key_kind (field_kind (option_map_or (λ (r : Entry). Plain r.kind) o (Plain Octets))) ≡ true → (r : Entry) × (o ≡ Some r)
+has_entry None key = absurd cc
+has_entry (Some r) key = (r, refl)
+
+built_in_kind : (known : List Known) (e : ElementId) (r : Entry) → entry_of e ≡ Some r → key_kind known e ≡ field_kind (Plain r.kind)
+built_in_kind known e r h =
+    ap (λ (o : Option Entry). field_kind (option_map_or (λ (r : Entry). Plain r.kind) o (option_map_or (λ (k : Known). k.kind) (find (is_of e) known) (Plain Octets)))) h
+
+kept_kind : (known : List Known) (e : ElementId) → is_key [] e ≡ true → key_kind known e ≡ key_kind [] e
+kept_kind known e key =
+    let at = has_entry (entry_of e) (and_parts (is_element e) (is_key_kind (key_kind [] e)) key).1 in
+    built_in_kind known e at.0 at.1 ∙ sym (built_in_kind [] e at.0 at.1)
+
+kept_key : (known : List Known) (e : ElementId) → is_key [] e ≡ true → is_key known e ≡ true
+kept_key known e key = ap (λ (kind : Kind). is_element e && is_key_kind kind) (kept_kind known e key) ∙ key
+
+kept_counter : (known : List Known) (e : ElementId) → is_counter [] e ≡ true → is_counter known e ≡ true
+kept_counter known e counter = by (is_built_in_counter e) (is_element e) (is_none (entry_of e)) counter
+  where
+    by : (a b c : Bool) → (a || (b && (c && false))) ≡ true → (a || (b && (c && list_any (is_delta_of e) known))) ≡ true
+    by true b c counter = refl
+    by false true true counter = absurd cc
+    by false true false counter = absurd cc
+    by false false c counter = absurd cc
+
+-- ---- no times
+
+-- no time has a key's kind, whatever files say
+NoKey : List Known → ElementId → Type 0
+NoKey known e = is_key_kind (key_kind known e) ≡ false
+
+times_no_keys : (known : List Known) → Each (λ n. NoKey known (iana n)) (150 ∷ 151 ∷ 152 ∷ 153 ∷ [])
+unfolding elements NoKey
+times_no_keys known = (refl, (refl, (refl, (refl, tt))))
+
+BuiltIn : ElementId → Type 0
+BuiltIn e = is_none (entry_of e) ≡ false
+
+times_built_in : Each (λ n. BuiltIn (iana n)) (150 ∷ 151 ∷ 152 ∷ 153 ∷ [])
+unfolding elements BuiltIn
+times_built_in = (refl, (refl, (refl, (refl, tt))))
+
+not_both : (b : Bool) → b ≡ false → b ≡ true → ⊥
+not_both b doesnt does = false≢true (sym doesnt ∙ does)
+
+no_time : (e : ElementId) → is_element e ≡ true → (is_time e ≡ true → ⊥) → is_value e ≡ true
+no_time e inside other = elim (cases_Bool (is_time e)) [
+  | inl time ↦ absurd (other time)
+  | inr none ↦ and_from (is_element e) (not (is_time e)) inside (ap not none)
+]
+
+pub key_is_value : (known : List Known) (e : ElementId) → is_key known e ≡ true → is_value e ≡ true
+unfolding NoKey
+key_is_value known e key =
+    let both = and_parts (is_element e) (is_key_kind (key_kind known e)) key in
+    no_time e both.0 (λ time. not_both (is_key_kind (key_kind known e)) (has_number (NoKey known) (150 ∷ 151 ∷ 152 ∷ 153 ∷ []) e (times_no_keys known) time) both.1)
+
+IsValue : ElementId → Type 0
+IsValue e = is_value e ≡ true
+
+counters_are_values : Each (λ n. IsValue (iana n)) (1 ∷ 2 ∷ 3 ∷ 23 ∷ 24 ∷ 132 ∷ 133 ∷ [])
+unfolding IsValue
+counters_are_values = (refl, (refl, (refl, (refl, (refl, (refl, (refl, tt)))))))
+
+pub counter_is_value : (known : List Known) (e : ElementId) → is_counter known e ≡ true → is_value e ≡ true
+unfolding IsValue BuiltIn
+counter_is_value known e counter = elim (cases_Bool (is_built_in_counter e)) [
+  | inl built_in ↦ has_number IsValue (1 ∷ 2 ∷ 3 ∷ 23 ∷ 24 ∷ 132 ∷ 133 ∷ []) e counters_are_values built_in
+  | inr other ↦
+      let of_file = is_element e && (is_none (entry_of e) && list_any (is_delta_of e) known) in
+      let does : of_file ≡ true = sym (ap (λ (b : Bool). b || of_file) other) ∙ counter in
+      let both = and_parts (is_element e) (is_none (entry_of e) && list_any (is_delta_of e) known) does in
+      let free = (and_parts (is_none (entry_of e)) (list_any (is_delta_of e) known) both.1).0 in
+      no_time e both.0 (λ time. not_both (is_none (entry_of e)) (has_number BuiltIn (150 ∷ 151 ∷ 152 ∷ 153 ∷ []) e times_built_in time) free)
+]
+
+-- ---- faults by the tests of kinds
+
+-- the first fault, by whether the elements may be keys, and counters
+abbrev fault_by : ℕ → List Key → List ElementId → ℕ → Bool → Bool → Option PlanFault
+fault_by len keys counters max_spread are_keys are_counters =
+    or_else (length_fault len)
+    (or_else (spread_fault max_spread)
+    (or_else
+    (or_else (fault_unless (nat_le (length keys) 8) KeyCount)
+    (or_else (fault_unless are_keys KeyKind) (fault_unless (list_all (λ k. is_prefix_of k.element k.prefix) keys) Prefix)))
+    (or_else
+    (or_else (fault_unless (is_between 1 4 (length counters)) CounterCount) (fault_unless are_counters CounterKind))
+    (repeat_fault keys counters))))
+
+passed_first : (first second : Option PlanFault) → or_else first second ≡ None → (first ≡ None) × (second ≡ None)
+passed_first None second h = (refl, h)
+passed_first (Some fault) second h = absurd cc
+
+passed_test : (holds : Bool) (fault : PlanFault) → fault_unless holds fault ≡ None → holds ≡ true
+passed_test true fault h = refl
+passed_test false fault h = absurd cc
+
+-- the tests that arguments pass
+record PassedTests (known : List Known) (len : ℕ) (keys : List Key) (counters : List ElementId) (max_spread : ℕ) : Type 0 where
+  positive : nat_lt 0 len ≡ true
+  spread : is_between 1 4096 max_spread ≡ true
+  few : nat_le (length keys) 8 ≡ true
+  kinds : list_all (λ k. is_key known k.element) keys ≡ true
+  prefixes : list_all (λ k. is_prefix_of k.element k.prefix) keys ≡ true
+  some : is_between 1 4 (length counters) ≡ true
+  counted : list_all (is_counter known) counters ≡ true
+  apart : not (has_twice (elements_in Read keys counters) || has_twice (elements_in Exported keys counters)) ≡ true
+
+passed_tests : (known : List Known) (len : ℕ) (keys : List Key) (counters : List ElementId) (max_spread : ℕ)
+    → first_fault known len keys counters max_spread ≡ None → PassedTests known len keys counters max_spread
+passed_tests known len keys counters max_spread h =
+    let few = fault_unless (nat_le (length keys) 8) KeyCount in
+    let kind = fault_unless (list_all (λ k. is_key known k.element) keys) KeyKind in
+    let prefix = fault_unless (list_all (λ k. is_prefix_of k.element k.prefix) keys) Prefix in
+    let some = fault_unless (is_between 1 4 (length counters)) CounterCount in
+    let count = fault_unless (list_all (is_counter known) counters) CounterKind in
+    let rest = repeat_fault keys counters in
+    let of_keys = or_else few (or_else kind prefix) in
+    let of_counters = or_else some count in
+    let after_length = passed_first (length_fault len) (or_else (spread_fault max_spread) (or_else of_keys (or_else of_counters rest))) h in
+    let after_spread = passed_first (spread_fault max_spread) (or_else of_keys (or_else of_counters rest)) after_length.1 in
+    let after_keys = passed_first of_keys (or_else of_counters rest) after_spread.1 in
+    let in_keys = passed_first few (or_else kind prefix) after_keys.0 in
+    let in_kinds = passed_first kind prefix in_keys.1 in
+    let last = passed_first of_counters rest after_keys.1 in
+    let in_counters = passed_first some count last.0 in
+    record {
+      positive = passed_test _ _ after_length.0;
+      spread = passed_test _ _ after_spread.0;
+      few = passed_test _ _ in_keys.0;
+      kinds = passed_test _ _ in_kinds.0;
+      prefixes = passed_test _ _ in_kinds.1;
+      some = passed_test _ _ in_counters.0;
+      counted = passed_test _ _ in_counters.1;
+      apart = passed_test _ _ last.1;
+    }
+
+-- ---- plans
+
+pub is_plan : (known : List Known) (len : ℕ) (method : Method) (keys : List Key) (counters : List ElementId) (max_spread : ℕ)
+    → first_fault known len keys counters max_spread ≡ None → IsPlan (plan_value known len method keys counters max_spread)
+is_plan known len method keys counters max_spread h =
+    let may_be : Key → Bool = λ k. is_key known k.element in
+    let tests = passed_tests known len keys counters max_spread h in
+    record {
+      positive = tests.positive;
+      spread = tests.spread;
+      few = tests.few;
+      beside = length-map keys (λ (k : Key). key_kind known k.element);
+      kinds = list_all-map is_key_kind (λ (k : Key). key_kind known k.element) keys
+          ∙ all_weaker may_be (λ k. is_key_kind (key_kind known k.element)) (λ k key. (and_parts (is_element k.element) (is_key_kind (key_kind known k.element)) key).1) keys tests.kinds;
+      values = all_weaker may_be (λ k. is_value k.element) (λ k. key_is_value known k.element) keys tests.kinds;
+      prefixes = tests.prefixes;
+      some = tests.some;
+      counters = all_weaker (is_counter known) is_value (counter_is_value known) counters tests.counted;
+      apart = tests.apart;
+    }
+
+-- ---- files change none of built-in elements
+
+pub kept_fault : (known : List Known) (len : ℕ) (keys : List Key) (counters : List ElementId) (max_spread : ℕ)
+    → first_fault [] len keys counters max_spread ≡ None → first_fault known len keys counters max_spread ≡ None
+kept_fault known len keys counters max_spread h =
+    let tests = passed_tests [] len keys counters max_spread h in
+    let of_keys = all_weaker (λ (k : Key). is_key [] k.element) (λ k. is_key known k.element) (λ k. kept_key known k.element) keys tests.kinds in
+    let of_counters = all_weaker (is_counter []) (is_counter known) (kept_counter known) counters tests.counted in
+    ap₂ (fault_by len keys counters max_spread) (of_keys ∙ sym tests.kinds) (of_counters ∙ sym tests.counted) ∙ h
+
+pub kept_plan : (known : List Known) (len : ℕ) (method : Method) (keys : List Key) (counters : List ElementId) (max_spread : ℕ)
+    → first_fault [] len keys counters max_spread ≡ None → plan_value known len method keys counters max_spread ≡ plan_value [] len method keys counters max_spread
+kept_plan known len method keys counters max_spread h =
+    let tests = passed_tests [] len keys counters max_spread h in
+    let kinds = all_mapped (λ (k : Key). key_kind known k.element) (λ (k : Key). key_kind [] k.element) (λ k. is_key [] k.element) (λ k. kept_kind known k.element) keys tests.kinds in
+    ap (λ kinds. plan_with len method keys kinds counters max_spread) kinds
