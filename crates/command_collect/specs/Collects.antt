@@ -1,5 +1,5 @@
 -- How a command ended that collects from files or from connections.
-use Rattle.std.specs.Prelude.{◌≡◌, ◌≢◌, ◌⊎◌, ℕ, List, ◌++◌, IfSome, Option}
+use Rattle.std.specs.Prelude.{◌≡◌, ◌≢◌, ◌⊎◌, ℕ, List, [], ◌++◌, IfSome, Option}
 use Rattle.ipfix_session.specs.Sources.{SourceView}
 use Rattle.element_registry.specs.Registries.{Known}
 use Rattle.report_writing.specs.Statuses.{number_of}
@@ -11,7 +11,7 @@ use Rattle.flow_collect.specs.declared.fault.CollectFault.{CollectFault}
 use Rattle.report_sessions.specs.ReportLines.{report_lines, tally_line}
 use Rattle.report_writing.specs.declared.origin.Origin.{Origin}
 use Rattle.report_writing.specs.declared.verbosity.Verbosity.{Verbosity}
-use Rattle.output_tables.specs.TableTexts.{Writes, WritesUnder}
+use Rattle.output_tables.specs.TableTexts.{Writes}
 use Rattle.output_tables.specs.declared.output.Output.{Output}
 use Rattle.command_collect.specs.FullRuns.{fault_of_pool, RunsInFull}
 use Rattle.command_collect.specs.Runs.{RunsSources}
@@ -43,12 +43,12 @@ module _ {S W : Type 0} (seen : S → SourceView) (AreHad : List S → Type 0) (
   abbrev pub CollectsAlone : Type 0
   CollectsAlone =
       Collects pool count status (new ≡ old)
-      (RunsSources seen AreHad plan pool status (λ reports table. Writes plan output (contents old) (contents new) table × AreTold (report_lines reports ++ tally_line table.tally)))
+      (RunsSources seen AreHad plan pool status (λ reports table. Writes [] plan output (contents old) (contents new) table × AreTold (report_lines reports ++ tally_line table.tally)))
       (TellsFault (new ≡ old) AreTold) (TellsNotHad AreTold) (λ fault. AreTold (collect_fault_line fault))
 
   -- the same with the names that elements have under files, and told in full: behind the first lines, with origins
   abbrev pub CollectsInFull : List Known → Verbosity → (List Origin → Type 0) → List ℕ → Type 0
   CollectsInFull known verbosity AreOrigins first =
       Collects pool count status (new ≡ old)
-      (RunsInFull seen AreHad verbosity.strict plan pool status (λ fulls table. WritesUnder known plan output (contents old) (contents new) table × TellsRun AreOrigins verbosity known plan first AreTold fulls table))
+      (RunsInFull seen AreHad verbosity.strict plan pool status (λ fulls table. Writes known plan output (contents old) (contents new) table × TellsRun AreOrigins verbosity known plan first AreTold fulls table))
       (TellsFailedRun AreOrigins verbosity first (new ≡ old) AreTold) (TellsNotHad AreTold) (TellsRefusal AreOrigins verbosity first AreTold)

@@ -6,7 +6,7 @@ ghost use Rattle.flow_collect.specs.Refusals.{fault_of_arguments};
 ghost use Rattle.flow_collect.specs.Texts.{HasNoFault};
 ghost use Rattle.report_writing.specs.Told.{AreToldTo};
 ghost use Rattle.report_writing.specs.Writing.{Tells};
-ghost use Rattle.output_tables.specs.TableTexts.{WritesUnder};
+ghost use Rattle.output_tables.specs.TableTexts.{Writes};
 ghost use Rattle.command_collect.specs.Runs.{AddsUpWhole, WritesWholeTable};
 ghost use Rattle.flow_collect.specs.InFull.{HeadlineInFull};
 ghost use Rattle.flow_table.specs.Plans.{PlanValue};
@@ -48,14 +48,14 @@ pub fn run_in_full<S: Source + Send + Drop, W: Write, E: WriteLines, R: Threads 
     ensures table { result ≢ number_of Status.Failed
         → WritesTableInFull S.seen job.now.verbosity.strict sources.items job.now.plan.now job.now.pool result
         (λ fulls table.
-        WritesUnder job.now.elements.now job.now.plan.now job.now.output
+        Writes job.now.elements.now job.now.plan.now job.now.output
         (W.contents out.old) (W.contents out.new) table
         × AreToldTo E.contents E.failed err.old err.new
         (run_lines job.now.verbosity job.now.elements.now job.now.plan.now origins.now fulls table)) }
     // The table of all whole texts was written, and each of them ends with a whole message.
     ensures all { result ≡ number_of Status.Well
         → WritesWholeTable S.seen sources.items job.now.plan.now
-        (WritesUnder job.now.elements.now job.now.plan.now job.now.output
+        (Writes job.now.elements.now job.now.plan.now job.now.output
         (W.contents out.old) (W.contents out.new)) }
     // The line of a fault alone was told; and nothing was written, if it is one of collecting.
     ensures failed { result ≡ number_of Status.Failed → TellsFault (out.new ≡ out.old)

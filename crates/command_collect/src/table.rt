@@ -1,6 +1,6 @@
 //! Collecting and writing the table.
 
-ghost use Rattle.std.specs.Prelude.{◌≡◌, ◌≢◌, ◌⊎◌, ◌++◌, IfSome, vec_len};
+ghost use Rattle.std.specs.Prelude.{◌≡◌, ◌≢◌, ◌⊎◌, ◌++◌, [], IfSome, vec_len};
 ghost use Rattle.flow_collect.specs.Refusals.{fault_of_arguments};
 ghost use Rattle.report_writing.specs.Statuses.{number_of};
 ghost use Rattle.report_sessions.specs.ReportLines.{report_lines, tally_line};
@@ -47,13 +47,13 @@ pub fn run<S: Source + Send + Drop, W: Write, E: WriteLines, R: Threads + Wait +
     // a fault.
     ensures table { result ≢ number_of Status.Failed
         → WritesTable S.seen sources.items plan.now pool result
-        (λ reports table. Writes plan.now output (W.contents out.old) (W.contents out.new) table
+        (λ reports table. Writes [] plan.now output (W.contents out.old) (W.contents out.new) table
         × AreToldTo E.contents E.failed err.old err.new
         (report_lines reports ++ tally_line table.tally)) }
     // The table of all whole texts was written, and each of them ends with a whole message.
     ensures all { result ≡ number_of Status.Well
         → WritesWholeTable S.seen sources.items plan.now
-        (Writes plan.now output (W.contents out.old) (W.contents out.new)) }
+        (Writes [] plan.now output (W.contents out.old) (W.contents out.new)) }
     // The line of a fault alone was told; and nothing was written, if it is one of collecting.
     ensures failed { result ≡ number_of Status.Failed → TellsFault (out.new ≡ out.old)
         (AreToldTo E.contents E.failed err.old err.new) }

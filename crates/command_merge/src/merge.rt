@@ -1,10 +1,10 @@
 //! Merging the exports in files.
 
-ghost use Rattle.std.specs.Prelude.{◌≡◌, ℕ, List, map, IfErr, IfOk, OnOk};
+ghost use Rattle.std.specs.Prelude.{◌≡◌, ℕ, List, [], map, IfErr, IfOk, OnOk};
 ghost use Rattle.flow_table.specs.Fitting.{FitsPlan};
 ghost use Rattle.report_writing.specs.OpeningLines.{if_verbose};
 ghost use Rattle.report_writing.specs.Told.{AreToldTo};
-ghost use Rattle.output_tables.specs.TableTexts.{Writes, WritesUnder};
+ghost use Rattle.output_tables.specs.TableTexts.{Writes};
 ghost use Rattle.command_merge.specs.MergeLines.{file_opened_line, files_opened_lines};
 ghost use Rattle.command_merge.specs.Merges.{AddsFile, IsMerged, IsNotAdded, RunsMerge, StopsMerge};
 ghost use Rattle.input_sources.specs.Had.{AreOpened, IsOpened};
@@ -43,7 +43,7 @@ pub fn run_merge<S: Source + Drop, O: OpenSource<S>, W: Write, E: WriteLines>(
     ensures runs { RunsMerge S.seen (AreOpened (λ path. O.opens files.old path.now)
         paths.now (O.coming files.old) (O.coming files.new))
         plan.now (map (λ path. path.now) paths.now) NOTHING_MORE
-        (Writes plan.now output (W.contents out.old) (W.contents out.new)) (out.new ≡ out.old)
+        (Writes [] plan.now output (W.contents out.old) (W.contents out.new)) (out.new ≡ out.old)
         (AreToldTo E.contents E.failed err.old err.new) result }
     ensures kept { E.failed err.old → E.failed err.new }
 {
@@ -73,7 +73,7 @@ pub fn run_merge_in_full<S: Source + Drop, O: OpenSource<S>, W: Write, E: WriteL
     ensures runs { RunsMerge S.seen (AreOpened (λ path. O.opens files.old path.now)
         paths.now (O.coming files.old) (O.coming files.new))
         plan.now (map (λ path. path.now) paths.now) verbosity
-        (WritesUnder elements.now plan.now output (W.contents out.old) (W.contents out.new))
+        (Writes elements.now plan.now output (W.contents out.old) (W.contents out.new))
         (out.new ≡ out.old) (AreToldTo E.contents E.failed err.old err.new) result }
     ensures kept { E.failed err.old → E.failed err.new }
 {

@@ -3,7 +3,7 @@ pub mod Exportable
 pub mod RowsInOrder
 pub mod Finding
 pub mod Plain
-pub mod UnderFiles
+pub mod FileNames
 pub mod AsWritten
 pub mod Appending
 pub mod Room

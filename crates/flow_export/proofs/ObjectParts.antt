@@ -14,7 +14,8 @@ use Rattle.flow_export.specs.CsvText.{first_of, last_of}
 use Rattle.flow_export.specs.JsonParts.{AreLabels, interval_members, label, labelled, text_of}
 use Rattle.flow_export.specs.Fitting.{IsExportable}
 use Rattle.flow_export.specs.JsonText.{member}
-use Rattle.flow_export.specs.TextsUnder.{key_text_under, row_object_under}
+use Rattle.flow_export.specs.CsvText.{key_text}
+use Rattle.flow_export.specs.JsonText.{row_object}
 use Rattle.ipfix_elements.specs.JsonValues.{json_cell, json_number}
 use Rattle.flow_export.specs.declared.json_text.labels.MemberLabel.{MemberLabel}
 use Rattle.flow_export.specs.declared.json_text.labels.RowLabels.{RowLabels}
@@ -80,7 +81,7 @@ same_counts plan labels row made fits =
     let keys = ap length made.keys in
     let counters = ap length made.counters in
     let cells = same_length plan.kinds row.key.items fits.fields.key.fit in (
-      omega (arith, keys, cells, length-map labels.keys.items text_of, length-map (map (key_text_under labels.elements.now) plan.keys) label, length-map plan.keys (key_text_under labels.elements.now), fits.fields.key.beside),
+      omega (arith, keys, cells, length-map labels.keys.items text_of, length-map (map (key_text labels.elements.now) plan.keys) label, length-map plan.keys (key_text labels.elements.now), fits.fields.key.beside),
       omega (arith, counters, fits.fields.sums, length-map labels.counters.items text_of, length-map (map (element_name labels.elements.now) plan.counters) label, length-map plan.counters (element_name labels.elements.now)),
     )
 
@@ -95,11 +96,11 @@ three_parts ps qs p =
 
 -- the members behind the first two
 tail_members : (plan : PlanValue) (labels : RowLabels) (row : Row) → AreLabels plan labels → IsExportable plan (value_of row)
-    → flat_map next (map member (zip (map (key_text_under labels.elements.now) plan.keys ++ (map (element_name labels.elements.now) plan.counters ++ codes "flows" ∷ [])) (map json_cell row.key.items ++ (map json_number row.sums.items ++ json_number row.flows ∷ []))))
+    → flat_map next (map member (zip (map (key_text labels.elements.now) plan.keys ++ (map (element_name labels.elements.now) plan.counters ++ codes "flows" ∷ [])) (map json_cell row.key.items ++ (map json_number row.sums.items ++ json_number row.flows ∷ []))))
     ≡ cells_of labels row ++ (sums_of labels row ++ (codes ",\"flows\":" ++ json_number row.flows))
 tail_members plan labels row made fits =
     let counts = same_counts plan labels row made fits in
-    let names = map (key_text_under labels.elements.now) plan.keys in
+    let names = map (key_text labels.elements.now) plan.keys in
     let more_names = map (element_name labels.elements.now) plan.counters in
     let values = map json_cell row.key.items in
     let more_values = map json_number row.sums.items in
@@ -115,13 +116,13 @@ joined : (m b c d e f : List ℕ) → (m ++ (b ++ (c ++ (d ++ e)))) ++ f ≡ m +
 joined m b c d e f = simp append_assoc
 
 object_parts : (plan : PlanValue) (labels : RowLabels) (row : Row) → AreLabels plan labels → IsExportable plan (value_of row)
-    → row_object_under labels.elements.now plan (value_of row)
+    → row_object labels.elements.now plan (value_of row)
     ≡ (codes "{\"start\":" ++ json_number (first_of plan (value_of row))) ++ ((codes ",\"end\":" ++ json_number (last_of plan (value_of row)))
     ++ (cells_of labels row ++ (sums_of labels row ++ ((codes ",\"flows\":" ++ json_number row.flows) ++ codes "}\n"))))
 object_parts plan labels row made fits =
     let first = member (codes "start", json_number (first_of plan (value_of row))) in
     let second = member (codes "end", json_number (last_of plan (value_of row))) in
-    let rest = map member (zip (map (key_text_under labels.elements.now) plan.keys ++ (map (element_name labels.elements.now) plan.counters ++ codes "flows" ∷ [])) (map json_cell row.key.items ++ (map json_number row.sums.items ++ json_number row.flows ∷ []))) in
+    let rest = map member (zip (map (key_text labels.elements.now) plan.keys ++ (map (element_name labels.elements.now) plan.counters ++ codes "flows" ∷ [])) (map json_cell row.key.items ++ (map json_number row.sums.items ++ json_number row.flows ∷ []))) in
     ap (λ (t : List ℕ). codes "{" ++ (t ++ codes "}\n"))
     (behind_commas first (second ∷ rest) ∙ ap (λ (t : List ℕ). first ++ (next second ++ t)) (tail_members plan labels row made fits))
     ∙ ap (λ (t : List ℕ). codes "{" ++ t) (joined first (next second) (cells_of labels row) (sums_of labels row) (codes ",\"flows\":" ++ json_number row.flows) (codes "}\n"))
@@ -130,7 +131,7 @@ object_parts plan labels row made fits =
 pub object_appended : (plan : PlanValue) (labels : RowLabels) (row : Row) (ks counters : List MemberLabel) (cs : List Cell) (vs o q r s t u : List ℕ) → AreLabels plan labels → IsExportable plan (value_of row)
     → ks ≡ labels.keys.items → counters ≡ labels.counters.items → cs ≡ row.key.items → vs ≡ row.sums.items → q ≡ o ++ interval_members plan row.interval
     → r ≡ q ++ flat_map (labelled json_cell) (zip ks cs) → s ≡ r ++ flat_map (labelled json_number) (zip counters vs) → t ≡ s ++ (codes ",\"flows\":" ++ json_number row.flows)
-    → u ≡ t ++ codes "}\n" → u ≡ o ++ row_object_under labels.elements.now plan (value_of row)
+    → u ≡ t ++ codes "}\n" → u ≡ o ++ row_object labels.elements.now plan (value_of row)
 object_appended plan labels row ks counters cs vs o q r s t u made fits is_ks is_counters is_cs is_vs is_q is_r is_s is_t is_u =
     let first = codes "{\"start\":" ++ json_number (first_of plan (value_of row)) in
     let last = codes ",\"end\":" ++ json_number (last_of plan (value_of row)) in

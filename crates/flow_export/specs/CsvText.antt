@@ -2,8 +2,9 @@
 use Rattle.std.specs.Prelude.{ℕ, ◌+◌, ◌-◌, ◌*◌, List, [], ◌∷◌, ◌++◌, map, flat_map, codes, Option, Some, None}
 use Rattle.std.specs.Fmt.{decimal}
 use Rattle.std.specs.List.{join_with_byte}
-use Rattle.ipfix_elements.specs.Names.{name_text}
+use Rattle.csv.specs.Writing.{default_writer, row_text}
 use Rattle.ipfix_elements.specs.Texts.{cell_text}
+use Rattle.element_registry.specs.Registries.{Known, element_name}
 use Rattle.flow_table.specs.declared.key.Key.{Key}
 use Rattle.flow_table.specs.Plans.{PlanValue}
 use Rattle.flow_table.specs.SameTables.{RowValue}
@@ -30,12 +31,17 @@ abbrev pub prefix_text : Option ℕ → List ℕ
 prefix_text None = []
 prefix_text (Some bits) = codes "/" ++ decimal bits
 
-abbrev pub key_text : Key → List ℕ
-key_text key = name_text key.element ++ prefix_text key.prefix
+abbrev pub key_text : List Known → Key → List ℕ
+key_text known key = element_name known key.element ++ prefix_text key.prefix
 
 -- the names of the fields
-abbrev pub heading : PlanValue → List (List ℕ)
-heading plan = codes "start" ∷ codes "end" ∷ (map key_text plan.keys ++ (map name_text plan.counters ++ codes "flows" ∷ []))
+abbrev pub heading : List Known → PlanValue → List (List ℕ)
+heading known plan =
+    codes "start" ∷ codes "end" ∷ (map (key_text known) plan.keys ++ (map (element_name known) plan.counters ++ codes "flows" ∷ []))
+
+-- the line of names, in quotes where they need it (RFC 4180, section 2): none does (`nothing_is_quoted`)
+abbrev pub heading_line : List Known → PlanValue → List ℕ
+heading_line known plan = row_text default_writer (heading known plan)
 
 -- the fields of a row: its interval, its key, its sums and the number of its flows
 abbrev pub row_texts : PlanValue → RowValue → List (List ℕ)
@@ -45,5 +51,5 @@ abbrev pub row_line : PlanValue → RowValue → List ℕ
 row_line plan row = line (row_texts plan row)
 
 -- a line of names, and then a line for each row
-abbrev pub csv_text : PlanValue → List RowValue → List ℕ
-csv_text plan rows = line (heading plan) ++ flat_map (row_line plan) rows
+abbrev pub csv_text : List Known → PlanValue → List RowValue → List ℕ
+csv_text known plan rows = heading_line known plan ++ flat_map (row_line plan) rows

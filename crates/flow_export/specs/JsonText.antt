@@ -1,6 +1,7 @@
 -- A table as lines of JSON: an object (RFC 8259, section 4) for each row.
 use Rattle.std.specs.Prelude.{ℕ, List, [], ◌∷◌, ◌++◌, map, flat_map, codes}
 use Rattle.std.specs.List.{join_with_byte, zip}
+use Rattle.element_registry.specs.Registries.{Known}
 use Rattle.flow_table.specs.Plans.{PlanValue}
 use Rattle.flow_table.specs.SameTables.{RowValue}
 use Rattle.flow_export.specs.CsvText.{comma, first_of, heading, last_of}
@@ -20,9 +21,9 @@ abbrev pub object_line : List (List ℕ × List ℕ) → List ℕ
 object_line pairs = codes "{" ++ (join_with_byte comma (map member pairs) ++ codes "}\n")
 
 -- each name of the heading with the row's value
-abbrev pub row_object : PlanValue → RowValue → List ℕ
-row_object plan row = object_line (zip (heading plan) (row_values plan row))
+abbrev pub row_object : List Known → PlanValue → RowValue → List ℕ
+row_object known plan row = object_line (zip (heading known plan) (row_values plan row))
 
 -- a line for each row
-abbrev pub json_text : PlanValue → List RowValue → List ℕ
-json_text plan rows = flat_map (row_object plan) rows
+abbrev pub json_text : List Known → PlanValue → List RowValue → List ℕ
+json_text known plan rows = flat_map (row_object known plan) rows

@@ -3,7 +3,7 @@ pub mod Faults
 pub mod Fitting
 pub mod CsvText
 pub mod JsonText
-pub mod TextsUnder
+pub mod PlainNames
 pub mod IpfixText
 pub mod AnyTables
 pub mod TableTexts

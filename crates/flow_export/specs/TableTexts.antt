@@ -2,14 +2,15 @@
 use Rattle.std.specs.Prelude.{◌≤◌, ◌^◌, ℕ, List}
 use Rattle.flow_table.specs.Plans.{PlanValue}
 use Rattle.flow_table.specs.SameTables.{RowValue}
+use Rattle.flow_export.specs.CsvText.{csv_text}
 use Rattle.flow_export.specs.IpfixText.{ipfix_text}
-use Rattle.flow_export.specs.TextsUnder.{csv_text_under, json_text_under}
+use Rattle.flow_export.specs.JsonText.{json_text}
 use Rattle.flow_export.specs.declared.table_text.TableText.{TableText}
 use Rattle.flow_export.specs.declared.table_text.TableText.TheVariants.{Csv, Json, Ipfix}
 
 abbrev pub text_of : TableText → PlanValue → List RowValue → List ℕ
-text_of (Csv elements) plan rows = csv_text_under elements.now plan rows
-text_of (Json elements) plan rows = json_text_under elements.now plan rows
+text_of (Csv elements) plan rows = csv_text elements.now plan rows
+text_of (Json elements) plan rows = json_text elements.now plan rows
 text_of (Ipfix time) plan rows = ipfix_text plan time rows
 
 -- more rows than the sequence numbers of messages of IPFIX count (RFC 7011, section 3.1); in CSV and JSON none are too many

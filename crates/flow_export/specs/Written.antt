@@ -1,17 +1,11 @@
--- A table's heading as the writer of `csv` writes it, and the fields of its lines.
+-- The fields of the lines of CSV, as they are appended.
 use Rattle.std.specs.Prelude.{◌≡◌, ℕ, ◌+◌, ◌-◌, ◌*◌, List, ◌∷◌, ◌++◌}
 use Rattle.std.specs.Fmt.{decimal}
 use Rattle.csv.specs.Records.{fields_of, Row as CsvRecord}
-use Rattle.csv.specs.Writing.{default_writer, row_text}
 use Rattle.ipfix_elements.specs.Texts.{cell_text}
 use Rattle.ipfix_elements.specs.declared.cell.Cell.{Cell}
-use Rattle.element_registry.specs.Registries.{Known}
 use Rattle.flow_table.specs.Plans.{PlanValue}
 use Rattle.flow_export.specs.CsvText.{comma}
-use Rattle.flow_export.specs.TextsUnder.{heading_under}
-
-abbrev pub written_heading : List Known → PlanValue → List ℕ
-written_heading known plan = row_text default_writer (heading_under known plan)
 
 -- texts are added to the fields of a record of `csv`
 abbrev pub AddsFields : CsvRecord → CsvRecord → List (List ℕ) → Type 0

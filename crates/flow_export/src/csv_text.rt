@@ -1,11 +1,10 @@
 //! Tables as CSV: the heading is a record of `csv`, and many lines of rows are written at once.
 
-ghost use Rattle.std.specs.Prelude.{◌≡◌, ◌≢◌, IfOk, IfErr, OnOk};
+ghost use Rattle.std.specs.Prelude.{◌≡◌, ◌≢◌, [], IfOk, IfErr, OnOk};
 ghost use Rattle.ipfix_elements.specs.Writers.{Writes};
 ghost use Rattle.flow_table.specs.AddedUp.{rows_in};
 ghost use Rattle.flow_table.specs.Fitting.{FitsPlan};
-ghost use Rattle.flow_export.specs.CsvText.{csv_text};
-ghost use Rattle.flow_export.specs.Written.{written_heading};
+ghost use Rattle.flow_export.specs.CsvText.{csv_text, heading_line};
 
 use crate::any_table::AnyTable;
 use crate::fault::ExportFault;
@@ -23,13 +22,9 @@ mod rows;
 
 pub use rows::CsvLines;
 
-/// Writes a table as CSV: a line with the names of the fields, and then a line for each row, in the
-/// order of the table. A line has the first and the last millisecond of the row's interval, the
-/// cells of the key, the sums and the number of flows. Commas stand between the fields, and a line
-/// feed ends each line.
+/// Writes a table as CSV ([`TableText::Csv`]), with the names of built-in elements.
 ///
-/// A block of lines is made in memory and then written, so an `Err` is `OutOfMemory`, or
-/// `WriteFailed` if the writer failed; how much was written then is open.
+/// An `Err` is `OutOfMemory`, or `WriteFailed` if the writer failed; how much was written then is open.
 pub fn write_csv<W: Write>(
     alloc: Global,
     plan: &Plan,
@@ -38,7 +33,7 @@ pub fn write_csv<W: Write>(
 ) -> Result<(), ExportFault>
     requires { FitsPlan plan.now table.now }
     ensures ok { OnOk result
-        (Writes W.contents out.old out.new (csv_text plan.now (rows_in table.now))) }
+        (Writes W.contents out.old out.new (csv_text [] plan.now (rows_in table.now))) }
     ensures fault { IfErr result (λ fault. fault ≢ ExportFault.TooManyRows) }
 {
     let elements = Elements::built_in(alloc);
@@ -48,7 +43,7 @@ pub fn write_csv<W: Write>(
 
 /// The line with the names of the fields, as `csv` writes it.
 pub fn heading_text(alloc: Global, elements: &Elements, plan: &Plan) -> Result<Vec<u8>, AllocError>
-    ensures { IfOk result (λ line. line.items ≡ written_heading elements.now plan.now) }
+    ensures { IfOk result (λ line. line.items ≡ heading_line elements.now plan.now) }
 {
     let mut line = ByteRecord::new(alloc);
     set_heading(elements, plan, &mut Vec::new(alloc), &mut line)?;

@@ -27,34 +27,8 @@ mod widths;
 
 pub use rows::ROWS_A_MESSAGE;
 
-/// Writes a table as messages of IPFIX in domain 0 (RFC 7011): a template, and then the rows as its
-/// data records, in the order of the table, [`ROWS_A_MESSAGE`] in a message. A record has the first
-/// and the last millisecond of the row's interval, the cells of the key, each as wide as its element's
-/// kind, the sums, and the number of flows (RFC 7015, section 7). Sequence numbers count the rows
-/// before a message.
-///
-/// A message is made in memory and then written. `TooManyRows` is a table of 2^32 rows or more; then
-/// nothing is written. `OutOfMemory` is an allocation that was refused, and `WriteFailed` a writer that
-/// failed; how much was written then is open.
-pub fn write_ipfix<W: Write>(
-    alloc: Global,
-    plan: &Plan,
-    table: &Table,
-    export_time: u32,
-    out: &mut W,
-) -> Result<(), ExportFault>
-    requires { FitsPlan plan.now table.now }
-    ensures ok { OnOk result
-        (Writes W.contents out.old out.new (ipfix_text plan.now export_time (rows_in table.now))) }
-    ensures many { IsErrOf result ExportFault.TooManyRows ↔ (2 ^ 32 ≤ length table.now.rows.items) }
-    ensures untouched { IsErrOf result ExportFault.TooManyRows → out.new ≡ out.old }
-{
-    let text = TableText::Ipfix(export_time);
-    write_table(alloc, plan, &AnyTable::Rows(table), &text, out)
-}
-
-/// What `write_ipfix` writes, as a vector. An `Err` is `TooManyRows`, for a table of 2^32 rows or more,
-/// or `OutOfMemory`.
+/// A table as messages of IPFIX ([`TableText::Ipfix`]), as a vector. An `Err` is `TooManyRows`, for a table of 2^32 rows or
+/// more, or `OutOfMemory`.
 pub fn ipfix_bytes(
     alloc: Global,
     plan: &Plan,
@@ -68,7 +42,8 @@ pub fn ipfix_bytes(
     ensures fault { IfErr result (λ fault. fault ≢ ExportFault.WriteFailed) }
 {
     let mut bytes = Vec::new(alloc);
-    match write_ipfix(alloc, plan, table, export_time, &mut bytes) {
+    let text = TableText::Ipfix(export_time);
+    match write_table(alloc, plan, &AnyTable::Rows(table), &text, &mut bytes) {
         Ok(()) => Ok(bytes),
         // A vector fails only if memory runs out.
         Err(ExportFault::OutOfMemory | ExportFault::WriteFailed) => Err(ExportFault::OutOfMemory),

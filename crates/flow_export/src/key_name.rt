@@ -2,7 +2,7 @@
 
 ghost use Rattle.std.specs.Prelude.{◌≡◌, ◌++◌, OnOk};
 ghost use Rattle.element_registry.specs.Registries.{element_name};
-ghost use Rattle.flow_export.specs.TextsUnder.{key_text_under};
+ghost use Rattle.flow_export.specs.CsvText.{key_text};
 
 use element_registry::Elements;
 use flow_table::Key;
@@ -24,7 +24,7 @@ pub fn append_name(
 
 /// Appends a key's name: that of its element, and its prefix if it has one.
 pub fn append_key(elements: &Elements, key: Key, text: &mut Vec<u8>) -> Result<(), AllocError>
-    ensures { OnOk result (text.new.items ≡ text.old.items ++ key_text_under elements.now key) }
+    ensures { OnOk result (text.new.items ≡ text.old.items ++ key_text elements.now key) }
 {
     append_name(elements, key.element, text)?;
     match key.prefix {

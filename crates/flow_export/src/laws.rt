@@ -1,14 +1,13 @@
 //! Laws of the texts of tables: none needs quotes, and one flow's table is computed.
 
-ghost use Rattle.std.specs.Prelude.{◌≡◌, ℕ, true, List, [], Ok};
+ghost use Rattle.std.specs.Prelude.{◌≡◌, ℕ, true, List, Ok};
 ghost use Rattle.csv.specs.Writing.{default_writer, row_text};
 ghost use Rattle.flow_table.specs.Plans.{PlanValue};
 ghost use Rattle.flow_table.specs.SameTables.{RowValue};
 ghost use Rattle.element_registry.specs.Files.{with_file};
 ghost use Rattle.element_registry.specs.Registries.{Known};
-ghost use Rattle.flow_export.specs.CsvText.{line, heading, row_texts, csv_text};
-ghost use Rattle.flow_export.specs.JsonText.{json_text};
-ghost use Rattle.flow_export.specs.TextsUnder.{csv_text_under, heading_under, json_text_under, have_plain_names};
+ghost use Rattle.flow_export.specs.CsvText.{line, heading, heading_line, row_texts};
+ghost use Rattle.flow_export.specs.PlainNames.{have_plain_names};
 ghost use Rattle.flow_export.specs.declared.ipfix_text.rows.TheConstants.{ROWS_A_MESSAGE};
 
 mod examples;
@@ -18,28 +17,18 @@ pub use examples::{one_flow_as_csv, one_flow_as_ipfix};
 /// `csv` writes a heading and a row as they stand, with commas between the fields and a line feed at
 /// the end: no field needs quotes (RFC 4180, section 2).
 pub fn nothing_is_quoted()
-    ensures names { (plan : PlanValue)
-        → row_text default_writer (heading plan) ≡ line (heading plan) }
+    ensures names { (known : List Known) (plan : PlanValue) → have_plain_names known ≡ true
+        → heading_line known plan ≡ line (heading known plan) }
     ensures rows { (plan : PlanValue) (row : RowValue)
         → row_text default_writer (row_texts plan row) ≡ line (row_texts plan row) }
-{}
-
-/// Without files of elements the texts are those of built-in elements.
-pub fn no_files()
-    ensures csv { (plan : PlanValue) (rows : List RowValue)
-        → csv_text_under [] plan rows ≡ csv_text plan rows }
-    ensures json { (plan : PlanValue) (rows : List RowValue)
-        → json_text_under [] plan rows ≡ json_text plan rows }
 {}
 
 /// What files name needs no quotes in CSV (RFC 4180, section 2) and no escape in JSON (RFC 8259,
 /// section 7): its names are letters, digits, `_`, `-` and dots.
 pub fn file_names_are_plain()
-    ensures files { (known all : List Known) (rows : List (List (List ℕ)))
+    ensures { (known all : List Known) (rows : List (List (List ℕ)))
         → have_plain_names known ≡ true → with_file known rows ≡ Ok all
         → have_plain_names all ≡ true }
-    ensures quotes { (known : List Known) (plan : PlanValue) → have_plain_names known ≡ true
-        → row_text default_writer (heading_under known plan) ≡ line (heading_under known plan) }
 {}
 
 /// A message of IPFIX has at most 100 rows.

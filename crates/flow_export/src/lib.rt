@@ -22,7 +22,6 @@ pub use any_table::AnyTable;
 pub use csv_text::write_csv;
 pub use fault::ExportFault;
 pub use format::Format;
-pub use ipfix_text::{ROWS_A_MESSAGE, ipfix_bytes, write_ipfix};
-pub use json_text::write_json;
+pub use ipfix_text::{ROWS_A_MESSAGE, ipfix_bytes};
 pub use table_text::TableText;
 pub use tables::write_table;

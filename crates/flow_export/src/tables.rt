@@ -19,8 +19,11 @@ use flow_table::Plan;
 use std::alloc::Global;
 use std::io::Write;
 
-/// Does as `write_csv`, `write_json` or `write_ipfix`, as `text` says, with the names that elements have in files, too: in
-/// the heading of CSV a name that needs quotes has them. No name that a file says needs any, nor an escape in JSON.
+/// Writes a table as `text` says, its rows in the order of the table. A block of lines, or a message, is made in memory
+/// and then written.
+///
+/// `TooManyRows` is a table of 2^32 rows or more, as IPFIX; then nothing is written. `OutOfMemory` is an allocation that
+/// was refused, and `WriteFailed` a writer that failed; how much was written then is open.
 pub fn write_table<W: Write>(
     alloc: Global,
     plan: &Plan,

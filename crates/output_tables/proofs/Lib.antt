@@ -1,1 +1,1 @@
-pub mod UnderFiles
+pub mod BuiltIn

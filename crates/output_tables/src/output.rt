@@ -2,7 +2,7 @@
 
 ghost use Rattle.std.specs.Prelude.{OnOk};
 ghost use Rattle.flow_table.specs.Fitting.{FitsPlan};
-ghost use Rattle.output_tables.specs.TableTexts.{WritesUnder};
+ghost use Rattle.output_tables.specs.TableTexts.{Writes};
 
 use element_registry::Elements;
 use flow_export::{AnyTable, ExportFault, Format, TableText, write_table};
@@ -29,7 +29,7 @@ pub fn export<W: Write>(
     out: &mut W,
 ) -> Result<(), ExportFault>
     requires { FitsPlan plan.now table.now }
-    ensures { OnOk result (WritesUnder elements.now plan.now output
+    ensures { OnOk result (Writes elements.now plan.now output
         (W.contents out.old) (W.contents out.new) table.now) }
 {
     let text = match output.format {

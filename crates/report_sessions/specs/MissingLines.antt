@@ -1,4 +1,4 @@
--- The lines of what records lack, with the names that elements have under files.
+-- The lines of what records lack, with the names that elements have.
 use Rattle.std.specs.Prelude.{ℕ, List, [], ◌++◌, codes, decimal, ◌==◌, slice_index_or, if◌then◌else◌}
 use Rattle.std.specs.List.{flat_map, enumerate_from}
 use Rattle.ipfix_wire.specs.declared.specifier.ElementId.{ElementId}
@@ -6,7 +6,7 @@ use Rattle.element_registry.specs.Registries.{Known, element_name}
 use Rattle.flow_table.specs.Plans.{PlanValue}
 use Rattle.flow_table.specs.declared.key.Key.{Key}
 use Rattle.flow_table.specs.declared.missing.Missing.{Missing}
-use Rattle.flow_export.specs.CsvText.{prefix_text}
+use Rattle.flow_export.specs.CsvText.{key_text}
 use Rattle.report_writing.specs.Origins.{tells_balances}
 use Rattle.report_writing.specs.declared.verbosity.Verbosity.{Verbosity}
 
@@ -20,7 +20,7 @@ time_text time = codes "collectd: records: untimed without " ++ time
 
 -- unkeyed records that lack a key first
 unfoldable pub unkeyed_text : List Known → Key → List ℕ
-unkeyed_text known key = codes "collectd: records: unkeyed without " ++ (element_name known key.element ++ prefix_text key.prefix)
+unkeyed_text known key = codes "collectd: records: unkeyed without " ++ key_text known key
 
 -- how many they are, at the end of a line
 unfoldable pub count_end : ℕ → List ℕ

@@ -3,7 +3,7 @@
 ghost use Rattle.std.specs.Prelude.{◌≡◌, [], OnOk, map};
 ghost use Rattle.csv.specs.Records.{fields_of, partial_of};
 ghost use Rattle.element_registry.specs.Registries.{element_name};
-ghost use Rattle.flow_export.specs.TextsUnder.{heading_under, key_text_under};
+ghost use Rattle.flow_export.specs.CsvText.{heading, key_text};
 ghost use Rattle.flow_export.specs.Written.{AddsFields};
 
 use crate::key_name::{append_key, append_name};
@@ -20,7 +20,7 @@ pub fn set_heading(
     text: &mut Vec<u8>,
     line: &mut ByteRecord,
 ) -> Result<(), AllocError>
-    ensures { OnOk result (fields_of line.new ≡ heading_under elements.now plan.now) }
+    ensures { OnOk result (fields_of line.new ≡ heading elements.now plan.now) }
 {
     line.clear();
     line.push_field("start".as_bytes())?;
@@ -38,7 +38,7 @@ fn push_keys(
     line: &mut ByteRecord,
 ) -> Result<(), AllocError>
     requires { partial_of line.old ≡ [] }
-    ensures fields { OnOk result (AddsFields line.old line.new (map (key_text_under elements.now) keys.now)) }
+    ensures fields { OnOk result (AddsFields line.old line.new (map (key_text elements.now) keys.now)) }
     ensures partial { OnOk result (partial_of line.new ≡ []) }
 {
     for key in keys {

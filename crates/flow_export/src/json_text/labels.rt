@@ -2,8 +2,8 @@
 
 ghost use Rattle.std.specs.Prelude.{◌≡◌, IfOk, map};
 ghost use Rattle.element_registry.specs.Registries.{element_name};
+ghost use Rattle.flow_export.specs.CsvText.{key_text};
 ghost use Rattle.flow_export.specs.JsonParts.{AreLabels, AreLabelsOf, label, text_of};
-ghost use Rattle.flow_export.specs.TextsUnder.{key_text_under};
 
 use crate::key_name::{append_key, append_name};
 use element_registry::Elements;
@@ -47,7 +47,7 @@ fn key_labels(
     keys: &[Key],
 ) -> Result<Vec<MemberLabel>, AllocError>
     ensures { IfOk result (λ labels.
-        AreLabelsOf (map (key_text_under elements.now) keys.now) labels.items) }
+        AreLabelsOf (map (key_text elements.now) keys.now) labels.items) }
 {
     let mut labels = Vec::new(alloc);
     for key in keys {
@@ -73,7 +73,7 @@ fn counter_labels(
 
 // A key's name, as it stands before its value.
 fn key_label(alloc: Global, elements: &Elements, key: Key) -> Result<MemberLabel, AllocError>
-    ensures { IfOk result (λ made. text_of made ≡ label (key_text_under elements.now key)) }
+    ensures { IfOk result (λ made. text_of made ≡ label (key_text elements.now key)) }
 {
     let mut text = Vec::new(alloc);
     text.extend_from_slice(b",\"")?;

@@ -3,7 +3,7 @@
 
 ghost use Rattle.std.specs.Prelude.{◌≡◌, ◌++◌, OnOk, length};
 ghost use Rattle.flow_export.specs.JsonParts.{AreLabels, interval_members, labelled_cell, labelled_cells, labelled_numbers};
-ghost use Rattle.flow_export.specs.TextsUnder.{row_object_under};
+ghost use Rattle.flow_export.specs.JsonText.{row_object};
 ghost use Rattle.ipfix_elements.specs.JsonValues.{in_quotes, json_number};
 ghost use Rattle.ipfix_elements.specs.Texts.{ipv4_text};
 
@@ -19,7 +19,7 @@ impl RowLines for RowLabels<'_> {
 
     ghost front_of = { λ _. interval_members };
 
-    ghost line_of = { λ labels. row_object_under labels.elements.now };
+    ghost line_of = { λ labels. row_object labels.elements.now };
 
     // The first and the last millisecond.
     fn append_front(

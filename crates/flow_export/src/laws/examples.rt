@@ -7,11 +7,11 @@ ghost use Rattle.flow_export.specs.Examples.{by_address, by_prefix, flows, one_f
 
 /// One flow's table as CSV, by its address and by a prefix of it.
 pub fn one_flow_as_csv()
-    ensures address { csv_text by_address one_flow
+    ensures address { csv_text [] by_address one_flow
         ≡ codes "start,end,sourceIPv4Address,octetDeltaCount,flows\n0,59999,192.0.2.1,1500,1\n" }
-    ensures prefix { csv_text by_prefix one_network
+    ensures prefix { csv_text [] by_prefix one_network
         ≡ codes "start,end,sourceIPv4Address/24,octetDeltaCount,flows\n0,59999,192.0.2.0,1500,1\n" }
-    ensures no_rows { csv_text by_address []
+    ensures no_rows { csv_text [] by_address []
         ≡ codes "start,end,sourceIPv4Address,octetDeltaCount,flows\n" }
 {}
 

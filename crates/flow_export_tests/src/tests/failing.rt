@@ -2,8 +2,8 @@
 
 ghost use Rattle.flow_table.specs.Fitting.{FitsPlan};
 
-use super::tables::{TIME, by_source, table_of_minutes};
-use flow_export::{ExportFault, Format, write_csv, write_ipfix, write_json};
+use super::tables::{by_source, table_of_minutes, write_as};
+use flow_export::{AnyTable, ExportFault, Format};
 use flow_table::{Plan, Table};
 use std::alloc::Global;
 use std::test::Fail;
@@ -14,11 +14,7 @@ fn written(alloc: Global, plan: &Plan, table: &Table, format: Format, calls: u64
     requires { FitsPlan plan.now table.now }
 {
     let mut out = FailingWriter::new(alloc, 1000, calls);
-    let result = match format {
-        Format::Csv => write_csv(alloc, plan, table, &mut out),
-        Format::Json => write_json(alloc, plan, table, &mut out),
-        Format::Ipfix => write_ipfix(alloc, plan, table, TIME, &mut out),
-    };
+    let result = write_as(alloc, plan, &AnyTable::Rows(table), format, &mut out);
     let FailingWriter { taken, .. } = out;
     (taken, result.err().map_or(0, |fault| fault.number()))
 }

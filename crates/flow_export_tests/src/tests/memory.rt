@@ -3,8 +3,8 @@
 
 ghost use Rattle.flow_table.specs.Fitting.{FitsPlan};
 
-use super::tables::{TIME, by_source, table_of_minutes};
-use flow_export::{Format, ipfix_bytes, write_csv, write_ipfix, write_json};
+use super::tables::{TIME, by_source, table_of_minutes, write_as};
+use flow_export::{AnyTable, Format, ipfix_bytes, write_csv};
 use flow_table::{Plan, Table};
 use std::alloc::Global;
 use std::io::{self, ErrorKind, Write};
@@ -59,8 +59,7 @@ fn written(
     let mut out = Expecting { rest };
     let result = match format {
         Format::Csv => write_csv(alloc, plan, table, &mut out),
-        Format::Json => write_json(alloc, plan, table, &mut out),
-        Format::Ipfix => write_ipfix(alloc, plan, table, TIME, &mut out),
+        _ => write_as(alloc, plan, &AnyTable::Rows(table), format, &mut out),
     };
     match result {
         Ok(()) if out.rest.is_empty() => "right",
@@ -95,8 +94,8 @@ fn exports_with_refused_memory(rt: HostRuntime) -> Result<(), Fail> {
     let ipfix = written(alloc, &plan, &table, Format::Ipfix, IPFIX);
     for (name, word) in [
         ("write_csv", csv),
-        ("write_json", json),
-        ("write_ipfix", ipfix),
+        ("JSON", json),
+        ("IPFIX", ipfix),
         ("ipfix_bytes", made(alloc, &plan, &table)),
     ] {
         assert!(rt; matches!(word, "right" | "OutOfMemory"), "{name}: {word}");

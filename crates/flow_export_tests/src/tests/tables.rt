@@ -3,11 +3,15 @@
 ghost use Rattle.std.specs.Prelude.{◌≡◌, IfOk};
 ghost use Rattle.flow_table.specs.Fitting.{FitsPlan};
 ghost use Rattle.flow_table.specs.Partials.{StandsFor, plan_of};
+ghost use Rattle.flow_export.specs.AnyTables.{table_in};
 
+use element_registry::Elements;
+use flow_export::{AnyTable, ExportFault, Format, TableText, write_table};
 use flow_table::{FlatTable, Key, Method, Partial, Plan, PlanFault, Table, TableFault};
 use ipfix_message::{DataRecord, Fields};
 use ipfix_wire::ElementId;
 use std::alloc::{AllocError, Global};
+use std::io::Write;
 use std::test::Fail;
 
 /// The export time of the tests.
@@ -92,4 +96,23 @@ pub fn flat_of_minutes(alloc: Global, plan: &Plan, count: u64) -> Result<FlatTab
 {
     let records = flows(alloc, count)?;
     Ok(flat_of(alloc, plan, &records)?)
+}
+
+/// Writes a table with the names of built-in elements.
+pub fn write_as<W: Write>(
+    alloc: Global,
+    plan: &Plan,
+    table: &AnyTable,
+    format: Format,
+    out: &mut W,
+) -> Result<(), ExportFault>
+    requires { FitsPlan plan.now (table_in table.now) }
+{
+    let elements = Elements::built_in(alloc);
+    let text = match format {
+        Format::Csv => TableText::Csv(&elements),
+        Format::Json => TableText::Json(&elements),
+        Format::Ipfix => TableText::Ipfix(TIME),
+    };
+    write_table(alloc, plan, table, &text, out)
 }

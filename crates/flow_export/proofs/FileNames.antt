@@ -1,70 +1,20 @@
--- Texts under files of elements: without files they are those of built-in elements, and names of files are plain.
-use Rattle.std.proofs.Common.{◌≡◌, ℕ, zero, suc, ◌+◌, ◌/◌, ◌%◌, ◌<◌, Bool, true, false, cond, eqb, ◌||◌, not, nat_lt, nat_le, List, [], ◌∷◌, ◌++◌, length, map, find, Option, Some, None, unwrap_or, is_some, refl, ap, ap₂, subst, ◌∙◌, arith, inl, inr}
+-- Names of files are plain.
+use Rattle.std.proofs.Common.{◌≡◌, ℕ, zero, suc, ◌+◌, ◌/◌, ◌%◌, ◌<◌, Bool, true, false, cond, eqb, ◌||◌, not, nat_lt, nat_le, List, [], ◌∷◌, ◌++◌, length, find, Option, Some, None, is_some, refl, ap, subst, ◌∙◌, arith, inl, inr}
 use Rattle.std.specs.Prelude.{codes, Ok, Err}
 use Rattle.std.specs.Fmt.{decimal, digits, digits_onto, digit_glyph}
-use Rattle.std.specs.List.{flat_map, list_all, zip}
-use Rattle.std.specs.Option.{option_or}
+use Rattle.std.specs.List.{list_all}
 use Rattle.std.proofs.Math.Nat.{mod-lt}
 use Rattle.std.proofs.lemmas.Bool.{cases_Bool, and_parts, and_from, lt-ltb}
 use Rattle.std.proofs.lemmas.List.Folds.{list_all-append}
-use Rattle.csv.specs.Writing.{default_writer, row_text}
-use Rattle.ipfix_wire.specs.declared.specifier.ElementId.{ElementId}
-use Rattle.ipfix_elements.specs.Names.{name_text, numbered_text}
-use Rattle.ipfix_elements.specs.Elements.{entry_of, name_of}
+use Rattle.ipfix_elements.specs.Elements.{entry_of}
 use Rattle.element_registry.specs.Faults.{Read}
 use Rattle.element_registry.specs.Files.{with_entry_if, with_row, with_rows, with_file, most}
-use Rattle.element_registry.specs.Registries.{Known, is_of, element_by_name, element_name}
+use Rattle.element_registry.specs.Registries.{Known, is_of, element_by_name}
 use Rattle.element_registry.specs.Rows.{and_then, begins_with_letter, columns_in, element_in, entry, entry_in, entry_of_element, field, full_name, is_name, is_name_octet, is_reserved}
 use Rattle.element_registry.specs.declared.columns.Columns.{Columns}
 use Rattle.element_registry.specs.declared.fault.ElementsFault.TheVariants.{NotCsv, Name, NumberTwice, NameTwice, TooMany}
-use Rattle.flow_table.specs.declared.key.Key.{Key}
-use Rattle.flow_table.specs.Plans.{PlanValue}
-use Rattle.flow_table.specs.SameTables.{RowValue}
-use Rattle.flow_export.specs.CsvText.{csv_text, heading, key_text, line, prefix_text, row_line}
-use Rattle.flow_export.specs.JsonText.{json_text, object_line, row_values}
-use Rattle.flow_export.specs.TextsUnder.{csv_text_under, heading_under, json_text_under, key_text_under, is_plain_octet, has_plain_name, have_plain_names}
-use Rattle.flow_export.proofs.Plain.{heading_plain_under, row_text-plain}
-use Rattle.flow_export.proofs.AsWritten.{heading_written}
-
--- ---- without files
-
-map_same : {X Y : Type 0} (f g : X → Y) → ((x : X) → f x ≡ g x) → (xs : List X) → map f xs ≡ map g xs
-map_same f g same [] = refl
-map_same f g same (x ∷ xs) = ap₂ (λ y ys. y ∷ ys) (same x) (map_same f g same xs)
-
-no_others : {X : Type 0} (o : Option X) → option_or o None ≡ o
-no_others None = refl
-no_others (Some x) = refl
-
-no_files_name : (e : ElementId) → element_name [] e ≡ name_text e
-no_files_name e = ap (λ (o : Option (List ℕ)). unwrap_or o (numbered_text e)) (no_others (name_of e))
-
-no_files_key : (k : Key) → key_text_under [] k ≡ key_text k
-no_files_key k = ap (λ (t : List ℕ). t ++ prefix_text k.prefix) (no_files_name k.element)
-
-no_files_heading : (plan : PlanValue) → heading_under [] plan ≡ heading plan
-no_files_heading plan =
-    ap₂ (λ (ks cs : List (List ℕ)). codes "start" ∷ codes "end" ∷ (ks ++ (cs ++ codes "flows" ∷ [])))
-    (map_same (key_text_under []) key_text no_files_key plan.keys) (map_same (element_name []) name_text no_files_name plan.counters)
-
-pub no_files_csv : (plan : PlanValue) (rows : List RowValue) → csv_text_under [] plan rows ≡ csv_text plan rows
-no_files_csv plan rows =
-    ap (λ (names : List (List ℕ)). row_text default_writer names ++ flat_map (row_line plan) rows) (no_files_heading plan)
-    ∙ ap (λ (t : List ℕ). t ++ flat_map (row_line plan) rows) (heading_written plan)
-
-pub no_files_json : (plan : PlanValue) (rows : List RowValue) → json_text_under [] plan rows ≡ json_text plan rows
-no_files_json plan rows = ap (λ (names : List (List ℕ)). flat_map (λ row. object_line (zip names (row_values plan row))) rows) (no_files_heading plan)
-
-pub csv_built_in : (known : List Known) (plan : PlanValue) (rows : List RowValue) → known ≡ [] → csv_text_under known plan rows ≡ csv_text plan rows
-csv_built_in known plan rows none = ap (λ (k : List Known). csv_text_under k plan rows) none ∙ no_files_csv plan rows
-
-pub json_built_in : (known : List Known) (plan : PlanValue) (rows : List RowValue) → known ≡ [] → json_text_under known plan rows ≡ json_text plan rows
-json_built_in known plan rows none = ap (λ (k : List Known). json_text_under k plan rows) none ∙ no_files_json plan rows
-
--- ---- names of files
-
-pub heading_unquoted : (known : List Known) (plan : PlanValue) → have_plain_names known ≡ true → row_text default_writer (heading_under known plan) ≡ line (heading_under known plan)
-heading_unquoted known plan plain = row_text-plain (codes "start") (codes "end") _ (heading_plain_under known plan plain)
+use Rattle.flow_export.specs.CsvText.{heading}
+use Rattle.flow_export.specs.PlainNames.{is_plain_octet, has_plain_name, have_plain_names}
 
 all_both : (p : ℕ → Bool) (xs ys : List ℕ) → list_all p xs ≡ true → list_all p ys ≡ true → list_all p (xs ++ ys) ≡ true
 all_both p xs ys h i = list_all-append p xs ys ∙ and_from _ _ h i
