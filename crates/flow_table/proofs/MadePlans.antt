@@ -16,7 +16,7 @@ use Rattle.flow_table.specs.declared.key.Side.TheVariants.{Read, Exported}
 use Rattle.flow_table.specs.declared.method.Method.{Method}
 use Rattle.flow_table.specs.declared.plan_fault.PlanFault.{PlanFault}
 use Rattle.flow_table.specs.declared.plan_fault.PlanFault.TheVariants.{KeyCount, KeyKind, Prefix, CounterCount, CounterKind}
-use Rattle.flow_table.specs.Plans.{IsPlan, plan_value, plan_with, field_kind, key_kind, is_between, is_element, is_time, is_value, is_key, is_key_kind, is_built_in_counter, is_counter, is_delta_of, is_prefix_of, has_twice, elements_in, or_else, fault_unless, length_fault, spread_fault, repeat_fault, first_fault}
+use Rattle.flow_table.specs.Plans.{IsPlan, plan_value, plan_with, field_kind, key_kind, kinds_of, is_between, is_element, is_time, is_value, is_key, is_key_kind, is_built_in_counter, is_counter, is_delta_of, is_prefix_of, has_twice, elements_in, or_else, fault_unless, length_fault, spread_fault, repeat_fault, first_fault}
 
 -- ---- lists
 
@@ -223,9 +223,13 @@ kept_fault known len keys counters max_spread h =
     let of_counters = all_weaker (is_counter []) (is_counter known) (kept_counter known) counters tests.counted in
     ap₂ (fault_by len keys counters max_spread) (of_keys ∙ sym tests.kinds) (of_counters ∙ sym tests.counted) ∙ h
 
+pub kept_kinds : (known : List Known) (len : ℕ) (keys : List Key) (counters : List ElementId) (max_spread : ℕ)
+    → first_fault [] len keys counters max_spread ≡ None → kinds_of known keys ≡ kinds_of [] keys
+kept_kinds known len keys counters max_spread h =
+    let tests = passed_tests [] len keys counters max_spread h in
+    all_mapped (λ (k : Key). key_kind known k.element) (λ (k : Key). key_kind [] k.element) (λ k. is_key [] k.element) (λ k. kept_kind known k.element) keys tests.kinds
+
 pub kept_plan : (known : List Known) (len : ℕ) (method : Method) (keys : List Key) (counters : List ElementId) (max_spread : ℕ)
     → first_fault [] len keys counters max_spread ≡ None → plan_value known len method keys counters max_spread ≡ plan_value [] len method keys counters max_spread
 kept_plan known len method keys counters max_spread h =
-    let tests = passed_tests [] len keys counters max_spread h in
-    let kinds = all_mapped (λ (k : Key). key_kind known k.element) (λ (k : Key). key_kind [] k.element) (λ k. is_key [] k.element) (λ k. kept_kind known k.element) keys tests.kinds in
-    ap (λ kinds. plan_with len method keys kinds counters max_spread) kinds
+    ap (λ (kinds : List Kind). plan_with len method keys kinds counters max_spread) (kept_kinds known len keys counters max_spread h)

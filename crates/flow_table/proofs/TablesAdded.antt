@@ -8,7 +8,7 @@ use Rattle.std.proofs.lemmas.List.{append-nil}
 use Rattle.std.proofs.lemmas.List.Elements.{All-nil, All-cons, All-head, All-tail, Contains-append_right}
 use Rattle.ipfix_elements.specs.declared.cell.Cell.{Cell}
 use Rattle.ipfix_message.specs.declared.record.DataRecord.{DataRecord}
-use Rattle.flow_table.specs.AddedUp.{place, total_of, added_to, added_up, rows_in, AreAddedUp, AddUpTooLarge, HasTooLargeRow}
+use Rattle.flow_table.specs.AddedUp.{place, total_of, added_to, added_up, rows_in, AreAddedUp, AddUpTooLarge, HasTooLargeRow, all_records}
 use Rattle.flow_table.specs.Bags.{IsSameBag}
 use Rattle.flow_table.specs.Finishing.{line_of}
 use Rattle.flow_table.specs.Partials.{totals_at}
@@ -26,9 +26,6 @@ use Rattle.flow_table.proofs.Holding.{no_totals}
 use Rattle.flow_table.proofs.OneTable.{Among, among, same_table}
 use Rattle.flow_table.proofs.RowsHeld.{places_of_values}
 use Rattle.flow_table.proofs.Sums.{totals_at-append, too_large_row_at, large_row}
-
-abbrev pub all_in : List (List DataRecord) → List DataRecord
-all_in lists = flat_map (λ rs. rs) lists
 
 -- ---- the totals of a table's rows
 
@@ -64,7 +61,7 @@ table_totals plan rs t is =
 -- ---- tables, one after another
 
 tables_after : (plan : PlanValue) (rs : List DataRecord) (lists : List (List DataRecord)) (tables : List Table) (k : ℕ) (q : List Cell) → AllZip (IsTable plan) lists tables
-    → added_to (totals_at plan rs k q) (flat_map rows_in tables) k q ≡ totals_at plan (rs ++ all_in lists) k q
+    → added_to (totals_at plan rs k q) (flat_map rows_in tables) k q ≡ totals_at plan (rs ++ all_records lists) k q
 tables_after plan rs [] [] k q are = ap (λ (l : List DataRecord). totals_at plan l k q) (sym (append-nil rs))
 tables_after plan rs [] (t ∷ ts) k q are = absurd are
 tables_after plan rs (l ∷ ls) [] k q are = absurd are
@@ -72,10 +69,10 @@ tables_after plan rs (l ∷ ls) (t ∷ ts) k q are =
     added_to-append (totals_at plan rs k q) (rows_in t) (flat_map rows_in ts) k q
     ∙ ap (λ (o : Option Total). added_to o (flat_map rows_in ts) k q) (added_once (totals_at plan l) (rows_in t) (totals_at plan rs k q) k q (table_totals plan l t are.0) ∙ sym (totals_at-append plan rs l k q))
     ∙ tables_after plan (rs ++ l) ls ts k q are.1
-    ∙ ap (λ (m : List DataRecord). totals_at plan m k q) (append_assoc rs l (all_in ls))
+    ∙ ap (λ (m : List DataRecord). totals_at plan m k q) (append_assoc rs l (all_records ls))
 
 pub tables_totals : (plan : PlanValue) (lists : List (List DataRecord)) (tables : List Table) (k : ℕ) (q : List Cell) → AllZip (IsTable plan) lists tables
-    → added_up (flat_map rows_in tables) k q ≡ totals_at plan (all_in lists) k q
+    → added_up (flat_map rows_in tables) k q ≡ totals_at plan (all_records lists) k q
 unfolding added_up
 tables_totals plan lists tables k q are =
     ap (λ (o : Option Total). added_to o (flat_map rows_in tables) k q) (no_totals plan k q) ∙ tables_after plan [] lists tables k q are
@@ -114,29 +111,29 @@ is_table plan rs rows all totals are tally_is missing_is =
     }
 
 pub tables_are_added : (plan : PlanValue) (lists : List (List DataRecord)) (tables : List Table) (all : Table) → AllZip (IsTable plan) lists tables
-    → AreAddedUp (flat_map rows_in tables) (rows_in all) → all.tally ≡ tally_of plan (all_in lists) → all.missing ≡ missing_of plan (all_in lists) → IsTable plan (all_in lists) all
-tables_are_added plan lists tables all are sums tally_is missing_is = is_table plan (all_in lists) (flat_map rows_in tables) all (λ k q. tables_totals plan lists tables k q are) sums tally_is missing_is
+    → AreAddedUp (flat_map rows_in tables) (rows_in all) → all.tally ≡ tally_of plan (all_records lists) → all.missing ≡ missing_of plan (all_records lists) → IsTable plan (all_records lists) all
+tables_are_added plan lists tables all are sums tally_is missing_is = is_table plan (all_records lists) (flat_map rows_in tables) all (λ k q. tables_totals plan lists tables k q are) sums tally_is missing_is
 
 -- ---- too large
 
-too_large_there : (plan : PlanValue) (lists : List (List DataRecord)) (tables : List Table) → AllZip (IsTable plan) lists tables → AddUpTooLarge (flat_map rows_in tables) → HasTooLargeRow plan (all_in lists)
-too_large_there plan lists tables are large = too_large_row_at plan (all_in lists) large.0 large.1 (subst IsLargeAt (tables_totals plan lists tables large.0 large.1 are) large.2)
+too_large_there : (plan : PlanValue) (lists : List (List DataRecord)) (tables : List Table) → AllZip (IsTable plan) lists tables → AddUpTooLarge (flat_map rows_in tables) → HasTooLargeRow plan (all_records lists)
+too_large_there plan lists tables are large = too_large_row_at plan (all_records lists) large.0 large.1 (subst IsLargeAt (tables_totals plan lists tables large.0 large.1 are) large.2)
 
-too_large_here : (plan : PlanValue) (lists : List (List DataRecord)) (tables : List Table) → AllZip (IsTable plan) lists tables → HasTooLargeRow plan (all_in lists) → AddUpTooLarge (flat_map rows_in tables)
+too_large_here : (plan : PlanValue) (lists : List (List DataRecord)) (tables : List Table) → AllZip (IsTable plan) lists tables → HasTooLargeRow plan (all_records lists) → AddUpTooLarge (flat_map rows_in tables)
 too_large_here plan lists tables are large =
-    let at = large_row plan (all_in lists) large in
+    let at = large_row plan (all_records lists) large in
     (at.0, at.1, subst IsLargeAt (sym (tables_totals plan lists tables at.0 at.1 are)) at.2)
 
-pub too_large_both : (plan : PlanValue) (lists : List (List DataRecord)) (tables : List Table) → AllZip (IsTable plan) lists tables → AddUpTooLarge (flat_map rows_in tables) ↔ HasTooLargeRow plan (all_in lists)
+pub too_large_both : (plan : PlanValue) (lists : List (List DataRecord)) (tables : List Table) → AllZip (IsTable plan) lists tables → AddUpTooLarge (flat_map rows_in tables) ↔ HasTooLargeRow plan (all_records lists)
 too_large_both plan lists tables are = (too_large_there plan lists tables are, too_large_here plan lists tables are)
 
 -- ---- any order
 
-pub any_order : (plan : PlanValue) (lists others : List (List DataRecord)) (tables more : List Table) (a b : Table) → AllZip (IsTable plan) lists tables → AllZip (IsTable plan) others more → IsSameBag (all_in lists) (all_in others)
+pub any_order : (plan : PlanValue) (lists others : List (List DataRecord)) (tables more : List Table) (a b : Table) → AllZip (IsTable plan) lists tables → AllZip (IsTable plan) others more → IsSameBag (all_records lists) (all_records others)
     → AreAddedUp (flat_map rows_in tables) (rows_in a) → AreAddedUp (flat_map rows_in more) (rows_in b) → rows_in a ≡ rows_in b
 any_order plan lists others tables more a b are them same first second =
-    let t : Table = record a { tally = tally_of plan (all_in lists); missing = missing_of plan (all_in lists) } in
-    let u : Table = record b { tally = tally_of plan (all_in others); missing = missing_of plan (all_in others) } in
-    let is_t : IsTable plan (all_in lists) t = tables_are_added plan lists tables t are first refl refl in
-    let is_u : IsTable plan (all_in others) u = tables_are_added plan others more u them second refl refl in
-    (same_table plan (all_in others) t u (table_bag plan (all_in lists) (all_in others) t same is_t) is_u).rows
+    let t : Table = record a { tally = tally_of plan (all_records lists); missing = missing_of plan (all_records lists) } in
+    let u : Table = record b { tally = tally_of plan (all_records others); missing = missing_of plan (all_records others) } in
+    let is_t : IsTable plan (all_records lists) t = tables_are_added plan lists tables t are first refl refl in
+    let is_u : IsTable plan (all_records others) u = tables_are_added plan others more u them second refl refl in
+    (same_table plan (all_records others) t u (table_bag plan (all_records lists) (all_records others) t same is_t) is_u).rows

@@ -1,5 +1,6 @@
 -- Rows added up: rows of the same interval and key become one, with their sums and numbers of flows added.
-use Rattle.std.specs.Prelude.{◌≡◌, ℕ, ◌^◌, ◌≤◌, ◌⊎◌, List, [], ◌∷◌, map, Contains, Option, Some, None, if◌then◌else◌}
+use Rattle.std.specs.Prelude.{◌≡◌, ℕ, ◌^◌, ◌≤◌, ◌⊎◌, List, [], ◌∷◌, map, flat_map, Contains, Option, Some, None, if◌then◌else◌}
+use Rattle.std.specs.List.{AllZip}
 use Rattle.std.specs.List.Sorted.{IsStrictlySortedBy}
 use Rattle.std.specs.Ordering.{nat_cmp, is_eq}
 use Rattle.ipfix_wire.specs.declared.specifier.ElementId.{ElementId}
@@ -8,7 +9,7 @@ use Rattle.ipfix_message.specs.declared.record.DataRecord.{DataRecord}
 use Rattle.flow_table.specs.declared.table.Table.{Table}
 use Rattle.flow_table.specs.Plans.{PlanValue}
 use Rattle.flow_table.specs.SameTables.{RowValue, value_of}
-use Rattle.flow_table.specs.Tables.{key_cmp, place_cmp, flows_at, sum_at}
+use Rattle.flow_table.specs.Tables.{key_cmp, place_cmp, flows_at, sum_at, IsTable}
 use Rattle.flow_table.specs.Totals.{Total, total, joined, IsLargeAt}
 
 -- where a row stands: by interval, and then by key
@@ -46,6 +47,16 @@ AddUpTooLarge rows = (k : ℕ) × (key : List Cell) × IsLargeAt (added_up rows 
 -- the rows of a table
 abbrev pub rows_in : Table → List RowValue
 rows_in table = map value_of table.rows.items
+
+-- the records of lists, one list after another
+abbrev pub all_records : List (List DataRecord) → List DataRecord
+all_records lists = flat_map (λ rs. rs) lists
+
+-- rows are what those of the tables of lists of records add up to
+pub record AreRowsOfAll (plan : PlanValue) (lists : List (List DataRecord)) (rows : List RowValue) : Type 0 where
+  pub tables : List Table
+  pub each : AllZip (IsTable plan) lists tables
+  pub sums : AreAddedUp (flat_map rows_in tables) rows
 
 -- some sum or number of flows of a list of records has no place in 64 bits
 abbrev pub HasTooLargeRow : PlanValue → List DataRecord → Type 0

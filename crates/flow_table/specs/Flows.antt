@@ -1,12 +1,15 @@
 -- What one flow adds to the totals.
-use Rattle.std.specs.Prelude.{◌≡◌, ℕ, ◌+◌, ◌^◌, ◌<◌, ◌&&◌, nat_eq, nat_le, nat_lt, Bool, if◌then◌else◌, List, map, Option, None}
+use Rattle.std.specs.Prelude.{◌≡◌, ℕ, ◌+◌, ◌^◌, ◌<◌, ◌&&◌, nat_eq, nat_le, nat_lt, Bool, if◌then◌else◌, List, map, Option, Some, None}
 use Rattle.std.specs.List.{list_any, range_with_len}
 use Rattle.ipfix_elements.specs.declared.cell.Cell.{Cell}
+use Rattle.flow_table.specs.declared.adding.Room.{Room}
 use Rattle.flow_table.specs.declared.flow.Flow.{Flow}
+use Rattle.flow_table.specs.declared.rows.Rows.{Rows}
 use Rattle.flow_table.specs.Intervals.{covers, share}
 use Rattle.flow_table.specs.Plans.{PlanValue}
-use Rattle.flow_table.specs.Rows.{part_at}
+use Rattle.flow_table.specs.Rows.{AreRowsOf, part_at}
 use Rattle.flow_table.specs.Totals.{Total, total}
+use Rattle.flow_table.specs.Words.{key_words}
 
 -- the intervals that a flow contributes to; one alone gets all of each counter
 pub record HasIntervals (plan : PlanValue) (flow : Flow) : Type 0 where
@@ -34,3 +37,17 @@ is_in_run first end k = nat_le first k && nat_lt k end
 -- totals at each of these intervals and one key alone
 abbrev pub run_part : ℕ → ℕ → List Cell → (ℕ → Total) → ℕ → List Cell → Option Total
 run_part first end key f k q = if is_in_run first end k then part_at key (f k) q else None
+
+-- ---- a flow whose key and counters were read
+
+-- what it adds at one of its intervals
+abbrev pub read_total : PlanValue → Flow → Room → ℕ → Total
+read_total plan flow room k = flow_total plan flow.span.start flow.span.end room.counters.items k
+
+-- what it adds at an interval and a key, under this key
+abbrev pub read_part : PlanValue → Flow → Room → List Cell → ℕ → List Cell → Option Total
+read_part plan flow room key k q = flow_part plan flow.span.start flow.span.end key room.counters.items k q
+
+-- with the key whose words were read, and rows of the plan
+abbrev pub WithKey : PlanValue → Rows → Room → (List Cell → Type 0) → Type 0
+WithKey plan rows room P = (key : List Cell) → key_words plan.kinds key ≡ Some room.words.items → AreRowsOf plan rows → P key

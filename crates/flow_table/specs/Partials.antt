@@ -1,5 +1,5 @@
 -- What a partial table stands for: a list of data records.
-use Rattle.std.specs.Prelude.{◌≡◌, ℕ, ◌+◌, ◌==◌, if◌then◌else◌, List, ◌++◌, map, Option, Some, None, Result, OnOk, IfErr}
+use Rattle.std.specs.Prelude.{◌≡◌, ℕ, ◌+◌, ◌^◌, ◌<◌, ◌==◌, if◌then◌else◌, List, ◌++◌, map, Option, Some, None, Result, OnOk}
 use Rattle.ipfix_elements.specs.declared.cell.Cell.{Cell}
 use Rattle.ipfix_message.specs.declared.record.DataRecord.{DataRecord}
 use Rattle.flow_table.specs.declared.class.Class.{Class}
@@ -14,6 +14,7 @@ use Rattle.flow_table.specs.Missing.{missing_of, missing_sum, IsSmall}
 use Rattle.flow_table.specs.Plans.{PlanValue}
 use Rattle.flow_table.specs.Rows.{AreRowsOf, kept_at}
 use Rattle.flow_table.specs.declared.rows.Rows.{Rows}
+use Rattle.flow_table.specs.TableFaults.{OnSumTooLarge}
 use Rattle.flow_table.specs.Tables.{flows_at, sum_at, tally_of, IsTooLarge}
 use Rattle.flow_table.specs.Totals.{Total, total}
 
@@ -55,20 +56,24 @@ fault_of p = p.fault
 unfoldable pub StandsFor : Partial → List DataRecord → Type 0
 StandsFor p rs = StandsBy p.fault p.plan p.rows p.tally rs × CountsMissing p.fault p.plan p.missing rs
 
+-- for each list of records that it stands for; and for each two lists of two partial tables, one after the other
+abbrev pub ForRecords : Partial → (List DataRecord → Type 0) → Type 0
+ForRecords p P = (rs : List DataRecord) → StandsFor p rs → P rs
+
+abbrev pub ForBoth : Partial → Partial → (List DataRecord → Type 0) → Type 0
+ForBoth p other P = (rs qs : List DataRecord) → StandsFor p rs → StandsFor other qs → P (rs ++ qs)
+
 -- whatever it stood for, afterwards it stands for these records more
 abbrev pub Adds : Partial → List DataRecord → Partial → Type 0
-Adds before more after = (rs : List DataRecord) → StandsFor before rs → StandsFor after (rs ++ more)
+Adds before more after = ForRecords before (λ rs. StandsFor after (rs ++ more))
 
 -- if these records are added without a fault, none of the numbers is too large
 abbrev pub IsSmallIfOk : {X : Type 0} → Partial → List DataRecord → Result X TableFault → Type 0
-IsSmallIfOk before more result =
-    (rs : List DataRecord) → StandsFor before rs → OnOk result (IsTooLarge (plan_of before) (rs ++ more) → ⊥)
+IsSmallIfOk before more result = ForRecords before (λ rs. OnOk result (IsTooLarge (plan_of before) (rs ++ more) → ⊥))
 
 -- and if they are refused as too large, one is
 abbrev pub IsLargeIfSumTooLarge : {X : Type 0} → Partial → List DataRecord → Result X TableFault → Type 0
-IsLargeIfSumTooLarge before more result =
-    (rs : List DataRecord) → StandsFor before rs
-    → IfErr result (λ e. e ≡ SumTooLarge → IsTooLarge (plan_of before) (rs ++ more))
+IsLargeIfSumTooLarge before more result = ForRecords before (λ rs. OnSumTooLarge result (IsTooLarge (plan_of before) (rs ++ more)))
 
 -- ---- tallies
 
@@ -101,3 +106,7 @@ count_in t Backward = t.backward
 count_in t Unkeyed = t.unkeyed
 count_in t TooLong = t.too_long
 count_in t Used = t.used
+
+-- each count has a place in 64 bits
+abbrev pub CountsFit : Tally → Type 0
+CountsFit t = (class : Class) → count_in t class < 2 ^ 64

@@ -173,6 +173,10 @@ first_fault known length keys counters max_spread =
     (or_else (counter_fault known counters)
     (repeat_fault keys counters))))
 
+-- the first fault that fits what a plan says, whatever kinds it has
+abbrev pub first_fault_of : List Known → PlanValue → Option PlanFault
+first_fault_of known plan = first_fault known plan.length plan.keys plan.counters plan.max_spread
+
 -- ---- what holds of every plan
 
 -- a flow's start or end

@@ -21,3 +21,7 @@ totals_plan totals = totals.plan
 -- totals stand for a list of rows
 unfoldable pub AreOf : RowTotals → List RowValue → Type 0
 AreOf totals rows = HoldsRows totals.plan totals.rows rows
+
+-- for each list of rows that totals stand for
+abbrev pub ForRows : RowTotals → (List RowValue → Type 0) → Type 0
+ForRows totals P = (rows : List RowValue) → AreOf totals rows → P rows

@@ -1,13 +1,13 @@
 -- Totals by interval and key, and the rows that they are kept in.
-use Rattle.std.specs.Prelude.{◌≡◌, ℕ, suc, ◌+◌, ◌==◌, ◌<◌, ◌≤◌, Bool, List, length, Option, Some, None, if◌then◌else◌}
+use Rattle.std.specs.Prelude.{◌≡◌, ℕ, suc, ◌+◌, ◌==◌, ◌<◌, ◌≤◌, Bool, List, length, Option, Some, None, if◌then◌else◌, slice_index_or}
 use Rattle.std.specs.Ordering.{nat_cmp, is_eq}
-use Rattle.flow_rows.specs.Rows.{Row, part, row, total_at}
+use Rattle.flow_rows.specs.Rows.{Row, SomeTooLarge, part, row, total_at}
 use Rattle.ipfix_elements.specs.declared.cell.Cell.{Cell}
 use Rattle.flow_table.specs.declared.rows.Rows.{Rows}
 use Rattle.flow_table.specs.declared.rows.Rows.TheVariants.{Two, Six, Nine, Most}
 use Rattle.flow_table.specs.Plans.{PlanValue}
 use Rattle.flow_table.specs.Tables.{key_cmp}
-use Rattle.flow_table.specs.Totals.{Total, total}
+use Rattle.flow_table.specs.Totals.{IsLargeAt, Total, joined, total}
 use Rattle.flow_table.specs.Words.{first_of, padded, place_words, word_count}
 
 -- ---- one place alone
@@ -52,9 +52,23 @@ rows_in (Most rows) = rows
 abbrev pub number_at : Rows → List ℕ → ℕ → ℕ
 number_at rows q i = total_at (rows_in rows) q i
 
--- a row of words and numbers, as rows have it
+-- a row of words and numbers, as rows of so many words and numbers have it
+abbrev pub padded_to : ℕ → ℕ → List ℕ → List ℕ → Row
+padded_to width depth words numbers = row (padded width words) (padded depth numbers)
+
 abbrev pub padded_row : Rows → List ℕ → List ℕ → Row
-padded_row rows words numbers = row (padded (width_of rows) words) (padded (depth_of rows) numbers)
+padded_row rows words numbers = padded_to (width_of rows) (depth_of rows) words numbers
+
+-- numbers by the words of a key and a place: those of two, and whether they are the same
+abbrev pub both : (List ℕ → ℕ → ℕ) → (List ℕ → ℕ → ℕ) → List ℕ → ℕ → ℕ
+both a b q i = a q i + b q i
+
+abbrev pub SameNumbers : (List ℕ → ℕ → ℕ) → (List ℕ → ℕ → ℕ) → Type 0
+SameNumbers a b = (q : List ℕ) (i : ℕ) → a q i ≡ b q i
+
+-- some number has no place in 64 bits with a row more
+abbrev pub IsTooLargeWithRow : (List ℕ → ℕ → ℕ) → Row → Type 0
+IsTooLargeWithRow numbers more = SomeTooLarge (λ i. numbers more.key i + slice_index_or more.numbers i 0)
 
 -- the numbers of one row more
 abbrev pub AddsRow : Rows → List ℕ → List ℕ → Rows → Type 0
@@ -94,3 +108,17 @@ pub record AreRowsOf (plan : PlanValue) (rows : Rows) : Type 0 where
   pub places : (q : List ℕ) → 0 < number_at rows q 0 → IsPlace plan rows q
   pub counted : (q : List ℕ) (i : ℕ) → number_at rows q 0 ≡ 0 → number_at rows q i ≡ 0
   pub none_behind : (q : List ℕ) (i : ℕ) → length plan.counters < i → number_at rows q i ≡ 0
+
+-- ---- totals that are added
+
+-- the totals of more were added to those of rows
+abbrev pub AddsTotals : PlanValue → Rows → (ℕ → List Cell → Option Total) → Rows → Type 0
+AddsTotals plan old more new = (k : ℕ) (q : List Cell) → kept_at plan new k q ≡ joined (kept_at plan old k q) (more k q)
+
+-- some total has no place in 64 bits with those of more
+abbrev pub IsTooLargeWith : PlanValue → Rows → (ℕ → List Cell → Option Total) → Type 0
+IsTooLargeWith plan rows more = (k : ℕ) × (q : List Cell) × IsLargeAt (joined (kept_at plan rows k q) (more k q))
+
+-- totals that had a place in 64 bits have one still
+abbrev pub StaySmall : PlanValue → Rows → Rows → Type 0
+StaySmall plan old new = (k : ℕ) (q : List Cell) → (IsLargeAt (kept_at plan old k q) → ⊥) → IsLargeAt (kept_at plan new k q) → ⊥

@@ -1,13 +1,12 @@
 //! Adding a flow to the totals of its intervals.
 
-ghost use Rattle.std.specs.Prelude.{◌≡◌, ◌≤◌, ◌<◌, ◌+◌, ℕ, List, Some, OnOk, IfErr, length, if◌then◌else◌};
+ghost use Rattle.std.specs.Prelude.{◌≡◌, ◌≤◌, ◌<◌, ◌+◌, ℕ, List, Some, OnOk, length, if◌then◌else◌};
 ghost use Rattle.ipfix_elements.specs.declared.cell.Cell.{Cell as CellValue};
-ghost use Rattle.flow_table.specs.Flows.{flow_total, flow_part, HasIntervals};
+ghost use Rattle.flow_table.specs.Flows.{HasIntervals, WithKey, read_part, read_total};
 ghost use Rattle.flow_table.specs.Plans.{IsPlan};
 ghost use Rattle.flow_table.specs.Totals.{IsLargeAt, joined};
-ghost use Rattle.flow_table.specs.Rows.{AreRowsOf, kept_at, place_part};
-ghost use Rattle.flow_table.specs.Words.{key_words};
-ghost use Rattle.flow_table.specs.declared.table_fault.TableFault.TheVariants.{SumTooLarge};
+ghost use Rattle.flow_table.specs.Rows.{AddsTotals, AreRowsOf, IsTooLargeWith, StaySmall, kept_at, place_part};
+ghost use Rattle.flow_table.specs.TableFaults.{OnSumTooLarge};
 
 use crate::flow::Flow;
 use crate::plan::Plan;
@@ -46,19 +45,15 @@ fn add_at(
     requires intervals { HasIntervals plan.now flow }
     requires within { (flow.first ≤ interval) × (interval < flow.first + flow.count) }
     requires counters { length room.old.counters.items ≡ length plan.now.counters }
-    ensures rows { (key : List CellValue) → key_words plan.now.kinds key ≡ Some room.old.words.items
-        → AreRowsOf plan.now rows.old → AreRowsOf plan.now rows.new }
-    ensures ok { (key : List CellValue) → key_words plan.now.kinds key ≡ Some room.old.words.items
-        → AreRowsOf plan.now rows.old → OnOk result ((k : ℕ) (q : List CellValue)
-        → kept_at plan.now rows.new k q ≡ joined (kept_at plan.now rows.old k q)
-        (place_part interval key
-        (flow_total plan.now flow.span.start flow.span.end room.old.counters.items interval) k q)) }
+    ensures rows { WithKey plan.now rows.old room.old (λ key. AreRowsOf plan.now rows.new) }
+    ensures ok { WithKey plan.now rows.old room.old (λ key. OnOk result
+        (AddsTotals plan.now rows.old
+        (place_part interval key (read_total plan.now flow room.old interval)) rows.new)) }
     ensures fits { OnOk result ((k : ℕ) (q : List CellValue)
         → IsLargeAt (kept_at plan.now rows.new k q) → ⊥) }
-    ensures large { (key : List CellValue) → key_words plan.now.kinds key ≡ Some room.old.words.items
-        → AreRowsOf plan.now rows.old → IfErr result (λ e. e ≡ SumTooLarge
-        → IsLargeAt (joined (kept_at plan.now rows.old interval key)
-        (Some (flow_total plan.now flow.span.start flow.span.end room.old.counters.items interval)))) }
+    ensures large { WithKey plan.now rows.old room.old (λ key. OnSumTooLarge result
+        (IsLargeAt (joined (kept_at plan.now rows.old interval key)
+        (Some (read_total plan.now flow room.old interval))))) }
     // What was read of the flow stays.
     ensures words { room.new.words.items ≡ room.old.words.items }
     ensures counters { room.new.counters.items ≡ room.old.counters.items }
@@ -74,19 +69,12 @@ pub fn add_flow(plan: &Plan, rows: &mut Rows, flow: Flow, room: &mut Room) -> Re
     requires sound { IsPlan plan.now }
     requires intervals { HasIntervals plan.now flow }
     requires counters { length room.old.counters.items ≡ length plan.now.counters }
-    ensures rows { (key : List CellValue) → key_words plan.now.kinds key ≡ Some room.old.words.items
-        → AreRowsOf plan.now rows.old → AreRowsOf plan.now rows.new }
-    ensures ok { (key : List CellValue) → key_words plan.now.kinds key ≡ Some room.old.words.items
-        → AreRowsOf plan.now rows.old → OnOk result ((k : ℕ) (q : List CellValue)
-        → kept_at plan.now rows.new k q ≡ joined (kept_at plan.now rows.old k q)
-        (flow_part plan.now flow.span.start flow.span.end key room.old.counters.items k q)) }
-    ensures fits { OnOk result ((k : ℕ) (q : List CellValue)
-        → (IsLargeAt (kept_at plan.now rows.old k q) → ⊥)
-        → IsLargeAt (kept_at plan.now rows.new k q) → ⊥) }
-    ensures large { (key : List CellValue) → key_words plan.now.kinds key ≡ Some room.old.words.items
-        → AreRowsOf plan.now rows.old → IfErr result (λ e. e ≡ SumTooLarge
-        → (k : ℕ) × (q : List CellValue) × IsLargeAt (joined (kept_at plan.now rows.old k q)
-        (flow_part plan.now flow.span.start flow.span.end key room.old.counters.items k q))) }
+    ensures rows { WithKey plan.now rows.old room.old (λ key. AreRowsOf plan.now rows.new) }
+    ensures ok { WithKey plan.now rows.old room.old (λ key. OnOk result
+        (AddsTotals plan.now rows.old (read_part plan.now flow room.old key) rows.new)) }
+    ensures fits { OnOk result (StaySmall plan.now rows.old rows.new) }
+    ensures large { WithKey plan.now rows.old room.old (λ key. OnSumTooLarge result
+        (IsTooLargeWith plan.now rows.old (read_part plan.now flow room.old key))) }
 {
     room.interval = flow.first;
     for interval in flow.first..flow.first + flow.count {

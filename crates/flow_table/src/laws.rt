@@ -5,16 +5,13 @@ ghost use Rattle.std.specs.Prelude.{◌≡◌, ◌+◌, ◌++◌, ◌↔◌, tru
 ghost use Rattle.std.specs.List.{AllZip};
 ghost use Rattle.ipfix_message.specs.DataRecords.{HasOctets};
 ghost use Rattle.ipfix_message.specs.declared.record.DataRecord.{DataRecord};
-ghost use Rattle.flow_table.specs.AddedUp.{AddUpTooLarge, AreAddedUp, HasTooLargeRow, rows_in};
+ghost use Rattle.flow_table.specs.AddedUp.{AddUpTooLarge, AreRowsOfAll, HasTooLargeRow, all_records, rows_in};
 ghost use Rattle.flow_table.specs.Bags.{IsSameBag, IsInterleaving};
 ghost use Rattle.flow_table.specs.Fitting.{FitsPlan};
 ghost use Rattle.flow_table.specs.Intervals.{covered_by, share};
 ghost use Rattle.flow_table.specs.Missing.{missing_of};
 ghost use Rattle.element_registry.specs.Registries.{Known};
-ghost use Rattle.flow_table.specs.Plans.{PlanValue, IsPlan, plan_value, first_fault};
-ghost use Rattle.flow_table.specs.declared.key.Key.{Key};
-ghost use Rattle.flow_table.specs.declared.method.Method.{Method};
-ghost use Rattle.ipfix_wire.specs.declared.specifier.ElementId.{ElementId};
+ghost use Rattle.flow_table.specs.Plans.{PlanValue, IsPlan, first_fault_of, kinds_of};
 ghost use Rattle.flow_table.specs.SameTables.{IsSameTable};
 ghost use Rattle.flow_table.specs.Tables.{IsTable, IsTooLarge, tally_of};
 ghost use Rattle.flow_table.specs.declared.table.Table.{Table};
@@ -28,25 +25,18 @@ pub fn plans_compare_by_value()
     ensures { (a b : PlanValue) → (⟦<Plan as PartialEq>⟧.eq a b ≡ true) ↔ (a ≡ b) }
 {}
 
-/// A plan of built-in elements is the same plan whatever files say.
+/// A plan of built-in elements is one, and has the same kinds, whatever files say.
 pub fn built_in_plans_stay()
-    ensures no_fault { (known : List Known) (length : ℕ) (keys : List Key)
-        (counters : List ElementId) (max_spread : ℕ)
-        → first_fault [] length keys counters max_spread ≡ None
-        → first_fault known length keys counters max_spread ≡ None }
-    ensures same { (known : List Known) (length : ℕ) (method : Method) (keys : List Key)
-        (counters : List ElementId) (max_spread : ℕ)
-        → first_fault [] length keys counters max_spread ≡ None
-        → plan_value known length method keys counters max_spread
-        ≡ plan_value [] length method keys counters max_spread }
+    ensures no_fault { (known : List Known) (plan : PlanValue)
+        → first_fault_of [] plan ≡ None → first_fault_of known plan ≡ None }
+    ensures same { (known : List Known) (plan : PlanValue)
+        → first_fault_of [] plan ≡ None → kinds_of known plan.keys ≡ kinds_of [] plan.keys }
 {}
 
-/// Every plan that no fault fits is one.
+/// Whatever no fault fits, with the kinds of its keys, is a plan.
 pub fn faultless_plans()
-    ensures { (known : List Known) (length : ℕ) (method : Method) (keys : List Key)
-        (counters : List ElementId) (max_spread : ℕ)
-        → first_fault known length keys counters max_spread ≡ None
-        → IsPlan (plan_value known length method keys counters max_spread) }
+    ensures { (known : List Known) (plan : PlanValue) → plan.kinds ≡ kinds_of known plan.keys
+        → first_fault_of known plan ≡ None → IsPlan plan }
 {}
 
 /// By every method the shares of the intervals that a flow covers add up to its counter (RFC 7015,
@@ -127,27 +117,20 @@ pub fn tables_fit()
 /// The rows of the tables of some lists of records, added up, are those of the table of all these
 /// records. They are too large if and only if a sum or a number of flows in that table is.
 pub fn tables_add_up()
-    ensures table { (plan : PlanValue) (lists : List (List DataRecord)) (tables : List Table)
-        → (all : Table) → AllZip (IsTable plan) lists tables
-        → AreAddedUp (flat_map rows_in tables) (rows_in all)
-        → all.tally ≡ tally_of plan (flat_map (λ rs. rs) lists)
-        → all.missing ≡ missing_of plan (flat_map (λ rs. rs) lists)
-        → IsTable plan (flat_map (λ rs. rs) lists) all }
+    ensures table { (plan : PlanValue) (lists : List (List DataRecord)) (all : Table)
+        → AreRowsOfAll plan lists (rows_in all) → let rs = all_records lists in
+        all.tally ≡ tally_of plan rs → all.missing ≡ missing_of plan rs → IsTable plan rs all }
     ensures too_large { (plan : PlanValue) (lists : List (List DataRecord)) (tables : List Table)
         → AllZip (IsTable plan) lists tables
-        → AddUpTooLarge (flat_map rows_in tables)
-        ↔ HasTooLargeRow plan (flat_map (λ rs. rs) lists) }
+        → AddUpTooLarge (flat_map rows_in tables) ↔ HasTooLargeRow plan (all_records lists) }
 {}
 
 /// However some records are split into lists, and in whatever order, the rows of the lists' tables add
 /// up to the same rows.
 pub fn any_split_adds_up()
-    ensures { (plan : PlanValue) (lists others : List (List DataRecord)) (tables more : List Table)
-        → (a b : Table) → AllZip (IsTable plan) lists tables → AllZip (IsTable plan) others more
-        → IsSameBag (flat_map (λ rs. rs) lists) (flat_map (λ rs. rs) others)
-        → AreAddedUp (flat_map rows_in tables) (rows_in a)
-        → AreAddedUp (flat_map rows_in more) (rows_in b)
-        → rows_in a ≡ rows_in b }
+    ensures { (plan : PlanValue) (lists others : List (List DataRecord)) (a b : Table)
+        → AreRowsOfAll plan lists (rows_in a) → AreRowsOfAll plan others (rows_in b)
+        → IsSameBag (all_records lists) (all_records others) → rows_in a ≡ rows_in b }
 {}
 
 /// A plan has at most 8 keys and 4 counters, and lets a flow cover at most 4,096 intervals. Times are

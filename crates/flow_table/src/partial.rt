@@ -1,13 +1,13 @@
 //! Partial tables, which records are added to and which are merged into one.
 
-ghost use Rattle.std.specs.Prelude.{◌≡◌, ◌++◌, ◌∷◌, [], List, None, Err, IfOk, IfErr, OnOk, IfSome, IsSome};
-ghost use Rattle.ipfix_message.specs.declared.record.DataRecord.{DataRecord};
+ghost use Rattle.std.specs.Prelude.{◌≡◌, ◌∷◌, [], None, Err, IfOk, IfErr, OnOk, IfSome, IsSome};
 ghost use Rattle.flow_table.specs.Fitting.{FitsPlan};
 ghost use Rattle.ipfix_message.specs.Outcome.{unless};
-ghost use Rattle.flow_table.specs.Partials.{StandsFor, Adds, IsSmallIfOk, IsLargeIfSumTooLarge, fault_of, plan_of};
+ghost use Rattle.flow_table.specs.Partials.{StandsFor, ForRecords, ForBoth, Adds, IsSmallIfOk, IsLargeIfSumTooLarge, fault_of, plan_of};
 ghost use Rattle.flow_table.specs.Reading.{class_of};
+ghost use Rattle.flow_table.specs.TableFaults.{OnSumTooLarge};
 ghost use Rattle.flow_table.specs.Tables.{IsTable, IsTooLarge};
-ghost use Rattle.flow_table.specs.declared.table_fault.TableFault.TheVariants.{OutOfMemory, SumTooLarge};
+ghost use Rattle.flow_table.specs.declared.table_fault.TableFault.TheVariants.{OutOfMemory};
 
 use crate::adding::Room;
 use crate::class::Class;
@@ -106,12 +106,11 @@ impl Partial {
         ensures sticky { IsSome (fault_of self.old) → fault_of self.new ≡ fault_of self.old }
         ensures takes_over { fault_of self.old ≡ None → IsSome (fault_of other)
             → fault_of self.new ≡ fault_of other }
-        ensures merges { (rs qs : List DataRecord) → StandsFor self.old rs → StandsFor other qs
-            → StandsFor self.new (rs ++ qs) }
-        ensures small { (rs qs : List DataRecord) → StandsFor self.old rs → StandsFor other qs
-            → OnOk result (IsTooLarge (plan_of self.old) (rs ++ qs) → ⊥) }
-        ensures large { (rs qs : List DataRecord) → StandsFor self.old rs → StandsFor other qs
-            → IfErr result (λ e. e ≡ SumTooLarge → IsTooLarge (plan_of self.old) (rs ++ qs)) }
+        ensures merges { ForBoth self.old other (StandsFor self.new) }
+        ensures small { ForBoth self.old other
+            (λ rs. OnOk result (IsTooLarge (plan_of self.old) rs → ⊥)) }
+        ensures large { ForBoth self.old other
+            (λ rs. OnSumTooLarge result (IsTooLarge (plan_of self.old) rs)) }
     {
         let Partial {
             rows,
@@ -153,14 +152,11 @@ impl Partial {
     pub fn finish_flat(self) -> Result<FlatTable, TableFault>
         ensures fault { IfSome (fault_of self) (λ fault. result ≡ Err fault) }
         ensures err { fault_of self ≡ None → IfErr result (λ e. e ≡ OutOfMemory) }
-        ensures table { (rs : List DataRecord) → StandsFor self rs
-            → IfOk result (IsTable (plan_of self) rs) }
-        ensures fits { (rs : List DataRecord) → StandsFor self rs
-            → IfOk result (FitsPlan (plan_of self)) }
-        ensures small { (rs : List DataRecord) → StandsFor self rs
-            → OnOk result (IsTooLarge (plan_of self) rs → ⊥) }
-        ensures large { (rs : List DataRecord) → StandsFor self rs
-            → IfErr result (λ e. e ≡ SumTooLarge → IsTooLarge (plan_of self) rs) }
+        ensures table { ForRecords self (λ rs. IfOk result (IsTable (plan_of self) rs)) }
+        ensures fits { ForRecords self (λ rs. IfOk result (FitsPlan (plan_of self))) }
+        ensures small { ForRecords self (λ rs. OnOk result (IsTooLarge (plan_of self) rs → ⊥)) }
+        ensures large { ForRecords self
+            (λ rs. OnSumTooLarge result (IsTooLarge (plan_of self) rs)) }
     {
         let Partial {
             alloc,
@@ -183,14 +179,11 @@ impl Partial {
     pub fn finish(self) -> Result<Table, TableFault>
         ensures fault { IfSome (fault_of self) (λ fault. result ≡ Err fault) }
         ensures err { fault_of self ≡ None → IfErr result (λ e. e ≡ OutOfMemory) }
-        ensures table { (rs : List DataRecord) → StandsFor self rs
-            → IfOk result (IsTable (plan_of self) rs) }
-        ensures fits { (rs : List DataRecord) → StandsFor self rs
-            → IfOk result (FitsPlan (plan_of self)) }
-        ensures small { (rs : List DataRecord) → StandsFor self rs
-            → OnOk result (IsTooLarge (plan_of self) rs → ⊥) }
-        ensures large { (rs : List DataRecord) → StandsFor self rs
-            → IfErr result (λ e. e ≡ SumTooLarge → IsTooLarge (plan_of self) rs) }
+        ensures table { ForRecords self (λ rs. IfOk result (IsTable (plan_of self) rs)) }
+        ensures fits { ForRecords self (λ rs. IfOk result (FitsPlan (plan_of self))) }
+        ensures small { ForRecords self (λ rs. OnOk result (IsTooLarge (plan_of self) rs → ⊥)) }
+        ensures large { ForRecords self
+            (λ rs. OnSumTooLarge result (IsTooLarge (plan_of self) rs)) }
     {
         Ok(self.finish_flat()?.into_table()?)
     }

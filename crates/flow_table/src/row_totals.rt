@@ -1,11 +1,12 @@
 //! Rows that are added up.
 
-ghost use Rattle.std.specs.Prelude.{◌≡◌, ◌++◌, ◌∷◌, [], ◌<◌, List, IfOk, IfErr, OnOk};
+ghost use Rattle.std.specs.Prelude.{◌≡◌, ◌++◌, ◌∷◌, [], ◌<◌, IfOk, IfErr, OnOk};
 ghost use Rattle.flow_table.specs.AddedUp.{AddUpTooLarge, AreAddedUp, rows_in};
 ghost use Rattle.flow_table.specs.Fitting.{FitsRow};
-ghost use Rattle.flow_table.specs.RowTotals.{AreOf, totals_plan};
-ghost use Rattle.flow_table.specs.SameTables.{RowValue, value_of};
-ghost use Rattle.flow_table.specs.declared.table_fault.TableFault.TheVariants.{OutOfMemory, SumTooLarge};
+ghost use Rattle.flow_table.specs.RowTotals.{AreOf, ForRows, totals_plan};
+ghost use Rattle.flow_table.specs.SameTables.{value_of};
+ghost use Rattle.flow_table.specs.TableFaults.{OnSumTooLarge};
+ghost use Rattle.flow_table.specs.declared.table_fault.TableFault.TheVariants.{OutOfMemory};
 
 use crate::flat_table::FlatTable;
 use crate::missing::Missing;
@@ -59,10 +60,10 @@ impl RowTotals {
         requires fits { FitsRow (totals_plan self.old) row.now }
         requires some { 0 < row.now.flows }
         ensures plan { totals_plan self.new ≡ totals_plan self.old }
-        ensures adds { (rows : List RowValue) → AreOf self.old rows
-            → OnOk result (AreOf self.new (rows ++ value_of row.now ∷ [])) }
-        ensures large { (rows : List RowValue) → AreOf self.old rows
-            → IfErr result (λ e. e ≡ SumTooLarge → AddUpTooLarge (rows ++ value_of row.now ∷ [])) }
+        ensures adds { ForRows self.old
+            (λ rows. OnOk result (AreOf self.new (rows ++ value_of row.now ∷ []))) }
+        ensures large { ForRows self.old
+            (λ rows. OnSumTooLarge result (AddUpTooLarge (rows ++ value_of row.now ∷ []))) }
     {
         write_words(&row.key, &mut self.words)?;
         self.rows
@@ -73,11 +74,10 @@ impl RowTotals {
     ///
     /// The fault is `OutOfMemory`: an allocation was refused.
     pub fn finish(self, tally: Tally, missing: Missing) -> Result<FlatTable, TableFault>
-        ensures sums { (rows : List RowValue) → AreOf self rows
-            → IfOk result (λ merged. AreAddedUp rows (rows_in merged)) }
+        ensures sums { ForRows self (λ rows. IfOk result (λ merged. AreAddedUp rows (rows_in merged))) }
         ensures tally { IfOk result (λ merged. merged.tally ≡ tally) }
         ensures missing { IfOk result (λ merged. merged.missing ≡ missing) }
-        ensures small { (rows : List RowValue) → AreOf self rows → AddUpTooLarge rows → ⊥ }
+        ensures small { ForRows self (λ rows. AddUpTooLarge rows → ⊥) }
         ensures err { IfErr result (λ e. e ≡ OutOfMemory) }
     {
         let RowTotals {

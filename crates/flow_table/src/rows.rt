@@ -1,11 +1,10 @@
 //! Rows of the totals under a plan, with no block of memory for each.
 
-ghost use Rattle.std.specs.Prelude.{◌≡◌, ◌+◌, ◌*◌, ◌^◌, ◌<◌, ◌≤◌, ◌∷◌, ℕ, suc, List, IfOk, IfErr, OnOk, OnErr, length, slice_index_or};
-ghost use Rattle.flow_rows.specs.Rows.{IsRun, Small, SomeTooLarge, SomeTotalTooLarge, part, row, total_at};
+ghost use Rattle.std.specs.Prelude.{◌≡◌, ◌+◌, ◌*◌, ◌^◌, ◌<◌, ◌∷◌, ℕ, List, IfOk, OnOk, OnErr};
+ghost use Rattle.flow_rows.specs.Rows.{IsRun, Small, SomeTotalTooLarge, part, total_at};
 ghost use Rattle.flow_table.specs.FlatTables.{run_in};
-ghost use Rattle.flow_table.specs.Rows.{AddsRow, AreAlike, AreRowsOf, depth_of, number_at, padded_row, width_of};
-ghost use Rattle.flow_table.specs.Words.{padded};
-ghost use Rattle.flow_table.specs.declared.table_fault.TableFault.TheVariants.{SumTooLarge};
+ghost use Rattle.flow_table.specs.Rows.{AddsRow, AreAlike, AreRowsOf, IsTooLargeWithRow, SameNumbers, both, number_at, padded_row, padded_to, width_of};
+ghost use Rattle.flow_table.specs.TableFaults.{OnSumTooLarge};
 
 use crate::plan::Plan;
 use crate::run::Run;
@@ -39,15 +38,12 @@ fn add_row<const K: usize, const C: usize>(
     requires fits { 8 * K + 8 * C < 2 ^ 63 }
     requires deep { 0 < C }
     requires some { 0 < flows }
-    ensures ok { OnOk result ((q : List ℕ) (i : ℕ)
-        → total_at rows.new q i ≡ total_at rows.old q i
-        + part q i (row (padded K (interval ∷ words.now)) (padded C (flows ∷ sums.now)))) }
+    ensures ok { OnOk result (SameNumbers (total_at rows.new) (both (total_at rows.old)
+        (λ q i. part q i (padded_to K C (interval ∷ words.now) (flows ∷ sums.now))))) }
     ensures small { Small (total_at rows.new) }
-    ensures err { OnErr result ((q : List ℕ) (i : ℕ)
-        → total_at rows.new q i ≡ total_at rows.old q i) }
-    ensures large { IfErr result (λ e. e ≡ SumTooLarge
-        → SomeTooLarge (λ i. total_at rows.old (padded K (interval ∷ words.now)) i
-        + slice_index_or (padded C (flows ∷ sums.now)) i 0)) }
+    ensures err { OnErr result (SameNumbers (total_at rows.new) (total_at rows.old)) }
+    ensures large { OnSumTooLarge result (IsTooLargeWithRow (total_at rows.old)
+        (padded_to K C (interval ∷ words.now) (flows ∷ sums.now))) }
 {
     let piece = Piece::new(padded_words(interval, words), padded_words(flows, sums));
     match rows.add(&piece) {
@@ -63,11 +59,11 @@ fn merge_rows<const K: usize, const C: usize>(
     others: FlatRows<K, C>,
 ) -> Result<FlatRows<K, C>, TableFault>
     requires fits { 8 * K + 8 * C < 2 ^ 63 }
-    ensures ok { IfOk result (λ both. (q : List ℕ) (i : ℕ)
-        → total_at both q i ≡ total_at rows.entry q i + total_at others.entry q i) }
-    ensures small { IfOk result (λ both. Small (total_at both)) }
-    ensures large { IfErr result (λ e. e ≡ SumTooLarge
-        → SomeTotalTooLarge (λ q i. total_at rows.entry q i + total_at others.entry q i)) }
+    ensures ok { IfOk result (λ merged.
+        SameNumbers (total_at merged) (both (total_at rows.entry) (total_at others.entry))) }
+    ensures small { IfOk result (λ merged. Small (total_at merged)) }
+    ensures large { OnSumTooLarge result
+        (SomeTotalTooLarge (both (total_at rows.entry) (total_at others.entry))) }
 {
     match rows.merge(others) {
         Ok(both) => Ok(both),
@@ -108,11 +104,9 @@ impl Rows {
             (AddsRow self.old (interval ∷ words.now) (flows ∷ sums.now) self.new) }
         ensures small { Small (number_at self.new) }
         ensures alike { AreAlike self.new self.old }
-        ensures err { OnErr result ((q : List ℕ) (i : ℕ)
-            → number_at self.new q i ≡ number_at self.old q i) }
-        ensures large { IfErr result (λ e. e ≡ SumTooLarge
-            → SomeTooLarge (λ i. number_at self.old (padded (width_of self.old) (interval ∷ words.now)) i
-            + slice_index_or (padded (depth_of self.old) (flows ∷ sums.now)) i 0)) }
+        ensures err { OnErr result (SameNumbers (number_at self.new) (number_at self.old)) }
+        ensures large { OnSumTooLarge result (IsTooLargeWithRow (number_at self.old)
+            (padded_row self.old (interval ∷ words.now) (flows ∷ sums.now))) }
     {
         match self {
             Rows::Two(rows) => add_row(rows, interval, words, flows, sums),
@@ -125,12 +119,13 @@ impl Rows {
     /// The rows of both, which are to be of one form: where they are not, the fault is `OutOfMemory`. Those
     /// of one plan are.
     pub fn merge(self, others: Rows) -> Result<Rows, TableFault>
-        ensures ok { IfOk result (λ both. (q : List ℕ) (i : ℕ)
-            → number_at both q i ≡ number_at self q i + number_at others q i) }
-        ensures small { IfOk result (λ both. Small (number_at both)) }
-        ensures alike { IfOk result (λ both. AreAlike both self × (width_of self ≡ width_of others)) }
-        ensures large { IfErr result (λ e. e ≡ SumTooLarge → (width_of self ≡ width_of others)
-            × SomeTotalTooLarge (λ q i. number_at self q i + number_at others q i)) }
+        ensures ok { IfOk result (λ merged.
+            SameNumbers (number_at merged) (both (number_at self) (number_at others))) }
+        ensures small { IfOk result (λ merged. Small (number_at merged)) }
+        ensures alike { IfOk result
+            (λ merged. AreAlike merged self × (width_of self ≡ width_of others)) }
+        ensures large { OnSumTooLarge result ((width_of self ≡ width_of others)
+            × SomeTotalTooLarge (both (number_at self) (number_at others))) }
     {
         match (self, others) {
             (Rows::Two(rows), Rows::Two(others)) => Ok(Rows::Two(merge_rows(rows, others)?)),
@@ -143,8 +138,8 @@ impl Rows {
 
     /// All rows, in order.
     pub fn finish(self) -> Result<Run, AllocError>
-        ensures total { IfOk result (λ run. (q : List ℕ) (i : ℕ)
-            → total_at (run_in run) q i ≡ number_at self q i) }
+        ensures total { IfOk result
+            (λ run. SameNumbers (total_at (run_in run)) (number_at self)) }
         ensures run { IfOk result (λ run. IsRun (run_in run)) }
     {
         match self {

@@ -1,15 +1,13 @@
 //! Taking data records into totals and a tally.
 
-ghost use Rattle.std.specs.Prelude.{◌≡◌, ◌++◌, ◌∷◌, [], ℕ, List, OnOk, IfOk, IfErr};
+ghost use Rattle.std.specs.Prelude.{◌≡◌, ◌++◌, ◌∷◌, [], List, OnOk, IfOk};
 ghost use Rattle.std.specs.Result.{result_err};
-ghost use Rattle.ipfix_elements.specs.declared.cell.Cell.{Cell};
 ghost use Rattle.ipfix_message.specs.declared.record.DataRecord.{DataRecord};
 ghost use Rattle.flow_table.specs.Partials.{HoldsTable, NotesMore, StandsBy, totals_at};
 ghost use Rattle.flow_table.specs.Reading.{class_of};
 ghost use Rattle.flow_table.specs.Readings.{IsUsedBy};
-ghost use Rattle.flow_table.specs.Rows.{AreRowsOf, kept_at};
-ghost use Rattle.flow_table.specs.Totals.{IsLargeAt, joined};
-ghost use Rattle.flow_table.specs.declared.table_fault.TableFault.TheVariants.{SumTooLarge};
+ghost use Rattle.flow_table.specs.Rows.{AddsTotals, AreRowsOf, IsTooLargeWith, StaySmall};
+ghost use Rattle.flow_table.specs.TableFaults.{OnSumTooLarge};
 
 use crate::adding::{Room, add_flow};
 use crate::class::Class;
@@ -33,15 +31,11 @@ fn take_flow(
 ) -> Result<(), TableFault>
     requires { IsUsedBy plan.now data_record.now flow room.old.words.items }
     ensures rows { AreRowsOf plan.now rows.old → AreRowsOf plan.now rows.new }
-    ensures ok { AreRowsOf plan.now rows.old → OnOk result ((k : ℕ) (q : List Cell)
-        → kept_at plan.now rows.new k q ≡ joined (kept_at plan.now rows.old k q)
-        (totals_at plan.now (data_record.now ∷ []) k q)) }
-    ensures fits { OnOk result ((k : ℕ) (q : List Cell)
-        → (IsLargeAt (kept_at plan.now rows.old k q) → ⊥)
-        → IsLargeAt (kept_at plan.now rows.new k q) → ⊥) }
-    ensures large { AreRowsOf plan.now rows.old → IfErr result (λ e. e ≡ SumTooLarge
-        → (k : ℕ) × (q : List Cell) × IsLargeAt (joined (kept_at plan.now rows.old k q)
-        (totals_at plan.now (data_record.now ∷ []) k q))) }
+    ensures ok { AreRowsOf plan.now rows.old → OnOk result
+        (AddsTotals plan.now rows.old (totals_at plan.now (data_record.now ∷ [])) rows.new) }
+    ensures fits { OnOk result (StaySmall plan.now rows.old rows.new) }
+    ensures large { AreRowsOf plan.now rows.old → OnSumTooLarge result
+        (IsTooLargeWith plan.now rows.old (totals_at plan.now (data_record.now ∷ []))) }
     ensures missing { OnOk result
         (NotesMore plan.now missing.old (data_record.now ∷ []) missing.new) }
 {

@@ -2,7 +2,7 @@
 
 ghost use Rattle.std.specs.Prelude.{◌≡◌, ◌+◌, ◌<◌, ◌≤◌, ◌^◌, OnOk, IfOk, IfErr};
 ghost use Rattle.flow_table.specs.declared.class.Class.{Class as ClassValue};
-ghost use Rattle.flow_table.specs.Partials.{count_in, one_of, tally_sum};
+ghost use Rattle.flow_table.specs.Partials.{CountsFit, count_in, one_of, tally_sum};
 ghost use Rattle.flow_table.specs.declared.table_fault.TableFault.TheVariants.{SumTooLarge};
 
 use crate::class::Class;
@@ -39,8 +39,8 @@ impl Tally {
     /// Counts a record of a class.
     #[tactic(auto, using(crate::proofs::Sums::same_tally, crate::proofs::Holding::counts_fit))]
     pub(crate) fn count(&mut self, class: Class) -> Result<(), TableFault>
-        ensures ok { OnOk result ((self.new ≡ tally_sum self.old (one_of class))
-            × ((other : ClassValue) → count_in self.new other < 2 ^ 64)) }
+        ensures ok { OnOk result
+            ((self.new ≡ tally_sum self.old (one_of class)) × CountsFit self.new) }
         ensures large { IfErr result (λ e. (e ≡ SumTooLarge)
             × (2 ^ 64 ≤ count_in self.old class + 1)) }
     {
@@ -77,8 +77,7 @@ fn sum(a: u64, b: u64) -> Result<u64, TableFault>
 
 /// The tally of the records of two tallies.
 pub fn together(a: &Tally, b: &Tally) -> Result<Tally, TableFault>
-    ensures ok { IfOk result (λ t. (t ≡ tally_sum a.now b.now)
-        × ((class : ClassValue) → count_in t class < 2 ^ 64)) }
+    ensures ok { IfOk result (λ t. (t ≡ tally_sum a.now b.now) × CountsFit t) }
     ensures large { IfErr result (λ e. (e ≡ SumTooLarge)
         × ((class : ClassValue) × (2 ^ 64 ≤ count_in a.now class + count_in b.now class))) }
 {
