@@ -3,6 +3,7 @@ use Rattle.std.specs.Prelude.{ℕ, ◌+◌, ◌-◌, ◌*◌, List, [], ◌∷�
 use Rattle.std.specs.Fmt.{decimal}
 use Rattle.std.specs.List.{join_with_byte}
 use Rattle.csv.specs.Writing.{default_writer, row_text}
+use Rattle.ipfix_wire.specs.declared.specifier.ElementId.{ElementId}
 use Rattle.ipfix_elements.specs.Texts.{cell_text}
 use Rattle.element_registry.specs.Registries.{Known, element_name}
 use Rattle.flow_table.specs.declared.key.Key.{Key}
@@ -34,10 +35,15 @@ prefix_text (Some bits) = codes "/" ++ decimal bits
 abbrev pub key_text : List Known → Key → List ℕ
 key_text known key = element_name known key.element ++ prefix_text key.prefix
 
+abbrev pub key_texts : List Known → List Key → List (List ℕ)
+key_texts known keys = map (key_text known) keys
+
+abbrev pub counter_texts : List Known → List ElementId → List (List ℕ)
+counter_texts known counters = map (element_name known) counters
+
 -- the names of the fields
 abbrev pub heading : List Known → PlanValue → List (List ℕ)
-heading known plan =
-    codes "start" ∷ codes "end" ∷ (map (key_text known) plan.keys ++ (map (element_name known) plan.counters ++ codes "flows" ∷ []))
+heading known plan = codes "start" ∷ codes "end" ∷ (key_texts known plan.keys ++ (counter_texts known plan.counters ++ codes "flows" ∷ []))
 
 -- the line of names, in quotes where they need it (RFC 4180, section 2): none does (`nothing_is_quoted`)
 abbrev pub heading_line : List Known → PlanValue → List ℕ

@@ -2,10 +2,9 @@
 use Rattle.std.specs.Prelude.{◌≡◌, ℕ, ◌+◌, ◌-◌, ◌*◌, List, ◌++◌, codes, flat_map, map}
 use Rattle.std.specs.List.{zip}
 use Rattle.ipfix_elements.specs.JsonValues.{json_cell, json_number}
-use Rattle.element_registry.specs.Registries.{element_name}
 use Rattle.ipfix_elements.specs.declared.cell.Cell.{Cell}
 use Rattle.flow_table.specs.Plans.{PlanValue}
-use Rattle.flow_export.specs.CsvText.{key_text}
+use Rattle.flow_export.specs.CsvText.{counter_texts, key_texts}
 use Rattle.flow_export.specs.declared.json_text.labels.MemberLabel.{MemberLabel}
 use Rattle.flow_export.specs.declared.json_text.labels.RowLabels.{RowLabels}
 
@@ -22,8 +21,8 @@ AreLabelsOf names labels = map text_of labels ≡ map label names
 
 -- the labels of a plan's keys and counters, by the names that elements have there
 pub record AreLabels (plan : PlanValue) (labels : RowLabels) : Type 0 where
-  pub keys : AreLabelsOf (map (key_text labels.elements.now) plan.keys) labels.keys.items
-  pub counters : AreLabelsOf (map (element_name labels.elements.now) plan.counters) labels.counters.items
+  pub keys : AreLabelsOf (key_texts labels.elements.now plan.keys) labels.keys.items
+  pub counters : AreLabelsOf (counter_texts labels.elements.now plan.counters) labels.counters.items
 
 -- a value behind its label
 abbrev pub labelled : {X : Type 0} → (X → List ℕ) → MemberLabel × X → List ℕ

@@ -1,8 +1,7 @@
 //! A table, however its rows are kept.
 
 ghost use Rattle.std.specs.Prelude.{◌≡◌, length};
-ghost use Rattle.flow_table.specs.AddedUp.{rows_in};
-ghost use Rattle.flow_export.specs.AnyTables.{table_in};
+ghost use Rattle.flow_export.specs.AnyTables.{rows_of};
 
 use flow_table::{FlatTable, Table};
 
@@ -18,7 +17,7 @@ pub enum AnyTable<'a> {
 impl AnyTable<'_> {
     /// How many rows it has.
     pub fn len(&self) -> usize
-        ensures { result ≡ length (rows_in (table_in self.now)) }
+        ensures { result ≡ length (rows_of self.now) }
     {
         match self {
             AnyTable::Rows(table) => table.rows.len(),

@@ -1,9 +1,8 @@
 //! The rows of a flat table, which are made one after another.
 
-ghost use Rattle.std.specs.Prelude.{◌≡◌, ◌∷◌, [], MatchOption, OnOk, IfOk, drop, length};
+ghost use Rattle.std.specs.Prelude.{◌≡◌, OnOk, IfOk, drop, length};
 ghost use Rattle.flow_table.specs.AddedUp.{rows_in};
-ghost use Rattle.flow_table.specs.SameTables.{value_of};
-ghost use Rattle.flow_export.specs.Made.{IsMade};
+ghost use Rattle.flow_export.specs.Made.{IsFirst, IsMade};
 
 use flow_table::{FlatTable, Row};
 use std::alloc::{AllocError, Global};
@@ -53,8 +52,7 @@ impl<'a> MadeRows<'a> {
 
     /// The first that is left.
     pub fn first(&self) -> Option<&Row>
-        ensures { MatchOption result (self.now ≡ [])
-            (λ row. self.now ≡ value_of row.now ∷ drop 1 self.now) }
+        ensures { IsFirst result self.now }
     {
         if self.index < self.table.len() {
             Some(&self.row)

@@ -1,9 +1,8 @@
 //! The rows of a table, one after another, however they are kept.
 
 ghost use Rattle.std.specs.Prelude.{◌≡◌, ◌∷◌, [], MatchOption, IfOk, OnOk, drop, length};
-ghost use Rattle.flow_table.specs.AddedUp.{rows_in};
-ghost use Rattle.flow_table.specs.SameTables.{value_of};
-ghost use Rattle.flow_export.specs.AnyTables.{table_in};
+ghost use Rattle.flow_export.specs.AnyTables.{rows_of};
+ghost use Rattle.flow_export.specs.Made.{IsFirst};
 
 use crate::any_table::AnyTable;
 use crate::made_rows::MadeRows;
@@ -39,7 +38,7 @@ impl<'a> Model for TableRows<'a> {
 impl<'a> TableRows<'a> {
     /// All rows of a table. Those that are kept one by one take no memory.
     pub fn of(alloc: Global, table: &AnyTable<'a>) -> Result<TableRows<'a>, AllocError>
-        ensures { IfOk result (λ rows. rows ≡ rows_in (table_in table.now)) }
+        ensures { IfOk result (λ rows. rows ≡ rows_of table.now) }
     {
         match *table {
             AnyTable::Rows(table) => Ok(TableRows {
@@ -63,8 +62,7 @@ impl<'a> TableRows<'a> {
 
     /// The first that is left.
     pub fn first(&self) -> Option<&Row>
-        ensures { MatchOption result (self.now ≡ [])
-            (λ row. self.now ≡ value_of row.now ∷ drop 1 self.now) }
+        ensures { IsFirst result self.now }
     {
         match &self.left {
             RowsLeft::Kept(rows) => first_of(rows),

@@ -2,9 +2,8 @@
 
 ghost use Rattle.std.specs.Prelude.{◌≡◌, ◌↔◌, length, IsErrOf, OnOk};
 ghost use Rattle.ipfix_elements.specs.Writers.{Writes};
-ghost use Rattle.flow_table.specs.AddedUp.{rows_in};
 ghost use Rattle.flow_table.specs.Fitting.{FitsPlan};
-ghost use Rattle.flow_export.specs.AnyTables.{table_in};
+ghost use Rattle.flow_export.specs.AnyTables.{rows_of, table_in};
 ghost use Rattle.flow_export.specs.TableTexts.{IsTooMany, text_of};
 
 use crate::any_table::AnyTable;
@@ -32,10 +31,10 @@ pub fn write_table<W: Write>(
     out: &mut W,
 ) -> Result<(), ExportFault>
     requires { FitsPlan plan.now (table_in table.now) }
-    ensures ok { OnOk result (Writes W.contents out.old out.new
-        (text_of text.now plan.now (rows_in (table_in table.now)))) }
+    ensures ok { OnOk result
+        (Writes W.contents out.old out.new (text_of text.now plan.now (rows_of table.now))) }
     ensures many { IsErrOf result ExportFault.TooManyRows
-        ↔ IsTooMany text.now (length (rows_in (table_in table.now))) }
+        ↔ IsTooMany text.now (length (rows_of table.now)) }
     ensures untouched { IsErrOf result ExportFault.TooManyRows → out.new ≡ out.old }
 {
     if text.is_too_many(table.len()) {

@@ -1,9 +1,8 @@
 //! The fields of the heading of CSV.
 
-ghost use Rattle.std.specs.Prelude.{◌≡◌, [], OnOk, map};
+ghost use Rattle.std.specs.Prelude.{◌≡◌, [], OnOk};
 ghost use Rattle.csv.specs.Records.{fields_of, partial_of};
-ghost use Rattle.element_registry.specs.Registries.{element_name};
-ghost use Rattle.flow_export.specs.CsvText.{heading, key_text};
+ghost use Rattle.flow_export.specs.CsvText.{counter_texts, heading, key_texts};
 ghost use Rattle.flow_export.specs.Written.{AddsFields};
 
 use crate::key_name::{append_key, append_name};
@@ -38,7 +37,7 @@ fn push_keys(
     line: &mut ByteRecord,
 ) -> Result<(), AllocError>
     requires { partial_of line.old ≡ [] }
-    ensures fields { OnOk result (AddsFields line.old line.new (map (key_text elements.now) keys.now)) }
+    ensures fields { OnOk result (AddsFields line.old line.new (key_texts elements.now keys.now)) }
     ensures partial { OnOk result (partial_of line.new ≡ []) }
 {
     for key in keys {
@@ -57,8 +56,7 @@ fn push_names(
     line: &mut ByteRecord,
 ) -> Result<(), AllocError>
     requires { partial_of line.old ≡ [] }
-    ensures fields { OnOk result
-        (AddsFields line.old line.new (map (element_name elements.now) counters.now)) }
+    ensures fields { OnOk result (AddsFields line.old line.new (counter_texts elements.now counters.now)) }
     ensures partial { OnOk result (partial_of line.new ≡ []) }
 {
     for counter in counters {

@@ -1,8 +1,8 @@
 //! The names of a row's members, as they stand before the values. They are the same in each row.
 
-ghost use Rattle.std.specs.Prelude.{◌≡◌, IfOk, map};
+ghost use Rattle.std.specs.Prelude.{◌≡◌, IfOk};
 ghost use Rattle.element_registry.specs.Registries.{element_name};
-ghost use Rattle.flow_export.specs.CsvText.{key_text};
+ghost use Rattle.flow_export.specs.CsvText.{counter_texts, key_text, key_texts};
 ghost use Rattle.flow_export.specs.JsonParts.{AreLabels, AreLabelsOf, label, text_of};
 
 use crate::key_name::{append_key, append_name};
@@ -47,7 +47,7 @@ fn key_labels(
     keys: &[Key],
 ) -> Result<Vec<MemberLabel>, AllocError>
     ensures { IfOk result (λ labels.
-        AreLabelsOf (map (key_text elements.now) keys.now) labels.items) }
+        AreLabelsOf (key_texts elements.now keys.now) labels.items) }
 {
     let mut labels = Vec::new(alloc);
     for key in keys {
@@ -62,7 +62,7 @@ fn counter_labels(
     counters: &[ElementId],
 ) -> Result<Vec<MemberLabel>, AllocError>
     ensures { IfOk result (λ labels.
-        AreLabelsOf (map (element_name elements.now) counters.now) labels.items) }
+        AreLabelsOf (counter_texts elements.now counters.now) labels.items) }
 {
     let mut labels = Vec::new(alloc);
     for counter in counters {
