@@ -9,7 +9,7 @@ use flow_collect::Pool;
 use flow_export::ExportFault;
 use flow_table::Plan;
 use input_files::load_elements;
-use input_sources::{Noted, load_plan_under};
+use input_sources::{Noted, load_plan};
 use ipfix_dump::Form;
 use output_tables::{Output, write_export_fault};
 use report_writing::{CheckedWriter, Status, Verbosity};
@@ -55,7 +55,7 @@ pub fn read_job(rt: &HostRuntime, chosen: &ArgMatches) -> Option<Job> {
     let files = chosen.get_strs("elements").unwrap_or(&[]);
     let elements = load_elements(rt, rt.alloc(), files, verbosity, &mut err)?;
     let path = chosen.get_str("plan")?;
-    let plan = load_plan_under(rt, rt.alloc(), &elements, path, verbosity, &mut err)?;
+    let plan = load_plan(rt, rt.alloc(), &elements, path, verbosity, &mut err)?;
     let time = chosen.get_one::<u32>("time")?;
     let format = table_format(chosen.get_str("format")?)?;
     Some(Job {

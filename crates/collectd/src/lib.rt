@@ -10,7 +10,7 @@ pub use command_merge::{run_merge, run_merge_in_full};
 pub use input_files::ReadText;
 pub use input_sources::{
     Accepted, Listener, Note, Noted, NotedPeer, OpenSource, Opened, SystemFiles, SystemListener,
-    load_plan, load_plan_under, write_plan_fault,
+    load_plan, write_plan_fault,
 };
 pub use ipfix_dump::{DumpFault, Form, dump};
 pub use ipfix_session::MessageCounter;

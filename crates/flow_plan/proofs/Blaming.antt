@@ -21,8 +21,7 @@ use Rattle.flow_plan.specs.declared.error.PlanPlace.TheVariants.{Value, Count, T
 use Rattle.flow_plan.specs.declared.error.PlanKey.TheVariants.{Keys, Counters}
 use Rattle.flow_plan.specs.declared.fault.PlanTextFault.TheVariants.{UnknownElement}
 use Rattle.flow_plan.specs.PlanTexts.{Fields, all_of}
-use Rattle.flow_plan.specs.Blames.{again_from, elements_of, is_unfit_prefix, place_after, texts_at}
-use Rattle.flow_plan.specs.BlamesUnder.{blamed_under, is_unfit_counter_under, is_unfit_key_under, NamesAllUnder, IsPlaceUnder}
+use Rattle.flow_plan.specs.Blames.{again_from, elements_of, is_unfit_prefix, place_after, texts_at, blamed, is_unfit_counter, is_unfit_key, NamesAll, IsPlace}
 use Rattle.flow_plan.specs.Shown.{shown_all, IsTextAt}
 use Rattle.flow_plan.proofs.Told.{given}
 
@@ -132,7 +131,7 @@ within f texts xs place o n named is found chosen =
 -- ---- the first that has the fault
 
 pub key_found : (known : List Known) (len : ℕ) (keys : List Key) (counters : List ElementId) (spread : ℕ) (fault : PlanFault) → fault ≡ KeyKind
-    → (fault ≢ OutOfMemory → first_fault known len keys counters spread ≡ Some fault) → (i : ℕ) × (position_from (is_unfit_key_under known) 0 keys ≡ Some i) × (i < length keys)
+    → (fault ≢ OutOfMemory → first_fault known len keys counters spread ≡ Some fault) → (i : ℕ) × (position_from (is_unfit_key known) 0 keys ≡ Some i) × (i < length keys)
 key_found known len keys counters spread fault is first =
     let fits : first_fault known len keys counters spread ≡ Some KeyKind = first (λ e. let d : KeyKind ≡ OutOfMemory = sym is ∙ e in cc) ∙ ap (λ (f : PlanFault). Some f) is in
     first_failing (λ k. is_key known k.element) keys (test_fails known KeyKind len keys counters spread fits)
@@ -144,23 +143,23 @@ prefix_found known len keys counters spread fault is first =
     first_failing (λ k. is_prefix_of k.element k.prefix) keys (test_fails known Prefix len keys counters spread fits)
 
 pub counter_found : (known : List Known) (len : ℕ) (keys : List Key) (counters : List ElementId) (spread : ℕ) (fault : PlanFault) → fault ≡ CounterKind
-    → (fault ≢ OutOfMemory → first_fault known len keys counters spread ≡ Some fault) → (i : ℕ) × (position_from (is_unfit_counter_under known) 0 counters ≡ Some i) × (i < length counters)
+    → (fault ≢ OutOfMemory → first_fault known len keys counters spread ≡ Some fault) → (i : ℕ) × (position_from (is_unfit_counter known) 0 counters ≡ Some i) × (i < length counters)
 counter_found known len keys counters spread fault is first =
     let fits : first_fault known len keys counters spread ≡ Some CounterKind = first (λ e. let d : CounterKind ≡ OutOfMemory = sym is ∙ e in cc) ∙ ap (λ (f : PlanFault). Some f) is in
     first_failing (is_counter known) counters (test_fails known CounterKind len keys counters spread fits)
 
 -- ---- the text at the place that is blamed
 
-blames : (known : List Known) (f : Fields) (fault : PlanFault) (keys : List Key) (counters : List ElementId) (key : PlanKey) (n : ℕ) (place : PlanPlace) → NamesAllUnder known f keys counters
-    → blamed_under known fault keys counters ≡ Some (key, n) → IsTextAt key (texts_at key f) n place → IsPlaceUnder known f fault place
+blames : (known : List Known) (f : Fields) (fault : PlanFault) (keys : List Key) (counters : List ElementId) (key : PlanKey) (n : ℕ) (place : PlanPlace) → NamesAll known f keys counters
+    → blamed known fault keys counters ≡ Some (key, n) → IsTextAt key (texts_at key f) n place → IsPlace known f fault place
 blames known f fault keys counters key n (Text k text) named is here =
-    subst (λ x. IsPlaceUnder known f fault (Text x text)) here.0 (keys, counters, n, named, is, here.1)
+    subst (λ x. IsPlace known f fault (Text x text)) here.0 (keys, counters, n, named, is, here.1)
 blames known f fault keys counters key n (Value k) named is here = absurd here
 blames known f fault keys counters key n (Count k count) named is here = absurd here
 
 -- a counter that stands again
-pub counter_again : {E : Type 0} (known : List Known) (f : Fields) (keys : List Key) (counters : List ElementId) (n : ℕ) (r : Result PlanPlace E) → NamesAllUnder known f keys counters
-    → again_from [] 0 (elements_of keys counters) ≡ Some n → nat_lt n (length keys) ≡ false → IfOk r (IsTextAt Counters f.counters (n - length keys)) → IfOk r (IsPlaceUnder known f Repeated)
+pub counter_again : {E : Type 0} (known : List Known) (f : Fields) (keys : List Key) (counters : List ElementId) (n : ℕ) (r : Result PlanPlace E) → NamesAll known f keys counters
+    → again_from [] 0 (elements_of keys counters) ≡ Some n → nat_lt n (length keys) ≡ false → IfOk r (IsTextAt Counters f.counters (n - length keys)) → IfOk r (IsPlace known f Repeated)
 counter_again known f keys counters n (Ok place) named is after here =
     blames known f Repeated keys counters Counters (n - length keys) place named
     (ap (option_map (place_after (length keys))) is ∙ ap (λ (b : Bool). Some (cond b (Keys, n) (Counters, n - length keys))) after) here

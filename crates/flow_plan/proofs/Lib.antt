@@ -1,8 +1,8 @@
 mod Again
 mod Bits
 mod Blaming
+mod Kept
 mod Listed
 mod Slashes
 mod Told
-mod UnderFiles
 mod Values

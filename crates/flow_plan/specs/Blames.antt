@@ -2,10 +2,11 @@
 use Rattle.std.specs.Prelude.{◌≡◌, ℕ, ◌+◌, ◌-◌, ◌||◌, nat_lt, not, Bool, List, [], ◌∷◌, ◌++◌, length, map, Option, Some, None, option_map, Ok, if◌then◌else◌, slice_get, string_bytes}
 use Rattle.std.specs.List.{list_any, position_from}
 use Rattle.ipfix_wire.specs.declared.specifier.ElementId.{ElementId}
+use Rattle.element_registry.specs.Registries.{Known}
 use Rattle.flow_table.specs.declared.key.Key.{Key}
 use Rattle.flow_table.specs.declared.plan_fault.PlanFault.{PlanFault}
 use Rattle.flow_table.specs.declared.plan_fault.PlanFault.TheVariants.{Length, Spread, KeyCount, KeyKind, Prefix, CounterCount, CounterKind, Repeated}
-use Rattle.flow_table.specs.Plans.{is_key, is_prefix_of, is_counter, same_element, exported_element}
+use Rattle.flow_table.specs.Plans.{is_prefix_of, same_element, exported_element, is_key, is_counter}
 use Rattle.flow_plan.specs.declared.error.PlanKey.{PlanKey}
 use Rattle.flow_plan.specs.declared.error.PlanKey.TheVariants.{IntervalMs, MaxSpread, Keys, Counters}
 use Rattle.flow_plan.specs.declared.error.PlanPlace.{PlanPlace}
@@ -28,14 +29,14 @@ counted_key _ = None
 
 -- ---- elements
 
-abbrev pub is_unfit_key : Key → Bool
-is_unfit_key k = not (is_key [] k.element)
+abbrev pub is_unfit_key : List Known → Key → Bool
+is_unfit_key known k = not (is_key known k.element)
 
 abbrev pub is_unfit_prefix : Key → Bool
 is_unfit_prefix k = not (is_prefix_of k.element k.prefix)
 
-abbrev pub is_unfit_counter : ElementId → Bool
-is_unfit_counter e = not (is_counter [] e)
+abbrev pub is_unfit_counter : List Known → ElementId → Bool
+is_unfit_counter known e = not (is_counter known e)
 
 -- whether two keys have one element, in the records that are read or in those that are exported
 abbrev pub has_one_element : Key → Key → Bool
@@ -55,12 +56,12 @@ abbrev pub place_after : ℕ → ℕ → PlanKey × ℕ
 place_after count n = if nat_lt n count then (Keys, n) else (Counters, n - count)
 
 -- the place of the first element that has the fault: its key, and which of the key's elements it is, counted from 0
-abbrev pub blamed : PlanFault → List Key → List ElementId → Option (PlanKey × ℕ)
-blamed KeyKind keys counters = option_map (λ n. (Keys, n)) (position_from is_unfit_key 0 keys)
-blamed Prefix keys counters = option_map (λ n. (Keys, n)) (position_from is_unfit_prefix 0 keys)
-blamed CounterKind keys counters = option_map (λ n. (Counters, n)) (position_from is_unfit_counter 0 counters)
-blamed Repeated keys counters = option_map (place_after (length keys)) (again_from [] 0 (elements_of keys counters))
-blamed _ keys counters = None
+abbrev pub blamed : List Known → PlanFault → List Key → List ElementId → Option (PlanKey × ℕ)
+blamed known KeyKind keys counters = option_map (λ n. (Keys, n)) (position_from (is_unfit_key known) 0 keys)
+blamed known Prefix keys counters = option_map (λ n. (Keys, n)) (position_from is_unfit_prefix 0 keys)
+blamed known CounterKind keys counters = option_map (λ n. (Counters, n)) (position_from (is_unfit_counter known) 0 counters)
+blamed known Repeated keys counters = option_map (place_after (length keys)) (again_from [] 0 (elements_of keys counters))
+blamed known _ keys counters = None
 
 -- ---- their texts
 
@@ -71,17 +72,17 @@ texts_at Counters f = f.counters
 texts_at _ f = []
 
 -- the texts of a document name these keys and counters
-abbrev pub NamesAll : Fields → List Key → List ElementId → Type 0
-NamesAll f keys counters = (keys_in f.keys ≡ Ok keys) × (counters_in f.counters ≡ Ok counters)
+abbrev pub NamesAll : List Known → Fields → List Key → List ElementId → Type 0
+NamesAll known f keys counters = (keys_in known f.keys ≡ Ok keys) × (counters_in known f.counters ≡ Ok counters)
 
 -- this text of this key is the first that has the fault
-abbrev pub IsBlamed : Fields → PlanFault → PlanKey → List ℕ → Type 0
-IsBlamed f fault key text =
-    (keys : List Key) × (counters : List ElementId) × (n : ℕ) × NamesAll f keys counters × (blamed fault keys counters ≡ Some (key, n))
+abbrev pub IsBlamed : List Known → Fields → PlanFault → PlanKey → List ℕ → Type 0
+IsBlamed known f fault key text =
+    (keys : List Key) × (counters : List ElementId) × (n : ℕ) × NamesAll known f keys counters × (blamed known fault keys counters ≡ Some (key, n))
     × (slice_get (texts_at key f) n ≡ Some text)
 
 -- the value, the number of elements, or the text, that gives a document's values this fault
-abbrev pub IsPlace : Fields → PlanFault → PlanPlace → Type 0
-IsPlace f fault (Value key) = value_key fault ≡ Some key
-IsPlace f fault (Count key count) = (counted_key fault ≡ Some key) × (count ≡ length (texts_at key f))
-IsPlace f fault (Text key text) = IsBlamed f fault key (string_bytes text)
+abbrev pub IsPlace : List Known → Fields → PlanFault → PlanPlace → Type 0
+IsPlace known f fault (Value key) = value_key fault ≡ Some key
+IsPlace known f fault (Count key count) = (counted_key fault ≡ Some key) × (count ≡ length (texts_at key f))
+IsPlace known f fault (Text key text) = IsBlamed known f fault key (string_bytes text)

@@ -35,8 +35,3 @@ abbrev pub ◌>>=◌ : {A B : Type 0} → Read A → (A → Read B) → Read B
 abbrev pub Fails : {Y : Type 0} → PlanTextFault → Read Y → Type 0
 Fails OutOfMemory read = Unit {0}
 Fails e read = read ≡ Err e
-
--- what a function answered, seen by view, is what reading gives, unless memory ran out
-abbrev pub Gives : {X Y : Type 0} → (X → Y) → Result X PlanTextFault → Read Y → Type 0
-Gives view (Ok x) read = read ≡ Ok (view x)
-Gives view (Err e) read = Fails e read

@@ -1,18 +1,20 @@
 -- Where a text is no plan.
 use Rattle.std.specs.Prelude.{◌≡◌, ℕ, ◌+◌, ◌==◌, ◌||◌, nat_lt, nat_le, Bool, not, List, [], ◌∷◌, take, codes, count_by, find, Option, Some, None, is_none, Ok, is_err, if◌then◌else◌, string_bytes}
 use Rattle.std.specs.List.{after_last}
-use Rattle.std.specs.Str.{IsValidUpTo}
+use Rattle.std.specs.Str.{IsUtf8, IsValidUpTo}
 use Rattle.toml.specs.Data.{Data, Members, no_members, member, get_member}
 use Rattle.toml.specs.Parse.{parse_document}
 use Rattle.toml.specs.Errors.{IsMemory, IsWithin, span_start}
-use Rattle.ipfix_elements.specs.Names.{element_named}
+use Rattle.element_registry.specs.Registries.{Known, element_by_name}
+use Rattle.flow_table.specs.Plans.{PlanValue}
 use Rattle.flow_plan.specs.declared.fault.PlanTextFault.{PlanTextFault}
 use Rattle.flow_plan.specs.declared.fault.PlanTextFault.TheVariants as faults
 use Rattle.flow_plan.specs.declared.error.PlanKey.{PlanKey}
 use Rattle.flow_plan.specs.declared.error.PlanKey.TheVariants.{IntervalMs, Method, MaxSpread, Keys, Counters}
 use Rattle.flow_plan.specs.declared.error.PlanTextError.{PlanTextError}
 use Rattle.flow_plan.specs.declared.error.PlanTextError.TheVariants.{NotUtf8, NotToml, UnknownField, Missing, WrongKind, UnknownElement, Plan, OutOfMemory}
-use Rattle.flow_plan.specs.PlanTexts.{Fields, fields_of, is_field, required, optional, small_number, method, texts, key_named}
+use Rattle.flow_plan.specs.Faults.{Fails}
+use Rattle.flow_plan.specs.PlanTexts.{Fields, fields_of, is_field, required, optional, small_number, method, texts, key_named, plan_of_text}
 use Rattle.flow_plan.specs.Blames.{IsPlace}
 
 -- the fault, without its place
@@ -81,42 +83,52 @@ refused_key d =
 -- ---- texts that name no element
 
 -- the first text that names no key
-abbrev pub no_key_in : List (List ℕ) → Option (List ℕ)
-no_key_in texts = find (λ text. is_none (key_named text)) texts
+abbrev pub no_key_in : List Known → List (List ℕ) → Option (List ℕ)
+no_key_in known texts = find (λ text. is_none (key_named known text)) texts
 
 -- the first text that names no counter
-abbrev pub no_counter_in : List (List ℕ) → Option (List ℕ)
-no_counter_in texts = find (λ text. is_none (element_named text)) texts
-
-abbrev pub unknown_key : Fields → Option (List ℕ)
-unknown_key f = no_key_in f.keys
-
-abbrev pub unknown_counter : Fields → Option (List ℕ)
-unknown_counter f = no_counter_in f.counters
+abbrev pub no_counter_in : List Known → List (List ℕ) → Option (List ℕ)
+no_counter_in known texts = find (λ text. is_none (element_by_name known text)) texts
 
 -- the first text that names no element, of the keys and then of the counters
-abbrev pub IsUnknown : Fields → PlanKey → List ℕ → Type 0
-IsUnknown f Keys text = unknown_key f ≡ Some text
-IsUnknown f Counters text = (unknown_key f ≡ None) × (unknown_counter f ≡ Some text)
-IsUnknown f _ text = ⊥
+abbrev pub IsUnknown : List Known → Fields → PlanKey → List ℕ → Type 0
+IsUnknown known f Keys text = no_key_in known f.keys ≡ Some text
+IsUnknown known f Counters text = (no_key_in known f.keys ≡ None) × (no_counter_in known f.counters ≡ Some text)
+IsUnknown known f _ text = ⊥
 
 -- ---- what an error tells
 
 -- the key of a document, and the text, at which it is no plan, or what gives its values the fault
-abbrev pub TellsKey : Members → PlanTextError → Type 0
-TellsKey d (UnknownField key) = unknown_field d ≡ Some (string_bytes key)
-TellsKey d (Missing key) = refused_key d ≡ key
-TellsKey d (WrongKind key) = refused_key d ≡ key
-TellsKey d (UnknownElement key text) = (f : Fields) × (fields_of d ≡ Ok f) × IsUnknown f key (string_bytes text)
-TellsKey d (Plan fault place) = (f : Fields) × (fields_of d ≡ Ok f) × IsPlace f fault place
-TellsKey d OutOfMemory = Unit {0}
-TellsKey d _ = ⊥
+abbrev pub TellsKey : List Known → Members → PlanTextError → Type 0
+TellsKey known d (UnknownField key) = unknown_field d ≡ Some (string_bytes key)
+TellsKey known d (Missing key) = refused_key d ≡ key
+TellsKey known d (WrongKind key) = refused_key d ≡ key
+TellsKey known d (UnknownElement key text) = (f : Fields) × (fields_of d ≡ Ok f) × IsUnknown known f key (string_bytes text)
+TellsKey known d (Plan fault place) = (f : Fields) × (fields_of d ≡ Ok f) × IsPlace known f fault place
+TellsKey known d OutOfMemory = Unit {0}
+TellsKey known d _ = ⊥
 
 -- the line at which octets are no UTF-8; the line and the column at which the parser of TOML says that they are no
 -- document; or the key
-abbrev pub Tells : List ℕ → PlanTextError → Type 0
-Tells octets (NotUtf8 line) = (place : ℕ) × IsValidUpTo octets place × (line ≡ line_at octets place)
-Tells octets (NotToml error line column message) =
+abbrev pub Tells : List Known → List ℕ → PlanTextError → Type 0
+Tells known octets (NotUtf8 line) = (place : ℕ) × IsValidUpTo octets place × (line ≡ line_at octets place)
+Tells known octets (NotToml error line column message) =
     (¬ (IsMemory error)) × IsWithin octets error × (line ≡ line_at octets (span_start error)) × (column ≡ column_at octets (span_start error))
-Tells octets OutOfMemory = Unit {0}
-Tells octets error = (d : Members) × (parse_document octets ≡ Some d) × TellsKey d error
+Tells known octets OutOfMemory = Unit {0}
+Tells known octets error = (d : Members) × (parse_document octets ≡ Some d) × TellsKey known d error
+
+-- ---- what is read of octets
+
+-- they are UTF-8, and this is their plan
+abbrev pub IsPlanOf : List Known → List ℕ → PlanValue → Type 0
+IsPlanOf known octets plan = IsUtf8 octets × (plan_of_text known octets ≡ Ok plan)
+
+-- the error tells its place in them, and its fault is theirs, unless memory ran out
+pub record IsPlanError (known : List Known) (octets : List ℕ) (error : PlanTextError) : Type 0 where
+  pub place : Tells known octets error
+  pub fault : IsUtf8 octets → Fails (fault_of error) (plan_of_text known octets)
+  pub not_utf8 : ¬ (IsUtf8 octets) → fault_of error ≡ faults.NotToml
+
+-- some text says the plan, where these files name elements
+abbrev pub IsReadWith : List Known → PlanValue → Type 0
+IsReadWith known plan = ∥ ((text : List ℕ) × (plan_of_text known text ≡ Ok plan)) ∥₁

@@ -1,4 +1,4 @@
--- The plan that a TOML document says.
+-- The plan that a TOML document says, by what files say of elements, beside the built-in ones.
 use Rattle.std.specs.Prelude.{ℕ, ◌^◌, ◌==◌, ◌&&◌, nat_lt, Bool, true, List, [], ◌∷◌, codes, pos, Option, Some, None, option_map, option_and_then, if◌then◌else◌, Ok, Err, decimal}
 use Rattle.std.specs.Option.{ok_or}
 use Rattle.std.specs.List.{list_any, before_first, after_first}
@@ -7,7 +7,7 @@ use Rattle.std.specs.Str.Parse.{digits_value}
 use Rattle.toml.specs.Data.{Data, string, integer, Items, no_items, item, as_array, Members, no_members, member, get_member}
 use Rattle.toml.specs.Parse.{parse_document}
 use Rattle.ipfix_wire.specs.declared.specifier.ElementId.{ElementId}
-use Rattle.ipfix_elements.specs.Names.{element_named}
+use Rattle.element_registry.specs.Registries.{Known, element_by_name}
 use Rattle.flow_table.specs.declared.key.Key.{Key}
 use Rattle.flow_table.specs.declared.method.Method.{Method}
 use Rattle.flow_table.specs.declared.method.Method.TheVariants.{Start, End, Mid, Uniform, Proportional}
@@ -85,11 +85,11 @@ abbrev pub prefix_key : ElementId → ℕ → Key
 prefix_key element bits = record { element = element; prefix = Some bits }
 
 -- NAME, or NAME/BITS
-abbrev pub key_named : List ℕ → Option Key
-key_named text =
+abbrev pub key_named : List Known → List ℕ → Option Key
+key_named known text =
     if list_any is_slash text
-    then option_and_then (λ element. option_map (prefix_key element) (bits_in (after_first is_slash text))) (element_named (before_first is_slash text))
-    else option_map whole_key (element_named text)
+    then option_and_then (λ element. option_map (prefix_key element) (bits_in (after_first is_slash text))) (element_by_name known (before_first is_slash text))
+    else option_map whole_key (element_by_name known text)
 
 -- what each of a list has, if each has something
 abbrev pub all_of : {A X : Type 0} → (A → Option X) → List A → Option (List X)
@@ -97,12 +97,12 @@ all_of f [] = Some []
 all_of f (y ∷ ys) = option_and_then (λ x. option_map (λ xs. x ∷ xs) (all_of f ys)) (f y)
 
 -- the keys that texts name
-abbrev pub keys_in : List (List ℕ) → Read (List Key)
-keys_in texts = ok_or (all_of key_named texts) faults.UnknownElement
+abbrev pub keys_in : List Known → List (List ℕ) → Read (List Key)
+keys_in known texts = ok_or (all_of (key_named known) texts) faults.UnknownElement
 
 -- the counters that texts name
-abbrev pub counters_in : List (List ℕ) → Read (List ElementId)
-counters_in texts = ok_or (all_of element_named texts) faults.UnknownElement
+abbrev pub counters_in : List Known → List (List ℕ) → Read (List ElementId)
+counters_in known texts = ok_or (all_of (element_by_name known) texts) faults.UnknownElement
 
 -- ---- the plan
 
@@ -132,15 +132,15 @@ abbrev pub checked : PlanValue → Option PlanFault → Read PlanValue
 checked plan None = Ok plan
 checked plan (Some fault) = Err (faults.Plan fault)
 
-abbrev pub plan_of_fields : Fields → Read PlanValue
-plan_of_fields f =
-    keys_in f.keys >>= λ keys.
-    counters_in f.counters >>= λ counters.
-    checked (plan_value [] f.length f.method keys counters f.max_spread) (first_fault [] f.length keys counters f.max_spread)
+abbrev pub plan_of_fields : List Known → Fields → Read PlanValue
+plan_of_fields known f =
+    keys_in known f.keys >>= λ keys.
+    counters_in known f.counters >>= λ counters.
+    checked (plan_value known f.length f.method keys counters f.max_spread) (first_fault known f.length keys counters f.max_spread)
 
-abbrev pub plan_of_document : Members → Read PlanValue
-plan_of_document d = if has_known_fields d then fields_of d >>= plan_of_fields else Err faults.UnknownField
+abbrev pub plan_of_document : List Known → Members → Read PlanValue
+plan_of_document known d = if has_known_fields d then fields_of d >>= plan_of_fields known else Err faults.UnknownField
 
 -- the plan of a text, or its first fault
-abbrev pub plan_of_text : List ℕ → Read PlanValue
-plan_of_text text = ok_or (parse_document text) faults.NotToml >>= plan_of_document
+abbrev pub plan_of_text : List Known → List ℕ → Read PlanValue
+plan_of_text known text = ok_or (parse_document text) faults.NotToml >>= plan_of_document known

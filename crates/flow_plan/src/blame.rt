@@ -2,9 +2,8 @@
 
 ghost use Rattle.std.specs.Prelude.{◌≡◌, ◌≢◌, ◌<◌, Some, IfOk, length};
 ghost use Rattle.std.specs.List.{position_from};
-ghost use Rattle.flow_table.specs.Plans.{first_fault, repeat_fault};
-ghost use Rattle.flow_plan.specs.Blames.{is_unfit_prefix};
-ghost use Rattle.flow_plan.specs.BlamesUnder.{is_unfit_counter_under, is_unfit_key_under, IsPlaceUnder, NamesAllUnder};
+ghost use Rattle.flow_table.specs.Plans.{repeat_fault, first_fault};
+ghost use Rattle.flow_plan.specs.Blames.{is_unfit_prefix, is_unfit_counter, is_unfit_key, IsPlace, NamesAll};
 ghost use Rattle.flow_plan.specs.Shown.{shown, shown_all, IsTextAt};
 
 use crate::error::{PlanKey, PlanPlace};
@@ -25,11 +24,11 @@ pub fn place_of(
     counters: &[ElementId],
     fault: PlanFault,
 ) -> Result<PlanPlace, AllocError>
-    requires named { NamesAllUnder elements.now (shown fields.now) keys.now counters.now }
+    requires named { NamesAll elements.now (shown fields.now) keys.now counters.now }
     requires first { fault ≢ PlanFault.OutOfMemory
         → first_fault elements.now fields.now.length keys.now counters.now
         fields.now.max_spread ≡ Some fault }
-    ensures { IfOk result (IsPlaceUnder elements.now (shown fields.now) fault) }
+    ensures { IfOk result (IsPlace elements.now (shown fields.now) fault) }
 {
     match fault {
         PlanFault::Length => Ok(PlanPlace::Value {
@@ -71,9 +70,9 @@ fn repeated_text(
     keys: &[Key],
     counters: &[ElementId],
 ) -> Result<PlanPlace, AllocError>
-    requires named { NamesAllUnder elements.now (shown fields.now) keys.now counters.now }
+    requires named { NamesAll elements.now (shown fields.now) keys.now counters.now }
     requires repeated { repeat_fault keys.now counters.now ≡ Some PlanFault.Repeated }
-    ensures { IfOk result (IsPlaceUnder elements.now (shown fields.now) PlanFault.Repeated) }
+    ensures { IfOk result (IsPlace elements.now (shown fields.now) PlanFault.Repeated) }
 {
     let index = first_repeat(alloc, keys, counters)?.unwrap();
     if index < keys.len() {
@@ -106,7 +105,7 @@ fn text_at(
 
 // The place of the first key whose element may be none.
 fn unfit_key(elements: &Elements, keys: &[Key]) -> Option<usize>
-    ensures { result ≡ position_from (is_unfit_key_under elements.now) 0 keys.now }
+    ensures { result ≡ position_from (is_unfit_key elements.now) 0 keys.now }
 {
     keys.iter().position(|key| !is_key(elements, key.element))
 }
@@ -121,7 +120,7 @@ fn unfit_prefix(keys: &[Key]) -> Option<usize>
 
 // The place of the first element that may be no counter.
 fn unfit_counter(elements: &Elements, counters: &[ElementId]) -> Option<usize>
-    ensures { result ≡ position_from (is_unfit_counter_under elements.now) 0 counters.now }
+    ensures { result ≡ position_from (is_unfit_counter elements.now) 0 counters.now }
 {
     counters
         .iter()

@@ -4,8 +4,9 @@ ghost use Rattle.std.specs.Prelude.{◌≡◌, string_bytes, IfOk};
 ghost use Rattle.std.specs.Option.{option_map};
 ghost use Rattle.toml.specs.View.{table_view, view};
 ghost use Rattle.flow_plan.specs.PlanTexts.{is_field as is_field_name, fields_of, required, optional, small_number, method, texts};
-ghost use Rattle.flow_plan.specs.Places.{refused_key, unknown_field as unknown_field_of, value_of};
-ghost use Rattle.flow_plan.specs.Shown.{shown, texts_of, GivesOr, IsOfKey};
+ghost use Rattle.flow_plan.specs.Places.{refused_key, unknown_field as unknown_in, value_of};
+ghost use Rattle.flow_plan.specs.Shown.{shown, texts_of, GivesOr, IsOfKey, ReadsValue};
+ghost use Rattle.flow_plan.specs.declared.error.PlanKey.TheVariants.{MaxSpread};
 
 use crate::error::{PlanKey, PlanTextError};
 use flow_table::{MAX_SPREAD, Method};
@@ -25,7 +26,7 @@ pub struct Fields<'a> {
 /// The first key of a document that plans don't have.
 pub fn unknown_field(table: &Table) -> Option<&String>
     ensures { option_map (λ name. string_bytes name.now) result
-        ≡ unknown_field_of (table_view table.now) }
+        ≡ unknown_in (table_view table.now) }
 {
     table.keys().find(|name| !is_field(name.as_str()))
 }
@@ -67,8 +68,7 @@ fn value_at(table: &Table, key: PlanKey) -> Option<&Value>
 
 // The number at a key that has to be there.
 fn number_at(table: &Table, key: PlanKey) -> Result<u32, PlanTextError>
-    ensures { GivesOr (λ number. number) (IsOfKey key) result
-        (required small_number (value_of key (table_view table.now))) }
+    ensures { ReadsValue (λ n. n) key (table_view table.now) (required small_number) result }
 {
     match value_at(table, key) {
         Some(value) => small_number_in(value).ok_or(PlanTextError::WrongKind { key }),
@@ -78,8 +78,7 @@ fn number_at(table: &Table, key: PlanKey) -> Result<u32, PlanTextError>
 
 // The most intervals that a flow may cover: a value that may be missing.
 fn max_spread(table: &Table) -> Result<u32, PlanTextError>
-    ensures { GivesOr (λ number. number) (IsOfKey PlanKey.MaxSpread) result
-        (optional 4096 small_number (value_of PlanKey.MaxSpread (table_view table.now))) }
+    ensures { ReadsValue (λ n. n) MaxSpread (table_view table.now) (optional 4096 small_number) result }
 {
     let key = PlanKey::MaxSpread;
     match value_at(table, key) {
@@ -89,8 +88,7 @@ fn max_spread(table: &Table) -> Result<u32, PlanTextError>
 }
 
 fn method_at(table: &Table) -> Result<Method, PlanTextError>
-    ensures { GivesOr (λ method. method) (IsOfKey PlanKey.Method) result
-        (required method (value_of PlanKey.Method (table_view table.now))) }
+    ensures { ReadsValue (λ m. m) PlanKey.Method (table_view table.now) (required method) result }
 {
     let key = PlanKey::Method;
     match value_at(table, key) {
@@ -100,8 +98,7 @@ fn method_at(table: &Table) -> Result<Method, PlanTextError>
 }
 
 fn texts_at(alloc: Global, table: &Table, key: PlanKey) -> Result<Vec<&str>, PlanTextError>
-    ensures { GivesOr texts_of (IsOfKey key) result
-        (required texts (value_of key (table_view table.now))) }
+    ensures { ReadsValue texts_of key (table_view table.now) (required texts) result }
 {
     match value_at(table, key) {
         Some(value) => texts_in(alloc, value)?.ok_or(PlanTextError::WrongKind { key }),

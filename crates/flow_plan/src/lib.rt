@@ -13,4 +13,4 @@ mod repeats;
 
 pub use error::{PlanKey, PlanPlace, PlanTextError};
 pub use fault::PlanTextFault;
-pub use reading::{read_plan, read_plan_octets, read_plan_octets_under, read_plan_under};
+pub use reading::{read_plan, read_plan_with};

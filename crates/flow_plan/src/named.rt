@@ -1,10 +1,9 @@
 //! The elements that texts name.
 
 ghost use Rattle.std.specs.Prelude.{◌≡◌};
-ghost use Rattle.flow_plan.specs.PlacesUnder.{no_key_under, no_counter_under};
-ghost use Rattle.flow_plan.specs.PlanTexts.{bits_in};
-ghost use Rattle.flow_plan.specs.PlanTextsUnder.{counters_under, key_under, keys_under};
-ghost use Rattle.flow_plan.specs.Shown.{shown_all, GivesOr, IsOfText};
+ghost use Rattle.element_registry.specs.Registries.{element_by_name};
+ghost use Rattle.flow_plan.specs.PlanTexts.{bits_in, key_named as key_in};
+ghost use Rattle.flow_plan.specs.Shown.{shown_all, NamesEach};
 
 use crate::error::{PlanKey, PlanTextError};
 use element_registry::Elements;
@@ -19,9 +18,7 @@ pub fn keys_named(
     elements: &Elements,
     texts: &[&str],
 ) -> Result<Vec<Key>, PlanTextError>
-    ensures { GivesOr (λ keys. keys.items)
-        (IsOfText PlanKey.Keys (no_key_under elements.now (shown_all texts.now)))
-        result (keys_under elements.now (shown_all texts.now)) }
+    ensures { NamesEach PlanKey.Keys (key_in elements.now) (shown_all texts.now) result }
 {
     let mut keys = Vec::new(alloc);
     for text in texts {
@@ -44,9 +41,7 @@ pub fn counters_named(
     elements: &Elements,
     texts: &[&str],
 ) -> Result<Vec<ElementId>, PlanTextError>
-    ensures { GivesOr (λ counters. counters.items)
-        (IsOfText PlanKey.Counters (no_counter_under elements.now (shown_all texts.now)))
-        result (counters_under elements.now (shown_all texts.now)) }
+    ensures { NamesEach PlanKey.Counters (element_by_name elements.now) (shown_all texts.now) result }
 {
     let mut counters = Vec::new(alloc);
     for text in texts {
@@ -65,7 +60,7 @@ pub fn counters_named(
 
 // A key is NAME, or NAME/BITS.
 fn key_named(elements: &Elements, text: &str) -> Option<Key>
-    ensures { result ≡ key_under elements.now text.now }
+    ensures { result ≡ key_in elements.now text.now }
 {
     match text.split_once('/') {
         None => Some(Key {

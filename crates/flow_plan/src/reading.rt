@@ -1,14 +1,12 @@
 //! Reading a plan.
 
-ghost use Rattle.std.specs.Prelude.{◌≡◌, ◌≢◌, Ok, Err, IfOk, IfErr};
+ghost use Rattle.std.specs.Prelude.{◌≡◌, [], Ok, IfOk, IfErr};
 ghost use Rattle.flow_table.specs.Plans.{IsPlan};
-ghost use Rattle.std.specs.Str.{IsUtf8};
 ghost use Rattle.toml.specs.View.{table_view};
-ghost use Rattle.flow_plan.specs.PlanTexts.{plan_of_text};
-ghost use Rattle.flow_plan.specs.PlanTextsUnder.{plan_of_text_under, plan_of_document_under, plan_of_fields_under};
-ghost use Rattle.flow_plan.specs.Places.{Tells, fault_of};
-ghost use Rattle.flow_plan.specs.PlacesUnder.{TellsUnder, TellsKeyUnder};
-ghost use Rattle.flow_plan.specs.Shown.{shown, GivesOr, IsOfValues};
+ghost use Rattle.flow_plan.specs.Faults.{Fails};
+ghost use Rattle.flow_plan.specs.PlanTexts.{plan_of_text, plan_of_document, plan_of_fields};
+ghost use Rattle.flow_plan.specs.Places.{IsPlanError, IsPlanOf, Tells, TellsKey};
+ghost use Rattle.flow_plan.specs.Shown.{shown, IsOfValues, ReadsPlan};
 
 use crate::blame::place_of;
 use crate::error::PlanTextError;
@@ -35,69 +33,32 @@ use toml::Table;
 /// | `keys` | an array of names of elements, each alone or as `NAME/BITS` with a prefix of 0 to 255 bits |
 /// | `counters` | an array of names of elements |
 pub fn read_plan(alloc: Global, text: &str) -> Result<Plan, PlanTextFault>
-    ensures ok { IfOk result (λ plan. plan_of_text text.now ≡ Ok plan) }
-    ensures fault { IfErr result (λ fault. fault ≢ PlanTextFault.OutOfMemory
-        → plan_of_text text.now ≡ Err fault) }
+    ensures ok { IfOk result (λ plan. plan_of_text [] text.now ≡ Ok plan) }
+    ensures fault { IfErr result (λ fault. Fails fault (plan_of_text [] text.now)) }
     // No fault fits a plan that was read.
     ensures sound { IfOk result IsPlan }
 {
     let elements = Elements::built_in(alloc);
-    read_plan_under(alloc, &elements, text)
-}
-
-/// As [`read_plan`], where the texts of `keys` and `counters` may name elements of files, too, and
-/// the faults of a plan are those of [`Plan::with_elements`](flow_table::Plan::with_elements).
-pub fn read_plan_under(
-    alloc: Global,
-    elements: &Elements,
-    text: &str,
-) -> Result<Plan, PlanTextFault>
-    ensures ok { IfOk result (λ plan. plan_of_text_under elements.now text.now ≡ Ok plan) }
-    ensures fault { IfErr result (λ fault. fault ≢ PlanTextFault.OutOfMemory
-        → plan_of_text_under elements.now text.now ≡ Err fault) }
-    // No fault fits a plan that was read.
-    ensures sound { IfOk result IsPlan }
-{
-    match read_text(alloc, elements, text) {
+    match read_plan_with(alloc, &elements, text.as_bytes()) {
         Ok(plan) => Ok(plan),
         Err(error) => Err(error.fault()),
     }
 }
 
-/// As [`read_plan`], of octets that are to be UTF-8, and with the place of the fault: the line at
-/// which they are no UTF-8; the line and the column at which they are no TOML; or the key, and for
+/// As [`read_plan`], of octets that are to be UTF-8, where the texts of `keys` and `counters` may name
+/// elements of files, too, and the faults of a plan are those of
+/// [`Plan::with_elements`](flow_table::Plan::with_elements). A fault comes with its place: the line at which the octets
+/// are no UTF-8; the line and the column at which they are no TOML; or the key, and for
 /// `UnknownElement` the text. For `Plan` it is the key whose value is out of its range, the number of
 /// elements, or the first text that has the fault. Of several keys that plans don't have it is the one
 /// that comes first in the order of octets.
-pub fn read_plan_octets(alloc: Global, octets: &[u8]) -> Result<Plan, PlanTextError>
-    ensures ok { IfOk result (λ plan. IsUtf8 octets.now × (plan_of_text octets.now ≡ Ok plan)) }
-    ensures fault { IfErr result (λ error. fault_of error ≢ PlanTextFault.OutOfMemory
-        → IsUtf8 octets.now → plan_of_text octets.now ≡ Err (fault_of error)) }
-    ensures not_utf8 { IfErr result (λ error. ¬ (IsUtf8 octets.now)
-        → fault_of error ≡ PlanTextFault.NotToml) }
-    ensures place { IfErr result (Tells octets.now) }
-    // No fault fits a plan that was read.
-    ensures sound { IfOk result IsPlan }
-{
-    let elements = Elements::built_in(alloc);
-    read_plan_octets_under(alloc, &elements, octets)
-}
-
-/// As [`read_plan_octets`], where the texts of `keys` and `counters` may name elements of files, too,
-/// and the faults of a plan are those of [`Plan::with_elements`](flow_table::Plan::with_elements).
-pub fn read_plan_octets_under(
+pub fn read_plan_with(
     alloc: Global,
     elements: &Elements,
     octets: &[u8],
 ) -> Result<Plan, PlanTextError>
-    ensures ok { IfOk result (λ plan. IsUtf8 octets.now
-        × (plan_of_text_under elements.now octets.now ≡ Ok plan)) }
-    ensures fault { IfErr result (λ error. fault_of error ≢ PlanTextFault.OutOfMemory
-        → IsUtf8 octets.now
-        → plan_of_text_under elements.now octets.now ≡ Err (fault_of error)) }
-    ensures not_utf8 { IfErr result (λ error. ¬ (IsUtf8 octets.now)
-        → fault_of error ≡ PlanTextFault.NotToml) }
-    ensures place { IfErr result (TellsUnder elements.now octets.now) }
+    ensures ok { IfOk result (IsPlanOf elements.now octets.now) }
+    ensures err { IfErr result (IsPlanError elements.now octets.now) }
     // No fault fits a plan that was read.
     ensures sound { IfOk result IsPlan }
 {
@@ -110,8 +71,7 @@ pub fn read_plan_octets_under(
 }
 
 fn read_text(alloc: Global, elements: &Elements, text: &str) -> Result<Plan, PlanTextError>
-    ensures { GivesOr (λ plan. plan) (TellsUnder elements.now text.now) result
-        (plan_of_text_under elements.now text.now) }
+    ensures { ReadsPlan Tells plan_of_text elements.now text.now result }
 {
     let error = match toml::table_from_str(alloc, text) {
         Ok(table) => return read_document(alloc, elements, &table),
@@ -129,8 +89,7 @@ fn read_text(alloc: Global, elements: &Elements, text: &str) -> Result<Plan, Pla
 }
 
 fn read_document(alloc: Global, elements: &Elements, table: &Table) -> Result<Plan, PlanTextError>
-    ensures { GivesOr (λ plan. plan) (TellsKeyUnder elements.now (table_view table.now)) result
-        (plan_of_document_under elements.now (table_view table.now)) }
+    ensures { ReadsPlan TellsKey plan_of_document elements.now (table_view table.now) result }
 {
     if let Some(key) = unknown_field(table) {
         return Err(PlanTextError::UnknownField { key: key.clone()? });
@@ -140,8 +99,7 @@ fn read_document(alloc: Global, elements: &Elements, table: &Table) -> Result<Pl
 }
 
 fn make_plan(alloc: Global, elements: &Elements, fields: &Fields) -> Result<Plan, PlanTextError>
-    ensures { GivesOr (λ plan. plan) (IsOfValues elements.now (shown fields.now)) result
-        (plan_of_fields_under elements.now (shown fields.now)) }
+    ensures { ReadsPlan IsOfValues plan_of_fields elements.now (shown fields.now) result }
 {
     let keys = keys_named(alloc, elements, &fields.keys)?;
     let counters = counters_named(alloc, elements, &fields.counters)?;

@@ -3,10 +3,10 @@
 #![tactic(auto)]
 
 #[cfg(test)]
+mod files;
+#[cfg(test)]
 mod memory;
 #[cfg(test)]
 mod tests;
-#[cfg(test)]
-mod under;
 #[cfg(test)]
 mod values;

@@ -1,4 +1,5 @@
-use flow_plan::{PlanTextError, PlanTextFault, read_plan, read_plan_octets};
+use element_registry::Elements;
+use flow_plan::{PlanTextError, PlanTextFault, read_plan, read_plan_with};
 use flow_table::{Key, Method, Plan, PlanFault};
 use ipfix_wire::ElementId;
 use std::alloc::{AllocError, Global};
@@ -64,7 +65,7 @@ fn place(error: &PlanTextError) -> (usize, &str) {
 
 // The name of the fault of octets, and its place.
 fn fault_of(alloc: Global, octets: &[u8]) -> Result<String, AllocError> {
-    match read_plan_octets(alloc, octets) {
+    match read_plan_with(alloc, &Elements::built_in(alloc), octets) {
         Ok(_) => String::from_str(alloc, "none"),
         Err(error) => {
             let (line, words) = place(&error);

@@ -1,13 +1,14 @@
 //! What makes no plan of values: a value, a number of elements, or a text.
 
 use crate::tests::plan_with;
-use flow_plan::{PlanPlace, PlanTextError, read_plan_octets};
+use element_registry::Elements;
+use flow_plan::{PlanPlace, PlanTextError, read_plan_with};
 use std::alloc::{AllocError, Global};
 use std::test::*;
 
 // What makes no plan of a text's values, in words.
 fn place(alloc: Global, text: &str) -> Result<String, AllocError> {
-    match read_plan_octets(alloc, text.as_bytes()) {
+    match read_plan_with(alloc, &Elements::built_in(alloc), text.as_bytes()) {
         Err(PlanTextError::Plan { place, .. }) => match &place {
             PlanPlace::Value { key } => String::from_str(alloc, key.name()),
             PlanPlace::Count { key, count } => format!(in alloc; "{count} {}", key.name()),

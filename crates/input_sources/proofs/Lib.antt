@@ -1,3 +1,2 @@
 pub mod Had
 pub mod InputsTold
-mod PlansUnder

@@ -1,5 +1,5 @@
 -- The lines of a fault of a plan, and of its place.
-use Rattle.std.specs.Prelude.{ℕ, false, ◌/◌, ◌%◌, ◌==◌, ◌&&◌, nat_lt, nat_le, not, Bool, List, [], ◌∷◌, ◌++◌, length, take, codes, decimal, if◌then◌else◌, string_bytes}
+use Rattle.std.specs.Prelude.{ℕ, List, [], ◌∷◌, ◌++◌, codes, decimal, string_bytes}
 use Rattle.std.specs.List.{flat_map}
 use Rattle.element_registry.specs.Registries.{Known}
 use Rattle.flow_table.specs.declared.plan_fault.PlanFault.{PlanFault}
@@ -36,30 +36,30 @@ kind_words Keys = codes "not an array of texts"
 kind_words Counters = codes "not an array of texts"
 
 -- what a plan of built-in elements allows, where it has this fault
-abbrev pub rule_words : PlanFault → List ℕ
-rule_words Length = codes "must be 1 to 4294967295"
-rule_words Spread = codes "must be 1 to 4096"
-rule_words KeyCount = codes "at most 8"
-rule_words KeyKind = codes ": only elements known as unsigned numbers or addresses (IPv4, IPv6, MAC) may be keys"
-rule_words Prefix = codes ": only IPv4 addresses take a prefix, 0 to 32"
-rule_words CounterCount = codes "must be 1 to 4"
-rule_words CounterKind =
+abbrev pub built_in_words : PlanFault → List ℕ
+built_in_words Length = codes "must be 1 to 4294967295"
+built_in_words Spread = codes "must be 1 to 4096"
+built_in_words KeyCount = codes "at most 8"
+built_in_words KeyKind = codes ": only elements known as unsigned numbers or addresses (IPv4, IPv6, MAC) may be keys"
+built_in_words Prefix = codes ": only IPv4 addresses take a prefix, 0 to 32"
+built_in_words CounterCount = codes "must be 1 to 4"
+built_in_words CounterKind =
     codes ": only octetDeltaCount, packetDeltaCount, deltaFlowCount, postOctetDeltaCount, postPacketDeltaCount, droppedOctetDeltaCount and droppedPacketDeltaCount may be counters"
-rule_words Repeated = codes " stands twice"
-rule_words OutOfMemory = codes ": out of memory"
+built_in_words Repeated = codes " stands twice"
+built_in_words OutOfMemory = codes ": out of memory"
 
 -- the same of a plan that may name elements of files, too, of which the semantics say what may be added up (RFC 7012, section 3.2)
-abbrev pub file_rule_words : PlanFault → List ℕ
-file_rule_words KeyKind = codes ": only elements known as unsigned numbers, addresses (IPv4, IPv6, MAC) or booleans may be keys"
-file_rule_words Prefix = codes ": only sourceIPv4Address and destinationIPv4Address take a prefix, 0 to 32"
-file_rule_words CounterKind =
+abbrev pub file_words : PlanFault → List ℕ
+file_words KeyKind = codes ": only elements known as unsigned numbers, addresses (IPv4, IPv6, MAC) or booleans may be keys"
+file_words Prefix = codes ": only sourceIPv4Address and destinationIPv4Address take a prefix, 0 to 32"
+file_words CounterKind =
     codes ": only octetDeltaCount, packetDeltaCount, deltaFlowCount, postOctetDeltaCount, postPacketDeltaCount, droppedOctetDeltaCount, droppedPacketDeltaCount and elements of files with an unsigned type and the semantics deltaCounter may be counters; a total is none: adding a flow's totals up counts it twice"
-file_rule_words fault = rule_words fault
+file_words fault = built_in_words fault
 
 -- by what is known of files
-abbrev pub rule_words_under : List Known → PlanFault → List ℕ
-rule_words_under [] fault = rule_words fault
-rule_words_under (k ∷ ks) fault = file_rule_words fault
+abbrev pub rule_words : List Known → PlanFault → List ℕ
+rule_words [] fault = built_in_words fault
+rule_words (k ∷ ks) fault = file_words fault
 
 -- ---- the line
 
@@ -94,9 +94,9 @@ text_end text words = codes ": " ++ (quoted text ++ (words ++ codes "\n"))
 
 -- the key, the number of elements or the text that gives a plan the fault, and what is allowed
 abbrev pub rule_line : List Known → PlanFault → PlanPlace → List ℕ
-rule_line known fault (Value key) = key_line (key_name key) (rule_words_under known fault)
-rule_line known fault (Count key count) = key_start (key_name key) ++ count_end count (rule_words_under known fault)
-rule_line known fault (Text key text) = key_start (key_name key) ++ text_end (string_bytes text) (rule_words_under known fault)
+rule_line known fault (Value key) = key_line (key_name key) (rule_words known fault)
+rule_line known fault (Count key count) = key_start (key_name key) ++ count_end count (rule_words known fault)
+rule_line known fault (Text key text) = key_start (key_name key) ++ text_end (string_bytes text) (rule_words known fault)
 
 -- the line, or the key and what is wrong with it, or what a plan allows there; nothing for want of memory
 abbrev pub place_line : List Known → PlanTextError → List ℕ
@@ -109,10 +109,6 @@ place_line known (errors.UnknownElement key text) = key_start (key_name key) ++ 
 place_line known (errors.Plan fault place) = rule_line known fault place
 place_line known errors.OutOfMemory = []
 
--- the fault of a plan's text under files, and its place
-abbrev pub plan_lines_under : List Known → PlanTextError → List ℕ
-plan_lines_under known error = (codes "collectd: plan" ++ plan_fault_text (fault_of error)) ++ place_line known error
-
--- the same without files
-abbrev pub plan_lines : PlanTextError → List ℕ
-plan_lines error = plan_lines_under [] error
+-- the fault of a plan's text, and its place
+abbrev pub plan_lines : List Known → PlanTextError → List ℕ
+plan_lines known error = (codes "collectd: plan" ++ plan_fault_text (fault_of error)) ++ place_line known error

@@ -1,6 +1,8 @@
 -- How a session tells what it has read.
 use Rattle.std.specs.Prelude.{◌≡◌, ℕ, ◌+◌, ◌-◌, ◌^◌, ◌≤◌, min, List, [], ◌++◌, length, Option}
 use Rattle.std.specs.Io.KnownBytes.{Appends}
+use Rattle.std.specs.Time.{instant_nanos}
+use Rattle.std.specs.declared.time.Instant.{Instant}
 use Rattle.ipfix_session.specs.MessageCounts.{CounterView, HasRead}
 use Rattle.input_sources.specs.ProgressLines.{progress_line}
 
@@ -23,6 +25,10 @@ pub record ProgressView : Type 0 where
 -- a second, in nanoseconds
 abbrev pub second : ℕ
 second = 1_000_000_000
+
+-- a second or more has gone by since it told last
+abbrev pub IsDue : ProgressView → Instant → Type 0
+IsDue progress now = progress.last + second ≤ instant_nanos now
 
 -- nothing was told
 pub record IsSilent (old new : ProgressView) : Type 0 where

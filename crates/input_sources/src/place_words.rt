@@ -1,15 +1,15 @@
 //! What a plan allows, in words.
 
 ghost use Rattle.std.specs.Prelude.{◌≡◌};
-ghost use Rattle.input_sources.specs.PlaceLines.{file_rule_words, kind_words as words_of_kind, rule_words as words_of_rule, rule_words_under};
+ghost use Rattle.input_sources.specs.PlaceLines.{built_in_words as words_of_built_in, file_words as words_of_files, kind_words as words_of_kind, rule_words as words_of_rule};
 
 use element_registry::Elements;
 use flow_plan::PlanKey;
 use flow_table::PlanFault;
 
-/// What a plan allows where it has the fault: under files more may be keys and counters.
+/// What a plan allows where it has the fault: with files of elements more may be keys and counters.
 pub fn rule_words(elements: &Elements, fault: PlanFault) -> &'static str
-    ensures { result.now ≡ rule_words_under elements.now fault }
+    ensures { result.now ≡ words_of_rule elements.now fault }
 {
     match elements.entries() {
         [] => built_in_words(fault),
@@ -19,7 +19,7 @@ pub fn rule_words(elements: &Elements, fault: PlanFault) -> &'static str
 
 // What it allows of built-in elements.
 fn built_in_words(fault: PlanFault) -> &'static str
-    ensures { result.now ≡ words_of_rule fault }
+    ensures { result.now ≡ words_of_built_in fault }
 {
     match fault {
         PlanFault::Length => "must be 1 to 4294967295",
@@ -40,7 +40,7 @@ fn built_in_words(fault: PlanFault) -> &'static str
 
 // What it allows where files name elements, too.
 fn file_words(fault: PlanFault) -> &'static str
-    ensures { result.now ≡ file_rule_words fault }
+    ensures { result.now ≡ words_of_files fault }
 {
     match fault {
         PlanFault::KeyKind => {

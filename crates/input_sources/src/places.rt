@@ -12,7 +12,7 @@ use report_writing::{WriteLines, write_octets, write_quoted};
 use std::io;
 
 /// Writes the line that says where a plan has its fault: the line of the file, or the key and what is
-/// wrong with it, or what a plan under these elements allows there. For want of memory there is none.
+/// wrong with it, or what a plan with these elements allows there. For want of memory there is none.
 pub fn write_place<W: WriteLines>(
     elements: &Elements,
     error: &PlanTextError,

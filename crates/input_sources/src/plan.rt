@@ -1,53 +1,24 @@
 //! The plan that a text says.
 
-ghost use Rattle.std.specs.Prelude.{◌≡◌, ℕ, List, Ok, IfNone, IfSome};
+ghost use Rattle.std.specs.Prelude.{◌≡◌, ℕ, List, IfNone, IfSome};
 ghost use Rattle.std.specs.Option.{ForSome};
-ghost use Rattle.std.specs.Str.{IsUtf8};
 ghost use Rattle.flow_table.specs.Plans.{IsPlan};
-ghost use Rattle.flow_plan.specs.PlanTexts.{plan_of_text};
-ghost use Rattle.flow_plan.specs.PlanTextsUnder.{plan_of_text_under};
+ghost use Rattle.flow_plan.specs.Places.{IsPlanOf};
 ghost use Rattle.report_writing.specs.Told.{AreToldTo};
-ghost use Rattle.input_sources.specs.PlansTold.{TellsNoPlan, TellsNoPlanUnder};
+ghost use Rattle.input_sources.specs.PlansTold.{TellsNoPlan};
 
 use crate::plan_fault::write_plan_fault;
 use element_registry::Elements;
-use flow_plan::laws::no_files;
-use flow_plan::read_plan_octets_under;
+use flow_plan::read_plan_with;
 use flow_table::Plan;
 use input_files::ReadText;
 use report_writing::{Verbosity, WriteLines, write_not_had_because};
 use std::alloc::Global;
 
-/// Reads the plan in the text of a path. If there is no such text, or it is no plan, the answer is `None`
-/// and `err` has a line that says so, if `verbosity` is verbose with the system's reason; and for the fault of a
-/// text a second one that says where it is.
+/// Reads the plan in the text of a path, which may name these elements. If there is no such text, or it is
+/// no plan, the answer is `None` and `err` has a line that says so, if `verbosity` is verbose with the
+/// system's reason; and for the fault of a text a second one that says where it is.
 pub fn load_plan<T: ReadText, E: WriteLines>(
-    files: &T,
-    alloc: Global,
-    path: &str,
-    verbosity: Verbosity,
-    err: &mut E,
-) -> Option<Plan>
-    // The plan is that of the text that the path has, which is UTF-8.
-    ensures text { ForSome result (λ plan. (octets : List ℕ)
-        × T.has files.now path.now octets × IsUtf8 octets × (plan_of_text octets ≡ Ok plan)) }
-    // No fault fits a plan that was read.
-    ensures sound { ForSome result IsPlan }
-    // Nothing is told if a plan was read.
-    ensures silent { IfSome result (λ _. err.new ≡ err.old) }
-    // Else why the path has none was told, and nothing else.
-    ensures told { IfNone result (TellsNoPlan (T.has files.now path.now) (T.refuses files.now path.now)
-        verbosity path.now (AreToldTo E.contents E.failed err.old err.new)) }
-    ensures kept { E.failed err.old → E.failed err.new }
-{
-    // (what a text says under no files is what it says without any)
-    no_files();
-    let elements = Elements::built_in(alloc);
-    load_plan_under(files, alloc, &elements, path, verbosity, err)
-}
-
-/// Does as [`load_plan`] with a text that may name elements of files, too.
-pub fn load_plan_under<T: ReadText, E: WriteLines>(
     files: &T,
     alloc: Global,
     elements: &Elements,
@@ -57,14 +28,13 @@ pub fn load_plan_under<T: ReadText, E: WriteLines>(
 ) -> Option<Plan>
     // The plan is that of the text that the path has, which is UTF-8.
     ensures text { ForSome result (λ plan. (octets : List ℕ)
-        × T.has files.now path.now octets × IsUtf8 octets
-        × (plan_of_text_under elements.now octets ≡ Ok plan)) }
+        × T.has files.now path.now octets × IsPlanOf elements.now octets plan) }
     // No fault fits a plan that was read.
     ensures sound { ForSome result IsPlan }
     // Nothing is told if a plan was read.
     ensures silent { IfSome result (λ _. err.new ≡ err.old) }
     // Else why the path has none was told, and nothing else.
-    ensures told { IfNone result (TellsNoPlanUnder elements.now (T.has files.now path.now)
+    ensures told { IfNone result (TellsNoPlan elements.now (T.has files.now path.now)
         (T.refuses files.now path.now) verbosity path.now
         (AreToldTo E.contents E.failed err.old err.new)) }
     ensures kept { E.failed err.old → E.failed err.new }
@@ -76,7 +46,7 @@ pub fn load_plan_under<T: ReadText, E: WriteLines>(
             return None;
         }
     };
-    match read_plan_octets_under(alloc, elements, &octets) {
+    match read_plan_with(alloc, elements, &octets) {
         Ok(plan) => Some(plan),
         Err(error) => {
             let _ = write_plan_fault(elements, &error, err);

@@ -4,7 +4,7 @@ ghost use Rattle.std.specs.Prelude.{◌++◌, codes};
 ghost use Rattle.flow_table.specs.PlanFaults as plan;
 ghost use Rattle.flow_plan.specs.Faults as text;
 ghost use Rattle.report_writing.specs.FaultLines.{fault_text};
-ghost use Rattle.input_sources.specs.PlaceLines.{plan_fault_text, plan_lines_under};
+ghost use Rattle.input_sources.specs.PlaceLines.{plan_fault_text, plan_lines};
 ghost use Rattle.report_writing.specs.Writing.{Tells};
 
 use crate::places::write_place;
@@ -14,7 +14,7 @@ use flow_table::PlanFault;
 use report_writing::{WriteLines, write_fault};
 use std::io;
 
-/// Writes the line of a fault of the text of a plan under these elements, with the plan's own fault if it
+/// Writes the line of a fault of the text of a plan that names these elements, with the plan's own fault if it
 /// has one, and then the line that tells where it is. For want of memory there is no such line.
 pub fn write_plan_fault<W: WriteLines>(
     elements: &Elements,
@@ -22,7 +22,7 @@ pub fn write_plan_fault<W: WriteLines>(
     out: &mut W,
 ) -> io::Result<()>
     ensures { Tells W.contents W.failed out.old out.new result
-        (plan_lines_under elements.now error.now) }
+        (plan_lines elements.now error.now) }
 {
     write_plan_fault_line(error.fault(), out)?;
     write_place(elements, error, out)

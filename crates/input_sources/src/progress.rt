@@ -6,7 +6,7 @@ ghost use Rattle.std.specs.Time.{instant_nanos};
 ghost use Rattle.std.specs.Io.KnownBytes.{Appends};
 ghost use Rattle.ipfix_session.specs.MessageCounts.{HasRead};
 ghost use Rattle.input_sources.specs.ProgressLines.{percent_of, progress_line, read_line, share_line};
-ghost use Rattle.input_sources.specs.Progressing.{second, CountsOctets, IsSilent, TellsLine};
+ghost use Rattle.input_sources.specs.Progressing.{second, CountsOctets, IsDue, IsSilent, TellsLine};
 
 use ipfix_session::MessageCounter;
 use std::alloc::Global;
@@ -89,10 +89,10 @@ impl<'a, C: Clock, P: Write + Drop> Progress<'a, C, P> {
     /// gone by since it told last. If no time is known it doesn't tell.
     pub fn took(&mut self, octets: &[u8], now: Option<Instant>) -> io::Result<()>
         ensures counted { CountsOctets self.old octets.now self.new }
-        ensures due { IfSome now (λ time. self.old.last + second ≤ instant_nanos time
+        ensures due { IfSome now (λ time. IsDue self.old time
             → OnOk result (TellsLine self.old self.new)) }
         // Also if it can't be told.
-        ensures last { IfSome now (λ time. self.old.last + second ≤ instant_nanos time
+        ensures last { IfSome now (λ time. IsDue self.old time
             → self.new.last ≡ instant_nanos time) }
         ensures early { IfSome now
             (λ time. instant_nanos time < self.old.last + second → IsSilent self.old self.new) }

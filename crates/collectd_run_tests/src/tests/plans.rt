@@ -41,7 +41,8 @@ fn loaded(alloc: Global, octets: &[u8], path: &str, verbose: bool) -> Result<Vec
         strict: false,
     };
     let mut err = Vec::new(alloc);
-    if let Some(plan) = load_plan(&text, alloc, path, verbosity, &mut err) {
+    let elements = Elements::built_in(alloc);
+    if let Some(plan) = load_plan(&text, alloc, &elements, path, verbosity, &mut err) {
         let length = format!(in alloc; "{}", plan.length())?;
         err.extend_from_slice(length.as_bytes())?;
     }

@@ -1,6 +1,6 @@
 use Rattle.std.proofs.Common.{◌∙◌, refl}
 use Rattle.element_registry.specs.Registries.{element_by_name}
-use Rattle.flow_plan.specs.PlanTextsUnder.{key_under}
+use Rattle.flow_plan.specs.PlanTexts.{key_named}
 use Rattle.flow_plan.proofs.Blaming.{counter_found, key_found, prefix_found, within}
 use Rattle.flow_plan.proofs.blame.place_of.Goals as goal
 
@@ -12,7 +12,7 @@ unwrap-index-requires c =
 pub text_at-requires : goal.text_at-requires
 text_at-requires c =
     let found = key_found c.args.elements.now c.args.fields.now.length c.args.keys.now c.args.counters.now c.args.fields.now.max_spread c.args.fault c.in-KeyKind.is c.requires.first in
-    rw c.deref.ensures.value (within (key_under c.args.elements.now) c.args.fields.now.keys.items c.args.keys.now _ c.unfit_key.result c.unwrap-index.result c.requires.named.0 c.unfit_key.ensures found c.unwrap-index.ensures)
+    rw c.deref.ensures.value (within (key_named c.args.elements.now) c.args.fields.now.keys.items c.args.keys.now _ c.unfit_key.result c.unwrap-index.result c.requires.named.0 c.unfit_key.ensures found c.unwrap-index.ensures)
 
 pub unwrap-index-requires-in-Prefix : goal.unwrap-index-requires-in-Prefix
 unwrap-index-requires-in-Prefix c =
@@ -22,7 +22,7 @@ unwrap-index-requires-in-Prefix c =
 pub text_at-requires-in-Prefix : goal.text_at-requires-in-Prefix
 text_at-requires-in-Prefix c =
     let found = prefix_found c.args.elements.now c.args.fields.now.length c.args.keys.now c.args.counters.now c.args.fields.now.max_spread c.args.fault c.in-Prefix.is c.requires.first in
-    rw c.deref-in-Prefix.ensures.value (within (key_under c.args.elements.now) c.args.fields.now.keys.items c.args.keys.now _ c.unfit_prefix.result c.unwrap-index-in-Prefix.result c.requires.named.0 c.unfit_prefix.ensures found c.unwrap-index-in-Prefix.ensures)
+    rw c.deref-in-Prefix.ensures.value (within (key_named c.args.elements.now) c.args.fields.now.keys.items c.args.keys.now _ c.unfit_prefix.result c.unwrap-index-in-Prefix.result c.requires.named.0 c.unfit_prefix.ensures found c.unwrap-index-in-Prefix.ensures)
 
 pub unwrap-index-requires-in-CounterKind : goal.unwrap-index-requires-in-CounterKind
 unwrap-index-requires-in-CounterKind c =

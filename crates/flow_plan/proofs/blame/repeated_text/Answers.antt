@@ -2,7 +2,7 @@ use Rattle.std.proofs.Common.{◌≡◌, ◌+◌, ◌<◌, length, arith, refl, 
 use Rattle.std.proofs.lemmas.Bool.{le-ltb}
 use Rattle.std.proofs.lemmas.Option.{same_Some}
 use Rattle.element_registry.specs.Registries.{element_by_name}
-use Rattle.flow_plan.specs.PlanTextsUnder.{key_under}
+use Rattle.flow_plan.specs.PlanTexts.{key_named}
 use Rattle.flow_plan.specs.Shown.{shown}
 use Rattle.flow_plan.proofs.Again.{found_again}
 use Rattle.flow_plan.proofs.Blaming.{counter_again, named_length}
@@ -15,7 +15,7 @@ unwrap-index-requires c =
 
 pub text_at-requires : goal.text_at-requires
 text_at-requires c =
-    let each : length c.args.keys.now ≡ length c.args.fields.now.keys.items = named_length (key_under c.args.elements.now) c.args.fields.now.keys.items c.args.keys.now c.requires.named.0 in
+    let each : length c.args.keys.now ≡ length c.args.fields.now.keys.items = named_length (key_named c.args.elements.now) c.args.fields.now.keys.items c.args.keys.now c.requires.named.0 in
     rw c.deref.ensures.value (omega (arith, c.if-index-keys.true))
 
 pub text_at-requires-else-index-keys : goal.text_at-requires-else-index-keys

@@ -1,14 +1,13 @@
-use Rattle.report_writing.specs.Told.{AreToldTo}
-use Rattle.input_sources.proofs.PlansUnder.{no_plan_without, plan_without}
+use Rattle.std.proofs.Common.{inl, inr}
+use Rattle.report_writing.proofs.LinesTold.{is_told}
 use Rattle.input_sources.proofs.plan.load_plan.Goals as goal
 
-pub returns-clause-text : goal.returns-clause-text
-returns-clause-text g c = λ plan is.
-    let read = c.load_plan_under.ensures.text plan is in
-    (read.0, read.1, read.2, plan_without c.no_files.ensures.plan c.built_in-elements.result c.built_in-elements.ensures read.0 plan read.3)
+pub returns-in-Err-clause-told : goal.returns-in-Err-clause-told
+returns-in-Err-clause-told g c =
+    inl (c.in-Err.reason, c.in-Err.ensures.refused, is_told _ _ _ c.write_not_had_because.result _ c.write_not_had_because.ensures.told c.write_not_had_because.ensures.failed)
 
 pub returns-clause-told : goal.returns-clause-told
 returns-clause-told g c =
-    no_plan_without c.no_files.ensures.plan c.no_files.ensures.place c.built_in-elements.result c.built_in-elements.ensures c.load_plan_under.result
-    (g.T.ReadText.has c.args.files.now c.args.path.now) (g.T.ReadText.refuses c.args.files.now c.args.path.now) c.args.verbosity c.args.path.now
-    (AreToldTo g.E.WriteLines.contents g.E.WriteLines.failed c.args.err.now c.load_plan_under.new.err) c.load_plan_under.ensures.told
+    let read = rw c.deref.ensures.value at c.in-Err-read_plan_with.ensures.err in
+    let told = is_told _ _ _ c.write_plan_fault.result _ c.write_plan_fault.ensures.told c.write_plan_fault.ensures.failed in
+    inr (c.in-Ok.octets.items, c.in-Ok.ensures.text, (c.in-Err-read_plan_with.error, read, told))

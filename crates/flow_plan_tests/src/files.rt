@@ -2,9 +2,7 @@
 
 use crate::tests::plan_with;
 use element_registry::{Elements, ElementsFault, add_file};
-use flow_plan::{
-    PlanPlace, PlanTextError, PlanTextFault, read_plan, read_plan_octets_under, read_plan_under,
-};
+use flow_plan::{PlanPlace, PlanTextError, PlanTextFault, read_plan, read_plan_with};
 use flow_table::{Key, Method, Plan};
 use ipfix_wire::ElementId;
 use std::alloc::{AllocError, Global};
@@ -48,7 +46,7 @@ fn reads_elements_of_a_file(rt: HostRuntime) -> Result<(), Fail> {
         key(ElementId::iana(8), Some(24)),
     ];
     let counters = [of_enterprise(4), ElementId::iana(1)];
-    let plan = read_plan_under(rt.alloc(), &elements, text.as_str())?;
+    let plan = read_plan_with(rt.alloc(), &elements, text.as_bytes()).map_err(|e| e.fault())?;
     let want = Plan::with_elements(
         rt.alloc(),
         &elements,
@@ -82,7 +80,7 @@ fn fault_of(
     counters: &str,
 ) -> Result<String, AllocError> {
     let text = plan_with(alloc, "", keys, counters)?;
-    match read_plan_octets_under(alloc, elements, text.as_bytes()) {
+    match read_plan_with(alloc, elements, text.as_bytes()) {
         Ok(_) => String::from_str(alloc, "none"),
         Err(
             PlanTextError::Plan {
