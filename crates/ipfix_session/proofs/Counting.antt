@@ -9,7 +9,9 @@ use Rattle.ipfix_wire.proofs.Streams.{join, parts_of-append}
 use Rattle.ipfix_session.specs.MessageStream.{cut, next_message}
 use Rattle.ipfix_session.specs.Ledger.{capped}
 use Rattle.ipfix_session.proofs.Cut.{Begins, next_begins, begins_next, messages_shrink, messages_stable}
-use Rattle.ipfix_session.specs.MessageCounts.{whole_messages, PlaceView, within_header, within_message, at_fault, IsWithinHeader, IsWithinMessage, IsAtFault, EndsAt, CounterView, HasRead}
+use Rattle.ipfix_session.specs.MessageCounts.{whole_messages, PlaceView, within_header, within_message, at_fault, IsWithinHeader, IsWithinMessage, IsAtFault, EndsAt, CounterView, CountsWhole, HasRead}
+use Rattle.ipfix_session.specs.WholeMessages.{whole_octets}
+use Rattle.ipfix_session.proofs.WholeTexts.{rest-le}
 use Rattle.ipfix_session.specs.CounterPlaces.{IsReading}
 
 -- what follows the whole messages of a text that goes on
@@ -34,8 +36,8 @@ cut-none w none =
 few_begin_none : (w : List ℕ) → length w < 16 → NoneBegins w
 few_begin_none w few = λ m r b. omega (arith, b.long)
 
-within_begins_none : (left : ℕ) (w : List ℕ) → IsWithinMessage left w → 0 < left → NoneBegins w
-within_begins_none left w within more = λ m r b.
+within_begins_none : (size left : ℕ) (w : List ℕ) → IsWithinMessage size left w → 0 < left → NoneBegins w
+within_begins_none size left w within more = λ m r b.
     let same : read within.header ≡ read b.header = sym within.is_header ∙ b.is_header in
     let size : within.header.length ≡ b.header.length = cc in
     omega (arith, within.length_is, b.room)
@@ -43,20 +45,22 @@ within_begins_none left w within more = λ m r b.
 faulty_begins_none : (w : List ℕ) → IsAtFault w → NoneBegins w
 faulty_begins_none w faulty = λ m r b. let e = sym faulty.is_fault ∙ b.is_header in absurd cc
 
--- they are read, and the count stays
-reads_none : (c : CounterView) (text part : List ℕ) → c.messages ≡ capped (whole_messages text) → NoneBegins (going_on text part) → EndsAt c.place (going_on text part) → HasRead c (text ++ part)
-reads_none c text part count none place =
+-- they are read, and the counts stay
+reads_none : (c : CounterView) (text part : List ℕ) → CountsWhole c.messages c.octets text → NoneBegins (going_on text part) → EndsAt c.place (going_on text part) → HasRead c (text ++ part)
+reads_none c text part counts none place =
     let is : cut (text ++ part) ≡ join (cut text).items (nothing (going_on text part)) = cut-append text part ∙ ap (join (cut text).items) (cut-none (going_on text part) none) in
     let same : whole_messages (text ++ part) ≡ whole_messages text = ap (λ (p : Parts (List ℕ)). length p.items) is ∙ ap length (append-nil (cut text).items) in
+    let octets : whole_octets (text ++ part) ≡ whole_octets text =
+    omega (arith, ap (λ (p : Parts (List ℕ)). length p.rest) is, length-append text part, length-append (cut text).rest part) in
     record {
-      count = count ∙ ap capped (sym same);
+      counts = record { messages_are = counts.messages_are ∙ ap capped (sym same); octets_are = counts.octets_are ∙ ap capped (sym octets) };
       place = subst (λ (p : Parts (List ℕ)). EndsAt c.place p.rest) (sym is) place;
     }
 
 -- ---- the last octets of a message
 
-cut-one : (w : List ℕ) → IsWithinMessage 0 w → cut w ≡ cons w (nothing [])
-cut-one w within =
+cut-one : (size : ℕ) (w : List ℕ) → IsWithinMessage size 0 w → cut w ≡ cons w (nothing [])
+cut-one size w within =
     let begins : Begins w w [] = record {
       header = within.header;
       long = within.long;
@@ -68,14 +72,24 @@ cut-one w within =
     parts_of-next next_message messages_shrink w w [] (begins_next w w [] begins)
     ∙ ap (cons w) (cut-none [] (few_begin_none [] (omega arith)))
 
-pub reads_one : (c : CounterView) (text part : List ℕ) (before : ℕ) → before ≡ capped (whole_messages text) → c.messages ≡ capped (before + 1) → IsWithinMessage 0 (going_on text part) → EndsAt c.place [] → HasRead c (text ++ part)
-reads_one c text part before count next within place =
+pub reads_one : (messages octets : ℕ) (new : CounterView) (size : ℕ) (text part : List ℕ) → CountsWhole messages octets text → new.messages ≡ capped (messages + 1) → new.octets ≡ capped (octets + size)
+    → IsWithinMessage size 0 (going_on text part) → EndsAt new.place [] → HasRead new (text ++ part)
+reads_one messages octets new size text part counts next grown within place =
     let w = going_on text part in
-    let is : cut (text ++ part) ≡ join (cut text).items (cons w (nothing [])) = cut-append text part ∙ ap (join (cut text).items) (cut-one w within) in
+    let is : cut (text ++ part) ≡ join (cut text).items (cons w (nothing [])) = cut-append text part ∙ ap (join (cut text).items) (cut-one size w within) in
     let more : whole_messages (text ++ part) ≡ length ((cut text).items ++ w ∷ []) = ap (λ (p : Parts (List ℕ)). length p.items) is in
+    let behind : whole_octets (text ++ part) ≡ whole_octets text + size = omega (
+      arith,
+      ap (λ (p : Parts (List ℕ)). length p.rest) is,
+      length-append text part,
+      length-append (cut text).rest part,
+      rest-le text,
+      within.size_is,
+      within.length_is,
+    ) in
     record {
-      count = omega (arith, count, next, more, length-append (cut text).items (w ∷ []));
-      place = subst (λ (p : Parts (List ℕ)). EndsAt c.place p.rest) (sym is) place;
+      counts = record { messages_are = omega (arith, counts.messages_are, next, more, length-append (cut text).items (w ∷ [])); octets_are = omega (arith, counts.octets_are, grown, behind) };
+      place = subst (λ (p : Parts (List ℕ)). EndsAt new.place p.rest) (sym is) place;
     }
 
 -- ---- the place after a part
@@ -85,58 +99,63 @@ pub none_begun : (begun : List ℕ) → begun ≡ [] → IsWithinHeader begun []
 none_begun begun none = record { octets = sym none; short = omega (arith, ap length none) }
 
 -- octets of a message that has more
-pub reads_within : (c : CounterView) (due : ℕ) (text part : List ℕ) → c.messages ≡ capped (whole_messages text) → c.place ≡ within_message due → 0 < due
-    → IsWithinMessage due (going_on text part) → HasRead c (text ++ part)
-reads_within c due text part count at more within =
-    reads_none c text part count (within_begins_none due (going_on text part) within more)
+pub reads_within : (c : CounterView) (size due : ℕ) (text part : List ℕ) → CountsWhole c.messages c.octets text → c.place ≡ within_message size due → 0 < due
+    → IsWithinMessage size due (going_on text part) → HasRead c (text ++ part)
+reads_within c size due text part counts at more within =
+    reads_none c text part counts (within_begins_none size due (going_on text part) within more)
     (subst (λ (p : PlaceView). EndsAt p (going_on text part)) (sym at) within)
 
 -- a header that no message has
-pub reads_faulty : (c : CounterView) (text part : List ℕ) → c.messages ≡ capped (whole_messages text) → c.place ≡ at_fault → IsAtFault (going_on text part) → HasRead c (text ++ part)
-reads_faulty c text part count at faulty =
-    reads_none c text part count (faulty_begins_none (going_on text part) faulty)
+pub reads_faulty : (c : CounterView) (text part : List ℕ) → CountsWhole c.messages c.octets text → c.place ≡ at_fault → IsAtFault (going_on text part) → HasRead c (text ++ part)
+reads_faulty c text part counts at faulty =
+    reads_none c text part counts (faulty_begins_none (going_on text part) faulty)
     (subst (λ (p : PlaceView). EndsAt p (going_on text part)) (sym at) faulty)
 
 -- ---- from each place
 
 pub goes_on_header : (c : CounterView) (begun more text part : List ℕ) → c.place ≡ within_header begun → more ≡ begun ++ part → length more < HEADER_LENGTH → HasRead c text
-    → HasRead (record { messages = c.messages; place = within_header more }) (text ++ part)
+    → HasRead (record c { place = within_header more }) (text ++ part)
 goes_on_header c begun more text part at grown few has =
     let begins : EndsAt (within_header begun) (cut text).rest = subst (λ (p : PlaceView). EndsAt p (cut text).rest) at has.place in
     let is : going_on text part ≡ more = ap (λ (w : List ℕ). w ++ part) begins.octets ∙ sym grown in
-    reads_none (record { messages = c.messages; place = within_header more }) text part has.count
+    reads_none (record c { place = within_header more }) text part has.counts
     (few_begin_none (going_on text part) (omega (arith, few, ap length is))) (record { octets = is; short = few })
 
-within_on : (before left : ℕ) (w part : List ℕ) → IsWithinMessage before w → before ≡ length part + left → IsWithinMessage left (w ++ part)
-within_on before left w part within size =
+within_on : (size before left : ℕ) (w part : List ℕ) → IsWithinMessage size before w → before ≡ length part + left → IsWithinMessage size left (w ++ part)
+within_on size before left w part within is =
     record {
       header = within.header;
       long = omega (arith, within.long, length-append w part);
       is_header = header_at-append w part within.long ∙ within.is_header;
-      length_is = omega (arith, within.length_is, size, length-append w part);
+      size_is = within.size_is;
+      length_is = omega (arith, within.length_is, is, length-append w part);
     }
 
-pub goes_on_within : (c : CounterView) (due left : ℕ) (text part : List ℕ) → c.place ≡ within_message due → due ≡ length part + left → HasRead c text → IsWithinMessage left (going_on text part)
-goes_on_within c due left text part at size has =
-    let within : EndsAt (within_message due) (cut text).rest = subst (λ (p : PlaceView). EndsAt p (cut text).rest) at has.place in
-    within_on due left (cut text).rest part within size
+pub goes_on_within : (c : CounterView) (size due left : ℕ) (text part : List ℕ) → c.place ≡ within_message size due → due ≡ length part + left → HasRead c text → IsWithinMessage size left (going_on text part)
+goes_on_within c size due left text part at is has =
+    let within : EndsAt (within_message size due) (cut text).rest = subst (λ (p : PlaceView). EndsAt p (cut text).rest) at has.place in
+    within_on size due left (cut text).rest part within is
 
 pub goes_on_faulty : (c : CounterView) (text part : List ℕ) → c.place ≡ at_fault → HasRead c text → HasRead c (text ++ part)
 goes_on_faulty c text part at has =
     let faulty : EndsAt at_fault (cut text).rest = subst (λ (p : PlaceView). EndsAt p (cut text).rest) at has.place in
-    reads_faulty c text part has.count at (record {
+    reads_faulty c text part has.counts at (record {
       fault = faulty.fault;
       long = omega (arith, faulty.long, length-append (cut text).rest part);
       is_fault = header_at-append (cut text).rest part faulty.long ∙ faulty.is_fault;
     })
 
-pub reads_nothing : (c : CounterView) → c.messages ≡ 0 → EndsAt c.place [] → HasRead c []
-reads_nothing c count place =
+pub reads_nothing : (c : CounterView) → c.messages ≡ 0 → c.octets ≡ 0 → EndsAt c.place [] → HasRead c []
+reads_nothing c messages octets place =
     let is = cut-none [] (few_begin_none [] (omega arith)) in
     record {
-      count = omega (arith, count, ap (λ (p : Parts (List ℕ)). length p.items) is);
+      counts = record { messages_are = omega (arith, messages, ap (λ (p : Parts (List ℕ)). length p.items) is); octets_are = omega (arith, octets) };
       place = subst (λ (p : Parts (List ℕ)). EndsAt c.place p.rest) (sym is) place;
     }
+
+-- behind a header that no message has, nothing more is counted
+pub counts_all : (c : CounterView) (text more : List ℕ) → c.place ≡ at_fault → HasRead c text → c.octets ≡ capped (whole_octets (text ++ more))
+counts_all c text more at has = (goes_on_faulty c text more at has).counts.octets_are
 
 -- ---- a text that is read part by part
 

@@ -1,5 +1,5 @@
 -- A text is its whole messages and the rest.
-use Rattle.std.proofs.Common.{◌≡◌, ℕ, zero, suc, ◌-◌, ◌≤◌, ◌++◌, List, length, take, drop, refl, sym, ap, ◌∙◌, arith, length-append, append_assoc, inl, inr}
+use Rattle.std.proofs.Common.{◌≡◌, ℕ, zero, suc, ◌-◌, ◌≤◌, ◌++◌, List, length, take, drop, sym, ap, ◌∙◌, arith, length-append, append_assoc, inl, inr}
 use Rattle.std.proofs.lemmas.List.{take-append-drop, take_at}
 use Rattle.ipfix_wire.specs.InTurn.{Parts}
 use Rattle.ipfix_wire.proofs.Parts.{cases_read, parts_of-next, parts_of-none}
@@ -32,6 +32,10 @@ whole_text (suc fuel) w enough =
           ∙ sym (ap joined (parts_of-next next_message messages_shrink w m r found.1))
       | inr none ↦ sym (ap joined (parts_of-none next_message w none.0 none.1))
     ]
+
+-- the rest is at most as long
+pub rest-le : (w : List ℕ) → length (cut w).rest ≤ length w
+rest-le w = omega (arith, ap length (whole_text (length w) w (omega arith)), length-append (octets_of (cut w).items) (cut w).rest)
 
 pub whole_first : (text : List ℕ) → take (whole_octets text) text ≡ octets_of (cut text).items
 whole_first text =

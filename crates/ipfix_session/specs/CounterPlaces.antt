@@ -8,7 +8,7 @@ use Rattle.ipfix_session.specs.declared.message_counter.CounterPlace.TheVariants
 -- what contracts see of a place
 abbrev pub place_view : CounterPlace → PlaceView
 place_view (places.Header begun) = within_header begun.items
-place_view (places.Message due) = within_message (non_zero_u16_get due)
+place_view (places.Message size due) = within_message size (non_zero_u16_get due)
 place_view places.Fault = at_fault
 
 -- this text was read up to what is left

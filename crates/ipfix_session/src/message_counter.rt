@@ -1,9 +1,8 @@
 //! Counting the messages of a text that is read in pieces (RFC 7011, section 3.1).
 
-ghost use Rattle.std.specs.Prelude.{◌≡◌, ◌+◌, ◌<◌, ◌++◌, ℕ, List, [], length};
+ghost use Rattle.std.specs.Prelude.{◌≡◌, ◌+◌, ◌<◌, ◌↔◌, ◌++◌, ℕ, List, [], length, IsTrue};
 ghost use Rattle.ipfix_session.specs.MessageStream.{cut};
-ghost use Rattle.ipfix_session.specs.Ledger.{capped};
-ghost use Rattle.ipfix_session.specs.MessageCounts.{whole_messages, HasRead, IsWithinMessage};
+ghost use Rattle.ipfix_session.specs.MessageCounts.{CountsWhole, HasRead, IsWithinMessage, at_fault};
 ghost use Rattle.ipfix_session.specs.CounterPlaces.{IsReading};
 
 use arrayvec::ArrayVec;
@@ -19,8 +18,8 @@ const MOST_BEGUN: usize = HEADER_LENGTH - 1;
 enum CounterPlace {
     /// After these octets of a header; before it, if there are none.
     Header(ArrayVec<u8, MOST_BEGUN>),
-    /// Within a message of which this many octets are to come.
-    Message(NonZeroU16),
+    /// Within a message of this length, of which so many octets are to come.
+    Message { length: u16, due: NonZeroU16 },
     /// After a header that no message has: none is found from there on.
     Fault,
 }
@@ -30,6 +29,7 @@ enum CounterPlace {
 #[derive(Drop)]
 pub struct MessageCounter {
     messages: u64,
+    octets: u64,
     place: CounterPlace,
 }
 
@@ -39,7 +39,11 @@ impl Model for MessageCounter {
 
     ghost Value = { CounterView };
 
-    ghost view = { λ c. record { messages = c.messages; place = place_view c.place } };
+    ghost view = { λ c. record {
+      messages = c.messages;
+      octets = c.octets;
+      place = place_view c.place;
+    } };
 }
 
 impl MessageCounter {
@@ -49,6 +53,7 @@ impl MessageCounter {
     {
         MessageCounter {
             messages: 0,
+            octets: 0,
             place: CounterPlace::Header(ArrayVec::new()),
         }
     }
@@ -58,6 +63,20 @@ impl MessageCounter {
         ensures { result ≡ self.now.messages }
     {
         self.messages
+    }
+
+    /// How many octets these messages have. It stops at `u64::MAX`.
+    pub fn octets(&self) -> u64
+        ensures { result ≡ self.now.octets }
+    {
+        self.octets
+    }
+
+    /// Whether a header was read that no message has: then no more messages are found.
+    pub fn is_at_fault(&self) -> bool
+        ensures { IsTrue result ↔ (self.now.place ≡ at_fault) }
+    {
+        matches!(&self.place, CounterPlace::Fault)
     }
 
     /// Reads on in the text.
@@ -87,10 +106,11 @@ impl MessageCounter {
                 self.begin_message(&header);
                 left
             }
-            CounterPlace::Message(due) => {
+            CounterPlace::Message { length, due } => {
+                let length = *length;
                 let due = due.get();
                 let (part, left) = piece.split_at(usize::from(due).min(piece.len()));
-                self.go_on(due - part.len() as u16);
+                self.go_on(length, due - part.len() as u16);
                 left
             }
             CounterPlace::Fault => &[],
@@ -99,24 +119,26 @@ impl MessageCounter {
 
     // Goes on after a whole header.
     fn begin_message(&mut self, header: &[u8; HEADER_LENGTH])
-        ensures { (text part : List ℕ) → self.old.messages ≡ capped (whole_messages text)
+        ensures { (text part : List ℕ) → CountsWhole self.old.messages self.old.octets text
             → (cut text).rest ++ part ≡ header.now → HasRead self.new (text ++ part) }
     {
         match read_header(header) {
-            Ok(header) => self.go_on(header.length - HEADER_LENGTH as u16),
+            Ok(header) => self.go_on(header.length, header.length - HEADER_LENGTH as u16),
             Err(_) => self.place = CounterPlace::Fault,
         }
     }
 
-    // Goes on in a message of which so many octets are to come.
-    fn go_on(&mut self, due: u16)
-        ensures { (text part : List ℕ) → self.old.messages ≡ capped (whole_messages text)
-            → IsWithinMessage due ((cut text).rest ++ part) → HasRead self.new (text ++ part) }
+    // Goes on in a message of this length, of which so many octets are to come.
+    fn go_on(&mut self, length: u16, due: u16)
+        ensures { (text part : List ℕ) → CountsWhole self.old.messages self.old.octets text
+            → IsWithinMessage length due ((cut text).rest ++ part)
+            → HasRead self.new (text ++ part) }
     {
         match NonZeroU16::new(due) {
-            Some(due) => self.place = CounterPlace::Message(due),
+            Some(due) => self.place = CounterPlace::Message { length, due },
             None => {
                 self.messages = self.messages.saturating_add(1);
+                self.octets = self.octets.saturating_add(u64::from(length));
                 self.place = CounterPlace::Header(ArrayVec::new());
             }
         }

@@ -38,7 +38,7 @@ returns-else-is_ok-clause-reads c = λ text reading.
     (λ t has.
     let inside = subst (λ (v : CounterView). HasRead v t) (sym c.self.view_is) has in
     let begins = subst (λ (p : PlaceView). EndsAt p (cut t).rest) (ap place_view c.in-Header.is) inside.place in
-    c.begin_message.ensures t c.split_at.result.0.now inside.count
+    c.begin_message.ensures t c.split_at.result.0.now inside.counts
     (ap (λ (w : List ℕ). w ++ c.split_at.result.0.now) (begins.octets ∙ ap (λ (v : ArrayVec ℕ). v.items) (sym same) ∙ sym c.as_slice.ensures.value) ∙ sym c.whole_header-header.ensures)) reading
 
 pub returns-in-Message-clause-reads : goal.returns-in-Message-clause-reads
@@ -46,8 +46,8 @@ returns-in-Message-clause-reads c = λ text reading.
     reading_on c.args.self.now c.go_on.new.self c.args.piece.now c.split_at-in-Message.result.0.now c.split_at-in-Message.result.1.now text c.split_at-in-Message.ensures.by_index.0
     (λ t has.
     let inside = subst (λ (v : CounterView). HasRead v t) (sym c.self.view_is) has in
-    c.go_on.ensures t c.split_at-in-Message.result.0.now inside.count
-    (goes_on_within _ (non_zero_u16_get c.in-Message.due) _ t c.split_at-in-Message.result.0.now (ap place_view c.in-Message.is) (omega arith) inside)) reading
+    c.go_on.ensures t c.split_at-in-Message.result.0.now inside.counts
+    (goes_on_within _ c.in-Message.length (non_zero_u16_get c.in-Message.due) _ t c.split_at-in-Message.result.0.now (ap place_view c.in-Message.is) (omega arith) inside)) reading
 
 pub returns-in-Fault-clause-reads : goal.returns-in-Fault-clause-reads
 returns-in-Fault-clause-reads c = λ text reading.
