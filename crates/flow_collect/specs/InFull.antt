@@ -26,11 +26,11 @@ reports_in fulls = map (λ (full : FullReport). full.report) fulls
 
 -- the ledger of a domain of these messages balances: from before its first message to behind its last, the exporter's
 -- sequence number advanced, modulo 2^32, by the records that came, those that were lost and those that are unaccounted
--- for, if it never stepped backward and no count has stopped (RFC 7011, section 3.1)
+-- for, if it never stepped backward, no message after an unknown set was late, and no count has stopped (RFC 7011, section 3.1)
 pub record IsBalanced (ms : List Message) (report : DomainReport) (balance : DomainBalance) : Type 0 where
   pub domain_is : balance.domain ≡ report.domain
   pub balances : (first : Message) (more : List Message) → messages_of report.domain ms ≡ first ∷ more
-      → report.backward ≡ 0 → report.count < 2 ^ 64 - 1 → report.lost < 2 ^ 64 - 1 → balance.unaccounted < 2 ^ 64 - 1
+      → report.backward ≡ 0 → balance.late ≡ 0 → report.count < 2 ^ 64 - 1 → report.lost < 2 ^ 64 - 1 → balance.unaccounted < 2 ^ 64 - 1
       → (first.header.sequence + report.count + report.lost + balance.unaccounted) % 2 ^ 32 ≡ sequence_at_end first more
 
 module _ {S : Type 0} (seen : S → SourceView) where

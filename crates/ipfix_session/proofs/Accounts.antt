@@ -13,9 +13,9 @@ use Rattle.ipfix_message.specs.declared.passed_over.PassedOver.{PassedOver}
 use Rattle.ipfix_session.specs.declared.report.DomainReport.{DomainReport}
 use Rattle.ipfix_session.specs.declared.account.Account.{Account}
 use Rattle.ipfix_session.specs.declared.report.DomainBalance.{DomainBalance}
-use Rattle.ipfix_session.specs.Ledger.{capped, count_in, sequence_behind, due_after, gap, lost_at, backward_at, lost_between, backward_between, sum_neighbours, of_last, messages_of, first_appearances, domains_of, domain_report}
-use Rattle.ipfix_session.specs.Accounts.{unsure_after, unaccounted_at, account_of, accounts_of, account_after, report_of, balance_of}
-use Rattle.ipfix_session.specs.Balances.{unaccounted_between, domain_balance}
+use Rattle.ipfix_session.specs.Ledger.{capped, count_in, due_after, unsure_after, lost_at, backward_at, lost_between, backward_between, sum_neighbours, of_last, messages_of, first_appearances, domains_of, domain_report}
+use Rattle.ipfix_session.specs.Accounts.{account_of, accounts_of, account_after, report_of, balance_of}
+use Rattle.ipfix_session.specs.Balances.{unaccounted_between, late_between, domain_balance}
 use Rattle.ipfix_session.specs.Reports.{passed_over_in}
 use Rattle.ipfix_session.specs.Tallies.{added_up}
 
@@ -32,19 +32,12 @@ of_last-push after [] m = refl
 of_last-push after (x ∷ []) m = refl
 of_last-push after (x ∷ y ∷ ys) m = of_last-push after (y ∷ ys) m
 
-pub unaccounted-is : (m n : Message) → unaccounted_between m n ≡ unaccounted_at (unsure_after m) n.header.sequence
-unaccounted-is m n = by_test (eqb m.decoding.passed_over.unknown_sets 0)
-  where
-    by_test : (b : Bool) → cond b 0 (gap (sequence_behind m) n.header.sequence) ≡ unaccounted_at (cond b None (Some (sequence_behind m))) n.header.sequence
-    by_test true = refl
-    by_test false = refl
+abbrev account : ℕ → ℕ → ℕ → PassedOver → ℕ → ℕ → Option ℕ → Option ℕ → Account
+account count lost backward passed_over unaccounted late due unsure =
+    record { count = count; lost = lost; backward = backward; passed_over = passed_over; unaccounted = unaccounted; late = late; due = due; unsure = unsure }
 
-abbrev account : ℕ → ℕ → ℕ → PassedOver → ℕ → Option ℕ → Option ℕ → Account
-account count lost backward passed_over unaccounted due unsure =
-    record { count = count; lost = lost; backward = backward; passed_over = passed_over; unaccounted = unaccounted; due = due; unsure = unsure }
-
-account-same : (a b c d e f g h : ℕ) (x y : PassedOver) (p q r s : Option ℕ) → a ≡ e → b ≡ f → c ≡ g → x ≡ y → d ≡ h → p ≡ q → r ≡ s → account a b c x d p r ≡ account e f g y h q s
-account-same a b c d e f g h x y p q r s i j k l m n o = rw (i, j, k, l, m, n, o) refl
+account-same : (a b c d e f g h t u : ℕ) (x y : PassedOver) (p q r s : Option ℕ) → a ≡ e → b ≡ f → c ≡ g → x ≡ y → d ≡ h → t ≡ u → p ≡ q → r ≡ s → account a b c x d t p r ≡ account e f g y h u q s
+account-same a b c d e f g h t u x y p q r s i j k l m v n o = rw (i, j, k, l, m, v, n, o) refl
 
 pub capped-capped : (a b c : ℕ) → c ≡ a + b → capped c ≡ capped (capped a + b)
 capped-capped a b c e = omega arith
@@ -64,12 +57,13 @@ passed-push xs m =
 
 pub account_of-push : (xs : List Message) (m : Message) → account_of (xs ++ m ∷ []) ≡ account_after (account_of xs) m.header.sequence (count_in m) m.decoding.passed_over (due_after m) (unsure_after m)
 account_of-push xs m =
-    account-same _ _ _ _ _ _ _ _ _ _ _ _ _ _
+    account-same _ _ _ _ _ _ _ _ _ _ _ _ _ _ _ _
     (capped-capped (sum_by count_in xs) (count_in m) (sum_by count_in (xs ++ m ∷ [])) (sum_by_push count_in xs m))
     (capped-capped (sum_neighbours lost_between xs) (lost_at (of_last due_after xs) m.header.sequence) (sum_neighbours lost_between (xs ++ m ∷ [])) (neighbours-push lost_between due_after lost_at (λ n. refl) (λ a b. refl) xs m))
     (capped-capped (sum_neighbours backward_between xs) (backward_at (of_last due_after xs) m.header.sequence) (sum_neighbours backward_between (xs ++ m ∷ [])) (neighbours-push backward_between due_after backward_at (λ n. refl) (λ a b. refl) xs m))
     (passed-push xs m)
-    (capped-capped (sum_neighbours unaccounted_between xs) (unaccounted_at (of_last unsure_after xs) m.header.sequence) (sum_neighbours unaccounted_between (xs ++ m ∷ [])) (neighbours-push unaccounted_between unsure_after unaccounted_at (λ n. refl) unaccounted-is xs m))
+    (capped-capped (sum_neighbours unaccounted_between xs) (lost_at (of_last unsure_after xs) m.header.sequence) (sum_neighbours unaccounted_between (xs ++ m ∷ [])) (neighbours-push unaccounted_between unsure_after lost_at (λ n. refl) (λ a b. refl) xs m))
+    (capped-capped (sum_neighbours late_between xs) (backward_at (of_last unsure_after xs) m.header.sequence) (sum_neighbours late_between (xs ++ m ∷ [])) (neighbours-push late_between unsure_after backward_at (λ n. refl) (λ a b. refl) xs m))
     (of_last-push due_after xs m)
     (of_last-push unsure_after xs m)
 

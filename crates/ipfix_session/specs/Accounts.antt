@@ -1,23 +1,14 @@
 -- What is kept of a domain.
-use Rattle.std.specs.Prelude.{ℕ, ◌+◌, ◌==◌, if◌then◌else◌, Option, Some, None, List, map, sum_by}
+use Rattle.std.specs.Prelude.{ℕ, ◌+◌, Option, List, map, sum_by}
 use Rattle.ipfix_message.specs.Domains.{Message}
 use Rattle.ipfix_message.specs.declared.passed_over.PassedOver.{PassedOver}
 use Rattle.ipfix_session.specs.declared.account.Account.{Account}
 use Rattle.ipfix_session.specs.declared.report.DomainReport.{DomainReport}
 use Rattle.ipfix_session.specs.declared.report.DomainBalance.{DomainBalance}
-use Rattle.ipfix_session.specs.Ledger.{capped, count_in, sequence_behind, gap, lost_at, backward_at, lost_between, backward_between, sum_neighbours, of_last, due_of, messages_of, domains_of}
+use Rattle.ipfix_session.specs.Ledger.{capped, count_in, lost_at, backward_at, unsure_after, lost_between, backward_between, sum_neighbours, of_last, due_of, messages_of, domains_of}
 use Rattle.ipfix_session.specs.Reports.{passed_over_in}
-use Rattle.ipfix_session.specs.Balances.{unaccounted_between}
+use Rattle.ipfix_session.specs.Balances.{unaccounted_between, late_between}
 use Rattle.ipfix_session.specs.Tallies.{added_up}
-
--- the sequence number behind a message whose records couldn't all be counted
-abbrev pub unsure_after : Message → Option ℕ
-unsure_after m = if m.decoding.passed_over.unknown_sets == 0 then None else Some (sequence_behind m)
-
--- the gap up to a sequence number behind such a message
-abbrev pub unaccounted_at : Option ℕ → ℕ → ℕ
-unaccounted_at None sequence = 0
-unaccounted_at (Some unsure) sequence = gap unsure sequence
 
 -- the account of a domain's messages
 abbrev pub account_of : List Message → Account
@@ -27,6 +18,7 @@ account_of own = record {
   backward = capped (sum_neighbours backward_between own);
   passed_over = passed_over_in own;
   unaccounted = capped (sum_neighbours unaccounted_between own);
+  late = capped (sum_neighbours late_between own);
   due = due_of own;
   unsure = of_last unsure_after own;
 }
@@ -38,7 +30,8 @@ account_after a sequence count passed_over due unsure = record {
   lost = capped (a.lost + lost_at a.due sequence);
   backward = capped (a.backward + backward_at a.due sequence);
   passed_over = added_up a.passed_over passed_over;
-  unaccounted = capped (a.unaccounted + unaccounted_at a.unsure sequence);
+  unaccounted = capped (a.unaccounted + lost_at a.unsure sequence);
+  late = capped (a.late + backward_at a.unsure sequence);
   due = due;
   unsure = unsure;
 }
@@ -53,4 +46,4 @@ report_of entry = record { domain = entry.0; count = entry.1.count; lost = entry
 
 -- the balance that an account makes
 abbrev pub balance_of : ℕ × Account → DomainBalance
-balance_of entry = record { domain = entry.0; passed_over = entry.1.passed_over; unaccounted = entry.1.unaccounted }
+balance_of entry = record { domain = entry.0; passed_over = entry.1.passed_over; unaccounted = entry.1.unaccounted; late = entry.1.late }

@@ -1,19 +1,23 @@
 -- What balances the ledger of a domain: the sets that were passed over, and the gaps that they leave unexplained.
-use Rattle.std.specs.Prelude.{ℕ, ◌==◌, if◌then◌else◌, List, [], ◌∷◌}
+use Rattle.std.specs.Prelude.{ℕ, List, [], ◌∷◌}
 use Rattle.ipfix_message.specs.Domains.{Message}
 use Rattle.ipfix_session.specs.declared.report.DomainBalance.{DomainBalance}
-use Rattle.ipfix_session.specs.Ledger.{capped, gap, sequence_behind, messages_of, sum_neighbours}
+use Rattle.ipfix_session.specs.Ledger.{capped, lost_at, backward_at, sequence_behind, unsure_after, messages_of, sum_neighbours}
 use Rattle.ipfix_session.specs.Reports.{passed_over_in}
 
--- the gap between two neighbouring messages of a domain, if the earlier one had an unknown set
+-- the gap between two neighbouring messages of a domain, if the earlier one had an unknown set: in the lower half it is of
+-- records that are unaccounted for, and in the upper half the later message is late
 abbrev pub unaccounted_between : Message → Message → ℕ
-unaccounted_between m n = if m.decoding.passed_over.unknown_sets == 0 then 0 else gap (sequence_behind m) n.header.sequence
+unaccounted_between m n = lost_at (unsure_after m) n.header.sequence
 
--- what a domain's messages passed over, and the sum of the gaps behind those that had an unknown set
+abbrev pub late_between : Message → Message → ℕ
+late_between m n = backward_at (unsure_after m) n.header.sequence
+
+-- what a domain's messages passed over; and after those that had an unknown set the sum of the gaps, and how many were late
 abbrev pub domain_balance : List Message → ℕ → DomainBalance
 domain_balance ms domain =
     let own = messages_of domain ms in
-    record { domain = domain; passed_over = passed_over_in own; unaccounted = capped (sum_neighbours unaccounted_between own) }
+    record { domain = domain; passed_over = passed_over_in own; unaccounted = capped (sum_neighbours unaccounted_between own); late = capped (sum_neighbours late_between own) }
 
 -- the sequence number behind the last of these messages
 abbrev pub sequence_at_end : Message → List Message → ℕ

@@ -20,6 +20,10 @@ sequence_behind m = (m.header.sequence + count_in m) % 2 ^ 32
 abbrev pub due_after : Message → Option ℕ
 due_after m = if m.decoding.passed_over.unknown_sets == 0 then Some (sequence_behind m) else None
 
+-- the sequence number after a message whose records couldn't all be counted, as if an unknown set had none
+abbrev pub unsure_after : Message → Option ℕ
+unsure_after m = if m.decoding.passed_over.unknown_sets == 0 then None else Some (sequence_behind m)
+
 -- how far a sequence number is above the one that was due, modulo 2^32
 abbrev pub gap : ℕ → ℕ → ℕ
 gap due sequence = (sequence + (2 ^ 32 - due)) % 2 ^ 32

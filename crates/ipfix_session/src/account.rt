@@ -3,8 +3,8 @@
 
 ghost use Rattle.std.specs.Prelude.{◌≡◌};
 ghost use Rattle.ipfix_message.specs.Domains.{Message};
-ghost use Rattle.ipfix_session.specs.Ledger.{backward_at, count_in, due_after, lost_at};
-ghost use Rattle.ipfix_session.specs.Accounts.{account_after, unaccounted_at, unsure_after};
+ghost use Rattle.ipfix_session.specs.Ledger.{backward_at, count_in, due_after, lost_at, unsure_after};
+ghost use Rattle.ipfix_session.specs.Accounts.{account_after};
 ghost use Rattle.ipfix_session.specs.Tallies.{added_up};
 
 use ipfix_message::PassedOver;
@@ -20,8 +20,10 @@ pub struct Account {
     pub backward: u64,
     /// The sets and withdrawals that gave nothing.
     pub passed_over: PassedOver,
-    /// Data records behind messages that had an unknown set.
+    /// Data records after messages that had an unknown set.
     pub unaccounted: u64,
+    /// How often a sequence number went backward after such a message.
+    pub late: u64,
     /// The sequence number that is due next, if the last message tells it.
     pub due: Option<u32>,
     /// The sequence number behind the last message, if it had an unknown set.
@@ -62,8 +64,9 @@ pub fn next_after(sequence: u32, records: u64, unknown_sets: u64) -> (Option<u32
     }
 }
 
-/// The records that were lost before a sequence number, where this one is due, and whether it is a step
-/// backward: 1 if it is (RFC 7011, section 3.1). Where none is due both are 0.
+/// The records that are missing before a sequence number, where this one is due, and whether it is a step
+/// backward: 1 if it is (RFC 7011, section 3.1). Where none is due both are 0. After a message that had an
+/// unknown set, the same is asked of the number that is due if that set had no records.
 pub fn lost_before(due: Option<u32>, sequence: u32) -> (u64, u64)
     ensures lost { result.0 ≡ lost_at due sequence }
     ensures backward { result.1 ≡ backward_at due sequence }
@@ -79,17 +82,6 @@ pub fn lost_before(due: Option<u32>, sequence: u32) -> (u64, u64)
     }
 }
 
-/// The gap up to a sequence number behind a message that had an unknown set, modulo 2^32; 0 behind
-/// another.
-pub fn unaccounted_before(unsure: Option<u32>, sequence: u32) -> u64
-    ensures { result ≡ unaccounted_at unsure sequence }
-{
-    match unsure {
-        None => 0,
-        Some(unsure) => u64::from(sequence.wrapping_sub(unsure)),
-    }
-}
-
 impl Account {
     /// The account of no messages.
     pub const EMPTY: Account = Account {
@@ -98,6 +90,7 @@ impl Account {
         backward: 0,
         passed_over: NOTHING,
         unaccounted: 0,
+        late: 0,
         due: None,
         unsure: None,
     };
@@ -113,13 +106,14 @@ impl Account {
         ensures { result ≡ account_after self.now sequence count passed_over next.0 next.1 }
     {
         let (lost, backward) = lost_before(self.due, sequence);
-        let unaccounted = unaccounted_before(self.unsure, sequence);
+        let (unaccounted, late) = lost_before(self.unsure, sequence);
         Account {
             count: self.count.saturating_add(count),
             lost: self.lost.saturating_add(lost),
             backward: self.backward.saturating_add(backward),
             passed_over: add_up(self.passed_over, passed_over),
             unaccounted: self.unaccounted.saturating_add(unaccounted),
+            late: self.late.saturating_add(late),
             due: next.0,
             unsure: next.1,
         }

@@ -91,17 +91,17 @@ pub fn no_fault_is_all<S: Source>()
 
 /// The ledger of a domain balances: from before its first message to behind its last, the exporter's
 /// sequence number advanced, modulo 2^32, by the records that came (`count`), those that were lost
-/// (`lost`) and those that are unaccounted for (`unaccounted`), if it never stepped backward and no count
-/// has stopped at `u64::MAX`. Before the first message is its sequence number; behind the last is the
-/// last's sequence number and one more for each of its records.
+/// (`lost`) and those that are unaccounted for (`unaccounted`), if it never stepped backward (`backward`,
+/// `late`) and no count has stopped at `u64::MAX`. Before the first message is its sequence number; after
+/// the last is the last's sequence number and one more for each of its records.
 ///
 /// So no record vanished between these two places without a number for it. What was sent before the
 /// first message, or behind the last, no sequence number shows; nor do those of an unknown set in the
-/// last message, or a loss of 2^32 records at once.
+/// last message. A loss of 2^31 records or more at once looks like a step backward, one of 2^32 like none.
 pub fn ledger_balances()
     ensures { (ms : List Message) (domain : ℕ) (first : Message) (more : List Message)
         → messages_of domain ms ≡ first ∷ more
-        → (domain_report ms domain).backward ≡ 0
+        → (domain_report ms domain).backward ≡ 0 → (domain_balance ms domain).late ≡ 0
         → (domain_report ms domain).count < 2 ^ 64 - 1
         → (domain_report ms domain).lost < 2 ^ 64 - 1
         → (domain_balance ms domain).unaccounted < 2 ^ 64 - 1

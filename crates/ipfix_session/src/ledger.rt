@@ -113,6 +113,7 @@ impl Ledger {
                 domain: *domain,
                 passed_over: account.passed_over,
                 unaccounted: account.unaccounted,
+                late: account.late,
             };
             balances.push(balance).unwrap();
         }

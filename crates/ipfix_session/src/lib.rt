@@ -21,7 +21,7 @@ mod source;
 mod stop;
 mod tally;
 
-pub use account::{Account, lost_before, unaccounted_before};
+pub use account::{Account, lost_before};
 pub use buffer::fill;
 pub use driver::{READ_LIMIT, READ_SIZE, drive, drive_in_full};
 pub use fault::SessionFault;

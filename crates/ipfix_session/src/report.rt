@@ -35,17 +35,20 @@ pub struct SessionReport {
 }
 
 /// What balances the ledger of an observation domain: `count`, `lost` and `unaccounted` together are
-/// what its sequence number advanced by, if nothing stepped backward
+/// what its sequence number advanced by, if nothing stepped backward and no message was late
 /// ([`ledger_balances`](crate::laws::ledger_balances)). The numbers stop at `u64::MAX`.
 #[derive(Clone, Copy, Debug, PartialEq, Eq)]
 pub struct DomainBalance {
     pub domain: u32,
     /// The sets and withdrawals of its messages that gave nothing.
     pub passed_over: PassedOver,
-    /// Data records by which the sequence number advanced behind messages that had an unknown set:
-    /// those of that set, and what was lost before the next message. They are not among `lost`. Each
-    /// step counts modulo 2^32, so a step backward shows as almost 2^32.
+    /// Data records by which the sequence number advanced after messages that had an unknown set:
+    /// those of that set, and what was lost before the next message. They are not among `lost`. As
+    /// there, an advance is below 2^31.
     pub unaccounted: u64,
+    /// How often the sequence number of a message that follows one with an unknown set is before what
+    /// was due without that set's records. It is not among `backward`.
+    pub late: u64,
 }
 
 /// Where a message begins in its session. The numbers stop at `u64::MAX`.

@@ -6,10 +6,8 @@ use Rattle.std.proofs.lemmas.List.Sums.{sum_by-cons, sum_by-append}
 use Rattle.ipfix_message.specs.Domains.{Message}
 use Rattle.ipfix_message.specs.declared.passed_over.PassedOver.{PassedOver}
 use Rattle.ipfix_session.specs.Given.{records_in}
-use Rattle.ipfix_session.specs.Ledger.{capped, count_in, due_after, lost_at, backward_at, lost_between, backward_between, sum_neighbours, messages_of, domains_of, domain_report}
+use Rattle.ipfix_session.specs.Ledger.{capped, count_in, due_after, unsure_after, lost_at, backward_at, lost_between, backward_between, sum_neighbours, messages_of, domains_of, domain_report}
 use Rattle.ipfix_session.specs.Balances.{unaccounted_between, domain_balance}
-use Rattle.ipfix_session.specs.Accounts.{unsure_after, unaccounted_at}
-use Rattle.ipfix_session.proofs.Accounts.{unaccounted-is}
 use Rattle.recording_files.specs.declared.file_report.FileReport.{FileReport}
 use Rattle.recording_files.specs.declared.recorded_session.RecordedSession.{RecordedSession}
 use Rattle.recording_files.specs.FileReports.{in_ledger, in_ledger_from, file_report, file_reports, AddsTo, AddUp}
@@ -62,9 +60,6 @@ sum_goes f before here = omega (arith, sum_by-append f before here)
 module _ (f : Message → Message → ℕ) (after : Message → Option ℕ) (g : Option ℕ → ℕ → ℕ) (none : (n : ℕ) → g None n ≡ 0) (is : (m n : Message) → f m n ≡ g (after m) n.header.sequence) where
   ledger_goes : (before here : List Message) → in_ledger_from f before here + in_ledger f before ≡ in_ledger f (before ++ here)
   ledger_goes before here = omega (arith, in_ledger-grows f after g none is before here)
-
-unaccounted_none : (n : ℕ) → unaccounted_at None n ≡ 0
-unaccounted_none n = refl
 
 messages_is : (before here : List Message) → (file_report before here).messages ≡ capped (length here)
 unfolding file_report
@@ -126,7 +121,7 @@ adds_up finished last r told =
           (adds_total (λ f. f.unknown_sets) (λ before here. sum_by (λ (m : Message). m.decoding.passed_over.unknown_sets) here) unknown_is (λ xs. sum_by (λ (m : Message). m.decoding.passed_over.unknown_sets) xs) refl
           (sum_goes (λ (m : Message). m.decoding.passed_over.unknown_sets)) finished last);
       unaccounted = all_domains unaccounted_between (domain_balance ms) (λ b. b.unaccounted) ms r.report.balances.items _ told.session.balances (λ k. refl)
-          (adds_total (λ f. f.unaccounted) (in_ledger_from unaccounted_between) unaccounted-capped (in_ledger unaccounted_between) refl (ledger_goes unaccounted_between unsure_after unaccounted_at unaccounted_none unaccounted-is) finished last);
+          (adds_total (λ f. f.unaccounted) (in_ledger_from unaccounted_between) unaccounted-capped (in_ledger unaccounted_between) refl (ledger_goes unaccounted_between unsure_after lost_at (λ n. refl) (λ x y. refl)) finished last);
     } in
     subst (λ (fs : List FileReport). AddUp fs r.report) (sym same) all
 

@@ -8,10 +8,10 @@ use Rattle.ipfix_message.specs.Domains.{Message}
 use Rattle.ipfix_wire.specs.declared.header.Header.{Header}
 use Rattle.ipfix_message.specs.declared.passed_over.PassedOver.{PassedOver}
 use Rattle.ipfix_session.specs.declared.account.Account.{Account}
-use Rattle.ipfix_session.specs.Ledger.{capped, count_in, due_after, lost_at, backward_at, lost_between, backward_between, sum_neighbours, of_last, messages_of, domains_of}
+use Rattle.ipfix_session.specs.Ledger.{capped, count_in, due_after, unsure_after, lost_at, backward_at, lost_between, backward_between, sum_neighbours, of_last, messages_of, domains_of}
 use Rattle.ipfix_session.specs.Balances.{unaccounted_between}
-use Rattle.ipfix_session.specs.Accounts.{account_of, unsure_after, unaccounted_at}
-use Rattle.ipfix_session.proofs.Accounts.{Absent, Distinct, insert_key, neighbours-push, unaccounted-is, capped-capped, messages_of-push, domains_of-push, no_messages, first_appearances_distinct, itself, apart}
+use Rattle.ipfix_session.specs.Accounts.{account_of}
+use Rattle.ipfix_session.proofs.Accounts.{Absent, Distinct, insert_key, neighbours-push, capped-capped, messages_of-push, domains_of-push, no_messages, first_appearances_distinct, itself, apart}
 use Rattle.recording_files.specs.declared.file_report.FileReport.{FileReport}
 use Rattle.recording_files.specs.declared.message_count.MessageCount.{MessageCount}
 use Rattle.recording_files.specs.FileReports.{in_ledger, in_ledger_from, file_report}
@@ -95,9 +95,6 @@ sum-push f here m n e = capped-capped (sum_by f here) n (sum_by f (here ++ m ∷
 length-push : (here : List Message) (m : Message) → capped (length (here ++ m ∷ [])) ≡ capped (capped (length here) + 1)
 length-push here m = omega (arith, length-append here (m ∷ []))
 
-unaccounted_none : (n : ℕ) → unaccounted_at None n ≡ 0
-unaccounted_none n = refl
-
 -- one more message, which adds what the account of its domain says
 pub report-push : (before here : List Message) (m : Message) (c : MessageCount) (a : Account) → IsCountOf c m → a ≡ account_of (messages_of m.header.domain (before ++ here))
     → file_report before (here ++ m ∷ []) ≡ file_after (file_report before here) a c
@@ -113,7 +110,7 @@ report-push before here m c a count account =
     (capped-push lost_between due_after lost_at (λ n. refl) (λ x y. refl) before here m (lost_at a.due c.header.sequence) (ap₂ lost_at due sequence))
     (capped-push backward_between due_after backward_at (λ n. refl) (λ x y. refl) before here m (backward_at a.due c.header.sequence) (ap₂ backward_at due sequence))
     (sum-push (λ (n : Message). n.decoding.passed_over.unknown_sets) here m c.passed_over.unknown_sets (ap (λ (p : PassedOver). p.unknown_sets) (sym count.passed_over)))
-    (capped-push unaccounted_between unsure_after unaccounted_at unaccounted_none unaccounted-is before here m (unaccounted_at a.unsure c.header.sequence) (ap₂ unaccounted_at unsure sequence))
+    (capped-push unaccounted_between unsure_after lost_at (λ n. refl) (λ x y. refl) before here m (lost_at a.unsure c.header.sequence) (ap₂ lost_at unsure sequence))
 
 pub report-none : (before : List Message) → file_report before [] ≡ report 0 0 0 0 0 0
 unfolding file_report
@@ -122,4 +119,4 @@ report-none before =
     (from-none lost_between due_after lost_at (λ n. refl) (λ x y. refl) before)
     (from-none backward_between due_after backward_at (λ n. refl) (λ x y. refl) before)
     refl
-    (from-none unaccounted_between unsure_after unaccounted_at unaccounted_none unaccounted-is before)
+    (from-none unaccounted_between unsure_after lost_at (λ n. refl) (λ x y. refl) before)

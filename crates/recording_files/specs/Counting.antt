@@ -3,7 +3,6 @@ use Rattle.std.specs.Prelude.{◌+◌}
 use Rattle.ipfix_session.specs.declared.account.Account.{Account}
 use Rattle.ipfix_session.specs.declared.tally.Tally.{Tally}
 use Rattle.ipfix_session.specs.Ledger.{capped, lost_at, backward_at}
-use Rattle.ipfix_session.specs.Accounts.{unaccounted_at}
 use Rattle.ipfix_session.specs.Intake.{counts_of}
 use Rattle.recording_files.specs.declared.file_report.FileReport.{FileReport}
 use Rattle.recording_files.specs.declared.message_count.MessageCount.{MessageCount}
@@ -17,7 +16,7 @@ file_after f a c = record {
   lost = capped (f.lost + lost_at a.due c.header.sequence);
   backward = capped (f.backward + backward_at a.due c.header.sequence);
   unknown_sets = capped (f.unknown_sets + c.passed_over.unknown_sets);
-  unaccounted = capped (f.unaccounted + unaccounted_at a.unsure c.header.sequence);
+  unaccounted = capped (f.unaccounted + lost_at a.unsure c.header.sequence);
 }
 
 -- the counts that a tally and the report of a file keep

@@ -8,7 +8,7 @@ ghost use Rattle.recording_files.specs.Recorders.{AreCountsOf, Counted, IsCountO
 
 use crate::file_report::FileReport;
 use crate::message_count::MessageCount;
-use ipfix_session::{Account, Tally, lost_before, unaccounted_before};
+use ipfix_session::{Account, Tally, lost_before};
 
 // The report of a file after one more message, of a domain that has this account.
 fn report_after(file: FileReport, account: &Account, message: &MessageCount) -> FileReport
@@ -16,7 +16,7 @@ fn report_after(file: FileReport, account: &Account, message: &MessageCount) -> 
 {
     let sequence = message.header.sequence;
     let (lost, backward) = lost_before(account.due, sequence);
-    let unaccounted = unaccounted_before(account.unsure, sequence);
+    let (unaccounted, _) = lost_before(account.unsure, sequence);
     FileReport {
         messages: file.messages.saturating_add(1),
         records: file.records.saturating_add(message.records),

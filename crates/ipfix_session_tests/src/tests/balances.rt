@@ -37,6 +37,7 @@ fn balance(domain: u32, passed_over: [u64; 3], unaccounted: u64) -> DomainBalanc
             ignored_withdrawals,
         },
         unaccounted,
+        late: 0,
     }
 }
 
@@ -51,7 +52,7 @@ fn report(lost: u64) -> DomainReport {
 }
 
 #[test]
-fn a_gap_behind_an_unknown_set_is_unaccounted(rt: HostRuntime) -> Result<(), Fail> {
+fn a_gap_after_an_unknown_set_is_unaccounted(rt: HostRuntime) -> Result<(), Fail> {
     // Sequence numbers 0, 0 with an unknown set, 7 and 9, without a record: 7 is unaccounted for, 2 lost.
     let full = full_report(
         rt.alloc(),
@@ -72,14 +73,17 @@ fn a_gap_behind_an_unknown_set_is_unaccounted(rt: HostRuntime) -> Result<(), Fai
 }
 
 #[test]
-fn a_step_backward_behind_an_unknown_set_is_unaccounted(rt: HostRuntime) -> Result<(), Fail> {
-    let parts: [&[u8]; 3] = [&header(24, 5, 1), &UNKNOWN_SET, &header(16, 4, 1)];
-    let full = full_report(rt.alloc(), &parts)?;
-    assert_eq!(rt;
-        full.balances.as_slice(),
-        [balance(1, [0, 1, 0], 4_294_967_295)].as_slice()
-    );
-    assert_eq!(rt; full.report.domains.as_slice(), [report(0)].as_slice());
+fn a_step_backward_after_an_unknown_set_is_late(rt: HostRuntime) -> Result<(), Fail> {
+    // Half of all sequence numbers and more ahead is a step backward (RFC 7011, section 3.1): 5 - 1, 4 + 2^31.
+    let steps = [(4, 0, 1), (2_147_483_652, 2_147_483_647, 0), (2_147_483_653, 0, 1)];
+    for (sequence, unaccounted, late) in steps {
+        let parts: [&[u8]; 3] = [&header(24, 5, 1), &UNKNOWN_SET, &header(16, sequence, 1)];
+        let full = full_report(rt.alloc(), &parts)?;
+        let mut due = balance(1, [0, 1, 0], unaccounted);
+        due.late = late;
+        assert_eq!(rt; full.balances.as_slice(), [due].as_slice());
+        assert_eq!(rt; full.report.domains.as_slice(), [report(0)].as_slice());
+    }
     Ok(())
 }
 
