@@ -4,7 +4,7 @@ use denote.RawPtr.{Ptr}
 use Rattle.rtrb.specs.Shared.{Names}
 use Rattle.flow_link.specs.declared.parcel.Parcel.{Parcel}
 
--- what tells one link from another
+-- what distinguishes one link from another
 abbrev pub LinkName : Type 0
 LinkName = Ptr × Ptr × Names
 

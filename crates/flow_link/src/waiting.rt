@@ -56,7 +56,7 @@ impl Patience {
         Parker::new().park_timeout(rt, in_micros(self.nap));
     }
 
-    // How long a sleep usually is from now on, in microseconds. One behind which nothing was moved says
+    // How long a sleep usually is from now on, in microseconds. One after which nothing was moved says
     // nothing of it.
     fn next_usual(&self) -> u32
         ensures shortest { SHORTEST_NAP ≤ result }

@@ -1,4 +1,4 @@
--- Two runs merged from their greatest keys down: what is left of each, and behind it what came of both.
+-- Two runs merged from their greatest keys down: what is left of each, and after it what came of both.
 use Rattle.std.proofs.Common.{◌≡◌, ℕ, ◌+◌, ◌-◌, ◌<◌, ◌≤◌, ◌^◌, ◌++◌, ◌⊎◌, List, [], ◌∷◌, length, get_or, drop, set, take, refl, sym, ap, ◌∙◌, subst, append_assoc, append-nil, inl, inr, arith}
 use borrow.Rule.Slice.PartMut.{put_mid}
 use Rattle.std.specs.declared.cmp.Ordering.{Ordering}
@@ -126,7 +126,7 @@ total_down rows newer out total long i j place h o q k =
 both_same : (xs ys us vs : List Row) → xs ≡ us → ys ≡ vs → xs ++ ys ≡ us ++ vs
 both_same xs ys us vs p q = cc
 
--- what is left of the newer run is copied behind what is left of the older
+-- what is left of the newer run is copied after what is left of the older
 pub all_laid : (rows newer part : List Row) (total : List ℕ → ℕ → ℕ) (long i j place : ℕ) → Merging rows newer total long i j place → length part ≡ length (take (i + j - i) (drop i rows)) → part ≡ take j newer
     → take (i + j) (put_mid i (i + j - i) rows part) ++ drop place (put_mid i (i + j - i) rows part) ≡ (take i rows ++ take j newer) ++ drop place rows
 all_laid rows newer part total long i j place h l e =

@@ -9,8 +9,8 @@ use std::alloc::{AllocError, Global};
 use std::cmp::Ordering;
 use std::ops::Range;
 
-/// Merges a newer run into an older one, the greatest key first, and adds up rows of one key. Behind the older
-/// run is room for the newer. The merged rows stand before and behind the places of the answer, whose rows
+/// Merges a newer run into an older one, the greatest key first, and adds up rows of one key. After the older
+/// run is room for the newer. The merged rows stand before and after the places of the answer, whose rows
 /// are left over.
 fn merge_down<const K: usize, const C: usize>(
     rows: &mut [Piece<K, C>],
@@ -55,7 +55,7 @@ fn merge_down<const K: usize, const C: usize>(
     i + j..place
 }
 
-/// Merges a newer run into another, in the vector of that: it takes room for the newer run alone. After an
+/// Merges a newer run into another, in the vector of that: it takes room only for the newer run. After an
 /// `Err` it is what it was.
 pub fn merge_into<const K: usize, const C: usize>(
     run: &mut Vec<Piece<K, C>>,

@@ -9,7 +9,7 @@ use crate::piece::Piece;
 use crate::stack::push_run;
 use std::alloc::{AllocError, Global};
 
-/// A number from here on, 2^45, is great: at 100 Gbit/s a flow has as many octets after 47 minutes. It matters for speed alone.
+/// A number from here on, 2^45, is great: at 100 Gbit/s a flow has as many octets after 47 minutes. It only matters for speed.
 pub const GREAT: u64 = 35_184_372_088_832;
 
 fn is_great<const K: usize, const C: usize>(row: &Piece<K, C>) -> bool

@@ -69,7 +69,7 @@ wide_number (suc k) n small =
     let top : byte_at (k + 8) n ≡ 0 = ap (λ (p : ℕ). byte_at p n) place ∙ ap (λ (q : ℕ). q % 256) (div-eq_of_lt below) in
     ap (λ (w : ℕ). big_bytes w n) next ∙ ap (λ (b : ℕ). b ∷ big_bytes (k + 8) n) top ∙ ap (λ (t : List ℕ). 0 ∷ t) (wide_number k n small)
 
--- zeros, and then the 8 octets, behind what was there
+-- zeros, and then the 8 octets, after what was there
 pub wide_written : (old sized new octets : List ℕ) (start count width n : ℕ) → start ≡ length old → count ≡ length old → 8 ≤ width → n < 2 ^ 64 → octets ≡ big_bytes 8 n
     → sized ≡ take (start + width - 8) old ++ replicate (start + width - 8 - count) 0 → new ≡ sized ++ octets → new ≡ old ++ big_bytes width n
 wide_written old sized new octets start count width n s l most small o e f =

@@ -36,7 +36,7 @@ numbered_has_dot e =
     ∙ list_any-append (λ b. b == 46) (decimal e.pen) (46 ∷ decimal e.number)
     ∙ or_right (list_any (λ b. b == 46) (decimal e.pen)) true refl
 
--- the first dot is the one behind a text that has none
+-- the first dot is the one after a text that has none
 cut : (xs ys : List ℕ) → ((i : ℕ) → i < length xs → get_or xs i 0 ≢ 46) → position_or_len (λ b. b == 46) (xs ++ 46 ∷ ys) ≡ length xs
 cut xs ys none =
     position_or_len_is (λ b. b == 46) (xs ++ 46 ∷ ys) (length xs) 0 (omega (arith, length-append xs (46 ∷ ys)))
@@ -87,7 +87,7 @@ numbered_so t e h =
 pub parsed : {E : Type 0} (k n : ℕ) (bs : List ℕ) (r : Result ℕ E) (o : Option ℕ) → n < 2 ^ k → n < 2 ^ 64 → bs ≡ decimal n → ParsesUnsigned k 10 bs r → o ≡ result_ok r → o ≡ Some n
 parsed k n bs r o fits small is parses ok = ok ∙ ap result_ok (parse-decimal k n bs r fits small is parses)
 
--- what stands behind an `e`
+-- what follows an `e`
 pub stripped_none : (bs rest : List ℕ) (r : Option (Bor (List ℕ))) → MatchOption r ((rest : List ℕ) → bs ≢ 101 ∷ rest) (λ x. bs ≡ 101 ∷ x.now) → r ≡ None → bs ≡ 101 ∷ rest → ⊥
 stripped_none bs rest None h none is = h rest is
 stripped_none bs rest (Some x) h none is = none-some x (sym none)

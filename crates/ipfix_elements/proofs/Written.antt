@@ -37,7 +37,7 @@ dotted_text (a ∷ b ∷ c ∷ []) h = absurd (omega arith)
 dotted_text (a ∷ b ∷ c ∷ d ∷ []) h = simp append_assoc
 dotted_text (a ∷ b ∷ c ∷ d ∷ e ∷ rest) h = absurd (omega arith)
 
--- one more piece behind others
+-- one more piece after others
 join-push : (c : ℕ) (xs : List (List ℕ)) (y : List ℕ) → 0 < length xs → join_with_byte c (xs ++ y ∷ []) ≡ join_with_byte c xs ++ (c ∷ y)
 join-push c [] y some = absurd (omega arith)
 join-push c (x ∷ []) y some = refl

@@ -1,7 +1,7 @@
 use ipfix_elements::{place, place_decimal, place_ipv4};
 use std::test::Fail;
 
-/// Where the tests put octets, with others before and behind them.
+/// Where the tests put octets, with others before and after them.
 const PLACE: usize = 2;
 
 /// Room before anything is put there.

@@ -26,7 +26,7 @@ use Rattle.ipfix_message.proofs.Reading.{ok_is, not_both, fault_is, bind_ok}
 use Rattle.ipfix_message.proofs.RecordFields.{fields_at-found}
 use Rattle.ipfix_message.proofs.SpelledFields.{fields_in-read, begins-found}
 
--- ---- the octets behind a gap
+-- ---- the octets after a gap
 
 ltb_tells : (a b : ℕ) → ((ltb a b ≡ true) × (a < b)) ⊎ ((ltb a b ≡ false) × (b ≤ a))
 ltb_tells a b = by_test (ltb a b) refl
@@ -148,7 +148,7 @@ octets_at_place-reads (s ∷ ss) o w e x h =
     let c = bind_ok (fields_at ss b.0.1) (λ others. Ok (record { element = s.element; octets = b.0.0 } ∷ others.0, others.1)) x b.2 in
     rw (← ok_is (record { element = s.element; octets = b.0.0 } ∷ c.0.0, c.0.1) x c.2) (sought-more s ss (octets_at_place-reads ss) o w e (same_element s.element e) a.0 b.0 c.0 a.1 b.1 c.1)
 
--- a place is behind some of the gaps
+-- a place is after some of the gaps
 abbrev Inside : List Spec → Type 0
 Inside ss = (o : ℕ) (e : ElementId) (p : FieldPlace) → place_from o ss e ≡ Some p → p.before ≤ length (gaps_from o ss)
 

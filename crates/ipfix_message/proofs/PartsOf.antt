@@ -83,7 +83,7 @@ knows-keys (e ∷ es) d = by_test (eqb d e.0) (knows-keys es d)
 
 -- ---- domains after a message
 
--- one domain has these events, and comes behind the others where it is new
+-- one domain has these events, and comes after the others where it is new
 pub record Steps (ds : History) (domain : ℕ) (es : List Event) (news : History) : Type 0 where
   pub knows_at : (q : ℕ) → knows news q ≡ (knows ds q || eqb q domain)
   pub events_at : (q : ℕ) → events_in news q ≡ cond (eqb q domain) es (events_in ds q)
@@ -124,7 +124,7 @@ no_event = []
 abbrev one_empty : Option (List Event)
 one_empty = Some []
 
--- the domains with a new one behind them
+-- the domains with a new one after them
 knows-new : (ds : History) (domain q : ℕ) → knows (ds ++ (domain, []) ∷ []) q ≡ (knows ds q || eqb q domain)
 knows-new [] domain q = by_test (eqb q domain)
   where

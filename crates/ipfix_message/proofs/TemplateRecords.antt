@@ -165,7 +165,7 @@ event_at-faults kind w f fits room =
 
 -- ---- a record that was read
 
--- behind its id and its field count
+-- after its id and its field count
 record RecordSpelled (kind : TemplateKind) (id count : ℕ) (w : List ℕ) (e : Event) (r : List ℕ) : Type 0 where
   text : List ℕ
   whole : w ≡ text ++ r
@@ -483,7 +483,7 @@ err_of : (r : Result (Event × List ℕ) MessageFault) (f : MessageFault) → re
 err_of (Ok x) f h = absurd cc
 err_of (Err e) f h = let same : e ≡ f = cc in ap (λ (x : MessageFault). Err x) same
 
--- the fault behind the last record is the first that fits
+-- the fault after the last record is the first that fits
 pub fault_after_events-first : (kind : TemplateKind) (rest : List ℕ) (f : MessageFault) → IsOctets rest → fault_after_events kind rest ≡ Some f ↔ ((¬ IsPadding rest) × FaultAt kind rest f)
 fault_after_events-first kind rest f fits = (
   λ h. elim (chosen (is_padding rest) None (result_err (event_at kind rest)) (Some f) h) [

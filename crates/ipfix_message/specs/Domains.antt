@@ -31,7 +31,7 @@ events_in ds domain = unwrap_or (lookup (nat_eq domain) ds) []
 abbrev pub template_for : History → ℕ → ℕ → Option Template
 template_for ds domain id = option_and_then (λ es. in_force es id) (lookup (nat_eq domain) ds)
 
--- one of the domains alone, if it has appeared
+-- only one of the domains, if it has appeared
 abbrev pub alone : History → ℕ → History
 alone ds domain = elim (lookup (nat_eq domain) ds) [ None ↦ [] | Some es ↦ (domain, es) ∷ [] ]
 

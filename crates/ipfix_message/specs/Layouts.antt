@@ -62,7 +62,7 @@ pub record IsLayout (l : Layout) (specs : List Spec) : Type 0 where
 abbrev pub skip : ℕ → List ℕ → Read (List ℕ)
 skip n w = if nat_lt (length w) n then Err RecordCut else Ok (drop n w)
 
--- what follows a gap and the field of variable length behind it
+-- what follows a gap and the field of variable length after it
 abbrev pub after_gap : ℕ → List ℕ → Read (List ℕ)
 after_gap gap w = skip gap w >>= λ rest. value_at VARIABLE_WIDTH rest >>= λ x. Ok x.1
 

@@ -12,7 +12,7 @@ spot key place = record { key = key; place = place }
 abbrev pub vacant_spot : Spot
 vacant_spot = spot VACANT (record { before = 0; offset = 0; width = 0 })
 
--- the spot in which alone the element of a key may stand
+-- the only spot in which the element of a key may be
 abbrev pub spot_of : List Spot → ℕ → Spot
 spot_of spots key = slice_index_or spots (key % SPOTS) vacant_spot
 

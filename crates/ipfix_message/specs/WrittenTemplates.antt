@@ -38,7 +38,7 @@ kind_of t = if t.scope == 0 then Plain else Options
 unfoldable pub template_octets : Template → List ℕ
 template_octets t = big_bytes 2 t.id ++ (big_bytes 2 (length t.specs) ++ (scope_octets (kind_of t) t.scope ++ flat_map spec_octets t.specs))
 
--- a set of this template alone
+-- a set of only this template
 abbrev pub template_set : Template → List ℕ
 template_set t = set_octets (set_id_of (kind_of t)) (length (template_octets t)) ++ template_octets t
 

@@ -141,7 +141,7 @@ impl Domains {
         self.known.len() < MAX_DOMAINS
     }
 
-    /// One of the domains alone, with the templates that are in force in it, or none if it has not
+    /// Only one of the domains, with the templates that are in force in it, or none if it has not
     /// appeared. What is decoded there changes nothing here.
     pub fn alone(&self, alloc: Global, domain: u32) -> Result<Domains, AllocError>
         ensures spent { IfOk result (λ d. d.spent ≡ self.now.spent) }

@@ -38,7 +38,7 @@ fn skip(count: u32, octets: &[u8]) -> Option<&[u8]>
     Some(rest)
 }
 
-// What follows a gap and the field of variable length behind it.
+// What follows a gap and the field of variable length after it.
 fn after_gap(gap: u32, octets: &[u8]) -> Option<&[u8]>
     ensures { unless_cut (option_map (λ r. r.now) result) ≡ Layouts.after_gap gap octets.now }
 {
@@ -93,7 +93,7 @@ impl Layout {
     }
 
     /// The octets of the first field of an element in a record. Elements that the template doesn't
-    /// have cost a search alone.
+    /// have cost only a search.
     #[inline(always)]
     pub fn find<'a>(&self, element: ElementId, octets: &'a [u8]) -> Option<&'a [u8]>
         requires { (specs : List Spec) × IsLayout self.now specs }

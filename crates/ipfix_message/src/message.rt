@@ -91,7 +91,7 @@ impl Decoded {
     }
 }
 
-// The octets behind a message's header, which gives the message's length in 16 bits.
+// The octets after a message's header, which gives the message's length in 16 bits.
 #[tactic(auto, using(crate::proofs::History::header_is_whole, crate::proofs::History::header_has_length))]
 fn behind_header<'a>(header: &Header, message: &'a [u8]) -> &'a [u8]
     requires { Domains.message_header message.now ≡ Ok header.now }

@@ -40,7 +40,7 @@ struct Spot {
 /// Where the first field of each element stands.
 #[derive(Debug, Drop)]
 pub struct Places {
-    // Each element may stand in one of them alone, by its key, and the first that comes takes it.
+    // Each element may be in only one of them, by its key, and the first that comes takes it.
     spots: [Spot; SPOTS],
     // By their keys, all of them.
     all: BTreeMap<u64, FieldPlace>,

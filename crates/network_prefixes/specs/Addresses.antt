@@ -19,7 +19,7 @@ abbrev pub address_bits : IpAddr → AddressBits
 address_bits (V4 a) = bits_of_width 32 (ipv4_bits a)
 address_bits (V6 a) = if is_mapped a then bits_of_width 32 (from_be_bytes w32 (low_octets a)) else bits_of_width 128 (ipv6_bits a)
 
--- how many bits are behind the first ones
+-- how many bits are after the first ones
 abbrev pub bits_behind : AddressBits → ℕ → ℕ
 bits_behind a length = a.width - length
 
@@ -27,6 +27,6 @@ bits_behind a length = a.width - length
 abbrev pub first_bits : AddressBits → ℕ → ℕ
 first_bits a length = a.bits / 2 ^ bits_behind a length
 
--- all bits behind them are 0
+-- all bits after them are 0
 abbrev pub EndsBehind : AddressBits → ℕ → Type 0
 EndsBehind a length = first_bits a length * 2 ^ bits_behind a length ≡ a.bits

@@ -16,12 +16,12 @@ pub record IsAddressText (text : List ℕ) (bits : AddressBits) : Type 0 where
   pub spelled : IsIpText text address
   pub has : bits ≡ address_bits address
 
--- an address alone is all of its bits
+-- an address without a slash is all of its bits
 pub record IsWholeAddress (text : List ℕ) (p : Prefix) : Type 0 where
   pub address : IsAddressText text p.address
   pub all : p.length ≡ p.address.width
 
--- an address and a decimal number of bits, behind which all bits are 0
+-- an address and a decimal number of bits, after which all bits are 0
 pub record IsPrefixSpelled (text bits : List ℕ) (p : Prefix) : Type 0 where
   pub address : IsAddressText text p.address
   pub length : bits ≡ decimal p.length

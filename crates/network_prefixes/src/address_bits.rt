@@ -44,14 +44,14 @@ impl AddressBits {
         shifted_right(self.bits, self.behind(length))
     }
 
-    /// Whether all bits behind the first ones are 0.
+    /// Whether all bits after the first ones are 0.
     pub fn ends_behind(self, length: u8) -> bool
         ensures { IsTrue result ↔ EndsBehind self length }
     {
         has_zeros_behind(self.bits, self.behind(length))
     }
 
-    // How many bits are behind the first ones.
+    // How many bits are after the first ones.
     fn behind(self, length: u8) -> u32
         ensures { result ≡ bits_behind self length }
     {

@@ -24,8 +24,8 @@ pub struct Prefix {
 }
 
 impl Prefix {
-    /// The prefix that a word spells: an address alone, or an address, a slash and a decimal number of
-    /// bits, behind which all bits are 0, as in 192.0.2.0/24. An IPv4-mapped IPv6 address counts as the
+    /// The prefix that a word spells: only an address, or an address, a slash and a decimal number of
+    /// bits, after which all bits are 0, as in 192.0.2.0/24. An IPv4-mapped IPv6 address counts as the
     /// IPv4 address in it, with its 32 bits.
     pub fn parse(word: &str) -> Result<Prefix, NotAPrefix>
         ensures { Parses IsPrefixWord word.now result }
