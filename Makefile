@@ -9,7 +9,10 @@ bin/collectd: crates.txt HANDLES $(shell find crates \( -name out -o -name must-
 # README's first example, run without any proof.
 try: ; @cd crates/collectd_cli && rt try -- dump < ../../examples/one-flow.ipfix
 
-.PHONY: try test edits bench compare interop refusals hostile soak scale install dist deb packages slim clean
+# One crate, and those below it: make check CRATE=network_prefixes
+check: ; @cd crates/$(CRATE) && rt check
+
+.PHONY: try check test edits bench compare interop refusals hostile soak scale install dist deb packages slim clean
 test: ; @tests/gate/run
 
 edits: ; @tests/more/try_edits
