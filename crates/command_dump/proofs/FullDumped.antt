@@ -7,7 +7,7 @@ use Rattle.std.specs.Prelude.{◌↔◌, ◌⊎◌, IsTrue, is_none}
 use Rattle.ipfix_message.specs.declared.record.DataRecord.{DataRecord}
 use Rattle.ipfix_session.specs.Sources.{SourceView}
 use Rattle.ipfix_session.specs.declared.report.FullReport.{FullReport}
-use Rattle.ipfix_dump.specs.Dumped.{DumpsInFullBy}
+use Rattle.ipfix_dump.specs.Dumped.{DumpsInFull}
 use Rattle.report_sessions.specs.Spotless.{IsSpotlessSession}
 use Rattle.report_writing.specs.Statuses.{number_of}
 use Rattle.report_writing.specs.declared.status.Status.{Status}
@@ -35,7 +35,7 @@ tested_plain false full passed is tested = rw tested (none_tested full.report.fa
 
 -- what was written is still there when it is flushed
 pub flushed : {S : Type 0} (seen : S → SourceView) (line_of : DataRecord → List ℕ) (before after : S) (old written new : Option (List ℕ)) (full : FullReport)
-    → DumpsInFullBy line_of seen before after old written full → Keeps written new → DumpsInFullBy line_of seen before after old new full
+    → DumpsInFull line_of seen before after old written full → Keeps written new → DumpsInFull line_of seen before after old new full
 flushed seen line_of before after old written new full d kept =
     record {
       dumps = record { records = d.dumps.records; given = d.dumps.given; written = Appends-kept old written new _ d.dumps.written kept };

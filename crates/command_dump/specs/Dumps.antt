@@ -5,7 +5,7 @@ use Rattle.ipfix_session.specs.Sources.{SourceView}
 use Rattle.ipfix_session.specs.declared.report.FullReport.{FullReport}
 use Rattle.report_writing.specs.Statuses.{number_of}
 use Rattle.report_writing.specs.declared.status.Status.TheVariants as ends
-use Rattle.ipfix_dump.specs.Dumped.{DumpsAllBy, DumpsInFullBy}
+use Rattle.ipfix_dump.specs.Dumped.{DumpsAll, DumpsInFull}
 use Rattle.ipfix_dump.specs.declared.fault.DumpFault.{DumpFault}
 use Rattle.command_dump.specs.DumpFaultLines.{dump_fault_line}
 use Rattle.report_sessions.specs.Spotless.{IsSpotlessSession}
@@ -25,7 +25,7 @@ module _ {S : Type 0} (line_of : DataRecord → List ℕ) (seen : S → SourceVi
   -- all was well exactly if it was
   pub record DumpsToEnd (IsTold : FullReport → Type 0) : Type 0 where
     pub full : FullReport
-    pub dumps : DumpsInFullBy line_of seen before after old new full
+    pub dumps : DumpsInFull line_of seen before after old new full
     pub told : IsTold full
     pub status_is : (status ≡ number_of ends.Well) ↔ EndedWell strict full
 
@@ -33,7 +33,7 @@ module _ {S : Type 0} (line_of : DataRecord → List ℕ) (seen : S → SourceVi
   pub record RunsDump (lines_of : FullReport → List ℕ) (AreTold : List ℕ → Type 0) : Type 0 where
     pub statuses : (status ≡ number_of ends.Well) ⊎ (status ≡ number_of ends.SessionFault) ⊎ (status ≡ number_of ends.Failed)
     -- if a source tells its octets, the lines of all its records were written
-    pub all : status ≡ number_of ends.Well → DumpsAllBy line_of (seen before).text old new
+    pub all : status ≡ number_of ends.Well → DumpsAll line_of (seen before).text old new
     pub dumped : status ≢ number_of ends.Failed → DumpsToEnd (λ full. AreTold (lines_of full))
     -- only the line of a fault was told
     pub failed : status ≡ number_of ends.Failed → TellsDumpFault AreTold

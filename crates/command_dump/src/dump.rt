@@ -31,7 +31,7 @@ pub fn run_dump<S: Source, W: Write, E: WriteLines>(
     out: &mut W,
     err: &mut E,
 ) -> u8
-    ensures runs { RunsDump dump_line S.seen source.old source.new
+    ensures runs { RunsDump (dump_line []) S.seen source.old source.new
         (W.contents out.old) (W.contents out.new) result false
         (λ full. report_lines (full.report ∷ []))
         (AreToldTo E.contents E.failed err.old err.new) }

@@ -1,7 +1,7 @@
 //! Dumping a source to its end, and the status that says how it ended.
 
 ghost use Rattle.std.specs.Prelude.{◌≡◌, ◌⊎◌, ◌↔◌, [], ◌∷◌, IfOk, IsTrue};
-ghost use Rattle.ipfix_dump.specs.Dumped.{DumpsInFullBy, line_in};
+ghost use Rattle.ipfix_dump.specs.Dumped.{DumpsInFull, line_in};
 ghost use Rattle.report_writing.specs.Statuses.{number_of};
 ghost use Rattle.report_writing.specs.Told.{AreToldTo};
 ghost use Rattle.report_sessions.specs.ToldLines.{told_lines};
@@ -84,7 +84,7 @@ fn dump_whole<S: Source, W: Write>(
     out: &mut W,
 ) -> Result<FullReport, DumpFault>
     ensures { IfOk result (λ full.
-        DumpsInFullBy (line_in options.now.form options.now.elements.now) S.seen
+        DumpsInFull (line_in options.now.form options.now.elements.now) S.seen
         source.old source.new (W.contents out.old) (W.contents out.new) full) }
 {
     let full = dump_with(alloc, options, source, out)?;

@@ -20,13 +20,13 @@ boolean_text true = codes "true"
 boolean_text false = codes "false"
 
 -- as a dump's lines of text have it: an element that is built in as ever
-abbrev pub text_under : ElementKind → List ℕ → List ℕ
-text_under (Plain kind) octets = value_text kind octets
-text_under Boolean octets = option_map_or boolean_text (boolean_in octets) (misfit_text octets)
-text_under (Signed width) octets = option_map_or signed_decimal (signed_in width octets) (misfit_text octets)
-text_under Micros octets = option_map_or decimal (micros_in octets) (misfit_text octets)
-text_under Nanos octets = option_map_or decimal (nanos_in octets) (misfit_text octets)
-text_under Text octets = option_map_or quoted_text (string_in octets) (misfit_text octets)
+abbrev pub element_text : ElementKind → List ℕ → List ℕ
+element_text (Plain kind) octets = value_text kind octets
+element_text Boolean octets = option_map_or boolean_text (boolean_in octets) (misfit_text octets)
+element_text (Signed width) octets = option_map_or signed_decimal (signed_in width octets) (misfit_text octets)
+element_text Micros octets = option_map_or decimal (micros_in octets) (misfit_text octets)
+element_text Nanos octets = option_map_or decimal (nanos_in octets) (misfit_text octets)
+element_text Text octets = option_map_or quoted_text (string_in octets) (misfit_text octets)
 
 -- the digits of a number that every reader of JSON holds exactly (RFC 7493, section 2.2) as they are, and else between
 -- quotation marks
@@ -37,10 +37,10 @@ abbrev pub json_signed : ℤ → List ℕ
 json_signed n = digits_by (is_exact (unsigned_abs n)) (signed_decimal n)
 
 -- as a value of JSON
-abbrev pub json_under : ElementKind → List ℕ → List ℕ
-json_under (Plain kind) octets = json_value kind octets
-json_under Boolean octets = option_map_or boolean_text (boolean_in octets) (in_quotes (misfit_text octets))
-json_under (Signed width) octets = option_map_or json_signed (signed_in width octets) (in_quotes (misfit_text octets))
-json_under Micros octets = option_map_or json_number (micros_in octets) (in_quotes (misfit_text octets))
-json_under Nanos octets = option_map_or json_number (nanos_in octets) (in_quotes (misfit_text octets))
-json_under Text octets = option_map_or json_string (string_in octets) (in_quotes (misfit_text octets))
+abbrev pub element_json : ElementKind → List ℕ → List ℕ
+element_json (Plain kind) octets = json_value kind octets
+element_json Boolean octets = option_map_or boolean_text (boolean_in octets) (in_quotes (misfit_text octets))
+element_json (Signed width) octets = option_map_or json_signed (signed_in width octets) (in_quotes (misfit_text octets))
+element_json Micros octets = option_map_or json_number (micros_in octets) (in_quotes (misfit_text octets))
+element_json Nanos octets = option_map_or json_number (nanos_in octets) (in_quotes (misfit_text octets))
+element_json Text octets = option_map_or json_string (string_in octets) (in_quotes (misfit_text octets))

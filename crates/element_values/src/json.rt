@@ -3,7 +3,7 @@
 ghost use Rattle.std.specs.Prelude.{◌≡◌, OnOk};
 ghost use Rattle.ipfix_elements.specs.JsonValues.{in_quotes, json_value};
 ghost use Rattle.ipfix_elements.specs.Writers.{Writes};
-ghost use Rattle.element_values.specs.FieldTexts.{digits_by, json_under, misfit_text};
+ghost use Rattle.element_values.specs.FieldTexts.{digits_by, element_json, misfit_text};
 
 use crate::instants::{read_micros, read_nanos};
 use crate::numbers::{read_boolean, read_signed};
@@ -19,7 +19,7 @@ use std::io::Write;
 /// 2^53 and more, addresses, and octets that are no value of the kind are strings. An `Err` is the
 /// writer's.
 pub fn write_json_value<W: Write>(kind: ElementKind, octets: &[u8], out: &mut W) -> io::Result<()>
-    ensures { OnOk result (Writes W.contents out.old out.new (json_under kind octets.now)) }
+    ensures { OnOk result (Writes W.contents out.old out.new (element_json kind octets.now)) }
 {
     match kind {
         ElementKind::Plain(kind) => write_plain(kind, octets, out),

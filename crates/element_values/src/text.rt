@@ -2,7 +2,7 @@
 
 ghost use Rattle.std.specs.Prelude.{◌≡◌, OnOk};
 ghost use Rattle.ipfix_elements.specs.Writers.{Writes};
-ghost use Rattle.element_values.specs.FieldTexts.{boolean_text as text_of, misfit_text, text_under};
+ghost use Rattle.element_values.specs.FieldTexts.{boolean_text as text_of, misfit_text, element_text};
 
 use crate::instants::{read_micros, read_nanos};
 use crate::numbers::{read_boolean, read_signed};
@@ -18,7 +18,7 @@ use std::io::Write;
 /// [`ipfix_elements::write_value`] does. Octets that are no value of the kind are written as `?0x` and
 /// two hexadecimal digits each. An `Err` is the writer's.
 pub fn write_value<W: Write>(kind: ElementKind, octets: &[u8], out: &mut W) -> io::Result<()>
-    ensures { OnOk result (Writes W.contents out.old out.new (text_under kind octets.now)) }
+    ensures { OnOk result (Writes W.contents out.old out.new (element_text kind octets.now)) }
 {
     match kind {
         ElementKind::Plain(kind) => ipfix_elements::write_value(kind, octets, out),

@@ -1,5 +1,5 @@
 pub mod Writing
+pub mod FieldTexts
 mod InFull
 mod Joined
-pub mod Under
 mod Kept

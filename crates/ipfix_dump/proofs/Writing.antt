@@ -8,7 +8,7 @@ use Rattle.ipfix_message.specs.declared.record.DataRecord.{DataRecord}
 use Rattle.ipfix_session.specs.declared.report.SessionReport.{SessionReport}
 use Rattle.ipfix_session.specs.Sources.{SourceView}
 use Rattle.ipfix_session.proofs.Driven.{given_all_of}
-use Rattle.ipfix_dump.specs.Dumped.{DumpsBy, DumpsAllBy}
+use Rattle.ipfix_dump.specs.Dumped.{Dumps, DumpsAll}
 
 module _ {K N : Type 0} (line_of : K → DataRecord → List ℕ) (name : K → N) (contents : K → Option (List ℕ)) where
   -- a record's line is appended to the same writer, and the lines of others stay as they were
@@ -26,7 +26,7 @@ module _ {K N : Type 0} (line_of : K → DataRecord → List ℕ) (name : K → 
 -- ---- a dump without a fault
 
 pub dumps_all : {S : Type 0} (seen : S → SourceView) (line_of : DataRecord → List ℕ) (before after : S) (old new : Option (List ℕ)) (r : SessionReport) → ((seen after).ended ≡ true → ForSome (seen after).text (λ xs. xs ≡ []))
-    → DumpsBy line_of seen before after old new r → r.fault ≡ None → (held : Option (List ℕ)) → (seen before).text ≡ held → DumpsAllBy line_of held old new
+    → Dumps line_of seen before after old new r → r.fault ≡ None → (held : Option (List ℕ)) → (seen before).text ≡ held → DumpsAll line_of held old new
 dumps_all seen line_of before after old new r at_end d none None is = tt
 dumps_all seen line_of before after old new r at_end d none (Some whole) is =
     let all = given_all_of seen _ before after r d.records whole at_end d.given none is in

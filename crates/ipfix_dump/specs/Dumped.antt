@@ -12,35 +12,31 @@ use Rattle.ipfix_session.specs.Drives.{IsGiven}
 use Rattle.ipfix_session.specs.Places.{ReportsInFull}
 use Rattle.ipfix_session.specs.declared.driver.TheConstants.{READ_LIMIT}
 use Rattle.element_registry.specs.Registries.{Known}
-use Rattle.ipfix_dump.specs.DumpLines.{dump_line, dump_line_under}
-use Rattle.ipfix_dump.specs.JsonLines.{json_line_under}
+use Rattle.ipfix_dump.specs.DumpLines.{dump_line}
+use Rattle.ipfix_dump.specs.JsonLines.{json_line}
 use Rattle.ipfix_dump.specs.declared.options.Form.{Form}
 use Rattle.ipfix_dump.specs.declared.options.Form.TheVariants.{Text, Json}
 
--- the line of a record in a form, with the elements of files
+-- the line of a record in a form
 abbrev pub line_in : Form → List Known → DataRecord → List ℕ
-line_in Text = dump_line_under
-line_in Json = json_line_under
+line_in Text = dump_line
+line_in Json = json_line
 
 -- with the line of a record
 module _ (line_of : DataRecord → List ℕ) where
   -- a source gave octets that have these records, as the report tells, and their lines were written
-  pub record DumpsBy {S : Type 0} (seen : S → SourceView) (before after : S) (old new : Option (List ℕ)) (report : SessionReport) : Type 0 where
+  pub record Dumps {S : Type 0} (seen : S → SourceView) (before after : S) (old new : Option (List ℕ)) (report : SessionReport) : Type 0 where
     pub records : List DataRecord
     pub given : IsGiven seen READ_LIMIT before after report records
     pub written : Appends old new (flat_map line_of records)
 
   -- the same, and the full report is of these messages: what each domain passed over, what is unaccounted for in it, and
   -- where the first message begins that doesn't count
-  pub record DumpsInFullBy {S : Type 0} (seen : S → SourceView) (before after : S) (old new : Option (List ℕ)) (full : FullReport) : Type 0 where
-    pub dumps : DumpsBy seen before after old new full.report
+  pub record DumpsInFull {S : Type 0} (seen : S → SourceView) (before after : S) (old new : Option (List ℕ)) (full : FullReport) : Type 0 where
+    pub dumps : Dumps seen before after old new full.report
     pub in_full : ReportsInFull full dumps.given.counted (length dumps.records)
 
   -- if a source tells its octets, the lines of all of them were written, and no fault was met
-  abbrev pub DumpsAllBy : Option (List ℕ) → Option (List ℕ) → Option (List ℕ) → Type 0
-  DumpsAllBy None old new = Unit {0}
-  DumpsAllBy (Some whole) old new = (stop_of whole ≡ Clean) × Appends old new (flat_map line_of (records_of whole))
-
--- by lines of text
-abbrev pub Dumps : {S : Type 0} → (S → SourceView) → S → S → Option (List ℕ) → Option (List ℕ) → SessionReport → Type 0
-Dumps = DumpsBy dump_line
+  abbrev pub DumpsAll : Option (List ℕ) → Option (List ℕ) → Option (List ℕ) → Type 0
+  DumpsAll None old new = Unit {0}
+  DumpsAll (Some whole) old new = (stop_of whole ≡ Clean) × Appends old new (flat_map line_of (records_of whole))

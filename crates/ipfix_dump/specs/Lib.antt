@@ -5,3 +5,4 @@ pub mod Dumped
 pub mod Faults
 -- What only inner functions and proofs need.
 pub mod LineParts
+pub mod Lines

@@ -1,9 +1,12 @@
 -- The parts of a line that several records share.
-use Rattle.std.specs.Prelude.{◌≡◌, ℕ, List, ◌++◌, codes, Option, Some}
+use Rattle.std.specs.Prelude.{◌≡◌, ℕ, Bool, List, ◌++◌, codes, Option, Some}
+use Rattle.std.specs.List.{flat_map}
 use Rattle.ipfix_wire.specs.declared.specifier.ElementId.{ElementId}
+use Rattle.ipfix_message.specs.Fields.{Field}
 use Rattle.ipfix_message.specs.declared.record.DataRecord.{DataRecord}
 use Rattle.element_registry.specs.Registries.{Known, element_kind, element_name}
-use Rattle.ipfix_dump.specs.DumpLines.{labelled}
+use Rattle.ipfix_dump.specs.DumpLines.{field_text, labelled}
+use Rattle.ipfix_dump.specs.JsonLines.{comma_if, json_field, json_fields}
 use Rattle.ipfix_dump.specs.declared.options.Form.{Form}
 use Rattle.ipfix_dump.specs.declared.options.Form.TheVariants.{Text, Json}
 use Rattle.ipfix_dump.specs.declared.label.Label.{Label}
@@ -41,3 +44,13 @@ IsLabel form known e label = (label.kind ≡ element_kind known e) × (label.tex
 -- what is kept is the label of the element that it says
 abbrev pub IsKept : Form → List Known → Option Label → Type 0
 IsKept form known kept = (label : Label) → kept ≡ Some label → IsLabel form known label.element label
+
+-- fields in order; `later` tells whether another one stands before these
+abbrev pub fields_text : Form → List Known → Bool → List Field → List ℕ
+fields_text Text known later fs = flat_map (field_text known) fs
+fields_text Json known later fs = json_fields known later fs
+
+-- one of them
+abbrev pub next_field : Form → List Known → Bool → Field → List ℕ
+next_field Text known later f = field_text known f
+next_field Json known later f = comma_if later ++ json_field known f

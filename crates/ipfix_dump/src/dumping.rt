@@ -1,14 +1,14 @@
 //! Dumping a source: a line for each data record.
 
-ghost use Rattle.std.specs.Prelude.{IfOk};
-ghost use Rattle.ipfix_dump.specs.Dumped.{Dumps, DumpsInFullBy, line_in};
+ghost use Rattle.std.specs.Prelude.{[], IfOk};
+ghost use Rattle.ipfix_dump.specs.DumpLines.{dump_line};
+ghost use Rattle.ipfix_dump.specs.Dumped.{Dumps, DumpsInFull, line_in};
+ghost use Rattle.ipfix_dump.specs.Lines.{line_of};
 
 use crate::fault::DumpFault;
-use crate::json_line::JsonLine;
 use crate::line::Line;
 use crate::line_sink::LineSink;
 use crate::options::{DumpOptions, Form};
-use crate::record_line::RecordLine;
 use element_registry::Elements;
 use ipfix_session::{FullReport, READ_LIMIT, SessionReport, Source, drive_in_full};
 use std::alloc::Global;
@@ -26,7 +26,8 @@ pub fn dump<S: Source, W: Write>(
     out: &mut W,
 ) -> Result<SessionReport, DumpFault>
     ensures { IfOk result (λ report.
-        Dumps S.seen source.old source.new (W.contents out.old) (W.contents out.new) report) }
+        Dumps (dump_line []) S.seen source.old source.new
+        (W.contents out.old) (W.contents out.new) report) }
 {
     let elements = Elements::built_in(alloc);
     let options = DumpOptions {
@@ -46,24 +47,20 @@ pub fn dump_with<S: Source, W: Write>(
     out: &mut W,
 ) -> Result<FullReport, DumpFault>
     ensures { IfOk result (λ full.
-        DumpsInFullBy (line_in options.now.form options.now.elements.now) S.seen
+        DumpsInFull (line_in options.now.form options.now.elements.now) S.seen
         source.old source.new (W.contents out.old) (W.contents out.new) full) }
 {
-    let elements = options.elements;
-    match options.form {
-        Form::Text => dump_by(alloc, &mut Line::new(alloc, elements), source, out),
-        Form::Json => dump_by(alloc, &mut JsonLine::new(alloc, elements), source, out),
-    }
+    dump_lines(alloc, &mut Line::new(alloc, options), source, out)
 }
 
-// Does the same with lines that `line` makes.
-fn dump_by<L: RecordLine, S: Source, W: Write>(
+// Does the same with the lines that `line` makes.
+fn dump_lines<S: Source, W: Write>(
     alloc: Global,
-    line: &mut L,
+    line: &mut Line,
     source: &mut S,
     out: &mut W,
 ) -> Result<FullReport, DumpFault>
-    ensures { IfOk result (λ full. DumpsInFullBy (L.line_of line.old) S.seen source.old source.new
+    ensures { IfOk result (λ full. DumpsInFull (line_of line.old) S.seen source.old source.new
         (W.contents out.old) (W.contents out.new) full) }
 {
     let mut sink = LineSink::new(line, out);

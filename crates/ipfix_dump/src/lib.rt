@@ -4,16 +4,13 @@
 mod dumping;
 mod fault;
 mod front;
-mod json_line;
 mod label;
 mod labels;
 pub mod laws;
 mod line;
 mod line_octets;
-mod line_parts;
 mod line_sink;
 mod options;
-mod record_line;
 mod text;
 
 pub use dumping::{dump, dump_with};

@@ -3,7 +3,7 @@
 ghost use Rattle.std.specs.Prelude.{◌≡◌, ◌++◌, IfSome, OnOk};
 ghost use Rattle.ipfix_elements.specs.JsonValues.{json_cell};
 ghost use Rattle.ipfix_elements.specs.Texts.{cell_text};
-ghost use Rattle.element_values.specs.FieldTexts.{json_under, text_under};
+ghost use Rattle.element_values.specs.FieldTexts.{element_json, element_text};
 ghost use Rattle.ipfix_dump.specs.DumpLines.{labelled};
 
 use crate::line_octets::LineOctets;
@@ -29,7 +29,7 @@ pub fn append_value(
     octets: &[u8],
     out: &mut LineOctets,
 ) -> Result<(), AllocError>
-    ensures { OnOk result (out.new ≡ out.old ++ text_under kind octets.now) }
+    ensures { OnOk result (out.new ≡ out.old ++ element_text kind octets.now) }
 {
     match cell_of(kind, octets) {
         Some(Cell::Number(number)) => out.append_number(number),
@@ -46,7 +46,7 @@ pub fn append_json_value(
     octets: &[u8],
     out: &mut LineOctets,
 ) -> Result<(), AllocError>
-    ensures { OnOk result (out.new ≡ out.old ++ json_under kind octets.now) }
+    ensures { OnOk result (out.new ≡ out.old ++ element_json kind octets.now) }
 {
     match cell_of(kind, octets) {
         Some(Cell::Number(number)) if number < EXACT_LIMIT => out.append_number(number),
@@ -63,8 +63,8 @@ pub fn append_json_value(
 // for values of any kind: an `io::Result` has 96 octets, which are copied where a call answers one.)
 #[inline(always)]
 fn cell_of(kind: ElementKind, octets: &[u8]) -> Option<Cell>
-    ensures text { IfSome result (λ cell. text_under kind octets.now ≡ cell_text cell) }
-    ensures json { IfSome result (λ cell. json_under kind octets.now ≡ json_cell cell) }
+    ensures text { IfSome result (λ cell. element_text kind octets.now ≡ cell_text cell) }
+    ensures json { IfSome result (λ cell. element_json kind octets.now ≡ json_cell cell) }
 {
     match kind {
         ElementKind::Plain(kind) => read_cell(kind, octets),
