@@ -71,9 +71,9 @@ of_listed : (known : List Known) (t : List ℕ) (e : ElementId) (o : Option (Lis
 of_listed known t e None is good h = of_file known t e good h
 of_listed known t e (Some n) is good h = before known t e (named_only t e (inl (is ∙ h)))
 
-pub named_under : (known : List Known) (t : List ℕ) (e : ElementId) → IsRegistry known → IsElementName known e t → element_by_name known t ≡ Some e
-named_under known t e good (inl h) = of_listed known t e (name_of e) refl good h
-named_under known t e good (inr h) = before known t e (named_only t e (inr h))
+pub name_read : (known : List Known) (t : List ℕ) (e : ElementId) → IsRegistry known → IsElementName known e t → element_by_name known t ≡ Some e
+name_read known t e good (inl h) = of_listed known t e (name_of e) refl good h
+name_read known t e good (inr h) = before known t e (named_only t e (inr h))
 
 pub written_name : (known : List Known) (e : ElementId) → IsElement e → IsElementName known e (element_name known e)
 written_name known e fits =
@@ -82,12 +82,12 @@ written_name known e fits =
       | inr name ↦ inl (name.1 ∙ ap (λ (n : List ℕ). Some n) (sym (ap (λ (o : Option (List ℕ)). unwrap_or o (numbered_text e)) name.1)))
     ]
 
-pub written_under : (known : List Known) (e : ElementId) → IsRegistry known → IsElement e → element_by_name known (element_name known e) ≡ Some e
-written_under known e good fits = named_under known (element_name known e) e good (written_name known e fits)
+pub written_read : (known : List Known) (e : ElementId) → IsRegistry known → IsElement e → element_by_name known (element_name known e) ≡ Some e
+written_read known e good fits = name_read known (element_name known e) e good (written_name known e fits)
 
 pub written_apart : (known : List Known) (d e : ElementId) → IsRegistry known → IsElement d → IsElement e → element_name known d ≡ element_name known e → d ≡ e
 written_apart known d e good fits_d fits_e same =
-    same_Some d e (sym (written_under known d good fits_d) ∙ ap (element_by_name known) same ∙ written_under known e good fits_e)
+    same_Some d e (sym (written_read known d good fits_d) ∙ ap (element_by_name known) same ∙ written_read known e good fits_e)
 
 -- ---- what is found has the name
 
@@ -122,5 +122,5 @@ so_either known t e None is good h =
     let at = mapped (λ (k : Known). k.element) (find (is_named t) known) e h in
     subst (λ (d : ElementId). IsElementName known d t) at.2 (so_behind known t at.0 good at.1)
 
-pub named_so_under : (known : List Known) (t : List ℕ) (e : ElementId) → IsRegistry known → element_by_name known t ≡ Some e → IsElementName known e t
-named_so_under known t e good h = so_either known t e (element_named t) refl good h
+pub name_found : (known : List Known) (t : List ℕ) (e : ElementId) → IsRegistry known → element_by_name known t ≡ Some e → IsElementName known e t
+name_found known t e good h = so_either known t e (element_named t) refl good h

@@ -4,5 +4,6 @@ pub mod Faults
 pub mod Types
 pub mod Rows
 pub mod Files
+pub mod Laws
 -- What only inner functions and proofs need.
 pub mod Places

@@ -45,6 +45,10 @@ types =
     named (codes "float64") (Plain kinds.Octets) ∷
     []
 
+-- the kind of the first of these that has the name
+abbrev pub kind_among : List DataType → List ℕ → Option ElementKind
+kind_among ts text = option_map (λ t. t.kind) (find (λ t. bytes_eq t.name text) ts)
+
 -- the kind of a type's name, if it is known
 abbrev pub kind_named : List ℕ → Option ElementKind
-kind_named text = option_map (λ t. t.kind) (find (λ t. bytes_eq t.name text) types)
+kind_named text = kind_among types text

@@ -1,9 +1,9 @@
 //! Reading a file of elements.
 
-ghost use Rattle.std.specs.Prelude.{◌≡◌, map, is_some, OnOk, IfErr, Ok};
+ghost use Rattle.std.specs.Prelude.{◌≡◌, map, is_some};
 ghost use Rattle.std.specs.List.{list_any};
 ghost use Rattle.csv.specs.Records.{fields_of};
-ghost use Rattle.element_registry.specs.Faults.{Fails, fault_of};
+ghost use Rattle.element_registry.specs.Faults.{Gives};
 ghost use Rattle.element_registry.specs.Files.{GivesAt, IsOfBody, IsOfRows, IsOfText, with_row, with_rows};
 ghost use Rattle.element_registry.specs.Rows.{has_unknown_type as is_unknown};
 
@@ -92,9 +92,8 @@ fn add_row(
     columns: &Columns,
     row: &ByteRecord,
 ) -> Result<(), ElementsFault>
-    ensures ok { OnOk result (with_row columns.now elements.old (fields_of row.now) ≡ Ok elements.new) }
-    ensures fault { IfErr result (λ fault.
-        Fails fault (with_row columns.now elements.old (fields_of row.now))) }
+    ensures { Gives (λ _. elements.new) result
+        (with_row columns.now elements.old (fields_of row.now)) }
 {
     match read_entry(alloc, columns, row)? {
         Some(entry) => elements.add(entry),

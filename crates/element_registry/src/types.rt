@@ -1,9 +1,8 @@
 //! The names of types.
 
-ghost use Rattle.std.specs.Prelude.{◌≡◌, find, map, option_map};
-ghost use Rattle.std.specs.Str.{bytes_eq};
+ghost use Rattle.std.specs.Prelude.{◌≡◌, map};
 ghost use Rattle.element_registry.specs.Rows.{kind_of_type as kind_of};
-ghost use Rattle.element_registry.specs.Types.{kind_named as kind_in, shown_type};
+ghost use Rattle.element_registry.specs.Types.{kind_among, kind_named as kind_in, shown_type};
 
 use crate::kind::ElementKind;
 use ipfix_elements::{Kind, Width};
@@ -71,8 +70,7 @@ pub fn kind_named(name: &[u8]) -> Option<ElementKind>
 }
 
 fn find_type(mut types: &'static [DataType], name: &[u8]) -> Option<ElementKind>
-    ensures { result ≡ option_map (λ t. t.kind)
-        (find (λ t. bytes_eq t.name name.now) (map shown_type types.entry.now)) }
+    ensures { result ≡ kind_among (map shown_type types.entry.now) name.now }
 {
     while let [data_type, rest @ ..] = types {
         if data_type.name.as_bytes() == name {

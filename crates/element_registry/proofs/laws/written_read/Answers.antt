@@ -1,14 +1,10 @@
-use Rattle.element_registry.proofs.Registered.{named_so_under, named_under, written_under, written_apart}
+use Rattle.element_registry.proofs.Registered.{name_found, name_read, written_read, written_apart}
 use Rattle.element_registry.proofs.laws.written_read.Goals as goal
 
-pub returns-clause-found : goal.returns-clause-found
-returns-clause-found c = named_so_under
-
-pub returns-clause-only : goal.returns-clause-only
-returns-clause-only c = named_under
-
-pub returns-clause-written : goal.returns-clause-written
-returns-clause-written c = written_under
-
-pub returns-clause-apart : goal.returns-clause-apart
-returns-clause-apart c = written_apart
+pub returns : goal.returns
+returns c = λ known good. record {
+  found = λ t e. name_found known t e good;
+  only = λ t e. name_read known t e good;
+  written = λ e. written_read known e good;
+  apart = λ d e. written_apart known d e good;
+}
