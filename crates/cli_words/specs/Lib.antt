@@ -1,2 +1,3 @@
 -- What public contracts cite.
+pub mod Arguments
 pub mod Words

@@ -3,6 +3,7 @@
 
 mod arguments;
 mod bare_arguments;
+mod chosen;
 mod commands;
 mod format_words;
 mod listen_options;
@@ -11,7 +12,17 @@ mod showing;
 mod subcommands;
 mod words;
 
+pub use arguments::Argument;
+pub use bare_arguments::{FAULT, FLOW_FILES, TABLE_FILES, WORD};
+pub use chosen::Chosen;
 pub use format_words::{DUMP_FORMATS, TABLE_FORMATS};
+pub use listen_options::{
+    EVERY, FROM, IDLE, INTO, LISTEN, PEERS, RECORD_IDLE, RECORD_LISTEN, RECORD_SESSIONS, SESSIONS,
+    UDP,
+};
+pub use options::{
+    DUMP_FORMAT, ELEMENTS, PLAN, PROGRESS, RING, STRICT, TABLE_FORMAT, TIME, VERBOSE, WORKERS,
+};
 pub use showing::show;
 pub use subcommands::Subcommand;
 pub use words::matches_of;

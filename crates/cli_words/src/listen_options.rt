@@ -2,9 +2,14 @@
 
 use crate::arguments::{Argument, Due, LARGEST, Takes};
 
+// The words of the options of which `record` needs one at least.
+const LISTEN_WORD: &str = "listen";
+
+const UDP_WORD: &str = "udp";
+
 /// Where `tcp` accepts connections.
 pub const LISTEN: Argument = Argument {
-    word: "listen",
+    word: LISTEN_WORD,
     takes: Takes::Text("ADDR"),
     due: Due::Always,
     help: "The address and port to listen on",
@@ -36,17 +41,17 @@ pub const INTO: Argument = Argument {
 
 /// Where `record` accepts connections.
 pub const RECORD_LISTEN: Argument = Argument {
-    word: "listen",
+    word: LISTEN_WORD,
     takes: Takes::Text("ADDR"),
-    due: Due::Without("udp"),
+    due: Due::Without(UDP_WORD),
     help: "The address and port to listen on for connections",
 };
 
 /// Where `record` takes datagrams.
 pub const UDP: Argument = Argument {
-    word: "udp",
+    word: UDP_WORD,
     takes: Takes::Text("ADDR"),
-    due: Due::Without("listen"),
+    due: Due::Without(LISTEN_WORD),
     help: "The address and port to take datagrams at, beside connections or alone",
 };
 

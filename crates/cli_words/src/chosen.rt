@@ -1,0 +1,59 @@
+//! What the words of a command line say.
+
+ghost use Rattle.std.specs.Prelude.{◌≡◌};
+ghost use Rattle.cli_words.specs.Arguments.{AllTexts, Count, IsGiven, OneNumber, OneText, reading_of};
+
+use crate::arguments::Argument;
+use crate::subcommands::Subcommand;
+use clap::ArgMatches;
+
+/// A command that was given, and what was given for its arguments.
+#[derive(Clone, Copy)]
+pub struct Chosen<'a> {
+    pub command: Subcommand,
+    matches: &'a ArgMatches<'a>,
+}
+
+impl<'a> Chosen<'a> {
+    /// What matches say, if they name a command.
+    pub fn of(matches: &'a ArgMatches<'a>) -> Option<Self> {
+        let (word, matches) = matches.subcommand()?;
+        let command = Subcommand::named(word)?;
+        Some(Chosen { command, matches })
+    }
+
+    /// Whether an argument that takes nothing is given.
+    pub fn is_given(&self, argument: Argument) -> bool
+        requires { reading_of argument.takes ≡ IsGiven }
+    {
+        self.matches.get_flag(argument.word)
+    }
+
+    /// How often an argument that takes nothing is given.
+    pub fn count(&self, argument: Argument) -> u8
+        requires { reading_of argument.takes ≡ Count }
+    {
+        self.matches.get_count(argument.word)
+    }
+
+    /// The text of an argument that takes one.
+    pub fn text(&self, argument: Argument) -> Option<&'a str>
+        requires { reading_of argument.takes ≡ OneText }
+    {
+        self.matches.get_str(argument.word)
+    }
+
+    /// The texts of an argument that takes several, in their order. There are none if it is not given.
+    pub fn texts(&self, argument: Argument) -> &'a [&'a str]
+        requires { reading_of argument.takes ≡ AllTexts }
+    {
+        self.matches.get_strs(argument.word).unwrap_or(&[])
+    }
+
+    /// The number of an argument that takes one.
+    pub fn number(&self, argument: Argument) -> Option<u32>
+        requires { reading_of argument.takes ≡ OneNumber }
+    {
+        self.matches.get_one::<u32>(argument.word)
+    }
+}
