@@ -1,5 +1,5 @@
 -- How many records of a list lack what a plan asks of them: a time, a key or a counter.
-use Rattle.std.specs.Prelude.{ℕ, zero, suc, ◌+◌, ◌^◌, ◌<◌, ◌==◌, ◌&&◌, Bool, false, is_none, is_some, if◌then◌else◌, List, [], ◌∷◌, length, map, filter, All, Option, Some, None, option_map}
+use Rattle.std.specs.Prelude.{◌≡◌, ℕ, zero, suc, ◌+◌, ◌^◌, ◌<◌, ◌==◌, ◌&&◌, Bool, false, is_none, is_some, if◌then◌else◌, List, [], ◌∷◌, length, map, filter, All, Option, Some, None, option_map}
 use Rattle.std.specs.List.{range_with_len}
 use Rattle.ipfix_wire.specs.declared.specifier.ElementId.{ElementId}
 use Rattle.ipfix_elements.specs.declared.kind.Kind.{Kind}
@@ -77,3 +77,7 @@ pub record IsSmall (m : Missing) : Type 0 where
   pub end : m.end < 2 ^ 64
   pub keys : All (λ n. n < 2 ^ 64) m.keys
   pub counters : All (λ n. n < 2 ^ 64) m.counters
+
+-- what two lists lack is added, if that has a place in 64 bits
+abbrev pub AreAdded : Missing → Missing → Missing → Type 0
+AreAdded a b sum = IsSmall (missing_sum a b) → sum ≡ missing_sum a b

@@ -10,7 +10,7 @@ use Rattle.flow_table.specs.declared.tally.Tally.{Tally}
 use Rattle.flow_table.specs.declared.missing.Missing.{Missing}
 use Rattle.flow_table.specs.declared.partial.Partial.{Partial}
 use Rattle.flow_table.specs.Fitting.{KeysFit}
-use Rattle.flow_table.specs.Missing.{missing_of, missing_sum, IsSmall}
+use Rattle.flow_table.specs.Missing.{missing_of, AreAdded}
 use Rattle.flow_table.specs.Plans.{PlanValue}
 use Rattle.flow_table.specs.Rows.{AreRowsOf, kept_at}
 use Rattle.flow_table.specs.declared.rows.Rows.{Rows}
@@ -42,7 +42,7 @@ CountsMissing fault plan missing rs = fault ≡ None → missing ≡ missing_of 
 
 -- what more records lack is added, if that has a place in 64 bits
 abbrev pub NotesMore : PlanValue → Missing → List DataRecord → Missing → Type 0
-NotesMore plan before more after = IsSmall (missing_sum before (missing_of plan more)) → after ≡ missing_sum before (missing_of plan more)
+NotesMore plan before more after = AreAdded before (missing_of plan more) after
 
 -- the plan of a partial table
 unfoldable pub plan_of : Partial → PlanValue

@@ -2,7 +2,7 @@
 
 ghost use Rattle.std.specs.Prelude.{◌≡◌, ◌+◌, ◌-◌, ◌^◌, ◌<◌, ℕ, length, min, slice_index_or};
 ghost use Rattle.flow_table.specs.LeftOut.{missing_in};
-ghost use Rattle.flow_table.specs.Missing.{IsSmall, missing_sum};
+ghost use Rattle.flow_table.specs.Missing.{AreAdded};
 
 use crate::left_out::LeftOut;
 use crate::plan::{MAX_COUNTERS, MAX_KEYS};
@@ -32,8 +32,7 @@ impl Missing {
 
     /// Counts a record that is left out. What would be 2^64 or more stays below it.
     pub(crate) fn note(&mut self, left_out: LeftOut)
-        ensures { IsSmall (missing_sum self.old (missing_in left_out))
-            → self.new ≡ missing_sum self.old (missing_in left_out) }
+        ensures { AreAdded self.old (missing_in left_out) self.new }
     {
         match left_out {
             LeftOut::WithoutStart => self.start = self.start.saturating_add(1),
@@ -50,7 +49,7 @@ impl Missing {
 
 /// What the records of two lists lack. What would be 2^64 or more stays below it.
 pub(crate) fn missing_together(a: &Missing, b: &Missing) -> Missing
-    ensures { IsSmall (missing_sum a.now b.now) → result ≡ missing_sum a.now b.now }
+    ensures { AreAdded a.now b.now result }
 {
     Missing {
         start: a.start.saturating_add(b.start),

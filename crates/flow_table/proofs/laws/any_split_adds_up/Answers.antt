@@ -1,4 +1,3 @@
-use Rattle.flow_table.specs.AddedUp.{rows_in}
 use Rattle.flow_table.proofs.TablesAdded.{any_order}
 use Rattle.flow_table.proofs.laws.any_split_adds_up.Goals as goal
 
