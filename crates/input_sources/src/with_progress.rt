@@ -7,7 +7,7 @@ ghost use Rattle.input_sources.specs.Progressing.{CountsOctets};
 use crate::progress::Progress;
 use ipfix_session::{ReadError, Source};
 use std::alloc::Global;
-use std::io::Write;
+use std::io::{ErrorKind, Write};
 use std::marker::Model;
 use std::num::NonZeroU64;
 use std::rt::Clock;
@@ -49,6 +49,8 @@ impl<'a, S: Source + Drop, C: Clock, P: Write + Drop> WithProgress<'a, S, C, P> 
 impl<'a, S: Source + Drop, C: Clock, P: Write + Drop> Source for WithProgress<'a, S, C, P> {
     ghost seen = { S.seen };
 
+    ghost failure = { S.failure };
+
     ghost ended_is_end = { S.ended_is_end };
 
     fn read(&mut self, buffer: &mut [u8]) -> Result<usize, ReadError> {
@@ -56,6 +58,10 @@ impl<'a, S: Source + Drop, C: Clock, P: Write + Drop> Source for WithProgress<'a
             None => self.source.read(buffer),
             Some(progress) => read_and_tell(&mut self.source, progress, buffer),
         }
+    }
+
+    fn failure(&self) -> Option<ErrorKind> {
+        self.source.failure()
     }
 }
 

@@ -1,12 +1,11 @@
 //! Any reader as a source.
 
-ghost use Rattle.std.specs.Prelude.{◌≡◌, ◌↔◌, [], true, false};
+ghost use Rattle.std.specs.Prelude.{◌≡◌, ◌≢◌, ◌↔◌, [], true, false, IsSome};
 ghost use Rattle.std.specs.Option.{ForSome};
-ghost use Rattle.std.specs.IoError.{error_kind};
 ghost use Rattle.ipfix_session.specs.Sources.{unread};
 
 use crate::source::{ReadError, Source};
-use std::io::{self, ErrorKind, Read};
+use std::io::{ErrorKind, Read};
 
 /// A source over a reader. Once it has told its end it doesn't ask the reader again.
 #[derive(Drop)]
@@ -14,6 +13,7 @@ pub struct FromReader<R: Read> {
     reader: R,
     reads: u64,
     failed: u64,
+    failure: Option<ErrorKind>,
     ended: bool,
     ghost behind_the_end: { ended ≡ true → ForSome (R.remaining reader) (λ xs. xs ≡ []) },
 }
@@ -26,16 +26,17 @@ impl<R: Read> FromReader<R> {
             reader,
             reads: 0,
             failed: 0,
+            failure: None,
             ended: false,
         }
     }
 }
 
 // An interruption may be tried again, and any other error is a failure.
-fn read_error(error: &io::Error) -> ReadError
-    ensures { (result ≡ ReadError.Interrupted) ↔ (error_kind error.now ≡ ErrorKind.Interrupted) }
+fn read_error(kind: ErrorKind) -> ReadError
+    ensures { (result ≡ ReadError.Interrupted) ↔ (kind ≡ ErrorKind.Interrupted) }
 {
-    match error.kind() {
+    match kind {
         ErrorKind::Interrupted => ReadError::Interrupted,
         _ => ReadError::Failed,
     }
@@ -43,7 +44,7 @@ fn read_error(error: &io::Error) -> ReadError
 
 impl<R: Read> Source for FromReader<R> {
     ghost use Rattle.ipfix_session.specs.Sources.{IsRead};
-    ghost use Rattle.ipfix_session.specs.Readers.{reader_of};
+    ghost use Rattle.ipfix_session.specs.Readers.{failure_of, reader_of};
 
     ghost seen = { λ s. record {
       text = R.remaining s.reader;
@@ -51,6 +52,8 @@ impl<R: Read> Source for FromReader<R> {
       failed = s.failed;
       ended = s.ended;
     } };
+
+    ghost failure = { failure_of };
 
     ghost ended_is_end = { λ s e. s.behind_the_end e };
 
@@ -60,6 +63,9 @@ impl<R: Read> Source for FromReader<R> {
         // Behind its end the reader isn't asked.
         ensures not_asked { (⟦<FromReader<R> as Source>⟧.seen self.old).ended ≡ true
             → reader_of self.new ≡ reader_of self.old }
+        // A read that fails leaves a reason, and no other read changes it.
+        ensures failure { result ≡ Err ReadError.Failed → IsSome (failure_of self.new) }
+        ensures same { result ≢ Err ReadError.Failed → failure_of self.new ≡ failure_of self.old }
     {
         self.reads = self.reads.saturating_add(1);
         if self.ended {
@@ -71,12 +77,18 @@ impl<R: Read> Source for FromReader<R> {
                 Ok(count)
             }
             Err(error) => {
-                let error = read_error(&error);
+                let kind = error.kind();
+                let error = read_error(kind);
                 if error == ReadError::Failed {
                     self.failed = self.failed.saturating_add(1);
+                    self.failure = Some(kind);
                 }
                 Err(error)
             }
         }
+    }
+
+    fn failure(&self) -> Option<ErrorKind> {
+        self.failure
     }
 }

@@ -3,6 +3,7 @@
 ghost use Rattle.std.specs.Prelude.{◌≡◌, [], true};
 ghost use Rattle.std.specs.Option.{ForSome};
 
+use std::io::ErrorKind;
 use thiserror::Error;
 
 /// Why a read gave no octets.
@@ -17,6 +18,8 @@ pub enum ReadError {
 
 /// A source of octets. Its counts stop at `u64::MAX`.
 pub trait Source {
+    ghost use Rattle.std.specs.Prelude.{Option};
+    ghost use Rattle.std.specs.declared.io.ErrorKind.{ErrorKind};
     ghost use Rattle.ipfix_session.specs.Sources.{SourceView, IsRead};
 
     /// What contracts see of it: the octets that it still holds, if it tells them; how many reads there
@@ -24,10 +27,17 @@ pub trait Source {
     /// octets with room for some.
     ghost seen: { Self → SourceView };
 
+    /// What the system answered to the last read that failed, if one did and it is known.
+    ghost failure: { Self → Option ErrorKind };
+
     /// Moves octets from the front of the text into the front of the buffer, and answers how many. An
     /// `Err` moves none.
     fn read(&mut self, buffer: &mut [u8]) -> Result<usize, ReadError>
         ensures { IsRead (seen self.old) result (seen self.new) buffer.new };
+
+    /// What the system answered to the last read that failed, if one did and it is known.
+    fn failure(&self) -> Option<ErrorKind>
+        ensures { result ≡ failure self.now };
 
     /// After its end it holds nothing.
     ghost ended_is_end: { (s : Self) → (seen s).ended ≡ true
