@@ -1,6 +1,6 @@
 //! What the words of a command line say.
 
-ghost use Rattle.std.specs.Prelude.{◌≡◌};
+ghost use Rattle.std.specs.Prelude.{◌≡◌, map, option_map};
 ghost use Rattle.cli_words.specs.Arguments.{AllTexts, Count, IsGiven, OneNumber, OneText, reading_of};
 
 use crate::arguments::Argument;
@@ -15,6 +15,8 @@ pub struct Chosen<'a> {
 }
 
 impl<'a> Chosen<'a> {
+    ghost use Rattle.cli_words.specs.Given.{text_given, texts_given};
+
     /// What matches say, if they name a command.
     pub fn of(matches: &'a ArgMatches<'a>) -> Option<Self> {
         let (word, matches) = matches.subcommand()?;
@@ -39,6 +41,7 @@ impl<'a> Chosen<'a> {
     /// The text of an argument that takes one.
     pub fn text(&self, argument: Argument) -> Option<&'a str>
         requires { reading_of argument.takes ≡ OneText }
+        ensures { option_map (λ s. s.now) result ≡ text_given self.now argument.word.now }
     {
         self.matches.get_str(argument.word)
     }
@@ -46,6 +49,7 @@ impl<'a> Chosen<'a> {
     /// The texts of an argument that takes several, in their order. There are none if it is not given.
     pub fn texts(&self, argument: Argument) -> &'a [&'a str]
         requires { reading_of argument.takes ≡ AllTexts }
+        ensures { map (λ s. s.now) result.now ≡ texts_given self.now argument.word.now }
     {
         self.matches.get_strs(argument.word).unwrap_or(&[])
     }
