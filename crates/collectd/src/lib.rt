@@ -2,11 +2,11 @@
 #![tactic(auto)]
 
 pub use command_collect::{
-    CollectJob, run, run_files, run_files_in_full, run_in_full, run_tcp, run_tcp_in_full,
+    CollectJob, Connections, run, run_files, run_files_with, run_tcp, run_tcp_with, run_with,
     write_collect_fault, write_limit,
 };
 pub use command_dump::{DumpJob, run_dump, run_dump_with, write_dump_fault};
-pub use command_merge::{run_merge, run_merge_in_full};
+pub use command_merge::{MergeJob, run_merge_with};
 pub use input_files::ReadText;
 pub use input_sources::{
     Accepted, Listener, Note, Noted, NotedPeer, OpenSource, Opened, SystemFiles, SystemListener,

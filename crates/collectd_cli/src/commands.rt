@@ -6,9 +6,9 @@ use cli_inputs::{
     read_job, read_paths, read_progress, read_verbosity, table_output, write_refused,
     write_refused_exports, write_refused_files, write_refused_output, write_refused_peers,
 };
-use command_collect::{CollectJob, run_files_in_full, run_tcp_in_full, write_limit};
+use command_collect::{CollectJob, Connections, run_files_with, run_tcp_with, write_limit};
 use command_dump::{DumpJob, run_dump_with, write_dump_fault};
-use command_merge::run_merge_in_full;
+use command_merge::{MergeJob, run_merge_with};
 use flow_collect::Pool;
 use input_sources::{Noted, SystemFiles, SystemListener};
 use ipfix_dump::DumpFault;
@@ -80,7 +80,7 @@ pub fn files<R: Clock + Threads + Wait + Sync>(
         terminal,
     } = read_collecting(rt, chosen, &mut err)?;
     let mut files = SystemFiles::new(rt, rt.alloc());
-    let status = run_files_in_full(
+    let status = run_files_with(
         threads,
         rt.alloc(),
         &mut files,
@@ -92,8 +92,8 @@ pub fn files<R: Clock + Threads + Wait + Sync>(
     );
     write_refused_output(verbosity, &out, &mut err);
     write_refused_pool(status, verbosity, pool, paths.len(), &mut err);
-    write_refused_files(status, verbosity, paths, files.notes(), &mut err);
-    Ok(status)
+    write_refused_files(status.number(), verbosity, paths, files.notes(), &mut err);
+    Ok(status.number())
 }
 
 /// `collectd tcp`: the table of the sessions that come over connections to standard output.
@@ -114,13 +114,16 @@ pub fn tcp<R: Clock + Threads + Wait + Sync>(
     } = read_collecting(rt, chosen, &mut err)?;
     let listener = listen_on(rt, addr, verbosity, &mut err)?;
     let mut listening = SystemListener::new(rt.alloc(), listener);
-    let status = run_tcp_in_full(
+    let connections = Connections {
+        address: addr,
+        count: sessions as usize,
+        idle: read_idle(chosen),
+    };
+    let status = run_tcp_with(
         threads,
         rt.alloc(),
         &mut listening,
-        addr,
-        sessions as usize,
-        read_idle(chosen),
+        &connections,
         &collect_job(&job, pool, verbosity),
         read_progress(&terminal, rt, chosen),
         &mut out,
@@ -128,8 +131,8 @@ pub fn tcp<R: Clock + Threads + Wait + Sync>(
     );
     write_refused_output(verbosity, &out, &mut err);
     write_refused_pool(status, verbosity, pool, sessions as usize, &mut err);
-    write_refused_peers(status, verbosity, listening.peers(), &mut err);
-    Ok(status)
+    write_refused_peers(status.number(), verbosity, listening.peers(), &mut err);
+    Ok(status.number())
 }
 
 /// `collectd merge`: the table of the exports in files to standard output.
@@ -140,20 +143,23 @@ pub fn merge(rt: &HostRuntime, chosen: &ArgMatches) -> Result<u8, Status> {
     let mut out = table_output(rt, &mut err)?;
     let mut files = SystemFiles::new(rt, rt.alloc());
     let verbosity = read_verbosity(chosen);
-    let status = run_merge_in_full(
+    let merge_job = MergeJob {
+        elements: &job.elements,
+        plan: &job.plan,
+        output: job.output,
+        verbosity,
+    };
+    let status = run_merge_with(
         &mut files,
         rt.alloc(),
         paths,
-        &job.elements,
-        &job.plan,
-        job.output,
-        verbosity,
+        &merge_job,
         &mut out,
         &mut CheckedWriter::new(rt.stderr()),
     );
     write_refused_output(verbosity, &out, &mut err);
     write_refused_exports(verbosity, paths, files.notes(), &mut err);
-    Ok(status)
+    Ok(status.number())
 }
 
 // What a run is to do with what it collects.
@@ -170,13 +176,13 @@ fn collect_job<'a>(job: &'a Job, pool: Pool, verbosity: Verbosity) -> CollectJob
 // What a pool and that many sessions may be, if the run failed by them: `err` has a
 // line if `verbosity` is verbose.
 fn write_refused_pool(
-    status: u8,
+    status: Status,
     verbosity: Verbosity,
     pool: Pool,
     sessions: usize,
     err: &mut Stderr,
 ) {
-    if status == Status::Failed.number() {
+    if status == Status::Failed {
         let _ = write_limit(verbosity, pool, sessions, err);
     }
 }

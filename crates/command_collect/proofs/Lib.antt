@@ -1,4 +1,5 @@
+mod WentWell
 mod Ran
+mod Refused
 mod LinesTold
-mod FullRan
 mod Collected

@@ -1,27 +1,26 @@
 -- Lines that were told one after another.
-use Rattle.std.proofs.Common.{◌≡◌, ℕ, ◌+◌, List, [], ◌∷◌, ◌++◌, Option, Some, None, Result, Ok, Err, IfSome, refl, ap, ap₂, ◌∙◌, subst, inl, inr, append-nil, false}
+use Rattle.std.proofs.Common.{◌≡◌, ℕ, ◌+◌, List, [], ◌∷◌, ◌++◌, Option, Result, Ok, Err, refl, ap, ap₂, ◌∙◌, subst, inl, inr, append-nil, false}
 use Rattle.std.specs.Prelude.{OnOk, OnErr}
 use Rattle.std.specs.List.{flat_map, enumerate_from}
 use Rattle.std.specs.Io.KnownBytes.{Appends}
 use Rattle.std.proofs.KnownBytes.{Appends-trans}
 use Rattle.ipfix_session.specs.declared.report.FullReport.{FullReport}
-use Rattle.element_registry.specs.Registries.{Known}
 use Rattle.flow_collect.specs.InFull.{reports_in}
 use Rattle.flow_table.specs.declared.missing.Missing.{Missing}
 use Rattle.flow_table.specs.declared.table.Table.{Table}
 use Rattle.flow_table.specs.declared.tally.Tally.{Tally}
-use Rattle.flow_table.specs.Plans.{PlanValue}
 use Rattle.report_sessions.specs.MissingLines.{missing_told}
 use Rattle.report_writing.specs.OpeningLines.{if_verbose, opened_line}
 use Rattle.report_sessions.specs.ReportLines.{report_lines, tally_line}
 use Rattle.report_writing.specs.Told.{AreTold}
 use Rattle.report_writing.specs.declared.origin.Origin.{Origin}
 use Rattle.report_writing.specs.declared.verbosity.Verbosity.{Verbosity}
+use Rattle.report_writing.specs.declared.verbosity.TheConstants.{NOTHING_MORE}
 use Rattle.report_writing.proofs.LinesTold.{both_told, told_then}
 use Rattle.report_sessions.proofs.Untold.{told_plain}
 use Rattle.input_sources.specs.InputsTold.{opened_lines, StopsAt, TellsPeers}
-use Rattle.command_collect.specs.FullRuns.{table_told}
-use Rattle.command_collect.specs.Told.{run_lines, TellsFault}
+use Rattle.command_collect.specs.Told.{run_lines, table_told, TellsFault}
+use Rattle.command_collect.specs.declared.job.CollectJob.{CollectJob}
 
 -- a fault, behind what was told before
 pub fault_behind : (IsUntouched : Type 0) (Told AreTold : List ℕ → Type 0) → ((line : List ℕ) → Told line → AreTold line) → TellsFault IsUntouched Told → TellsFault IsUntouched AreTold
@@ -29,12 +28,13 @@ fault_behind IsUntouched Told AreTold behind (inl collect) = inl (collect.0, col
 fault_behind IsUntouched Told AreTold behind (inr export) = inr (export.0, behind _ export.1)
 
 -- what is told of a table, by its tally and by what records lack
-pub table_lines : {T E : Type 0} (answer : Result T E) (verbosity : Verbosity) (known : List Known) (plan : PlanValue) (table : Table) (tally : Tally) (missing : Missing) (old mid new : Option (List ℕ)) → tally ≡ table.tally → missing ≡ table.missing
-    → Appends old mid (tally_line tally) → OnOk answer (Appends mid new (missing_told verbosity known plan missing)) → OnOk answer (Appends old new (table_told verbosity known plan table))
-table_lines (Ok x) verbosity known plan table tally missing old mid new is_tally is_missing first rest =
-    subst (λ (l : List ℕ). Appends old new l) (ap₂ (λ (x : Tally) (y : Missing). tally_line x ++ missing_told verbosity known plan y) is_tally is_missing)
-    (Appends-trans old mid new (tally_line tally) (missing_told verbosity known plan missing) first rest)
-table_lines (Err e) verbosity known plan table tally missing old mid new is_tally is_missing first rest = tt
+pub table_lines : {T E : Type 0} (answer : Result T E) (job : CollectJob) (table : Table) (tally : Tally) (missing : Missing) (old mid new : Option (List ℕ)) → tally ≡ table.tally → missing ≡ table.missing
+    → Appends old mid (tally_line tally) → OnOk answer (Appends mid new (missing_told job.verbosity job.elements.now job.plan.now missing)) → OnOk answer (Appends old new (table_told job table))
+table_lines (Ok x) job table tally missing old mid new is_tally is_missing first rest =
+    let lack = λ (y : Missing). missing_told job.verbosity job.elements.now job.plan.now y in
+    subst (λ (l : List ℕ). Appends old new l) (ap₂ (λ (x : Tally) (y : Missing). tally_line x ++ lack y) is_tally is_missing)
+    (Appends-trans old mid new (tally_line tally) (lack missing) first rest)
+table_lines (Err e) job table tally missing old mid new is_tally is_missing first rest = tt
 
 -- without options nothing is told of it
 pub none_opened : (verbosity : Verbosity) → verbosity.verbose ≡ false → (n : ℕ) (origins : List Origin) → flat_map (λ (x : ℕ × Origin). if_verbose verbosity (opened_line x.0 x.1)) (enumerate_from n origins) ≡ []
@@ -43,28 +43,28 @@ none_opened verbosity plain n (o ∷ origins) =
     let nothing : if_verbose verbosity (opened_line n o) ≡ [] = rw plain refl in
     ap (λ (l : List ℕ). l ++ flat_map (λ (x : ℕ × Origin). if_verbose verbosity (opened_line x.0 x.1)) (enumerate_from (n + 1) origins)) nothing ∙ none_opened verbosity plain (n + 1) origins
 
-plain_table : (verbosity : Verbosity) → verbosity.verbose ≡ false → verbosity.strict ≡ false → (known : List Known) (plan : PlanValue) (table : Table) → table_told verbosity known plan table ≡ tally_line table.tally
-plain_table verbosity verbose strict known plan table =
-    let nothing : missing_told verbosity known plan table.missing ≡ [] = rw (verbose, strict) refl in
-    ap (λ (l : List ℕ). tally_line table.tally ++ l) nothing ∙ append-nil _
+module _ (job : CollectJob) (plain : job.verbosity ≡ NOTHING_MORE) where
+  is_verbose : job.verbosity.verbose ≡ false
+  is_verbose = ap (λ (v : Verbosity). v.verbose) plain
 
-pub plain_alone : (verbosity : Verbosity) → verbosity.verbose ≡ false → verbosity.strict ≡ false → (known : List Known) (plan : PlanValue) (origins : List Origin) (fulls : List FullReport) (table : Table)
-    → run_lines verbosity known plan origins fulls table ≡ report_lines (reports_in fulls) ++ tally_line table.tally
-plain_alone verbosity verbose strict known plan origins fulls table =
-    ap (λ (l : List ℕ). l ++ table_told verbosity known plan table) (told_plain verbosity verbose strict known origins fulls) ∙ ap (λ (l : List ℕ). report_lines (reports_in fulls) ++ l) (plain_table verbosity verbose strict known plan table)
+  pub is_strict : job.verbosity.strict ≡ false
+  is_strict = ap (λ (v : Verbosity). v.strict) plain
 
-pub plain_run : (verbosity : Verbosity) → verbosity.verbose ≡ false → verbosity.strict ≡ false → (known : List Known) (plan : PlanValue) (origins : List Origin) (fulls : List FullReport) (table : Table)
-    → opened_lines verbosity origins ++ run_lines verbosity known plan origins fulls table ≡ report_lines (reports_in fulls) ++ tally_line table.tally
-plain_run verbosity verbose strict known plan origins fulls table =
-    ap (λ (l : List ℕ). l ++ run_lines verbosity known plan origins fulls table) (none_opened verbosity verbose 1 origins) ∙ plain_alone verbosity verbose strict known plan origins fulls table
+  pub not_verbose : (line : List ℕ) → if_verbose job.verbosity line ≡ []
+  not_verbose line = rw is_verbose refl
 
--- ---- arguments that have a fault
+  plain_table : (table : Table) → table_told job table ≡ tally_line table.tally
+  plain_table table =
+      let nothing : missing_told job.verbosity job.elements.now job.plan.now table.missing ≡ [] = rw (is_verbose, is_strict) refl in
+      ap (λ (l : List ℕ). tally_line table.tally ++ l) nothing ∙ append-nil _
 
--- the fault that was answered is theirs
-pub refusal_told : {X : Type 0} (C : Type 0) (fault : Option X) (answered : X) (Status Untouched : Type 0) (Told : X → Type 0) → IfSome fault (λ x. ◌≡◌ {A = Result C X} (Err answered) (Err x)) → Status → Untouched → Told answered
-    → IfSome fault (λ x. Status × Untouched × Told x)
-refusal_told C None answered Status Untouched Told is status untouched told = tt
-refusal_told C (Some x) answered Status Untouched Told is status untouched told = let same : answered ≡ x = cc is in (status, untouched, subst Told same told)
+  pub plain_lines : (origins : List Origin) (fulls : List FullReport) (table : Table) → run_lines job origins fulls table ≡ report_lines (reports_in fulls) ++ tally_line table.tally
+  plain_lines origins fulls table =
+      ap₂ (λ (l m : List ℕ). l ++ m) (told_plain job.verbosity is_verbose is_strict job.elements.now origins fulls) (plain_table table)
+
+  -- what stands behind nothing
+  pub behind_nothing : (first : List ℕ) → first ≡ [] → (origins : List Origin) (lines : List ℕ) → first ++ (opened_lines job.verbosity origins ++ lines) ≡ lines
+  behind_nothing first none origins lines = ap₂ (λ (l m : List ℕ). l ++ (m ++ lines)) none (none_opened job.verbosity is_verbose 1 origins)
 
 -- ---- what stops a run
 

@@ -1,56 +1,81 @@
--- What a run wrote, from the headline and from what the export wrote.
-use Rattle.std.proofs.Common.{◌≡◌, ℕ, true, false, List, [], All, Option, Some, None, refl, subst, inr}
-use Rattle.std.specs.Prelude.{◌↔◌, ◌⊎◌, is_some, IfSome}
+-- What a run wrote, from the headline and from what the export wrote; and what it is without the rest.
+use Rattle.std.proofs.Common.{◌≡◌, ℕ, Bool, true, false, List, [], All, subst}
+use Rattle.std.specs.Prelude.{◌↔◌, ◌≢◌}
 use Rattle.std.specs.Option.{ForSome}
-use Rattle.std.proofs.lemmas.Option.{IfSome_then}
 use Rattle.ipfix_message.specs.declared.record.DataRecord.{DataRecord}
 use Rattle.ipfix_session.specs.Sources.{SourceView}
+use Rattle.ipfix_session.specs.declared.report.FullReport.{FullReport}
 use Rattle.ipfix_session.specs.declared.report.SessionReport.{SessionReport}
 use Rattle.flow_table.specs.Plans.{PlanValue}
 use Rattle.flow_table.specs.declared.table.Table.{Table}
-use Rattle.flow_collect.specs.Headline.{Headline, IsAddedUp}
-use Rattle.flow_collect.specs.Refusals.{fault_of_arguments}
-use Rattle.flow_collect.specs.Texts.{HasNoFault}
-use Rattle.flow_collect.specs.declared.collected.Collected.{Collected}
+use Rattle.flow_collect.specs.Headline.{IsAddedUp, IsGivenBy}
+use Rattle.flow_collect.specs.InFull.{FullAnswer, FullHeadline, IsGivenInFull, reports_in}
 use Rattle.flow_collect.specs.declared.collected.Pool.{Pool}
-use Rattle.flow_collect.specs.declared.fault.CollectFault.{CollectFault}
 use Rattle.flow_collect.proofs.GivenLists.{first_each, all_whole, whole_records, whole_clean}
-use Rattle.command_collect.specs.Runs.{AddsUpWhole, WritesTable}
+use Rattle.flow_collect.proofs.InFull.{given_short, short_run}
+use Rattle.input_sources.specs.Had.{IsUnread}
+use Rattle.command_collect.specs.Runs.{AddsUpWhole, HaveNoFault, RunsSources, WentWell, WritesTable}
+use Rattle.command_collect.proofs.WentWell.{NoFault, no_fault_short, well_plainly}
 
 module _ {S : Type 0} (seen : S → SourceView) where
-  pub writes_table : (sources : List S) (plan : PlanValue) (pool : Pool) (status : ℕ) (Ends : List SessionReport → Table → Type 0) (c : Collected S)
-      → Headline seen sources plan pool c → ((status ≡ 0) ↔ All HasNoFault c.sessions.items) → (status ≡ 0 → AddsUpWhole seen sources plan c.table) → Ends c.sessions.items c.table
-      → WritesTable seen sources plan pool status Ends
-  writes_table sources plan pool status Ends c h status_is whole ends =
-      record {
-        collected = c;
-        headline = h;
-        first = λ texts t. first_each seen sources c.sources.items c.sessions.items h.records texts h.given t;
-        status_is = status_is;
-        whole = whole;
-        ends = ends;
-      }
-
-  pub adds_up_whole : ((s : S) → (seen s).ended ≡ true → ForSome (seen s).text (λ xs. xs ≡ [])) → (c : Collected S) (sources : List S) (plan : PlanValue) (pool : Pool)
-      → Headline seen sources plan pool c → All HasNoFault c.sessions.items → AddsUpWhole seen sources plan c.table
+  pub adds_up_whole : ((s : S) → (seen s).ended ≡ true → ForSome (seen s).text (λ xs. xs ≡ [])) → (c : FullAnswer S) (sources : List S) (plan : PlanValue) (pool : Pool)
+      → FullHeadline seen sources plan pool c → All NoFault c.sessions.items → AddsUpWhole seen sources plan c.table
   adds_up_whole at_end c sources plan pool h none = λ texts t.
-      let whole = all_whole seen at_end sources c.sources.items c.sessions.items h.records texts h.given t none in
+      let given = given_short seen sources c.sources.items c.sessions.items h.records h.given in
+      let whole = all_whole seen at_end sources c.sources.items (reports_in c.sessions.items) h.records texts given t (no_fault_short c.sessions.items none) in
       record {
         whole = whole_clean h.records texts whole;
         added_up = subst (λ (rs : List DataRecord). IsAddedUp plan rs c.table) (whole_records h.records texts whole) h.added_up;
       }
 
--- ---- a run by a caller that has one status more, for what can't be opened
+  module _ (strict : Bool) (plan : PlanValue) (pool : Pool) (status : ℕ) where
+    abbrev pub Full : (List FullReport → Table → Type 0) → List S → Type 0
+    Full Ends sources = WritesTable seen (IsGivenInFull seen) (WentWell strict) plan pool status Ends sources
 
--- arguments that have a fault
-pub refused_for : (pool : Pool) (sources count status : ℕ) (Untouched : Type 0) (Told Tells : CollectFault → Type 0) → sources ≡ count → IfSome (fault_of_arguments pool sources) (λ fault. (status ≡ 3) × Untouched × Told fault)
-    → ((fault : CollectFault) → Told fault → Tells fault) → IfSome (fault_of_arguments pool count) (λ fault. ((status ≡ 2) ⊎ ((status ≡ 3) × Tells fault)) × Untouched)
-refused_for pool sources count status Untouched Told Tells same refused tells =
-    IfSome_then (fault_of_arguments pool count) (subst (λ (n : ℕ). IfSome (fault_of_arguments pool n) (λ fault. (status ≡ 3) × Untouched × Told fault)) same refused)
-    (λ fault told. (inr (told.0, tells fault told.2), told.1))
+    abbrev pub RunsFull : (List FullReport → Table → Type 0) → (List S → Type 0) → Type 0
+    RunsFull Ends AreHad = RunsSources seen (IsGivenInFull seen) (WentWell strict) plan pool status Ends AreHad
 
--- ---- a test of a fault
+    pub writes_table : (Ends : List FullReport → Table → Type 0) (sources : List S) (c : FullAnswer S)
+        → FullHeadline seen sources plan pool c → ((status ≡ 0) ↔ WentWell strict c.sessions.items c.table) → (status ≡ 0 → AddsUpWhole seen sources plan c.table) → Ends c.sessions.items c.table
+        → Full Ends sources
+    writes_table Ends sources c h status_is whole ends =
+        record {
+          collected = c;
+          headline = h;
+          first = λ texts t. first_each seen sources c.sources.items (reports_in c.sessions.items) h.records texts (given_short seen sources c.sources.items c.sessions.items h.records h.given) t;
+          status_is = status_is;
+          whole = whole;
+          ends = ends;
+        }
 
-pub not_some : {X : Type 0} (o : Option X) → false ≡ is_some o → o ≡ None
-not_some None h = refl
-not_some (Some x) h = absurd cc
+    -- sources that were had one after another, and then run, with what was told before
+    pub runs_sources : (Ends All_ends : List FullReport → Table → Type 0) (AreHad : List S → Type 0) (sources had : List S) → sources ≡ had → AreHad had → All (IsUnread seen) had → (status ≢ 3 → Full Ends sources)
+        → ((fulls : List FullReport) (table : Table) → Ends fulls table → All_ends fulls table) → RunsFull All_ends AreHad
+    runs_sources Ends All_ends AreHad sources had same are_had unread table all =
+        record {
+          sources = sources;
+          had = rw same are_had;
+          unread = rw same unread;
+          table = λ ran.
+              let w = table ran in
+              record { collected = w.collected; headline = w.headline; first = w.first; status_is = w.status_is; whole = w.whole; ends = all w.collected.sessions.items w.collected.table w.ends };
+        }
+
+    -- ---- without the rest
+
+    module _ (Ends : List FullReport → Table → Type 0) (Short : List SessionReport → Table → Type 0) (plain : strict ≡ false) (shorter : (fulls : List FullReport) (table : Table) → Ends fulls table → Short (reports_in fulls) table) where
+      pub table_short : (sources : List S) → Full Ends sources → WritesTable seen (IsGivenBy seen) HaveNoFault plan pool status Short sources
+      table_short sources w =
+          let c = w.collected in
+          let h = w.headline in
+          record {
+            collected = short_run c;
+            headline = record { records = h.records; received = h.received; given = given_short seen sources c.sources.items c.sessions.items h.records h.given; added_up = h.added_up };
+            first = w.first;
+            status_is = well_plainly status strict w.collected.sessions.items w.collected.table plain w.status_is;
+            whole = w.whole;
+            ends = shorter w.collected.sessions.items w.collected.table w.ends;
+          }
+
+      pub runs_short : (AreHad : List S → Type 0) → RunsFull Ends AreHad → RunsSources seen (IsGivenBy seen) HaveNoFault plan pool status Short AreHad
+      runs_short AreHad r = record { sources = r.sources; had = r.had; unread = r.unread; table = λ ran. table_short r.sources (r.table ran) }

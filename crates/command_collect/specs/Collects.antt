@@ -1,22 +1,31 @@
 -- How a command ended that collects from files or from connections.
-use Rattle.std.specs.Prelude.{◌≡◌, ◌≢◌, ◌⊎◌, ℕ, List, [], ◌++◌, IfSome, Option}
+use Rattle.std.specs.Prelude.{◌≡◌, ◌≢◌, ◌⊎◌, ◌<◌, ℕ, List, [], IfSome, Option, length, map}
+use Rattle.std.specs.Borrow.{Bor}
+use Rattle.std.specs.Duration.{as_nanos}
+use Rattle.std.specs.List.{AllZip}
+use Rattle.std.specs.declared.time.Duration.{Duration}
 use Rattle.ipfix_session.specs.Sources.{SourceView}
-use Rattle.element_registry.specs.Registries.{Known}
+use Rattle.report_writing.specs.OpeningLines.{if_verbose, listening_line}
 use Rattle.report_writing.specs.Statuses.{number_of}
 use Rattle.report_writing.specs.declared.status.Status.TheVariants.{Well, SessionFault, NotOpened, Failed}
+use Rattle.report_writing.specs.declared.verbosity.TheConstants.{NOTHING_MORE}
+use Rattle.report_writing.specs.declared.verbosity.Verbosity.{Verbosity}
 use Rattle.flow_table.specs.Plans.{PlanValue}
+use Rattle.flow_collect.specs.Headline.{IsGivenBy}
+use Rattle.flow_collect.specs.InFull.{IsGivenInFull}
 use Rattle.flow_collect.specs.Refusals.{fault_of_arguments}
 use Rattle.flow_collect.specs.declared.collected.Pool.{Pool}
 use Rattle.flow_collect.specs.declared.fault.CollectFault.{CollectFault}
-use Rattle.report_sessions.specs.ReportLines.{report_lines, tally_line}
 use Rattle.report_writing.specs.declared.origin.Origin.{Origin}
-use Rattle.report_writing.specs.declared.verbosity.Verbosity.{Verbosity}
+use Rattle.input_sources.specs.Had.{AreAccepted, AreOpened}
+use Rattle.input_sources.specs.Origins.{ArePeers, IsFileNamed}
 use Rattle.output_tables.specs.TableTexts.{Writes}
 use Rattle.output_tables.specs.declared.output.Output.{Output}
-use Rattle.command_collect.specs.FullRuns.{fault_of_pool, RunsInFull}
-use Rattle.command_collect.specs.Runs.{RunsSources}
+use Rattle.command_collect.specs.Runs.{fault_of_pool, HaveNoFault, RunsSources, WentWell, WritesAndTells}
 use Rattle.command_collect.specs.CollectLines.{collect_fault_line}
-use Rattle.command_collect.specs.Told.{TellsFailedRun, TellsFault, TellsRefusal, TellsRun}
+use Rattle.command_collect.specs.Told.{run_lines, TellsBehind, TellsFault, TellsNotAccepted, TellsNotOpened}
+use Rattle.command_collect.specs.declared.job.CollectJob.{CollectJob}
+use Rattle.command_collect.specs.declared.job.Connections.{Connections}
 
 -- what the status of a command says that has so many sources to collect from: they were had and run, and how that ended; it
 -- failed, and how that was told; or they weren't had, and how that was told
@@ -36,19 +45,54 @@ RefusesPool pool count status IsUntouched AreTold =
     IfSome (fault_of_pool pool) (λ any. (status ≡ number_of Failed) × IsUntouched × IfSome (fault_of_arguments pool count) (λ fault. AreTold (collect_fault_line fault)))
 
 -- with how sources are had, and how it is told that they aren't
-module _ {S W : Type 0} (seen : S → SourceView) (AreHad : List S → Type 0) (TellsNotHad : (List ℕ → Type 0) → Type 0) (count : ℕ) (plan : PlanValue) (pool : Pool) (output : Output) (contents : W → Option (List ℕ)) (old new : W)
-    (AreTold : List ℕ → Type 0) (status : ℕ) where
+module _ {S W : Type 0} (seen : S → SourceView) (AreHad : List S → Type 0) (TellsNotHad : Type 0) (count : ℕ) (contents : W → Option (List ℕ)) (old new : W) (AreTold : List ℕ → Type 0) (status : ℕ) where
   -- the table of the sources was written, and nothing else; the lines of their sessions and of the table's counts were told,
   -- and nothing else; and at a failure the line of the fault alone
-  abbrev pub CollectsAlone : Type 0
-  CollectsAlone =
-      Collects pool count status (new ≡ old)
-      (RunsSources seen AreHad plan pool status (λ reports table. Writes [] plan output (contents old) (contents new) table × AreTold (report_lines reports ++ tally_line table.tally)))
-      (TellsFault (new ≡ old) AreTold) (TellsNotHad AreTold) (λ fault. AreTold (collect_fault_line fault))
+  abbrev pub CollectsPlainly : PlanValue → Pool → Output → Type 0
+  CollectsPlainly plan pool output =
+      Collects pool count status (new ≡ old) (RunsSources seen (IsGivenBy seen) HaveNoFault plan pool status (WritesAndTells contents old new AreTold plan output) AreHad) (TellsFault (new ≡ old) AreTold) TellsNotHad
+      (λ fault. AreTold (collect_fault_line fault))
 
-  -- the same with the names that elements have under files, and told in full: behind the first lines, with origins
-  abbrev pub CollectsInFull : List Known → Verbosity → (List Origin → Type 0) → List ℕ → Type 0
-  CollectsInFull known verbosity AreOrigins first =
-      Collects pool count status (new ≡ old)
-      (RunsInFull seen AreHad verbosity.strict plan pool status (λ fulls table. Writes known plan output (contents old) (contents new) table × TellsRun AreOrigins verbosity known plan first AreTold fulls table))
-      (TellsFailedRun AreOrigins verbosity first (new ≡ old) AreTold) (TellsNotHad AreTold) (TellsRefusal AreOrigins verbosity first AreTold)
+  -- the same of a job, by the names that elements have under its files, and told in full: behind the first lines, with origins
+  abbrev pub CollectsJob : CollectJob → (List Origin → Type 0) → List ℕ → Type 0
+  CollectsJob job AreOrigins first =
+      let Behind = TellsBehind AreOrigins job.verbosity first AreTold in
+      Collects job.pool count status (new ≡ old)
+      (RunsSources seen (IsGivenInFull seen) (WentWell job.verbosity.strict) job.plan.now job.pool status
+      (λ fulls table. Writes job.elements.now job.plan.now job.output (contents old) (contents new) table × Behind (λ origins Told. Told (run_lines job origins fulls table))) AreHad)
+      (Behind (λ origins. TellsFault (new ≡ old))) TellsNotHad (λ fault. Behind (λ origins Told. Told (collect_fault_line fault)))
+
+-- from the files of these paths: each that was had is told, and then the path that can't be opened
+module _ {S O W : Type 0} (seen : S → SourceView) (opens : O → List ℕ → S → Type 0) (coming : O → Option (List S)) (before after : O) (paths : List (Bor (List ℕ))) (contents : W → Option (List ℕ)) (old new : W) (AreTold : List ℕ → Type 0)
+    (status : ℕ) where
+  abbrev ArePathsOpened : List S → Type 0
+  ArePathsOpened sources = AreOpened (λ (path : Bor (List ℕ)). opens before path.now) paths (coming before) (coming after) sources
+
+  abbrev TellsPath : Verbosity → Type 0
+  TellsPath verbosity = TellsNotOpened (map (λ (path : Bor (List ℕ)). path.now) paths) verbosity AreTold
+
+  abbrev pub CollectsFilesPlainly : PlanValue → Pool → Output → Type 0
+  CollectsFilesPlainly plan pool output =
+      CollectsPlainly seen ArePathsOpened (TellsPath NOTHING_MORE) (length paths) contents old new AreTold status plan pool output
+
+  abbrev pub CollectsFiles : CollectJob → Type 0
+  CollectsFiles job =
+      CollectsJob seen ArePathsOpened (TellsPath job.verbosity) (length paths) contents old new AreTold status job (AllZip (λ (path : Bor (List ℕ)). IsFileNamed path.now) paths) []
+
+-- from so many connections with this limit, at an address: each that was had is told, and then the address that gives none
+module _ {S L W : Type 0} (seen : S → SourceView) (gives : L → Option Duration → S → Type 0) (coming : L → Option (List S)) (before after : L) where
+  abbrev ConnectionsAreAccepted : Option Duration → ℕ → List S → Type 0
+  ConnectionsAreAccepted idle count sources = AreAccepted (gives before idle) count (coming before) (coming after) sources
+
+  abbrev pub CollectsConnectionsPlainly : Option Duration → ℕ → List ℕ → (W → Option (List ℕ)) → W → W → (List ℕ → Type 0) → ℕ → PlanValue → Pool → Output → Type 0
+  CollectsConnectionsPlainly idle count address contents old new AreTold status plan pool output =
+      CollectsPlainly seen (ConnectionsAreAccepted idle count) (TellsNotAccepted NOTHING_MORE [] address AreTold) count contents old new AreTold status plan pool output
+
+  abbrev pub CollectsConnections : Connections → (W → Option (List ℕ)) → W → W → (List ℕ → Type 0) → ℕ → CollectJob → Type 0
+  CollectsConnections to contents old new AreTold status job =
+      let first = if_verbose job.verbosity (listening_line to.address.now to.count) in
+      CollectsJob seen (ConnectionsAreAccepted to.idle to.count) (TellsNotAccepted job.verbosity first to.address.now AreTold) to.count contents old new AreTold status job (ArePeers to.count) first
+
+-- a fact that holds if there is to be a connection that has a limit of no time
+abbrev pub IfNoTime : Connections → Type 0 → Type 0
+IfNoTime to P = IfSome to.idle (λ limit. as_nanos limit ≡ 0 → 0 < to.count → P)

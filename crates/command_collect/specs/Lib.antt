@@ -1,7 +1,6 @@
 -- What public contracts cite.
-pub mod Runs
-pub mod FullRuns
 pub mod CollectLines
 pub mod Told
+pub mod Runs
 pub mod Collects
 pub mod Limits

@@ -1,19 +1,45 @@
--- What a run of collecting wrote.
-use Rattle.std.specs.Prelude.{◌≡◌, ◌≢◌, ◌↔◌, ℕ, List, All}
+-- What a run of collecting wrote, and when its status says that all was well.
+use Rattle.std.specs.Prelude.{◌≡◌, ◌≢◌, ◌⊎◌, ◌↔◌, ℕ, Bool, true, false, List, [], ◌++◌, All, IfSome, Option, Vec, vec_len}
 use Rattle.std.specs.List.{AllZip, flat_map}
+use Rattle.ipfix_message.specs.declared.record.DataRecord.{DataRecord}
 use Rattle.ipfix_session.specs.Given.{records_of, stop_of, IsPrefix}
 use Rattle.ipfix_session.specs.Sources.{SourceView}
+use Rattle.ipfix_session.specs.declared.report.FullReport.{FullReport}
 use Rattle.ipfix_session.specs.declared.report.SessionReport.{SessionReport}
 use Rattle.ipfix_session.specs.declared.stop.Stop.TheVariants.{Clean}
 use Rattle.report_writing.specs.Statuses.{number_of}
-use Rattle.report_writing.specs.declared.status.Status.TheVariants.{Well, Failed}
+use Rattle.report_writing.specs.declared.origin.Origin.{Origin}
+use Rattle.report_writing.specs.declared.status.Status.TheVariants.{Well, SessionFault, Failed}
+use Rattle.report_sessions.specs.ReportLines.{report_lines, tally_line}
+use Rattle.report_sessions.specs.Spotless.{IsSpotless}
 use Rattle.flow_table.specs.Plans.{PlanValue}
 use Rattle.flow_table.specs.declared.table.Table.{Table}
-use Rattle.flow_collect.specs.Headline.{Headline, IsAddedUp}
+use Rattle.flow_collect.specs.Headline.{HeadlineWith, IsAddedUp, IsGivenBy}
+use Rattle.flow_collect.specs.InFull.{IsGivenInFull}
+use Rattle.flow_collect.specs.Refusals.{fault_of_arguments}
 use Rattle.flow_collect.specs.Texts.{AreTexts, HasNoFault}
 use Rattle.flow_collect.specs.declared.collected.Collected.{Collected}
 use Rattle.flow_collect.specs.declared.collected.Pool.{Pool}
+use Rattle.flow_collect.specs.declared.fault.CollectFault.{CollectFault}
 use Rattle.input_sources.specs.Had.{IsUnread}
+use Rattle.output_tables.specs.TableTexts.{Writes}
+use Rattle.output_tables.specs.declared.output.Output.{Output}
+use Rattle.command_collect.specs.CollectLines.{collect_fault_line}
+use Rattle.command_collect.specs.Told.{run_lines, TellsFault}
+use Rattle.command_collect.specs.declared.job.CollectJob.{CollectJob}
+
+-- the fault that a pool has with however many sources
+abbrev pub fault_of_pool : Pool → Option CollectFault
+fault_of_pool pool = fault_of_arguments pool 1
+
+-- all was well: no session has a fault,
+abbrev pub HaveNoFault : List SessionReport → Table → Type 0
+HaveNoFault reports table = All HasNoFault reports
+
+-- and if the run is strict, nothing shows that anything which was sent isn't in the table
+abbrev pub WentWell : Bool → List FullReport → Table → Type 0
+WentWell true fulls table = IsSpotless fulls table.tally table.missing
+WentWell false fulls table = All (λ (full : FullReport). HasNoFault full.report) fulls
 
 module _ {S : Type 0} (seen : S → SourceView) where
   -- each of these texts ends with a whole message, and the table is that of all their records
@@ -25,29 +51,52 @@ module _ {S : Type 0} (seen : S → SourceView) where
   abbrev pub AddsUpWhole : List S → PlanValue → Table → Type 0
   AddsUpWhole sources plan table = (texts : List (List ℕ)) → AreTexts seen sources texts → IsOfWhole plan table texts
 
-  -- what was collected ended as the last fact says it, of the sessions and their table; the status says that all was well
-  -- exactly if no session had a fault
-  pub record WritesTable (sources : List S) (plan : PlanValue) (pool : Pool) (status : ℕ) (Ends : List SessionReport → Table → Type 0) : Type 0 where
-    -- what the headline says
-    pub collected : Collected S
-    pub headline : Headline seen sources plan pool collected
-    -- the records of each session are the first of those that its source's whole text gives
-    pub first : (texts : List (List ℕ)) → AreTexts seen sources texts → AllZip (λ q t. IsPrefix q (records_of t)) headline.records texts
-    pub status_is : (status ≡ number_of Well) ↔ All HasNoFault collected.sessions.items
-    -- then the table is that of the whole texts
-    pub whole : status ≡ number_of Well → AddsUpWhole sources plan collected.table
-    pub ends : Ends collected.sessions.items collected.table
+  -- by what a worker gets, as in the headline, and by when all was well
+  module _ {R : Type 0} (Gets : S → S → R → List DataRecord → Type 0) (IsWell : List R → Table → Type 0) (plan : PlanValue) (pool : Pool) (status : ℕ) (Ends : List R → Table → Type 0) where
+    -- what was collected ended as the last fact says it, of the sessions and their table; the status says that all was well
+    -- exactly if it was
+    pub record WritesTable (sources : List S) : Type 0 where
+      -- what the headline says
+      pub collected : Collected S R Table
+      pub headline : HeadlineWith Gets sources plan pool collected
+      -- the records of each session are the first of those that its source's whole text gives
+      pub first : (texts : List (List ℕ)) → AreTexts seen sources texts → AllZip (λ q t. IsPrefix q (records_of t)) headline.records texts
+      pub status_is : (status ≡ number_of Well) ↔ IsWell collected.sessions.items collected.table
+      -- then the table is that of the whole texts
+      pub whole : status ≡ number_of Well → AddsUpWhole sources plan collected.table
+      pub ends : Ends collected.sessions.items collected.table
 
-  -- that table was written
-  pub record WritesWholeTable (sources : List S) (plan : PlanValue) (IsWritten : Table → Type 0) : Type 0 where
-    pub table : Table
-    pub adds_up : AddsUpWhole sources plan table
-    pub written : IsWritten table
+    -- sources were had as the first fact says it, none of which was read before, and a run of them ended as the last one says
+    -- it, of their sessions and the table
+    pub record RunsSources (AreHad : List S → Type 0) : Type 0 where
+      pub sources : List S
+      pub had : AreHad sources
+      pub unread : All (IsUnread seen) sources
+      pub table : status ≢ number_of Failed → WritesTable sources
 
-  -- sources were had as the first fact says it, none of which was read before, and a run of them ended as the last one says
-  -- it, of their sessions and the table
-  pub record RunsSources (AreHad : List S → Type 0) (plan : PlanValue) (pool : Pool) (status : ℕ) (Ends : List SessionReport → Table → Type 0) : Type 0 where
-    pub sources : List S
-    pub had : AreHad sources
-    pub unread : All (IsUnread seen) sources
-    pub table : status ≢ number_of Failed → WritesTable sources plan pool status Ends
+-- what the status of a run says of so many sources
+pub record Runs (pool : Pool) (count status : ℕ) (IsUntouched WritesIt : Type 0) (AreTold : List ℕ → Type 0) : Type 0 where
+  pub statuses : (status ≡ number_of Well) ⊎ (status ≡ number_of SessionFault) ⊎ (status ≡ number_of Failed)
+  pub table : status ≢ number_of Failed → WritesIt
+  -- the line of a fault alone was told; and nothing was written, if it is one of collecting
+  pub failed : status ≡ number_of Failed → TellsFault IsUntouched AreTold
+  -- nothing was collected if the arguments have a fault, and that is told
+  pub refused : IfSome (fault_of_arguments pool count) (λ fault. (status ≡ number_of Failed) × IsUntouched × AreTold (collect_fault_line fault))
+
+-- the table was written to a writer, and nothing else; the lines of the sessions and of the table's counts were told, and
+-- nothing else
+module _ {W : Type 0} (contents : W → Option (List ℕ)) (old new : W) (AreTold : List ℕ → Type 0) where
+  abbrev pub WritesAndTells : PlanValue → Output → List SessionReport → Table → Type 0
+  WritesAndTells plan output reports table = Writes [] plan output (contents old) (contents new) table × AreTold (report_lines reports ++ tally_line table.tally)
+
+  -- how a run ended that has no options,
+  abbrev pub RunsPlainly : {S Z : Type 0} → (S → SourceView) → Vec S Z → PlanValue → Pool → Output → ℕ → Type 0
+  RunsPlainly seen sources plan pool output status =
+      Runs pool (vec_len sources) status (new ≡ old) (WritesTable seen (IsGivenBy seen) HaveNoFault plan pool status (WritesAndTells plan output) sources.items) AreTold
+
+  -- and one with a job, by the names that elements have under its files, and told in full
+  abbrev pub RunsJob : {S Z : Type 0} → (S → SourceView) → Vec S Z → CollectJob → List Origin → ℕ → Type 0
+  RunsJob seen sources job origins status =
+      Runs job.pool (vec_len sources) status (new ≡ old)
+      (WritesTable seen (IsGivenInFull seen) (WentWell job.verbosity.strict) job.plan.now job.pool status
+      (λ fulls table. Writes job.elements.now job.plan.now job.output (contents old) (contents new) table × AreTold (run_lines job origins fulls table)) sources.items) AreTold

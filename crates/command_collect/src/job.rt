@@ -7,6 +7,7 @@ use flow_collect::Pool;
 use flow_table::Plan;
 use output_tables::Output;
 use report_writing::{NOTHING_MORE, Verbosity};
+use std::time::Duration;
 
 /// What a run is to do with what it collects, wherever that comes from.
 #[derive(Clone, Copy)]
@@ -40,4 +41,15 @@ impl<'a> CollectJob<'a> {
             verbosity: NOTHING_MORE,
         }
     }
+}
+
+/// The connections that a run waits for.
+#[derive(Clone, Copy)]
+pub struct Connections<'a> {
+    /// Where they are waited for, as lines name it.
+    pub address: &'a str,
+    /// How many.
+    pub count: usize,
+    /// A read that waits for longer fails; with no limit it waits for as long as it takes.
+    pub idle: Option<Duration>,
 }

@@ -1,23 +1,18 @@
 //! Collecting and writing the table.
 
-ghost use Rattle.std.specs.Prelude.{◌≡◌, ◌≢◌, ◌⊎◌, ◌++◌, [], IfSome, vec_len};
-ghost use Rattle.flow_collect.specs.Refusals.{fault_of_arguments};
 ghost use Rattle.report_writing.specs.Statuses.{number_of};
-ghost use Rattle.report_sessions.specs.ReportLines.{report_lines, tally_line};
 ghost use Rattle.report_writing.specs.Told.{AreToldTo};
-ghost use Rattle.command_collect.specs.CollectLines.{collect_fault_line};
-ghost use Rattle.command_collect.specs.Told.{TellsFault};
-ghost use Rattle.output_tables.specs.TableTexts.{Writes};
-ghost use Rattle.command_collect.specs.Runs.{WritesTable, WritesWholeTable};
+ghost use Rattle.command_collect.specs.Runs.{RunsJob, RunsPlainly};
 
-use crate::full_run::run_in_full;
+use crate::collect_fault::write_collect_fault;
+use crate::ending::{status_of, tell};
 use crate::job::CollectJob;
 use element_registry::Elements;
-use flow_collect::Pool;
+use flow_collect::{OpenGate, Pool, collect_flat};
 use flow_table::Plan;
 use ipfix_session::Source;
-use output_tables::Output;
-use report_writing::{Status, WriteLines};
+use output_tables::{Output, export, write_export_fault};
+use report_writing::{Origin, Status, WriteLines};
 use std::alloc::Global;
 use std::io::Write;
 use std::sync::Wait;
@@ -40,30 +35,51 @@ pub fn run<S: Source + Send + Drop, W: Write, E: WriteLines, R: Threads + Wait +
     out: &mut W,
     err: &mut E,
 ) -> u8
-    ensures statuses { (result ≡ number_of Status.Well) ⊎ (result ≡ number_of Status.SessionFault)
-        ⊎ (result ≡ number_of Status.Failed) }
     // The table of what was received of each session was written, and nothing else; the lines of these
-    // sessions and of the table's counts were told, and nothing else; all was well exactly if no session had
-    // a fault.
-    ensures table { result ≢ number_of Status.Failed
-        → WritesTable S.seen sources.items plan.now pool result
-        (λ reports table. Writes [] plan.now output (W.contents out.old) (W.contents out.new) table
-        × AreToldTo E.contents E.failed err.old err.new
-        (report_lines reports ++ tally_line table.tally)) }
-    // The table of all whole texts was written, and each of them ends with a whole message.
-    ensures all { result ≡ number_of Status.Well
-        → WritesWholeTable S.seen sources.items plan.now
-        (Writes [] plan.now output (W.contents out.old) (W.contents out.new)) }
-    // The line of a fault alone was told; and nothing was written, if it is one of collecting.
-    ensures failed { result ≡ number_of Status.Failed → TellsFault (out.new ≡ out.old)
-        (AreToldTo E.contents E.failed err.old err.new) }
-    // Nothing was collected if the arguments have a fault, and that is told.
-    ensures refused { IfSome (fault_of_arguments pool (vec_len sources))
-        (λ fault. (result ≡ number_of Status.Failed) × (out.new ≡ out.old)
-        × AreToldTo E.contents E.failed err.old err.new (collect_fault_line fault)) }
+    // sessions and of the table's counts were told, and nothing else; or the line of a fault alone. All was
+    // well exactly if no session had a fault: then the table is that of all whole texts, and each of them ends
+    // with a whole message.
+    ensures runs { RunsPlainly W.contents out.old out.new
+        (AreToldTo E.contents E.failed err.old err.new) S.seen sources plan.now pool output result }
     ensures kept { E.failed err.old → E.failed err.new }
 {
     let elements = Elements::built_in(alloc);
     let job = CollectJob::plain(&elements, plan, pool, output);
-    run_in_full(rt, alloc, sources, &[], &job, out, err)
+    run_with(rt, alloc, sources, &[], &job, out, err).number()
+}
+
+/// Does as [`run`], and tells more if `job.verbosity` asks for it: to `err` it writes the lines of the
+/// sessions in full, each with the origin that has the session's place. Keys and counters have the names that
+/// `job.elements` give them. If it is strict, it ends with `SessionFault` also if anything shows that something which
+/// was sent isn't in the table ([`is_spotless`](report_sessions::is_spotless)).
+pub fn run_with<S: Source + Send + Drop, W: Write, E: WriteLines, R: Threads + Wait + Sync>(
+    rt: &R,
+    alloc: Global,
+    sources: Vec<S>,
+    origins: &[Origin],
+    job: &CollectJob,
+    out: &mut W,
+    err: &mut E,
+) -> Status
+    // The same, with what `job` says beside: all was well exactly if no session had a fault, and if the run is
+    // strict exactly if it was spotless.
+    ensures runs { RunsJob W.contents out.old out.new
+        (AreToldTo E.contents E.failed err.old err.new) S.seen sources job.now origins.now
+        (number_of result) }
+    ensures kept { E.failed err.old → E.failed err.new }
+{
+    let collected = match collect_flat(rt, alloc, sources, job.plan, job.pool, &OpenGate) {
+        Ok(collected) => collected,
+        Err(fault) => {
+            let _ = write_collect_fault(fault, err);
+            return Status::Failed;
+        }
+    };
+    let table = &collected.table;
+    if let Err(fault) = export(alloc, job.elements, job.plan, table, job.output, out) {
+        let _ = write_export_fault(fault, err);
+        return Status::Failed;
+    }
+    let _ = tell(job, origins, &collected, err);
+    status_of(job.verbosity.strict, &collected)
 }

@@ -3,7 +3,7 @@ use Rattle.std.proofs.Common.{◌≡◌, ℕ, ◌+◌, ◌<◌, ◌≤◌, suc, 
 use Rattle.std.specs.Prelude.{OnErr, OnOk}
 use Rattle.std.specs.Io.KnownBytes.{Appends}
 use Rattle.std.proofs.lemmas.List.{length-map, map-append, map_more, length-take-le}
-use Rattle.report_writing.specs.Statuses.{number_of}
+use Rattle.report_writing.specs.declared.status.Status.{Status}
 use Rattle.report_writing.specs.OpeningLines.{if_verbose}
 use Rattle.report_writing.specs.Told.{AreTold}
 use Rattle.report_writing.specs.declared.verbosity.Verbosity.{Verbosity}
@@ -63,9 +63,9 @@ module _ {P : Type 0} (name_of : P → List ℕ) (paths : List P) where
     stops_merge i d (Whole fault) less first not_added kept = absurd not_added
 
 -- why they weren't merged, behind those that were opened
-pub tells_not_merged : {T E : Type 0} (names : List (List ℕ)) (verbosity : Verbosity) (old mid new : Option (List ℕ)) (Before After : Type 0) (not_merged : NotMerged) (status : ℕ) (answer : Result T E)
+pub tells_not_merged : {T E : Type 0} (names : List (List ℕ)) (verbosity : Verbosity) (old mid new : Option (List ℕ)) (Before After : Type 0) (not_merged : NotMerged) (status : Status) (answer : Result T E)
     → StopsMerge names verbosity (AreTold old mid Before) not_merged → OnOk answer (Appends mid new (not_merged_lines verbosity not_merged)) → OnErr answer After → (Before → After)
-    → status ≡ number_of (status_of not_merged) → TellsNotMerged names verbosity (AreTold old new After) status
+    → status ≡ status_of not_merged → TellsNotMerged names verbosity (AreTold old new After) status
 tells_not_merged names verbosity old mid new Before After not_merged status answer stopped ok err kept is =
     record {
       opened = stopped.opened;

@@ -1,21 +1,33 @@
 -- What merging the exports in files wrote.
-use Rattle.std.specs.Prelude.{◌≡◌, ◌⊎◌, ℕ, List, [], All}
+use Rattle.std.specs.Prelude.{◌≡◌, ◌⊎◌, ℕ, List, [], All, Option, map}
+use Rattle.std.specs.Borrow.{Bor}
 use Rattle.ipfix_session.specs.Sources.{SourceView}
-use Rattle.report_writing.specs.Statuses.{number_of}
+use Rattle.report_writing.specs.declared.status.Status.{Status}
 use Rattle.report_writing.specs.declared.status.Status.TheVariants as ends
+use Rattle.report_writing.specs.declared.status.Status.TheVariants.{Well, Failed}
 use Rattle.flow_table.specs.Plans.{PlanValue}
 use Rattle.flow_table.specs.SameTables.{RowValue}
 use Rattle.flow_table.specs.declared.table.Table.{Table}
 use Rattle.flow_merge.specs.Merging.{merging_plan, AddsAllUp, AddsExport, StandsFor}
 use Rattle.flow_merge.specs.declared.merging.Merging.{Merging}
-use Rattle.input_sources.specs.Had.{IsUnread}
+use Rattle.input_sources.specs.Had.{AreOpened, IsUnread}
+use Rattle.output_tables.specs.TableTexts.{Writes}
 use Rattle.ipfix_session.specs.declared.driver.TheConstants.{READ_LIMIT}
 use Rattle.report_writing.specs.OpeningLines.{if_verbose}
 use Rattle.report_writing.specs.declared.verbosity.Verbosity.{Verbosity}
 use Rattle.command_merge.specs.MergeLines.{file_opened_line, files_opened_lines}
 use Rattle.command_merge.specs.MergesTold.{merge_lines, StopsBehind, TellsNotExported, TellsNotMerged}
+use Rattle.command_merge.specs.declared.job.MergeJob.{MergeJob}
 use Rattle.command_merge.specs.declared.not_merged.NotMerged.{NotMerged}
 use Rattle.command_merge.specs.declared.not_merged.NotMerged.TheVariants.{NotOpened, File, Whole}
+
+-- the names of the files that paths name
+abbrev pub names_of : List (Bor (List ℕ)) → List (List ℕ)
+names_of paths = map (λ (path : Bor (List ℕ)). path.now) paths
+
+-- the source of each path, in their order, was opened once, and no others
+abbrev pub PathsAreOpened : {S O : Type 0} → (O → List ℕ → S → Type 0) → (O → Option (List S)) → O → O → List (Bor (List ℕ)) → List S → Type 0
+PathsAreOpened opens coming before after paths sources = AreOpened (λ (path : Bor (List ℕ)). opens before path.now) paths (coming before) (coming after) sources
 
 module _ {S : Type 0} (seen : S → SourceView) where
   -- sources were had as the first fact says it, none of which was read before; each gave an export, and the rows of all of
@@ -34,14 +46,15 @@ module _ {S : Type 0} (seen : S → SourceView) where
     pub told : IsTold table
 
   -- what the status of a merge of the files of these names says
-  pub record RunsMerge (AreHad : List S → Type 0) (plan : PlanValue) (names : List (List ℕ)) (verbosity : Verbosity) (IsWritten : Table → Type 0) (IsUntouched : Type 0) (AreTold : List ℕ → Type 0) (status : ℕ) : Type 0 where
-    pub statuses : (status ≡ number_of ends.Well) ⊎ (status ≡ number_of ends.NotOpened) ⊎ (status ≡ number_of ends.Failed)
-    -- how many files and rows there are was told, and nothing else
-    pub table : status ≡ number_of ends.Well → EndsMerged AreHad plan IsWritten (λ table. AreTold (merge_lines verbosity names table))
+  pub record RunsMerge {W : Type 0} (AreHad : List S → Type 0) (job : MergeJob) (names : List (List ℕ)) (contents : W → Option (List ℕ)) (old new : W) (AreTold : List ℕ → Type 0) (status : Status) : Type 0 where
+    pub statuses : (status ≡ Well) ⊎ (status ≡ ends.NotOpened) ⊎ (status ≡ Failed)
+    -- their rows were written, by the names that elements have under files; and how many files and rows there are was told, and
+    -- nothing else
+    pub table : status ≡ Well → EndsMerged AreHad job.plan.now (Writes job.elements.now job.plan.now job.output (contents old) (contents new)) (λ table. AreTold (merge_lines job.verbosity names table))
     -- nothing was written unless all were opened, and the one that can't be was told;
-    pub not_opened : status ≡ number_of ends.NotOpened → IsUntouched × TellsNotMerged names verbosity AreTold status
+    pub not_opened : status ≡ ends.NotOpened → (new ≡ old) × TellsNotMerged names job.verbosity AreTold status
     -- nor unless all were merged, and the fault was told; else the table was had, and the fault of the export told
-    pub failed : status ≡ number_of ends.Failed → (IsUntouched × TellsNotMerged names verbosity AreTold status) ⊎ (((table : Table) × IsMerged AreHad plan table) × TellsNotExported names verbosity AreTold)
+    pub failed : status ≡ Failed → ((new ≡ old) × TellsNotMerged names job.verbosity AreTold status) ⊎ (((table : Table) × IsMerged AreHad job.plan.now table) × TellsNotExported names job.verbosity AreTold)
 
   -- the export of a source that was had as the first fact says it, and not read before, is added
   pub record AddsFile (IsHad : S → Type 0) (old new : Merging) : Type 0 where

@@ -1,9 +1,9 @@
 -- What a merge tells on standard error.
 use Rattle.std.specs.Prelude.{◌≡◌, ◌⊎◌, ℕ, List, [], ◌∷◌, ◌++◌, length}
-use Rattle.report_writing.specs.Statuses.{number_of}
 use Rattle.flow_export.specs.declared.fault.ExportFault.{ExportFault}
 use Rattle.flow_table.specs.declared.table.Table.{Table}
 use Rattle.output_tables.specs.ExportFaultLines.{export_fault_line}
+use Rattle.report_writing.specs.declared.status.Status.{Status}
 use Rattle.report_writing.specs.declared.verbosity.Verbosity.{Verbosity}
 use Rattle.command_merge.specs.MergeLines.{files_opened_lines, merged_line, not_merged_lines, status_of}
 use Rattle.command_merge.specs.declared.not_merged.NotMerged.{NotMerged}
@@ -22,12 +22,12 @@ StopsBehind names opened (File number path fault) =
 StopsBehind names opened (Whole fault) = (opened ≡ []) ⊎ (opened ≡ names)
 
 -- the files that were opened are told, and then why they were not merged, and nothing else; the status says so
-pub record TellsNotMerged (names : List (List ℕ)) (verbosity : Verbosity) (AreTold : List ℕ → Type 0) (status : ℕ) : Type 0 where
+pub record TellsNotMerged (names : List (List ℕ)) (verbosity : Verbosity) (AreTold : List ℕ → Type 0) (status : Status) : Type 0 where
   pub opened : List (List ℕ)
   pub not_merged : NotMerged
   pub stops : StopsBehind names opened not_merged
   pub told : AreTold (files_opened_lines verbosity opened ++ not_merged_lines verbosity not_merged)
-  pub status_is : status ≡ number_of (status_of not_merged)
+  pub status_is : status ≡ status_of not_merged
 
 -- all files are told, and then the fault of the export
 abbrev pub TellsNotExported : List (List ℕ) → Verbosity → (List ℕ → Type 0) → Type 0

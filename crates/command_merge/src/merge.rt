@@ -1,95 +1,63 @@
 //! Merging the exports in files.
 
-ghost use Rattle.std.specs.Prelude.{◌≡◌, ℕ, List, [], map, IfErr, IfOk, OnOk};
+ghost use Rattle.std.specs.Prelude.{◌≡◌, ℕ, List, IfErr, IfOk, OnOk};
 ghost use Rattle.flow_table.specs.Fitting.{FitsPlan};
 ghost use Rattle.report_writing.specs.OpeningLines.{if_verbose};
 ghost use Rattle.report_writing.specs.Told.{AreToldTo};
-ghost use Rattle.output_tables.specs.TableTexts.{Writes};
 ghost use Rattle.command_merge.specs.MergeLines.{file_opened_line, files_opened_lines};
-ghost use Rattle.command_merge.specs.Merges.{AddsFile, IsMerged, IsNotAdded, RunsMerge, StopsMerge};
-ghost use Rattle.input_sources.specs.Had.{AreOpened, IsOpened};
+ghost use Rattle.command_merge.specs.Merges.{AddsFile, IsMerged, IsNotAdded, PathsAreOpened, RunsMerge, StopsMerge, names_of};
+ghost use Rattle.input_sources.specs.Had.{IsOpened};
 
+use crate::job::MergeJob;
 use crate::not_merged::NotMerged;
 use crate::reports::{write_file_opened, write_merged, write_not_merged};
-use element_registry::Elements;
 use flow_merge::Merging;
-use flow_table::{FlatTable, Plan};
+use flow_table::FlatTable;
 use input_sources::OpenSource;
 use ipfix_session::{READ_LIMIT, Source};
-use output_tables::{Output, export, write_export_fault};
-use report_writing::{NOTHING_MORE, Status, Verbosity, WriteLines};
+use output_tables::{export, write_export_fault};
+use report_writing::{Status, Verbosity, WriteLines};
 use std::alloc::Global;
 use std::io::Write;
 
 /// Opens the files of exports one after another, and writes the table of all of them to `out`: rows of
-/// the same interval and key are added up. Answers the exit status: 0 if all was well; 2 if a file can't
-/// be opened; 3 if a file is no whole export under the plan, a sum is too large, memory runs out, or the
-/// table can't be written.
+/// the same interval and key are added up. Answers how it ended: `Well`; `NotOpened` if a file can't be
+/// opened; `Failed` if a file is no whole export under the plan, a sum is too large, memory runs out, or
+/// the table can't be written.
 ///
 /// To `err` it writes how many files and rows there were, or else a line for the first file that was not
-/// opened or not merged, and what is wrong with it. A fault of `err` is passed over. Nothing is written
-/// to `out` unless all files were merged.
-pub fn run_merge<S: Source + Drop, O: OpenSource<S>, W: Write, E: WriteLines>(
+/// opened or not merged, and what is wrong with it. If the job is verbose it tells each file that is
+/// opened or not merged, by its number and name, and the system's reason behind one that can't be opened.
+/// A strict merge is none other, since nothing is merged in which anything was lost or passed over.
+/// A fault of `err` is passed over. Nothing is written to `out` unless all files were merged.
+pub fn run_merge_with<S: Source + Drop, O: OpenSource<S>, W: Write, E: WriteLines>(
     files: &mut O,
     alloc: Global,
     paths: &[&str],
-    plan: &Plan,
-    output: Output,
+    job: &MergeJob,
     out: &mut W,
     err: &mut E,
-) -> u8
+) -> Status
     // The source of each path, in their order, each opened once, gave an export; the rows of all of them,
     // added up, were written, and nothing else; or what kept them from it was told.
-    ensures runs { RunsMerge S.seen (AreOpened (λ path. O.opens files.old path.now)
-        paths.now (O.coming files.old) (O.coming files.new))
-        plan.now (map (λ path. path.now) paths.now) NOTHING_MORE
-        (Writes [] plan.now output (W.contents out.old) (W.contents out.new)) (out.new ≡ out.old)
-        (AreToldTo E.contents E.failed err.old err.new) result }
+    ensures runs { RunsMerge S.seen
+        (PathsAreOpened O.opens O.coming files.old files.new paths.now) job.now (names_of paths.now)
+        W.contents out.old out.new (AreToldTo E.contents E.failed err.old err.new) result }
     ensures kept { E.failed err.old → E.failed err.new }
 {
-    let elements = Elements::built_in(alloc);
-    let verbosity = NOTHING_MORE;
-    run_merge_in_full(
-        files, alloc, paths, &elements, plan, output, verbosity, out, err,
-    )
-}
-
-/// Does as [`run_merge`], and tells more if `verbosity` is verbose: each file that is opened or not merged, by its
-/// number and name, and the system's reason behind one that can't be opened. A strict merge is none other, since nothing is
-/// merged in which anything was lost or passed over. Keys and counters have the names that `elements` gives them.
-pub fn run_merge_in_full<S: Source + Drop, O: OpenSource<S>, W: Write, E: WriteLines>(
-    files: &mut O,
-    alloc: Global,
-    paths: &[&str],
-    elements: &Elements,
-    plan: &Plan,
-    output: Output,
-    verbosity: Verbosity,
-    out: &mut W,
-    err: &mut E,
-) -> u8
-    // The source of each path, in their order, each opened once, gave an export; the rows of all of them,
-    // added up, were written, and nothing else; or what kept them from it was told.
-    ensures runs { RunsMerge S.seen (AreOpened (λ path. O.opens files.old path.now)
-        paths.now (O.coming files.old) (O.coming files.new))
-        plan.now (map (λ path. path.now) paths.now) verbosity
-        (Writes elements.now plan.now output (W.contents out.old) (W.contents out.new))
-        (out.new ≡ out.old) (AreToldTo E.contents E.failed err.old err.new) result }
-    ensures kept { E.failed err.old → E.failed err.new }
-{
-    let table = match merge_files(files, alloc, paths, plan, verbosity, err) {
+    let table = match merge_files(files, alloc, paths, job, err) {
         Ok(table) => table,
         Err(not_merged) => {
-            let _ = write_not_merged(verbosity, &not_merged, err);
-            return not_merged.status().number();
+            let _ = write_not_merged(job.verbosity, &not_merged, err);
+            return not_merged.status();
         }
     };
-    if let Err(fault) = export(alloc, elements, plan, &table, output, out) {
+    if let Err(fault) = export(alloc, job.elements, job.plan, &table, job.output, out) {
         let _ = write_export_fault(fault, err);
-        return Status::Failed.number();
+        return Status::Failed;
     }
     let _ = write_merged(paths.len(), table.len(), err);
-    Status::Well.number()
+    Status::Well
 }
 
 // The table of the exports in files; or why they were not merged. Each that is opened is told.
@@ -97,26 +65,24 @@ fn merge_files<'a, S: Source + Drop, O: OpenSource<S>, E: WriteLines>(
     files: &mut O,
     alloc: Global,
     paths: &[&'a str],
-    plan: &Plan,
-    verbosity: Verbosity,
+    job: &MergeJob,
     err: &mut E,
 ) -> Result<FlatTable, NotMerged<'a>>
-    ensures merged { IfOk result
-        (IsMerged S.seen (AreOpened (λ path. O.opens files.old path.now)
-        paths.now (O.coming files.old) (O.coming files.new)) plan.now) }
-    ensures fits { IfOk result (FitsPlan plan.now) }
+    ensures merged { IfOk result (IsMerged S.seen
+        (PathsAreOpened O.opens O.coming files.old files.new paths.now) job.now.plan.now) }
+    ensures fits { IfOk result (FitsPlan job.now.plan.now) }
     ensures told { OnOk result (AreToldTo E.contents E.failed err.old err.new
-        (files_opened_lines verbosity (map (λ path. path.now) paths.now))) }
-    ensures stops { IfErr result (StopsMerge (map (λ path. path.now) paths.now) verbosity
+        (files_opened_lines job.now.verbosity (names_of paths.now))) }
+    ensures stops { IfErr result (StopsMerge (names_of paths.now) job.now.verbosity
         (AreToldTo E.contents E.failed err.old err.new)) }
     ensures kept { E.failed err.old → E.failed err.new }
 {
-    let mut merging = match Merging::new(alloc, plan) {
+    let mut merging = match Merging::new(alloc, job.plan) {
         Ok(merging) => merging,
         Err(fault) => return Err(NotMerged::Whole(fault)),
     };
     for (index, path) in paths.iter().enumerate() {
-        merging = add_file(files, merging, index + 1, *path, verbosity, err)?;
+        merging = add_file(files, merging, index + 1, *path, job.verbosity, err)?;
     }
     match merging.finish() {
         Ok(table) => Ok(table),

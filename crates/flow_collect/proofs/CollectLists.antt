@@ -5,7 +5,6 @@ use Rattle.std.specs.List.{AllZip}
 use Rattle.std.proofs.lemmas.List.Elements.{All-head, All-tail, All-append, All-cons, All-nil}
 use Rattle.ipfix_message.specs.declared.record.DataRecord.{DataRecord}
 use Rattle.ipfix_session.specs.Sources.{SourceView}
-use Rattle.ipfix_session.specs.declared.report.FullReport.{FullReport}
 use Rattle.flow_link.specs.Ends.{LinkName, ReceiverView}
 use Rattle.flow_link.specs.Parcels.{has_last}
 use Rattle.flow_link.specs.declared.settled.Settled.{Settled}
@@ -14,18 +13,18 @@ use Rattle.flow_table.specs.Fitting.{FitsPlan}
 use Rattle.flow_table.specs.Plans.{PlanValue}
 use Rattle.flow_table.specs.declared.table.Table.{Table}
 use Rattle.flow_collect.specs.Dealt.{IsPaired, IsNewShare, IsNewStart, IsDealt, start_link}
-use Rattle.flow_collect.specs.Finished.{HasTaken, link_ends_of, ended_link, SettlesEnds, CameOver, FinishedAs, IsOverfull}
+use Rattle.flow_collect.specs.Finished.{HasTaken, link_ends_of, ended_link, SettlesEnds, CameOver, FinishedAs, IsOverfull, parts_of}
 use Rattle.flow_collect.specs.Headline.{all_of}
-use Rattle.flow_collect.specs.InFull.{HeadlineInFull, reports_in}
+use Rattle.flow_collect.specs.InFull.{FullAnswer, FullHeadline, reports_in}
 use Rattle.flow_collect.specs.LinkEnds.{IsEnded, WorkerRan, link_end_key, receivers_of}
 use Rattle.flow_collect.specs.Places.{Each3, Each4}
 use Rattle.flow_collect.specs.Promises.{IsSettled}
 use Rattle.flow_collect.specs.Refusals.{AreTooLarge}
 use Rattle.flow_collect.specs.Sessions.{SessionRan}
-use Rattle.flow_collect.specs.declared.collected.CollectedInFull.{CollectedInFull}
 use Rattle.flow_collect.specs.declared.collected.Pool.{Pool}
 use Rattle.flow_collect.specs.declared.session_thread.EndedSession.{EndedSession}
 use Rattle.flow_collect.specs.declared.session_thread.Start.{Start}
+use Rattle.flow_collect.specs.declared.settling.Parts.{Parts}
 use Rattle.flow_collect.specs.declared.worker.LinkEnd.{LinkEnd}
 use Rattle.flow_collect.specs.declared.worker.WorkerShare.{WorkerShare}
 use Rattle.flow_collect.proofs.GivenLists.{too_large_due}
@@ -110,29 +109,30 @@ module _ {S : Type 0} (seen : S → SourceView) where
       )
   sessions_settled capacity starts ts ls ks e n z h = absurd z
 
-  came_settled : (plan : PlanValue) (capacity : ℕ) (sources : List S) (starts : List (Start S)) (shares : List WorkerShare) (ts : List (EndedSession S)) (reports : List FullReport) (links : List Settled) (afters : List S) (records : List DataRecord)
-      → IsDealt plan capacity sources starts shares → AllZip (SessionRan seen) starts ts → CameOver ts reports links afters records
-      → Each4 (IsSettled seen capacity) sources afters reports links
-  came_settled plan capacity sources starts shares ts reports links afters records d e came =
-      rw (sym d.sources_are, came.settled.sources_are, came.settled.reports_are) (sessions_settled capacity starts ts came.link_ends links e d.new_starts came.settled.links_are came.ended)
+  came_settled : (plan : PlanValue) (capacity : ℕ) (sources : List S) (starts : List (Start S)) (shares : List WorkerShare) (ts : List (EndedSession S)) (parts : Parts S) (records : List DataRecord)
+      → IsDealt plan capacity sources starts shares → AllZip (SessionRan seen) starts ts → CameOver ts parts records
+      → Each4 (IsSettled seen capacity) sources parts.sources.items parts.sessions.items parts.links.items
+  came_settled plan capacity sources starts shares ts parts records d e came =
+      rw (sym d.sources_are, came.settled.sources_are, came.settled.reports_are) (sessions_settled capacity starts ts came.link_ends parts.links.items e d.new_starts came.settled.links_are came.ended)
 
-  finished : (plan : PlanValue) (pool : Pool) (sources : List S) (starts : List (Start S)) (shares : List WorkerShare) (ts : List (EndedSession S)) (c : CollectedInFull S Table)
+  finished : (plan : PlanValue) (pool : Pool) (sources : List S) (starts : List (Start S)) (shares : List WorkerShare) (ts : List (EndedSession S)) (c : FullAnswer S)
       → IsDealt plan pool.capacity sources starts shares → AllZip (SessionRan seen) starts ts → FinishedAs plan ts c
-      → HeadlineInFull seen sources plan pool c × FitsPlan plan c.table
+      → FullHeadline seen sources plan pool c × FitsPlan plan c.table
   finished plan pool sources starts shares ts c d e f =
-      let each = came_settled plan pool.capacity sources starts shares ts c.sessions.items c.links.items c.sources.items f.records d e f.came in
+      let each = came_settled plan pool.capacity sources starts shares ts (parts_of c) f.records d e f.came in
       (run_headline seen sources plan pool c f.records each f.came.same f.table_is f.small, f.fits)
 
   overfull : (plan : PlanValue) (capacity : ℕ) (sources : List S) (starts : List (Start S)) (shares : List WorkerShare) (ts : List (EndedSession S))
       → IsDealt plan capacity sources starts shares → AllZip (SessionRan seen) starts ts → IsOverfull plan ts → AreTooLarge seen plan sources
   overfull plan capacity sources starts shares ts d e f =
-      let each = came_settled plan capacity sources starts shares ts f.reports f.links f.sources f.records d e f.came in
-      let all = told seen capacity sources f.sources f.reports f.links each in
+      let parts = f.parts in
+      let each = came_settled plan capacity sources starts shares ts parts f.records d e f.came in
+      let all = told seen capacity sources parts.sources.items parts.sessions.items parts.links.items each in
       let same : IsSameBag f.records (all_of all.records) = subst (λ (x : List DataRecord). IsSameBag f.records x) all.all f.came.same in
-      too_large_due seen plan sources f.sources (reports_in f.reports) all.records f.records (given_short seen sources f.sources f.reports all.records all.given) same f.large
+      too_large_due seen plan sources parts.sources.items (reports_in parts.sessions.items) all.records f.records (given_short seen sources parts.sources.items parts.sessions.items all.records all.given) same f.large
 
-  pub answered : (plan : PlanValue) (pool : Pool) (sources : List S) (starts : List (Start S)) (shares : List WorkerShare) (ts : List (EndedSession S)) (answer : Option (CollectedInFull S Table))
+  pub answered : (plan : PlanValue) (pool : Pool) (sources : List S) (starts : List (Start S)) (shares : List WorkerShare) (ts : List (EndedSession S)) (answer : Option (FullAnswer S))
       → IsDealt plan pool.capacity sources starts shares → AllZip (SessionRan seen) starts ts → MatchOption answer (IsOverfull plan ts) (λ c. FinishedAs plan ts c)
-      → MatchOption answer (AreTooLarge seen plan sources) (λ c. HeadlineInFull seen sources plan pool c × FitsPlan plan c.table)
+      → MatchOption answer (AreTooLarge seen plan sources) (λ c. FullHeadline seen sources plan pool c × FitsPlan plan c.table)
   answered plan pool sources starts shares ts None d e f = overfull plan pool.capacity sources starts shares ts d e f
   answered plan pool sources starts shares ts (Some c) d e f = finished plan pool sources starts shares ts c d e f

@@ -31,12 +31,10 @@ use Rattle.ipfix_session.proofs.Reaching.{takes-append}
 use Rattle.flow_table.specs.Plans.{PlanValue}
 use Rattle.flow_table.specs.declared.table.Table.{Table}
 use Rattle.flow_table.proofs.FlatTables.{is_same_table}
-use Rattle.flow_collect.specs.Headline.{Headline, IsGivenBy, IsAddedUp, all_of}
-use Rattle.flow_collect.specs.InFull.{IsBalanced, IsGivenInFull, HasBalanced, HeadlineInFull, IsWithTable, IsWithoutRest, reports_in}
+use Rattle.flow_collect.specs.Headline.{Answer, Headline, IsGivenBy, all_of}
+use Rattle.flow_collect.specs.InFull.{FullAnswer, FullHeadline, IsBalanced, IsGivenInFull, HasBalanced, IsWithoutRest, reports_in}
 use Rattle.flow_collect.specs.Places.{Each4}
 use Rattle.flow_collect.specs.Texts.{EachGave, GaveThese, WasReadOut}
-use Rattle.flow_collect.specs.declared.collected.Collected.{Collected}
-use Rattle.flow_collect.specs.declared.collected.CollectedInFull.{CollectedInFull}
 use Rattle.flow_collect.specs.declared.collected.Pool.{Pool}
 use Rattle.flow_collect.proofs.GivenLists.{gave_is, report_of_octets}
 use Rattle.flow_collect.proofs.PlaceLists.{last_two_beside, outer_two}
@@ -98,28 +96,15 @@ balanced_of : (ms : List Message) (reports : List DomainReport) (of_domains : Li
     → AllZip (IsBalanced ms) reports of_domains
 balanced_of ms reports of_domains r b = rw (r, b) (balanced_in ms (domains_of ms))
 
--- ---- a run with all rows of its table
-
-pub headline_whole : {S : Type 0} (seen : S → SourceView) (sources : List S) (plan : PlanValue) (pool : Pool) (c whole : CollectedInFull S Table) → HeadlineInFull seen sources plan pool c
-    → IsWithTable c whole → HeadlineInFull seen sources plan pool whole
-headline_whole seen sources plan pool c whole h w =
-    record {
-      records = h.records;
-      received = rw w.links_are h.received;
-      given = rw (w.sources_are, w.sessions_are) h.given;
-      added_up = record { table_is = is_same_table plan (all_of h.records) c.table whole.table w.same h.added_up.table_is; not_too_large = h.added_up.not_too_large };
-    }
-
 -- ---- a run without the rest
 
 -- as many reports, without the rest
-abbrev short_sessions : {Z : Type 0} → Vec FullReport Z → Vec SessionReport Z
+abbrev pub short_sessions : {Z : Type 0} → Vec FullReport Z → Vec SessionReport Z
 short_sessions v = record { ptr = v.ptr; len = v.len; cap = v.cap; alloc = v.alloc; items = reports_in v.items; ok = (v.ok.0 ∙ sym (length-map v.items (λ (full : FullReport). full.report)), v.ok.1); small = v.small }
 
 -- each run in full has one
-pub short_run : {S : Type 0} (c : CollectedInFull S Table) → (short : Collected S) × IsWithoutRest c short
-short_run c =
-    (record { sessions = short_sessions c.sessions; links = c.links; sources = c.sources; table = c.table }, record { sessions_are = refl; links_are = refl; sources_are = refl; table_is = refl })
+abbrev pub short_run : {S : Type 0} → FullAnswer S → Answer S
+short_run c = record { sessions = short_sessions c.sessions; links = c.links; sources = c.sources; table = c.table }
 
 -- ---- all sessions
 
@@ -154,12 +139,12 @@ module _ {S : Type 0} (seen : S → SourceView) where
       outer_two (λ (full : FullReport) (q : List DataRecord) (b : List ℕ). WasReadOut full.report → IsFullReport full b) (λ (full : FullReport) (b : List ℕ). WasReadOut full.report → IsFullReport full b) (λ full q b is. is) fulls qs bs
       (last_two_beside (IsGivenInFull seen) (λ s a b. GaveThese (seen s) (seen a) b) (λ full q b. WasReadOut full.report → IsFullReport full b) full_of_octets befores afters fulls qs bs e t)
 
-  pub headline_short : (sources : List S) (plan : PlanValue) (pool : Pool) (c : CollectedInFull S Table) (short : Collected S) → HeadlineInFull seen sources plan pool c → IsWithoutRest c short
+  pub headline_short : (sources : List S) (plan : PlanValue) (pool : Pool) (c : FullAnswer S) (short : Answer S) → FullHeadline seen sources plan pool c → IsWithoutRest c short
       → Headline seen sources plan pool short
   headline_short sources plan pool c short h w =
       record {
         records = h.records;
         received = rw w.links_are h.received;
         given = rw (w.sources_are, w.sessions_are) (given_short sources c.sources.items c.sessions.items h.records h.given);
-        added_up = subst (λ (t : Table). IsAddedUp plan (all_of h.records) t) (sym w.table_is) h.added_up;
+        added_up = record { table_is = is_same_table plan (all_of h.records) c.table short.table w.same h.added_up.table_is; not_too_large = h.added_up.not_too_large };
       }

@@ -7,7 +7,6 @@ use Rattle.std.proofs.lemmas.List.Elements.{All-head, All-tail, All-append, All-
 use Rattle.std.proofs.lemmas.List.Sorted.{sum_by-IsPermutation}
 use Rattle.std.proofs.lemmas.List.Sums.{sum_by-append, sum_by-cons}
 use Rattle.ipfix_message.specs.declared.record.DataRecord.{DataRecord}
-use Rattle.ipfix_session.specs.declared.report.FullReport.{FullReport}
 use Rattle.flow_link.specs.Parcels.{records_in}
 use Rattle.flow_link.specs.Settling.{settled_received}
 use Rattle.flow_link.specs.declared.settled.Settled.{Settled}
@@ -20,6 +19,7 @@ use Rattle.flow_collect.specs.LinkEnds.{StandsForLinkEnds, IsEnded, link_end_wei
 use Rattle.flow_collect.specs.Places.{Each3}
 use Rattle.flow_collect.specs.Promises.{settled_records}
 use Rattle.flow_collect.specs.declared.session_thread.EndedSession.{EndedSession}
+use Rattle.flow_collect.specs.declared.settling.Parts.{Parts}
 use Rattle.flow_collect.specs.declared.worker.LinkEnd.{LinkEnd}
 use Rattle.flow_collect.specs.declared.worker.WorkerShare.{WorkerShare}
 use Rattle.flow_collect.proofs.Deals.{at_seam}
@@ -33,18 +33,18 @@ paired_here all ts rest rest' t number link_end e f n m p =
     let here : slice_get (map ended_link all) link_end.session ≡ Some (ended_link t) = rw (whole, m, n) (at_seam ended_link ts t rest') in
     cc
 
-pub settled_on : {S : Type 0} (ts : List (EndedSession S)) (ls : List LinkEnd) (rs : List FullReport) (ks : List Settled) (ss : List S) (t : EndedSession S) (link_end : LinkEnd) (rs' : List FullReport) (ks' : List Settled) (ss' : List S)
-    → SettledAll ts ls rs ks ss → SettlesOne t link_end rs ks ss rs' ks' ss' → SettledAll (ts ++ t ∷ []) (ls ++ link_end ∷ []) rs' ks' ss'
-settled_on {S} ts ls rs ks ss t link_end rs' ks' ss' all one =
+pub settled_on : {S : Type 0} (ts : List (EndedSession S)) (ls : List LinkEnd) (t : EndedSession S) (link_end : LinkEnd) (old new : Parts S)
+    → SettledAll ts ls old → SettlesOne t link_end old new → SettledAll (ts ++ t ∷ []) (ls ++ link_end ∷ []) new
+settled_on {S} ts ls t link_end old new all one =
     record {
       reports_are = one.reports_are ∙ (ap (λ r. r ++ t.report ∷ []) all.reports_are ∙ sym (map_push (λ (t : EndedSession S). t.report) ts t));
       sources_are = one.sources_are ∙ (ap (λ r. r ++ t.source ∷ []) all.sources_are ∙ sym (map_push (λ (t : EndedSession S). t.source) ts t));
-      links_are = rw one.links_are (each3_more _ ts ls ks t link_end one.link all.links_are one.settled);
+      links_are = rw one.links_are (each3_more _ ts ls old.links.items t link_end one.link all.links_are one.settled);
     }
 
-pub settled_end : {S : Type 0} (ts : List (EndedSession S)) (ls : List LinkEnd) (rs : List FullReport) (ks : List Settled) (ss : List S) (ts0 : List (EndedSession S)) (ls0 : List LinkEnd)
-    → ts0 ≡ ts → ls0 ≡ ls → SettledAll ts ls rs ks ss → SettledAll ts0 ls0 rs ks ss
-settled_end {S} ts ls rs ks ss ts0 ls0 e f all = rw (e, f) all
+pub settled_end : {S : Type 0} (ts : List (EndedSession S)) (ls : List LinkEnd) (parts : Parts S) (ts0 : List (EndedSession S)) (ls0 : List LinkEnd)
+    → ts0 ≡ ts → ls0 ≡ ls → SettledAll ts ls parts → SettledAll ts0 ls0 parts
+settled_end {S} ts ls parts ts0 ls0 e f all = rw (e, f) all
 
 pub stands_joined : (p q r : Partial) (xs ys : List LinkEnd) → ((rs qs : List DataRecord) → StandsFor p rs → StandsFor q qs → StandsFor r (rs ++ qs)) → StandsForLinkEnds p xs → StandsForLinkEnds q ys → StandsForLinkEnds r (xs ++ ys)
 stands_joined p q r xs ys merged a b =
@@ -87,7 +87,7 @@ link_ends_ended plan (w ∷ ws) h =
     let first = All-head (HasTaken plan) w ws h in
     All-append IsEnded w.link_ends.items (link_ends_of ws) first.ended (link_ends_ended plan ws (All-tail (HasTaken plan) w ws h))
 
-pub came_over : {S : Type 0} (ts : List (EndedSession S)) (link_ends : List LinkEnd) (reports : List FullReport) (links : List Settled) (sources : List S) (p : Partial)
-    → SettledAll ts link_ends reports links sources → All IsEnded link_ends → (s : StandsForLinkEnds p link_ends) → CameOver ts reports links sources s.records
-came_over ts link_ends reports links sources p settled ended s =
-    record { link_ends = link_ends; settled = settled; ended = ended; same = λ w. s.weighs w ∙ links_weigh w ts link_ends links settled.links_are }
+pub came_over : {S : Type 0} (ts : List (EndedSession S)) (link_ends : List LinkEnd) (parts : Parts S) (p : Partial)
+    → SettledAll ts link_ends parts → All IsEnded link_ends → (s : StandsForLinkEnds p link_ends) → CameOver ts parts s.records
+came_over ts link_ends parts p settled ended s =
+    record { link_ends = link_ends; settled = settled; ended = ended; same = λ w. s.weighs w ∙ links_weigh w ts link_ends parts.links.items settled.links_are }

@@ -2,7 +2,6 @@
 use Rattle.std.specs.Prelude.{◌≡◌, List, ◌∷◌, [], ◌++◌, map, All}
 use Rattle.std.specs.List.{flat_map}
 use Rattle.ipfix_message.specs.declared.record.DataRecord.{DataRecord}
-use Rattle.ipfix_session.specs.declared.report.FullReport.{FullReport}
 use Rattle.flow_link.specs.Ends.{LinkName}
 use Rattle.flow_link.specs.Settling.{Settles}
 use Rattle.flow_link.specs.declared.settled.Settled.{Settled}
@@ -10,13 +9,13 @@ use Rattle.flow_table.specs.Bags.{IsSameBag}
 use Rattle.flow_table.specs.Fitting.{FitsPlan}
 use Rattle.flow_table.specs.Partials.{plan_of}
 use Rattle.flow_table.specs.Plans.{PlanValue}
-use Rattle.flow_table.specs.declared.table.Table.{Table}
 use Rattle.flow_table.specs.Tables.{IsTable, IsTooLarge}
 use Rattle.flow_collect.specs.LinkEnds.{StandsForLinkEnds, IsEnded}
+use Rattle.flow_collect.specs.InFull.{FullAnswer}
 use Rattle.flow_collect.specs.Places.{Each3}
 use Rattle.flow_collect.specs.Promises.{settled_records}
-use Rattle.flow_collect.specs.declared.collected.CollectedInFull.{CollectedInFull}
 use Rattle.flow_collect.specs.declared.session_thread.EndedSession.{EndedSession}
+use Rattle.flow_collect.specs.declared.settling.Parts.{Parts}
 use Rattle.flow_collect.specs.declared.worker.LinkEnd.{LinkEnd}
 use Rattle.flow_collect.specs.declared.worker.WorkerShare.{WorkerShare}
 
@@ -44,39 +43,40 @@ module _ {S : Type 0} where
   SettlesEnds t link_end link = Settles t.sender link_end.receiver link
 
   -- of each session its report, its settled link and its source
-  pub record SettledAll (ts : List (EndedSession S)) (link_ends : List LinkEnd) (reports : List FullReport) (links : List Settled) (sources : List S) : Type 0 where
-    pub reports_are : reports ≡ map (λ (t : EndedSession S). t.report) ts
-    pub sources_are : sources ≡ map (λ (t : EndedSession S). t.source) ts
-    pub links_are : Each3 SettlesEnds ts link_ends links
+  pub record SettledAll (ts : List (EndedSession S)) (link_ends : List LinkEnd) (parts : Parts S) : Type 0 where
+    pub reports_are : parts.sessions.items ≡ map (λ (t : EndedSession S). t.report) ts
+    pub sources_are : parts.sources.items ≡ map (λ (t : EndedSession S). t.source) ts
+    pub links_are : Each3 SettlesEnds ts link_ends parts.links.items
 
   -- one session more
-  pub record SettlesOne (t : EndedSession S) (link_end : LinkEnd) (reports : List FullReport) (links : List Settled) (sources : List S) (reports' : List FullReport) (links' : List Settled) (sources' : List S) : Type 0 where
+  pub record SettlesOne (t : EndedSession S) (link_end : LinkEnd) (old new : Parts S) : Type 0 where
     pub link : Settled
-    pub reports_are : reports' ≡ reports ++ t.report ∷ []
-    pub links_are : links' ≡ links ++ link ∷ []
-    pub sources_are : sources' ≡ sources ++ t.source ∷ []
+    pub reports_are : new.sessions.items ≡ old.sessions.items ++ t.report ∷ []
+    pub links_are : new.links.items ≡ old.links.items ++ link ∷ []
+    pub sources_are : new.sources.items ≡ old.sources.items ++ t.source ∷ []
     pub settled : SettlesEnds t link_end link
 
   -- all links were settled once Last had been taken, and these are the records that came over them, in some order
-  pub record CameOver (ts : List (EndedSession S)) (reports : List FullReport) (links : List Settled) (sources : List S) (records : List DataRecord) : Type 0 where
+  pub record CameOver (ts : List (EndedSession S)) (parts : Parts S) (records : List DataRecord) : Type 0 where
     pub link_ends : List LinkEnd
-    pub settled : SettledAll ts link_ends reports links sources
+    pub settled : SettledAll ts link_ends parts
     pub ended : All IsEnded link_ends
-    pub same : IsSameBag records (settled_records links)
+    pub same : IsSameBag records (settled_records parts.links.items)
+
+  abbrev pub parts_of : FullAnswer S → Parts S
+  parts_of c = record { sessions = c.sessions; links = c.links; sources = c.sources }
 
   -- the table is of these records
-  pub record FinishedAs (plan : PlanValue) (ts : List (EndedSession S)) (c : CollectedInFull S Table) : Type 0 where
+  pub record FinishedAs (plan : PlanValue) (ts : List (EndedSession S)) (c : FullAnswer S) : Type 0 where
     pub records : List DataRecord
-    pub came : CameOver ts c.sessions.items c.links.items c.sources.items records
+    pub came : CameOver ts (parts_of c) records
     pub table_is : IsTable plan records c.table
     pub small : IsTooLarge plan records → ⊥
     pub fits : FitsPlan plan c.table
 
   -- or these records are too large
   pub record IsOverfull (plan : PlanValue) (ts : List (EndedSession S)) : Type 0 where
-    pub reports : List FullReport
-    pub links : List Settled
-    pub sources : List S
+    pub parts : Parts S
     pub records : List DataRecord
-    pub came : CameOver ts reports links sources records
+    pub came : CameOver ts parts records
     pub large : IsTooLarge plan records

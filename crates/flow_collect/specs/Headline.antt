@@ -64,17 +64,26 @@ pub record IsAddedUp (plan : PlanValue) (records : List DataRecord) (table : Tab
 abbrev pub all_of : List (List DataRecord) → List DataRecord
 all_of records = flat_map (λ q. q) records
 
+-- of a run in threads, with any number of workers and links of any capacity. `Gets` says which records a session's worker
+-- gets, by the session's source, before and after, and by its report
+pub record HeadlineWith {S R : Type 0} (Gets : S → S → R → List DataRecord → Type 0) (sources : List S) (plan : PlanValue) (pool : Pool) (c : Collected S R Table) : Type 0 where
+  -- for each session there are records
+  pub records : List (List DataRecord)
+  -- which its worker received over its link, and nothing else
+  pub received : AllZip (IsReceived pool.capacity) c.links.items records
+  -- which are what it gets of the octets that its source gave, as its report tells
+  pub given : Each4 Gets sources c.sources.items c.sessions.items records
+  -- and of which all together the table is the aggregate
+  pub added_up : IsAddedUp plan (all_of records) c.table
+
+-- what `collect` answers
+abbrev pub Answer : Type 0 → Type 0
+Answer S = Collected S SessionReport Table
+
 module _ {S : Type 0} (seen : S → SourceView) where
-  -- of a run in threads, with any number of workers and links of any capacity
-  pub record Headline (sources : List S) (plan : PlanValue) (pool : Pool) (c : Collected S) : Type 0 where
-    -- for each session there are records
-    pub records : List (List DataRecord)
-    -- which its worker received over its link, and nothing else
-    pub received : AllZip (IsReceived pool.capacity) c.links.items records
-    -- which are those of the octets that its source gave, as its report tells
-    pub given : Each4 (IsGivenBy seen) sources c.sources.items c.sessions.items records
-    -- and of which all together the table is the aggregate
-    pub added_up : IsAddedUp plan (all_of records) c.table
+  -- the headline: a worker gets exactly the records of these octets
+  abbrev pub Headline : List S → PlanValue → Pool → Answer S → Type 0
+  Headline sources plan pool c = HeadlineWith (IsGivenBy seen) sources plan pool c
 
   -- of a run on one thread, which has no links
   pub record SerialHeadline (sources : List S) (plan : PlanValue) (s : Serial S) : Type 0 where
@@ -86,5 +95,5 @@ module _ {S : Type 0} (seen : S → SourceView) where
     pub added_up : IsAddedUp plan (all_of records) s.table
 
 -- a run in threads, without its links
-abbrev pub without_links : {S : Type 0} → Collected S → Serial S
+abbrev pub without_links : {S : Type 0} → Answer S → Serial S
 without_links c = record { sessions = c.sessions; sources = c.sources; table = c.table }

@@ -1,4 +1,4 @@
--- The headline of a run that reports in full, and what it is without the rest.
+-- What a worker gets if sessions report in full, and what a run is without the rest.
 use Rattle.std.specs.Prelude.{◌≡◌, ◌+◌, ◌-◌, ◌%◌, ◌^◌, ◌<◌, List, ◌∷◌, length, map}
 use Rattle.std.specs.List.{AllZip}
 use Rattle.ipfix_message.specs.Domains.{Message}
@@ -14,11 +14,13 @@ use Rattle.ipfix_session.specs.declared.report.SessionReport.{SessionReport}
 use Rattle.flow_table.specs.Plans.{PlanValue}
 use Rattle.flow_table.specs.SameTables.{IsSameTable}
 use Rattle.flow_table.specs.declared.table.Table.{Table}
-use Rattle.flow_collect.specs.Headline.{IsReceived, IsGivenBy, IsAddedUp, all_of}
-use Rattle.flow_collect.specs.Places.{Each4}
-use Rattle.flow_collect.specs.declared.collected.Collected.{Collected}
-use Rattle.flow_collect.specs.declared.collected.CollectedInFull.{CollectedInFull}
+use Rattle.flow_collect.specs.Headline.{Answer, HeadlineWith, IsGivenBy}
 use Rattle.flow_collect.specs.declared.collected.Pool.{Pool}
+use Rattle.flow_collect.specs.declared.collected.Collected.{Collected}
+
+-- what `collect_flat` answers
+abbrev pub FullAnswer : Type 0 → Type 0
+FullAnswer S = Collected S FullReport Table
 
 -- the reports as they are without the rest
 abbrev pub reports_in : List FullReport → List SessionReport
@@ -41,32 +43,18 @@ module _ {S : Type 0} (seen : S → SourceView) where
     pub given : IsGivenBy seen before after full.report records
     pub told : ReportsInFull full given.counted (length records)
 
+  -- the headline, if a worker gets these records
+  abbrev pub FullHeadline : List S → PlanValue → Pool → FullAnswer S → Type 0
+  FullHeadline sources plan pool c = HeadlineWith IsGivenInFull sources plan pool c
+
   -- each domain's ledger balances, of the messages that the report counts
   pub record HasBalanced (before after : S) (full : FullReport) (records : List DataRecord) : Type 0 where
     pub given : IsGivenBy seen before after full.report records
     pub balanced : AllZip (IsBalanced given.counted) full.report.domains.items full.balances.items
 
-  -- of a run in threads: the headline, and each session's report is in full
-  pub record HeadlineInFull (sources : List S) (plan : PlanValue) (pool : Pool) (c : CollectedInFull S Table) : Type 0 where
-    -- for each session there are records
-    pub records : List (List DataRecord)
-    -- which its worker received over its link, and nothing else
-    pub received : AllZip (IsReceived pool.capacity) c.links.items records
-    -- which are those of the octets that its source gave, as its full report tells
-    pub given : Each4 IsGivenInFull sources c.sources.items c.sessions.items records
-    -- and of which all together the table is the aggregate
-    pub added_up : IsAddedUp plan (all_of records) c.table
-
--- the same run, with a table that says the same
-pub record IsWithTable {S : Type 0} (c whole : CollectedInFull S Table) : Type 0 where
-  pub sessions_are : whole.sessions ≡ c.sessions
-  pub links_are : whole.links ≡ c.links
-  pub sources_are : whole.sources ≡ c.sources
-  pub same : IsSameTable c.table whole.table
-
--- the same run, with reports that aren't in full
-pub record IsWithoutRest {S : Type 0} (c : CollectedInFull S Table) (short : Collected S) : Type 0 where
+-- the same run, with reports that aren't in full, and a table that says the same
+pub record IsWithoutRest {S : Type 0} (c : FullAnswer S) (short : Answer S) : Type 0 where
   pub sessions_are : short.sessions.items ≡ reports_in c.sessions.items
   pub links_are : short.links ≡ c.links
   pub sources_are : short.sources ≡ c.sources
-  pub table_is : short.table ≡ c.table
+  pub same : IsSameTable c.table short.table

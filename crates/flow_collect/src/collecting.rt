@@ -15,16 +15,16 @@
 //!              records;
 //!              makes of each EndedSession and its LinkEnd a place in Parts: the report, the link, with
 //!              both ends settled, and the source;
-//!              makes of Parts and the table what `collect_flat` answers, CollectedInFull.
+//!              makes of Parts and the table what `collect_flat` answers, Collected.
 //! ```
 
 ghost use Rattle.std.specs.Prelude.{◌≡◌, IfOk, IfNone, MatchOption};
 ghost use Rattle.flow_table.specs.Fitting.{FitsPlan};
 ghost use Rattle.flow_collect.specs.Dealt.{IsCapacity};
-ghost use Rattle.flow_collect.specs.InFull.{HeadlineInFull, IsWithTable};
+ghost use Rattle.flow_collect.specs.InFull.{FullHeadline};
 ghost use Rattle.flow_collect.specs.Refusals.{fault_of_arguments, AreTooLarge, HasFaults};
 
-use crate::collected::{CollectedInFull, MAX_SESSIONS, MAX_WORKERS, Pool};
+use crate::collected::{Collected, MAX_SESSIONS, MAX_WORKERS, Pool};
 use crate::dealing::deal;
 use crate::fault::CollectFault;
 use crate::gate::Gate;
@@ -33,57 +33,14 @@ use crate::shortage::Shortage;
 use crate::threads::in_threads;
 use flow_link::MAX_CAPACITY;
 use flow_table::{FlatTable, Plan};
-use ipfix_session::Source;
-use std::alloc::{AllocError, Global};
+use ipfix_session::{FullReport, Source};
+use std::alloc::Global;
 use std::sync::Wait;
 use std::thread::Threads;
 
 /// Does what [`collect`](crate::collect) does, and reports each session in full: with what its domains
-/// passed over, the gaps behind their unknown sets, and the place where it stopped. The faults are the
-/// same.
-pub fn collect_in_full<S: Source + Send + Drop, G: Gate + Sync, R: Threads + Wait + Sync>(
-    rt: &R,
-    alloc: Global,
-    sources: Vec<S>,
-    plan: &Plan,
-    pool: Pool,
-    gate: &G,
-) -> Result<CollectedInFull<S>, CollectFault>
-    // The headline, and each report in full.
-    ensures ok { IfOk result (λ c. HeadlineInFull S.seen sources.items plan.now pool c) }
-    // The table fits the plan, as an export asks.
-    ensures fits { IfOk result (λ c. FitsPlan plan.now c.table) }
-    // Exactly the first fault of the arguments, if they have one; `SumTooLarge` only if it is due.
-    ensures faults { HasFaults S.seen sources plan.now pool result }
-{
-    let collected = collect_flat(rt, alloc, sources, plan, pool, gate)?;
-    let whole = with_table(collected)?;
-    Ok(whole)
-}
-
-// The same with all rows of the table.
-fn with_table<S: Drop>(
-    collected: CollectedInFull<S, FlatTable>,
-) -> Result<CollectedInFull<S>, AllocError>
-    ensures { IfOk result (IsWithTable collected) }
-{
-    let CollectedInFull {
-        sessions,
-        links,
-        sources,
-        table,
-    } = collected;
-    let table = table.into_table()?;
-    Ok(CollectedInFull {
-        sessions,
-        links,
-        sources,
-        table,
-    })
-}
-
-/// Does what [`collect_in_full`] does, with a table whose rows are made as they are asked for. The faults are
-/// the same.
+/// passed over, the gaps behind their unknown sets, and the place where it stopped. The rows of the table are
+/// made as they are asked for. The faults are the same.
 pub fn collect_flat<S: Source + Send + Drop, G: Gate + Sync, R: Threads + Wait + Sync>(
     rt: &R,
     alloc: Global,
@@ -91,9 +48,9 @@ pub fn collect_flat<S: Source + Send + Drop, G: Gate + Sync, R: Threads + Wait +
     plan: &Plan,
     pool: Pool,
     gate: &G,
-) -> Result<CollectedInFull<S, FlatTable>, CollectFault>
+) -> Result<Collected<S, FullReport, FlatTable>, CollectFault>
     // The headline, and each report in full.
-    ensures ok { IfOk result (λ c. HeadlineInFull S.seen sources.items plan.now pool c) }
+    ensures ok { IfOk result (FullHeadline S.seen sources.items plan.now pool) }
     // The table fits the plan, as an export asks.
     ensures fits { IfOk result (λ c. FitsPlan plan.now c.table) }
     // Exactly the first fault of the arguments, if they have one; `SumTooLarge` only if it is due.
@@ -143,10 +100,10 @@ fn collect_judged<S: Source + Send + Drop, G: Gate + Sync, R: Threads + Wait + S
     plan: &Plan,
     pool: Pool,
     gate: &G,
-) -> Result<Option<CollectedInFull<S, FlatTable>>, Shortage>
+) -> Result<Option<Collected<S, FullReport, FlatTable>>, Shortage>
     requires { IsCapacity pool.capacity }
     ensures { IfOk result (λ answer. MatchOption answer (AreTooLarge S.seen plan.now sources.items)
-        (λ c. HeadlineInFull S.seen sources.items plan.now pool c × FitsPlan plan.now c.table)) }
+        (λ c. FullHeadline S.seen sources.items plan.now pool c × FitsPlan plan.now c.table)) }
 {
     let (starts, shares) = deal(alloc, sources, plan, pool)?;
     let (ended, worked) = in_threads(rt, alloc, gate, starts, shares)?;

@@ -17,8 +17,8 @@ mod threads;
 mod without_rest;
 mod worker;
 
-pub use collected::{Collected, CollectedInFull, MAX_SESSIONS, MAX_WORKERS, Pool, Serial};
-pub use collecting::{collect_flat, collect_in_full, refusal};
+pub use collected::{Collected, MAX_SESSIONS, MAX_WORKERS, Pool, Serial};
+pub use collecting::{collect_flat, refusal};
 pub use fault::CollectFault;
 pub use gate::{Gate, OpenGate};
 pub use ipfix_session::READ_LIMIT;

@@ -1,4 +1,4 @@
-//! Collecting with reports that aren't in full.
+//! Collecting with reports that aren't in full, and with all rows of the table.
 
 ghost use Rattle.std.specs.Prelude.{◌≡◌, IfOk};
 ghost use Rattle.flow_table.specs.Fitting.{FitsPlan};
@@ -6,11 +6,11 @@ ghost use Rattle.flow_collect.specs.Headline.{Headline};
 ghost use Rattle.flow_collect.specs.InFull.{IsWithoutRest, reports_in};
 ghost use Rattle.flow_collect.specs.Refusals.{HasFaults};
 
-use crate::collected::{Collected, CollectedInFull, Pool};
-use crate::collecting::collect_in_full;
+use crate::collected::{Collected, Pool};
+use crate::collecting::collect_flat;
 use crate::fault::CollectFault;
 use crate::gate::Gate;
-use flow_table::Plan;
+use flow_table::{FlatTable, Plan};
 use ipfix_session::{FullReport, SessionReport, Source};
 use std::alloc::{AllocError, Global};
 use std::collections::VecDeque;
@@ -43,24 +43,25 @@ pub fn collect<S: Source + Send + Drop, G: Gate + Sync, R: Threads + Wait + Sync
     // Exactly the first fault of the arguments, if they have one; `SumTooLarge` only if it is due.
     ensures faults { HasFaults S.seen sources plan.now pool result }
 {
-    let collected = collect_in_full(rt, alloc, sources, plan, pool, gate)?;
+    let collected = collect_flat(rt, alloc, sources, plan, pool, gate)?;
     let short = without_rest(alloc, collected)?;
     Ok(short)
 }
 
 fn without_rest<S: Drop>(
     alloc: Global,
-    collected: CollectedInFull<S>,
+    collected: Collected<S, FullReport, FlatTable>,
 ) -> Result<Collected<S>, AllocError>
     ensures { IfOk result (λ short. IsWithoutRest collected short) }
 {
-    let CollectedInFull {
+    let Collected {
         sessions,
         links,
         sources,
         table,
     } = collected;
     let sessions = short_reports(alloc, sessions)?;
+    let table = table.into_table()?;
     Ok(Collected {
         sessions,
         links,

@@ -5,13 +5,14 @@ ghost use Rattle.input_sources.specs.Had.{IsUnread};
 
 use super::sessions::{BY_SOURCE, CSV, POOL};
 use collectd::{
-    Accepted, CollectJob, Listener, OpenSource, Opened, Reason, Verbosity, run_files,
-    run_files_in_full, run_merge, run_tcp, run_tcp_in_full,
+    Accepted, CollectJob, Connections, Listener, MergeJob, OpenSource, Opened, Reason, Status,
+    Verbosity, run_files, run_files_with, run_merge_with, run_tcp, run_tcp_with,
 };
 use element_registry::Elements;
 use flow_collect::Pool;
 use flow_plan::read_plan;
 use ipfix_session::{ScriptSource, Source};
+use report_writing::NOTHING_MORE;
 use std::alloc::Global;
 use std::io::Sink;
 use std::net::{Ipv4Addr, SocketAddr, SocketAddrV4};
@@ -158,7 +159,7 @@ collectd: records: used 5 options 0 untimed 0 backward 0 unkeyed 0 too_long 0
     Ok(())
 }
 
-// The same in full.
+// The same, told as a job says it.
 fn run_told<R: Clock + Threads + Wait + Sync>(
     rt: &R,
     alloc: Global,
@@ -177,7 +178,7 @@ fn run_told<R: Clock + Threads + Wait + Sync>(
         output: CSV,
         verbosity,
     };
-    let status = run_files_in_full(
+    let status = run_files_with(
         rt,
         alloc,
         &mut inputs,
@@ -187,7 +188,7 @@ fn run_told<R: Clock + Threads + Wait + Sync>(
         &mut out,
         &mut err,
     );
-    joined_with(status, out, &err)
+    joined_with(status.number(), out, &err)
 }
 
 #[test]
@@ -256,9 +257,16 @@ fn merged(alloc: Global) -> Result<Vec<u8>, Fail> {
     let mut inputs = Inputs::new(alloc);
     let plan = read_plan(alloc, BY_SOURCE)?;
     let (mut out, mut err) = (Vec::new(alloc), Vec::new(alloc));
+    let elements = Elements::built_in(alloc);
+    let job = MergeJob {
+        elements: &elements,
+        plan: &plan,
+        output: CSV,
+        verbosity: NOTHING_MORE,
+    };
     let paths = ["export", "export"];
-    let status = run_merge(&mut inputs, alloc, &paths, &plan, CSV, &mut out, &mut err);
-    joined_with(status, out, &err)
+    let status = run_merge_with(&mut inputs, alloc, &paths, &job, &mut out, &mut err);
+    joined_with(status.number(), out, &err)
 }
 
 #[test]
@@ -323,13 +331,16 @@ fn tells_connections_by_their_peers(rt: HostRuntime) -> Result<(), Fail> {
         verbosity,
         ..CollectJob::plain(&elements, &plan, POOL, CSV)
     };
-    let status = run_tcp_in_full(
+    let connections = Connections {
+        address: "peers",
+        count: 1,
+        idle: None,
+    };
+    let status = run_tcp_with(
         &rt,
         rt.alloc(),
         &mut inputs,
-        "peers",
-        1,
-        None,
+        &connections,
         &job,
         NO_PROGRESS,
         &mut out,
@@ -341,6 +352,6 @@ collectd: session 1 192.0.2.9:4739: ended: messages 2 octets 112 records 2
 collectd: records: used 2 options 0 untimed 0 backward 0 unkeyed 0 too_long 0
 ";
     assert_eq!(rt; err.as_slice(), want.as_slice());
-    assert_eq!(rt; status, 0);
+    assert_eq!(rt; status, Status::Well);
     Ok(())
 }

@@ -1,22 +1,18 @@
 //! Collecting from files.
 
-ghost use Rattle.std.specs.Prelude.{◌≡◌, [], length, map};
-ghost use Rattle.std.specs.List.{AllZip};
+ghost use Rattle.report_writing.specs.Statuses.{number_of};
 ghost use Rattle.report_writing.specs.Told.{AreToldTo};
-ghost use Rattle.input_sources.specs.Origins.{IsFileNamed};
-ghost use Rattle.input_sources.specs.Had.{AreOpened};
-ghost use Rattle.command_collect.specs.Collects.{CollectsAlone, CollectsInFull};
-ghost use Rattle.command_collect.specs.Told.{TellsNotOpened};
+ghost use Rattle.command_collect.specs.Collects.{CollectsFiles, CollectsFilesPlainly};
 
-use crate::full_run::run_in_full;
 use crate::job::CollectJob;
+use crate::table::run_with;
 use element_registry::Elements;
 use flow_collect::Pool;
 use flow_table::Plan;
 use input_sources::{NotOpened, OpenSource, OpenedAll, open_all};
 use ipfix_session::Source;
 use output_tables::Output;
-use report_writing::{NOTHING_MORE, Status, WriteLines, write_not_had_because};
+use report_writing::{Status, WriteLines, write_not_had_because};
 use std::alloc::Global;
 use std::io::Write;
 use std::rt::Clock;
@@ -49,23 +45,19 @@ pub fn run_files<
 ) -> u8
     // The sources of the paths, in their order, each opened once, were run, as `run` says it, and no others;
     // or each file that was had was told, and then the path that can't be opened.
-    ensures collects { CollectsAlone S.seen
-        (AreOpened (λ path. O.opens files.old path.now)
-        paths.now (O.coming files.old) (O.coming files.new))
-        (TellsNotOpened (map (λ path. path.now) paths.now) NOTHING_MORE) (length paths.now)
-        plan.now pool output W.contents out.old out.new
-        (AreToldTo E.contents E.failed err.old err.new) result }
+    ensures collects { CollectsFilesPlainly S.seen O.opens O.coming files.old files.new paths.now
+        W.contents out.old out.new (AreToldTo E.contents E.failed err.old err.new) result
+        plan.now pool output }
     ensures kept { E.failed err.old → E.failed err.new }
 {
     let elements = Elements::built_in(alloc);
     let job = CollectJob::plain(&elements, plan, pool, output);
-    run_files_in_full(rt, alloc, files, paths, &job, progress, out, err)
+    run_files_with(rt, alloc, files, paths, &job, progress, out, err).number()
 }
 
-/// Does as [`run_files`], and tells more if `job.verbosity` asks for it, as [`run_in_full`](crate::run_in_full):
-/// in verbose lines each file that is opened, and the system's reason after one that can't be. If the pool
-/// or the number of files has a fault, all files are opened first and none is read, and the status is 3.
-pub fn run_files_in_full<
+/// Does as [`run_files`], and tells more if `job.verbosity` asks for it, as [`run_with`]: in verbose lines each file that is opened, and the system's reason after one that can't be. If the pool
+/// or the number of files has a fault, all files are opened first and none is read, and it ends with `Failed`.
+pub fn run_files_with<
     S: Source + Send + Drop,
     O: OpenSource<S>,
     P: Write + Copy + Drop + Send,
@@ -81,26 +73,22 @@ pub fn run_files_in_full<
     progress: Option<P>,
     out: &mut W,
     err: &mut E,
-) -> u8
-    // The sources of the paths, in their order, each opened once, were run, as `run_in_full` says it, and no
+) -> Status
+    // The sources of the paths, in their order, each opened once, were run, as `run_with` says it, and no
     // others; or each file that was had was told, and then the path that can't be opened.
-    ensures collects { CollectsInFull S.seen
-        (AreOpened (λ path. O.opens files.old path.now)
-        paths.now (O.coming files.old) (O.coming files.new))
-        (TellsNotOpened (map (λ path. path.now) paths.now) job.now.verbosity) (length paths.now)
-        job.now.plan.now job.now.pool job.now.output W.contents out.old out.new
-        (AreToldTo E.contents E.failed err.old err.new) result
-        job.now.elements.now job.now.verbosity (AllZip (λ path. IsFileNamed path.now) paths.now) [] }
+    ensures collects { CollectsFiles S.seen O.opens O.coming files.old files.new paths.now
+        W.contents out.old out.new (AreToldTo E.contents E.failed err.old err.new) (number_of result)
+        job.now }
     ensures kept { E.failed err.old → E.failed err.new }
 {
     match open_all(rt, alloc, files, paths, progress, job.verbosity, err) {
         Ok(OpenedAll { sources, origins }) => {
             let sources = sources.into_sources();
-            run_in_full(rt, alloc, sources, &origins, job, out, err)
+            run_with(rt, alloc, sources, &origins, job, out, err)
         }
         Err(NotOpened { path, reason }) => {
             let _ = write_not_had_because(job.verbosity, "open", path, reason, err);
-            Status::NotOpened.number()
+            Status::NotOpened
         }
     }
 }

@@ -1,27 +1,23 @@
 //! Collecting from connections.
 
-ghost use Rattle.std.specs.Prelude.{◌≡◌, ◌<◌, [], IfNone, IfSome};
+ghost use Rattle.std.specs.Prelude.{◌≡◌, ◌<◌, IfNone, IfSome};
 ghost use Rattle.std.specs.Duration.{as_nanos};
 ghost use Rattle.report_writing.specs.Statuses.{number_of};
-ghost use Rattle.report_writing.specs.OpeningLines.{if_verbose, listening_line};
 ghost use Rattle.report_writing.specs.Told.{AreToldTo};
-ghost use Rattle.input_sources.specs.Origins.{ArePeers};
-ghost use Rattle.command_collect.specs.FullRuns.{fault_of_pool};
-ghost use Rattle.input_sources.specs.Had.{AreAccepted};
-ghost use Rattle.command_collect.specs.Collects.{CollectsAlone, CollectsInFull, RefusesPool};
-ghost use Rattle.command_collect.specs.Told.{TellsNotAccepted};
+ghost use Rattle.command_collect.specs.Runs.{fault_of_pool};
+ghost use Rattle.command_collect.specs.Collects.{CollectsConnections, CollectsConnectionsPlainly, IfNoTime, RefusesPool};
 
 use super::connections::run_connections;
 use crate::collect_fault::write_collect_fault;
 use crate::early::refused_early;
-use crate::job::CollectJob;
+use crate::job::{CollectJob, Connections};
 use element_registry::Elements;
 use flow_collect::Pool;
 use flow_table::Plan;
 use input_sources::Listener;
 use ipfix_session::Source;
 use output_tables::Output;
-use report_writing::{NOTHING_MORE, Status, WriteLines};
+use report_writing::{Status, WriteLines};
 use std::alloc::Global;
 use std::io::Write;
 use std::rt::Clock;
@@ -62,12 +58,9 @@ pub fn run_tcp<
 ) -> u8
     // So many connections with this limit were accepted and run, as `run` says it, and no others; or each that
     // was had was told, and then the address that gives none.
-    ensures collects { CollectsAlone S.seen
-        (AreAccepted (L.gives listener.old idle) count
-        (L.coming listener.old) (L.coming listener.new))
-        (TellsNotAccepted NOTHING_MORE [] addr.now) count
-        plan.now pool output W.contents out.old out.new
-        (AreToldTo E.contents E.failed err.old err.new) result }
+    ensures collects { CollectsConnectionsPlainly S.seen L.gives L.coming listener.old listener.new idle
+        count addr.now W.contents out.old out.new (AreToldTo E.contents E.failed err.old err.new) result
+        plan.now pool output }
     ensures closed { L.is_closed listener.new }
     // No connection can have a limit of no time.
     ensures no_time { IfSome idle
@@ -76,17 +69,20 @@ pub fn run_tcp<
 {
     let elements = Elements::built_in(alloc);
     let job = CollectJob::plain(&elements, plan, pool, output);
-    run_connections(
-        rt, alloc, listener, addr, count, idle, &job, progress, out, err,
-    )
+    let connections = Connections {
+        address: addr,
+        count,
+        idle,
+    };
+    run_connections(rt, alloc, listener, &connections, &job, progress, out, err).number()
 }
 
 /// Does as [`run_tcp`], and tells more if `job.verbosity` asks for it, as
-/// [`run_in_full`](crate::run_in_full): in verbose lines that it waits for connections, each that is accepted,
-/// and the system's reason behind one that can't be. If the pool has a fault, no connection is accepted, and the
-/// status is 3.
-#[tactic(auto, using(crate::proofs::FullRan::whatever, crate::proofs::FullRan::even_if_none, crate::proofs::FullRan::not_if_some, crate::proofs::FullRan::not_if_none))]
-pub fn run_tcp_in_full<
+/// [`run_with`](crate::run_with): in verbose lines that it waits for connections, each that is accepted,
+/// and the system's reason behind one that can't be. If the pool has a fault, no connection is accepted, and it
+/// ends with `Failed`.
+#[tactic(auto, using(crate::proofs::Refused::whatever, crate::proofs::Refused::even_if_none, crate::proofs::Refused::not_if_some, crate::proofs::Refused::not_if_none))]
+pub fn run_tcp_with<
     S: Source + Send + Drop,
     L: Listener<S>,
     P: Write + Copy + Drop + Send,
@@ -97,40 +93,34 @@ pub fn run_tcp_in_full<
     rt: &R,
     alloc: Global,
     listener: &mut L,
-    addr: &str,
-    count: usize,
-    idle: Option<Duration>,
+    connections: &Connections,
     job: &CollectJob,
     progress: Option<P>,
     out: &mut W,
     err: &mut E,
-) -> u8
-    // So many connections with this limit were accepted and run, as `run_in_full` says it, and no others; or
+) -> Status
+    // So many connections with this limit were accepted and run, as `run_with` says it, and no others; or
     // each that was had was told, and then the address that gives none.
-    ensures collects { IfNone (fault_of_pool job.now.pool) (CollectsInFull S.seen
-        (AreAccepted (L.gives listener.old idle) count
-        (L.coming listener.old) (L.coming listener.new))
-        (TellsNotAccepted job.now.verbosity (if_verbose job.now.verbosity (listening_line addr.now count))
-        addr.now) count
-        job.now.plan.now job.now.pool job.now.output W.contents out.old out.new
-        (AreToldTo E.contents E.failed err.old err.new) result
-        job.now.elements.now job.now.verbosity (ArePeers count)
-        (if_verbose job.now.verbosity (listening_line addr.now count))) }
+    ensures collects { IfNone (fault_of_pool job.now.pool)
+        (CollectsConnections S.seen L.gives L.coming listener.old listener.new connections.now
+        W.contents out.old out.new (AreToldTo E.contents E.failed err.old err.new)
+        (number_of result) job.now) }
     ensures closed { L.is_closed listener.new }
     // No connection can have a limit of no time.
-    ensures no_time { IfNone (fault_of_pool job.now.pool) (IfSome idle
-        (λ limit. as_nanos limit ≡ 0 → 0 < count → result ≡ number_of Status.NotOpened)) }
+    ensures no_time { IfNone (fault_of_pool job.now.pool)
+        (IfNoTime connections.now (result ≡ Status.NotOpened)) }
     // A pool that has a fault is refused, and the fault that it has is told.
-    ensures pool { RefusesPool job.now.pool count result (out.new ≡ out.old)
+    ensures pool { RefusesPool job.now.pool connections.now.count (number_of result) (out.new ≡ out.old)
         (AreToldTo E.contents E.failed err.old err.new) }
+    // And then no connection was accepted.
+    ensures unaccepted { IfSome (fault_of_pool job.now.pool)
+        (λ any. L.coming listener.new ≡ L.coming listener.old) }
     ensures kept { E.failed err.old → E.failed err.new }
 {
-    if let Some(fault) = refused_early(job.pool, count) {
+    if let Some(fault) = refused_early(job.pool, connections.count) {
         listener.close();
         let _ = write_collect_fault(fault, err);
-        return Status::Failed.number();
+        return Status::Failed;
     }
-    run_connections(
-        rt, alloc, listener, addr, count, idle, job, progress, out, err,
-    )
+    run_connections(rt, alloc, listener, connections, job, progress, out, err)
 }

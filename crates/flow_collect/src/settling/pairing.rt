@@ -20,8 +20,7 @@ pub fn settle_all<S: Drop>(
     link_ends: VecDeque<LinkEnd>,
 ) -> Result<Parts<S>, Shortage>
     requires { All (IsPaired (map ended_link sessions.items)) link_ends.items }
-    ensures { IfOk result (λ p. SettledAll sessions.items link_ends.items
-        p.sessions.items p.links.items p.sources.items) }
+    ensures { IfOk result (SettledAll sessions.items link_ends.items) }
 {
     let mut sessions = sessions;
     let mut link_ends = link_ends;
@@ -62,9 +61,7 @@ fn settle_one<S: Drop>(
     link_end: LinkEnd,
 ) -> Result<(), Shortage>
     requires { ended_link session ≡ link_end.receiver.link }
-    ensures { OnOk result (SettlesOne session link_end
-        parts.old.sessions.items parts.old.links.items parts.old.sources.items
-        parts.new.sessions.items parts.new.links.items parts.new.sources.items) }
+    ensures { OnOk result (SettlesOne session link_end parts.old parts.new) }
 {
     let EndedSession {
         report,

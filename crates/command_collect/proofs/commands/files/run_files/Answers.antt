@@ -1,12 +1,10 @@
-use Rattle.std.proofs.Common.{refl}
-use Rattle.report_writing.specs.declared.verbosity.TheConstants.{NOTHING_MORE}
-use Rattle.output_tables.proofs.BuiltIn.{written_built_in}
-use Rattle.command_collect.proofs.Collected.{collects_alone}
+use Rattle.std.proofs.Common.{refl, ◌∙◌}
+use Rattle.command_collect.proofs.Collected.{collects_plainly}
 use Rattle.command_collect.proofs.commands.files.run_files.Goals as goal
 
 pub returns-clause-collects : goal.returns-clause-collects
 returns-clause-collects g c =
     let job = c.plain-job.ensures in
-    let collects = rw (job.elements, job.plan, job.pool, job.output, job.verbosity) at c.run_files_in_full.ensures.collects in
-    collects_alone _ _ _ _ NOTHING_MORE _ _ _ _ _ _ _ _ _ _ _ refl refl refl refl
-    (λ table. written_built_in c.built_in-elements.result c.args.plan.now c.args.output _ _ table c.built_in-elements.ensures) collects
+    let elements = job.elements ∙ c.built_in-elements.ensures in
+    let collects = collects_plainly g.S.Source.seen g.W.Write.contents _ _ _ c.plain-job.result _ _ _ _ _ _ elements job.verbosity refl c.run_files_with.ensures.collects in
+    rw c.number.ensures (rw (job.plan, job.pool, job.output, job.verbosity) at collects)

@@ -1,12 +1,17 @@
-use Rattle.std.proofs.Common.{refl}
-use Rattle.report_writing.specs.declared.verbosity.TheConstants.{NOTHING_MORE}
-use Rattle.output_tables.proofs.BuiltIn.{written_built_in}
-use Rattle.command_collect.proofs.Collected.{collects_alone}
+use Rattle.std.proofs.Common.{ap, ◌∙◌}
+use Rattle.std.proofs.lemmas.Option.{IfSome_then}
+use Rattle.report_writing.specs.Statuses.{number_of}
+use Rattle.report_writing.specs.OpeningLines.{listening_line}
+use Rattle.command_collect.proofs.Collected.{collects_plainly}
+use Rattle.command_collect.proofs.LinesTold.{not_verbose}
 use Rattle.command_collect.proofs.commands.tcp.run_tcp.Goals as goal
 
 pub returns-clause-collects : goal.returns-clause-collects
 returns-clause-collects g c =
     let job = c.plain-job.ensures in
-    let collects = rw (job.elements, job.plan, job.pool, job.output, job.verbosity) at c.run_connections.ensures.collects in
-    collects_alone _ _ _ _ NOTHING_MORE _ _ _ _ _ _ _ _ _ _ _ refl refl refl refl
-    (λ table. written_built_in c.built_in-elements.result c.args.plan.now c.args.output _ _ table c.built_in-elements.ensures) collects
+    let elements = job.elements ∙ c.built_in-elements.ensures in
+    let collects = collects_plainly g.S.Source.seen g.W.Write.contents _ _ _ c.plain-job.result _ _ _ _ _ _ elements job.verbosity (not_verbose c.plain-job.result job.verbosity (listening_line c.args.addr.now c.args.count)) c.run_connections.ensures.collects in
+    rw c.number.ensures (rw (job.plan, job.pool, job.output, job.verbosity) at collects)
+
+pub returns-clause-no_time : goal.returns-clause-no_time
+returns-clause-no_time g c = IfSome_then c.args.idle c.run_connections.ensures.no_time (λ limit fails zero some. c.number.ensures ∙ ap number_of (fails zero some))

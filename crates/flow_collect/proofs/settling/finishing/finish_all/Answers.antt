@@ -21,11 +21,9 @@ returns-in-Err-SumTooLarge g c = λ plan taken.
     let table = subst (StandsForLinkEnds c.in_ok-all.all.partial) (sym c.from_vec.ensures.items) c.in_ok-all.ensures.table in
     let is = c.in_ok-all.ensures.plan plan taken in
     record {
-      reports = c.in_ok-parts.parts.sessions.items;
-      links = c.in_ok-parts.parts.links.items;
-      sources = c.in_ok-parts.parts.sources.items;
+      parts = c.in_ok-parts.parts;
       records = table.records;
-      came = came_over _ _ _ _ _ _ c.in_ok-parts.ensures ended table;
+      came = came_over _ _ c.in_ok-parts.parts _ c.in_ok-parts.ensures ended table;
       large = subst (λ (p : PlanValue). IsTooLarge p table.records) is (c.in-Err-SumTooLarge.ensures.large table.records table.stands c.in-Err-SumTooLarge.field-0-is);
     }
 
@@ -36,7 +34,7 @@ returns g c = λ plan taken.
     let is = c.in_ok-all.ensures.plan plan taken in
     record {
       records = table.records;
-      came = came_over _ _ _ _ _ _ c.in_ok-parts.ensures ended table;
+      came = came_over _ _ c.in_ok-parts.parts _ c.in_ok-parts.ensures ended table;
       table_is = subst (λ (p : PlanValue). IsTable p table.records c.in-Ok.table) is (c.in-Ok.ensures.table table.records table.stands);
       small = subst (λ (p : PlanValue). IsTooLarge p table.records → ⊥) is (c.in-Ok.ensures.small table.records table.stands);
       fits = subst (λ (p : PlanValue). FitsPlan p c.in-Ok.table) is (c.in-Ok.ensures.fits table.records table.stands);

@@ -25,7 +25,7 @@ loop-number-preserved g c =
       split_on _ inv.1 _ _ _ inv.3 c.in-Some-pop_front.ensures.items,
       omega (arith, length-append inv.0 (c.in-Some.session ∷ []), inv.4),
       All-rest P _ _ _ c.in-Some-pop_front.ensures.items inv.5,
-      settled_on inv.0 inv.1 _ _ _ _ _ _ _ _ inv.6 c.in_ok-settle_one.ensures,
+      settled_on inv.0 inv.1 _ _ _ _ inv.6 c.in_ok-settle_one.ensures,
     )
 
 pub returns : goal.returns
@@ -33,4 +33,4 @@ returns g c =
     let inv = c.loop-number.invariant in
     let n : deque_len c.loop-number.sessions ≡ 0 = grind (arith, nat_tests) in
     let m : deque_len c.loop-number.link_ends ≡ 0 = grind (arith, nat_tests) in
-    settled_end inv.0 inv.1 _ _ _ _ _ (all_used _ inv.0 _ inv.2 (omega (arith, c.loop-number.sessions.ok.0))) (all_used _ inv.1 _ inv.3 (omega (arith, c.loop-number.link_ends.ok.0))) inv.6
+    settled_end inv.0 inv.1 _ _ _ (all_used _ inv.0 _ inv.2 (omega (arith, c.loop-number.sessions.ok.0))) (all_used _ inv.1 _ inv.3 (omega (arith, c.loop-number.link_ends.ok.0))) inv.6

@@ -13,4 +13,4 @@ invariant-loop-number g l =
     × (l.initial.link_ends.items ≡ ls ++ l.link_ends.items)
     × (l.number ≡ length ts)
     × All (IsPaired (map ended_link l.initial.sessions.items)) l.link_ends.items
-    × SettledAll ts ls l.parts.sessions.items l.parts.links.items l.parts.sources.items
+    × SettledAll ts ls l.parts

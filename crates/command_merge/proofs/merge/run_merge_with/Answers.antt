@@ -2,12 +2,12 @@ use Rattle.std.proofs.Common.{rules}
 use Rattle.command_merge.proofs.Ended.{exports_none, merges_all, merges_none}
 use Rattle.command_merge.proofs.FilesTold.{merged_told, tells_not_merged}
 use Rattle.report_writing.proofs.LinesTold.{told_then}
-use Rattle.command_merge.proofs.merge.run_merge_in_full.Goals as goal
+use Rattle.command_merge.proofs.merge.run_merge_with.Goals as goal
 
 pub returns-in-Err-clause-runs : goal.returns-in-Err-clause-runs
 returns-in-Err-clause-runs g c =
     merges_none _ _ _ _ _ _ _ _ _ c.in-Err.not_merged (search rules) (search rules)
-    (tells_not_merged _ c.args.verbosity _ _ _ _ _ c.in-Err.not_merged _ c.write_not_merged.result c.in-Err.ensures.stops c.write_not_merged.ensures.told c.write_not_merged.ensures.failed c.write_not_merged.ensures.kept (search rules))
+    (tells_not_merged _ c.args.job.now.verbosity _ _ _ _ _ c.in-Err.not_merged _ c.write_not_merged.result c.in-Err.ensures.stops c.write_not_merged.ensures.told c.write_not_merged.ensures.failed c.write_not_merged.ensures.kept (search rules))
 
 pub returns-in-Err-export-clause-runs : goal.returns-in-Err-export-clause-runs
 returns-in-Err-export-clause-runs g c =

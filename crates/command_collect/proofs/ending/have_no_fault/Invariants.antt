@@ -1,6 +1,6 @@
 use Rattle.std.proofs.Common.{take, All}
-use Rattle.command_collect.proofs.FullRan.{NoFault}
-use Rattle.command_collect.proofs.full_run.have_no_fault.Given as goal
+use Rattle.command_collect.proofs.WentWell.{NoFault}
+use Rattle.command_collect.proofs.ending.have_no_fault.Given as goal
 
 -- the first sessions have no fault
 abbrev pub invariant-loop-full : goal.invariant-loop-full

@@ -1,0 +1,58 @@
+-- Sessions that have no fault, and the tests of it.
+use Rattle.std.proofs.Common.{◌≡◌, ℕ, ◌+◌, ◌<◌, ◌≤◌, Bool, true, false, List, [], ◌∷◌, length, take, get_or, All, Option, Some, None, refl, subst}
+use Rattle.std.proofs.lemmas.List.{take_all}
+use Rattle.std.proofs.lemmas.List.Elements.{All-nil, All-cons, All-more, All-head, All-tail, All-map, All-weaker}
+use Rattle.std.specs.Prelude.{◌↔◌, IsTrue, is_some}
+use Rattle.ipfix_session.specs.declared.report.FullReport.{FullReport}
+use Rattle.flow_table.specs.declared.missing.Missing.{Missing}
+use Rattle.flow_table.specs.declared.table.Table.{Table}
+use Rattle.flow_table.specs.declared.tally.Tally.{Tally}
+use Rattle.flow_collect.specs.InFull.{reports_in}
+use Rattle.flow_collect.specs.Texts.{HasNoFault}
+use Rattle.report_sessions.specs.Spotless.{IsSpotless, IsSpotlessSession}
+use Rattle.command_collect.specs.Runs.{HaveNoFault, WentWell}
+
+abbrev pub NoFault : FullReport → Type 0
+NoFault full = HasNoFault full.report
+
+not_some : {X : Type 0} (o : Option X) → false ≡ is_some o → o ≡ None
+not_some None h = refl
+not_some (Some x) h = absurd cc
+
+pub no_fault_short : (fulls : List FullReport) → All NoFault fulls → All HasNoFault (reports_in fulls)
+no_fault_short fulls none = All-map HasNoFault (λ (full : FullReport). full.report) fulls none
+
+no_fault_from : (fulls : List FullReport) → All HasNoFault (reports_in fulls) → All NoFault fulls
+no_fault_from [] all = All-nil NoFault
+no_fault_from (full ∷ fulls) all =
+    All-cons NoFault full fulls (All-head HasNoFault full.report (reports_in fulls) all) (no_fault_from fulls (All-tail HasNoFault full.report (reports_in fulls) all))
+
+-- the first ones, and one more
+pub none_more : (rs : List FullReport) (i : ℕ) (r : FullReport) → i < length rs → All NoFault (take i rs) → r ≡ get_or rs i r → false ≡ is_some r.report.fault → All NoFault (take (i + 1) rs)
+none_more rs i r less before is none =
+    All-more NoFault rs i r less before (subst NoFault is (not_some r.report.fault none))
+
+-- all of them
+pub none_of_all : (rs : List FullReport) (i : ℕ) → length rs ≤ i → All NoFault (take i rs) → All NoFault rs
+none_of_all rs i all none = subst (λ (xs : List FullReport). All NoFault xs) (take_all i rs all) none
+
+-- a run that went well has none
+pub well_no_fault : (strict : Bool) (fulls : List FullReport) (table : Table) → WentWell strict fulls table → All NoFault fulls
+well_no_fault true fulls table well = All-weaker IsSpotlessSession NoFault (λ full spotless. spotless.no_fault) fulls well.sessions
+well_no_fault false fulls table well = well
+
+-- which is all that is asked of one that isn't strict
+pub well_plainly : (status : ℕ) (strict : Bool) (fulls : List FullReport) (table : Table) → strict ≡ false → ((status ≡ 0) ↔ WentWell strict fulls table) → ((status ≡ 0) ↔ HaveNoFault (reports_in fulls) table)
+well_plainly status true fulls table plain is = absurd (cc plain)
+well_plainly status false fulls table plain is = (λ zero. no_fault_short fulls (is.0 zero), λ none. is.1 (no_fault_from fulls none))
+
+-- the tests of it
+pub tested_strict : (strict : Bool) (fulls : List FullReport) (table : Table) (tally : Tally) (missing : Missing) (passed : Bool) → strict ≡ true → tally ≡ table.tally → missing ≡ table.missing
+    → (IsTrue passed ↔ IsSpotless fulls tally missing) → (IsTrue passed ↔ WentWell strict fulls table)
+tested_strict true fulls table tally missing passed is t m tested =
+    subst (λ (x : Tally). IsTrue passed ↔ IsSpotless fulls x table.missing) t (subst (λ (y : Missing). IsTrue passed ↔ IsSpotless fulls tally y) m tested)
+tested_strict false fulls table tally missing passed is t m tested = absurd (cc is)
+
+pub tested_plain : (strict : Bool) (fulls : List FullReport) (table : Table) (passed : Bool) → strict ≡ false → (IsTrue passed ↔ All NoFault fulls) → (IsTrue passed ↔ WentWell strict fulls table)
+tested_plain true fulls table passed is tested = absurd (cc is)
+tested_plain false fulls table passed is tested = tested
