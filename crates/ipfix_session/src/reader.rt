@@ -1,6 +1,6 @@
 //! Any reader as a source.
 
-ghost use Rattle.std.specs.Prelude.{◌≡◌, ◌≢◌, ◌↔◌, [], true, false, IsSome};
+ghost use Rattle.std.specs.Prelude.{◌≡◌, ◌≢◌, ◌↔◌, [], true, false, Some, IfSome, IsSome};
 ghost use Rattle.std.specs.Option.{ForSome};
 ghost use Rattle.ipfix_session.specs.Sources.{unread};
 
@@ -88,7 +88,10 @@ impl<R: Read> Source for FromReader<R> {
         }
     }
 
-    fn failure(&self) -> Option<ErrorKind> {
+    fn failure(&self) -> Option<ErrorKind>
+        ensures known { IfSome result (λ kind. failure_of self.now ≡ Some kind) }
+        ensures same { result ≡ failure_of self.now }
+    {
         self.failure
     }
 }

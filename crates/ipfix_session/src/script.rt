@@ -1,10 +1,9 @@
 //! A source over memory, for tests: it gives its text in pieces, and can be interrupted and fail.
 
-ghost use Rattle.std.specs.Prelude.{◌≡◌, ◌≤◌, ◌<◌, [], true, false, None, Some, drop, take, length, vec_len};
+ghost use Rattle.std.specs.Prelude.{◌≡◌, ◌≤◌, ◌<◌, [], true, false, Some, drop, take, length, vec_len};
 ghost use Rattle.ipfix_session.specs.Sources.{unread};
 
 use crate::source::{ReadError, Source};
-use std::io::ErrorKind;
 
 /// A source that gives a text in pieces.
 #[derive(Drop)]
@@ -77,8 +76,6 @@ impl Source for ScriptSource {
       ended = s.ended;
     } };
 
-    ghost failure = { λ _. None };
-
     ghost ended_is_end = { λ s e xs h. sym (ap (λ o. unwrap_or o []) h) ∙ s.behind_the_end e };
 
     fn read(&mut self, buffer: &mut [u8]) -> Result<usize, ReadError> {
@@ -97,9 +94,5 @@ impl Source for ScriptSource {
             self.ended = true;
         }
         Ok(count)
-    }
-
-    fn failure(&self) -> Option<ErrorKind> {
-        None
     }
 }

@@ -18,7 +18,7 @@ pub enum ReadError {
 
 /// A source of octets. Its counts stop at `u64::MAX`.
 pub trait Source {
-    ghost use Rattle.std.specs.Prelude.{Option};
+    ghost use Rattle.std.specs.Prelude.{Option, None, Some, IfSome};
     ghost use Rattle.std.specs.declared.io.ErrorKind.{ErrorKind};
     ghost use Rattle.ipfix_session.specs.Sources.{SourceView, IsRead};
 
@@ -27,8 +27,9 @@ pub trait Source {
     /// octets with room for some.
     ghost seen: { Self → SourceView };
 
-    /// What the system answered to the last read that failed, if one did and it is known.
-    ghost failure: { Self → Option ErrorKind };
+    /// What the system answered to the last read that failed, if one did and it is known. A source that
+    /// doesn't say so knows none.
+    ghost failure: { Self → Option ErrorKind } = { λ _. None };
 
     /// Moves octets from the front of the text into the front of the buffer, and answers how many. An
     /// `Err` moves none.
@@ -37,7 +38,10 @@ pub trait Source {
 
     /// What the system answered to the last read that failed, if one did and it is known.
     fn failure(&self) -> Option<ErrorKind>
-        ensures { result ≡ failure self.now };
+        ensures { IfSome result (λ kind. failure self.now ≡ Some kind) }
+    {
+        None
+    }
 
     /// After its end it holds nothing.
     ghost ended_is_end: { (s : Self) → (seen s).ended ≡ true

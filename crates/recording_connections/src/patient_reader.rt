@@ -1,6 +1,6 @@
 //! A connection as a source: a read that waits too long is a tick, and not the end.
 
-ghost use Rattle.std.specs.Prelude.{◌≡◌, ◌≤◌, ◌-◌, ◌↔◌, [], None, true, IsTrue};
+ghost use Rattle.std.specs.Prelude.{◌≡◌, ◌≤◌, ◌-◌, ◌↔◌, [], true, IsTrue};
 ghost use Rattle.std.specs.Option.{ForSome};
 ghost use Rattle.std.specs.Duration.{as_nanos};
 ghost use Rattle.std.specs.IoError.{error_kind};
@@ -53,9 +53,6 @@ impl<'a, R: Read, C: Clock> Source for PatientReader<'a, R, C> {
       ended = s.ended;
     } };
 
-    // (the lines of recordings tell no reasons)
-    ghost failure = { λ _. None };
-
     ghost ended_is_end = { λ s e. s.behind_the_end e };
 
     fn read(&mut self, buffer: &mut [u8]) -> Result<usize, ReadError> {
@@ -78,10 +75,6 @@ impl<'a, R: Read, C: Clock> Source for PatientReader<'a, R, C> {
                 Err(error)
             }
         }
-    }
-
-    fn failure(&self) -> Option<ErrorKind> {
-        None
     }
 }
 

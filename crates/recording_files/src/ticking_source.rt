@@ -1,10 +1,9 @@
 //! A source over memory that is interrupted again and again, for tests.
 
-ghost use Rattle.std.specs.Prelude.{◌≡◌, ◌<◌, None, Some};
+ghost use Rattle.std.specs.Prelude.{◌≡◌, ◌<◌, Some};
 ghost use Rattle.ipfix_session.specs.Sources.{unread};
 
 use ipfix_session::{ReadError, ScriptSource, Source};
-use std::io::ErrorKind;
 
 /// A source that gives a text in pieces, and answers `Interrupted` before each second read, as one with a
 /// time limit does.
@@ -34,8 +33,6 @@ impl Source for TickingSource {
 
     ghost seen = { λ s. record (⟦<ScriptSource as Source>⟧.seen s.script) { reads = s.reads } };
 
-    ghost failure = { λ _. None };
-
     ghost ended_is_end = { λ s. ended_is_end-law s.script };
 
     fn read(&mut self, buffer: &mut [u8]) -> Result<usize, ReadError> {
@@ -46,9 +43,5 @@ impl Source for TickingSource {
         } else {
             Err(ReadError::Interrupted)
         }
-    }
-
-    fn failure(&self) -> Option<ErrorKind> {
-        None
     }
 }
