@@ -5,4 +5,5 @@ pub mod Dumped
 pub mod Faults
 -- What only inner functions and proofs need.
 pub mod LineParts
+pub mod Labelled
 pub mod Lines

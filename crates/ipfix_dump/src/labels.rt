@@ -2,7 +2,7 @@
 
 ghost use Rattle.std.specs.Prelude.{◌≡◌, ◌++◌, All, None, IfOk, IfSome, OnOk, slice_set, vec_len, ◌<◌, Some};
 ghost use Rattle.element_registry.specs.Registries.{element_kind};
-ghost use Rattle.ipfix_dump.specs.LineParts.{label_text, IsKept, IsLabel};
+ghost use Rattle.ipfix_dump.specs.LineParts.{IsKept, IsLabel};
 
 use crate::label::Label;
 use crate::line_octets::LineOctets;
@@ -25,6 +25,8 @@ pub struct Labels<'a> {
 }
 
 impl<'a> Labels<'a> {
+    ghost use Rattle.ipfix_dump.specs.Labelled.{label_by};
+
     /// None yet.
     pub fn new(alloc: Global, elements: &'a Elements, form: Form) -> Self
         ensures elements { result.elements.now ≡ elements.now }
@@ -46,8 +48,7 @@ impl<'a> Labels<'a> {
         out: &mut LineOctets,
     ) -> Result<ElementKind, AllocError>
         ensures kind { IfOk result (λ kind. kind ≡ element_kind self.old.elements.now element) }
-        ensures text { OnOk result (out.new
-            ≡ out.old ++ label_text self.old.form self.old.elements.now element) }
+        ensures text { OnOk result (out.new ≡ out.old ++ label_by self.old element) }
         ensures elements { self.new.elements.now ≡ self.old.elements.now }
         ensures form { self.new.form ≡ self.old.form }
     {
@@ -79,8 +80,7 @@ impl<'a> Labels<'a> {
         out: &mut LineOctets,
     ) -> Result<ElementKind, AllocError>
         ensures kind { IfOk result (λ kind. kind ≡ element_kind self.old.elements.now element) }
-        ensures text { OnOk result (out.new
-            ≡ out.old ++ label_text self.old.form self.old.elements.now element) }
+        ensures text { OnOk result (out.new ≡ out.old ++ label_by self.old element) }
         ensures elements { self.new.elements.now ≡ self.old.elements.now }
         ensures form { self.new.form ≡ self.old.form }
     {

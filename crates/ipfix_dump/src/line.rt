@@ -2,9 +2,7 @@
 
 ghost use Rattle.std.specs.Prelude.{◌≡◌, ◌++◌, false, OnOk};
 ghost use Rattle.ipfix_message.specs.FieldViews.{field_of};
-ghost use Rattle.ipfix_dump.specs.DumpLines.{field_text};
-ghost use Rattle.ipfix_dump.specs.JsonLines.{comma_if, json_field};
-ghost use Rattle.ipfix_dump.specs.LineParts.{fields_text, next_field};
+ghost use Rattle.ipfix_dump.specs.Labelled.{field_by, fields_by};
 ghost use Rattle.ipfix_dump.specs.declared.options.Form.TheVariants as forms;
 
 use crate::front::Front;
@@ -70,8 +68,7 @@ fn append_fields(
     labels: &mut Labels,
     out: &mut LineOctets,
 ) -> Result<(), AllocError>
-    ensures fields { OnOk result (out.new
-        ≡ out.old ++ fields_text labels.old.form labels.old.elements.now false fields.now) }
+    ensures fields { OnOk result (out.new ≡ out.old ++ fields_by labels.old false fields.now) }
     ensures elements { labels.new.elements.now ≡ labels.old.elements.now }
     ensures form { labels.new.form ≡ labels.old.form }
 {
@@ -90,8 +87,8 @@ fn append_field(
     labels: &mut Labels,
     out: &mut LineOctets,
 ) -> Result<(), AllocError>
-    ensures field { OnOk result (out.new ≡ out.old
-        ++ next_field labels.old.form labels.old.elements.now later (field_of field.entry)) }
+    ensures field { OnOk result
+        (out.new ≡ out.old ++ field_by labels.old later (field_of field.entry)) }
     ensures elements { labels.new.elements.now ≡ labels.old.elements.now }
     ensures form { labels.new.form ≡ labels.old.form }
 {
@@ -107,8 +104,8 @@ fn append_text_field(
     out: &mut LineOctets,
 ) -> Result<(), AllocError>
     requires { labels.old.form ≡ forms.Text }
-    ensures field { OnOk result (out.new
-        ≡ out.old ++ field_text labels.old.elements.now (field_of field.entry)) }
+    ensures field { OnOk result
+        (out.new ≡ out.old ++ field_by labels.old false (field_of field.entry)) }
     ensures elements { labels.new.elements.now ≡ labels.old.elements.now }
     ensures form { labels.new.form ≡ labels.old.form }
 {
@@ -124,8 +121,8 @@ fn append_json_field(
     out: &mut LineOctets,
 ) -> Result<(), AllocError>
     requires { labels.old.form ≡ forms.Json }
-    ensures field { OnOk result (out.new ≡ out.old
-        ++ (comma_if later ++ json_field labels.old.elements.now (field_of field.entry))) }
+    ensures field { OnOk result
+        (out.new ≡ out.old ++ field_by labels.old later (field_of field.entry)) }
     ensures elements { labels.new.elements.now ≡ labels.old.elements.now }
     ensures form { labels.new.form ≡ labels.old.form }
 {
