@@ -1,14 +1,23 @@
 -- How a dump ended.
-use Rattle.std.specs.Prelude.{◌≡◌, ◌≢◌, ◌⊎◌, ◌↔◌, ℕ, Bool, true, false, List, Option, None}
+use Rattle.std.specs.Prelude.{◌≡◌, ◌≢◌, ◌⊎◌, ◌↔◌, ℕ, Bool, true, false, List, [], ◌∷◌, map, Option, None}
+use Rattle.std.specs.Borrow.{Bor}
+use Rattle.std.specs.Io.KnownBytes.{Appends}
 use Rattle.ipfix_message.specs.declared.record.DataRecord.{DataRecord}
 use Rattle.ipfix_session.specs.Sources.{SourceView}
 use Rattle.ipfix_session.specs.declared.report.FullReport.{FullReport}
 use Rattle.report_writing.specs.Statuses.{number_of}
+use Rattle.report_writing.specs.declared.reason.Reason.{Reason}
+use Rattle.report_writing.specs.declared.status.Status.{Status}
 use Rattle.report_writing.specs.declared.status.Status.TheVariants as ends
-use Rattle.ipfix_dump.specs.Dumped.{DumpsAll, DumpsInFull}
+use Rattle.element_registry.specs.Registries.{Known}
+use Rattle.input_files.specs.Loaded.{Loads}
+use Rattle.ipfix_dump.specs.Dumped.{DumpsAll, DumpsInFull, line_in}
 use Rattle.ipfix_dump.specs.declared.fault.DumpFault.{DumpFault}
 use Rattle.command_dump.specs.DumpFaultLines.{dump_fault_line}
+use Rattle.command_dump.specs.ElementFiles.{RunsAfterFiles}
+use Rattle.command_dump.specs.declared.job.DumpJob.{DumpJob}
 use Rattle.report_sessions.specs.Spotless.{IsSpotlessSession}
+use Rattle.report_sessions.specs.ToldLines.{told_lines}
 
 -- a session ended well: it has no fault, and if the dump is strict, nothing shows that anything which was sent wasn't dumped
 abbrev pub EndedWell : Bool → FullReport → Type 0
@@ -37,3 +46,16 @@ module _ {S : Type 0} (line_of : DataRecord → List ℕ) (seen : S → SourceVi
     pub dumped : status ≢ number_of ends.Failed → DumpsToEnd (λ full. AreTold (lines_of full))
     -- only the line of a fault was told
     pub failed : status ≡ number_of ends.Failed → TellsDumpFault AreTold
+
+-- with a job
+module _ {S W : Type 0} (seen : S → SourceView) (before after : S) (contents : W → Option (List ℕ)) (old new : W) (job : DumpJob) where
+  -- by the names and kinds that elements have under files
+  abbrev pub DumpsFor : ℕ → List Known → (List ℕ → Type 0) → Type 0
+  DumpsFor status known AreTold =
+      RunsDump (line_in job.form known) seen before after (contents old) (contents new) status job.verbosity.strict (λ full. told_lines job.verbosity known (job.origin ∷ []) (full ∷ [])) AreTold
+
+  -- after its files of elements, of which these have texts so, and those can't be read for such reasons
+  abbrev pub RunsDumpWith : {T : Type 0} → (T → List ℕ → List ℕ → Type 0) → (T → List ℕ → Reason → Type 0) → T → (List ℕ → Type 0) → Status → Type 0
+  RunsDumpWith has refuses files AreTold status =
+      RunsAfterFiles (Loads (has files) (refuses files) job.verbosity [] (map (λ (path : Bor (List ℕ)). path.now) job.element_files.now)) (DumpsFor (number_of status)) ((after ≡ before) × Appends (contents old) (contents new) []) AreTold
+      status

@@ -1,22 +1,16 @@
 //! What the command `collectd dump` does with what it is given.
 
-ghost use Rattle.std.specs.Prelude.{◌≡◌, false, [], ◌∷◌, map};
-ghost use Rattle.std.specs.Io.KnownBytes.{Appends};
+ghost use Rattle.std.specs.Prelude.{false, [], ◌∷◌};
 ghost use Rattle.ipfix_dump.specs.DumpLines.{dump_line};
-ghost use Rattle.ipfix_dump.specs.Dumped.{line_in};
-ghost use Rattle.input_files.specs.Loaded.{Loads};
-ghost use Rattle.report_writing.specs.Statuses.{number_of};
 ghost use Rattle.report_writing.specs.Told.{AreToldTo};
 ghost use Rattle.report_sessions.specs.ReportLines.{report_lines};
-ghost use Rattle.report_sessions.specs.ToldLines.{told_lines};
-ghost use Rattle.command_dump.specs.Dumps.{RunsDump};
-ghost use Rattle.command_dump.specs.ElementFiles.{RunsAfterFiles};
+ghost use Rattle.command_dump.specs.Dumps.{RunsDump, RunsDumpWith};
 
 use crate::ending::dump_to_end;
 use crate::job::DumpJob;
 use element_registry::Elements;
 use input_files::{ReadText, load_elements};
-use ipfix_dump::{DumpOptions, Form};
+use ipfix_dump::Form;
 use ipfix_session::Source;
 use report_writing::{NOTHING_MORE, Origin, Status, WriteLines};
 use std::alloc::Global;
@@ -38,12 +32,13 @@ pub fn run_dump<S: Source, W: Write, E: WriteLines>(
     ensures kept { E.failed err.old → E.failed err.new }
 {
     let elements = Elements::built_in(alloc);
-    let options = DumpOptions {
+    let job = DumpJob {
         form: Form::Text,
-        elements: &elements,
+        element_files: &[],
+        origin: Origin::Unknown,
+        verbosity: NOTHING_MORE,
     };
-    let (origin, verbosity) = (Origin::Unknown, NOTHING_MORE);
-    dump_to_end(alloc, &options, &origin, verbosity, source, out, err).number()
+    dump_to_end(alloc, &job, &elements, source, out, err).number()
 }
 
 /// Reads files of elements, as [`load_elements`] does, and then does as [`run_dump`], in the form of the job,
@@ -60,31 +55,13 @@ pub fn run_dump_with<T: ReadText, S: Source, W: Write, E: WriteLines>(
     out: &mut W,
     err: &mut E,
 ) -> Status
-    ensures runs { RunsAfterFiles
-        (Loads (T.has files.now) (T.refuses files.now) job.now.verbosity []
-        (map (λ path. path.now) job.now.element_files.now))
-        (λ known. RunsDump (line_in job.now.form known) S.seen source.old source.new
-        (W.contents out.old) (W.contents out.new) (number_of result) job.now.verbosity.strict
-        (λ full. told_lines job.now.verbosity known (job.now.origin ∷ []) (full ∷ [])))
-        ((source.new ≡ source.old) × Appends (W.contents out.old) (W.contents out.new) [])
-        (AreToldTo E.contents E.failed err.old err.new) result }
+    ensures runs { RunsDumpWith S.seen source.old source.new W.contents out.old out.new job.now
+        T.has T.refuses files.now (AreToldTo E.contents E.failed err.old err.new) result }
     ensures kept { E.failed err.old → E.failed err.new }
 {
     let elements = match load_elements(files, alloc, job.element_files, job.verbosity, err) {
         Some(elements) => elements,
         None => return Status::NotOpened,
     };
-    let options = DumpOptions {
-        form: job.form,
-        elements: &elements,
-    };
-    dump_to_end(
-        alloc,
-        &options,
-        &job.origin,
-        job.verbosity,
-        source,
-        out,
-        err,
-    )
+    dump_to_end(alloc, job, &elements, source, out, err)
 }

@@ -1,50 +1,51 @@
 //! Dumping a source to its end, and the status that says how it ended.
 
-ghost use Rattle.std.specs.Prelude.{◌≡◌, ◌⊎◌, ◌↔◌, [], ◌∷◌, IfOk, IsTrue};
+ghost use Rattle.std.specs.Prelude.{◌≡◌, ◌⊎◌, ◌↔◌, IfOk, IsTrue};
 ghost use Rattle.ipfix_dump.specs.Dumped.{DumpsInFull, line_in};
 ghost use Rattle.report_writing.specs.Statuses.{number_of};
 ghost use Rattle.report_writing.specs.Told.{AreToldTo};
-ghost use Rattle.report_sessions.specs.ToldLines.{told_lines};
-ghost use Rattle.command_dump.specs.Dumps.{EndedWell, RunsDump};
+ghost use Rattle.command_dump.specs.Dumps.{DumpsFor, EndedWell};
 
 use crate::dump_fault::write_dump_fault;
+use crate::job::DumpJob;
+use element_registry::Elements;
 use ipfix_dump::{DumpFault, DumpOptions, dump_with};
 use ipfix_session::{FullReport, Source};
 use report_sessions::{are_spotless, write_told_reports};
-use report_writing::{Origin, Status, Verbosity, WriteLines};
+use report_writing::{Status, WriteLines};
 use std::alloc::Global;
 use std::io::Write;
 use std::slice;
 
-/// Dumps a source to `out` with the lines that `options` say, and answers how it ended. To `err` it writes what
-/// there is to tell of the session, or if the dump failed only the line of the fault. A fault of `err` is passed
-/// over.
+/// Dumps a source to `out` in the form of the job, with the names and kinds that `elements` give, and answers how
+/// it ended. To `err` it writes what there is to tell of the session, or if the dump failed only the line of the
+/// fault. A fault of `err` is passed over.
 pub fn dump_to_end<S: Source, W: Write, E: WriteLines>(
     alloc: Global,
-    options: &DumpOptions,
-    origin: &Origin,
-    verbosity: Verbosity,
+    job: &DumpJob,
+    elements: &Elements,
     source: &mut S,
     out: &mut W,
     err: &mut E,
 ) -> Status
-    ensures runs { RunsDump (line_in options.now.form options.now.elements.now) S.seen
-        source.old source.new (W.contents out.old) (W.contents out.new)
-        (number_of result) verbosity.strict
-        (λ full. told_lines verbosity options.now.elements.now (origin.now ∷ []) (full ∷ []))
-        (AreToldTo E.contents E.failed err.old err.new) }
+    ensures runs { DumpsFor S.seen source.old source.new W.contents out.old out.new job.now
+        (number_of result) elements.now (AreToldTo E.contents E.failed err.old err.new) }
     ensures kept { E.failed err.old → E.failed err.new }
 {
-    match dump_whole(alloc, options, source, out) {
+    let options = DumpOptions {
+        form: job.form,
+        elements,
+    };
+    match dump_whole(alloc, &options, source, out) {
         Ok(full) => {
             let _ = write_told_reports(
-                verbosity,
-                options.elements,
-                slice::from_ref(origin),
+                job.verbosity,
+                elements,
+                slice::from_ref(&job.origin),
                 slice::from_ref(&full),
                 err,
             );
-            end_of(verbosity.strict, &full)
+            end_of(job.verbosity.strict, &full)
         }
         Err(fault) => {
             let _ = write_dump_fault(fault, err);

@@ -10,12 +10,12 @@ pub returns-in-Ok-clause-runs : goal.returns-in-Ok-clause-runs
 returns-in-Ok-clause-runs g c =
     let well = zero_if_well c.end_of.result _ _ refl c.end_of.ensures.ends c.end_of.ensures.well in
     let told = rw (c.from_ref.ensures.value, c.from_ref-in-Ok.ensures.value) at c.write_told_reports.ensures.told.told in
-    let options = c.args.options.now in
+    let job = c.args.job.now in
     record {
       statuses = one_of_three c.end_of.result _ refl c.end_of.ensures.ends;
       all = λ zero.
-          dumps_all g.S.Source.seen (line_in options.form options.elements.now) c.args.source.now c.dump_whole.new.source _ _ c.in-Ok.full.report (g.met.S.Source.ended_is_end c.dump_whole.new.source)
-          c.in-Ok.ensures.dumps (well_no_fault c.args.verbosity.strict c.in-Ok.full (well.0 zero)) _ refl;
+          dumps_all g.S.Source.seen (line_in job.form c.args.elements.now) c.args.source.now c.dump_whole.new.source _ _ c.in-Ok.full.report (g.met.S.Source.ended_is_end c.dump_whole.new.source)
+          c.in-Ok.ensures.dumps (well_no_fault job.verbosity.strict c.in-Ok.full (well.0 zero)) _ refl;
       dumped = λ ran. record {
         full = c.in-Ok.full;
         dumps = c.in-Ok.ensures;
