@@ -65,33 +65,33 @@ module _ {S W : Type 0} (seen : S → SourceView) (AreHad : List S → Type 0) (
 -- from the files of these paths: each that was had is told, and then the path that can't be opened
 module _ {S O W : Type 0} (seen : S → SourceView) (opens : O → List ℕ → S → Type 0) (coming : O → Option (List S)) (before after : O) (paths : List (Bor (List ℕ))) (contents : W → Option (List ℕ)) (old new : W) (AreTold : List ℕ → Type 0)
     (status : ℕ) where
-  abbrev ArePathsOpened : List S → Type 0
-  ArePathsOpened sources = AreOpened (λ (path : Bor (List ℕ)). opens before path.now) paths (coming before) (coming after) sources
+  abbrev PathsAreOpened : List S → Type 0
+  PathsAreOpened sources = AreOpened (λ (path : Bor (List ℕ)). opens before path.now) paths (coming before) (coming after) sources
 
   abbrev TellsPath : Verbosity → Type 0
   TellsPath verbosity = TellsNotOpened (map (λ (path : Bor (List ℕ)). path.now) paths) verbosity AreTold
 
   abbrev pub CollectsFilesPlainly : PlanValue → Pool → Output → Type 0
   CollectsFilesPlainly plan pool output =
-      CollectsPlainly seen ArePathsOpened (TellsPath NOTHING_MORE) (length paths) contents old new AreTold status plan pool output
+      CollectsPlainly seen PathsAreOpened (TellsPath NOTHING_MORE) (length paths) contents old new AreTold status plan pool output
 
   abbrev pub CollectsFiles : CollectJob → Type 0
   CollectsFiles job =
-      CollectsJob seen ArePathsOpened (TellsPath job.verbosity) (length paths) contents old new AreTold status job (AllZip (λ (path : Bor (List ℕ)). IsFileNamed path.now) paths) []
+      CollectsJob seen PathsAreOpened (TellsPath job.verbosity) (length paths) contents old new AreTold status job (AllZip (λ (path : Bor (List ℕ)). IsFileNamed path.now) paths) []
 
 -- from so many connections with this limit, at an address: each that was had is told, and then the address that gives none
-module _ {S L W : Type 0} (seen : S → SourceView) (gives : L → Option Duration → S → Type 0) (coming : L → Option (List S)) (before after : L) where
-  abbrev ConnectionsAreAccepted : Option Duration → ℕ → List S → Type 0
-  ConnectionsAreAccepted idle count sources = AreAccepted (gives before idle) count (coming before) (coming after) sources
+module _ {S L : Type 0} (seen : S → SourceView) (gives : L → Option Duration → S → Type 0) (coming : L → Option (List S)) (before after : L) where
+  abbrev AreConnections : Option Duration → ℕ → List S → Type 0
+  AreConnections idle count sources = AreAccepted (gives before idle) count (coming before) (coming after) sources
 
-  abbrev pub CollectsConnectionsPlainly : Option Duration → ℕ → List ℕ → (W → Option (List ℕ)) → W → W → (List ℕ → Type 0) → ℕ → PlanValue → Pool → Output → Type 0
+  abbrev pub CollectsConnectionsPlainly : {W : Type 0} → Option Duration → ℕ → List ℕ → (W → Option (List ℕ)) → W → W → (List ℕ → Type 0) → ℕ → PlanValue → Pool → Output → Type 0
   CollectsConnectionsPlainly idle count address contents old new AreTold status plan pool output =
-      CollectsPlainly seen (ConnectionsAreAccepted idle count) (TellsNotAccepted NOTHING_MORE [] address AreTold) count contents old new AreTold status plan pool output
+      CollectsPlainly seen (AreConnections idle count) (TellsNotAccepted NOTHING_MORE [] address AreTold) count contents old new AreTold status plan pool output
 
-  abbrev pub CollectsConnections : Connections → (W → Option (List ℕ)) → W → W → (List ℕ → Type 0) → ℕ → CollectJob → Type 0
+  abbrev pub CollectsConnections : {W : Type 0} → Connections → (W → Option (List ℕ)) → W → W → (List ℕ → Type 0) → ℕ → CollectJob → Type 0
   CollectsConnections to contents old new AreTold status job =
       let first = if_verbose job.verbosity (listening_line to.address.now to.count) in
-      CollectsJob seen (ConnectionsAreAccepted to.idle to.count) (TellsNotAccepted job.verbosity first to.address.now AreTold) to.count contents old new AreTold status job (ArePeers to.count) first
+      CollectsJob seen (AreConnections to.idle to.count) (TellsNotAccepted job.verbosity first to.address.now AreTold) to.count contents old new AreTold status job (ArePeers to.count) first
 
 -- a fact that holds if there is to be a connection that has a limit of no time
 abbrev pub IfNoTime : Connections → Type 0 → Type 0
