@@ -2,7 +2,7 @@
 use Rattle.std.proofs.Common.{◌≡◌, ℕ, cond, eqb, ltb, List, [], ◌∷◌, ◌++◌, length, Some, None, Ok, refl, sym, ap, subst, ◌∙◌, arith, inl, inr}
 use Rattle.std.specs.Prelude.{All}
 use Rattle.std.proofs.lemmas.Bool.{eqb-true}
-use Rattle.std.proofs.lemmas.List.{append-nil}
+use Rattle.std.proofs.lemmas.List.{append-nil, nil_from_length}
 use Rattle.ipfix_wire.specs.InTurn.{InTurn, parts_of}
 use Rattle.ipfix_wire.specs.Numbers.{IsOctets}
 use Rattle.ipfix_wire.specs.SetHeader.{set_octets}
@@ -19,14 +19,10 @@ use Rattle.ipfix_message.proofs.Reading.{bind_ok}
 use Rattle.laws_messages.proofs.TemplateEvents.{unless-found}
 use Rattle.laws_messages.proofs.Totals.{BodyHas}
 
-none_is_left : (rest : List ℕ) → length rest ≡ 0 → rest ≡ []
-none_is_left [] h = refl
-none_is_left (b ∷ rest) h = absurd (omega (arith, h))
-
 nothing_left : (rest : List ℕ) → fault_after_sets rest ≡ None → rest ≡ []
 nothing_left rest h =
     elim (chosen (eqb (length rest) 0) None (cond (ltb (length rest) 4) (Some SetHeader) (Some SetLength)) None h) [
-      | inl t ↦ none_is_left rest (eqb-true (length rest) 0 t.0)
+      | inl t ↦ nil_from_length rest (eqb-true (length rest) 0 t.0)
       | inr f ↦ elim (chosen (ltb (length rest) 4) (Some SetHeader) (Some SetLength) None f.1) [
         | inl t ↦ absurd cc
         | inr g ↦ absurd cc

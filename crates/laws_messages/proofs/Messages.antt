@@ -1,6 +1,5 @@
 -- A whole message: what is read is what is spelled.
 use Rattle.std.proofs.Common.{◌≡◌, ℕ, List, drop, map, Result, Ok, Err, refl, sym, ap, subst, ◌∙◌}
-use Rattle.std.specs.Prelude.{IfErr, IfOk}
 use Rattle.ipfix_wire.specs.InTurn.{InTurn}
 use Rattle.ipfix_wire.specs.Numbers.{IsOctets}
 use Rattle.ipfix_wire.specs.declared.header.Header.{Header}
@@ -15,10 +14,10 @@ use Rattle.ipfix_message.specs.declared.template_record.Event.{Event}
 use Rattle.ipfix_message.specs.Outcome.{◌>>=◌, Fails}
 use Rattle.ipfix_message.specs.Sets.{Set, SpellsSet}
 use Rattle.ipfix_message.specs.Messages.{Decoding, before, sets_from}
-use Rattle.ipfix_message.specs.Domains.{History, Message, Decodes, IsAnswer, StandsFor, admit, events_in, with_events, message_header, message_gives}
+use Rattle.ipfix_message.specs.Domains.{History, Message, Decodes, admit, events_in, with_events, message_header, message_gives}
 use Rattle.ipfix_message.proofs.History.{after_admit, after_sets}
 use Rattle.ipfix_message.proofs.Reading.{ok_is, not_both, bind_ok}
-use Rattle.laws_messages.specs.WholeMessages.{Content, IsReadAs}
+use Rattle.laws_messages.specs.WholeMessages.{Answers, Content, IsReadAs, Kept}
 use Rattle.laws_messages.proofs.Headers.{header-found, header-only}
 use Rattle.laws_messages.proofs.InTurns.{cut-found, cut-only, bodies}
 use Rattle.laws_messages.proofs.Totals.{with_sets, passed_over-all, sets-found, sets-only}
@@ -85,12 +84,8 @@ message-only ds m x fits is =
 
 -- ---- what decode answers
 
-pub decode-found : (ds : History) (m : List ℕ) (decoded : Decoded) (kept : List (ℕ × List (ℕ × Template))) → IsOctets m → Decodes (Ok decoded) kept (message_gives ds m)
-    → (x : Message) × IsReadAs ds m x × IsAnswer decoded x × StandsFor kept x.domains
-decode-found ds m decoded kept fits decodes = (decodes.0, message-found ds m decodes.0 fits decodes.1, decodes.2, decodes.3)
-
-abbrev Answers : Message → Result Decoded MessageFault → List (ℕ × List (ℕ × Template)) → Type 0
-Answers x r kept = IfOk r (λ decoded. IsAnswer decoded x × StandsFor kept x.domains) × IfErr r (λ fault. fault ≡ faults.OutOfMemory)
+pub decode-found : (ds : History) (m : List ℕ) (decoded : Decoded) (kept : Kept) → IsOctets m → Decodes (Ok decoded) kept (message_gives ds m) → (x : Message) × IsReadAs ds m x × Answers x (Ok decoded) kept
+decode-found ds m decoded kept fits decodes = (decodes.0, message-found ds m decodes.0 fits decodes.1, (decodes.2, decodes.3))
 
 -- reading that succeeds fails only without memory
 only_memory : {X : Type 0} (e : MessageFault) (x : X) → Fails e (Ok x) → e ≡ faults.OutOfMemory
@@ -108,11 +103,11 @@ only_memory faults.RecordCut x fails = absurd (not_both x _ fails)
 only_memory faults.TooManyDomains x fails = absurd (not_both x _ fails)
 only_memory faults.Spent x fails = absurd (not_both x _ fails)
 
-answers : (x : Message) (r : Result Decoded MessageFault) (kept : List (ℕ × List (ℕ × Template))) → Decodes r kept (Ok x) → Answers x r kept
+answers : (x : Message) (r : Result Decoded MessageFault) (kept : Kept) → Decodes r kept (Ok x) → Answers x r kept
 answers x (Ok decoded) kept decodes =
     let same : decodes.0 ≡ x = sym (ok_is x decodes.0 decodes.1) in
-    (subst (λ (y : Message). IsAnswer decoded y × StandsFor kept y.domains) same (decodes.2, decodes.3), tt)
-answers x (Err e) kept decodes = (tt, only_memory e x decodes)
+    subst (λ (y : Message). Answers y (Ok decoded) kept) same (decodes.2, decodes.3)
+answers x (Err e) kept decodes = only_memory e x decodes
 
-pub decode-only : (ds : History) (m : List ℕ) (x : Message) (r : Result Decoded MessageFault) (kept : List (ℕ × List (ℕ × Template))) → IsOctets m → IsReadAs ds m x → Decodes r kept (message_gives ds m) → Answers x r kept
+pub decode-only : (ds : History) (m : List ℕ) (x : Message) (r : Result Decoded MessageFault) (kept : Kept) → IsOctets m → IsReadAs ds m x → Decodes r kept (message_gives ds m) → Answers x r kept
 decode-only ds m x r kept fits is decodes = answers x r kept (subst (Decodes r kept) (message-only ds m x fits is) decodes)

@@ -16,20 +16,17 @@ use Rattle.ipfix_message.proofs.LastDefinition.{in_force-found, in_force-only}
 use Rattle.ipfix_message.proofs.Reading.{ok_is, not_both, bind_ok}
 use Rattle.ipfix_message.proofs.Same.{same_template-Decides}
 use Rattle.ipfix_message.proofs.TemplateRecords.{template_set-whole}
+use Rattle.std.proofs.lemmas.Bool.{not-false}
 use Rattle.laws_messages.specs.WholeMessages.{KeepsTemplate, KeepTemplates, behind, ignored_in}
 
 -- ---- one event
-
-not_false : (b : Bool) → not b ≡ false → b ≡ true
-not_false true h = refl
-not_false false h = absurd cc
 
 keeps_of : (es : List Event) (t : Template) (o : Option Template) → in_force es t.id ≡ o → is_other t o ≡ false → KeepsTemplate es (Define t)
 keeps_of es t None is h = λ u same in_it. absurd (let at = in_force-only es t.id u same in_it in cc)
 keeps_of es t (Some v) is h = λ u same in_it.
     let at = in_force-only es t.id u same in_it in
     let both : v ≡ u = cc in
-    (same_template-Decides t v).0 (not_false (same_template t v) h) ∙ both
+    (same_template-Decides t v).0 (not-false (same_template t v) h) ∙ both
 
 kept_of : (es : List Event) (t : Template) (o : Option Template) → in_force es t.id ≡ o → KeepsTemplate es (Define t) → is_other t o ≡ false
 kept_of es t None is keeps = refl

@@ -1,15 +1,18 @@
 -- A whole message: which of its octets are its header, its sets, the records in them, and padding (RFC 7011, section 3).
-use Rattle.std.specs.Prelude.{◌≡◌, ◌≢◌, ℕ, ◌+◌, ◌<◌, ◌≤◌, Bool, true, false, if◌then◌else◌, List, [], ◌∷◌, ◌++◌, length, map, flat_map, count_by, Ok}
+use Rattle.std.specs.Prelude.{◌≡◌, ◌≢◌, ℕ, ◌+◌, ◌<◌, ◌≤◌, Bool, true, false, if◌then◌else◌, List, [], ◌∷◌, ◌++◌, length, map, flat_map, count_by, Result, Ok, Err}
 use Rattle.ipfix_wire.specs.InTurn.{InTurn}
 use Rattle.ipfix_wire.specs.MessageHeader.{header_octets, IsHeader}
 use Rattle.ipfix_wire.specs.declared.header.Header.{Header}
 use Rattle.ipfix_wire.specs.declared.set.TheConstants.{TEMPLATE_SET_ID, OPTIONS_TEMPLATE_SET_ID, FIRST_TEMPLATE_ID}
 use Rattle.ipfix_message.specs.Fields.{Field}
 use Rattle.ipfix_message.specs.DataRecords.{IsBody, least, record_of}
-use Rattle.ipfix_message.specs.Domains.{History, Message, admit, events_in, with_events}
+use Rattle.ipfix_message.specs.Domains.{History, IsAnswer, Message, StandsFor, admit, events_in, with_events}
 use Rattle.ipfix_message.specs.Sets.{Set, SpellsSet}
 use Rattle.ipfix_message.specs.TemplateRecords.{IsTemplateSet, set_id_of}
 use Rattle.ipfix_message.specs.TemplatesInForce.{IsInForce, is_ignored}
+use Rattle.ipfix_message.specs.declared.fault.MessageFault.{MessageFault}
+use Rattle.ipfix_message.specs.declared.fault.MessageFault.TheVariants.{OutOfMemory}
+use Rattle.ipfix_message.specs.declared.message.Decoded.{Decoded}
 use Rattle.ipfix_message.specs.declared.passed_over.PassedOver.{PassedOver}
 use Rattle.ipfix_message.specs.declared.record.DataRecord.{DataRecord}
 use Rattle.ipfix_message.specs.declared.record.Template.{Template}
@@ -134,3 +137,14 @@ pub record IsReadAs (ds : History) (m : List ℕ) (x : Message) : Type 0 where
   pub events : x.decoding.events ≡ behind (events_in known x.header.domain) (all_events sets)
   pub passed : x.decoding.passed_over ≡ passed_over (events_in known x.header.domain) sets
   pub domains : x.domains ≡ with_events known x.header.domain x.decoding.events
+
+-- ---- what `decode` answers
+
+-- the templates that it keeps: those of each domain, by their ids
+abbrev pub Kept : Type 0
+Kept = List (ℕ × List (ℕ × Template))
+
+-- it answers x and keeps the templates that are in force after it, unless memory runs out
+abbrev pub Answers : Message → Result Decoded MessageFault → Kept → Type 0
+Answers x (Ok decoded) kept = IsAnswer decoded x × StandsFor kept x.domains
+Answers x (Err fault) kept = fault ≡ OutOfMemory

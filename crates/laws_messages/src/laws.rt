@@ -1,18 +1,17 @@
 //! Laws of whole messages. Each is a function that does nothing, and its contract is the theorem.
 
-ghost use Rattle.std.specs.Prelude.{[], ◌≡◌, ◌<◌, ℕ, All, List, Result, Ok, IfErr, IfOk};
+ghost use Rattle.std.specs.Prelude.{[], ◌≡◌, ◌<◌, ℕ, All, List, Result, Ok};
 ghost use Rattle.ipfix_wire.specs.Numbers.{IsOctets};
 ghost use Rattle.ipfix_wire.specs.declared.header.Header.{Header};
 ghost use Rattle.ipfix_message.specs.DataRecords.{least};
-ghost use Rattle.ipfix_message.specs.Domains.{Decodes, History, IsAnswer, Message, StandsFor, message_gives};
+ghost use Rattle.ipfix_message.specs.Domains.{Decodes, History, Message, message_gives};
 ghost use Rattle.ipfix_message.specs.Sets.{Set};
 ghost use Rattle.ipfix_message.specs.TemplatesInForce.{IsInForce};
 ghost use Rattle.ipfix_message.specs.declared.fault.MessageFault.{MessageFault};
-ghost use Rattle.ipfix_message.specs.declared.fault.MessageFault.TheVariants.{OutOfMemory};
 ghost use Rattle.ipfix_message.specs.declared.message.Decoded.{Decoded};
 ghost use Rattle.ipfix_message.specs.declared.record.Template.{Template};
 ghost use Rattle.ipfix_message.specs.declared.template_record.Event.{Event};
-ghost use Rattle.laws_messages.specs.WholeMessages.{Content, IsMessage, IsPositive, IsReadAs, all_events, behind};
+ghost use Rattle.laws_messages.specs.WholeMessages.{Answers, Content, IsMessage, IsPositive, IsReadAs, Kept, all_events, behind};
 ghost use Rattle.laws_messages.specs.WorkedExample.{example_octets, example_message};
 
 /// The octets of a message are its header and, one after another to the end, its sets; those of a set
@@ -28,16 +27,13 @@ pub fn messages_are_spelled()
 /// What [`decode`](ipfix_message::Domains::decode) answers of a message, by its contract.
 pub fn decode_reads_what_is_spelled()
     // What it gives is spelled so.
-    ensures found { (ds : History) (m : List ℕ) (decoded : Decoded)
-        (kept : List (ℕ × List (ℕ × Template))) → IsOctets m
+    ensures found { (ds : History) (m : List ℕ) (decoded : Decoded) (kept : Kept) → IsOctets m
         → Decodes (Ok decoded) kept (message_gives ds m)
-        → (x : Message) × IsReadAs ds m x × IsAnswer decoded x × StandsFor kept x.domains }
+        → (x : Message) × IsReadAs ds m x × Answers x (Ok decoded) kept }
     // What is spelled so is what it gives, unless memory runs out.
     ensures only { (ds : History) (m : List ℕ) (x : Message) (r : Result Decoded MessageFault)
-        (kept : List (ℕ × List (ℕ × Template))) → IsOctets m
-        → IsReadAs ds m x → Decodes r kept (message_gives ds m)
-        → IfOk r (λ decoded. IsAnswer decoded x × StandsFor kept x.domains)
-        × IfErr r (λ fault. fault ≡ OutOfMemory) }
+        (kept : Kept) → IsOctets m → IsReadAs ds m x → Decodes r kept (message_gives ds m)
+        → Answers x r kept }
 {}
 
 /// By each template that is in force a record has at least one octet, so that the end of a data set's
