@@ -18,9 +18,10 @@ use Rattle.flow_table.specs.declared.table.Row.{Row}
 use Rattle.flow_table.specs.Fitting.{FitsKeys, FitsRow, IsCellOf}
 use Rattle.flow_table.specs.Plans.{IsPlan, PlanValue}
 use Rattle.flow_table.specs.SameTables.{value_of}
+use Rattle.element_registry.specs.Registries.{Known}
 use Rattle.flow_export.specs.CsvText.{first_of, heading, last_of}
-use Rattle.laws_json.specs.Objects.{members_of}
-use Rattle.laws_json.specs.RowObjects.{columns, object_of_row, value_of_cell}
+use Rattle.laws_json.specs.Objects.{members_of, value_of_cell}
+use Rattle.laws_json.specs.RowObjects.{columns, FitsHeading, object_of_row}
 use Rattle.laws_json.specs.Told.{HasMember, TellsCell, TellsRow}
 use Rattle.laws_json.proofs.Names.{names_differ}
 use Rattle.laws_json.proofs.Told.{cell_tells, HasRoom}
@@ -72,20 +73,17 @@ columns_tell (n ∷ ns) (c ∷ cs) same differ room =
 
 -- ---- rows that fit
 
-number_room : (kind : Kind) (n : ℕ) → IsCellOf kind (Number n) → n < 2 ^ 64
-number_room (kinds.Unsigned One) n fits = omega (arith, fits)
-number_room (kinds.Unsigned Two) n fits = omega (arith, fits)
-number_room (kinds.Unsigned Four) n fits = omega (arith, fits)
-number_room (kinds.Unsigned Eight) n fits = omega (arith, fits)
-number_room kinds.Ipv4 n fits = absurd fits
-number_room kinds.Ipv6 n fits = absurd fits
-number_room kinds.Mac n fits = absurd fits
-number_room kinds.Seconds n fits = absurd fits
-number_room kinds.Millis n fits = absurd fits
-number_room kinds.Octets n fits = absurd fits
-
 cell_room : (kind : Kind) (c : Cell) → IsCellOf kind c → HasRoom c
-cell_room kind (Number n) fits = number_room kind n fits
+cell_room (kinds.Unsigned One) (Number n) fits = omega (arith, fits)
+cell_room (kinds.Unsigned Two) (Number n) fits = omega (arith, fits)
+cell_room (kinds.Unsigned Four) (Number n) fits = omega (arith, fits)
+cell_room (kinds.Unsigned Eight) (Number n) fits = omega (arith, fits)
+cell_room kinds.Ipv4 (Number n) fits = absurd fits
+cell_room kinds.Ipv6 (Number n) fits = absurd fits
+cell_room kinds.Mac (Number n) fits = absurd fits
+cell_room kinds.Seconds (Number n) fits = absurd fits
+cell_room kinds.Millis (Number n) fits = absurd fits
+cell_room kinds.Octets (Number n) fits = absurd fits
 cell_room kind (Ipv4 address) fits = tt
 cell_room kind (Ipv6 address) fits = tt
 cell_room kind (Mac address) fits = tt
@@ -114,8 +112,8 @@ times_room (suc i) l start small =
     let long : l ≤ suc i * l = grind arith in
     (omega (arith, start), omega (arith, start, long))
 
-pub row_tells : (plan : PlanValue) (row : Row) → IsPlan plan → plan.length < 2 ^ 64 → FitsRow plan row → TellsRow plan (value_of row) (object_of_row plan (value_of row))
-row_tells plan row is small fits =
+pub row_tells : (known : List Known) (plan : PlanValue) (row : Row) → FitsHeading known → IsPlan plan → plan.length < 2 ^ 64 → FitsRow plan row → TellsRow known plan (value_of row) (object_of_row known plan (value_of row))
+row_tells known plan row heads is small fits =
     let key = key_room plan row.key.items fits.key in
     let times = times_room row.interval plan.length fits.interval small in
     let numbers = numbers_room row.sums.items row.flows fits.small fits.few in
@@ -123,5 +121,5 @@ row_tells plan row is small fits =
     let room : All HasRoom (columns plan (value_of row)) =
     All-cons HasRoom (Number (first_of plan (value_of row))) (Number (last_of plan (value_of row)) ∷ (row.key.items ++ last)) times.0
     (All-cons HasRoom (Number (last_of plan (value_of row))) (row.key.items ++ last) times.1 (All-append HasRoom row.key.items last key.0 numbers)) in
-    let same : length (heading plan) ≡ length (columns plan (value_of row)) = simp (length-append, length-map) (omega (arith, key.1, fits.sums)) in
-    columns_tell (heading plan) (columns plan (value_of row)) same (names_differ plan is) room
+    let same : length (heading known plan) ≡ length (columns plan (value_of row)) = simp (length-append, length-map) (omega (arith, key.1, fits.sums)) in
+    columns_tell (heading known plan) (columns plan (value_of row)) same (names_differ known heads plan is) room

@@ -1,113 +1,141 @@
--- The text of a record's object.
-use Rattle.std.proofs.Common.{◌≡◌, ℕ, ◌<◌, Bool, true, false, List, [], ◌∷◌, ◌++◌, map, Option, Some, None, refl, sym, ap, append_assoc, ◌∙◌, cond}
-use Rattle.std.specs.Prelude.{codes, decimal, nat_lt, ◌^◌, All}
-use Rattle.std.specs.Option.{option_map_or}
-use Rattle.std.proofs.lemmas.List.Elements.{All-head, All-tail}
-use Rattle.json.specs.Print.{escape_byte, quoted}
-use Rattle.json.specs.Json.{string, number}
+-- The text of an object is the line that is written.
+use Rattle.std.proofs.Common.{◌≡◌, ℕ, ◌<◌, Bool, true, false, List, [], ◌∷◌, ◌++◌, map, refl, sym, ap, ap₂, append_assoc, ◌∙◌}
+use Rattle.std.specs.Prelude.{codes, decimal, All}
+use Rattle.std.specs.List.{join_with_byte, zip}
+use Rattle.std.proofs.lemmas.List.{map-append}
+use Rattle.std.proofs.lemmas.List.Elements.{All-append, All-head, All-map, All-nil, All-tail}
+use Rattle.json.specs.Json.{Json, string}
 use Rattle.json.specs.Value.{items_of}
-use Rattle.ipfix_elements.specs.Elements.{kind_of}
-use Rattle.ipfix_elements.specs.Names.{name_text}
-use Rattle.ipfix_elements.specs.Texts.{cell_text}
-use Rattle.ipfix_elements.specs.Values.{cell_in}
+use Rattle.ipfix_elements.specs.JsonValues.{in_quotes, json_cell, json_number}
 use Rattle.ipfix_elements.specs.declared.cell.Cell.{Cell}
-use Rattle.ipfix_elements.specs.declared.cell.Cell.TheVariants.{Number, Ipv4, Ipv6, Mac}
+use Rattle.ipfix_elements.specs.declared.cell.Cell.TheVariants.{Number}
+use Rattle.element_registry.specs.Registries.{Known, element_kind, element_name}
+use Rattle.element_values.specs.FieldTexts.{element_json}
+use Rattle.element_values.specs.Strings.{json_string}
 use Rattle.ipfix_message.specs.DataRecords.{HasOctets}
 use Rattle.ipfix_message.specs.Fields.{Field}
 use Rattle.ipfix_message.specs.declared.record.DataRecord.{DataRecord}
-use Rattle.ipfix_elements.specs.JsonValues.{in_quotes, json_cell, json_value}
-use Rattle.ipfix_dump.specs.JsonLines.{json_field, json_fields, json_front, json_line, comma_if}
-use Rattle.laws_json.specs.Objects.{object_of, object_of_field, value_as, value_of}
-use Rattle.laws_json.proofs.Compact.{compact_text, items_text, comma_if as comma_before}
-use Rattle.laws_json.proofs.Plain.{IsPlain, value_plain, name_plain}
+use Rattle.ipfix_dump.specs.JsonLines.{comma_if, json_field, json_fields, json_line}
+use Rattle.flow_table.specs.Plans.{PlanValue}
+use Rattle.flow_table.specs.SameTables.{RowValue}
+use Rattle.flow_export.specs.CsvText.{first_of, heading, last_of}
+use Rattle.flow_export.specs.JsonText.{member, object_line, row_object, row_values}
+use Rattle.flow_export.specs.PlainNames.{have_plain_names}
+use Rattle.laws_json.specs.Objects.{members_of, object_of, object_of_field, object_with, record_names, record_values, value_of, value_of_cell}
+use Rattle.laws_json.specs.RowObjects.{columns, HasAddresses, object_of_row}
+use Rattle.laws_json.specs.Texts.{compact_text, items_text, members_text}
+use Rattle.laws_json.proofs.Plain.{AllPlain, AreOctets, HasAddress, heading_plain, name_plain}
+use Rattle.laws_json.proofs.Strings.{plain_string}
+use Rattle.laws_json.proofs.Values.{cell_written, value_written}
 
-pub quoted_plain : (s : List ℕ) → IsPlain s → quoted s ≡ in_quotes s
-quoted_plain s p = ap (λ (t : List ℕ). 34 ∷ (t ++ 34 ∷ [])) p
+-- ---- members
 
--- ---- values
+last_member : (q n v : List ℕ) → q ≡ in_quotes n → q ++ 58 ∷ (v ++ codes "}") ≡ member (n, v) ++ codes "}"
+last_member q n v is = rw is (simp append_assoc)
 
-by_size : (b : Bool) (n : ℕ) → IsPlain (decimal n) → compact_text (cond b (number (decimal n)) (string (decimal n))) ≡ cond b (decimal n) (in_quotes (decimal n))
-by_size true n p = refl
-by_size false n p = quoted_plain _ p
+regroup : (q k v c rest e : List ℕ) → q ++ (k ++ (v ++ (c ++ (rest ++ e)))) ≡ ((q ++ (k ++ v)) ++ (c ++ rest)) ++ e
+regroup q k v c rest e = simp append_assoc
 
-pub of_cell : (o : Option Cell) (other : List ℕ) → IsPlain (option_map_or cell_text o other)
-    → compact_text (value_as o (option_map_or cell_text o other)) ≡ option_map_or json_cell o (in_quotes (option_map_or cell_text o other))
-unfolding cell_text
-of_cell None other p = quoted_plain other p
-of_cell (Some (Number n)) other p = by_size (nat_lt n (2 ^ 53)) n p
-of_cell (Some (Ipv4 a)) other p = quoted_plain _ p
-of_cell (Some (Ipv6 a)) other p = quoted_plain _ p
-of_cell (Some (Mac a)) other p = quoted_plain _ p
+next_member : (q n v given rest : List ℕ) → q ≡ in_quotes n → given ≡ rest ++ codes "}" → q ++ 58 ∷ (v ++ 44 ∷ given) ≡ (member (n, v) ++ 44 ∷ rest) ++ codes "}"
+next_member q n v given rest is is_given =
+    ap₂ (λ (x y : List ℕ). x ++ 58 ∷ (v ++ 44 ∷ y)) is is_given ∙ regroup (in_quotes n) (codes ":") v (44 ∷ []) rest (codes "}")
 
-value_is : (f : Field) → All (λ b. b < 256) f.octets → compact_text (value_of f) ≡ json_value (kind_of f.element) f.octets
-value_is f all = of_cell (cell_in (kind_of f.element) f.octets) _ (value_plain (kind_of f.element) f.octets all)
+members_are : (names : List (List ℕ)) (values : List Json) → AllPlain names
+    → members_text false (members_of (zip names values)) ≡ join_with_byte 44 (map member (zip names (map compact_text values))) ++ codes "}"
+members_are [] values all = refl
+members_are (n ∷ ns) [] all = refl
+members_are (n ∷ []) (v ∷ vs) all = last_member (json_string n) n (compact_text v) (plain_string n all.0)
+members_are (n ∷ m ∷ ns) (v ∷ []) all = last_member (json_string n) n (compact_text v) (plain_string n all.0)
+members_are (n ∷ m ∷ ns) (v ∷ u ∷ vs) all = next_member (json_string n) n (compact_text v) _ _ (plain_string n all.0) (members_are (m ∷ ns) (u ∷ vs) all.1)
 
--- ---- fields
-
--- the keys between quotation marks
-pub keys : (quoted (codes "name") ≡ codes "\"name\"") × (quoted (codes "value") ≡ codes "\"value\"") × (quoted (codes "domain") ≡ codes "\"domain\"") × (quoted (codes "template") ≡ codes "\"template\"") × (quoted (codes "export_time") ≡ codes "\"export_time\"") × (quoted (codes "scope") ≡ codes "\"scope\"") × (quoted (codes "fields") ≡ codes "\"fields\"")
-unfolding escape_byte
-keys = (refl, refl, refl, refl, refl, refl, refl)
-
-field_parts : (name_quoted value_quoted name_given name value_given value : List ℕ) → name_quoted ≡ codes "\"name\"" → value_quoted ≡ codes "\"value\"" → name_given ≡ 34 ∷ (name ++ 34 ∷ []) → value_given ≡ value
-    → 123 ∷ (name_quoted ++ 58 ∷ (name_given ++ 44 ∷ (value_quoted ++ 58 ∷ (value_given ++ 125 ∷ [])))) ≡ codes "{\"name\":\"" ++ (name ++ (codes "\",\"value\":" ++ (value ++ codes "}")))
-field_parts name_quoted value_quoted name_given name value_given value is_name_key is_value_key is_name is_value =
-    rw (is_name_key, is_value_key, is_name, is_value) (ap (λ (w : List ℕ). codes "{\"name\":\"" ++ w) (append_assoc name (34 ∷ []) (44 ∷ (codes "\"value\"" ++ 58 ∷ (value ++ 125 ∷ [])))))
-
-abbrev has_octets : Field → Type 0
-has_octets f = All (λ b. b < 256) f.octets
-
-field_is : (f : Field) → has_octets f → compact_text (object_of_field f) ≡ json_field f
-unfolding json_field
-field_is f all =
-    field_parts _ _ _ (name_text f.element) _ (json_value (kind_of f.element) f.octets) keys.0 keys.1 (quoted_plain (name_text f.element) (name_plain f.element)) (value_is f all)
-
-pub comma_is : (later : Bool) → comma_before later ≡ comma_if later
-comma_is true = refl
-comma_is false = refl
-
-one_more : (comma_given comma field_given field rest_given rest : List ℕ) → comma_given ≡ comma → field_given ≡ field → rest_given ≡ rest ++ codes "]" → comma_given ++ (field_given ++ rest_given) ≡ (comma ++ (field ++ rest)) ++ codes "]"
-one_more comma_given comma field_given field rest_given rest is_comma is_field is_rest = rw (is_comma, is_field, is_rest) (simp append_assoc)
-
-fields_are : (later : Bool) (fs : List Field) → All has_octets fs → items_text later (items_of (map object_of_field fs)) ≡ json_fields later fs ++ codes "]"
-fields_are later [] all = refl
-fields_are later (f ∷ fs) all =
-    one_more _ (comma_if later) _ (json_field f) _ (json_fields true fs) (comma_is later) (field_is f (All-head has_octets f fs all)) (fields_are true fs (All-tail has_octets f fs all))
+object_is : (names : List (List ℕ)) (values : List Json) → AllPlain names → compact_text (object_with names values) ++ codes "\n" ≡ object_line (zip names (map compact_text values))
+object_is names values all =
+    ap (λ (w : List ℕ). 123 ∷ (w ++ codes "\n")) (members_are names values all)
+    ∙ ap (λ (w : List ℕ). 123 ∷ w) (append_assoc (join_with_byte 44 (map member (zip names (map compact_text values)))) (codes "}") (codes "\n"))
 
 -- ---- records
 
--- the text of a record's object, with that of its fields behind the opening bracket
-abbrev pub text_with : DataRecord → List ℕ → List ℕ
-text_with r fields =
-    123 ∷ (quoted (codes "domain") ++ 58 ∷ (decimal r.domain ++ 44 ∷ (quoted (codes "template") ++ 58 ∷ (decimal r.template ++ 44 ∷ (quoted (codes "export_time") ++ 58 ∷ (decimal r.export_time ++ 44 ∷ (quoted (codes "scope") ++ 58 ∷ (decimal r.scope ++ 44 ∷ (quoted (codes "fields") ++ 58 ∷ (91 ∷ (fields ++ 125 ∷ [])))))))))))
+abbrev field_object : List ℕ → List ℕ → List ℕ
+field_object name value = 123 ∷ (join_with_byte 44 (map member ((codes "name", name) ∷ (codes "value", value) ∷ [])) ++ codes "}")
 
-object_is : (k l m n o domain template time scope fields_given fields : List ℕ)
-    → k ≡ codes "\"domain\"" → l ≡ codes "\"template\"" → m ≡ codes "\"export_time\"" → n ≡ codes "\"scope\"" → o ≡ codes "\"fields\"" → fields_given ≡ fields ++ codes "]"
-    → 123 ∷ (k ++ 58 ∷ (domain ++ 44 ∷ (l ++ 58 ∷ (template ++ 44 ∷ (m ++ 58 ∷ (time ++ 44 ∷ (n ++ 58 ∷ (scope ++ 44 ∷ (o ++ 58 ∷ (91 ∷ (fields_given ++ 125 ∷ [])))))))))))
-    ≡ codes "{\"domain\":" ++ (domain ++ (codes ",\"template\":" ++ (template ++ (codes ",\"export_time\":" ++ (time ++ (codes ",\"scope\":" ++ (scope ++ (codes ",\"fields\":[" ++ (fields ++ codes "]}")))))))))
-object_is k l m n o domain template time scope fields_given fields is_k is_l is_m is_n is_o is_fields =
-    rw (is_k, is_l, is_m, is_n, is_o, is_fields)
-    (ap (λ (w : List ℕ). codes "{\"domain\":" ++ (domain ++ (codes ",\"template\":" ++ (template ++ (codes ",\"export_time\":" ++ (time ++ (codes ",\"scope\":" ++ (scope ++ (codes ",\"fields\":[" ++ w)))))))))
-    (append_assoc fields (codes "]") (125 ∷ [])))
+field_parts : (name value : List ℕ) → field_object (in_quotes name) value ≡ codes "{\"name\":\"" ++ (name ++ (codes "\",\"value\":" ++ (value ++ codes "}")))
+field_parts name value = simp append_assoc
 
-parts_are : (a b c d e f g h i j z : List ℕ) → ((a ++ b) ++ ((c ++ d) ++ ((e ++ f) ++ ((g ++ h) ++ i)))) ++ (j ++ z) ≡ a ++ (b ++ (c ++ (d ++ (e ++ (f ++ (g ++ (h ++ (i ++ (j ++ z)))))))))
-parts_are a b c d e f g h i j z = simp append_assoc
+abbrev record_object : List ℕ → List ℕ → List ℕ → List ℕ → List ℕ → List ℕ
+record_object domain template time scope fields =
+    object_line ((codes "domain", domain) ∷ (codes "template", template) ∷ (codes "export_time", time) ∷ (codes "scope", scope) ∷ (codes "fields", 91 ∷ fields) ∷ [])
 
-end_is : (a b c d e f g h i j y z : List ℕ) → (a ++ (b ++ (c ++ (d ++ (e ++ (f ++ (g ++ (h ++ (i ++ (j ++ y)))))))))) ++ z ≡ a ++ (b ++ (c ++ (d ++ (e ++ (f ++ (g ++ (h ++ (i ++ (j ++ (y ++ z))))))))))
-end_is a b c d e f g h i j y z = simp append_assoc
+flat_front : (a d b t c e x s y f z : List ℕ) → ((a ++ d) ++ ((b ++ t) ++ ((c ++ e) ++ ((x ++ s) ++ y)))) ++ (f ++ z) ≡ a ++ (d ++ (b ++ (t ++ (c ++ (e ++ (x ++ (s ++ (y ++ (f ++ z)))))))))
+flat_front a d b t c e x s y f z = simp append_assoc
 
--- a record's line, whatever its fields
-pub front_is : (r : DataRecord) (fields fields_given : List ℕ) → fields_given ≡ fields ++ codes "]"
-    → json_front r ++ (fields ++ codes "]}\n") ≡ text_with r fields_given ++ codes "\n"
-front_is r fields fields_given is_fields =
-    let domain = decimal r.domain in
-    let template = decimal r.template in
-    let time = decimal r.export_time in
-    let scope = decimal r.scope in
-    parts_are (codes "{\"domain\":") domain (codes ",\"template\":") template (codes ",\"export_time\":") time (codes ",\"scope\":") scope (codes ",\"fields\":[") fields (codes "]}\n")
-    ∙ sym (end_is (codes "{\"domain\":") domain (codes ",\"template\":") template (codes ",\"export_time\":") time (codes ",\"scope\":") scope (codes ",\"fields\":[") fields (codes "]}") (codes "\n"))
-    ∙ ap (λ (t : List ℕ). t ++ codes "\n") (sym (object_is _ _ _ _ _ domain template time scope fields_given fields keys.2 keys.3 keys.4 keys.5 keys.6 is_fields))
+flat_members : (k c a d b t x e y s z o f p q : List ℕ)
+    → ((a ++ (k ++ d)) ++ (c ++ ((b ++ (k ++ t)) ++ (c ++ ((x ++ (k ++ e)) ++ (c ++ ((y ++ (k ++ s)) ++ (c ++ (z ++ (k ++ (o ++ (f ++ p)))))))))))) ++ q
+    ≡ a ++ (k ++ (d ++ (c ++ (b ++ (k ++ (t ++ (c ++ (x ++ (k ++ (e ++ (c ++ (y ++ (k ++ (s ++ (c ++ (z ++ (k ++ (o ++ (f ++ (p ++ q))))))))))))))))))))
+flat_members k c a d b t x e y s z o f p q = simp append_assoc
 
-pub line_is : (r : DataRecord) → HasOctets r → json_line r ≡ compact_text (object_of r) ++ codes "\n"
-unfolding json_line
-line_is r all = front_is r (json_fields false r.fields) _ (fields_are false r.fields all)
+record_parts : (d t e s f : List ℕ)
+    → ((codes "{\"domain\":" ++ d) ++ ((codes ",\"template\":" ++ t) ++ ((codes ",\"export_time\":" ++ e) ++ ((codes ",\"scope\":" ++ s) ++ codes ",\"fields\":[")))) ++ (f ++ codes "]}\n")
+    ≡ record_object d t e s (f ++ codes "]")
+record_parts d t e s f =
+    flat_front (codes "{\"domain\":") d (codes ",\"template\":") t (codes ",\"export_time\":") e (codes ",\"scope\":") s (codes ",\"fields\":[") f (codes "]}\n")
+    ∙ ap (λ (w : List ℕ). 123 ∷ w)
+    (sym (flat_members (codes ":") (codes ",") (codes "\"domain\"") d (codes "\"template\"") t (codes "\"export_time\"") e (codes "\"scope\"") s (codes "\"fields\"") (codes "[") f (codes "]") (codes "}\n")))
+
+next_item : (later : Bool) (field_given field rest given : List ℕ) → field_given ≡ field → given ≡ rest ++ codes "]"
+    → comma_if later ++ (field_given ++ given) ≡ (comma_if later ++ (field ++ rest)) ++ codes "]"
+next_item later field_given field rest given is_field is = rw (is_field, is) (simp append_assoc)
+
+-- ---- columns
+
+numbers_have : (ns : List ℕ) → All HasAddress (map (λ n. Number n) ns)
+numbers_have ns = All-map HasAddress {Y = ℕ} (λ n. Number n) ns (λ k d within. All-nil (λ b. b < 256))
+
+pub columns_have : (plan : PlanValue) (row : RowValue) → HasAddresses row → All HasAddress (columns plan row)
+columns_have plan row all =
+    All-append HasAddress (map (λ n. Number n) (first_of plan row ∷ last_of plan row ∷ [])) _ (numbers_have (first_of plan row ∷ last_of plan row ∷ []))
+    (All-append HasAddress row.key _ all (All-append HasAddress (map (λ n. Number n) row.sums) _ (numbers_have row.sums) (numbers_have (row.flows ∷ []))))
+
+cells_are : (cells : List Cell) → All HasAddress cells → map compact_text (map value_of_cell cells) ≡ map json_cell cells
+cells_are [] all = refl
+cells_are (c ∷ cs) all =
+    ap₂ (λ (t : List ℕ) (ts : List (List ℕ)). t ∷ ts) (cell_written (λ z. Unit {0}) (λ n less. tt) c (All-head HasAddress c cs all)).text (cells_are cs (All-tail HasAddress c cs all))
+
+numbers_are : (ns : List ℕ) (rest : List Cell) → map json_cell (map (λ n. Number n) ns ++ rest) ≡ map json_number ns ++ map json_cell rest
+numbers_are [] rest = refl
+numbers_are (n ∷ ns) rest = ap (λ (t : List (List ℕ)). json_number n ∷ t) (numbers_are ns rest)
+
+values_are : (plan : PlanValue) (row : RowValue) → HasAddresses row → map compact_text (map value_of_cell (columns plan row)) ≡ row_values plan row
+values_are plan row all =
+    cells_are (columns plan row) (columns_have plan row all)
+    ∙ ap (λ (t : List (List ℕ)). json_number (first_of plan row) ∷ json_number (last_of plan row) ∷ t)
+    (map-append json_cell row.key (map (λ n. Number n) row.sums ++ Number row.flows ∷ []) ∙ ap (λ (t : List (List ℕ)). map json_cell row.key ++ t) (numbers_are row.sums (Number row.flows ∷ [])))
+
+module _ (known : List Known) (plain : have_plain_names known ≡ true) where
+  field_is : (f : Field) → AreOctets f.octets → compact_text (object_of_field known f) ≡ json_field known f
+  unfolding json_field
+  field_is f all =
+      let kind = element_kind known f.element in
+      let name = element_name known f.element in
+      let value : compact_text (value_of kind f.octets) ≡ element_json kind f.octets = (value_written (λ z. Unit {0}) (λ n less. tt) kind f.octets all (λ width is z exact. tt)).text in
+      ap (λ (w : List ℕ). 123 ∷ w) (members_are (codes "name" ∷ codes "value" ∷ []) (string name ∷ value_of kind f.octets ∷ []) (refl, (refl, tt)))
+      ∙ ap₂ field_object (plain_string name (name_plain known plain f.element)) value ∙ field_parts name (element_json kind f.octets)
+
+  fields_are : (later : Bool) (fs : List Field) → All (λ f. AreOctets f.octets) fs → items_text later (items_of (map (object_of_field known) fs)) ≡ json_fields known later fs ++ codes "]"
+  fields_are later [] all = refl
+  fields_are later (f ∷ fs) all =
+      next_item later (compact_text (object_of_field known f)) (json_field known f) (json_fields known true fs) _ (field_is f (All-head (λ f. AreOctets f.octets) f fs all))
+      (fields_are true fs (All-tail (λ f. AreOctets f.octets) f fs all))
+
+  pub line_is : (r : DataRecord) → HasOctets r → json_line known r ≡ compact_text (object_of known r) ++ codes "\n"
+  unfolding json_line
+  line_is r all =
+      record_parts (decimal r.domain) (decimal r.template) (decimal r.export_time) (decimal r.scope) (json_fields known false r.fields)
+      ∙ ap (record_object (decimal r.domain) (decimal r.template) (decimal r.export_time) (decimal r.scope)) (sym (fields_are false r.fields all))
+      ∙ sym (object_is record_names (record_values known r) (refl, (refl, (refl, (refl, (refl, tt))))))
+
+  -- ---- rows
+
+  pub row_is : (plan : PlanValue) (row : RowValue) → HasAddresses row → row_object known plan row ≡ compact_text (object_of_row known plan row) ++ codes "\n"
+  row_is plan row all =
+      ap (λ (values : List (List ℕ)). object_line (zip (heading known plan) values)) (sym (values_are plan row all))
+      ∙ sym (object_is (heading known plan) (map value_of_cell (columns plan row)) (heading_plain known plain plan))

@@ -1,151 +1,114 @@
 -- No name and no value needs an escape.
-use Rattle.std.proofs.Common.{◌≡◌, ℕ, zero, suc, ◌+◌, ◌/◌, ◌%◌, ◌<◌, Bool, true, false, cond, eqb, List, [], ◌∷◌, ◌++◌, map, find, Option, Some, None, unwrap_or, option_map, length, refl, sym, subst, ◌∙◌, arith, inl, inr}
-use Rattle.std.specs.Prelude.{codes, slice_index, All}
-use Rattle.std.specs.Option.{option_map_or}
+use Rattle.std.proofs.Common.{◌≡◌, ℕ, ℤ, pos, negsuc, suc, ◌/◌, ◌%◌, ◌<◌, ◌||◌, not, Bool, true, false, cond, eqb, List, [], ◌∷◌, ◌++◌, map, find, Option, Some, None, unwrap_or, option_map, length, refl, sym, ap, subst, ◌∙◌, arith}
+use Rattle.std.specs.Prelude.{slice_index, All}
 use Rattle.std.specs.List.{list_all, join_with_byte}
-use Rattle.std.specs.Fmt.{decimal, digits, digits_onto, digit_glyph}
-use Rattle.std.specs.Str.{bytes_eq}
-use Rattle.std.proofs.lemmas.Bool.{cases_Bool, lt-ltb, le-ltb, and_parts}
-use Rattle.std.proofs.lemmas.Grind.{flat_map-append}
+use Rattle.std.specs.Option.{option_or}
+use Rattle.std.specs.Fmt.{decimal, signed_decimal}
+use Rattle.std.proofs.lemmas.Bool.{and_from}
+use Rattle.std.proofs.lemmas.Bool.Decides.{nat_tests}
 use Rattle.std.proofs.lemmas.List.Elements.{All-nil, All-cons, All-head, All-tail}
-use Rattle.std.proofs.lemmas.Slice.Eq.{bytes_eq-Decides}
+use Rattle.std.proofs.lemmas.Option.{cond_some}
 use Rattle.std.proofs.Math.Nat.{mod-lt}
-use Rattle.ipfix_wire.proofs.Choices.{different}
-use Rattle.json.specs.Print.{escape, escape_byte}
 use Rattle.hex.specs.Hex.{lower_digits, encode_with, encode_lower}
 use Rattle.ipfix_wire.specs.declared.specifier.ElementId.{ElementId}
 use Rattle.ipfix_elements.specs.Elements.{Entry, elements, entry_of}
-use Rattle.ipfix_elements.specs.Names.{numbered_text, name_text}
-use Rattle.ipfix_elements.proofs.Numbered.{numbered_parts}
-use Rattle.ipfix_elements.specs.Texts.{pairs, octet_text, cell_text, hex_mark, value_text}
-use Rattle.ipfix_elements.specs.Values.{number_in}
+use Rattle.ipfix_elements.specs.Names.{numbered_text}
+use Rattle.ipfix_elements.specs.Texts.{pairs, octet_text, cell_text, hex_mark}
+use Rattle.ipfix_elements.specs.Values.{cell_in, number_in}
 use Rattle.ipfix_elements.specs.declared.kind.Kind.{Kind}
 use Rattle.ipfix_elements.specs.declared.kind.Kind.TheVariants as kinds
 use Rattle.ipfix_elements.specs.declared.cell.Cell.{Cell}
-use Rattle.ipfix_elements.specs.declared.cell.Cell.TheVariants as cells
+use Rattle.ipfix_elements.specs.declared.cell.Cell.TheVariants.{Number, Ipv4, Ipv6, Mac}
+use Rattle.ipfix_elements.proofs.Lookups.{mapped}
+use Rattle.ipfix_elements.proofs.Numbered.{numbered_parts}
+use Rattle.element_registry.specs.Registries.{Known, is_of, element_name}
+use Rattle.element_values.specs.FieldTexts.{misfit_text}
+use Rattle.element_values.specs.Strings.{is_plain}
 use Rattle.flow_table.specs.declared.key.Key.{Key}
-use Rattle.flow_export.specs.CsvText.{key_text, prefix_text}
+use Rattle.flow_table.specs.Plans.{PlanValue}
+use Rattle.flow_export.specs.CsvText.{heading, key_text, prefix_text}
+use Rattle.flow_export.specs.PlainNames.{has_plain_name, have_plain_names, is_plain_octet}
 use Rattle.flow_export.proofs.Finding.{find_all}
 use Rattle.laws_json.specs.RowObjects.{address_of}
-
--- a text that stands between quotation marks as it is
-abbrev pub IsPlain : List ℕ → Type 0
-IsPlain s = escape s ≡ s
+use Rattle.laws_json.proofs.Tests.{below, both, decimal_passes, IsPlain, Pass, passes, weaker}
 
 abbrev pub AllPlain : List (List ℕ) → Type 0
 AllPlain [] = Unit {0}
 AllPlain (s ∷ ss) = IsPlain s × AllPlain ss
 
-abbrev is_octet : ℕ → Type 0
-is_octet b = b < 256
+abbrev pub AreOctets : List ℕ → Type 0
+AreOctets octets = All (λ b. b < 256) octets
 
-pub IsPlain-cons : (b : ℕ) (bs : List ℕ) → escape_byte b ≡ b ∷ [] → IsPlain bs → IsPlain (b ∷ bs)
-IsPlain-cons b bs p q = rw (p, q) refl
-
-pub IsPlain-append : (xs ys : List ℕ) → IsPlain xs → IsPlain ys → IsPlain (xs ++ ys)
-IsPlain-append xs ys p q = flat_map-append escape_byte xs ys ∙ rw (p, q) refl
-
-not_equal : (a b : ℕ) → b < a → eqb a b ≡ false
-not_equal a b less = different a b (λ e. omega (arith, less, e))
-
-below : (a b : ℕ) → a < b → eqb a b ≡ false
-below a b less = different a b (λ e. omega (arith, less, e))
-
--- ---- numbers
-
-digit : (d : ℕ) → d < 10 → escape_byte (48 + d) ≡ (48 + d) ∷ []
-unfolding escape_byte
-digit d less =
-    rw (
-      not_equal (48 + d) 34 (omega arith),
-      below (48 + d) 92 (omega (arith, less)),
-      not_equal (48 + d) 8 (omega arith),
-      not_equal (48 + d) 12 (omega arith),
-      not_equal (48 + d) 10 (omega arith),
-      not_equal (48 + d) 13 (omega arith),
-      not_equal (48 + d) 9 (omega arith),
-      le-ltb (48 + d) 32 (omega arith),
-    ) refl
-
-glyph : (d : ℕ) → d < 10 → escape_byte (digit_glyph false d) ≡ digit_glyph false d ∷ []
-glyph d less = rw (lt-ltb d 10 less) (digit d less)
-
-digits_plain : (k n : ℕ) (acc : List ℕ) → IsPlain acc → IsPlain (digits_onto k 10 false n acc)
-digits_plain zero n acc p = p
-digits_plain (suc k) n acc p =
-    let less : n % 10 < 10 = mod-lt n (omega arith) in
-    let here : IsPlain (digit_glyph false (n % 10) ∷ acc) = IsPlain-cons _ acc (glyph (n % 10) less) p in
-    elim (cases_Bool (eqb (n / 10) 0)) [
-      | inl t ↦ rw t here
-      | inr f ↦ rw f (digits_plain k (n / 10) (digit_glyph false (n % 10) ∷ acc) here)
-    ]
+-- ---- numbers and octets
 
 pub decimal_plain : (n : ℕ) → IsPlain (decimal n)
-unfolding digits
-decimal_plain n = digits_plain 64 n [] refl
+decimal_plain = decimal_passes is_plain refl
 
--- ---- octets
+pub signed_plain : (z : ℤ) → IsPlain (signed_decimal z)
+signed_plain (pos n) = decimal_plain n
+signed_plain (negsuc n) = decimal_plain (suc n)
 
-abbrev stays : ℕ → Bool
-stays b = bytes_eq (escape_byte b) (b ∷ [])
-
-digits_stay : list_all stays lower_digits ≡ true
-unfolding escape_byte
-digits_stay = refl
-
-stays_at : (xs : List ℕ) (i : ℕ) → list_all stays xs ≡ true → i < length xs → stays (slice_index xs i) ≡ true
-stays_at [] i all within = absurd (omega (arith, within))
-stays_at (x ∷ xs) zero all within = (and_parts (stays x) (list_all stays xs) all).0
-stays_at (x ∷ xs) (suc i) all within = stays_at xs i (and_parts (stays x) (list_all stays xs) all).1 (omega (arith, within))
-
-hex_digit : (i : ℕ) → i < 16 → escape_byte (slice_index lower_digits i) ≡ slice_index lower_digits i ∷ []
-hex_digit i small = (bytes_eq-Decides _ _).0 (stays_at lower_digits i digits_stay small)
-
-hex_plain : (bs : List ℕ) → All is_octet bs → IsPlain (encode_lower bs)
+hex_plain : (bs : List ℕ) → AreOctets bs → IsPlain (encode_lower bs)
 unfolding encode_with
 hex_plain [] all = refl
 hex_plain (b ∷ bs) all =
-    let small : b < 256 = All-head is_octet b bs all in
-    let high : b / 16 < 16 = omega (arith, small) in
-    let low : b % 16 < 16 = mod-lt b (omega arith) in
-    IsPlain-cons _ _ (hex_digit (b / 16) high) (IsPlain-cons _ _ (hex_digit (b % 16) low) (hex_plain bs (All-tail is_octet b bs all)))
+    let small : b < 256 = All-head (λ b. b < 256) b bs all in
+    let digit = passes (λ d. is_plain (slice_index lower_digits d)) 16 refl in
+    and_from _ _ (digit (b / 16) (omega (arith, small))) (and_from _ _ (digit (b % 16) (mod-lt b (omega arith))) (hex_plain bs (All-tail (λ b. b < 256) b bs all)))
 
-join_plain : (c : ℕ) (parts : List (List ℕ)) → escape_byte c ≡ c ∷ [] → AllPlain parts → IsPlain (join_with_byte c parts)
+join_plain : (c : ℕ) (parts : List (List ℕ)) → is_plain c ≡ true → AllPlain parts → IsPlain (join_with_byte c parts)
 join_plain c [] p all = refl
 join_plain c (x ∷ []) p all = all.0
-join_plain c (x ∷ y ∷ xs) p all = IsPlain-append x (c ∷ join_with_byte c (y ∷ xs)) all.0 (IsPlain-cons c _ p (join_plain c (y ∷ xs) p all.1))
+join_plain c (x ∷ y ∷ xs) p all = both is_plain x (c ∷ join_with_byte c (y ∷ xs)) all.0 (and_from _ _ p (join_plain c (y ∷ xs) p all.1))
 
 decimals_plain : (xs : List ℕ) → AllPlain (map decimal xs)
 decimals_plain [] = tt
 decimals_plain (x ∷ xs) = (decimal_plain x, decimals_plain xs)
 
-one : (b : ℕ) → b < 256 → All is_octet (b ∷ [])
-one b small = All-cons is_octet b [] small (All-nil is_octet)
+one : (b : ℕ) (bs : List ℕ) → AreOctets (b ∷ bs) → AreOctets (b ∷ [])
+one b bs all = All-cons (λ b. b < 256) b [] (All-head (λ b. b < 256) b bs all) (All-nil (λ b. b < 256))
 
-octets_plain : (bs : List ℕ) → All is_octet bs → AllPlain (map octet_text bs)
+octets_plain : (bs : List ℕ) → AreOctets bs → AllPlain (map octet_text bs)
 octets_plain [] all = tt
-octets_plain (b ∷ bs) all = (hex_plain (b ∷ []) (one b (All-head is_octet b bs all)), octets_plain bs (All-tail is_octet b bs all))
+octets_plain (b ∷ bs) all = (hex_plain (b ∷ []) (one b bs all), octets_plain bs (All-tail (λ b. b < 256) b bs all))
 
-pairs_plain : (bs : List ℕ) → All is_octet bs → AllPlain (map encode_lower (pairs bs))
+pairs_plain : (bs : List ℕ) → AreOctets bs → AllPlain (map encode_lower (pairs bs))
 pairs_plain [] all = tt
 pairs_plain (a ∷ []) all = (hex_plain (a ∷ []) all, tt)
 pairs_plain (a ∷ b ∷ rest) all =
-    let later = All-tail is_octet a (b ∷ rest) all in
-    let both = All-cons is_octet a (b ∷ []) (All-head is_octet a (b ∷ rest) all) (one b (All-head is_octet b rest later)) in
-    (hex_plain (a ∷ b ∷ []) both, pairs_plain rest (All-tail is_octet b rest later))
+    let later = All-tail (λ b. b < 256) a (b ∷ rest) all in
+    let two = All-cons (λ b. b < 256) a (b ∷ []) (All-head (λ b. b < 256) a (b ∷ rest) all) (one b rest later) in
+    (hex_plain (a ∷ b ∷ []) two, pairs_plain rest (All-tail (λ b. b < 256) b rest later))
 
--- ---- values
+-- ---- cells
 
-dot_stays : escape_byte 46 ≡ 46 ∷ []
-unfolding escape_byte
-dot_stays = refl
+abbrev pub HasAddress : Cell → Type 0
+HasAddress cell = AreOctets (address_of cell)
 
-colon_stays : escape_byte 58 ≡ 58 ∷ []
-unfolding escape_byte
-colon_stays = refl
+pub cell_plain : (cell : Cell) → HasAddress cell → IsPlain (cell_text cell)
+unfolding cell_text
+cell_plain (Number n) all = decimal_plain n
+cell_plain (Ipv4 a) all = join_plain 46 (map decimal a) refl (decimals_plain a)
+cell_plain (Ipv6 a) all = join_plain 58 (map encode_lower (pairs a)) refl (pairs_plain a all)
+cell_plain (Mac a) all = join_plain 58 (map octet_text a) refl (octets_plain a all)
+
+-- what holds of the number and of the addresses that octets may be holds of the cell that they are
+pub cell_holds : (P : Cell → Type 0) (octets : List ℕ) → P (Ipv4 octets) → P (Ipv6 octets) → P (Mac octets) → (kind : Kind) → ((n : ℕ) → number_in kind octets ≡ Some n → P (Number n))
+    → (c : Cell) → cell_in kind octets ≡ Some c → P c
+cell_holds P octets four six mac kinds.Ipv4 number c h = subst P (cond_some (eqb (length octets) 4) (Ipv4 octets) c h).1 four
+cell_holds P octets four six mac kinds.Ipv6 number c h = subst P (cond_some (eqb (length octets) 16) (Ipv6 octets) c h).1 six
+cell_holds P octets four six mac kinds.Mac number c h = subst P (cond_some (eqb (length octets) 6) (Mac octets) c h).1 mac
+cell_holds P octets four six mac kinds.Octets number c h = absurd cc
+cell_holds P octets four six mac (kinds.Unsigned width) number c h =
+    let read = mapped (λ n. Number n) (number_in (kinds.Unsigned width) octets) c h in
+    subst P read.2 (number read.0 read.1)
+cell_holds P octets four six mac kinds.Seconds number c h = let read = mapped (λ n. Number n) (number_in kinds.Seconds octets) c h in subst P read.2 (number read.0 read.1)
+cell_holds P octets four six mac kinds.Millis number c h = let read = mapped (λ n. Number n) (number_in kinds.Millis octets) c h in subst P read.2 (number read.0 read.1)
+
+pub has_address : (kind : Kind) (octets : List ℕ) → AreOctets octets → (c : Cell) → cell_in kind octets ≡ Some c → HasAddress c
+has_address kind octets all = cell_holds HasAddress octets all all all kind (λ n h. All-nil (λ b. b < 256))
 
 mark_plain : (kind : Kind) → IsPlain (hex_mark kind)
-unfolding escape_byte
 mark_plain kinds.Octets = refl
 mark_plain (kinds.Unsigned width) = refl
 mark_plain kinds.Ipv4 = refl
@@ -154,101 +117,65 @@ mark_plain kinds.Mac = refl
 mark_plain kinds.Seconds = refl
 mark_plain kinds.Millis = refl
 
-if_some : (b : Bool) (c : Cell) (other : List ℕ) → IsPlain other → IsPlain (cell_text c) → IsPlain (option_map_or cell_text (cond b (Some c) None) other)
-if_some true c other p q = q
-if_some false c other p q = p
+-- octets that are no cell
+pub marked_plain : (kind : Kind) (octets : List ℕ) → AreOctets octets → IsPlain (hex_mark kind ++ encode_lower octets)
+marked_plain kind octets all = both is_plain (hex_mark kind) (encode_lower octets) (mark_plain kind) (hex_plain octets all)
 
-if_number : (o : Option ℕ) (other : List ℕ) → IsPlain other → IsPlain (option_map_or cell_text (option_map (λ n. cells.Number n) o) other)
-unfolding cell_text
-if_number None other p = p
-if_number (Some n) other p = decimal_plain n
-
-ipv4_plain : (a : List ℕ) → IsPlain (cell_text (cells.Ipv4 a))
-unfolding cell_text
-ipv4_plain a = join_plain 46 (map decimal a) dot_stays (decimals_plain a)
-
-ipv6_plain : (a : List ℕ) → All is_octet a → IsPlain (cell_text (cells.Ipv6 a))
-unfolding cell_text
-ipv6_plain a all = join_plain 58 (map encode_lower (pairs a)) colon_stays (pairs_plain a all)
-
-mac_plain : (a : List ℕ) → All is_octet a → IsPlain (cell_text (cells.Mac a))
-unfolding cell_text
-mac_plain a all = join_plain 58 (map octet_text a) colon_stays (octets_plain a all)
-
-marked : (kind : Kind) (octets : List ℕ) → All is_octet octets → IsPlain (hex_mark kind ++ encode_lower octets)
-marked kind octets all = IsPlain-append (hex_mark kind) (encode_lower octets) (mark_plain kind) (hex_plain octets all)
-
-pub value_plain : (kind : Kind) (octets : List ℕ) → All is_octet octets → IsPlain (value_text kind octets)
-value_plain kinds.Octets octets all = marked kinds.Octets octets all
-value_plain (kinds.Unsigned width) octets all = if_number (number_in (kinds.Unsigned width) octets) _ (marked (kinds.Unsigned width) octets all)
-value_plain kinds.Seconds octets all = if_number (number_in kinds.Seconds octets) _ (marked kinds.Seconds octets all)
-value_plain kinds.Millis octets all = if_number (number_in kinds.Millis octets) _ (marked kinds.Millis octets all)
-value_plain kinds.Ipv4 octets all = if_some (eqb (length octets) 4) (cells.Ipv4 octets) _ (marked kinds.Ipv4 octets all) (ipv4_plain octets)
-value_plain kinds.Ipv6 octets all = if_some (eqb (length octets) 16) (cells.Ipv6 octets) _ (marked kinds.Ipv6 octets all) (ipv6_plain octets all)
-value_plain kinds.Mac octets all = if_some (eqb (length octets) 6) (cells.Mac octets) _ (marked kinds.Mac octets all) (mac_plain octets all)
-
-pub cell_plain : (cell : Cell) → All is_octet (address_of cell) → IsPlain (cell_text cell)
-unfolding cell_text
-cell_plain (cells.Number n) all = decimal_plain n
-cell_plain (cells.Ipv4 a) all = ipv4_plain a
-cell_plain (cells.Ipv6 a) all = ipv6_plain a all
-cell_plain (cells.Mac a) all = mac_plain a all
+pub misfit_plain : (octets : List ℕ) → AreOctets octets → IsPlain (misfit_text octets)
+misfit_plain octets all = marked_plain kinds.Octets octets all
 
 -- ---- names
 
-abbrev pub has_plain_name : Entry → Bool
-has_plain_name r = bytes_eq (escape r.name) r.name
+abbrev HasName : Entry → Bool
+HasName r = list_all is_plain_octet r.name
 
-names_plain : list_all has_plain_name elements ≡ true
-unfolding elements escape_byte
+names_plain : list_all HasName elements ≡ true
+unfolding elements
 names_plain = refl
 
-letter_stays : escape_byte 101 ≡ 101 ∷ []
-unfolding escape_byte
-letter_stays = refl
-
-pub numbered_plain : (e : ElementId) → IsPlain (numbered_text e)
+numbered_plain : (e : ElementId) → Pass is_plain_octet (numbered_text e)
 numbered_plain e =
-    subst IsPlain (sym (numbered_parts e))
-    (IsPlain-cons 101 _ letter_stays (IsPlain-append (decimal e.pen) (46 ∷ decimal e.number) (decimal_plain e.pen) (IsPlain-cons 46 _ dot_stays (decimal_plain e.number))))
+    subst (Pass is_plain_octet) (sym (numbered_parts e))
+    (both is_plain_octet (decimal e.pen) (46 ∷ decimal e.number) (decimal_passes is_plain_octet refl e.pen) (decimal_passes is_plain_octet refl e.number))
 
-found_plain : (e : ElementId) (o : Option Entry) → ((r : Entry) → o ≡ Some r → has_plain_name r ≡ true) → IsPlain (unwrap_or (option_map (λ r. r.name) o) (numbered_text e))
-found_plain e None h = numbered_plain e
-found_plain e (Some r) h = (bytes_eq-Decides (escape r.name) r.name).0 (h r refl)
-
-pub in_elements : (e : ElementId) (r : Entry) → entry_of e ≡ Some r → has_plain_name r ≡ true
+in_elements : (e : ElementId) (r : Entry) → entry_of e ≡ Some r → HasName r ≡ true
 in_elements e r h = by (eqb e.pen 0) h
   where
-    by : (b : Bool) → cond b (find (λ x. eqb x.number e.number) elements) None ≡ Some r → has_plain_name r ≡ true
-    by true k = find_all has_plain_name (λ x. eqb x.number e.number) elements r names_plain k
+    by : (b : Bool) → cond b (find (λ x. eqb x.number e.number) elements) None ≡ Some r → HasName r ≡ true
+    by true k = find_all HasName (λ x. eqb x.number e.number) elements r names_plain k
     by false k = absurd cc
 
-pub name_plain : (e : ElementId) → IsPlain (name_text e)
-name_plain e = found_plain e (entry_of e) (in_elements e)
+listed_plain : (e : ElementId) (o : Option Entry) (f : Option Known) → ((r : Entry) → o ≡ Some r → HasName r ≡ true) → ((k : Known) → f ≡ Some k → has_plain_name k ≡ true)
+    → Pass is_plain_octet (unwrap_or (option_or (option_map (λ r. r.name) o) (option_map (λ k. k.name) f)) (numbered_text e))
+listed_plain e (Some r) f h g = h r refl
+listed_plain e None (Some k) h g = g k refl
+listed_plain e None None h g = numbered_plain e
 
-slash_stays : escape_byte 47 ≡ 47 ∷ []
-unfolding escape_byte
-slash_stays = refl
+-- letters, digits and what else is plain in names of files
+pub plain_octet : (test : ℕ → Bool) → below (λ b. not (is_plain_octet b) || test b) 123 ≡ true → (b : ℕ) → is_plain_octet b ≡ true → test b ≡ true
+plain_octet test all b h =
+    let few : b < 123 = grind (arith, nat_tests) in
+    let either : (not (is_plain_octet b) || test b) ≡ true = passes (λ b. not (is_plain_octet b) || test b) 123 all b few in
+    ap (λ (p : Bool). not p || test b) (sym h) ∙ either
 
-pub prefix_plain : (o : Option ℕ) → IsPlain (prefix_text o)
-prefix_plain None = refl
-prefix_plain (Some bits) = IsPlain-cons 47 (decimal bits) slash_stays (decimal_plain bits)
+module _ (known : List Known) (plain : have_plain_names known ≡ true) where
+  pub name_octets : (e : ElementId) → Pass is_plain_octet (element_name known e)
+  name_octets e = listed_plain e (entry_of e) (find (is_of e) known) (in_elements e) (λ k found. find_all has_plain_name (is_of e) known k plain found)
 
-pub key_plain : (k : Key) → IsPlain (key_text k)
-key_plain k = IsPlain-append (name_text k.element) (prefix_text k.prefix) (name_plain k.element) (prefix_plain k.prefix)
+  pub name_plain : (e : ElementId) → IsPlain (element_name known e)
+  name_plain e = weaker is_plain_octet is_plain (plain_octet is_plain refl) (element_name known e) (name_octets e)
 
-pub start_plain : IsPlain (codes "start")
-unfolding escape_byte
-start_plain = refl
+  prefix_plain : (o : Option ℕ) → IsPlain (prefix_text o)
+  prefix_plain None = refl
+  prefix_plain (Some bits) = decimal_plain bits
 
-pub end_plain : IsPlain (codes "end")
-unfolding escape_byte
-end_plain = refl
+  keys_plain : (keys : List Key) (rest : List (List ℕ)) → AllPlain rest → AllPlain (map (key_text known) keys ++ rest)
+  keys_plain [] rest all = all
+  keys_plain (k ∷ ks) rest all = (both is_plain (element_name known k.element) (prefix_text k.prefix) (name_plain k.element) (prefix_plain k.prefix), keys_plain ks rest all)
 
-pub flows_plain : IsPlain (codes "flows")
-unfolding escape_byte
-flows_plain = refl
+  names_are_plain : (elements : List ElementId) (rest : List (List ℕ)) → AllPlain rest → AllPlain (map (element_name known) elements ++ rest)
+  names_are_plain [] rest all = all
+  names_are_plain (e ∷ es) rest all = (name_plain e, names_are_plain es rest all)
 
-pub AllPlain-append : (xs ys : List (List ℕ)) → AllPlain xs → AllPlain ys → AllPlain (xs ++ ys)
-AllPlain-append [] ys p q = q
-AllPlain-append (x ∷ xs) ys p q = (p.0, AllPlain-append xs ys p.1 q)
+  pub heading_plain : (plan : PlanValue) → AllPlain (heading known plan)
+  heading_plain plan = (refl, (refl, keys_plain plan.keys _ (names_are_plain plan.counters _ (refl, tt))))

@@ -1,4 +1,5 @@
 -- What public contracts cite.
+pub mod Texts
 pub mod Lines
 pub mod Objects
 pub mod RowObjects

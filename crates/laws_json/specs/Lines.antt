@@ -1,7 +1,6 @@
 -- A line of JSON, and what a reader of JSON has of it (RFC 8259).
-use Rattle.std.specs.Prelude.{◌≡◌, ◌≢◌, ℕ, ℤ, ◌<◌, ◌^◌, ◌==◌, List, [], ◌∷◌, ◌++◌, decimal, All, Some, ⊤, if◌then◌else◌, unsigned_abs}
-use Rattle.std.specs.Fmt.{signed_decimal}
-use Rattle.json.specs.Json.{Json, null, boolean, number, string, array, object, Items, no_items, item, Members, no_members, member, document}
+use Rattle.std.specs.Prelude.{◌≡◌, ◌≢◌, ℕ, ◌==◌, List, [], ◌∷◌, ◌++◌, map, flat_map, All, Some, if◌then◌else◌}
+use Rattle.json.specs.Json.{Json, document}
 
 abbrev pub newline : ℕ
 newline = 10
@@ -24,36 +23,7 @@ abbrev pub lines_in : List ℕ → List (List ℕ)
 lines_in [] = []
 lines_in (octet ∷ rest) = if octet == newline then (octet ∷ []) ∷ lines_in rest else before_lines octet (lines_in rest)
 
--- P holds of the text of each number of a value
-abbrev mutual
-  pub NumberTexts : (List ℕ → Type 0) → Json → Type 0
-  NumberTexts P null = ⊤
-  NumberTexts P (boolean b) = ⊤
-  NumberTexts P (number s) = P s
-  NumberTexts P (string s) = ⊤
-  NumberTexts P (array items) = TextsOfItems P items
-  NumberTexts P (object members) = TextsOfMembers P members
-
-  pub TextsOfItems : (List ℕ → Type 0) → Items → Type 0
-  TextsOfItems P no_items = ⊤
-  TextsOfItems P (item value items) = NumberTexts P value × TextsOfItems P items
-
-  pub TextsOfMembers : (List ℕ → Type 0) → Members → Type 0
-  TextsOfMembers P no_members = ⊤
-  TextsOfMembers P (member name value members) = NumberTexts P value × TextsOfMembers P members
-
--- a number in decimal, and P holds of it
-abbrev pub IsDecimal : (ℕ → Type 0) → List ℕ → Type 0
-IsDecimal P s = (n : ℕ) × (s ≡ decimal n) × P n
-
--- each number of a value is written in decimal, and P holds of it
-abbrev pub NumbersAre : (ℕ → Type 0) → Json → Type 0
-NumbersAre P value = NumberTexts (IsDecimal P) value
-
--- a reader that holds numbers as floats of 64 bits has each of them exactly (RFC 7493, section 2.2)
-abbrev pub HasExactNumbers : Json → Type 0
-HasExactNumbers = NumbersAre (λ n. n < 2 ^ 53)
-
--- the same of numbers that may have a sign
-abbrev pub HasExactSigned : Json → Type 0
-HasExactSigned value = NumberTexts (λ s. (z : ℤ) × (s ≡ signed_decimal z) × (unsigned_abs z < 2 ^ 53)) value
+-- each thing of which P holds has a line of its own, and a text of such lines is cut into them behind each newline
+pub record AreApart {X : Type 0} (P : X → Type 0) (line : X → List ℕ) : Type 0 where
+  pub each : (x : X) → P x → IsOneLine (line x)
+  pub all : (xs : List X) → All P xs → lines_in (flat_map line xs) ≡ map line xs

@@ -1,16 +1,18 @@
 -- The value of JSON that a row of a table is written as.
-use Rattle.std.specs.Prelude.{ℕ, ◌<◌, List, [], ◌∷◌, ◌++◌, map, All, Some}
-use Rattle.std.specs.List.{zip}
+use Rattle.std.specs.Prelude.{◌≡◌, ℕ, ◌<◌, ◌^◌, List, [], ◌∷◌, ◌++◌, map, codes, true, All, None}
 use Rattle.json.specs.Json.{Json}
-use Rattle.ipfix_elements.specs.Texts.{cell_text}
-use Rattle.element_registry.specs.Registries.{Known}
+use Rattle.element_registry.specs.Registries.{IsRegistry, Known, element_by_name}
 use Rattle.ipfix_elements.specs.declared.cell.Cell.{Cell}
 use Rattle.ipfix_elements.specs.declared.cell.Cell.TheVariants.{Number, Ipv4, Ipv6, Mac}
 use Rattle.flow_table.specs.Plans.{PlanValue}
-use Rattle.flow_table.specs.SameTables.{RowValue}
+use Rattle.flow_table.specs.SameTables.{RowValue, value_of}
+use Rattle.flow_table.specs.Fitting.{FitsRow}
+use Rattle.flow_table.specs.declared.table.Row.{Row}
 use Rattle.flow_export.specs.CsvText.{first_of, heading, last_of}
-use Rattle.flow_export.specs.TextsUnder.{heading_under}
-use Rattle.laws_json.specs.Objects.{object_with, value_as}
+use Rattle.flow_export.specs.JsonText.{row_object}
+use Rattle.flow_export.specs.PlainNames.{have_plain_names}
+use Rattle.laws_json.specs.Lines.{IsReadAs}
+use Rattle.laws_json.specs.Objects.{object_with, PlainElements, value_of_cell}
 
 -- what the columns of a row hold, in the order of the heading
 abbrev pub columns : PlanValue → RowValue → List Cell
@@ -18,16 +20,9 @@ columns plan row =
     Number (first_of plan row) ∷ Number (last_of plan row)
     ∷ (row.key ++ (map (λ n. Number n) row.sums ++ Number row.flows ∷ []))
 
-abbrev pub value_of_cell : Cell → Json
-value_of_cell cell = value_as (Some cell) (cell_text cell)
-
 -- each name of the heading with the value of its column, in the order of the heading
-abbrev pub object_of_row : PlanValue → RowValue → Json
-object_of_row plan row = object_with (zip (heading plan) (map value_of_cell (columns plan row)))
-
--- the same under files of elements
-abbrev pub object_of_row_under : List Known → PlanValue → RowValue → Json
-object_of_row_under known plan row = object_with (zip (heading_under known plan) (map value_of_cell (columns plan row)))
+abbrev pub object_of_row : List Known → PlanValue → RowValue → Json
+object_of_row known plan row = object_with (heading known plan) (map value_of_cell (columns plan row))
 
 -- the octets of an address
 abbrev pub address_of : Cell → List ℕ
@@ -39,3 +34,21 @@ address_of (Mac address) = address
 -- the addresses of a row are made of octets
 abbrev pub HasAddresses : RowValue → Type 0
 HasAddresses row = All (λ cell. All (λ b. b < 256) (address_of cell)) row.key
+
+-- the line of each row is read as a value of which P holds
+abbrev pub RowsAreReadAs : (List Known → PlanValue → RowValue → Json → Type 0) → Type 0
+RowsAreReadAs P = (files : PlainElements) (plan : PlanValue) (row : RowValue) → HasAddresses row → IsReadAs (row_object files.known plan row) (P files.known plan row)
+
+-- elements of files whose names can stand in a heading: no two are alike, all are plain, and none is a word of its own
+pub record FitsHeading (known : List Known) : Type 0 where
+  pub registry : IsRegistry known
+  pub plain : have_plain_names known ≡ true
+  pub start : element_by_name known (codes "start") ≡ None
+  pub end : element_by_name known (codes "end") ≡ None
+  pub flows : element_by_name known (codes "flows") ≡ None
+
+-- a row as a table of the plan has it
+pub record IsTableRow (plan : PlanValue) (row : Row) : Type 0 where
+  pub length : plan.length < 2 ^ 64
+  pub fits : FitsRow plan row
+  pub addresses : HasAddresses (value_of row)

@@ -1,60 +1,43 @@
-//! The laws of a dump's lines. Each is a function that does nothing, and its contract is the theorem.
+//! The laws of a dump's lines, whatever elements files name. Each is a function that does nothing, and its contract is
+//! the theorem. The names that files give are plain
+//! ([`file_names_are_plain`](flow_export::laws::file_names_are_plain)).
 
-ghost use Rattle.std.specs.Prelude.{◌≡◌, true, List, All, map, flat_map};
-ghost use Rattle.element_registry.specs.Registries.{Known};
+ghost use Rattle.std.specs.Prelude.{◌≡◌, []};
 ghost use Rattle.ipfix_message.specs.DataRecords.{HasOctets};
 ghost use Rattle.ipfix_message.specs.declared.record.DataRecord.{DataRecord};
-ghost use Rattle.flow_export.specs.TextsUnder.{have_plain_names};
-ghost use Rattle.ipfix_dump.specs.JsonLines.{json_line, json_line_under};
-ghost use Rattle.laws_json.specs.Lines.{HasExactNumbers, HasExactSigned, IsOneLine, IsReadAs, lines_in};
-ghost use Rattle.laws_json.specs.Objects.{FitsTypes, object_of, object_under};
+ghost use Rattle.ipfix_dump.specs.JsonLines.{json_line};
+ghost use Rattle.laws_json.specs.Lines.{AreApart, IsReadAs};
+ghost use Rattle.laws_json.specs.Objects.{FitsTypes, object_of, PlainElements, RecordsAreReadAs};
+ghost use Rattle.laws_json.specs.Texts.{IsExact, IsExactNatural, line_of, NumbersAre};
 ghost use Rattle.laws_json.specs.Told.{TellsRecord};
 
-/// The line of a record, read as JSON (RFC 8259), is one object with the members domain, template,
-/// export_time, scope and fields, in this order, and nothing else.
+/// The line of a record is the text of one object with the members domain, template, export_time,
+/// scope and fields, in this order, with no space, and a newline; read as JSON (RFC 8259), it is this
+/// object and nothing else. A string is what its octets are, however it is escaped.
 pub fn lines_are_objects()
-    ensures { (r : DataRecord) → HasOctets r → FitsTypes r
-        → IsReadAs (json_line r) (λ value. value ≡ object_of r) }
+    ensures text { (files : PlainElements) (r : DataRecord) → HasOctets r
+        → json_line files.known r ≡ line_of (object_of files.known r) }
+    ensures value { RecordsAreReadAs (λ known r value. value ≡ object_of known r) }
 {}
 
 /// What is looked up in a line by the names of its members is the record's: its domain, template,
 /// export time and scope, and for each field, in order, the name of its element and its value by the
 /// element's kind.
 pub fn lines_tell_records()
-    ensures { (r : DataRecord) → HasOctets r → FitsTypes r
-        → IsReadAs (json_line r) (λ value. TellsRecord r value) }
+    ensures { RecordsAreReadAs TellsRecord }
 {}
 
-/// Each number of a line is below 2^53, so that a reader that holds numbers as floats has it exactly
-/// (RFC 7493, section 2.2). A field's number from 2^53 on is a text.
+/// Each number of a line is below 2^53, whatever its sign, so that a reader that holds numbers as
+/// floats has it exactly (RFC 7493, section 2.2). A field's number from there on is a text. Without
+/// files no number has a sign.
 pub fn lines_have_exact_numbers()
-    ensures { (r : DataRecord) → HasOctets r → FitsTypes r
-        → IsReadAs (json_line r) (λ value. HasExactNumbers value) }
+    ensures exact { RecordsAreReadAs (λ known r value. NumbersAre IsExact value) }
+    ensures natural { (r : DataRecord) → HasOctets r → FitsTypes r
+        → IsReadAs (json_line [] r) (NumbersAre IsExactNatural) }
 {}
 
 /// A line ends with a newline, and no other one stands within it: a dump that is cut behind each
 /// newline is the lines of its records.
 pub fn lines_are_apart()
-    ensures each { (r : DataRecord) → HasOctets r → IsOneLine (json_line r) }
-    ensures all { (rs : List DataRecord) → All HasOctets rs
-        → lines_in (flat_map json_line rs) ≡ map json_line rs }
-{}
-
-/// The line of a record is such an object under files of elements, too, with the names that they give
-/// and the values of the kinds that they name; a string is what its octets are, however it is escaped.
-/// Numbers may have a sign. A dump is cut into the lines of its records behind each newline. The names
-/// are plain, as are all that files can say
-/// ([`file_names_are_plain`](flow_export::laws::file_names_are_plain)).
-pub fn lines_under_files_are_objects()
-    ensures value { (known : List Known) (r : DataRecord) → have_plain_names known ≡ true
-        → HasOctets r → FitsTypes r
-        → IsReadAs (json_line_under known r) (λ value. value ≡ object_under known r) }
-    ensures exact { (known : List Known) (r : DataRecord) → have_plain_names known ≡ true
-        → HasOctets r → FitsTypes r
-        → IsReadAs (json_line_under known r) (λ value. HasExactSigned value) }
-    ensures each { (known : List Known) (r : DataRecord) → have_plain_names known ≡ true
-        → HasOctets r → FitsTypes r → IsOneLine (json_line_under known r) }
-    ensures all { (known : List Known) (rs : List DataRecord) → have_plain_names known ≡ true
-        → All (λ r. HasOctets r × FitsTypes r) rs
-        → lines_in (flat_map (json_line_under known) rs) ≡ map (json_line_under known) rs }
+    ensures { (files : PlainElements) → AreApart HasOctets (json_line files.known) }
 {}

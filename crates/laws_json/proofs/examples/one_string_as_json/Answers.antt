@@ -8,11 +8,11 @@ use Rattle.json.specs.Lex.{lex, punctuate}
 use Rattle.json.specs.Text.{code_unit, content}
 use Rattle.json.specs.Word.{after_number, word}
 use Rattle.ipfix_elements.specs.Elements.{elements}
-use Rattle.ipfix_dump.specs.JsonLines.{json_field_under, json_line_under}
+use Rattle.ipfix_dump.specs.JsonLines.{json_field, json_line}
 use Rattle.laws_json.proofs.examples.one_string_as_json.Goals as goal
 
 pub returns-clause-line : goal.returns-clause-line
-unfolding json_line_under json_field_under elements digits chars is_utf8 encode_utf8 encode_with
+unfolding json_line json_field elements digits chars is_utf8 encode_utf8 encode_with
 returns-clause-line c = refl
 
 pub returns-clause-value : goal.returns-clause-value

@@ -1,19 +1,22 @@
--- A string of JSON as a dump writes it is read as the string.
-use Rattle.std.proofs.Common.{◌≡◌, ℕ, zero, suc, ◌+◌, ◌-◌, ◌*◌, ◌/◌, ◌%◌, ◌<◌, ◌≤◌, ◌&&◌, Bool, true, false, cond, eqb, List, [], ◌∷◌, ◌++◌, Option, Some, None, option_and_then, refl, sym, ap, subst, append_assoc, append-nil, ◌∙◌, arith, inl, inr}
+-- A string of JSON, as a line has it, is read as the string; a plain one stands there as it is.
+use Rattle.std.proofs.Common.{◌≡◌, ℕ, ◌+◌, ◌-◌, ◌*◌, ◌/◌, ◌%◌, ◌<◌, ◌≤◌, ◌&&◌, Bool, true, false, cond, eqb, List, [], ◌∷◌, ◌++◌, Option, Some, None, option_and_then, refl, sym, ap, subst, append_assoc, append-nil, ◌∙◌, arith, inl, inr}
 use Rattle.std.specs.Prelude.{◌⊎◌, nat_lt, nat_le, not, flat_map, slice_index}
 use Rattle.std.specs.Char.{digit_value}
-use Rattle.std.specs.Str.{chars, is_utf8}
+use Rattle.std.specs.List.{list_all}
+use Rattle.std.specs.Str.{chars, is_utf8, IsAscii}
 use Rattle.std.proofs.Math.Utf8.{scalar, scalars, encode, encodes, scalar_cases}
-use Rattle.std.proofs.lemmas.Bool.{and_from, and_parts, cases_Bool, cases_eq, cases_lt, eqb-true, le-ltb, lt-ltb, ltb-true, leb-true, ne_eqb, not-true, le-leb}
-use Rattle.std.proofs.lemmas.Str.{chars-encodes, encode_ascii, IsUtf8-from_is_utf8}
+use Rattle.std.proofs.lemmas.Bool.{and_from, and_parts, cases_Bool, cases_lt, eqb-true, le-ltb, lt-ltb, ltb-true, leb-true, ne_eqb, not-true, le-leb}
+use Rattle.std.proofs.lemmas.List.Sums.{AllPass-from_list_all}
+use Rattle.std.proofs.lemmas.Str.{chars-encodes, chars-IsAscii, encode_ascii, IsUtf8-from_ascii, IsUtf8-from_is_utf8, is_utf8-from_IsUtf8}
+use Rattle.std.proofs.lemmas.Str.Ascii.{IsAscii-from_all}
 use Rattle.hex.specs.Hex.{lower_digits, encode_with}
 use Rattle.json.specs.Lex.{Lexeme, Mode, token, lex, lex_byte, between, in_string, operator, space, other, string_token}
 use Rattle.json.specs.Text.{content, plain, after_high, prepend, code_unit, is_high_surrogate, is_low_surrogate, surrogate_pair}
 use Rattle.json.specs.Token.{string}
 use Rattle.json.specs.Word.{is_operator, is_space}
-use Rattle.laws_json.proofs.OneLine.{both, Inside, stays_in}
-use Rattle.laws_json.proofs.Spelled.{SpellsString}
+use Rattle.ipfix_elements.specs.JsonValues.{in_quotes}
 use Rattle.element_values.specs.Strings.{escaped_char, escaped_unit, is_plain, json_string}
+use Rattle.laws_json.proofs.Tests.{both, Inside, IsPlain, passes, stays_in}
 
 -- ---- what a reader has of octets within a string
 
@@ -38,7 +41,7 @@ spells_both v w s t first next =
     record {
       read = λ r. ap (content plain) (append_assoc v w r) ∙ first.read (w ++ r) ∙ ap (prepend s) (next.read r) ∙ prepend_both s t (content plain r);
       lexed = λ r. ap (lex in_string) (append_assoc v w r) ∙ first.lexed (w ++ r) ∙ next.lexed r;
-      inside = both v w first.inside next.inside;
+      inside = both stays_in v w first.inside next.inside;
     }
 
 -- ---- octets that stand for themselves
@@ -71,20 +74,6 @@ plain_spells x h =
     }
 
 -- ---- units of UTF-16 by four digits
-
--- a test that all numbers below n pass
-abbrev below : (ℕ → Bool) → ℕ → Bool
-below test zero = true
-below test (suc n) = test n && below test n
-
-passes : (test : ℕ → Bool) (n : ℕ) → below test n ≡ true → (x : ℕ) → x < n → test x ≡ true
-passes test zero all x less = absurd (omega (arith, less))
-passes test (suc n) all x less =
-    let parts = and_parts (test n) (below test n) all in
-    elim (cases_eq x n) [
-      | inl same ↦ subst (λ (y : ℕ). test y ≡ true) (sym same) parts.0
-      | inr differ ↦ passes test n parts.1 x (omega (arith, less, differ))
-    ]
 
 abbrev digit : ℕ → ℕ
 digit d = slice_index lower_digits d
@@ -155,7 +144,7 @@ pair_spells c h l small_h small_l high low is =
     record {
       read = λ r. unit_content h (92 ∷ 117 ∷ (digits_of l ++ r)) small_h ∙ rw high (low_content h l r small_l low) ∙ ap (λ (n : ℕ). prepend (encode n) (content plain r)) is;
       lexed = λ r. digits_passed h (92 ∷ 117 ∷ (digits_of l ++ r)) small_h ∙ digits_passed l r small_l;
-      inside = both (92 ∷ 117 ∷ digits_of h) (92 ∷ 117 ∷ digits_of l) (digits_inside h small_h) (digits_inside l small_l);
+      inside = both stays_in (92 ∷ 117 ∷ digits_of h) (92 ∷ 117 ∷ digits_of l) (digits_inside h small_h) (digits_inside l small_l);
     }
 
 -- ---- characters
@@ -247,14 +236,35 @@ text_spells s good =
 
 -- ---- between quotation marks
 
-string_read : (w s : List ℕ) → Spells w s → (r : List ℕ) → lex between ((34 ∷ (w ++ 34 ∷ [])) ++ r) ≡ token (string s) ∷ lex between r
+pub string_read : (s r : List ℕ) → is_utf8 s ≡ true → lex between (json_string s ++ r) ≡ token (string s) ∷ lex between r
 unfolding lex content
-string_read w s spells r =
+string_read s r good =
+    let spells = text_spells s good in
+    let w = flat_map escaped_char (chars s) in
     ap (λ (t : List ℕ). lex between (34 ∷ t)) (append_assoc w (34 ∷ []) r)
     ∙ ap (λ (o : Option (List ℕ)). token (string_token o) ∷ lex in_string (w ++ 34 ∷ r)) (spells.read (34 ∷ r) ∙ ap (λ (t : List ℕ). Some t) (append-nil s))
     ∙ ap (λ (ls : List Lexeme). token (string s) ∷ ls) (spells.lexed (34 ∷ r))
 
-pub json_string_spells : (s : List ℕ) → is_utf8 s ≡ true → SpellsString (json_string s) s
-json_string_spells s good =
-    let spells = text_spells s good in
-    record { read = string_read (flat_map escaped_char (chars s)) s spells; inside = both (flat_map escaped_char (chars s)) (34 ∷ []) spells.inside refl }
+pub string_inside : (s : List ℕ) → is_utf8 s ≡ true → Inside (json_string s)
+string_inside s good = both stays_in (flat_map escaped_char (chars s)) (34 ∷ []) (text_spells s good).inside refl
+
+-- ---- plain texts
+
+plain_small : (x : ℕ) → is_plain x ≡ true → x < 128
+plain_small x p = omega (arith, leb-true x 126 (plain_parts x p).1)
+
+plain_ascii : (s : List ℕ) → IsPlain s → IsAscii s
+plain_ascii s p = IsAscii-from_all s (λ k d within. plain_small _ (AllPass-from_list_all is_plain s p k d within))
+
+plain_chars : (s : List ℕ) → IsPlain s → flat_map escaped_char s ≡ s
+plain_chars [] p = refl
+plain_chars (x ∷ xs) p =
+    let parts = and_parts (is_plain x) (list_all is_plain xs) p in
+    let here : escaped_char x ≡ x ∷ [] = single x (omega (arith, plain_small x parts.0)) ∙ rw parts.0 refl in
+    ap (λ (w : List ℕ). w ++ flat_map escaped_char xs) here ∙ ap (λ (w : List ℕ). x ∷ w) (plain_chars xs parts.1)
+
+pub plain_utf8 : (s : List ℕ) → IsPlain s → is_utf8 s ≡ true
+plain_utf8 s p = is_utf8-from_IsUtf8 s (IsUtf8-from_ascii s (plain_ascii s p))
+
+pub plain_string : (s : List ℕ) → IsPlain s → json_string s ≡ in_quotes s
+plain_string s p = ap (λ (t : List ℕ). in_quotes (flat_map escaped_char t)) (chars-IsAscii s (plain_ascii s p)) ∙ ap in_quotes (plain_chars s p)
