@@ -16,7 +16,7 @@ pub not_false : (x : Bool) → x ≡ false → not x ≡ true
 not_false false h = refl
 not_false true h = absurd cc
 
--- the first put behind the others
+-- the first put after the others
 pub turned : {X : Type 0} (same : X → X → Bool) → ComparesKeys same → (x : X) (ks : List X) → are_distinct same (x ∷ ks) ≡ true → are_distinct same (ks ++ x ∷ []) ≡ true
 turned same keys x [] h = h
 turned same keys x (k ∷ ks) h =

@@ -34,7 +34,7 @@ pub place_past : (t : List ℕ) (n : ℕ) (fields : List (List ℕ)) (i : ℕ) (
     → place_from t n (drop i fields) ≡ place_from t (n + 1) (drop (i + 1) fields)
 place_past t n fields i f h other = place_next t n fields i f h ∙ cond-false (bytes_eq f t) (Some n) (place_from t (n + 1) (drop (i + 1) fields)) other
 
--- behind the last field
+-- after the last field
 pub place_none : (t : List ℕ) (n : ℕ) (fields : List (List ℕ)) (i : ℕ) → field_at fields i ≡ None → place_from t n (drop i fields) ≡ None
 unfolding field_at
 place_none t n [] zero h = refl

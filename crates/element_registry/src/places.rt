@@ -27,7 +27,7 @@ impl Places {
         }
     }
 
-    /// Notes that an entry is to stand behind these, if none of them has its numbers or its name. At
+    /// Notes that an entry is to follow these, if none of them has its numbers or its name. At
     /// an `Err` these are noted still.
     pub fn note(&mut self, entries: &[Entry], entry: &Entry) -> Result<(), AllocError>
         requires noted { AreNoted self.old (map shown entries.now) }

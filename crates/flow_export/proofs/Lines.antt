@@ -15,7 +15,7 @@ use Rattle.flow_export.specs.Written.{interval_texts, next_cell, next_number}
 abbrev pub next : List ℕ → List ℕ
 next t = 44 ∷ t
 
--- the first field, and then each behind a comma
+-- the first field, and then each after a comma
 pub behind_commas : (f : List ℕ) (fs : List (List ℕ)) → join_with_byte 44 (f ∷ fs) ≡ f ++ flat_map next fs
 behind_commas f [] = sym (append-nil f)
 behind_commas f (g ∷ gs) = ap (λ (t : List ℕ). f ++ (44 ∷ t)) (behind_commas g gs)
@@ -24,7 +24,7 @@ each : {X : Type 0} (text : X → List ℕ) (xs : List X) → flat_map next (map
 each text [] = refl
 each text (x ∷ xs) = ap (λ (t : List ℕ). (44 ∷ text x) ++ t) (each text xs)
 
--- the fields behind the first two
+-- the fields after the first two
 tail_parts : (row : RowValue) → flat_map next (map cell_text row.key ++ (map decimal row.sums ++ decimal row.flows ∷ []))
     ≡ flat_map next_cell row.key ++ (flat_map next_number row.sums ++ next_number row.flows)
 tail_parts row =
@@ -49,7 +49,7 @@ row_parts plan row =
 pub six_parts : (o p q r s t u a b c d e f : List ℕ) → p ≡ o ++ a → q ≡ p ++ b → r ≡ q ++ c → s ≡ r ++ d → t ≡ s ++ e → u ≡ t ++ f → u ≡ o ++ (a ++ (b ++ (c ++ (d ++ (e ++ f)))))
 six_parts o p q r s t u a b c d e f is_p is_q is_r is_s is_t is_u = rw (is_u, is_t, is_s, is_r, is_q, is_p) (simp append_assoc)
 
--- a line whose fields behind the first two were appended one after another
+-- a line whose fields after the first two were appended one after another
 pub line_appended : (plan : PlanValue) (row : Row) (cs : List Cell) (vs o q r s t u : List ℕ) → cs ≡ row.key.items → vs ≡ row.sums.items → q ≡ o ++ interval_texts plan row.interval
     → r ≡ q ++ flat_map next_cell cs → s ≡ r ++ flat_map next_number vs → t ≡ s ++ next_number row.flows → u ≡ t ++ 10 ∷ [] → u ≡ o ++ row_line plan (value_of row)
 line_appended plan row cs vs o q r s t u is_cs is_vs is_q is_r is_s is_t is_u =

@@ -23,7 +23,7 @@ use Rattle.flow_export.proofs.Appending.{one_more}
 use Rattle.flow_export.proofs.KeyCells.{same_length}
 use Rattle.flow_export.proofs.Lines.{behind_commas, next, six_parts}
 
--- ---- values behind their labels, one after another
+-- ---- values after their labels, one after another
 
 same_pair : {A B : Type 0} {a b : A} {x y : B} → a ≡ b → x ≡ y → ◌≡◌ {A = A × B} (a, x) (b, y)
 same_pair is_a is_x = rw (is_a, is_x) refl
@@ -43,7 +43,7 @@ pub pairs_all : {X : Type 0} (value : X → List ℕ) (ls : List MemberLabel) (x
 pairs_all {X} value ls xs i o p same outside is_p =
     is_p ∙ ap (λ (pairs : List (MemberLabel × X)). o ++ flat_map (labelled value) pairs) (take_all i (zip ls xs) (omega (arith, length-zip ls xs, same, outside)))
 
--- ---- members behind commas
+-- ---- members after commas
 
 member_is : (name made v : List ℕ) → made ≡ label name → made ++ v ≡ next (member (name, v))
 member_is name made v is_made =
@@ -94,7 +94,7 @@ three_parts ps qs p =
     (ap (flat_map next) (map-append member qs (p ∷ [])) ∙ flat_map-append next (map member qs) (member p ∷ [])
     ∙ ap (λ (t : List ℕ). flat_map next (map member qs) ++ t) (append-nil (next (member p))))
 
--- the members behind the first two
+-- the members after the first two
 tail_members : (plan : PlanValue) (labels : RowLabels) (row : Row) → AreLabels plan labels → IsExportable plan (value_of row)
     → flat_map next (map member (zip (map (key_text labels.elements.now) plan.keys ++ (map (element_name labels.elements.now) plan.counters ++ codes "flows" ∷ [])) (map json_cell row.key.items ++ (map json_number row.sums.items ++ json_number row.flows ∷ []))))
     ≡ cells_of labels row ++ (sums_of labels row ++ (codes ",\"flows\":" ++ json_number row.flows))
@@ -127,7 +127,7 @@ object_parts plan labels row made fits =
     (behind_commas first (second ∷ rest) ∙ ap (λ (t : List ℕ). first ++ (next second ++ t)) (tail_members plan labels row made fits))
     ∙ ap (λ (t : List ℕ). codes "{" ++ t) (joined first (next second) (cells_of labels row) (sums_of labels row) (codes ",\"flows\":" ++ json_number row.flows) (codes "}\n"))
 
--- an object whose members behind the first two were appended one after another
+-- an object whose members after the first two were appended one after another
 pub object_appended : (plan : PlanValue) (labels : RowLabels) (row : Row) (ks counters : List MemberLabel) (cs : List Cell) (vs o q r s t u : List ℕ) → AreLabels plan labels → IsExportable plan (value_of row)
     → ks ≡ labels.keys.items → counters ≡ labels.counters.items → cs ≡ row.key.items → vs ≡ row.sums.items → q ≡ o ++ interval_members plan row.interval
     → r ≡ q ++ flat_map (labelled json_cell) (zip ks cs) → s ≡ r ++ flat_map (labelled json_number) (zip counters vs) → t ≡ s ++ (codes ",\"flows\":" ++ json_number row.flows)

@@ -24,11 +24,11 @@ pub record AreLabels (plan : PlanValue) (labels : RowLabels) : Type 0 where
   pub keys : AreLabelsOf (key_texts labels.elements.now plan.keys) labels.keys.items
   pub counters : AreLabelsOf (counter_texts labels.elements.now plan.counters) labels.counters.items
 
--- a value behind its label
+-- a value after its label
 abbrev pub labelled : {X : Type 0} → (X → List ℕ) → MemberLabel × X → List ℕ
 labelled value pair = text_of pair.0 ++ value pair.1
 
--- a cell behind its label, and cells and numbers, each behind its label
+-- a cell after its label, and cells and numbers, each after its label
 abbrev pub labelled_cell : MemberLabel → Cell → List ℕ
 labelled_cell label cell = labelled json_cell (label, cell)
 

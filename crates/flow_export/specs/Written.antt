@@ -11,7 +11,7 @@ use Rattle.flow_export.specs.CsvText.{comma}
 abbrev pub AddsFields : CsvRecord → CsvRecord → List (List ℕ) → Type 0
 AddsFields old new texts = fields_of new ≡ fields_of old ++ texts
 
--- a field that stands behind another
+-- a field that follows another
 abbrev pub next_number : ℕ → List ℕ
 next_number n = comma ∷ decimal n
 

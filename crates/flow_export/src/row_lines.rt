@@ -38,7 +38,7 @@ pub trait RowLines {
         ensures { OnOk result
             (out.new.items ≡ out.old.items ++ front_of self.now plan.now interval) };
 
-    /// Appends what is left of the line of a row, behind what it begins with.
+    /// Appends what is left of the line of a row, after what it begins with.
     fn append_rest(&self, plan: &Plan, row: &Row, out: &mut Vec<u8>) -> Result<(), AllocError>
         requires made { is_for self.now plan.now }
         requires fits { IsExportable plan.now (value_of row.now) }

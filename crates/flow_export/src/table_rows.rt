@@ -94,7 +94,7 @@ fn first_of(rows: &[Row]) -> Option<&Row>
     }
 }
 
-// The rows behind the first.
+// The rows after the first.
 fn behind_first<'a>(rows: &'a [Row]) -> &'a [Row]
     ensures { result.now ≡ drop 1 rows.now }
 {

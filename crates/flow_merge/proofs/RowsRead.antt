@@ -32,7 +32,7 @@ none_too_large : (totals : RowTotals) (rows : List RowValue) → AreOf totals ro
 unfolding AreOf
 none_too_large totals rows are = are.small
 
--- rows of these records, behind those before
+-- rows of these records, after those before
 abbrev pub Behind : PlanValue → RowTotals → List RowValue → List DataRecord → Type 0
 Behind plan totals rows rs = (more : List RowValue) × AreRowRecords plan rs more × (AreOf totals (rows ++ more) × All (IsRowOf plan) (rows ++ more))
 

@@ -63,7 +63,7 @@ pub record IsExport (plan : PlanValue) (text : List ℕ) (rows : List RowValue) 
 -- ---- reading one
 
 module _ {S : Type 0} (seen : S → SourceView) where
-  -- an export of these rows is what a source gave: it told its end, and no read failed
+  -- an export of these rows is what a source gave: it showed its end, and no read failed
   pub record GivesExport (limit : ℕ) (plan : PlanValue) (before after : S) (rows : List RowValue) : Type 0 where
     pub gave : List ℕ
     pub given : Gave seen limit before gave after None
@@ -79,7 +79,7 @@ module _ {S : Type 0} (seen : S → SourceView) where
     pub given : GiveExports limit plan sources exports
     pub added_up : AreAddedUp (flat_map (λ rows. rows) exports) (rows_in table)
 
--- the first records are those of rows, which are too large behind the rows before them
+-- the first records are those of rows, which are too large after the rows before them
 pub record FirstTooLarge (plan : PlanValue) (before : List RowValue) (rs : List DataRecord) : Type 0 where
   pub first : List DataRecord
   pub others : List DataRecord
@@ -88,7 +88,7 @@ pub record FirstTooLarge (plan : PlanValue) (before : List RowValue) (rs : List 
   pub records : AreRowRecords plan first rows
   pub large : AddUpTooLarge (before ++ rows)
 
--- the first records are those of rows, which are not too large behind the rows before them, and the next one is that of none:
+-- the first records are those of rows, which are not too large after the rows before them, and the next one is that of none:
 -- this fault of it, which isn't want of memory
 pub record FirstOther (plan : PlanValue) (before : List RowValue) (rs : List DataRecord) (fault : RowFault) : Type 0 where
   pub first : List DataRecord

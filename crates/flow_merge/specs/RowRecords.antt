@@ -12,7 +12,7 @@ use Rattle.flow_export.specs.CsvText.{first_of, last_of}
 use Rattle.flow_export.specs.Fitting.{FitsValue}
 use Rattle.flow_export.specs.IpfixText.{row_fields}
 
--- no cell has bits behind the prefix of its key
+-- no cell has bits after the prefix of its key
 abbrev pub AreProjected : List Key → List Cell → Type 0
 AreProjected keys cells = AllZip (λ key cell. projected key.prefix cell ≡ cell) keys cells
 

@@ -8,7 +8,7 @@ use Rattle.flow_merge.specs.declared.merging.Merging.{Merging}
 use Rattle.flow_merge.specs.declared.row_sink.RowSink.{RowSink}
 use Rattle.flow_merge.specs.Merging.{AreRowRecords, FirstOther, FirstTooLarge, StandsFor, merging_plan}
 
--- without a fault the records' rows stand behind those before; with one, this record is the first that it fits
+-- without a fault the records' rows follow those before; with one, this record is the first that it fits
 abbrev pub HoldsAfter : Option MergeFault → Merging → List RowValue → List DataRecord → Type 0
 HoldsAfter None m rows rs = (more : List RowValue) × AreRowRecords (merging_plan m) rs more × StandsFor m (rows ++ more)
 HoldsAfter (Some SumTooLarge) m rows rs = FirstTooLarge (merging_plan m) rows rs

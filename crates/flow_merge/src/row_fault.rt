@@ -24,7 +24,7 @@ pub enum RowFault {
     /// begins before 2^50 ms.
     #[error("the record's times are those of no interval of the plan")]
     Interval,
-    /// An address has bits behind the prefix of its key.
+    /// An address has bits after the prefix of its key.
     #[error("an address of the record has bits behind its key's prefix")]
     Prefix,
     /// Its number of flows is 0.

@@ -64,7 +64,7 @@ fn interval_of(plan: &Plan, told: &ToldValues) -> Option<u64>
     }
 }
 
-// Whether no cell has bits behind the prefix of its key.
+// Whether no cell has bits after the prefix of its key.
 fn are_projected(keys: &[Key], cells: &[Cell]) -> bool
     requires prefixes { All HasPrefix keys.now }
     requires each { length keys.now ≡ length cells.now }
@@ -79,7 +79,7 @@ fn are_projected(keys: &[Key], cells: &[Cell]) -> bool
     true
 }
 
-// Whether a cell has no bits behind the prefix of its key.
+// Whether a cell has no bits after the prefix of its key.
 fn is_projected(key: Key, cell: Cell) -> bool
     requires { HasPrefix key }
     ensures yes { result ≡ true → projected key.prefix cell ≡ cell }

@@ -18,7 +18,7 @@ pub enum PlanKey {
     Method,
     /// The most intervals that a flow may cover.
     MaxSpread,
-    /// The elements that rows are told apart by.
+    /// The elements that rows are distinguished by.
     Keys,
     /// The elements that are added up.
     Counters,

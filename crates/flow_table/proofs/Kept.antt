@@ -109,7 +109,7 @@ pad_drop : (w k : ℕ) (us : List ℕ) → suc (length us) ≤ w → padded w (k
 pad_drop w k us l = padded_is w (k ∷ us) l
 
 module _ (plan : PlanValue) where
-  -- the words behind the interval
+  -- the words after the interval
   behind : (k : ℕ) (q : List Cell) (ws : List ℕ) → place_words plan k q ≡ Some ws → (us : List ℕ) × (key_words plan.kinds q ≡ Some us) × (k ∷ us ≡ ws)
   behind k q ws h = mapped (λ (us : List ℕ). k ∷ us) (key_words plan.kinds q) ws h
 

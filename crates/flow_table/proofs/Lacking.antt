@@ -387,7 +387,7 @@ sum_split : (f g h : ℕ → ℕ) → ((k : ℕ) → f k ≡ g k + h k) → (ks 
 sum_split f g h is [] = refl
 sum_split f g h is (k ∷ ks) = omega (arith, is k, sum_split f g h is ks, sum_first (f k) (map f ks), sum_first (g k) (map g ks), sum_first (h k) (map h ks))
 
--- a place is none of those behind it
+-- a place is none of those after it
 none_behind : (n start place : ℕ) → place < start → sum (map (λ k. cond (k == place) 1 0) (range_with_len start n)) ≡ 0
 none_behind zero start place before = refl
 none_behind (suc n) start place before =

@@ -1,4 +1,4 @@
--- Intervals and keys are told apart by their orders.
+-- Intervals and keys are distinguished by their orders.
 use Rattle.std.proofs.Common.{◌≡◌, ◌≢◌, ◌⊎◌, Bool, true, false, List, [], ◌∷◌, refl, sym, subst, inl, inr}
 use Rattle.std.specs.Cmp.{IsTotalOrder, eq_by_cmp_equiv}
 use Rattle.std.specs.Cmp.Lexicographic.{lists_total}

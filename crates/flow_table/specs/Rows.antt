@@ -101,7 +101,7 @@ pub record IsPlace (plan : PlanValue) (rows : Rows) (q : List ℕ) : Type 0 wher
   pub padded_are : q ≡ padded (width_of rows) words
 
 -- rows that have room for what a plan has, and keep nothing else: each key is a place, some flow is counted where there is any
--- number, and there is none behind those of the counters
+-- number, and there is none after those of the counters
 pub record AreRowsOf (plan : PlanValue) (rows : Rows) : Type 0 where
   pub wide : suc (word_count plan.kinds) ≤ width_of rows
   pub deep : suc (length plan.counters) ≤ depth_of rows

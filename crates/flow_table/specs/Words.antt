@@ -10,7 +10,7 @@ use Rattle.flow_table.specs.declared.words.CellWords.{CellWords}
 use Rattle.flow_table.specs.declared.words.CellWords.TheVariants.{One, Two}
 use Rattle.flow_table.specs.Plans.{PlanValue}
 
--- the number that octets spell behind those of another number, the highest first
+-- the number that octets spell after those of another number, the highest first
 abbrev pub spelled : ℕ → List ℕ → ℕ
 spelled m [] = m
 spelled m (x ∷ xs) = spelled (m * 256 + x) xs
@@ -68,7 +68,7 @@ abbrev pub word_count : List Kind → ℕ
 word_count [] = 0
 word_count (kind ∷ kinds) = words_of_kind kind + word_count kinds
 
--- so many words, with zeros behind them
+-- so many words, with zeros after them
 abbrev pub padded : ℕ → List ℕ → List ℕ
 padded zero ws = []
 padded (suc n) [] = 0 ∷ padded n []

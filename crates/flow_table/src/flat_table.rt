@@ -73,7 +73,7 @@ impl FlatTable {
         self.run.len()
     }
 
-    /// Leaves the row at an index in `row`. The vectors of `row` are filled anew: where they have room,
+    /// Leaves the row at an index in `row`. The vectors of `row` are filled again: where they have room,
     /// nothing is allocated.
     ///
     /// After an `Err` it is open what `row` says.

@@ -21,7 +21,7 @@ pub enum Run {
     Most(Vec<Piece<17, 5>>),
 }
 
-/// Leaves the sums that stand behind the number of flows in `sums`.
+/// Leaves the sums that follow the number of flows in `sums`.
 fn write_sums(numbers: &[u64], counters: usize, sums: &mut Vec<u64>) -> Result<(), AllocError>
     requires { counters < 2 ^ 63 }
     ensures { OnOk result (sums.new.items

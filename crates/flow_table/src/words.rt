@@ -109,14 +109,14 @@ pub fn write_words(cells: &[Cell], words: &mut Vec<u64>) -> Result<(), AllocErro
     Ok(())
 }
 
-/// The word at a place, or 0 behind the last.
+/// The word at a place, or 0 after the last.
 pub fn word_at(words: &[u64], place: usize) -> u64
     ensures { result ≡ slice_index_or words.now place 0 }
 {
     if place < words.len() { words[place] } else { 0 }
 }
 
-/// The words behind so many.
+/// The words after so many.
 pub fn words_after(words: &[u64], count: usize) -> &[u64]
     ensures { result.now ≡ drop count words.now }
 {
@@ -127,7 +127,7 @@ pub fn words_after(words: &[u64], count: usize) -> &[u64]
     }
 }
 
-/// One word and others behind it, and then zeros.
+/// One word and others after it, and then zeros.
 pub fn padded_words<const N: usize>(first: u64, others: &[u64]) -> [u64; N]
     ensures { result ≡ padded N (first ∷ others.now) }
 {

@@ -67,7 +67,7 @@ pub attempt_fails : (ds : History) (m : List ℕ) (h : Header) (ids : List ℕ) 
 attempt_fails ds m h ids f good ok known fails =
     alike_fails (message_gives (copy ds h.domain ids) m) (message_gives (with_freed ds h.domain ids) m) f (copy_reads ds m h ids good ok known) fails
 
--- the templates behind it are those of the message
+-- the templates after it are those of the message
 behind : (fs ds : History) (m : List ℕ) (h : Header) (x y : Message) (id : ℕ) → message_header m ≡ Ok h → message_gives fs m ≡ Ok x → SameGiven x y → template_for x.domains h.domain id ≡ in_force y.decoding.events id
 behind fs ds m h x y id good read same =
     ap (λ (k : Header). template_for x.domains k.domain id) (sym (header_same fs m h x good read)) ∙ template_behind fs m x id read ∙ ap (λ (d : Decoding). in_force d.events id) same.1

@@ -13,7 +13,7 @@ use Rattle.ipfix_session.proofs.TemplateLists.{map_in_force}
 use Rattle.ipfix_datagrams.specs.Datagrams.{HasOwn}
 use Rattle.ipfix_datagrams.proofs.Readings.{header_same, template_behind}
 
--- the templates of its domain behind a message, where that is the domain of this header
+-- the templates of its domain after a message, where that is the domain of this header
 behind : (m : List ℕ) (h : Header) (y : Message) (id : ℕ) → message_header m ≡ Ok h → message_gives [] m ≡ Ok y → template_for y.domains h.domain id ≡ in_force y.decoding.events id
 behind m h y id good read = ap (λ (k : Header). template_for y.domains k.domain id) (sym (header_same [] m h y good read)) ∙ template_behind [] m y id read
 

@@ -112,7 +112,7 @@ template_is ds domain id = by_cases (lookup (eqb domain) ds)
 pub header_same : (ds : History) (m : List ℕ) (h : Header) (x : Message) → message_header m ≡ Ok h → message_gives ds m ≡ Ok x → x.header ≡ h
 header_same ds m h x good read = ok_is x.header h (sym (was_read ds m x read).header ∙ good)
 
--- the templates of its domain behind a message
+-- the templates of its domain after a message
 pub template_behind : (ds : History) (m : List ℕ) (x : Message) (id : ℕ) → message_gives ds m ≡ Ok x → template_for x.domains x.header.domain id ≡ in_force x.decoding.events id
 template_behind ds m x id read =
     let w = was_read ds m x read in

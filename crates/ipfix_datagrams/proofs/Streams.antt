@@ -11,7 +11,7 @@ use Rattle.ipfix_datagrams.specs.Streams.{Placed, Sent, messages, place_behind, 
 
 -- ---- one message
 
--- the number behind a message is the place behind it
+-- the number after a message is the place after it
 behind_is : (m : Message) (n : ℕ) → m.header.sequence ≡ n % 2 ^ 32 → sequence_behind m ≡ (n + count_in m) % 2 ^ 32
 behind_is m n is = omega (arith, is)
 
@@ -34,7 +34,7 @@ further_ahead n k low high =
     let small : gap (n % 2 ^ 32) (k % 2 ^ 32) < 2 ^ 31 = omega (arith, is, low, high) in
     ap (λ (b : Bool). cond b (k % 2 ^ 32) (n % 2 ^ 32)) (lt-ltb (gap (n % 2 ^ 32) (k % 2 ^ 32)) (2 ^ 31) small)
 
--- and one behind goes nowhere
+-- and an earlier one goes nowhere
 forward_back : (n k : ℕ) → k < n → n < k + 2 ^ 31 → forward (n % 2 ^ 32) (k % 2 ^ 32) ≡ 0
 forward_back n k low high =
     ap (λ (b : Bool). cond b (gap (n % 2 ^ 32) (k % 2 ^ 32)) 0) (le-ltb (gap (n % 2 ^ 32) (k % 2 ^ 32)) (2 ^ 31) (gap_back n k low high))

@@ -5,7 +5,7 @@ use Rattle.ipfix_message.specs.Domains.{Message}
 use Rattle.ipfix_session.specs.Ledger.{capped, count_in, gap, sequence_behind, messages_of, domains_of}
 use Rattle.ipfix_datagrams.specs.declared.domain_advance.DomainAdvance.{DomainAdvance}
 
--- how far it is forward to a sequence number, and the further one of the two; one in the upper half lies behind, and is of a
+-- how far it is forward to a sequence number, and the further one of the two; one in the upper half is earlier, and is of a
 -- message that came late
 abbrev pub forward : ℕ → ℕ → ℕ
 forward from to = if nat_lt (gap from to) (2 ^ 31) then gap from to else 0
@@ -24,7 +24,7 @@ furthest_from from (m ∷ ms) = furthest_from (further from (sequence_behind m))
 
 -- ---- the messages of a domain
 
--- from the sequence number of the first to behind the furthest
+-- from the sequence number of the first to just after the furthest
 abbrev pub advance_of : List Message → ℕ
 advance_of [] = 0
 advance_of (m ∷ ms) = advance_from m.header.sequence (m ∷ ms)

@@ -52,7 +52,7 @@ KeepsIds es fs = (id : ℕ) → IsSome (in_force es id) → IsSome (in_force fs 
 
 -- ---- a datagram
 
--- a datagram is taken: it is read where those ids are free, and no id that had a template is without one behind it
+-- a datagram is taken: it is read where those ids are free, and no id that had a template is without one after it
 pub record IsTaken (ds : History) (m : List ℕ) (ids : List ℕ) (x : Message) : Type 0 where
   pub frees : MayFree ds m x.header.domain ids
   pub read : message_gives (with_freed ds x.header.domain ids) m ≡ Ok x

@@ -17,11 +17,11 @@ messages ps = map (λ p. p.message) ps
 abbrev pub IsNumbered : Placed → Type 0
 IsNumbered p = p.message.header.sequence ≡ p.place % 2 ^ 32
 
--- the place behind it
+-- the place after it
 abbrev pub place_behind : Placed → ℕ
 place_behind p = p.place + count_in p.message
 
--- the furthest place behind any
+-- the furthest place after any
 abbrev pub furthest_place : ℕ → List Placed → ℕ
 furthest_place n [] = n
 furthest_place n (p ∷ ps) = furthest_place (max n (place_behind p)) ps

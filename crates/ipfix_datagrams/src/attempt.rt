@@ -37,7 +37,7 @@ fn keeps_ids(before: &Templates, after: Option<&Templates>) -> bool
     before.keys().all(|id| has_id(after, *id))
 }
 
-// Whether each id that has a template in a domain has one there behind a datagram.
+// Whether each id that has a template in a domain has one there after a datagram.
 fn keeps_all(before: &Domains, after: &Domains, domain: u32) -> bool
     ensures { (ds fs : History) → before.now.spent ≡ false → StandsFor before.now.domains ds
         → after.now.spent ≡ false → StandsFor after.now.domains fs

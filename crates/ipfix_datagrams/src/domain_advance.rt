@@ -6,7 +6,7 @@
 pub struct DomainAdvance {
     /// The domain.
     pub domain: u32,
-    /// From the sequence number of the first message that came to behind the furthest one.
+    /// From the sequence number of the first message that came to just after the furthest one.
     pub advance: u64,
     /// The data records of the messages that came. Those of a set that had no template can't be counted.
     pub came: u64,

@@ -8,7 +8,7 @@ ghost use Rattle.ipfix_datagrams.specs.Advances.{advance_of, came_of, missing_of
 ghost use Rattle.ipfix_datagrams.specs.Streams.{Placed, Sent, AreFew, AreNear, AreNumbered, AreWithin, came, furthest_place, messages, not_come, sent};
 
 /// Where the exporter's numbers are right, the advance is from the place of the first message that came to
-/// the furthest place behind any, if each came less than half of all sequence numbers off: late ones
+/// the furthest place after any, if each came less than half of all sequence numbers off: late ones
 /// change nothing, however many records were sent in all.
 pub fn advance_is_to_the_furthest()
     ensures { (p : Placed) (ps : List Placed) → AreNear p.place (p ∷ ps)
@@ -34,7 +34,7 @@ pub fn missing_is_the_gaps()
         ≡ sum_by count_in (not_come between)) }
 {}
 
-/// It doesn't matter in which order those behind the first came.
+/// It doesn't matter in which order those after the first came.
 pub fn order_does_not_matter()
     ensures { (low : ℕ) (p x y : Placed) (before behind : List Placed)
         → AreWithin low (p ∷ (before ++ x ∷ (y ∷ behind)))

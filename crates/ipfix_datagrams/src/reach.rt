@@ -7,7 +7,7 @@ ghost use Rattle.ipfix_datagrams.specs.Reaches.{reach_after};
 /// How far the messages of a domain reach. The counts stop at `u64::MAX`.
 #[derive(Clone, Copy)]
 pub struct Reach {
-    /// The sequence number behind the furthest message; `None` before the first.
+    /// The sequence number after the furthest message; `None` before the first.
     pub furthest: Option<u32>,
     /// How far that is from the first message's.
     pub advance: u64,
@@ -23,7 +23,7 @@ impl Reach {
         came: 0,
     };
 
-    /// The reach behind one more message.
+    /// The reach after one more message.
     pub(crate) fn after(&self, sequence: u32, records: u64) -> Reach
         ensures { result ≡ reach_after self.now sequence records }
     {

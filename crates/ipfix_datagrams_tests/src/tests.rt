@@ -21,7 +21,7 @@ fn answer(alloc: Global, domains: &Domains, datagram: &[u8]) -> Result<Vec<u16>,
     read_datagram(alloc, domains, &header, datagram)
 }
 
-// The domains behind messages.
+// The domains after messages.
 fn domains_after(alloc: Global, messages: &[&[u8]]) -> Result<Domains, MessageFault> {
     let mut domains = Domains::new(alloc);
     for message in messages {
@@ -30,7 +30,7 @@ fn domains_after(alloc: Global, messages: &[&[u8]]) -> Result<Domains, MessageFa
     Ok(domains)
 }
 
-// Asserts that a datagram is taken behind messages, and frees these ids.
+// Asserts that a datagram is taken after messages, and frees these ids.
 fn assert_taken(
     rt: &impl Abort,
     alloc: Global,
@@ -44,7 +44,7 @@ fn assert_taken(
     Ok(())
 }
 
-// Asserts that a datagram is refused behind messages with this fault.
+// Asserts that a datagram is refused after messages with this fault.
 fn assert_refused(
     rt: &impl Abort,
     alloc: Global,
@@ -110,7 +110,7 @@ fn a_datagram_that_contradicts_itself_is_refused(rt: HostRuntime) -> Result<(), 
 }
 
 // No exporter may withdraw over UDP; where a template would be gone, the datagram is refused. One that
-// withdraws what isn't there, or defines it anew, leaves no id without a template.
+// withdraws what isn't there, or defines it again, leaves no id without a template.
 #[test]
 fn a_withdrawal_is_refused(rt: HostRuntime) -> Result<(), Fail> {
     let gone = DatagramFault::Withdrawal;

@@ -14,7 +14,7 @@ use ipfix_message::{DataRecord, FieldRef, Fields};
 use std::alloc::{AllocError, Global};
 
 /// Makes the lines of records, one after another. What a record's line has in common with that of
-/// the record before it is not made anew.
+/// the record before it is not made again.
 #[derive(Drop)]
 pub struct Line<'a> {
     front: Front,

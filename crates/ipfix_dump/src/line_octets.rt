@@ -103,7 +103,7 @@ impl Write for LineOctets {
     }
 }
 
-// Makes room for so many octets behind those that are used.
+// Makes room for so many octets after those that are used.
 #[inline(always)]
 fn make_room(room: &mut Vec<u8>, used: usize, count: usize) -> Result<(), AllocError>
     requires { used ≤ vec_len room.old }

@@ -153,7 +153,7 @@ reads_nothing c messages octets place =
       place = subst (λ (p : Parts (List ℕ)). EndsAt c.place p.rest) (sym is) place;
     }
 
--- behind a header that no message has, nothing more is counted
+-- after a header that no message has, nothing more is counted
 pub counts_all : (c : CounterView) (text more : List ℕ) → c.place ≡ at_fault → HasRead c text → c.octets ≡ capped (whole_octets (text ++ more))
 counts_all c text more at has = (goes_on_faulty c text more at has).counts.octets_are
 

@@ -129,7 +129,7 @@ read_gives : (ds : History) (text : List ℕ) (xs : List Message) (o : Option Me
     → gives_after ds text ≡ record { messages = xs; stop = stop_after o (rest_stop (cut text).rest) }
 read_gives ds text xs o e = gives_after-is ds text (cut text) refl ∙ ap (λ (r : List Message × Option MessageFault). closed r (cut text).rest) e
 
--- ---- behind a fault nothing changes
+-- ---- after a fault nothing changes
 
 fault_stays : (ds : History) (text more : List ℕ) (e : MessageFault) (xs : List Message) (o : Option MessageFault) → messages_give ds (cut text).items ≡ (xs, o)
     → stop_after o (rest_stop (cut text).rest) ≡ Fault e → gives_after ds (text ++ more) ≡ gives_after ds text

@@ -31,7 +31,7 @@ abbrev pub walk : (Option ℕ → ℕ → ℕ) → Option ℕ → List Message �
 walk g o [] = 0
 walk g o (x ∷ xs) = g o x.header.sequence + walk g (due_after x) xs
 
--- what is due behind messages
+-- what is due after messages
 abbrev pub due_behind : Option ℕ → List Message → Option ℕ
 due_behind o [] = o
 due_behind o (x ∷ xs) = due_behind (due_after x) xs

@@ -79,7 +79,7 @@ module _ {K : Type 0} (view : SinkView K) where
   feeds_then s later text p q before now after x (Err faults.ReadFailed) a b = absurd b
   feeds_then s later text p q before now after x (Err faults.TooManyReads) a b = absurd b
 
-  -- ---- behind a fault the pieces don't matter
+  -- ---- after a fault the pieces don't matter
 
   up_to_more : (s : State) (text p q : List ℕ) (before after : K) → RunsOut view (gives text).messages (gives (text ++ p)).messages before after (Tells s.counts)
       → RunsOut view (gives text).messages (gives (text ++ (p ++ q))).messages before after (Tells s.counts)

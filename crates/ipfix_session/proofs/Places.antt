@@ -81,7 +81,7 @@ octets_are : (text : List ℕ) → sum_by length (messages_before_fault text) �
 unfolding gives_after
 octets_are text = (as_long [] (cut text).items).1
 
--- the place behind the messages that were read, by the octets of the text
+-- the place after the messages that were read, by the octets of the text
 pub place_is : (text : List ℕ) → place_after (gives text).messages ≡ place_of_fault text
 unfolding gives_after
 place_is text =

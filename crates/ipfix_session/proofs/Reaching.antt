@@ -110,7 +110,7 @@ ends_out view old text left before now c news domains r tells =
       puts = record { put = r.puts.put; takes = r.puts.takes; records = r.puts.records; tells = tells };
     }
 
--- the text stops behind the messages that were put
+-- the text stops after the messages that were put
 pub stops_there : (text left : List ℕ) (whole : List Message) (s : Stop) → gives text ≡ behind whole (gives_after (known_after [] whole) left) → gives_after (known_after [] whole) left ≡ stops s
     → gives text ≡ record { messages = whole; stop = s }
 stops_there text left whole s is e = is ∙ ap (behind whole) e ∙ ap (λ (ms : List Message). record { messages = ms; stop = s }) (append-nil whole)
@@ -179,7 +179,7 @@ no_fault Clean o = refl
 no_fault Short o = refl
 no_fault (Fault e) o = absurd o
 
--- behind the piece, where it may go on
+-- after the piece, where it may go on
 pub fed : {K : Type 0} (view : SinkView K) (s : State) (text piece : List ℕ) (before after : K)
     → IsBetween view (gives text).messages (text ++ piece) before after s.counts s.domains s.buffer → IsRest s.buffer → s.fault ≡ None
     → IsOpen (stop_of (text ++ piece)) × PutsAll view text piece before after s
@@ -205,7 +205,7 @@ fed view s text piece before after r rest none =
       },
     )
 
--- behind the piece, where it goes no further
+-- after the piece, where it goes no further
 pub fed_fault : {K : Type 0} (view : SinkView K) (s : State) (text piece : List ℕ) (before after : K) (f : SessionFault)
     → GoesNoFurther view f (gives text).messages (text ++ piece) before after s.counts → s.fault ≡ Some f
     → Feeds view (Err f) text piece before after s
@@ -228,7 +228,7 @@ fed_fault view s text piece before after faults.Truncated ends fault = absurd en
 fed_fault view s text piece before after faults.ReadFailed ends fault = absurd ends
 fed_fault view s text piece before after faults.TooManyReads ends fault = absurd ends
 
--- ---- behind a fault
+-- ---- after a fault
 
 abbrev some_fault : SessionFault → Option SessionFault
 some_fault f = Some f

@@ -14,7 +14,7 @@ keeps_some None after rest is keeps = absurd (none-some rest is)
 keeps_some (Some xs) None rest is keeps = absurd keeps
 keeps_some (Some xs) (Some ys) rest is keeps = ap (λ (zs : List ℕ). Some zs) keeps ∙ is
 
--- what is left behind a read
+-- what is left after a read
 pub record LeftBehind (after : Option (List ℕ)) (piece rest : List ℕ) : Type 0 where
   pub left : List ℕ
   pub is : after ≡ Some left
@@ -65,7 +65,7 @@ number : {E : Type 0} → Result ℕ E → ℕ
 number (Ok n) = n
 number (Err e) = 0
 
--- one that tells the end
+-- one that shows the end
 pub read_ends : {E : Type 0} (before after : Option (List ℕ)) (text : List ℕ) (c : CounterView) (n : ℕ) (buf : List ℕ) (r : Result ℕ E) → Walked before text c → r ≡ Ok n → n ≡ 0 → 0 < length buf → ReadConsumes before after r buf → c.octets ≡ capped (whole_octets text)
 unfolding number
 read_ends before after text c n buf (Ok m) w is none room consumes =

@@ -19,7 +19,7 @@ domain_balance ms domain =
     let own = messages_of domain ms in
     record { domain = domain; passed_over = passed_over_in own; unaccounted = capped (sum_neighbours unaccounted_between own); late = capped (sum_neighbours late_between own) }
 
--- the sequence number behind the last of these messages
+-- the sequence number after the last of these messages
 abbrev pub sequence_at_end : Message → List Message → ℕ
 sequence_at_end m [] = sequence_behind m
 sequence_at_end m (n ∷ ms) = sequence_at_end n ms

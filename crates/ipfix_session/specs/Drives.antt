@@ -21,14 +21,14 @@ use Rattle.ipfix_session.specs.Places.{ReportsInFull}
 
 -- a report has no fault, or this one, only if the octets that the source gave, and the source, say so
 abbrev pub IsDue : Option SessionFault → ℕ → List ℕ → SourceView → SourceView → Type 0
--- no fault: the octets are whole messages (RFC 7011, section 3.1), the source has told its end, and no read failed
+-- no fault: the octets are whole messages (RFC 7011, section 3.1), the source has shown its end, and no read failed
 IsDue None limit gave before after = (stop_of gave ≡ Clean) × (after.ended ≡ true) × (after.failed ≡ before.failed)
--- the octets end within a message, the source has told its end, and no read failed
+-- the octets end within a message, the source has shown its end, and no read failed
 IsDue (Some faults.Truncated) limit gave before after = (stop_of gave ≡ Short) × (after.ended ≡ true) × (after.failed ≡ before.failed)
 -- the octets have no malformed message, and a read failed
 IsDue (Some faults.ReadFailed) limit gave before after = IsOpen (stop_of gave) × (after.failed ≡ one_more before.failed)
 -- the octets have no malformed message, there were as many reads as were allowed, or the source can't count any more of
--- them, and none of them failed or told the end
+-- them, and none of them failed or showed the end
 IsDue (Some faults.TooManyReads) limit gave before after =
     IsOpen (stop_of gave) × ((after.reads ≡ before.reads + limit) ⊎ (after.reads ≡ 2 ^ 64 - 1)) × (after.failed ≡ before.failed) × (after.ended ≡ before.ended)
 -- memory ran out, or the sink gave a record back, which neither the octets nor the source can say

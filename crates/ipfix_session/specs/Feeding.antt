@@ -60,7 +60,7 @@ pub record StandsForText (s : State) (text : List ℕ) : Type 0 where
   pub goes_on : IsOpen (stop_of text) → GoesOnFrom s text
 
 module _ {K : Type 0} (view : SinkView K) where
-  -- the sink took the records by which those of some messages exceed those of the old ones, and that is told
+  -- the sink took the records by which those of some messages exceed those of the old ones, and that is reported
   pub record PutsWhole (old whole : List Message) (before after : K) (told : List Message → ℕ → Type 0) : Type 0 where
     pub put : List DataRecord
     pub takes : Takes view before put after

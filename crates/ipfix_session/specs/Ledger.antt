@@ -11,7 +11,7 @@ capped n = min n (2 ^ 64 - 1)
 abbrev pub count_in : Message → ℕ
 count_in m = length m.decoding.records
 
--- the sequence number behind a message: its own, and one more for each of its records
+-- the sequence number after a message: its own, and one more for each of its records
 abbrev pub sequence_behind : Message → ℕ
 sequence_behind m = (m.header.sequence + count_in m) % 2 ^ 32
 

@@ -14,11 +14,11 @@ use Rattle.ipfix_session.specs.Faults.{end_of, ends_open}
 abbrev pub length_of : Message → ℕ
 length_of m = m.header.length
 
--- the place behind so many messages, which have so many octets
+-- the place after so many messages, which have so many octets
 abbrev pub place_behind : ℕ → ℕ → MessagePlace
 place_behind messages octets = record { message = capped (messages + 1); octet = capped octets }
 
--- the place behind messages that were read
+-- the place after messages that were read
 abbrev pub place_after : List Message → MessagePlace
 place_after ms = place_behind (length ms) (sum_by length_of ms)
 
@@ -36,7 +36,7 @@ pub record CountsInFull (r : FullReport) (ms : List Message) (delivered : ℕ) :
   pub balances : r.balances.items ≡ map (domain_balance ms) (domains_of ms)
   pub stopped_at : r.stopped_at ≡ place_after ms
 
--- these are the domains of messages, each with the templates in force behind them (RFC 7011, section 8)
+-- these are the domains of messages, each with the templates in force after them (RFC 7011, section 8)
 pub record AreDomainsOf (ms : List Message) (d : DomainsView) : Type 0 where
   pub not_spent : d.spent ≡ false
   pub stands : StandsFor d.domains (known_after [] ms)

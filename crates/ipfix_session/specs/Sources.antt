@@ -5,13 +5,13 @@ use Rattle.ipfix_session.specs.declared.source.ReadError.{ReadError}
 use Rattle.ipfix_session.specs.declared.source.ReadError.TheVariants.{Interrupted, Failed}
 
 pub record SourceView : Type 0 where
-  -- the octets that it still holds, if it tells them
+  -- the octets that it still holds, if it shows them
   pub text : Option (List ℕ)
   -- how many reads there were
   pub reads : ℕ
   -- how many of them failed
   pub failed : ℕ
-  -- whether one of them told the end
+  -- whether one of them showed the end
   pub ended : Bool
 
 -- a source of which nothing was read, and which holds these octets
@@ -27,7 +27,7 @@ is_failed (Ok n) = false
 is_failed (Err Interrupted) = false
 is_failed (Err Failed) = true
 
--- an answer that tells the end: no octets, with room for some
+-- an answer that shows the end: no octets, with room for some
 abbrev pub tells_end : Result ℕ ReadError → List ℕ → Bool
 tells_end (Ok n) buffer = (n == 0) && nat_lt 0 (length buffer)
 tells_end (Err e) buffer = false

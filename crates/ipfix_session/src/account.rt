@@ -26,7 +26,7 @@ pub struct Account {
     pub late: u64,
     /// The sequence number that is due next, if the last message tells it.
     pub due: Option<u32>,
-    /// The sequence number behind the last message, if it had an unknown set.
+    /// The sequence number after the last message, if it had an unknown set.
     pub unsure: Option<u32>,
 }
 
@@ -50,7 +50,7 @@ pub fn add_up(before: PassedOver, more: PassedOver) -> PassedOver
     }
 }
 
-/// The sequence number behind a message: as `due` if all its records could be counted, else as `unsure`.
+/// The sequence number after a message: as `due` if all its records could be counted, else as `unsure`.
 pub fn next_after(sequence: u32, records: u64, unknown_sets: u64) -> (Option<u32>, Option<u32>)
     ensures { (m : Message) → m.header.sequence ≡ sequence → count_in m ≡ records
         → m.decoding.passed_over.unknown_sets ≡ unknown_sets
@@ -95,7 +95,7 @@ impl Account {
         unsure: None,
     };
 
-    /// The account after one more message, behind which these sequence numbers are.
+    /// The account after one more message, after which these sequence numbers are.
     pub fn after(
         &self,
         sequence: u32,

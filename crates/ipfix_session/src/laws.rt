@@ -89,14 +89,14 @@ pub fn no_fault_is_all<S: Source>()
         → (stop_of text ≡ Clean) × (records ≡ records_of text) }
 {}
 
-/// The ledger of a domain balances: from before its first message to behind its last, the exporter's
+/// The ledger of a domain balances: from before its first message to after its last, the exporter's
 /// sequence number advanced, modulo 2^32, by the records that came (`count`), those that were lost
 /// (`lost`) and those that are unaccounted for (`unaccounted`), if it never stepped backward (`backward`,
 /// `late`) and no count has stopped at `u64::MAX`. Before the first message is its sequence number; after
 /// the last is the last's sequence number and one more for each of its records.
 ///
 /// So no record vanished between these two places without a number for it. What was sent before the
-/// first message, or behind the last, no sequence number shows; nor do those of an unknown set in the
+/// first message, or after the last, no sequence number shows; nor do those of an unknown set in the
 /// last message. A loss of 2^31 records or more at once looks like a step backward, one of 2^32 like none.
 pub fn ledger_balances()
     ensures { (ms : List Message) (domain : ℕ) (first : Message) (more : List Message)
@@ -109,7 +109,7 @@ pub fn ledger_balances()
         + (domain_balance ms domain).unaccounted) % 2 ^ 32 ≡ sequence_at_end first more }
 {}
 
-/// The place behind the messages that count is that of the first message with a fault, by the cutting of
+/// The place after the messages that count is that of the first message with a fault, by the cutting of
 /// the text into messages.
 pub fn place_is_of_fault()
     ensures place { (text : List ℕ) → place_after (gives text).messages ≡ place_of_fault text }

@@ -7,7 +7,7 @@ ghost use Rattle.ipfix_session.specs.Sources.{unread};
 use crate::source::{ReadError, Source};
 use std::io::{ErrorKind, Read};
 
-/// A source over a reader. Once it has told its end it doesn't ask the reader again.
+/// A source over a reader. Once it has shown its end it doesn't ask the reader again.
 #[derive(Drop)]
 pub struct FromReader<R: Read> {
     reader: R,
@@ -60,7 +60,7 @@ impl<R: Read> Source for FromReader<R> {
     fn read(&mut self, buffer: &mut [u8]) -> Result<usize, ReadError>
         ensures is_read { IsRead (⟦<FromReader<R> as Source>⟧.seen self.old) result
             (⟦<FromReader<R> as Source>⟧.seen self.new) buffer.new }
-        // Behind its end the reader isn't asked.
+        // After its end the reader isn't asked.
         ensures not_asked { (⟦<FromReader<R> as Source>⟧.seen self.old).ended ≡ true
             → reader_of self.new ≡ reader_of self.old }
         // A read that fails leaves a reason, and no other read changes it.

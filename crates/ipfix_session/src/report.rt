@@ -70,7 +70,7 @@ pub struct FullReport {
     /// Where the first message begins that isn't counted in the report. If a message was malformed or
     /// cut off, it is this one; if all octets are whole messages, they end there.
     pub stopped_at: MessagePlace,
-    /// The domains of the messages that count, with the templates that are in force behind them (RFC 7011,
+    /// The domains of the messages that count, with the templates that are in force after them (RFC 7011,
     /// section 8). `None` where a message was refused, memory ran out or the sink gave a record back: then no
     /// template is in force for certain.
     pub domains: Option<Domains>,

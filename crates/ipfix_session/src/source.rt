@@ -22,8 +22,8 @@ pub trait Source {
     ghost use Rattle.std.specs.declared.io.ErrorKind.{ErrorKind};
     ghost use Rattle.ipfix_session.specs.Sources.{SourceView, IsRead};
 
-    /// What contracts see of it: the octets that it still holds, if it tells them; how many reads there
-    /// were; how many of them answered `Failed`; and whether one has told the end, that is, answered 0
+    /// What contracts see of it: the octets that it still holds, if it shows them; how many reads there
+    /// were; how many of them answered `Failed`; and whether one has shown the end, that is, answered 0
     /// octets with room for some.
     ghost seen: { Self → SourceView };
 

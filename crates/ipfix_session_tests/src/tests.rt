@@ -16,7 +16,7 @@ use ipfix_session::*;
 use std::test::*;
 
 // The octets that a source gives until its end or its failure, the reads it took, and whether it
-// told its end.
+// showed its end.
 fn drain<S: Source>(source: &mut S, octets: &mut Vec<u8>) -> Result<(u64, bool), Fail> {
     let mut buffer = [0; 4];
     for reads in 1..100 {

@@ -46,7 +46,7 @@ none_there name (n ∷ ns) (c ∷ cs) other =
 first_there : (name : List ℕ) (value : Json) (rest : Members) → get_member name rest ≡ None → get_member name (member name value rest) ≡ Some value
 first_there name value rest none = rw (none, (bytes_eq-Decides name name).1 refl) refl
 
--- a member behind another one is still found
+-- a member after another one is still found
 still_there : (name first : List ℕ) (value found : Json) (rest : Members) → get_member name rest ≡ Some found → get_member name (member first value rest) ≡ Some found
 still_there name first value found rest there = rw there refl
 

@@ -24,7 +24,7 @@ Utf8 s = is_utf8 s ≡ true
 abbrev tokens_from : Place → List ℕ → List Token
 tokens_from place text = punctuate place (lex between text)
 
--- a text that can stand behind a value
+-- a text that can follow a value
 record Ends (r : List ℕ) : Type 0 where
   word : ends_word r ≡ true
   colon : begins_colon (lex between r) ≡ false

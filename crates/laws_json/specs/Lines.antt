@@ -18,12 +18,12 @@ abbrev pub before_lines : ℕ → List (List ℕ) → List (List ℕ)
 before_lines octet [] = (octet ∷ []) ∷ []
 before_lines octet (line ∷ lines) = (octet ∷ line) ∷ lines
 
--- a text cut behind each of its newlines
+-- a text cut after each of its newlines
 abbrev pub lines_in : List ℕ → List (List ℕ)
 lines_in [] = []
 lines_in (octet ∷ rest) = if octet == newline then (octet ∷ []) ∷ lines_in rest else before_lines octet (lines_in rest)
 
--- each thing of which P holds has a line of its own, and a text of such lines is cut into them behind each newline
+-- each thing of which P holds has a line of its own, and a text of such lines is cut into them after each newline
 pub record AreApart {X : Type 0} (P : X → Type 0) (line : X → List ℕ) : Type 0 where
   pub each : (x : X) → P x → IsOneLine (line x)
   pub all : (xs : List X) → All P xs → lines_in (flat_map line xs) ≡ map line xs

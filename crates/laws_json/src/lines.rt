@@ -36,7 +36,7 @@ pub fn lines_have_exact_numbers()
         → IsReadAs (json_line [] r) (NumbersAre IsExactNatural) }
 {}
 
-/// A line ends with a newline, and no other one stands within it: a dump that is cut behind each
+/// A line ends with a newline, and no other one stands within it: a dump that is cut after each
 /// newline is the lines of its records.
 pub fn lines_are_apart()
     ensures { (files : PlainElements) → AreApart HasOctets (json_line files.known) }

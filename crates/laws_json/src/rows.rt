@@ -42,7 +42,7 @@ pub fn rows_tell_columns()
         → IsReadAs (row_object known plan (value_of row)) (TellsRow known plan (value_of row)) }
 {}
 
-/// A line ends with a newline, and no other one stands within it: a table that is cut behind each
+/// A line ends with a newline, and no other one stands within it: a table that is cut after each
 /// newline is the lines of its rows.
 pub fn rows_are_apart()
     ensures { (files : PlainElements) (plan : PlanValue)

@@ -59,7 +59,7 @@ event-only es e keeps = rw (keeps-only es e keeps) refl
 
 -- ---- all of them
 
--- the events behind those before them, and how many are ignored
+-- the events after those before them, and how many are ignored
 abbrev pub given : List Event → List Event → List Event × ℕ
 given es events = (behind es events, ignored_in es events)
 

@@ -127,7 +127,7 @@ abbrev pub passed_over : List Event → List (Set × Content) → PassedOver
 passed_over es sets = record { skipped_sets = count_by (λ p. is_skipped p.1) sets; unknown_sets = count_by (λ p. is_unknown p.1) sets; ignored_withdrawals = ignored_in es (all_events sets) }
 
 -- m is a message of a domain that the session has or that finds room in it; x has the records of its data sets, in their order,
--- the events of its template sets behind those of the domain, and what is passed over
+-- the events of its template sets after those of the domain, and what is passed over
 pub record IsReadAs (ds : History) (m : List ℕ) (x : Message) : Type 0 where
   pub known : History
   pub admitted : admit ds x.header.domain ≡ Ok known

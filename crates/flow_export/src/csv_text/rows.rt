@@ -56,7 +56,7 @@ fn append_cells(cells: &[Cell], out: &mut Vec<u8>) -> Result<(), AllocError>
     Ok(())
 }
 
-// Appends a cell that stands behind another field. (Numbers and IPv4 addresses go past the function for any
+// Appends a cell that follows another field. (Numbers and IPv4 addresses go past the function for any
 // cell: an `io::Result` has 96 octets, which are copied where a call answers one.)
 #[tactic(auto, unfolding(ipfix_elements::specs::Texts::cell_text))]
 fn append_next_cell(cell: &Cell, out: &mut Vec<u8>) -> Result<(), AllocError>
@@ -81,7 +81,7 @@ fn append_numbers(numbers: &[u64], out: &mut Vec<u8>) -> Result<(), AllocError>
     Ok(())
 }
 
-// Appends a number that stands behind another field.
+// Appends a number that follows another field.
 fn append_next_number(number: u64, out: &mut Vec<u8>) -> Result<(), AllocError>
     ensures { OnOk result (out.new.items ≡ out.old.items ++ next_number number) }
 {

@@ -52,7 +52,7 @@ fn append_member(label: &[u8], number: u64, out: &mut Vec<u8>) -> Result<(), All
     append_json_number(number, out)
 }
 
-// Appends cells, each behind its label.
+// Appends cells, each after its label.
 fn append_cells(labels: &[MemberLabel], cells: &[Cell], out: &mut Vec<u8>) -> Result<(), AllocError>
     requires { length labels.now ≡ length cells.now }
     ensures { OnOk result (out.new.items ≡ out.old.items ++ labelled_cells labels.now cells.now) }
@@ -63,7 +63,7 @@ fn append_cells(labels: &[MemberLabel], cells: &[Cell], out: &mut Vec<u8>) -> Re
     Ok(())
 }
 
-// Appends a cell behind its label.
+// Appends a cell after its label.
 #[tactic(auto, unfolding(ipfix_elements::specs::Texts::cell_text))]
 fn append_cell(label: &MemberLabel, cell: &Cell, out: &mut Vec<u8>) -> Result<(), AllocError>
     ensures { OnOk result (out.new.items ≡ out.old.items ++ labelled_cell label.now cell.now) }
@@ -85,7 +85,7 @@ fn append_quoted(address: &[u8; 4], out: &mut Vec<u8>) -> Result<(), AllocError>
     Ok(())
 }
 
-// Appends sums, each behind its label.
+// Appends sums, each after its label.
 fn append_sums(labels: &[MemberLabel], sums: &[u64], out: &mut Vec<u8>) -> Result<(), AllocError>
     requires { length labels.now ≡ length sums.now }
     ensures { OnOk result (out.new.items ≡ out.old.items ++ labelled_numbers labels.now sums.now) }

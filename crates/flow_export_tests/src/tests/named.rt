@@ -51,7 +51,7 @@ fn by_source(alloc: Global, elements: &Elements) -> Result<Plan, PlanFault> {
     )
 }
 
-// A table as CSV and, behind it, as JSON.
+// A table as CSV and, after it, as JSON.
 fn texts(
     alloc: Global,
     elements: &Elements,
