@@ -2,10 +2,10 @@
 
 ghost use Rattle.std.specs.Prelude.{◌≡◌};
 
-use recording_connections::{RecordOrder, SharedCounts, run_record};
+use recording_connections::{RecordOrder, RecorderRun, SharedCounts, run_record};
 use recording_datagrams::{PeerLimits, SystemSocket, run_datagrams};
 use recording_folder::Folder;
-use recording_lines::Log;
+use recording_lines::{WholeLines, write_threads};
 use report_writing::Status;
 use std::alloc::Global;
 use std::io::Write;
@@ -37,18 +37,20 @@ pub fn run_recorder<E: Write + Copy + Send + Sync + Drop, R: Clock + Threads + W
     ensures { result ≡ Status.Failed }
 {
     let shared = Mutex::new(SharedCounts::new());
+    let run = RecorderRun {
+        threads,
+        rt,
+        alloc,
+        folder,
+        order,
+        shared: &shared,
+    };
     let Sockets { listener, socket } = sockets;
     match (listener, socket) {
-        (Some(listener), Some(socket)) => run_both(
-            threads, rt, alloc, listener, socket, folder, order, limits, &shared, err,
-        ),
-        (Some(listener), None) => {
-            run_record(threads, rt, alloc, listener, folder, order, &shared, err)
-        }
+        (Some(listener), Some(socket)) => run_both(run, listener, socket, limits, err),
+        (Some(listener), None) => run_record(run, listener, err),
         (None, Some(socket)) => {
-            run_datagrams(
-                threads, rt, alloc, socket, folder, order, limits, &shared, err,
-            );
+            run_datagrams(run, socket, limits, err);
             Status::Failed
         }
         (None, None) => Status::Failed,
@@ -57,33 +59,53 @@ pub fn run_recorder<E: Write + Copy + Send + Sync + Drop, R: Clock + Threads + W
 
 // Starts the thread of the datagrams, and records what comes over connections beside it.
 fn run_both<E: Write + Copy + Send + Sync + Drop, R: Clock + Threads + Wait + Sync>(
-    threads: &R,
-    rt: &HostRuntime,
-    alloc: Global,
+    run: RecorderRun<R>,
     listener: TcpListener,
     socket: SystemSocket,
-    folder: &Folder,
-    order: &RecordOrder,
     limits: PeerLimits,
-    shared: &Mutex<SharedCounts>,
     err: E,
 ) -> Status
     ensures { result ≡ Status.Failed }
 {
+    let RecorderRun {
+        threads,
+        rt,
+        alloc,
+        folder,
+        order,
+        shared,
+    } = run;
     thread::scope(
         thread::scope_env(),
         threads,
         |scope| -> Status
             ensures { result ≡ Status.Failed }
         {
-            let run = move || run_datagrams(
-                threads, rt, alloc, socket, folder, order, limits, shared, err,
-            );
-            if scope.spawn(run).is_err() {
-                let _ = Log::new(err).tell_threads(0, 1);
+            // (the parts go into the closures one by one)
+            let datagrams = move || {
+                let run = RecorderRun {
+                    threads,
+                    rt,
+                    alloc,
+                    folder,
+                    order,
+                    shared,
+                };
+                run_datagrams(run, socket, limits, err);
+            };
+            if scope.spawn(datagrams).is_err() {
+                let _ = write_threads(0, 1, &mut WholeLines::new(err));
                 return Status::Failed;
             }
-            run_record(threads, rt, alloc, listener, folder, order, shared, err)
+            let run = RecorderRun {
+                threads,
+                rt,
+                alloc,
+                folder,
+                order,
+                shared,
+            };
+            run_record(run, listener, err)
         },
     )
 }

@@ -3,6 +3,7 @@
 ghost use Rattle.std.specs.Prelude.{◌≡◌, ℕ};
 ghost use Rattle.std.specs.Net.Socket.{socket_ip};
 ghost use Rattle.network_prefixes.specs.Peers.{LetsIn};
+ghost use Rattle.report_writing.specs.Writing.{Tells};
 ghost use Rattle.recording_connections.specs.Serving.{IsServed};
 
 use crate::connection::{Connection, ConnectionSource};
@@ -12,8 +13,8 @@ use crate::shared_counts::SharedCounts;
 use ipfix_session::Source;
 use network_prefixes::PeerFilter;
 use recording_files::PeriodClock;
-use recording_lines::Log;
-use report_writing::Status;
+use recording_lines::{WholeLines, write_not_accepted, write_refused, write_threads};
+use report_writing::{Status, WriteLines};
 use std::alloc::Global;
 use std::io::{self, Write};
 use std::rt::Clock;
@@ -27,9 +28,25 @@ const PAUSE: u64 = 100;
 /// How many seconds it takes until peers that have no session are told.
 const BETWEEN_LINES: u64 = 1;
 
-/// Records what comes over connections in so many threads, each of which accepts one after another. Sessions
-/// are numbered by the shared counts. Where no connection can be accepted that is told, and tried again. It ends only
-/// if no thread can be started.
+/// What records connections.
+#[derive(Drop)]
+pub struct ConnectionRecorder<'a, L, P> {
+    pub alloc: Global,
+    /// Where connections come from.
+    pub listener: L,
+    /// Where their sessions are recorded.
+    pub place: P,
+    /// Which peers may send.
+    pub filter: &'a PeerFilter,
+    /// How many sessions are recorded at once, each in a thread.
+    pub sessions: usize,
+    /// What the threads share.
+    pub shared: &'a Mutex<SharedCounts>,
+}
+
+/// Records what comes over connections in threads, each of which accepts one after another. Sessions are numbered by
+/// the shared counts. Where no connection can be accepted that is written, and tried again. It ends only if no thread
+/// can be started.
 pub fn record_connections<
     S: Source + Send + Drop,
     F: RecordingFiles + Send,
@@ -38,16 +55,7 @@ pub fn record_connections<
     P: SessionPlace<F, C> + Sync,
     E: Write + Copy + Send + Drop,
     R: Clock + Threads + Wait + Sync,
->(
-    rt: &R,
-    alloc: Global,
-    listener: &L,
-    place: &P,
-    filter: &PeerFilter,
-    threads: usize,
-    shared: &Mutex<SharedCounts>,
-    err: E,
-) -> Status
+>(rt: &R, recorder: &ConnectionRecorder<L, P>, err: E) -> Status
     ensures { result ≡ Status.Failed }
 {
     thread::scope(
@@ -55,15 +63,11 @@ pub fn record_connections<
         rt,
         |scope| -> Status
             ensures { result ≡ Status.Failed }
-        {
-            run_all(
-                scope, rt, alloc, listener, place, filter, threads, shared, err,
-            )
-        },
+        { run_all(scope, rt, recorder, err) },
     )
 }
 
-// Starts the threads, and then tells which peers have no session.
+// Starts the threads, and then writes which peers have no session.
 fn run_all<
     's,
     'e,
@@ -77,29 +81,24 @@ fn run_all<
 >(
     scope: &'s Scope<'s, &'e ()>,
     rt: &'s R,
-    alloc: Global,
-    listener: &'s L,
-    place: &'s P,
-    filter: &'s PeerFilter,
-    threads: usize,
-    shared: &'s Mutex<SharedCounts>,
+    recorder: &'s ConnectionRecorder<'s, L, P>,
     err: E,
 ) -> Status
     ensures { result ≡ Status.Failed }
 {
-    let mut log = Log::new(err);
+    let mut out = WholeLines::new(err);
     let mut started: usize = 0;
-    for _ in 0..threads {
-        let run = move || accept_forever(rt, alloc, listener, place, filter, shared, err);
+    for _ in 0..recorder.sessions {
+        let run = move || accept_forever(rt, recorder, err);
         if scope.spawn(run).is_ok() {
             started = started.saturating_add(1);
         }
     }
-    if started < threads {
-        let _ = log.tell_threads(started, threads);
+    if started < recorder.sessions {
+        let _ = write_threads(started, recorder.sessions, &mut out);
     }
     if started > 0 {
-        tell_forever(rt, shared, &mut log);
+        tell_forever(rt, recorder.shared, &mut out);
     }
     Status::Failed
 }
@@ -113,25 +112,17 @@ fn accept_forever<
     P: SessionPlace<F, C>,
     E: Write + Copy + Drop,
     R: Clock + Wait,
->(
-    rt: &R,
-    alloc: Global,
-    listener: &L,
-    place: &P,
-    filter: &PeerFilter,
-    shared: &Mutex<SharedCounts>,
-    err: E,
-) {
-    let mut log = Log::new(err);
+>(rt: &R, recorder: &ConnectionRecorder<L, P>, err: E) {
+    let mut out = WholeLines::new(err);
     for _ in rt.forever() {
-        match listener.next_connection() {
+        match recorder.listener.next_connection() {
             Ok(connection) => {
-                // (a log that can't be written stops nothing)
-                let _ = serve(rt, alloc, connection, place, filter, shared, &mut log);
+                // (a line that can't be written stops nothing)
+                let _ = serve(rt, recorder, connection, &mut out);
             }
             // No descriptor is free, or the connection has gone: wait, and go on.
             Err(_) => {
-                shared.lock(rt).count_not_accepted();
+                recorder.shared.lock(rt).count_not_accepted();
                 thread::sleep(rt, Duration::from_millis(PAUSE));
             }
         }
@@ -143,47 +134,42 @@ fn serve<
     S: Source + Drop,
     F: RecordingFiles,
     C: PeriodClock + Drop,
+    L,
     P: SessionPlace<F, C>,
-    E: Write + Drop,
+    W: WriteLines,
     R: Wait,
 >(
     rt: &R,
-    alloc: Global,
+    recorder: &ConnectionRecorder<L, P>,
     connection: Connection<S>,
-    place: &P,
-    filter: &PeerFilter,
-    shared: &Mutex<SharedCounts>,
-    log: &mut Log<E>,
+    out: &mut W,
 ) -> io::Result<()>
     // A peer that may not send is counted, and nothing of it is read or told here.
-    ensures refused { ¬ LetsIn filter.now (socket_ip connection.peer) → log.new ≡ log.old }
-    ensures served { LetsIn filter.now (socket_ip connection.peer)
-        → (number : ℕ) × IsServed S.seen F.seen C.asked F.finishes (P.makes place.now) E.contents
-        connection.source connection.peer number log.old log.new result }
+    ensures refused { ¬ LetsIn recorder.now.filter.now (socket_ip connection.peer)
+        → out.new ≡ out.old }
+    ensures served { LetsIn recorder.now.filter.now (socket_ip connection.peer)
+        → (number : ℕ) × IsServed S.seen F.seen C.asked F.finishes (P.makes recorder.now.place)
+        connection number (Tells W.contents W.failed out.old out.new result) }
 {
-    if !filter.lets_in(connection.peer.ip()) {
-        shared.lock(rt).refuse(connection.peer);
+    if !recorder.filter.lets_in(connection.peer.ip()) {
+        recorder.shared.lock(rt).refuse(connection.peer);
         return Ok(());
     }
-    let number = shared.lock(rt).next_session();
-    record_connection(alloc, connection, number, place, log)
+    let number = recorder.shared.lock(rt).next_session();
+    record_connection(recorder.alloc, connection, number, &recorder.place, out)
 }
 
 // Tells once a second which peers were refused, and how often none could be accepted, if that was so.
-fn tell_forever<E: Write + Drop, R: Clock + Wait>(
-    rt: &R,
-    shared: &Mutex<SharedCounts>,
-    log: &mut Log<E>,
-) {
+fn tell_forever<W: WriteLines, R: Clock + Wait>(rt: &R, shared: &Mutex<SharedCounts>, out: &mut W) {
     for _ in rt.forever() {
         thread::sleep(rt, Duration::from_secs(BETWEEN_LINES));
         let refused = shared.lock(rt).take_refused();
         if let Some(refused) = refused {
-            let _ = log.tell_refused(refused.count, refused.last);
+            let _ = write_refused(refused.count, refused.last, out);
         }
         let not_accepted = shared.lock(rt).take_not_accepted();
         if not_accepted > 0 {
-            let _ = log.tell_not_accepted(not_accepted);
+            let _ = write_not_accepted(not_accepted, out);
         }
     }
 }

@@ -1,59 +1,53 @@
-//! One session: it is recorded to its end, and its lines are told.
+//! One session: it is recorded to its end, and its lines are written.
 
-ghost use Rattle.std.specs.Prelude.{◌++◌, OnOk};
-ghost use Rattle.std.specs.Io.KnownBytes.{Appends};
 ghost use Rattle.recording_files.specs.Files.{IsEmpty};
-ghost use Rattle.recording_connections.specs.Serving.{end_lines, fault_line, finish_lines, IsRecorded, IsServed, lines_behind, session_lines};
+ghost use Rattle.report_writing.specs.Writing.{Tells};
+ghost use Rattle.recording_connections.specs.Serving.{end_lines, fault_line, finish_lines, IsRecorded, IsServed, lines_after, session_lines};
 
 use crate::connection::Connection;
 use crate::place::{Recording, RecordingFiles, SessionPlace};
 use ipfix_message::MessageFault;
 use ipfix_session::{READ_LIMIT, Source};
 use recording_files::{NotWritten, PeriodClock, RecordFault, RecordedSession, record};
-use recording_lines::Log;
+use recording_lines::{write_peer_fault, write_peer_losses};
+use report_writing::WriteLines;
 use std::alloc::Global;
-use std::io::{self, Write};
+use std::io;
 use std::net::SocketAddr;
 
 /// Records the session of a connection, whose number is this, to its end or first fault, finishes its last
-/// file, and tells its lines. If there is no memory for its files, that is its fault.
+/// file, and writes its lines. If there is no memory for its files, that is its fault.
 pub fn record_connection<
     S: Source + Drop,
     F: RecordingFiles,
     C: PeriodClock + Drop,
     P: SessionPlace<F, C>,
-    E: Write + Drop,
->(
-    alloc: Global,
-    connection: Connection<S>,
-    number: u64,
-    place: &P,
-    log: &mut Log<E>,
-) -> io::Result<()>
-    ensures { IsServed S.seen F.seen C.asked F.finishes (P.makes place.now) E.contents
-        connection.source connection.peer number log.old log.new result }
+    W: WriteLines,
+>(alloc: Global, connection: Connection<S>, number: u64, place: &P, out: &mut W) -> io::Result<()>
+    ensures { IsServed S.seen F.seen C.asked F.finishes (P.makes place.now) connection number
+        (Tells W.contents W.failed out.old out.new result) }
 {
     let Connection { mut source, peer } = connection;
     match place.session(alloc, peer, number) {
-        Ok(recording) => record_source(alloc, &mut source, recording, peer, log),
+        Ok(recording) => record_source(alloc, &mut source, recording, peer, out),
         Err(_) => {
             let fault = RecordFault::Message(MessageFault::OutOfMemory);
-            tell_fault(peer, fault, log)
+            write_fault(peer, fault, out)
         }
     }
 }
 
-// Records the session of a source, finishes its last file, and tells its lines.
-fn record_source<S: Source, F: RecordingFiles, C: PeriodClock + Drop, E: Write + Drop>(
+// Records the session of a source, finishes its last file, and writes its lines.
+fn record_source<S: Source, F: RecordingFiles, C: PeriodClock + Drop, W: WriteLines>(
     alloc: Global,
     source: &mut S,
     recording: Recording<F, C>,
     peer: SocketAddr,
-    log: &mut Log<E>,
+    out: &mut W,
 ) -> io::Result<()>
     requires { IsEmpty (F.seen recording.files).contents }
-    ensures { IsRecorded S.seen F.seen C.asked F.finishes E.contents source.old source.new
-        recording.files recording.clock peer log.old log.new result }
+    ensures { IsRecorded S.seen F.seen C.asked F.finishes source.old source.new recording peer
+        (Tells W.contents W.failed out.old out.new result) }
 {
     let Recording {
         mut files,
@@ -61,91 +55,73 @@ fn record_source<S: Source, F: RecordingFiles, C: PeriodClock + Drop, E: Write +
     } = recording;
     let session = record(alloc, source, &mut files, &mut clock, READ_LIMIT);
     let finished = files.finish(&session.last);
-    tell_session(peer, &session, finished, log)
+    write_session(peer, &session, finished, out)
 }
 
-/// Tells what the sequence numbers of a session that has ended say, and its fault; and that its last file
+/// Writes what the sequence numbers of a session that has ended say, and its fault; and that its last file
 /// could not be finished, if that is not its fault already.
-pub fn tell_session<E: Write + Drop>(
+pub fn write_session<W: WriteLines>(
     peer: SocketAddr,
     session: &RecordedSession,
     finished: Result<(), NotWritten>,
-    log: &mut Log<E>,
+    out: &mut W,
 ) -> io::Result<()>
-    ensures { OnOk result (Appends (E.contents log.old) (E.contents log.new)
-        (session_lines peer session.now finished)) }
+    ensures { Tells W.contents W.failed out.old out.new result
+        (session_lines peer session.now finished) }
 {
-    log.tell_losses(peer, &session.report.report.domains)?;
-    tell_end(peer, session.ended, finished, log)
+    write_peer_losses(peer, &session.report.report.domains, out)?;
+    write_end(peer, session.ended, finished, out)
 }
 
-// Tells why a session ended.
-fn tell_end<E: Write + Drop>(
+// Writes why a session ended.
+fn write_end<W: WriteLines>(
     peer: SocketAddr,
     ended: Result<(), RecordFault>,
     finished: Result<(), NotWritten>,
-    log: &mut Log<E>,
+    out: &mut W,
 ) -> io::Result<()>
-    ensures { OnOk result (Appends (E.contents log.old) (E.contents log.new)
-        (end_lines peer ended finished)) }
+    ensures { Tells W.contents W.failed out.old out.new result (end_lines peer ended finished) }
 {
     match ended {
-        Ok(()) => tell_finished(peer, finished, log),
-        Err(fault) => tell_both(peer, fault, finished, log),
+        Ok(()) => write_finish(peer, finished, out),
+        Err(fault) => {
+            write_fault(peer, fault, out)?;
+            write_after(peer, fault, finished, out)
+        }
     }
 }
 
-// Tells a session's fault, and then that its last file could not be finished.
-fn tell_both<E: Write + Drop>(
+// Writes after a session's fault that its last file could not be finished, if that is not the fault.
+fn write_after<W: WriteLines>(
     peer: SocketAddr,
     fault: RecordFault,
     finished: Result<(), NotWritten>,
-    log: &mut Log<E>,
+    out: &mut W,
 ) -> io::Result<()>
-    ensures { OnOk result (Appends (E.contents log.old) (E.contents log.new)
-        (fault_line peer fault ++ lines_behind peer fault finished)) }
-{
-    tell_fault(peer, fault, log)?;
-    tell_behind(peer, fault, finished, log)
-}
-
-// Tells behind a session's fault that its last file could not be finished, if that is not the fault.
-fn tell_behind<E: Write + Drop>(
-    peer: SocketAddr,
-    fault: RecordFault,
-    finished: Result<(), NotWritten>,
-    log: &mut Log<E>,
-) -> io::Result<()>
-    ensures { OnOk result (Appends (E.contents log.old) (E.contents log.new)
-        (lines_behind peer fault finished)) }
+    ensures { Tells W.contents W.failed out.old out.new result (lines_after peer fault finished) }
 {
     match fault {
         RecordFault::NotWritten => Ok(()),
-        _ => tell_finished(peer, finished, log),
+        _ => write_finish(peer, finished, out),
     }
 }
 
-fn tell_finished<E: Write + Drop>(
+// Writes that the last file could not be finished, if that is so.
+fn write_finish<W: WriteLines>(
     peer: SocketAddr,
     finished: Result<(), NotWritten>,
-    log: &mut Log<E>,
+    out: &mut W,
 ) -> io::Result<()>
-    ensures { OnOk result (Appends (E.contents log.old) (E.contents log.new)
-        (finish_lines peer finished)) }
+    ensures { Tells W.contents W.failed out.old out.new result (finish_lines peer finished) }
 {
     match finished {
         Ok(()) => Ok(()),
-        Err(_) => tell_fault(peer, RecordFault::NotWritten, log),
+        Err(_) => write_fault(peer, RecordFault::NotWritten, out),
     }
 }
 
-fn tell_fault<E: Write + Drop>(
-    peer: SocketAddr,
-    fault: RecordFault,
-    log: &mut Log<E>,
-) -> io::Result<()>
-    ensures { OnOk result (Appends (E.contents log.old) (E.contents log.new)
-        (fault_line peer fault)) }
+fn write_fault<W: WriteLines>(peer: SocketAddr, fault: RecordFault, out: &mut W) -> io::Result<()>
+    ensures { Tells W.contents W.failed out.old out.new result (fault_line peer fault) }
 {
-    log.tell_fault(peer, fault.number(), fault.name())
+    write_peer_fault(peer, fault.number(), fault.name(), out)
 }

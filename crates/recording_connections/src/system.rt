@@ -1,28 +1,26 @@
 //! Recording in a folder of the system.
 
 ghost use Rattle.std.specs.Prelude.{◌≡◌, ⊤};
+ghost use Rattle.std.specs.Int.NonZero.{non_zero_u64_get};
 
 use crate::connection::PatientListener;
 use crate::place::{Recording, RecordingFiles, SessionPlace};
-use crate::running::record_connections;
-use crate::shared_counts::SharedCounts;
-use network_prefixes::PeerFilter;
+use crate::recorder_run::RecorderRun;
+use crate::running::{ConnectionRecorder, record_connections};
 use recording_files::{FileReport, NotWritten};
 use recording_folder::{
     FileFinisher, Folder, FolderFault, FolderFinisher, SessionFiles, SystemPeriods, SystemPlace,
     SystemSession, open_folder, recover,
 };
-use recording_lines::Log;
+use recording_lines::WholeLines;
 use report_writing::Status;
 use std::alloc::{AllocError, Global};
 use std::fs::{File, Files};
 use std::io::Write;
 use std::net::{SocketAddr, TcpListener};
-use std::num::NonZeroU64;
 use std::rt::Clock;
-use std::sync::{Mutex, Wait};
+use std::sync::Wait;
 use std::thread::Threads;
-use std::time::Duration;
 
 impl<'a, R: Files, K: FileFinisher<R::File>> RecordingFiles for SessionFiles<'a, R, K> {
     ghost finishes = { λ _ _ _. ⊤ };
@@ -33,19 +31,19 @@ impl<'a, R: Files, K: FileFinisher<R::File>> RecordingFiles for SessionFiles<'a,
 }
 
 /// The files of a session, each of which is finished at once, and told.
-type LoggedFiles<'a, R, E> = SessionFiles<'a, R, FolderFinisher<'a, R, Log<E>>>;
+type ConnectionFiles<'a, R, E> = SessionFiles<'a, R, FolderFinisher<'a, R, WholeLines<E>>>;
 
 /// Makes the files of sessions in a folder; each that is finished is told.
 #[derive(Drop)]
-pub struct LoggedPlace<'a, R: Files + Clock, E: Write + Copy + Drop> {
+pub struct ConnectionFolder<'a, R: Files + Clock, E: Write + Copy + Drop> {
     place: SystemPlace<'a, R>,
     err: E,
 }
 
 impl<'a, R: Files + Clock, E: Write + Copy + Drop> SessionPlace<
-    LoggedFiles<'a, R, E>,
+    ConnectionFiles<'a, R, E>,
     SystemPeriods<'a, R>,
-> for LoggedPlace<'a, R, E> {
+> for ConnectionFolder<'a, R, E> {
     ghost makes = { λ _ _ _ _ _. ⊤ };
 
     fn session(
@@ -53,9 +51,9 @@ impl<'a, R: Files + Clock, E: Write + Copy + Drop> SessionPlace<
         alloc: Global,
         peer: SocketAddr,
         number: u64,
-    ) -> Result<Recording<LoggedFiles<'a, R, E>, SystemPeriods<'a, R>>, AllocError> {
-        let log = Log::new(self.err);
-        match self.place.session(alloc, peer, number, log) {
+    ) -> Result<Recording<ConnectionFiles<'a, R, E>, SystemPeriods<'a, R>>, AllocError> {
+        let out = WholeLines::new(self.err);
+        match self.place.session(alloc, peer, number, out) {
             Ok(SystemSession { files, periods }) => Ok(Recording {
                 files,
                 clock: periods,
@@ -63,19 +61,6 @@ impl<'a, R: Files + Clock, E: Write + Copy + Drop> SessionPlace<
             Err(error) => Err(error),
         }
     }
-}
-
-/// What is recorded, and how.
-#[derive(Drop)]
-pub struct RecordOrder {
-    /// How long the period of a file is, in seconds.
-    pub every: NonZeroU64,
-    /// How many sessions are recorded at once.
-    pub sessions: usize,
-    /// How long a connection may send nothing.
-    pub idle: Option<Duration>,
-    /// Which peers may send.
-    pub filter: PeerFilter,
 }
 
 /// Opens a folder of recordings, and finishes what an earlier run left there, with a line in `err` for each
@@ -87,43 +72,49 @@ pub fn open_recordings<E: Write + Drop, H: Files<File = File> + Alloc<A = Global
     err: E,
 ) -> Result<Folder, FolderFault> {
     let folder = open_folder(rt, alloc, path)?;
-    match recover(rt, &folder, &mut Log::new(err)) {
+    match recover(rt, &folder, &mut WholeLines::new(err)) {
         Ok(()) => Ok(folder),
         Err(error) => Err(FolderFault::NotHad(error)),
     }
 }
 
-/// Records in a folder what comes over connections, for ever. Sessions are numbered by the shared counts. It ends only
-/// if no thread can be started.
+/// Records in the folder of a run what comes over connections, for ever. Sessions are numbered by the shared counts. It
+/// ends only if no thread can be started.
 pub fn run_record<E: Write + Copy + Send + Sync + Drop, R: Clock + Threads + Wait + Sync>(
-    threads: &R,
-    rt: &HostRuntime,
-    alloc: Global,
+    run: RecorderRun<R>,
     listener: TcpListener,
-    folder: &Folder,
-    order: &RecordOrder,
-    shared: &Mutex<SharedCounts>,
     err: E,
 ) -> Status
     ensures { result ≡ Status.Failed }
 {
-    let listener = PatientListener {
-        listener,
-        clock: rt,
-        idle: order.idle,
-    };
-    let place = LoggedPlace {
-        place: SystemPlace::new(rt, folder, order.every.get()),
-        err,
-    };
-    record_connections(
-        threads,
-        alloc,
-        &listener,
-        &place,
-        &order.filter,
-        order.sessions,
-        shared,
-        err,
-    )
+    let recorder = recorder_of(run, listener, err);
+    record_connections(run.threads, &recorder, err)
+}
+
+// What records connections in a run, as its order says.
+fn recorder_of<'a, E: Write + Copy + Drop, R>(
+    run: RecorderRun<'a, R>,
+    listener: TcpListener,
+    err: E,
+) -> ConnectionRecorder<'a, PatientListener<'a, HostRuntime>, ConnectionFolder<'a, HostRuntime, E>>
+    ensures idle { result.listener.idle ≡ run.entry.order.now.idle }
+    ensures every { result.place.place.every ≡ non_zero_u64_get run.entry.order.now.every }
+    ensures filter { result.filter.now ≡ run.entry.order.now.filter }
+    ensures sessions { result.sessions ≡ run.entry.order.now.sessions }
+{
+    ConnectionRecorder {
+        alloc: run.alloc,
+        listener: PatientListener {
+            listener,
+            clock: run.rt,
+            idle: run.order.idle,
+        },
+        place: ConnectionFolder {
+            place: SystemPlace::new(run.rt, run.folder, run.order.every.get()),
+            err,
+        },
+        filter: &run.order.filter,
+        sessions: run.order.sessions,
+        shared: run.shared,
+    }
 }

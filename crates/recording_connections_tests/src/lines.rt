@@ -1,7 +1,10 @@
 //! The lines that are told, as the program's manual has them.
 
 use recording_files::{FileReport, Recovered};
-use recording_lines::Log;
+use recording_lines::{
+    WholeLines, write_finished, write_not_accepted, write_not_finished, write_outcome,
+    write_peer_fault, write_refused, write_threads,
+};
 use std::alloc::{AllocError, Global};
 use std::io;
 use std::net::{IpAddr, Ipv4Addr, SocketAddr};
@@ -36,18 +39,18 @@ fn peer() -> SocketAddr {
 }
 
 // Tells a line of each kind.
-fn tell_all(log: &mut Log<&mut FailingWriter>) -> io::Result<()> {
-    log.tell_finished("a", &REPORT)?;
+fn tell_all(out: &mut WholeLines<&mut FailingWriter>) -> io::Result<()> {
+    write_finished("a", &REPORT, out)?;
     let unaccounted = FileReport {
         unaccounted: 4,
         ..REPORT
     };
-    log.tell_finished("a", &unaccounted)?;
-    log.tell_not_finished("a")?;
-    log.tell_fault(peer(), 15, "ReadFailed")?;
-    log.tell_refused(7, peer())?;
-    log.tell_not_accepted(12)?;
-    log.tell_threads(3, 64)?;
+    write_finished("a", &unaccounted, out)?;
+    write_not_finished("a", out)?;
+    write_peer_fault(peer(), 15, "ReadFailed", out)?;
+    write_refused(7, peer(), out)?;
+    write_not_accepted(12, out)?;
+    write_threads(3, 64, out)?;
     for outcome in [
         Recovered::Whole,
         Recovered::CutOff(5),
@@ -55,7 +58,7 @@ fn tell_all(log: &mut Log<&mut FailingWriter>) -> io::Result<()> {
         Recovered::Removed(5),
         Recovered::Stayed,
     ] {
-        log.tell_recovered("a", outcome)?;
+        write_outcome("a", outcome, out)?;
     }
     Ok(())
 }
@@ -74,13 +77,13 @@ fn first_lines(alloc: Global, text: &str, count: u64) -> Result<String, AllocErr
     Ok(lines)
 }
 
-// Each line is one write. Where one fails that is answered, and nothing is told behind it.
+// Each line is one write. Where one fails that is answered, and nothing is written after it.
 #[test]
 fn each_line_is_one_write(rt: HostRuntime) -> Result<(), Fail> {
     let alloc: Global = rt.alloc();
     for calls in 0..13 {
         let mut out = FailingWriter::new(alloc, 1000, calls);
-        let told = tell_all(&mut Log::new(&mut out));
+        let told = tell_all(&mut WholeLines::new(&mut out));
         assert_eq!(rt; told.is_ok(), calls == 12);
         let wanted = first_lines(alloc, LINES, calls)?;
         assert!(rt; out.taken.as_slice() == wanted.as_bytes(), "{calls}");
@@ -89,7 +92,7 @@ fn each_line_is_one_write(rt: HostRuntime) -> Result<(), Fail> {
 }
 
 // Tells the longest lines: of the longest path that the system takes, and of one that it lists.
-fn tell_longest(alloc: Global, log: &mut Log<&mut FailingWriter>) -> io::Result<()> {
+fn tell_longest(alloc: Global, out: &mut WholeLines<&mut FailingWriter>) -> io::Result<()> {
     let most = FileReport {
         messages: u64::MAX,
         records: u64::MAX,
@@ -98,8 +101,8 @@ fn tell_longest(alloc: Global, log: &mut Log<&mut FailingWriter>) -> io::Result<
         unknown_sets: u64::MAX,
         unaccounted: u64::MAX,
     };
-    log.tell_finished("a".repeat(alloc, 4095)?.as_str(), &most)?;
-    log.tell_recovered("a".repeat(alloc, 4351)?.as_str(), Recovered::Stayed)
+    write_finished("a".repeat(alloc, 4095)?.as_str(), &most, out)?;
+    write_outcome("a".repeat(alloc, 4351)?.as_str(), Recovered::Stayed, out)
 }
 
 // There is room for them, and they are told whole.
@@ -107,7 +110,7 @@ fn tell_longest(alloc: Global, log: &mut Log<&mut FailingWriter>) -> io::Result<
 fn longest_lines(rt: HostRuntime) -> Result<(), Fail> {
     let alloc: Global = rt.alloc();
     let mut out = FailingWriter::new(alloc, 10_000, 2);
-    tell_longest(alloc, &mut Log::new(&mut out))?;
+    tell_longest(alloc, &mut WholeLines::new(&mut out))?;
     assert_eq!(rt; out.taken.len(), 4095 + 199 + 4351 + 26);
     Ok(())
 }

@@ -3,8 +3,9 @@
 use super::places::{NoConnections, SmallPlace};
 use ipfix_session::ScriptSource;
 use network_prefixes::PeerFilter;
-use recording_connections::{Connection, SharedCounts, record_connection, record_connections};
-use recording_lines::Log;
+use recording_connections::{
+    Connection, ConnectionRecorder, SharedCounts, record_connection, record_connections,
+};
 use report_writing::Status;
 use std::alloc::Global;
 use std::io;
@@ -39,8 +40,7 @@ fn told_of(
         peer: SocketAddr::new(IpAddr::V4(Ipv4Addr::new(192, 0, 2, 1)), 4739),
     };
     let mut out = FailingWriter::new(alloc, 1000, 1000);
-    let told = record_connection(alloc, connection, 1, &place, &mut Log::new(&mut out));
-    told?;
+    record_connection(alloc, connection, 1, &place, &mut out)?;
     Ok(out.taken)
 }
 
@@ -106,16 +106,15 @@ fn no_threads(rt: HostRuntime) -> Result<(), Fail> {
     let filter = PeerFilter {
         prefixes: Vec::new(alloc),
     };
-    let status = record_connections(
-        &rt,
+    let recorder = ConnectionRecorder {
         alloc,
-        &NoConnections,
-        &PLACE,
-        &filter,
-        0,
-        &Mutex::new(SharedCounts::new()),
-        rt.stderr(),
-    );
+        listener: NoConnections,
+        place: PLACE,
+        filter: &filter,
+        sessions: 0,
+        shared: &Mutex::new(SharedCounts::new()),
+    };
+    let status = record_connections(&rt, &recorder, rt.stderr());
     assert_eq!(rt; status, Status::Failed);
     Ok(())
 }

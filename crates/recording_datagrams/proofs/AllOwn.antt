@@ -122,18 +122,18 @@ module _ {F : Type 0} (seen : F → FilesView) (peer : SocketAddr) where
     sent_all own false before after shared then from m now lines s t stays its =
         all_same own _ before.entries after.entries (λ p. sym (append-nil (own p))) (ap (λ (k : LruCache SocketAddr (PeerState F)). k.entries) t.1) s
 
-module _ {F P E : Type 0} (seen : F → FilesView) (finishes : F → FileReport → Result (Unit {0}) NotWritten → Type 0) (asked : P → ClockView) (peer : SocketAddr) where
-  taken_all : (own : SocketAddr → List (List ℕ)) (given : Result Arrival NoDatagram) (now : ℕ) (old new : DatagramTaker F P E) (lines : List ℕ) → HasAll seen peer own old.peers.kept.entries → TakesGiven seen finishes asked given now old new lines
+module _ {F P W : Type 0} (seen : F → FilesView) (finishes : F → FileReport → Result (Unit {0}) NotWritten → Type 0) (asked : P → ClockView) (peer : SocketAddr) where
+  taken_all : (own : SocketAddr → List (List ℕ)) (given : Result Arrival NoDatagram) (now : ℕ) (old new : DatagramTaker F P W) (lines : List ℕ) → HasAll seen peer own old.peers.kept.entries → TakesGiven seen finishes asked given now old new lines
       → (IsKept peer old → IsKept peer new) → (own_in peer given ≢ [] → IsKept peer new) → HasAll seen peer (own_behind own given) new.peers.kept.entries
   taken_all own (Ok a) now old new lines s t stays its = sent_all seen peer finishes own a.may_send old.peers.kept new.peers.kept old.unserved new.unserved a.peer a.octets now lines s t.arrives.taken stays its
-  taken_all own (Err Tick) now old new lines s t stays its = all_same seen peer own _ old.peers.kept.entries new.peers.kept.entries (λ p. sym (append-nil (own p))) (ap (λ (r : DatagramTaker F P E). r.peers.kept.entries) t.0) s
-  taken_all own (Err Failed) now old new lines s t stays its = all_same seen peer own _ old.peers.kept.entries new.peers.kept.entries (λ p. sym (append-nil (own p))) (ap (λ (r : DatagramTaker F P E). r.peers.kept.entries) t.0) s
+  taken_all own (Err Tick) now old new lines s t stays its = all_same seen peer own _ old.peers.kept.entries new.peers.kept.entries (λ p. sym (append-nil (own p))) (ap (λ (r : DatagramTaker F P W). r.peers.kept.entries) t.0) s
+  taken_all own (Err Failed) now old new lines s t stays its = all_same seen peer own _ old.peers.kept.entries new.peers.kept.entries (λ p. sym (append-nil (own p))) (ap (λ (r : DatagramTaker F P W). r.peers.kept.entries) t.0) s
 
   -- those that are silent stand behind the others
-  second_all : (own : SocketAddr → List (List ℕ)) (now : ℕ) (old new : DatagramTaker F P E) (lines : List ℕ) → HasAll seen peer own old.peers.kept.entries → KeepsToSeconds seen finishes asked now old new lines → (IsKept peer old → IsKept peer new)
+  second_all : (own : SocketAddr → List (List ℕ)) (now : ℕ) (old new : DatagramTaker F P W) (lines : List ℕ) → HasAll seen peer own old.peers.kept.entries → KeepsToSeconds seen finishes asked now old new lines → (IsKept peer old → IsKept peer new)
       → HasAll seen peer own new.peers.kept.entries
   second_all own now old new lines s g stays = elim g [
-    | inl same ↦ all_same seen peer own own old.peers.kept.entries new.peers.kept.entries (λ p. refl) (ap (λ (r : DatagramTaker F P E). r.peers.kept.entries) same.1) s
+    | inl same ↦ all_same seen peer own own old.peers.kept.entries new.peers.kept.entries (λ p. refl) (ap (λ (r : DatagramTaker F P W). r.peers.kept.entries) same.1) s
     | inr ends ↦ (
         let turned = behind_turns seen own finishes false old.peers.kept.entries ends.1.between s.cs ends.1.told s.stand s.apart s.last ends.1.turns in
         let front = front_of seen own new.peers.kept.entries ends.1.silent.gone turned.0 (subst (λ (l : List (SocketAddr × PeerState F)). StandFor seen l turned.0) ends.1.silent.those turned.1) turned.2.apart turned.2.last in
@@ -142,21 +142,21 @@ module _ {F P E : Type 0} (seen : F → FilesView) (finishes : F → FileReport 
         )
   ]
 
-  round_all : (own : SocketAddr → List (List ℕ)) (r : Round) (old new : DatagramTaker F P E) → HasAll seen peer own old.peers.kept.entries → (is : IsRound seen finishes asked r old new) → StaysInRound seen finishes asked peer r old new is
+  round_all : (own : SocketAddr → List (List ℕ)) (r : Round) (old new : DatagramTaker F P W) → HasAll seen peer own old.peers.kept.entries → (is : IsRound seen finishes asked r old new) → StaysInRound seen finishes asked peer r old new is
       → HasAll seen peer (own_behind own r.given) new.peers.kept.entries
   round_all own r old new s is on =
       let kept = kept_all seen peer finishes own r.is_over old.peers.kept.entries is.kept.peers.kept.entries is.kept_lines s is.keeps.turns on.period in
       let taken = taken_all own r.given r.second is.kept is.taken is.taken_lines kept is.takes on.datagram on.own in
       second_all (own_behind own r.given) r.second is.taken new is.last_lines taken is.goes_on on.second
 
-  rounds_all : (own : SocketAddr → List (List ℕ)) (rs : List Round) (old new : DatagramTaker F P E) → HasAll seen peer own old.peers.kept.entries → (are : AreRounds seen finishes asked rs old new) → StaysThrough seen finishes asked peer rs old new are
+  rounds_all : (own : SocketAddr → List (List ℕ)) (rs : List Round) (old new : DatagramTaker F P W) → HasAll seen peer own old.peers.kept.entries → (are : AreRounds seen finishes asked rs old new) → StaysThrough seen finishes asked peer rs old new are
       → HasAll seen peer (λ p. own p ++ own_of p rs) new.peers.kept.entries
-  rounds_all own [] old new s are on = all_same seen peer own _ old.peers.kept.entries new.peers.kept.entries (λ p. sym (append-nil (own p))) (ap (λ (r : DatagramTaker F P E). r.peers.kept.entries) are) s
+  rounds_all own [] old new s are on = all_same seen peer own _ old.peers.kept.entries new.peers.kept.entries (λ p. sym (append-nil (own p))) (ap (λ (r : DatagramTaker F P W). r.peers.kept.entries) are) s
   rounds_all own (r ∷ rs) old new s are on =
       let last = rounds_all (own_behind own r.given) rs are.0 new (round_all own r old are.0 s are.1 on.0) are.2 on.1 in
       all_same seen peer _ _ new.peers.kept.entries new.peers.kept.entries (λ p. append_assoc (own p) (own_in p r.given) (own_of p rs)) refl last
 
-  pub stands_for_all : (rs : List Round) (old new : DatagramTaker F P E) (are : AreRounds seen finishes asked rs old new) → old.peers.kept.entries ≡ [] → StaysThrough seen finishes asked peer rs old new are
+  pub stands_for_all : (rs : List Round) (old new : DatagramTaker F P W) (are : AreRounds seen finishes asked rs old new) → old.peers.kept.entries ≡ [] → StaysThrough seen finishes asked peer rs old new are
       → StandsForAll seen (of_peer peer new.peers.kept.entries) (own_of peer rs)
   stands_for_all rs old new are none on =
       let first : HasAll seen peer (λ p. []) old.peers.kept.entries =

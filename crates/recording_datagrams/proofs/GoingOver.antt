@@ -10,7 +10,7 @@ use Rattle.recording_files.specs.declared.record_fault.RecordFault.{RecordFault}
 use Rattle.recording_peers.specs.Kept.{TakesTurn}
 use Rattle.recording_peers.specs.Steps.{ended_by, first_by}
 use Rattle.recording_peers.specs.declared.peer_state.PeerState.{PeerState}
-use Rattle.recording_datagrams.specs.Ending.{AreTold}
+use Rattle.recording_datagrams.specs.Ending.{TellsSome}
 use Rattle.recording_datagrams.specs.Turns.{IsTurnTold, IsTurn, HadTurn, HadTurns, EndsOneSilent, AreSilent, EndsSilent}
 
 module _ {F : Type 0} (seen : F → FilesView) (finishes : F → FileReport → Result (Unit {0}) NotWritten → Type 0) (is_over : Bool) where
@@ -72,10 +72,10 @@ module _ {F : Type 0} (seen : F → FilesView) (finishes : F → FileReport → 
       }
 
   -- it wasn't empty, so one had its turn
-  pub gone_later : {E A : Type 0} {contents : E → Option (List ℕ)} {old new : E} {answer : Result (Unit {0}) A} {after : List (SocketAddr × PeerState F)}
+  pub gone_later : {W A : Type 0} {contents : W → Option (List ℕ)} {has_failed : W → Type 0} {old new : W} {answer : Result (Unit {0}) A} {after : List (SocketAddr × PeerState F)}
       (es now : List (SocketAddr × PeerState F)) (count : ℕ) (lines : List ℕ) → GoneOver es now count lines → count < length es
-      → (now ≡ []) ⊎ AreTold contents (IsTurn seen finishes is_over now after) old new answer
-      → (t : AreTold contents (IsTurn seen finishes is_over now after) old new answer) × GoneOver es after (count + 1) (lines ++ t.lines)
+      → (now ≡ []) ⊎ TellsSome contents has_failed old new answer (IsTurn seen finishes is_over now after)
+      → (t : TellsSome contents has_failed old new answer (IsTurn seen finishes is_over now after)) × GoneOver es after (count + 1) (lines ++ t.lines)
   gone_later {after = after} es now count lines g h t = elim t [
     | inl none ↦ (
         let long : length es ≡ length g.front + length g.behind = ap length g.those ∙ length-append g.front g.behind in

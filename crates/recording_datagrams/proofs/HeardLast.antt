@@ -107,52 +107,52 @@ module _ {F : Type 0} (seen : F → FilesView) where
     takes_if true before after shared then from m now lines o t = records t.1.became t.1.gone before.cap now before.entries after.entries from m o t.1.records
     takes_if false before after shared then from m now lines o t = subst (λ (k : LruCache SocketAddr (PeerState F)). IsInOrder now k.entries) (sym t.1) o
 
-module _ {F P E : Type 0} (seen : F → FilesView) (finishes : F → FileReport → Result (Unit {0}) NotWritten → Type 0) (asked : P → ClockView) where
-  takes_given : (given : Result Arrival NoDatagram) (now : ℕ) (old new : DatagramTaker F P E) (lines : List ℕ) → IsInOrder now old.peers.kept.entries → TakesGiven seen finishes asked given now old new lines → IsInOrder now new.peers.kept.entries
+module _ {F P W : Type 0} (seen : F → FilesView) (finishes : F → FileReport → Result (Unit {0}) NotWritten → Type 0) (asked : P → ClockView) where
+  takes_given : (given : Result Arrival NoDatagram) (now : ℕ) (old new : DatagramTaker F P W) (lines : List ℕ) → IsInOrder now old.peers.kept.entries → TakesGiven seen finishes asked given now old new lines → IsInOrder now new.peers.kept.entries
   takes_given (Ok a) now old new lines o t = takes_if seen finishes a.may_send old.peers.kept new.peers.kept old.unserved new.unserved a.peer a.octets now lines o t.arrives.taken
-  takes_given (Err Tick) now old new lines o t = subst (λ (r : DatagramTaker F P E). IsInOrder now r.peers.kept.entries) (sym t.0) o
-  takes_given (Err Failed) now old new lines o t = subst (λ (r : DatagramTaker F P E). IsInOrder now r.peers.kept.entries) (sym t.0) o
+  takes_given (Err Tick) now old new lines o t = subst (λ (r : DatagramTaker F P W). IsInOrder now r.peers.kept.entries) (sym t.0) o
+  takes_given (Err Failed) now old new lines o t = subst (λ (r : DatagramTaker F P W). IsInOrder now r.peers.kept.entries) (sym t.0) o
 
-  same_second : (given : Result Arrival NoDatagram) (now : ℕ) (old new : DatagramTaker F P E) (lines : List ℕ) → TakesGiven seen finishes asked given now old new lines → new.second ≡ old.second
-  same_second (Ok a) now old new lines t = ap (λ (r : DatagramTaker F P E). r.second) t.others
-  same_second (Err Tick) now old new lines t = ap (λ (r : DatagramTaker F P E). r.second) t.0
-  same_second (Err Failed) now old new lines t = ap (λ (r : DatagramTaker F P E). r.second) t.0
+  same_second : (given : Result Arrival NoDatagram) (now : ℕ) (old new : DatagramTaker F P W) (lines : List ℕ) → TakesGiven seen finishes asked given now old new lines → new.second ≡ old.second
+  same_second (Ok a) now old new lines t = ap (λ (r : DatagramTaker F P W). r.second) t.others
+  same_second (Err Tick) now old new lines t = ap (λ (r : DatagramTaker F P W). r.second) t.0
+  same_second (Err Failed) now old new lines t = ap (λ (r : DatagramTaker F P W). r.second) t.0
 
-  same_idle : (given : Result Arrival NoDatagram) (now : ℕ) (old new : DatagramTaker F P E) (lines : List ℕ) → TakesGiven seen finishes asked given now old new lines → new.idle ≡ old.idle
-  same_idle (Ok a) now old new lines t = ap (λ (r : DatagramTaker F P E). r.idle) t.others
-  same_idle (Err Tick) now old new lines t = ap (λ (r : DatagramTaker F P E). r.idle) t.0
-  same_idle (Err Failed) now old new lines t = ap (λ (r : DatagramTaker F P E). r.idle) t.0
+  same_idle : (given : Result Arrival NoDatagram) (now : ℕ) (old new : DatagramTaker F P W) (lines : List ℕ) → TakesGiven seen finishes asked given now old new lines → new.idle ≡ old.idle
+  same_idle (Ok a) now old new lines t = ap (λ (r : DatagramTaker F P W). r.idle) t.others
+  same_idle (Err Tick) now old new lines t = ap (λ (r : DatagramTaker F P W). r.idle) t.0
+  same_idle (Err Failed) now old new lines t = ap (λ (r : DatagramTaker F P W). r.idle) t.0
 
-  ends_in_order : (now : ℕ) (old new : DatagramTaker F P E) (lines : List ℕ) → IsInOrder now old.peers.kept.entries → TellsAndEnds seen finishes asked now old new lines → IsInOrder now new.peers.kept.entries
+  ends_in_order : (now : ℕ) (old new : DatagramTaker F P W) (lines : List ℕ) → IsInOrder now old.peers.kept.entries → TellsAndEnds seen finishes asked now old new lines → IsInOrder now new.peers.kept.entries
   ends_in_order now old new lines o t =
       let turned = had_turns seen finishes false now old.peers.kept.entries t.between t.told o t.turns in
       front now new.peers.kept.entries t.silent.gone (subst (λ (l : List (SocketAddr × PeerState F)). IsInOrder now l) t.silent.those turned)
 
-  before_end : (r : Round) (old new : DatagramTaker F P E) → IsInOrder old.second old.peers.kept.entries → (is : IsRound seen finishes asked r old new) → IsInOrder r.second is.taken.peers.kept.entries
+  before_end : (r : Round) (old new : DatagramTaker F P W) → IsInOrder old.second old.peers.kept.entries → (is : IsRound seen finishes asked r old new) → IsInOrder r.second is.taken.peers.kept.entries
   before_end r old new o is =
       let kept = had_turns_if seen finishes r.is_over r.second old.peers.kept.entries is.kept.peers.kept.entries is.kept_lines (later old.second r.second old.peers.kept.entries is.forward o) is.keeps.turns in
       takes_given r.given r.second is.kept is.taken is.taken_lines kept is.takes
 
-  at_second : (r : Round) (old new : DatagramTaker F P E) → (is : IsRound seen finishes asked r old new) → is.taken.second ≡ old.second
-  at_second r old new is = same_second r.given r.second is.kept is.taken is.taken_lines is.takes ∙ ap (λ (x : DatagramTaker F P E). x.second) is.keeps.others
+  at_second : (r : Round) (old new : DatagramTaker F P W) → (is : IsRound seen finishes asked r old new) → is.taken.second ≡ old.second
+  at_second r old new is = same_second r.given r.second is.kept is.taken is.taken_lines is.takes ∙ ap (λ (x : DatagramTaker F P W). x.second) is.keeps.others
 
-  round_in_order : (r : Round) (old new : DatagramTaker F P E) → IsInOrder old.second old.peers.kept.entries → IsRound seen finishes asked r old new → IsInOrder new.second new.peers.kept.entries
+  round_in_order : (r : Round) (old new : DatagramTaker F P W) → IsInOrder old.second old.peers.kept.entries → IsRound seen finishes asked r old new → IsInOrder new.second new.peers.kept.entries
   round_in_order r old new o is = elim is.goes_on [
-    | inl same ↦ subst (λ (x : DatagramTaker F P E). IsInOrder x.second x.peers.kept.entries) (sym same.1) (later r.second is.taken.second is.taken.peers.kept.entries same.0 (before_end r old new o is))
-    | inr ends ↦ subst (λ n. IsInOrder n new.peers.kept.entries) (sym (ap (λ (x : DatagramTaker F P E). x.second) ends.1.others)) (ends_in_order r.second is.taken new is.last_lines (before_end r old new o is) ends.1)
+    | inl same ↦ subst (λ (x : DatagramTaker F P W). IsInOrder x.second x.peers.kept.entries) (sym same.1) (later r.second is.taken.second is.taken.peers.kept.entries same.0 (before_end r old new o is))
+    | inr ends ↦ subst (λ n. IsInOrder n new.peers.kept.entries) (sym (ap (λ (x : DatagramTaker F P W). x.second) ends.1.others)) (ends_in_order r.second is.taken new is.last_lines (before_end r old new o is) ends.1)
   ]
 
-  rounds_in_order : (rs : List Round) (old new : DatagramTaker F P E) → IsInOrder old.second old.peers.kept.entries → AreRounds seen finishes asked rs old new → IsInOrder new.second new.peers.kept.entries
-  rounds_in_order [] old new o are = subst (λ (x : DatagramTaker F P E). IsInOrder x.second x.peers.kept.entries) (sym are) o
+  rounds_in_order : (rs : List Round) (old new : DatagramTaker F P W) → IsInOrder old.second old.peers.kept.entries → AreRounds seen finishes asked rs old new → IsInOrder new.second new.peers.kept.entries
+  rounds_in_order [] old new o are = subst (λ (x : DatagramTaker F P W). IsInOrder x.second x.peers.kept.entries) (sym are) o
   rounds_in_order (r ∷ rs) old new o are = rounds_in_order rs are.0 new (round_in_order r old are.0 o are.1) are.2
 
-  pub nobody_silent : (rs : List Round) (r : Round) (old mid new : DatagramTaker F P E) → old.peers.kept.entries ≡ [] → AreRounds seen finishes asked rs old mid → IsRound seen finishes asked r mid new → mid.second < r.second
+  pub nobody_silent : (rs : List Round) (r : Round) (old mid new : DatagramTaker F P W) → old.peers.kept.entries ≡ [] → AreRounds seen finishes asked rs old mid → IsRound seen finishes asked r mid new → mid.second < r.second
       → AreHeard (r.second - mid.idle) new.peers.kept.entries
   nobody_silent rs r old mid new none are is h =
       let first : IsInOrder old.second old.peers.kept.entries = subst (λ (l : List (SocketAddr × PeerState F)). IsInOrder old.second l) (sym none) tt in
       let o = before_end r mid new (rounds_in_order rs old mid first are) is in
       let at = at_second r mid new is in
-      let idle : is.taken.idle ≡ mid.idle = same_idle r.given r.second is.kept is.taken is.taken_lines is.takes ∙ ap (λ (x : DatagramTaker F P E). x.idle) is.keeps.others in
+      let idle : is.taken.idle ≡ mid.idle = same_idle r.given r.second is.kept is.taken is.taken_lines is.takes ∙ ap (λ (x : DatagramTaker F P W). x.idle) is.keeps.others in
       elim is.goes_on [
         | inl same ↦ let early = same.0 in absurd (omega arith)
         | inr ends ↦ subst (λ n. AreHeard (r.second - n) new.peers.kept.entries) idle

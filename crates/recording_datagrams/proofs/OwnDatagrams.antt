@@ -278,33 +278,33 @@ module _ {F : Type 0} (seen : F → FilesView) (finishes : F → FileReport → 
   sent_stand own false before after shared then from m now lines s t =
       same_stand seen own _ before.entries after.entries (λ peer. sym (append-nil (own peer))) (ap (λ (k : LruCache SocketAddr (PeerState F)). k.entries) t.1) s
 
-module _ {F P E : Type 0} (seen : F → FilesView) (finishes : F → FileReport → Result (Unit {0}) NotWritten → Type 0) (asked : P → ClockView) where
-  taken_stand : (own : SocketAddr → List (List ℕ)) (given : Result Arrival NoDatagram) (now : ℕ) (old new : DatagramTaker F P E) (lines : List ℕ) → Stands seen own old.peers.kept.entries → TakesGiven seen finishes asked given now old new lines
+module _ {F P W : Type 0} (seen : F → FilesView) (finishes : F → FileReport → Result (Unit {0}) NotWritten → Type 0) (asked : P → ClockView) where
+  taken_stand : (own : SocketAddr → List (List ℕ)) (given : Result Arrival NoDatagram) (now : ℕ) (old new : DatagramTaker F P W) (lines : List ℕ) → Stands seen own old.peers.kept.entries → TakesGiven seen finishes asked given now old new lines
       → Stands seen (own_behind own given) new.peers.kept.entries
   taken_stand own (Ok a) now old new lines s t = sent_stand seen finishes own a.may_send old.peers.kept new.peers.kept old.unserved new.unserved a.peer a.octets now lines s t.arrives.taken
-  taken_stand own (Err Tick) now old new lines s t = same_stand seen own _ old.peers.kept.entries new.peers.kept.entries (λ peer. sym (append-nil (own peer))) (ap (λ (r : DatagramTaker F P E). r.peers.kept.entries) t.0) s
-  taken_stand own (Err Failed) now old new lines s t = same_stand seen own _ old.peers.kept.entries new.peers.kept.entries (λ peer. sym (append-nil (own peer))) (ap (λ (r : DatagramTaker F P E). r.peers.kept.entries) t.0) s
+  taken_stand own (Err Tick) now old new lines s t = same_stand seen own _ old.peers.kept.entries new.peers.kept.entries (λ peer. sym (append-nil (own peer))) (ap (λ (r : DatagramTaker F P W). r.peers.kept.entries) t.0) s
+  taken_stand own (Err Failed) now old new lines s t = same_stand seen own _ old.peers.kept.entries new.peers.kept.entries (λ peer. sym (append-nil (own peer))) (ap (λ (r : DatagramTaker F P W). r.peers.kept.entries) t.0) s
 
-  gone_stand : (own : SocketAddr → List (List ℕ)) (now : ℕ) (old new : DatagramTaker F P E) (lines : List ℕ) → Stands seen own old.peers.kept.entries → KeepsToSeconds seen finishes asked now old new lines → Stands seen own new.peers.kept.entries
+  gone_stand : (own : SocketAddr → List (List ℕ)) (now : ℕ) (old new : DatagramTaker F P W) (lines : List ℕ) → Stands seen own old.peers.kept.entries → KeepsToSeconds seen finishes asked now old new lines → Stands seen own new.peers.kept.entries
   gone_stand own now old new lines s g = elim g [
-    | inl same ↦ same_stand seen own own old.peers.kept.entries new.peers.kept.entries (λ peer. refl) (ap (λ (r : DatagramTaker F P E). r.peers.kept.entries) same.1) s
+    | inl same ↦ same_stand seen own own old.peers.kept.entries new.peers.kept.entries (λ peer. refl) (ap (λ (r : DatagramTaker F P W). r.peers.kept.entries) same.1) s
     | inr ends ↦ front_stands seen own ends.1.between new.peers.kept.entries ends.1.silent.gone ends.1.silent.those (turns_stand seen own finishes false old.peers.kept.entries ends.1.between ends.1.told s ends.1.turns)
   ]
 
-  round_stands : (own : SocketAddr → List (List ℕ)) (r : Round) (old new : DatagramTaker F P E) → Stands seen own old.peers.kept.entries → IsRound seen finishes asked r old new → Stands seen (own_behind own r.given) new.peers.kept.entries
+  round_stands : (own : SocketAddr → List (List ℕ)) (r : Round) (old new : DatagramTaker F P W) → Stands seen own old.peers.kept.entries → IsRound seen finishes asked r old new → Stands seen (own_behind own r.given) new.peers.kept.entries
   round_stands own r old new s is =
       let kept = kept_stand seen finishes own r.is_over old.peers.kept.entries is.kept.peers.kept.entries is.kept_lines s is.keeps.turns in
       let taken = taken_stand own r.given r.second is.kept is.taken is.taken_lines kept is.takes in
       gone_stand (own_behind own r.given) r.second is.taken new is.last_lines taken is.goes_on
 
-  rounds_stand : (own : SocketAddr → List (List ℕ)) (rs : List Round) (old new : DatagramTaker F P E) → Stands seen own old.peers.kept.entries → AreRounds seen finishes asked rs old new
+  rounds_stand : (own : SocketAddr → List (List ℕ)) (rs : List Round) (old new : DatagramTaker F P W) → Stands seen own old.peers.kept.entries → AreRounds seen finishes asked rs old new
       → Stands seen (λ peer. own peer ++ own_of peer rs) new.peers.kept.entries
-  rounds_stand own [] old new s are = same_stand seen own _ old.peers.kept.entries new.peers.kept.entries (λ peer. sym (append-nil (own peer))) (ap (λ (r : DatagramTaker F P E). r.peers.kept.entries) are) s
+  rounds_stand own [] old new s are = same_stand seen own _ old.peers.kept.entries new.peers.kept.entries (λ peer. sym (append-nil (own peer))) (ap (λ (r : DatagramTaker F P W). r.peers.kept.entries) are) s
   rounds_stand own (r ∷ rs) old new s are =
       let on = rounds_stand (own_behind own r.given) rs are.0 new (round_stands own r old are.0 s are.1) are.2 in
       same_stand seen _ _ new.peers.kept.entries new.peers.kept.entries (λ peer. append_assoc (own peer) (own_in peer r.given) (own_of peer rs)) refl on
 
-  pub behind_rounds : (rs : List Round) (old new : DatagramTaker F P E) → old.peers.kept.entries ≡ [] → AreRounds seen finishes asked rs old new
+  pub behind_rounds : (rs : List Round) (old new : DatagramTaker F P W) → old.peers.kept.entries ≡ [] → AreRounds seen finishes asked rs old new
       → (cs : PeerDatagrams) × StandFor seen new.peers.kept.entries cs × HaveLast (λ peer. own_of peer rs) cs
   behind_rounds rs old new none are =
       let first : Stands seen (λ peer. []) old.peers.kept.entries = record { cs = []; stand = subst (λ (l : List (SocketAddr × PeerState F)). StandFor seen l []) (sym none) tt; apart = tt; last = tt } in

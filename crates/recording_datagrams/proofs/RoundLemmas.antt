@@ -1,8 +1,7 @@
 -- Rounds one after another.
 use Rattle.std.proofs.Common.{◌≡◌, ℕ, ◌+◌, List, [], ◌∷◌, ◌++◌, Option, Result, Ok, refl, sym, ap, ◌∙◌, subst, arith, length-append, append-nil, append_assoc}
-use Rattle.std.specs.Prelude.{OnOk}
 use Rattle.std.specs.Result.{result_and}
-use Rattle.std.specs.Io.KnownBytes.{Appends}
+use Rattle.report_writing.specs.Writing.{Tells}
 use Rattle.std.proofs.lemmas.Grind.{flat_map-append}
 use Rattle.std.proofs.lemmas.List.{map-append}
 use Rattle.recording_files.specs.Files.{FilesView}
@@ -16,7 +15,7 @@ use Rattle.ipfix_session.specs.Sources.{one_more}
 use Rattle.recording_connections.specs.declared.shared_counts.SharedCounts.{SharedCounts}
 use Rattle.recording_datagrams.specs.Rounds.{Round, one_not_received, answer_in, answers_of, lines_of, IsRound, AreRounds, TakesRound, TakesRounds}
 use Rattle.recording_datagrams.specs.declared.datagram_taker.DatagramTaker.{DatagramTaker}
-use Rattle.recording_datagrams.proofs.Told.{and_told, told_nothing}
+use Rattle.recording_datagrams.proofs.Told.{and_tells, tells_nothing}
 
 -- ---- what the source answered
 
@@ -39,18 +38,18 @@ lines-push rs r = flat_map-append (λ (x : Round). x.lines) rs (r ∷ []) ∙ ap
 
 -- ---- what they did
 
-module _ {F P E : Type 0} (seen : F → FilesView) (finishes : F → FileReport → Result (Unit {0}) NotWritten → Type 0) (asked : P → ClockView) where
-  rounds-push : (rs : List Round) (r : Round) (old mid new : DatagramTaker F P E) → AreRounds seen finishes asked rs old mid → IsRound seen finishes asked r mid new → AreRounds seen finishes asked (rs ++ r ∷ []) old new
-  rounds-push [] r old mid new are is = (new, subst (λ (x : DatagramTaker F P E). IsRound seen finishes asked r x new) are is, refl)
+module _ {F P W : Type 0} (seen : F → FilesView) (finishes : F → FileReport → Result (Unit {0}) NotWritten → Type 0) (asked : P → ClockView) where
+  rounds-push : (rs : List Round) (r : Round) (old mid new : DatagramTaker F P W) → AreRounds seen finishes asked rs old mid → IsRound seen finishes asked r mid new → AreRounds seen finishes asked (rs ++ r ∷ []) old new
+  rounds-push [] r old mid new are is = (new, subst (λ (x : DatagramTaker F P W). IsRound seen finishes asked r x new) are is, refl)
   rounds-push (q ∷ rs) r old mid new are is = (are.0, are.1, rounds-push rs r are.0 mid new are.2 is)
 
-  pub no_rounds : {D A : Type 0} (answered : D → List Answer → Type 0) (contents : E → Option (List ℕ)) (source : D) (old : DatagramTaker F P E) → TakesRounds seen finishes asked {A = A} answered contents 0 source source old old (Ok tt)
-  no_rounds answered contents source old = record { rounds = []; as_many = refl; are = refl; given = gives_none answered source; told = told_nothing (contents old.log) }
+  pub no_rounds : {D A : Type 0} (answered : D → List Answer → Type 0) (contents : W → Option (List ℕ)) (has_failed : W → Type 0) (source : D) (old : DatagramTaker F P W) → TakesRounds seen finishes asked {A = A} answered contents has_failed 0 source source old old (Ok tt)
+  no_rounds answered contents has_failed source old = record { rounds = []; as_many = refl; are = refl; given = gives_none answered source; told = tells_nothing }
 
-  pub one_more_round : {D A : Type 0} (answered : D → List Answer → Type 0) (contents : E → Option (List ℕ)) (count : ℕ) (before between after : D) (old mid new : DatagramTaker F P E) (told answer : Result (Unit {0}) A)
-      → TakesRounds seen finishes asked answered contents count before between old mid told → TakesRound seen finishes asked answered contents between after mid new answer
-      → TakesRounds seen finishes asked answered contents (count + 1) before after old new (result_and told answer)
-  one_more_round answered contents count before between after old mid new told answer rs r =
+  pub one_more_round : {D A : Type 0} (answered : D → List Answer → Type 0) (contents : W → Option (List ℕ)) (has_failed : W → Type 0) (count : ℕ) (before between after : D) (old mid new : DatagramTaker F P W) (told answer : Result (Unit {0}) A)
+      → TakesRounds seen finishes asked answered contents has_failed count before between old mid told → TakesRound seen finishes asked answered contents has_failed between after mid new answer
+      → TakesRounds seen finishes asked answered contents has_failed (count + 1) before after old new (result_and told answer)
+  one_more_round answered contents has_failed count before between after old mid new told answer rs r =
       let many = rs.as_many in
       record {
         rounds = rs.rounds ++ r.round ∷ [];
@@ -58,11 +57,11 @@ module _ {F P E : Type 0} (seen : F → FilesView) (finishes : F → FileReport 
         are = rounds-push rs.rounds r.round old mid new rs.are r.is;
         given = subst (λ (l : List Answer). Gives answered l before after) (sym (answers-push rs.rounds r.round))
             (gives_both answered (answers_of rs.rounds) (answer_in r.round.given ∷ []) before between after rs.given r.given);
-        told = subst (λ (l : List ℕ). OnOk (result_and told answer) (Appends (contents old.log) (contents new.log) l)) (sym (lines-push rs.rounds r.round))
-            (and_told told answer (contents old.log) (contents mid.log) (contents new.log) (lines_of rs.rounds) r.round.lines rs.told r.told);
+        told = subst (λ (l : List ℕ). Tells contents has_failed old.out new.out (result_and told answer) l) (sym (lines-push rs.rounds r.round))
+            (and_tells rs.told r.told);
       }
 
 -- a failure is counted
-pub counted_so : {F P E : Type 0} (old : DatagramTaker F P E) (shared : SharedCounts) → shared.not_accepted ≡ one_more old.unserved.not_accepted → shared.sessions ≡ old.unserved.sessions → shared.refused ≡ old.unserved.refused
+pub counted_so : {F P W : Type 0} (old : DatagramTaker F P W) (shared : SharedCounts) → shared.not_accepted ≡ one_more old.unserved.not_accepted → shared.sessions ≡ old.unserved.sessions → shared.refused ≡ old.unserved.refused
     → (record old { unserved = shared }) ≡ record old { unserved = one_not_received old.unserved }
 counted_so old shared n s r = λ i. record old { unserved = record { sessions = s i; refused = r i; not_accepted = n i } }

@@ -1,20 +1,34 @@
 -- Texts one after another, and none.
-use Rattle.std.proofs.Common.{ℕ, List, [], ◌++◌, Option, Some, None, Result, Ok, Err, sym, append-nil}
-use Rattle.std.specs.Prelude.{OnOk}
+use Rattle.std.proofs.Common.{◌≡◌, ℕ, ◌+◌, ◌<◌, List, [], ◌++◌, length, take, get_or, Option, Result, Ok, Err, sym, ap, subst, ◌∙◌, append-nil}
+use Rattle.std.proofs.KnownBytes.{Appends-nil, Appends-trans}
+use Rattle.std.proofs.lemmas.Grind.{flat_map-append}
+use Rattle.std.proofs.lemmas.List.{take_more}
+use Rattle.std.specs.List.{flat_map}
 use Rattle.std.specs.Result.{result_and}
 use Rattle.std.specs.Io.KnownBytes.{Appends}
-use Rattle.recording_lines.proofs.Told.{both_told}
+use Rattle.report_writing.specs.Writing.{Tells}
 
--- what was told first is answered last
-pub told_back : {T E : Type 0} (r : Result T E) (old mid new : Option (List ℕ)) (a b : List ℕ) → OnOk r (Appends old mid a) → Appends mid new b → OnOk r (Appends old new (a ++ b))
-told_back {T} {E} (Err e) old mid new a b h k = tt
-told_back {T} {E} (Ok x) old mid new a b h k = both_told {T = T} {E = E} (Ok x) old mid new a b h k
+module _ {W : Type 0} {contents : W → Option (List ℕ)} {has_failed : W → Type 0} where
+  pub tells_nothing : {T E : Type 0} {out : W} {x : T} → Tells {A = T} {E = E} contents has_failed out out (Ok x) []
+  tells_nothing {T} {E} {out} {x} = record { told = Appends-nil (contents out); failed = tt; kept = λ f. f }
 
--- the first fault is answered
-pub and_told : {T U E : Type 0} (r : Result T E) (s : Result U E) (old mid new : Option (List ℕ)) (a b : List ℕ) → OnOk r (Appends old mid a) → OnOk s (Appends mid new b) → OnOk (result_and r s) (Appends old new (a ++ b))
-and_told (Err e) s old mid new a b h k = tt
-and_told (Ok x) s old mid new a b h k = both_told s old mid new a b h k
+  tells_both : {T U E : Type 0} (r : Result T E) (s : Result U E) (old mid new : W) (a b : List ℕ)
+      → Tells contents has_failed old mid r a → Tells contents has_failed mid new s b → Tells contents has_failed old new (result_and r s) (a ++ b)
+  tells_both (Err e) s old mid new a b h k = record { told = tt; failed = k.kept h.failed; kept = λ f. k.kept (h.kept f) }
+  tells_both (Ok x) (Err e) old mid new a b h k = record { told = tt; failed = k.failed; kept = λ f. k.kept (h.kept f) }
+  tells_both (Ok x) (Ok y) old mid new a b h k = record { told = Appends-trans (contents old) (contents mid) (contents new) a b h.told k.told; failed = tt; kept = λ f. k.kept (h.kept f) }
 
-pub told_nothing : (o : Option (List ℕ)) → Appends o o []
-told_nothing None = tt
-told_nothing (Some xs) = sym (append-nil xs)
+  -- one text after another; the first error is the answer
+  pub and_tells : {T U E : Type 0} {r : Result T E} {s : Result U E} {old mid new : W} {a b : List ℕ}
+      → Tells contents has_failed old mid r a → Tells contents has_failed mid new s b → Tells contents has_failed old new (result_and r s) (a ++ b)
+  and_tells {T} {U} {E} {r} {s} {old} {mid} {new} {a} {b} h k = tells_both r s old mid new a b h k
+
+-- one line more
+one_more_line : {X : Type 0} (lines : X → List ℕ) (xs : List X) (i : ℕ) (x : X) → i < length xs → flat_map lines (take (i + 1) xs) ≡ flat_map lines (take i xs) ++ lines (get_or xs i x)
+one_more_line lines xs i x inside =
+    ap (λ l. flat_map lines l) (take_more xs i x inside) ∙ flat_map-append lines (take i xs) _
+    ∙ ap (λ t. flat_map lines (take i xs) ++ t) (append-nil _)
+
+pub told_more : {X : Type 0} (lines : X → List ℕ) (xs : List X) (i : ℕ) (x : X) (old mid new : Option (List ℕ)) → i < length xs
+    → Appends old mid (flat_map lines (take i xs)) → Appends mid new (lines (get_or xs i x)) → Appends old new (flat_map lines (take (i + 1) xs))
+told_more lines xs i x old mid new inside h k = subst (Appends old new) (sym (one_more_line lines xs i x inside)) (Appends-trans old mid new _ _ h k)

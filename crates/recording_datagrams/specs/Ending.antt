@@ -1,17 +1,16 @@
 -- A peer's session that has ended: its last file is finished, and its lines are told.
-use Rattle.std.specs.Prelude.{◌≡◌, ℕ, List, [], ◌++◌, codes, Option, Some, None, Result, OnOk}
+use Rattle.std.specs.Prelude.{◌≡◌, ℕ, List, [], ◌++◌, codes, Option, Some, None, Result}
 use Rattle.std.specs.List.{flat_map}
-use Rattle.std.specs.Net.Text.{socket_text}
-use Rattle.std.specs.Io.KnownBytes.{Appends}
 use Rattle.std.specs.declared.net.socket_addr.SocketAddr.{SocketAddr}
 use Rattle.recording_files.specs.declared.file_report.FileReport.{FileReport}
 use Rattle.recording_files.specs.declared.file_series.NotWritten.{NotWritten}
 use Rattle.ipfix_datagrams.specs.Reaches.{AdvancesView, told_of}
 use Rattle.ipfix_datagrams.specs.declared.domain_advance.DomainAdvance.{DomainAdvance}
-use Rattle.recording_peer.specs.Recording.{Tells, answer_of}
+use Rattle.recording_peer.specs.Recording.{Tells as Reports, answer_of}
 use Rattle.recording_peer.specs.declared.peer_session.PeerSession.{PeerSession}
 use Rattle.recording_peers.specs.declared.peer_state.PeerState.{PeerState}
 use Rattle.recording_peers.specs.declared.refusals.Refusals.{Refusals}
+use Rattle.report_writing.specs.Writing.{Tells}
 use Rattle.recording_lines.specs.RecordLines.{advance_line, peer_ended_line, refused_datagrams_line}
 use Rattle.recording_connections.specs.Serving.{session_lines}
 use Rattle.recording_datagrams.specs.DatagramFaults.{number_of, name_of}
@@ -25,16 +24,16 @@ text_of Idle = codes "idle"
 -- a line if datagrams of a peer were refused that weren't told
 abbrev pub refusal_lines : SocketAddr → Option Refusals → List ℕ
 refusal_lines peer None = []
-refusal_lines peer (Some r) = refused_datagrams_line (socket_text peer) r.count (number_of r.last) (name_of r.last)
+refusal_lines peer (Some r) = refused_datagrams_line peer r.count (number_of r.last) (name_of r.last)
 
 -- a line if it ends without a fault
 abbrev pub cause_lines : SocketAddr → Option EndCause → List ℕ
 cause_lines peer None = []
-cause_lines peer (Some cause) = peer_ended_line (socket_text peer) (text_of cause)
+cause_lines peer (Some cause) = peer_ended_line peer (text_of cause)
 
 -- a line for each domain, in order of first appearance
 abbrev pub domain_advance_line : SocketAddr → DomainAdvance → List ℕ
-domain_advance_line peer d = advance_line (socket_text peer) d.domain d.advance d.came
+domain_advance_line peer d = advance_line peer d.domain d.advance d.came
 
 abbrev pub advance_lines : SocketAddr → AdvancesView → List ℕ
 advance_lines peer advances = flat_map (domain_advance_line peer) (told_of advances.reaches)
@@ -52,18 +51,14 @@ ending_lines peer refused cause session finished = refusal_lines peer refused ++
 pub record Ends {F : Type 0} (finishes : F → FileReport → Result (Unit {0}) NotWritten → Type 0) (peer : SocketAddr) (kept : PeerState F)
     (cause : Option EndCause) (lines : List ℕ) : Type 0 where
   pub session : PeerSession
-  pub reports : Tells kept.recorder.told session
+  pub reports : Reports kept.recorder.told session
   pub fault : session.session.ended ≡ answer_of kept.recorder.ended
   pub finished : Result (Unit {0}) NotWritten
   pub is_finished : finishes kept.files session.session.last finished
   pub lines_are : lines ≡ ending_lines peer kept.refused cause session finished
 
--- there are such lines, and where the log took them they stand there
-pub record AreTold {E A : Type 0} (contents : E → Option (List ℕ)) (Tells : List ℕ → Type 0) (old new : E) (answer : Result (Unit {0}) A) : Type 0 where
+-- what a call answers that writes lines of which this is true: there are such lines, and it tells them
+pub record TellsSome {W A : Type 0} (contents : W → Option (List ℕ)) (has_failed : W → Type 0) (old new : W) (result : Result (Unit {0}) A) (Are : List ℕ → Type 0) : Type 0 where
   pub lines : List ℕ
-  pub are : Tells lines
-  pub told : OnOk answer (Appends (contents old) (contents new) lines)
-
-abbrev pub IsEnded : {F E A : Type 0} → (F → FileReport → Result (Unit {0}) NotWritten → Type 0) → (E → Option (List ℕ))
-    → SocketAddr → PeerState F → Option EndCause → E → E → Result (Unit {0}) A → Type 0
-IsEnded finishes contents peer kept cause old new answer = AreTold contents (Ends finishes peer kept cause) old new answer
+  pub are : Are lines
+  pub told : Tells contents has_failed old new result lines

@@ -1,6 +1,5 @@
 -- Rounds of taking datagrams: what each had, and what it did.
-use Rattle.std.specs.Prelude.{◌≡◌, ◌≤◌, ◌<◌, ◌-◌, ◌⊎◌, ℕ, Bool, true, false, List, [], ◌∷◌, ◌++◌, length, map, flat_map, Option, Result, Ok, Err, OnOk}
-use Rattle.std.specs.Io.KnownBytes.{Appends}
+use Rattle.std.specs.Prelude.{◌≡◌, ◌≤◌, ◌<◌, ◌-◌, ◌⊎◌, ℕ, Bool, true, false, List, [], ◌∷◌, ◌++◌, length, map, flat_map, Option, Result, Ok, Err}
 use Rattle.std.specs.declared.net.socket_addr.SocketAddr.{SocketAddr}
 use Rattle.ipfix_session.specs.Sources.{one_more}
 use Rattle.recording_files.specs.Files.{FilesView}
@@ -12,6 +11,7 @@ use Rattle.recording_peers.specs.declared.datagram_source.NoDatagram.{NoDatagram
 use Rattle.recording_peers.specs.declared.datagram_source.NoDatagram.TheVariants.{Tick, Failed}
 use Rattle.recording_peers.specs.declared.peer_state.PeerState.{PeerState}
 use Rattle.recording_connections.specs.declared.shared_counts.SharedCounts.{SharedCounts}
+use Rattle.report_writing.specs.Writing.{Tells}
 use Rattle.recording_datagrams.specs.Taking.{Arrival, Arrives}
 use Rattle.recording_datagrams.specs.Turns.{HadTurns, EndsSilent, unserved_lines, none_unserved}
 use Rattle.recording_datagrams.specs.declared.datagram_taker.DatagramTaker.{DatagramTaker}
@@ -51,28 +51,28 @@ module _ {F : Type 0} (seen : F → FilesView) (finishes : F → FileReport → 
   HadTurnsIf true es after lines = HadTurns seen finishes true es after lines
   HadTurnsIf false es after lines = (after ≡ es) × (lines ≡ [])
 
-module _ {F P E : Type 0} (seen : F → FilesView) (finishes : F → FileReport → Result (Unit {0}) NotWritten → Type 0) (asked : P → ClockView) where
+module _ {F P W : Type 0} (seen : F → FilesView) (finishes : F → FileReport → Result (Unit {0}) NotWritten → Type 0) (asked : P → ClockView) where
   -- the clock of the place is asked once
-  pub record KeepsToPeriods (is_over : Bool) (old new : DatagramTaker F P E) (lines : List ℕ) : Type 0 where
+  pub record KeepsToPeriods (is_over : Bool) (old new : DatagramTaker F P W) (lines : List ℕ) : Type 0 where
     pub answer : IsAnswer (asked old.place) is_over (asked new.place)
     pub turns : HadTurnsIf seen finishes is_over old.peers.kept.entries new.peers.kept.entries lines
     pub room : new.peers.kept.cap ≡ old.peers.kept.cap
-    pub others : new ≡ record old { peers = new.peers; place = new.place; log = new.log }
+    pub others : new ≡ record old { peers = new.peers; place = new.place; out = new.out }
 
   -- a datagram is taken under its peer
-  pub record TakesArrival (a : Arrival) (now : ℕ) (old new : DatagramTaker F P E) (lines : List ℕ) : Type 0 where
+  pub record TakesArrival (a : Arrival) (now : ℕ) (old new : DatagramTaker F P W) (lines : List ℕ) : Type 0 where
     pub arrives : Arrives seen finishes old.peers.kept new.peers.kept old.filter.now old.unserved new.unserved a now lines
-    pub others : new ≡ record old { peers = new.peers; place = new.place; unserved = new.unserved; log = new.log }
+    pub others : new ≡ record old { peers = new.peers; place = new.place; unserved = new.unserved; out = new.out }
 
   -- what the source gave is taken; a failure is counted
-  abbrev pub TakesGiven : Result Arrival NoDatagram → ℕ → DatagramTaker F P E → DatagramTaker F P E → List ℕ → Type 0
+  abbrev pub TakesGiven : Result Arrival NoDatagram → ℕ → DatagramTaker F P W → DatagramTaker F P W → List ℕ → Type 0
   TakesGiven (Ok a) now old new lines = TakesArrival a now old new lines
   TakesGiven (Err Tick) now old new lines = (new ≡ old) × (lines ≡ [])
   TakesGiven (Err Failed) now old new lines = (new ≡ record old { unserved = one_not_received old.unserved }) × (lines ≡ [])
 
   -- in a new second all peers have their turn, those that have been silent for longer than they may be go, and what had no
   -- session is told
-  pub record TellsAndEnds (now : ℕ) (old new : DatagramTaker F P E) (lines : List ℕ) : Type 0 where
+  pub record TellsAndEnds (now : ℕ) (old new : DatagramTaker F P W) (lines : List ℕ) : Type 0 where
     pub between : List (SocketAddr × PeerState F)
     pub told : List ℕ
     pub turns : HadTurns seen finishes false old.peers.kept.entries between told
@@ -80,19 +80,19 @@ module _ {F P E : Type 0} (seen : F → FilesView) (finishes : F → FileReport 
     pub silent : EndsSilent finishes (now - old.idle) between new.peers.kept.entries ended
     pub lines_are : lines ≡ told ++ (ended ++ unserved_lines old.unserved)
     pub room : new.peers.kept.cap ≡ old.peers.kept.cap
-    pub others : new ≡ record old { second = now; peers = new.peers; unserved = none_unserved old.unserved; log = new.log }
+    pub others : new ≡ record old { second = now; peers = new.peers; unserved = none_unserved old.unserved; out = new.out }
 
   -- the second never goes back
-  abbrev pub KeepsToSeconds : ℕ → DatagramTaker F P E → DatagramTaker F P E → List ℕ → Type 0
+  abbrev pub KeepsToSeconds : ℕ → DatagramTaker F P W → DatagramTaker F P W → List ℕ → Type 0
   KeepsToSeconds now old new lines = ((now ≤ old.second) × (new ≡ old) × (lines ≡ [])) ⊎ ((old.second < now) × TellsAndEnds now old new lines)
 
   -- the periods are kept to, what the source gave is taken, and then the second may be a new one
-  pub record IsRound (r : Round) (old new : DatagramTaker F P E) : Type 0 where
+  pub record IsRound (r : Round) (old new : DatagramTaker F P W) : Type 0 where
     pub forward : old.second ≤ r.second
-    pub kept : DatagramTaker F P E
+    pub kept : DatagramTaker F P W
     pub kept_lines : List ℕ
     pub keeps : KeepsToPeriods r.is_over old kept kept_lines
-    pub taken : DatagramTaker F P E
+    pub taken : DatagramTaker F P W
     pub taken_lines : List ℕ
     pub takes : TakesGiven r.given r.second kept taken taken_lines
     pub last_lines : List ℕ
@@ -100,24 +100,24 @@ module _ {F P E : Type 0} (seen : F → FilesView) (finishes : F → FileReport 
     pub lines_are : r.lines ≡ kept_lines ++ (taken_lines ++ last_lines)
 
   -- one after another
-  abbrev pub AreRounds : List Round → DatagramTaker F P E → DatagramTaker F P E → Type 0
+  abbrev pub AreRounds : List Round → DatagramTaker F P W → DatagramTaker F P W → Type 0
   AreRounds [] old new = new ≡ old
-  AreRounds (r ∷ rs) old new = (between : DatagramTaker F P E) × IsRound r old between × AreRounds rs between new
+  AreRounds (r ∷ rs) old new = (between : DatagramTaker F P W) × IsRound r old between × AreRounds rs between new
 
   -- one of them: the source was asked once, and its answer is that of the round
-  pub record TakesRound {D A : Type 0} (answered : D → List Answer → Type 0) (contents : E → Option (List ℕ)) (before after : D)
-      (old new : DatagramTaker F P E) (answer : Result (Unit {0}) A) : Type 0 where
+  pub record TakesRound {D A : Type 0} (answered : D → List Answer → Type 0) (contents : W → Option (List ℕ)) (has_failed : W → Type 0) (before after : D)
+      (old new : DatagramTaker F P W) (answer : Result (Unit {0}) A) : Type 0 where
     pub round : Round
     pub is : IsRound round old new
     pub given : Gives answered (answer_in round.given ∷ []) before after
-    pub told : OnOk answer (Appends (contents old.log) (contents new.log) round.lines)
+    pub told : Tells contents has_failed old.out new.out answer round.lines
 
   -- so many rounds: the source was asked once in each, and what it answered is what was taken in them, each datagram once and in
-  -- its order; and all their lines are told, unless the log failed
-  pub record TakesRounds {D A : Type 0} (answered : D → List Answer → Type 0) (contents : E → Option (List ℕ)) (count : ℕ) (before after : D)
-      (old new : DatagramTaker F P E) (answer : Result (Unit {0}) A) : Type 0 where
+  -- its order; and all their lines are told, unless a write failed
+  pub record TakesRounds {D A : Type 0} (answered : D → List Answer → Type 0) (contents : W → Option (List ℕ)) (has_failed : W → Type 0) (count : ℕ) (before after : D)
+      (old new : DatagramTaker F P W) (answer : Result (Unit {0}) A) : Type 0 where
     pub rounds : List Round
     pub as_many : length rounds ≡ count
     pub are : AreRounds rounds old new
     pub given : Gives answered (answers_of rounds) before after
-    pub told : OnOk answer (Appends (contents old.log) (contents new.log) (lines_of rounds))
+    pub told : Tells contents has_failed old.out new.out answer (lines_of rounds)

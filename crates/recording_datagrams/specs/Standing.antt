@@ -44,19 +44,19 @@ abbrev pub StandsForAll : {F : Type 0} → (F → FilesView) → Option (PeerSta
 StandsForAll seen None ms = ms ≡ []
 StandsForAll seen (Some k) ms = IsSession seen k ms
 
-abbrev pub IsKept : {F P E : Type 0} → SocketAddr → DatagramTaker F P E → Type 0
+abbrev pub IsKept : {F P W : Type 0} → SocketAddr → DatagramTaker F P W → Type 0
 IsKept peer r = IsSome (of_peer peer r.peers.kept.entries)
 
-module _ {F P E : Type 0} (seen : F → FilesView) (finishes : F → FileReport → Result (Unit {0}) NotWritten → Type 0) (asked : P → ClockView) (peer : SocketAddr) where
+module _ {F P W : Type 0} (seen : F → FilesView) (finishes : F → FileReport → Result (Unit {0}) NotWritten → Type 0) (asked : P → ClockView) (peer : SocketAddr) where
   -- in a round its session didn't end: not as a period was over, at a datagram, or in a new second; and with a datagram of its own
   -- it is kept
-  pub record StaysInRound (r : Round) (old new : DatagramTaker F P E) (is : IsRound seen finishes asked r old new) : Type 0 where
+  pub record StaysInRound (r : Round) (old new : DatagramTaker F P W) (is : IsRound seen finishes asked r old new) : Type 0 where
     pub period : IsKept peer old → IsKept peer is.kept
     pub datagram : IsKept peer is.kept → IsKept peer is.taken
     pub own : own_in peer r.given ≢ [] → IsKept peer is.taken
     pub second : IsKept peer is.taken → IsKept peer new
 
   -- and so in each
-  abbrev pub StaysThrough : (rs : List Round) (old new : DatagramTaker F P E) → AreRounds seen finishes asked rs old new → Type 0
+  abbrev pub StaysThrough : (rs : List Round) (old new : DatagramTaker F P W) → AreRounds seen finishes asked rs old new → Type 0
   StaysThrough [] old new are = Unit {0}
   StaysThrough (r ∷ rs) old new are = StaysInRound r old are.0 are.1 × StaysThrough rs are.0 new are.2

@@ -1,6 +1,5 @@
 -- What is done with all peers now and then, and the lines that tell of it.
 use Rattle.std.specs.Prelude.{◌≡◌, ◌<◌, ◌≤◌, ◌-◌, ℕ, zero, suc, Bool, List, [], ◌∷◌, ◌++◌, length, take, Option, Some, None, Result, IfSome}
-use Rattle.std.specs.Net.Text.{socket_text}
 use Rattle.std.specs.declared.net.socket_addr.SocketAddr.{SocketAddr}
 use Rattle.lru.specs.LruCache.{last_entry}
 use Rattle.recording_files.specs.Files.{FilesView}
@@ -86,7 +85,7 @@ module _ {F : Type 0} (finishes : F → FileReport → Result (Unit {0}) NotWrit
 
 abbrev pub turned_away_lines : Option RefusedPeers → List ℕ
 turned_away_lines None = []
-turned_away_lines (Some refused) = turned_away_line refused.count (socket_text refused.last)
+turned_away_lines (Some refused) = turned_away_line refused.count refused.last
 
 abbrev pub not_received_lines : ℕ → List ℕ
 not_received_lines zero = []

@@ -1,19 +1,19 @@
 //! What takes datagrams: the peers that are kept, where their files are, and what is told.
 
-use crate::taking::take_datagram;
+use crate::taking::record_and_tell;
 use crate::ticking::{end_silent, go_over, tell_unserved};
 use network_prefixes::PeerFilter;
 use recording_connections::{RecordingFiles, SharedCounts};
 use recording_files::PeriodClock;
-use recording_lines::Log;
 use recording_peers::{Datagram, NoDatagram, PeerPlace, Peers};
+use report_writing::WriteLines;
 use std::alloc::Global;
-use std::io::{self, Write};
+use std::io;
 use std::net::SocketAddr;
 
 /// What takes datagrams.
 #[derive(Drop)]
-pub struct DatagramTaker<'a, F, P, E: Write + Drop> {
+pub struct DatagramTaker<'a, F, P, W: WriteLines + Drop> {
     pub alloc: Global,
     /// The peers that are kept.
     pub peers: Peers<F>,
@@ -27,38 +27,39 @@ pub struct DatagramTaker<'a, F, P, E: Write + Drop> {
     pub second: u64,
     /// The datagrams of peers that may not send, and those that could not be received.
     pub unserved: SharedCounts,
-    pub log: Log<E>,
+    /// What lines are written to.
+    pub out: W,
 }
 
-impl<'a, F: RecordingFiles + Drop, P: PeerPlace<F> + PeriodClock, E: Write + Drop> DatagramTaker<
+impl<
     'a,
-    F,
-    P,
-    E,
-> {
+    F: RecordingFiles + Drop,
+    P: PeerPlace<F> + PeriodClock,
+    W: WriteLines + Drop,
+> DatagramTaker<'a, F, P, W> {
     ghost use Rattle.std.specs.Prelude.{◌≡◌, ◌≤◌, Bool, Result, IfOk, length};
     ghost use Rattle.recording_peers.specs.Answers.{answer_of};
     ghost use Rattle.recording_peers.specs.declared.datagram_source.Datagram.{Datagram};
     ghost use Rattle.recording_peers.specs.declared.datagram_source.NoDatagram.{NoDatagram};
-    ghost use Rattle.recording_datagrams.specs.Ending.{AreTold};
+    ghost use Rattle.recording_datagrams.specs.Ending.{TellsSome};
     ghost use Rattle.recording_datagrams.specs.Rounds.{KeepsToSeconds, KeepsToPeriods, TakesArrival, TakesGiven, TellsAndEnds, answer_in};
     ghost use Rattle.recording_datagrams.specs.Taking.{Arrival};
 
     /// Finishes the files of all peers, if the period of the place is over.
     pub fn keep_to_periods(&mut self) -> io::Result<()>
-        ensures { (is_over : Bool) × AreTold E.contents
-            (KeepsToPeriods F.seen F.finishes P.asked is_over self.old self.new)
-            self.old.log self.new.log result }
+        ensures { (is_over : Bool) × TellsSome W.contents W.failed self.old.out self.new.out result
+            (KeepsToPeriods F.seen F.finishes P.asked is_over self.old self.new) }
     {
         if self.place.is_over() {
-            go_over(&mut self.peers, true, &mut self.log)
+            go_over(&mut self.peers, true, &mut self.out)
         } else {
             Ok(())
         }
     }
 
-    /// Takes what a source gave into a buffer, in a second: a datagram as [`take_datagram`] does. That none
-    /// could be received is counted.
+    /// Takes what a source gave into a buffer, in a second. A datagram of a peer that may not send is counted,
+    /// and nothing more; another is recorded or refused, as `Peers::record` does, and each session that ends at that is
+    /// told. That none could be received is counted.
     pub fn take(
         &mut self,
         received: Result<Datagram, NoDatagram>,
@@ -68,8 +69,8 @@ impl<'a, F: RecordingFiles + Drop, P: PeerPlace<F> + PeriodClock, E: Write + Dro
         requires { IfOk received (λ d. d.length ≤ length buffer.now) }
         ensures { (given : Result Arrival NoDatagram)
             × (answer_in given ≡ answer_of received buffer.now)
-            × AreTold E.contents (TakesGiven F.seen F.finishes P.asked given now self.old self.new)
-            self.old.log self.new.log result }
+            × TellsSome W.contents W.failed self.old.out self.new.out result
+            (TakesGiven F.seen F.finishes P.asked given now self.old self.new) }
     {
         match received {
             Ok(Datagram { length, peer }) => self.take_from(peer, &buffer[..length], now),
@@ -81,31 +82,35 @@ impl<'a, F: RecordingFiles + Drop, P: PeerPlace<F> + PeriodClock, E: Write + Dro
         }
     }
 
-    // Takes a datagram of a peer.
+    // Takes a datagram of a peer. If the peer may not send it is counted, and nothing more. Otherwise it is recorded or
+    // refused, as `Peers::record` does, and each session that ends at that is told; without memory to begin a session
+    // that is told as its fault.
     fn take_from(&mut self, from: SocketAddr, datagram: &[u8], now: u64) -> io::Result<()>
-        ensures { (may_send : Bool) × AreTold E.contents
+        ensures { (may_send : Bool) × TellsSome W.contents W.failed self.old.out self.new.out result
             (TakesArrival F.seen F.finishes P.asked
             (record { peer = from; octets = datagram.now; may_send = may_send })
-            now self.old self.new) self.old.log self.new.log result }
+            now self.old self.new) }
     {
-        take_datagram(
+        if !self.filter.lets_in(from.ip()) {
+            self.unserved.refuse(from);
+            return Ok(());
+        }
+        record_and_tell(
             self.alloc,
             &mut self.peers,
             &mut self.place,
-            self.filter,
-            &mut self.unserved,
             from,
             datagram,
             now,
-            &mut self.log,
+            &mut self.out,
         )
     }
 
     /// Goes on to a second. If it is a new one, what was refused is told, and the sessions of peers end that
     /// have been silent for longer than they may be.
     pub fn go_on_to(&mut self, now: u64) -> io::Result<()>
-        ensures { AreTold E.contents (KeepsToSeconds F.seen F.finishes P.asked now self.old self.new)
-            self.old.log self.new.log result }
+        ensures { TellsSome W.contents W.failed self.old.out self.new.out result
+            (KeepsToSeconds F.seen F.finishes P.asked now self.old self.new) }
     {
         if now <= self.second {
             return Ok(());
@@ -115,14 +120,14 @@ impl<'a, F: RecordingFiles + Drop, P: PeerPlace<F> + PeriodClock, E: Write + Dro
 
     // Tells what was refused, and ends the sessions of peers that have been silent for too long.
     fn tell_and_end(&mut self, now: u64) -> io::Result<()>
-        ensures { AreTold E.contents (TellsAndEnds F.seen F.finishes P.asked now self.old self.new)
-            self.old.log self.new.log result }
+        ensures { TellsSome W.contents W.failed self.old.out self.new.out result
+            (TellsAndEnds F.seen F.finishes P.asked now self.old self.new) }
     {
         self.second = now;
-        let told = go_over(&mut self.peers, false, &mut self.log);
+        let told = go_over(&mut self.peers, false, &mut self.out);
         let since = now.saturating_sub(self.idle);
-        let ended = end_silent(&mut self.peers, since, &mut self.log);
-        let unserved = tell_unserved(&mut self.unserved, &mut self.log);
+        let ended = end_silent(&mut self.peers, since, &mut self.out);
+        let unserved = tell_unserved(&mut self.unserved, &mut self.out);
         told.and(ended.and(unserved))
     }
 }

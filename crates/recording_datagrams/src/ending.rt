@@ -1,17 +1,18 @@
 //! The end of a peer's session: its last file is finished, and its lines are told.
 
-ghost use Rattle.std.specs.Prelude.{◌≡◌, ◌++◌, OnOk};
-ghost use Rattle.std.specs.Io.KnownBytes.{Appends};
-ghost use Rattle.recording_datagrams.specs.Ending.{advance_lines, cause_lines, ending_lines, IsEnded, refusal_lines, text_of, told_lines};
+ghost use Rattle.std.specs.Prelude.{◌≡◌, ◌++◌};
+ghost use Rattle.report_writing.specs.Writing.{Tells};
+ghost use Rattle.recording_datagrams.specs.Ending.{advance_lines, cause_lines, ending_lines, Ends, refusal_lines, TellsSome, text_of, told_lines};
 
 use crate::datagram_faults::{fault_name, fault_number};
 use ipfix_datagrams::{DomainAdvance, SequenceAdvances};
-use recording_connections::{RecordingFiles, tell_session};
+use recording_connections::{RecordingFiles, write_session};
 use recording_files::NotWritten;
-use recording_lines::Log;
+use recording_lines::{write_advance, write_peer_ended, write_refused_datagrams};
 use recording_peer::PeerSession;
 use recording_peers::{PeerState, Refusals};
-use std::io::{self, Write};
+use report_writing::WriteLines;
+use std::io;
 use std::net::SocketAddr;
 
 /// Why a peer's session ends that has no fault.
@@ -38,13 +39,14 @@ impl EndCause {
 /// Ends a peer's session: finishes its last file with its report, and tells what was refused of it, why it
 /// ends if it has no fault, how far its sequence numbers advanced beside the records that came, what its
 /// ledger says, and its faults.
-pub fn end_peer<F: RecordingFiles, E: Write + Drop>(
+pub fn end_peer<F: RecordingFiles, W: WriteLines>(
     peer: SocketAddr,
     kept: PeerState<F>,
     cause: Option<EndCause>,
-    log: &mut Log<E>,
+    out: &mut W,
 ) -> io::Result<()>
-    ensures { IsEnded F.finishes E.contents peer kept cause log.old log.new result }
+    ensures { TellsSome W.contents W.failed out.old out.new result
+        (Ends F.finishes peer kept cause) }
 {
     let PeerState {
         recorder,
@@ -54,62 +56,62 @@ pub fn end_peer<F: RecordingFiles, E: Write + Drop>(
     } = kept;
     let session = recorder.into_session();
     let finished = files.finish(&session.session.last);
-    tell_end(peer, refused, cause, &session, finished, log)
+    tell_end(peer, refused, cause, &session, finished, out)
 }
 
 // Tells all of that.
-fn tell_end<E: Write + Drop>(
+fn tell_end<W: WriteLines>(
     peer: SocketAddr,
     refused: Option<Refusals>,
     cause: Option<EndCause>,
     session: &PeerSession,
     finished: Result<(), NotWritten>,
-    log: &mut Log<E>,
+    out: &mut W,
 ) -> io::Result<()>
-    ensures { OnOk result (Appends (E.contents log.old) (E.contents log.new)
-        (ending_lines peer refused cause session.now finished)) }
+    ensures { Tells W.contents W.failed out.old out.new result
+        (ending_lines peer refused cause session.now finished) }
 {
-    tell_refusals(peer, refused, log)?;
-    tell_rest(peer, cause, session, finished, log)
+    tell_refusals(peer, refused, out)?;
+    tell_rest(peer, cause, session, finished, out)
 }
 
 // Tells why it ended, and the rest.
-fn tell_rest<E: Write + Drop>(
+fn tell_rest<W: WriteLines>(
     peer: SocketAddr,
     cause: Option<EndCause>,
     session: &PeerSession,
     finished: Result<(), NotWritten>,
-    log: &mut Log<E>,
+    out: &mut W,
 ) -> io::Result<()>
-    ensures { OnOk result (Appends (E.contents log.old) (E.contents log.new)
-        (cause_lines peer cause ++ told_lines peer session.now finished)) }
+    ensures { Tells W.contents W.failed out.old out.new result
+        (cause_lines peer cause ++ told_lines peer session.now finished) }
 {
-    tell_cause(peer, cause, log)?;
-    tell_counts(peer, session, finished, log)
+    tell_cause(peer, cause, out)?;
+    tell_counts(peer, session, finished, out)
 }
 
 // Tells what its sequence numbers say, and its faults.
-fn tell_counts<E: Write + Drop>(
+fn tell_counts<W: WriteLines>(
     peer: SocketAddr,
     session: &PeerSession,
     finished: Result<(), NotWritten>,
-    log: &mut Log<E>,
+    out: &mut W,
 ) -> io::Result<()>
-    ensures { OnOk result (Appends (E.contents log.old) (E.contents log.new)
-        (told_lines peer session.now finished)) }
+    ensures { Tells W.contents W.failed out.old out.new result
+        (told_lines peer session.now finished) }
 {
-    tell_advances(peer, &session.advances, log)?;
-    tell_session(peer, &session.session, finished, log)
+    tell_advances(peer, &session.advances, out)?;
+    write_session(peer, &session.session, finished, out)
 }
 
 // Tells how far the sequence number of each domain advanced, and how many records came.
-fn tell_advances<E: Write + Drop>(
+fn tell_advances<W: WriteLines>(
     peer: SocketAddr,
     advances: &SequenceAdvances,
-    log: &mut Log<E>,
+    out: &mut W,
 ) -> io::Result<()>
-    ensures { OnOk result (Appends (E.contents log.old) (E.contents log.new)
-        (advance_lines peer advances.now)) }
+    ensures { Tells W.contents W.failed out.old out.new result
+        (advance_lines peer advances.now) }
 {
     for index in 0..advances.len() {
         let DomainAdvance {
@@ -117,38 +119,38 @@ fn tell_advances<E: Write + Drop>(
             advance,
             came,
         } = advances.at(index);
-        log.tell_advance(peer, domain, advance, came)?;
+        write_advance(peer, domain, advance, came, out)?;
     }
     Ok(())
 }
 
 /// Tells how many datagrams of a peer were refused that aren't told yet, if there are any.
-pub fn tell_refusals<E: Write + Drop>(
+pub fn tell_refusals<W: WriteLines>(
     peer: SocketAddr,
     refused: Option<Refusals>,
-    log: &mut Log<E>,
+    out: &mut W,
 ) -> io::Result<()>
-    ensures { OnOk result (Appends (E.contents log.old) (E.contents log.new)
-        (refusal_lines peer refused)) }
+    ensures { Tells W.contents W.failed out.old out.new result
+        (refusal_lines peer refused) }
 {
     match refused {
         None => Ok(()),
         Some(Refusals { count, last }) => {
-            log.tell_refused_datagrams(peer, count, fault_number(&last), fault_name(&last))
+            write_refused_datagrams(peer, count, fault_number(&last), fault_name(&last), out)
         }
     }
 }
 
-fn tell_cause<E: Write + Drop>(
+fn tell_cause<W: WriteLines>(
     peer: SocketAddr,
     cause: Option<EndCause>,
-    log: &mut Log<E>,
+    out: &mut W,
 ) -> io::Result<()>
-    ensures { OnOk result (Appends (E.contents log.old) (E.contents log.new)
-        (cause_lines peer cause)) }
+    ensures { Tells W.contents W.failed out.old out.new result
+        (cause_lines peer cause) }
 {
     match cause {
         None => Ok(()),
-        Some(cause) => log.tell_peer_ended(peer, cause.text()),
+        Some(cause) => write_peer_ended(peer, cause.text(), out),
     }
 }

@@ -2,7 +2,7 @@
 
 use crossbeam_channel::{Receiver, Sender};
 use recording_folder::{EndedFile, FileFinisher, Folder, FolderFinisher};
-use recording_lines::Log;
+use recording_lines::{WholeLines, write_threads};
 use std::alloc::Global;
 use std::fs::{File, Files};
 use std::io::Write;
@@ -25,7 +25,7 @@ pub struct FileQueue<F> {
 /// Puts the files of a peer into a queue, if there is one, or finishes them at once.
 #[derive(Drop)]
 pub struct QueueFinisher<'a, R: Files + Clock, W: Wait, E: Write + Drop> {
-    pub at_once: FolderFinisher<'a, R, Log<E>>,
+    pub at_once: FolderFinisher<'a, R, WholeLines<E>>,
     pub queue: Option<&'a FileQueue<R::File>>,
     pub waiting: &'a W,
 }
@@ -84,7 +84,7 @@ pub(crate) fn start_finishers<
         }
     }
     if started < FINISHERS {
-        let _ = Log::new(err).tell_threads(started, FINISHERS);
+        let _ = write_threads(started, FINISHERS, &mut WholeLines::new(err));
     }
     started
 }
@@ -98,7 +98,7 @@ fn finish_forever<E: Write + Drop, R: Wait>(
     queue: &FileQueue<File>,
     err: E,
 ) {
-    let mut finisher = FolderFinisher::new(rt, alloc, folder, Log::new(err));
+    let mut finisher = FolderFinisher::new(rt, alloc, folder, WholeLines::new(err));
     for _ in waiting.forever() {
         if let Ok(ended) = queue.leave.recv(waiting) {
             finisher.finish_apart(ended);

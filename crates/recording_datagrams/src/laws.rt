@@ -10,13 +10,13 @@ ghost use Rattle.recording_datagrams.specs.declared.datagram_taker.DatagramTaker
 
 use recording_connections::RecordingFiles;
 use recording_files::PeriodClock;
-use std::io::Write;
+use report_writing::WriteLines;
 
 /// Where no peer was kept at first: behind any rounds the session of each peer that is kept stands for the last
 /// ones of the datagrams of that peer alone, those that came since it began, each in its order; whatever came
 /// from others, and whatever periods were over, sessions ended and peers were silent.
-pub fn sessions_stand_behind_rounds<F: RecordingFiles, P: PeriodClock, E: Write + Drop>()
-    ensures { (rs : List Round) (old new : DatagramTaker F P E) → old.peers.kept.entries ≡ []
+pub fn sessions_stand_behind_rounds<F: RecordingFiles, P: PeriodClock, W: WriteLines + Drop>()
+    ensures { (rs : List Round) (old new : DatagramTaker F P W) → old.peers.kept.entries ≡ []
         → AreRounds F.seen F.finishes P.asked rs old new
         → (cs : PeerDatagrams) × StandFor F.seen new.peers.kept.entries cs
         × HaveLast (λ peer. own_of peer rs) cs }
@@ -24,8 +24,8 @@ pub fn sessions_stand_behind_rounds<F: RecordingFiles, P: PeriodClock, E: Write 
 
 /// Where no peer was kept at first: a session of a peer that didn't end in any of these rounds stands for all
 /// datagrams of that peer in them, in their order, whatever came from others. If it isn't kept, none came.
-pub fn session_that_stays_stands_for_all<F: RecordingFiles, P: PeriodClock, E: Write + Drop>()
-    ensures { (rs : List Round) (old new : DatagramTaker F P E) (peer : SocketAddr)
+pub fn session_that_stays_stands_for_all<F: RecordingFiles, P: PeriodClock, W: WriteLines + Drop>()
+    ensures { (rs : List Round) (old new : DatagramTaker F P W) (peer : SocketAddr)
         (are : AreRounds F.seen F.finishes P.asked rs old new) → old.peers.kept.entries ≡ []
         → StaysThrough F.seen F.finishes P.asked peer rs old new are
         → StandsForAll F.seen (of_peer peer new.peers.kept.entries) (own_of peer rs) }
@@ -33,8 +33,8 @@ pub fn session_that_stays_stands_for_all<F: RecordingFiles, P: PeriodClock, E: W
 
 /// Where no peer was kept at first: behind a round in a new second nobody is kept that has been silent for
 /// longer than a peer may be.
-pub fn nobody_stays_silent<F: RecordingFiles, P: PeriodClock, E: Write + Drop>()
-    ensures { (rs : List Round) (r : Round) (old mid new : DatagramTaker F P E)
+pub fn nobody_stays_silent<F: RecordingFiles, P: PeriodClock, W: WriteLines + Drop>()
+    ensures { (rs : List Round) (r : Round) (old mid new : DatagramTaker F P W)
         → old.peers.kept.entries ≡ [] → AreRounds F.seen F.finishes P.asked rs old mid
         → IsRound F.seen F.finishes P.asked r mid new → mid.second < r.second
         → AreHeard (r.second - mid.idle) new.peers.kept.entries }

@@ -23,5 +23,4 @@ pub use peer_limits::PeerLimits;
 pub use receiving::run_datagrams;
 pub use running::record_datagrams;
 pub use system_socket::SystemSocket;
-pub use taking::take_datagram;
 pub use ticking::{end_silent, go_over, tell_unserved};

@@ -4,7 +4,7 @@ use crate::finishing::{FileQueue, QueueFinisher};
 use recording_connections::SharedCounts;
 use recording_files::PeriodClock;
 use recording_folder::{SessionFiles, SystemPeriods, SystemPlace};
-use recording_lines::Log;
+use recording_lines::WholeLines;
 use recording_peers::PeerPlace;
 use std::alloc::{AllocError, Global};
 use std::fs::Files;
@@ -14,7 +14,7 @@ use std::rt::Clock;
 use std::sync::{Mutex, Wait};
 
 /// The files of a peer, which wait in a queue to be finished.
-type PeerFiles<'a, R, W, E> = SessionFiles<'a, R, QueueFinisher<'a, R, W, E>>;
+pub(crate) type PeerFiles<'a, R, W, E> = SessionFiles<'a, R, QueueFinisher<'a, R, W, E>>;
 
 /// Makes the files of peers in a folder, all in the periods of one clock. They are finished by threads
 /// of their own, and told; and each session has the next number of the shared counts.
@@ -45,7 +45,7 @@ impl<'a, R: Files + Clock, W: Wait, E: Write + Copy + Drop> PeerPlace<PeerFiles<
     ) -> Result<PeerFiles<'a, R, W, E>, AllocError> {
         let number = self.shared.lock(self.waiting).next_session();
         let finisher = QueueFinisher {
-            at_once: self.place.finisher(alloc, Log::new(self.err)),
+            at_once: self.place.finisher(alloc, WholeLines::new(self.err)),
             queue: self.queue,
             waiting: self.waiting,
         };

@@ -1,102 +1,75 @@
 //! The thread that takes datagrams, beside those that finish the files of peers.
 
+ghost use Rattle.std.specs.Prelude.{◌≡◌, [], length, IfOk};
+ghost use Rattle.std.specs.Int.NonZero.{non_zero_u64_get, non_zero_usize_get};
+ghost use Rattle.lru.specs.LruCache.{lru_cache};
+
 use crate::datagram_taker::DatagramTaker;
 use crate::finishing::{FileQueue, start_finishers};
-use crate::peer_folder::PeerFolder;
+use crate::peer_folder::{PeerFiles, PeerFolder};
 use crate::peer_limits::PeerLimits;
 use crate::running::record_datagrams;
 use crate::system_socket::SystemSocket;
 use crossbeam_channel::bounded;
-use recording_connections::{RecordOrder, RecordingFiles, SharedCounts};
+use recording_connections::{RecorderRun, RecordingFiles, SharedCounts};
 use recording_files::PeriodClock;
-use recording_folder::{Folder, SystemPlace};
-use recording_lines::Log;
+use recording_folder::SystemPlace;
+use recording_lines::{WholeLines, write_threads};
 use recording_peers::{PeerPlace, Peers};
-use std::alloc::Global;
+use report_writing::WriteLines;
+use std::alloc::{AllocError, Global};
 use std::fs::File;
 use std::hash::RandomState;
 use std::io::{self, Write};
 use std::rt::Clock;
-use std::sync::{Mutex, Wait};
+use std::sync::Wait;
 use std::thread::{self, Threads};
 use std::time::Instant;
 
 /// How many octets a datagram has at most.
 const MOST_OCTETS: usize = 65_535;
 
-/// Records what comes in datagrams. Without memory for that it is told that the thread could not be started.
+/// Records what comes in datagrams in a run. Without memory for that it is told that the thread could not be started.
 pub fn run_datagrams<E: Write + Copy + Send + Drop, R: Clock + Threads + Wait + Sync>(
-    threads: &R,
-    rt: &HostRuntime,
-    alloc: Global,
+    run: RecorderRun<R>,
     socket: SystemSocket,
-    folder: &Folder,
-    order: &RecordOrder,
     limits: PeerLimits,
-    shared: &Mutex<SharedCounts>,
     err: E,
 ) {
-    if take_all(
-        threads, rt, alloc, socket, folder, order, limits, shared, err,
-    )
-    .is_err()
-    {
-        let _ = Log::new(err).tell_threads(0, 1);
+    if take_all(run, socket, limits, err).is_err() {
+        let _ = write_threads(0, 1, &mut WholeLines::new(err));
     }
 }
 
-// Takes room for the files of all peers behind a period, and then all datagrams.
+// Takes room for the files of all peers after a period, and then all datagrams.
 fn take_all<E: Write + Copy + Send + Drop, R: Clock + Threads + Wait + Sync>(
-    threads: &R,
-    rt: &HostRuntime,
-    alloc: Global,
+    run: RecorderRun<R>,
     socket: SystemSocket,
-    folder: &Folder,
-    order: &RecordOrder,
     limits: PeerLimits,
-    shared: &Mutex<SharedCounts>,
     err: E,
 ) -> io::Result<()> {
-    let (enter, leave) = bounded(alloc, limits.most.get())?;
+    let (enter, leave) = bounded(run.alloc, limits.most.get())?;
     let queue = FileQueue { enter, leave };
-    take_beside_finishers(
-        threads, rt, alloc, socket, folder, order, limits, &queue, shared, err,
-    )
+    take_beside_finishers(run, socket, limits, &queue, err)
 }
 
-// Takes room for the peers and for a datagram, starts the threads that finish files, and takes all datagrams.
+// Takes room for a datagram, starts the threads that finish files, and takes all datagrams.
 fn take_beside_finishers<'x, E: Write + Copy + Send + Drop, R: Clock + Threads + Wait + Sync>(
-    threads: &'x R,
-    rt: &'x HostRuntime,
-    alloc: Global,
+    run: RecorderRun<'x, R>,
     socket: SystemSocket,
-    folder: &'x Folder,
-    order: &'x RecordOrder,
     limits: PeerLimits,
     queue: &'x FileQueue<File>,
-    shared: &'x Mutex<SharedCounts>,
     err: E,
 ) -> io::Result<()> {
-    let buffer = vec![in alloc; 0; MOST_OCTETS]?;
-    let place = SystemPlace::new(rt, folder, order.every.get());
-    let periods = place.periods(alloc)?;
-    let taker = DatagramTaker {
+    let buffer = room_of_datagram(run.alloc)?;
+    let taker = taker_of(run, limits, queue, err)?;
+    let RecorderRun {
+        threads,
+        rt,
         alloc,
-        peers: Peers::new(alloc, limits.most, RandomState::new(rt)?)?,
-        place: PeerFolder {
-            place,
-            periods,
-            queue: Some(queue),
-            shared,
-            waiting: threads,
-            err,
-        },
-        filter: &order.filter,
-        idle: limits.idle,
-        second: 0,
-        unserved: SharedCounts::new(),
-        log: Log::new(err),
-    };
+        folder,
+        ..
+    } = run;
     thread::scope(thread::scope_env(), threads, move |scope| {
         let mut taker = taker;
         if start_finishers(scope, threads, rt, alloc, folder, queue, err) == 0 {
@@ -107,19 +80,69 @@ fn take_beside_finishers<'x, E: Write + Copy + Send + Drop, R: Clock + Threads +
     Ok(())
 }
 
+// Room for the longest datagram.
+fn room_of_datagram(alloc: Global) -> Result<Vec<u8>, AllocError>
+    ensures { IfOk result (λ room. length room.items ≡ 65535) }
+{
+    vec![in alloc; 0; MOST_OCTETS]
+}
+
+// What takes the datagrams of a run, as its order and its limits say.
+fn taker_of<'x, E: Write + Copy + Drop, R: Wait>(
+    run: RecorderRun<'x, R>,
+    limits: PeerLimits,
+    queue: &'x FileQueue<File>,
+    err: E,
+) -> io::Result<
+    DatagramTaker<
+        'x,
+        PeerFiles<'x, HostRuntime, R, E>,
+        PeerFolder<'x, HostRuntime, R, E>,
+        WholeLines<E>,
+    >,
+>
+    ensures filter { IfOk result (λ taker. taker.filter.now ≡ run.entry.order.now.filter) }
+    ensures every { IfOk result (λ taker.
+        taker.place.place.every ≡ non_zero_u64_get run.entry.order.now.every) }
+    ensures most { IfOk result (λ taker.
+        taker.peers.kept ≡ lru_cache [] (non_zero_usize_get limits.most)) }
+    ensures idle { IfOk result (λ taker. taker.idle ≡ limits.idle) }
+    ensures second { IfOk result (λ taker. taker.second ≡ 0) }
+{
+    let place = SystemPlace::new(run.rt, run.folder, run.order.every.get());
+    let periods = place.periods(run.alloc)?;
+    Ok(DatagramTaker {
+        alloc: run.alloc,
+        peers: Peers::new(run.alloc, limits.most, RandomState::new(run.rt)?)?,
+        place: PeerFolder {
+            place,
+            periods,
+            queue: Some(queue),
+            shared: run.shared,
+            waiting: run.threads,
+            err,
+        },
+        filter: &run.order.filter,
+        idle: limits.idle,
+        second: 0,
+        unserved: SharedCounts::new(),
+        out: WholeLines::new(err),
+    })
+}
+
 // Takes all datagrams, for ever.
 fn take_forever<
     F: RecordingFiles + Drop,
     P: PeerPlace<F> + PeriodClock + Drop,
-    E: Write + Drop,
+    W: WriteLines + Drop,
     R: Clock + Wait,
->(waiting: &R, socket: SystemSocket, buffer: Vec<u8>, taker: DatagramTaker<F, P, E>) {
+>(waiting: &R, socket: SystemSocket, buffer: Vec<u8>, taker: DatagramTaker<F, P, W>) {
     let mut socket = socket;
     let mut buffer = buffer;
     let mut taker = taker;
     let start = Instant::now(waiting).ok();
     for _ in waiting.forever() {
-        // (a log that can't be written stops nothing)
+        // (a line that can't be written stops nothing)
         let _ = record_datagrams(
             waiting,
             start,

@@ -8,33 +8,33 @@ use crate::datagram_taker::DatagramTaker;
 use recording_connections::RecordingFiles;
 use recording_files::PeriodClock;
 use recording_peers::{Datagram, DatagramSource, NoDatagram, PeerPlace};
-use std::io::{self, Write};
+use report_writing::WriteLines;
 use std::rt::Clock;
 use std::sync::Wait;
-use std::thread;
 use std::time::{Duration, Instant};
+use std::{io, thread};
 
 /// How many milliseconds it waits if no datagram can be received.
 const PAUSE: u64 = 100;
 
 /// Takes what a source gives in so many rounds: in each it is asked once. Of a datagram that is longer than
 /// the buffer the first octets are taken. Seconds are counted from the start; if a time isn't known the last
-/// one stays. A log that can't be written stops nothing; its first error is the answer.
+/// one stays. A line that can't be written stops nothing; its first error is the answer.
 pub fn record_datagrams<
     D: DatagramSource,
     F: RecordingFiles + Drop,
     P: PeerPlace<F> + PeriodClock,
-    E: Write + Drop,
+    W: WriteLines + Drop,
     R: Clock + Wait,
 >(
     rt: &R,
     start: Option<Instant>,
     source: &mut D,
     buffer: &mut [u8],
-    taker: &mut DatagramTaker<F, P, E>,
+    taker: &mut DatagramTaker<F, P, W>,
     rounds: u64,
 ) -> io::Result<()>
-    ensures { TakesRounds F.seen F.finishes P.asked D.answered E.contents rounds
+    ensures { TakesRounds F.seen F.finishes P.asked D.answered W.contents W.failed rounds
         source.old source.new taker.old taker.new result }
 {
     let mut told: io::Result<()> = Ok(());
@@ -65,16 +65,16 @@ fn take_round<
     D: DatagramSource,
     F: RecordingFiles + Drop,
     P: PeerPlace<F> + PeriodClock,
-    E: Write + Drop,
+    W: WriteLines + Drop,
     R: Clock + Wait,
 >(
     rt: &R,
     start: Option<Instant>,
     source: &mut D,
     buffer: &mut [u8],
-    taker: &mut DatagramTaker<F, P, E>,
+    taker: &mut DatagramTaker<F, P, W>,
 ) -> io::Result<()>
-    ensures { TakesRound F.seen F.finishes P.asked D.answered E.contents
+    ensures { TakesRound F.seen F.finishes P.asked D.answered W.contents W.failed
         source.old source.new taker.old taker.new result }
 {
     let received = ask(rt, source, buffer);

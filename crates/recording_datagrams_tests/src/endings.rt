@@ -1,11 +1,11 @@
 //! What is told of peers that send datagrams.
 
-use super::places::{SmallFiles, SmallPlace};
+use super::places::{PlaceInPeriods, SmallFiles, SmallPlace};
 use network_prefixes::{PeerFilter, Prefix};
 use recording_connections::SharedCounts;
-use recording_datagrams::{end_silent, go_over, take_datagram, tell_unserved};
-use recording_lines::Log;
-use recording_peers::Peers;
+use recording_datagrams::{DatagramTaker, end_silent, go_over, tell_unserved};
+use recording_files::ScriptClock;
+use recording_peers::{Datagram, Peers};
 use std::alloc::Global;
 use std::hash::RandomState;
 use std::net::{IpAddr, Ipv4Addr, SocketAddr};
@@ -44,11 +44,20 @@ pub fn only_from(alloc: Global, word: &str) -> Result<PeerFilter, Fail> {
 fn tell_all(rt: &HostRuntime, out: &mut FailingWriter) -> Result<(), Fail> {
     let alloc: Global = rt.alloc();
     let message = message_of_flows(alloc, 0, 1, &[FLOW])?;
-    let mut log = Log::new(out);
-    let most = NonZeroUsize::new(2).unwrap();
-    let mut peers: Peers<SmallFiles> = Peers::new(alloc, most, RandomState::new(rt)?)?;
     let filter = only_from(alloc, "192.0.2.0/24")?;
-    let mut unserved = SharedCounts::new();
+    let mut taker: DatagramTaker<SmallFiles, PlaceInPeriods, &mut FailingWriter> = DatagramTaker {
+        alloc,
+        peers: Peers::new(alloc, NonZeroUsize::new(2).unwrap(), RandomState::new(rt)?)?,
+        place: PlaceInPeriods {
+            place: SmallPlace { room: 100 },
+            clock: ScriptClock::new(Vec::new(alloc)),
+        },
+        filter: &filter,
+        idle: 10,
+        second: 0,
+        unserved: SharedCounts::new(),
+        out,
+    };
     // (the second flow of a peer finds no room)
     for (network, number, is_flow, now) in [
         (2, 1, true, 0),
@@ -65,22 +74,16 @@ fn tell_all(rt: &HostRuntime, out: &mut FailingWriter) -> Result<(), Fail> {
         } else {
             VERSION_9
         };
-        take_datagram(
-            alloc,
-            &mut peers,
-            &mut SmallPlace { room: 100 },
-            &filter,
-            &mut unserved,
-            SocketAddr::new(IpAddr::V4(Ipv4Addr::new(192, 0, network, number)), 4739),
-            octets,
-            now,
-            &mut log,
-        )?;
+        let received = Datagram {
+            length: octets.len(),
+            peer: SocketAddr::new(IpAddr::V4(Ipv4Addr::new(192, 0, network, number)), 4739),
+        };
+        taker.take(Ok(received), octets, now)?;
     }
-    go_over(&mut peers, false, &mut log)?;
-    end_silent(&mut peers, 3, &mut log)?;
-    end_silent(&mut peers, 4, &mut log)?;
-    tell_unserved(&mut unserved, &mut log)?;
+    go_over(&mut taker.peers, false, &mut taker.out)?;
+    end_silent(&mut taker.peers, 3, &mut taker.out)?;
+    end_silent(&mut taker.peers, 4, &mut taker.out)?;
+    tell_unserved(&mut taker.unserved, &mut taker.out)?;
     Ok(())
 }
 

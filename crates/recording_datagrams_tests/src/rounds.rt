@@ -5,7 +5,7 @@ use super::places::{PlaceInPeriods, SmallPlace};
 use recording_connections::SharedCounts;
 use recording_datagrams::{DatagramTaker, record_datagrams};
 use recording_files::ScriptClock;
-use recording_lines::Log;
+use recording_lines::WholeLines;
 use recording_peers::{NoDatagram, Peers, ScriptDatagrams, ScriptedDatagram};
 use std::alloc::{AllocError, Global};
 use std::hash::RandomState;
@@ -49,7 +49,7 @@ fn each_datagram_is_taken_once(rt: HostRuntime) -> Result<(), Fail> {
         idle: 10,
         second: 0,
         unserved: SharedCounts::new(),
-        log: Log::new(&mut out),
+        out: WholeLines::new(&mut out),
     };
     let mut buffer = [0; 200];
     record_datagrams(&rt, None, &mut source, &mut buffer, &mut taker, 5)?;

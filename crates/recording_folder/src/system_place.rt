@@ -21,7 +21,8 @@ use std::sync::Arc;
 pub struct SystemPlace<'a, R> {
     rt: &'a R,
     folder: &'a Folder,
-    every: u64,
+    /// How many seconds a period has.
+    pub every: u64,
     ghost lasts: { 0 < every },
 }
 
@@ -36,6 +37,7 @@ impl<'a, R: Files + Clock> SystemPlace<'a, R> {
     /// Periods have `every` seconds.
     pub fn new(rt: &'a R, folder: &'a Folder, every: u64) -> Self
         requires { 0 < every }
+        ensures { result.every ≡ every }
     {
         SystemPlace { rt, folder, every }
     }

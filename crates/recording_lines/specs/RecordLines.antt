@@ -1,5 +1,6 @@
 -- The lines that tell of recordings.
 use Rattle.std.specs.Prelude.{ℕ, List, [], ◌++◌, codes, decimal, ◌==◌, ◌&&◌, if◌then◌else◌}
+use Rattle.std.specs.List.{flat_map}
 use Rattle.std.specs.Net.Text.{socket_text}
 use Rattle.std.specs.declared.net.socket_addr.SocketAddr.{SocketAddr}
 use Rattle.ipfix_session.specs.declared.report.DomainReport.{DomainReport}
@@ -10,25 +11,24 @@ use Rattle.recording_files.specs.declared.finished_files.Recovered.TheVariants.{
 -- ---- a file that is finished
 
 -- what the exporter sent in it
-unfoldable pub counts_text : ℕ → ℕ → List ℕ
-counts_text messages records = codes ": messages " ++ (decimal messages ++ (codes ", records " ++ decimal records))
+unfoldable pub counts_text : FileReport → List ℕ
+counts_text r = codes ": messages " ++ (decimal r.messages ++ (codes ", records " ++ decimal r.records))
 
-unfoldable pub losses_text : ℕ → ℕ → List ℕ
-losses_text lost backward = codes ", lost " ++ (decimal lost ++ (codes ", backward " ++ decimal backward))
+unfoldable pub losses_text : FileReport → List ℕ
+losses_text r = codes ", lost " ++ (decimal r.lost ++ (codes ", backward " ++ decimal r.backward))
 
-unfoldable pub uncounted_text : ℕ → ℕ → List ℕ
-uncounted_text unknown_sets unaccounted = codes ", unknown_sets " ++ (decimal unknown_sets ++ (codes ", unaccounted " ++ decimal unaccounted))
+unfoldable pub uncounted_text : FileReport → List ℕ
+uncounted_text r = codes ", unknown_sets " ++ (decimal r.unknown_sets ++ (codes ", unaccounted " ++ decimal r.unaccounted))
 
 -- what had no template, if there was any
-abbrev pub uncounted_end : ℕ → ℕ → List ℕ
-uncounted_end unknown_sets unaccounted = if (unknown_sets == 0) && (unaccounted == 0) then [] else uncounted_text unknown_sets unaccounted
+abbrev pub uncounted_end : FileReport → List ℕ
+uncounted_end r = if (r.unknown_sets == 0) && (r.unaccounted == 0) then [] else uncounted_text r
 
 unfoldable pub line_start : List ℕ → List ℕ
 line_start name = codes "collectd: " ++ name
 
 abbrev pub finished_line : List ℕ → FileReport → List ℕ
-finished_line path r =
-    line_start path ++ (counts_text r.messages r.records ++ (losses_text r.lost r.backward ++ (uncounted_end r.unknown_sets r.unaccounted ++ codes "\n")))
+finished_line path r = line_start path ++ (counts_text r ++ (losses_text r ++ (uncounted_end r ++ codes "\n")))
 
 -- one that could not be finished
 unfoldable pub not_finished_line : List ℕ → List ℕ
@@ -36,21 +36,24 @@ not_finished_line path = codes "collectd: not finished: " ++ (path ++ codes "\n"
 
 -- ---- a session that has ended, with its peer in place of a number
 
-unfoldable pub peer_loss_line : List ℕ → DomainReport → List ℕ
+unfoldable pub peer_loss_line : SocketAddr → DomainReport → List ℕ
 peer_loss_line peer d =
-    codes "collectd: session " ++ (peer ++ (codes ": domain " ++ (decimal d.domain ++ (codes ": lost " ++ (decimal d.lost ++ (codes " backward " ++ (decimal d.backward ++ codes "\n")))))))
+    codes "collectd: session " ++ (socket_text peer ++ (codes ": domain " ++ (decimal d.domain ++ (codes ": lost " ++ (decimal d.lost ++ (codes " backward " ++ (decimal d.backward ++ codes "\n")))))))
 
 -- a domain has a line if records of it were lost or its sequence number went backward
 abbrev pub peer_domain_lines : SocketAddr → DomainReport → List ℕ
-peer_domain_lines peer d = if (d.lost == 0) && (d.backward == 0) then [] else peer_loss_line (socket_text peer) d
+peer_domain_lines peer d = if (d.lost == 0) && (d.backward == 0) then [] else peer_loss_line peer d
 
-unfoldable pub peer_fault_line : List ℕ → ℕ → List ℕ → List ℕ
-peer_fault_line peer number name = codes "collectd: session " ++ (peer ++ (codes ": fault " ++ (decimal number ++ (codes " " ++ (name ++ codes "\n")))))
+abbrev pub peer_loss_lines : SocketAddr → List DomainReport → List ℕ
+peer_loss_lines peer ds = flat_map (peer_domain_lines peer) ds
+
+unfoldable pub peer_fault_line : SocketAddr → ℕ → List ℕ → List ℕ
+peer_fault_line peer number name = codes "collectd: session " ++ (socket_text peer ++ (codes ": fault " ++ (decimal number ++ (codes " " ++ (name ++ codes "\n")))))
 
 -- ---- peers that have no session
 
-unfoldable pub refused_line : ℕ → List ℕ → List ℕ
-refused_line count last = codes "collectd: refused " ++ (decimal count ++ (codes " connections, last " ++ (last ++ codes "\n")))
+unfoldable pub refused_line : ℕ → SocketAddr → List ℕ
+refused_line count last = codes "collectd: refused " ++ (decimal count ++ (codes " connections, last " ++ (socket_text last ++ codes "\n")))
 
 unfoldable pub not_accepted_line : ℕ → List ℕ
 not_accepted_line count = codes "collectd: record: accept failed " ++ (decimal count ++ codes " times\n")
@@ -58,22 +61,22 @@ not_accepted_line count = codes "collectd: record: accept failed " ++ (decimal c
 -- ---- peers that send datagrams
 
 -- datagrams of a peer that were refused, each alone, and the fault of the last
-unfoldable pub refused_datagrams_line : List ℕ → ℕ → ℕ → List ℕ → List ℕ
+unfoldable pub refused_datagrams_line : SocketAddr → ℕ → ℕ → List ℕ → List ℕ
 refused_datagrams_line peer count number name =
-    codes "collectd: session " ++ (peer ++ (codes ": refused " ++ (decimal count ++ (codes " datagrams, last fault " ++ (decimal number ++ (codes " " ++ (name ++ codes "\n")))))))
+    codes "collectd: session " ++ (socket_text peer ++ (codes ": refused " ++ (decimal count ++ (codes " datagrams, last fault " ++ (decimal number ++ (codes " " ++ (name ++ codes "\n")))))))
 
 -- a peer that was ended, and why
-unfoldable pub peer_ended_line : List ℕ → List ℕ → List ℕ
-peer_ended_line peer why = codes "collectd: session " ++ (peer ++ (codes ": ended: " ++ (why ++ codes "\n")))
+unfoldable pub peer_ended_line : SocketAddr → List ℕ → List ℕ
+peer_ended_line peer why = codes "collectd: session " ++ (socket_text peer ++ (codes ": ended: " ++ (why ++ codes "\n")))
 
 -- how far the sequence number of a domain advanced, and the data records that came
-unfoldable pub advance_line : List ℕ → ℕ → ℕ → ℕ → List ℕ
-advance_line peer domain advance records =
-    codes "collectd: session " ++ (peer ++ (codes ": domain " ++ (decimal domain ++ (codes ": sequence numbers advanced by " ++ (decimal advance ++ (codes ", records " ++ (decimal records ++ codes "\n")))))))
+unfoldable pub advance_line : SocketAddr → ℕ → ℕ → ℕ → List ℕ
+advance_line peer domain advance came =
+    codes "collectd: session " ++ (socket_text peer ++ (codes ": domain " ++ (decimal domain ++ (codes ": sequence numbers advanced by " ++ (decimal advance ++ (codes ", records " ++ (decimal came ++ codes "\n")))))))
 
 -- datagrams of peers that have no session
-unfoldable pub turned_away_line : ℕ → List ℕ → List ℕ
-turned_away_line count last = codes "collectd: refused " ++ (decimal count ++ (codes " datagrams, last " ++ (last ++ codes "\n")))
+unfoldable pub turned_away_line : ℕ → SocketAddr → List ℕ
+turned_away_line count last = codes "collectd: refused " ++ (decimal count ++ (codes " datagrams, last " ++ (socket_text last ++ codes "\n")))
 
 unfoldable pub not_received_line : ℕ → List ℕ
 not_received_line count = codes "collectd: record: receive failed " ++ (decimal count ++ codes " times\n")

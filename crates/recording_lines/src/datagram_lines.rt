@@ -1,24 +1,23 @@
 //! The lines of peers that send datagrams.
 
-ghost use Rattle.std.specs.Prelude.{OnOk};
-ghost use Rattle.std.specs.Net.Text.{socket_text};
-ghost use Rattle.std.specs.Io.KnownBytes.{Appends};
+ghost use Rattle.report_writing.specs.Writing.{Tells};
 ghost use Rattle.recording_lines.specs.RecordLines.{advance_line, not_received_line, peer_ended_line, refused_datagrams_line, turned_away_line};
 
-use std::io::{self, Write};
+use report_writing::WriteLines;
+use std::io;
 use std::net::SocketAddr;
 
 /// Writes how many datagrams of a peer were refused, and the fault of the last.
 #[tactic(auto, unfolding(crate::specs::RecordLines::refused_datagrams_line))]
-pub fn write_refused_datagrams<W: Write>(
+pub fn write_refused_datagrams<W: WriteLines>(
     peer: SocketAddr,
     count: u64,
     number: u8,
     name: &str,
     out: &mut W,
 ) -> io::Result<()>
-    ensures { OnOk result (Appends (W.contents out.old) (W.contents out.new)
-        (refused_datagrams_line (socket_text peer) count number name.now)) }
+    ensures { Tells W.contents W.failed out.old out.new result
+        (refused_datagrams_line peer count number name.now) }
 {
     writeln!(
         out,
@@ -28,45 +27,45 @@ pub fn write_refused_datagrams<W: Write>(
 
 /// Writes that a peer was ended, and why.
 #[tactic(auto, unfolding(crate::specs::RecordLines::peer_ended_line))]
-pub fn write_peer_ended<W: Write>(peer: SocketAddr, why: &str, out: &mut W) -> io::Result<()>
-    ensures { OnOk result (Appends (W.contents out.old) (W.contents out.new)
-        (peer_ended_line (socket_text peer) why.now)) }
+pub fn write_peer_ended<W: WriteLines>(peer: SocketAddr, why: &str, out: &mut W) -> io::Result<()>
+    ensures { Tells W.contents W.failed out.old out.new result
+        (peer_ended_line peer why.now) }
 {
     writeln!(out, "collectd: session {peer}: ended: {why}")
 }
 
 /// Writes how far the sequence number of a domain advanced, and how many data records came.
 #[tactic(auto, unfolding(crate::specs::RecordLines::advance_line))]
-pub fn write_advance<W: Write>(
+pub fn write_advance<W: WriteLines>(
     peer: SocketAddr,
     domain: u32,
     advance: u64,
-    records: u64,
+    came: u64,
     out: &mut W,
 ) -> io::Result<()>
-    ensures { OnOk result (Appends (W.contents out.old) (W.contents out.new)
-        (advance_line (socket_text peer) domain advance records)) }
+    ensures { Tells W.contents W.failed out.old out.new result
+        (advance_line peer domain advance came) }
 {
     writeln!(
         out,
-        "collectd: session {peer}: domain {domain}: sequence numbers advanced by {advance}, records {records}"
+        "collectd: session {peer}: domain {domain}: sequence numbers advanced by {advance}, records {came}"
     )
 }
 
 /// Writes how many datagrams of peers that have no session were refused, and which peer sent the last.
 #[tactic(auto, unfolding(crate::specs::RecordLines::turned_away_line))]
-pub fn write_turned_away<W: Write>(count: u64, last: SocketAddr, out: &mut W) -> io::Result<()>
-    ensures { OnOk result (Appends (W.contents out.old) (W.contents out.new)
-        (turned_away_line count (socket_text last))) }
+pub fn write_turned_away<W: WriteLines>(count: u64, last: SocketAddr, out: &mut W) -> io::Result<()>
+    ensures { Tells W.contents W.failed out.old out.new result
+        (turned_away_line count last) }
 {
     writeln!(out, "collectd: refused {count} datagrams, last {last}")
 }
 
 /// Writes how often no datagram could be received.
 #[tactic(auto, unfolding(crate::specs::RecordLines::not_received_line))]
-pub fn write_not_received<W: Write>(count: u64, out: &mut W) -> io::Result<()>
-    ensures { OnOk result (Appends (W.contents out.old) (W.contents out.new)
-        (not_received_line count)) }
+pub fn write_not_received<W: WriteLines>(count: u64, out: &mut W) -> io::Result<()>
+    ensures { Tells W.contents W.failed out.old out.new result
+        (not_received_line count) }
 {
     writeln!(out, "collectd: record: receive failed {count} times")
 }

@@ -1,20 +1,22 @@
-//! A log is told of files that are finished.
+//! Files that are finished have a line each.
 
-use crate::log::Log;
+use crate::file_lines::{write_finished, write_not_finished};
+use crate::notice_lines::write_outcome;
+use crate::whole_lines::WholeLines;
 use recording_files::{FileReport, FinishedFiles, Recovered};
 use std::io::Write;
 
-impl<E: Write + Drop> FinishedFiles for Log<E> {
+impl<E: Write + Drop> FinishedFiles for WholeLines<E> {
     fn finished(&mut self, path: &str, report: &FileReport) {
-        // (a log that can't be written stops nothing)
-        let _ = self.tell_finished(path, report);
+        // (a line that can't be written stops nothing)
+        let _ = write_finished(path, report, self);
     }
 
     fn not_finished(&mut self, path: &str) {
-        let _ = self.tell_not_finished(path);
+        let _ = write_not_finished(path, self);
     }
 
     fn recovered(&mut self, path: &str, outcome: Recovered) {
-        let _ = self.tell_recovered(path, outcome);
+        let _ = write_outcome(path, outcome, self);
     }
 }

@@ -3,11 +3,17 @@
 #![tactic(auto)]
 
 mod datagram_lines;
-mod datagram_log;
 mod file_lines;
 mod finished;
-mod log;
+pub mod laws;
 mod notice_lines;
 mod session_lines;
+mod whole_lines;
 
-pub use log::Log;
+pub use datagram_lines::{
+    write_advance, write_not_received, write_peer_ended, write_refused_datagrams, write_turned_away,
+};
+pub use file_lines::{write_finished, write_not_finished};
+pub use notice_lines::{write_not_accepted, write_outcome, write_refused, write_threads};
+pub use session_lines::{write_peer_fault, write_peer_losses};
+pub use whole_lines::WholeLines;

@@ -1,45 +1,44 @@
 //! The lines of peers that have no session, of threads, and of files that an earlier run left.
 
-ghost use Rattle.std.specs.Prelude.{OnOk};
-ghost use Rattle.std.specs.Net.Text.{socket_text};
-ghost use Rattle.std.specs.Io.KnownBytes.{Appends};
+ghost use Rattle.report_writing.specs.Writing.{Tells};
 ghost use Rattle.recording_lines.specs.RecordLines.{cut_off_line, not_accepted_line, outcome_line, recovered_line, refused_line, removed_line, stayed_line, threads_line, truncated_line};
 
 use recording_files::Recovered;
-use std::io::{self, Write};
+use report_writing::WriteLines;
+use std::io;
 use std::net::SocketAddr;
 
 /// Writes how many peers were refused, and which was the last.
 #[tactic(auto, unfolding(crate::specs::RecordLines::refused_line))]
-pub fn write_refused<W: Write>(count: u64, last: SocketAddr, out: &mut W) -> io::Result<()>
-    ensures { OnOk result (Appends (W.contents out.old) (W.contents out.new)
-        (refused_line count (socket_text last))) }
+pub fn write_refused<W: WriteLines>(count: u64, last: SocketAddr, out: &mut W) -> io::Result<()>
+    ensures { Tells W.contents W.failed out.old out.new result
+        (refused_line count last) }
 {
     writeln!(out, "collectd: refused {count} connections, last {last}")
 }
 
 /// Writes how often no connection could be accepted.
 #[tactic(auto, unfolding(crate::specs::RecordLines::not_accepted_line))]
-pub fn write_not_accepted<W: Write>(count: u64, out: &mut W) -> io::Result<()>
-    ensures { OnOk result (Appends (W.contents out.old) (W.contents out.new)
-        (not_accepted_line count)) }
+pub fn write_not_accepted<W: WriteLines>(count: u64, out: &mut W) -> io::Result<()>
+    ensures { Tells W.contents W.failed out.old out.new result
+        (not_accepted_line count) }
 {
     writeln!(out, "collectd: record: accept failed {count} times")
 }
 
 /// Writes how many threads could be started, of how many.
 #[tactic(auto, unfolding(crate::specs::RecordLines::threads_line))]
-pub fn write_threads<W: Write>(started: usize, threads: usize, out: &mut W) -> io::Result<()>
-    ensures { OnOk result (Appends (W.contents out.old) (W.contents out.new)
-        (threads_line started threads)) }
+pub fn write_threads<W: WriteLines>(started: usize, threads: usize, out: &mut W) -> io::Result<()>
+    ensures { Tells W.contents W.failed out.old out.new result
+        (threads_line started threads) }
 {
     writeln!(out, "collectd: record: threads {started} of {threads}")
 }
 
 /// Writes what became of a file that an earlier run left.
-pub fn write_outcome<W: Write>(path: &str, outcome: Recovered, out: &mut W) -> io::Result<()>
-    ensures { OnOk result (Appends (W.contents out.old) (W.contents out.new)
-        (outcome_line path.now outcome)) }
+pub fn write_outcome<W: WriteLines>(path: &str, outcome: Recovered, out: &mut W) -> io::Result<()>
+    ensures { Tells W.contents W.failed out.old out.new result
+        (outcome_line path.now outcome) }
 {
     match outcome {
         Recovered::Whole => write_recovered(path, out),
@@ -52,9 +51,9 @@ pub fn write_outcome<W: Write>(path: &str, outcome: Recovered, out: &mut W) -> i
 
 // Writes that a file had so many octets and no whole message, and went away.
 #[tactic(auto, unfolding(crate::specs::RecordLines::removed_line))]
-fn write_removed<W: Write>(path: &str, octets: u64, out: &mut W) -> io::Result<()>
-    ensures { OnOk result (Appends (W.contents out.old) (W.contents out.new)
-        (removed_line path.now octets)) }
+fn write_removed<W: WriteLines>(path: &str, octets: u64, out: &mut W) -> io::Result<()>
+    ensures { Tells W.contents W.failed out.old out.new result
+        (removed_line path.now octets) }
 {
     writeln!(
         out,
@@ -64,27 +63,27 @@ fn write_removed<W: Write>(path: &str, octets: u64, out: &mut W) -> io::Result<(
 
 // Writes that a file was moved to its period's folder, and has whole messages alone.
 #[tactic(auto, unfolding(crate::specs::RecordLines::recovered_line))]
-fn write_recovered<W: Write>(path: &str, out: &mut W) -> io::Result<()>
-    ensures { OnOk result (Appends (W.contents out.old) (W.contents out.new)
-        (recovered_line path.now)) }
+fn write_recovered<W: WriteLines>(path: &str, out: &mut W) -> io::Result<()>
+    ensures { Tells W.contents W.failed out.old out.new result
+        (recovered_line path.now) }
 {
     writeln!(out, "collectd: recovered: {path}")
 }
 
 // Writes that a file was moved, and so many octets of a message were cut off its end.
 #[tactic(auto, unfolding(crate::specs::RecordLines::cut_off_line))]
-fn write_cut_off<W: Write>(path: &str, octets: u64, out: &mut W) -> io::Result<()>
-    ensures { OnOk result (Appends (W.contents out.old) (W.contents out.new)
-        (cut_off_line path.now octets)) }
+fn write_cut_off<W: WriteLines>(path: &str, octets: u64, out: &mut W) -> io::Result<()>
+    ensures { Tells W.contents W.failed out.old out.new result
+        (cut_off_line path.now octets) }
 {
     writeln!(out, "collectd: recovered: {path}: cut off {octets} octets")
 }
 
 // Writes that a file was moved, and so many octets of a message still stand at its end.
 #[tactic(auto, unfolding(crate::specs::RecordLines::truncated_line))]
-fn write_truncated<W: Write>(path: &str, octets: u64, out: &mut W) -> io::Result<()>
-    ensures { OnOk result (Appends (W.contents out.old) (W.contents out.new)
-        (truncated_line path.now octets)) }
+fn write_truncated<W: WriteLines>(path: &str, octets: u64, out: &mut W) -> io::Result<()>
+    ensures { Tells W.contents W.failed out.old out.new result
+        (truncated_line path.now octets) }
 {
     writeln!(
         out,
@@ -94,9 +93,9 @@ fn write_truncated<W: Write>(path: &str, octets: u64, out: &mut W) -> io::Result
 
 // Writes that a file stays among the unfinished ones.
 #[tactic(auto, unfolding(crate::specs::RecordLines::stayed_line))]
-fn write_stayed<W: Write>(path: &str, out: &mut W) -> io::Result<()>
-    ensures { OnOk result (Appends (W.contents out.old) (W.contents out.new)
-        (stayed_line path.now)) }
+fn write_stayed<W: WriteLines>(path: &str, out: &mut W) -> io::Result<()>
+    ensures { Tells W.contents W.failed out.old out.new result
+        (stayed_line path.now) }
 {
     writeln!(out, "collectd: not recovered: {path}")
 }

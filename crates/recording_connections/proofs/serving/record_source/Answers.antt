@@ -8,5 +8,5 @@ returns g c = record {
   recorded = c.record-session.ensures c.requires;
   finished = c.finish-finished.result;
   is_finished = c.finish-finished.ensures;
-  told = c.tell_session.ensures;
+  told = c.write_session.ensures;
 }

@@ -7,4 +7,7 @@ use Rattle.recording_datagrams.proofs.ending.tell_advances.Given as goal
 
 -- the first of them are told
 abbrev pub invariant-loop-index : goal.invariant-loop-index
-invariant-loop-index g l = Appends (g.E.Write.contents l.fn.log) (g.E.Write.contents l.log) (flat_map (domain_advance_line l.peer) (take l.index (told_of l.advances.reaches)))
+invariant-loop-index g l = record {
+  told : Appends (g.W.WriteLines.contents l.fn.out) (g.W.WriteLines.contents l.out) (flat_map (domain_advance_line l.peer) (take l.index (told_of l.advances.reaches)));
+  kept : g.W.WriteLines.failed l.fn.out → g.W.WriteLines.failed l.out;
+}

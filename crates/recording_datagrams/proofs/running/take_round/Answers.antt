@@ -1,6 +1,6 @@
 use Rattle.std.proofs.Common.{[], ◌∷◌, refl, sym, subst, arith}
 use Rattle.recording_peers.specs.Answers.{Answer, Gives}
-use Rattle.recording_datagrams.proofs.Told.{and_told}
+use Rattle.recording_datagrams.proofs.Told.{and_tells}
 use Rattle.recording_datagrams.proofs.running.take_round.Goals as goal
 
 pub returns : goal.returns
@@ -23,6 +23,6 @@ returns g c =
       };
       given = subst (λ (a : Answer). Gives g.D.DatagramSource.answered (a ∷ []) c.args.source.now c.ask-received.new.source) (sym taken.1) c.ask-received.ensures.gives;
       told = rw (c.and-2.ensures, c.and.ensures)
-          (and_told c.keep_to_periods-kept.result _ _ (g.E.Write.contents c.keep_to_periods-kept.new.self.log) _ _ _ kept.1.told
-          (and_told c.take-taken.result c.go_on_to.result _ (g.E.Write.contents c.take-taken.new.self.log) _ _ _ taken.2.told c.go_on_to.ensures.told));
+          (and_tells kept.1.told
+          (and_tells taken.2.told c.go_on_to.ensures.told));
     }

@@ -1,5 +1,5 @@
 use Rattle.std.proofs.Common.{refl}
-use Rattle.recording_datagrams.proofs.Told.{and_told}
+use Rattle.recording_datagrams.proofs.Told.{and_tells}
 use Rattle.recording_datagrams.proofs.taking.record_and_tell.Goals as goal
 
 pub returns : goal.returns
@@ -16,5 +16,5 @@ returns g c = record {
     becomes = c.tell_became.ensures.are;
     lines_are = refl;
   };
-  told = rw c.and.ensures (and_told c.tell_gone-told.result c.tell_became.result _ (g.E.Write.contents c.tell_gone-told.new.log) _ _ _ c.tell_gone-told.ensures.told c.tell_became.ensures.told);
+  told = rw c.and.ensures (and_tells c.tell_gone-told.ensures.told c.tell_became.ensures.told);
 }

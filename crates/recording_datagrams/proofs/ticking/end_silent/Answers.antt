@@ -1,7 +1,17 @@
-use Rattle.std.proofs.Common.{◌∙◌}
-use Rattle.recording_datagrams.proofs.GoingOver.{one_ended}
-use Rattle.recording_datagrams.proofs.Told.{and_told}
+use Rattle.std.proofs.Common.{[], refl, ◌∙◌}
+use Rattle.recording_datagrams.proofs.GoingOver.{none_ended, one_ended}
+use Rattle.recording_datagrams.proofs.Told.{and_tells, tells_nothing}
 use Rattle.recording_datagrams.proofs.ticking.end_silent.Goals as goal
+
+pub loop-init : goal.loop-init
+loop-init g c = (
+  record {
+    lines = [];
+    are = none_ended g.F.RecordingFiles.finishes c.args.since c.args.peers.now.kept.entries;
+    told = tells_nothing;
+  },
+  refl,
+)
 
 pub loop-preserved : goal.loop-preserved
 loop-preserved g c =
@@ -10,7 +20,7 @@ loop-preserved g c =
       record {
         lines = _;
         are = one_ended g.F.RecordingFiles.finishes c.args.since c.args.peers.now.kept.entries c.loop.peers.kept.entries c.end_one.new.peers.kept.entries c.loop.counter was.lines ended.lines was.are ended.are;
-        told = rw c.and-told.ensures (and_told c.loop.told c.in-Some.ended _ (g.E.Write.contents c.loop.log) _ _ _ was.told ended.told);
+        told = rw c.and-told.ensures (and_tells was.told ended.told);
       },
       c.in-Some.ensures.room ∙ c.loop.invariant.1,
     )

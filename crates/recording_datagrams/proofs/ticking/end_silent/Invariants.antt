@@ -1,9 +1,9 @@
 use Rattle.std.proofs.Common.{◌≡◌}
-use Rattle.recording_datagrams.specs.Ending.{AreTold}
+use Rattle.recording_datagrams.specs.Ending.{TellsSome}
 use Rattle.recording_datagrams.proofs.GoingOver.{EndedBehind}
 use Rattle.recording_datagrams.proofs.ticking.end_silent.Given as goal
 
 abbrev pub invariant-loop : goal.invariant-loop
 invariant-loop g l =
-    AreTold g.E.Write.contents (EndedBehind g.F.RecordingFiles.finishes l.since l.fn.peers.kept.entries l.peers.kept.entries l.counter) l.fn.log l.log l.told
+    TellsSome g.W.WriteLines.contents g.W.WriteLines.failed l.fn.out l.out l.told (EndedBehind g.F.RecordingFiles.finishes l.since l.fn.peers.kept.entries l.peers.kept.entries l.counter)
     × (l.peers.kept.cap ≡ l.fn.peers.kept.cap)

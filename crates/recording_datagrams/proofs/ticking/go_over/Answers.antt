@@ -1,6 +1,6 @@
 use Rattle.std.proofs.Common.{[], refl, arith, ◌∙◌}
 use Rattle.recording_datagrams.proofs.GoingOver.{gone_first, gone_later, gone_over}
-use Rattle.recording_datagrams.proofs.Told.{told_nothing, and_told}
+use Rattle.recording_datagrams.proofs.Told.{tells_nothing, and_tells}
 use Rattle.recording_datagrams.proofs.ticking.go_over.Goals as goal
 
 pub loop-init : goal.loop-init
@@ -8,7 +8,7 @@ loop-init g c = (
   record {
     lines = [];
     are = gone_first g.F.FileSeries.seen g.F.RecordingFiles.finishes c.args.is_over c.args.peers.now.kept.entries;
-    told = told_nothing (g.E.Write.contents c.args.log.now);
+    told = tells_nothing;
   },
   refl,
 )
@@ -21,7 +21,7 @@ loop-preserved g c =
       record {
         lines = _;
         are = turn.1;
-        told = rw c.and-told.ensures (and_told c.loop.told c.go_on.result _ (g.E.Write.contents c.loop.log) _ _ _ was.told turn.0.told);
+        told = rw c.and-told.ensures (and_tells was.told turn.0.told);
       },
       c.go_on.ensures.room ∙ c.loop.invariant.1,
     )

@@ -1,7 +1,7 @@
 use Rattle.std.proofs.Common.{◌≡◌, ◌∙◌, ap, [], Ok, Err, refl}
 use Rattle.recording_peers.specs.declared.datagram_source.NoDatagram.{NoDatagram}
 use Rattle.recording_peers.specs.declared.datagram_source.NoDatagram.TheVariants.{Tick, Failed}
-use Rattle.recording_datagrams.proofs.Told.{told_nothing}
+use Rattle.recording_datagrams.proofs.Told.{tells_nothing}
 use Rattle.recording_datagrams.proofs.RoundLemmas.{counted_so, so_answered}
 use Rattle.recording_datagrams.proofs.datagram_taker.DatagramTaker.take.Goals as goal
 
@@ -13,7 +13,7 @@ pub returns-in-Err-Tick : goal.returns-in-Err-Tick
 returns-in-Err-Tick g c =
     let why = rw c.in-Err-Tick.is at c.in-Err-Tick.field-0-is in
     let is : c.args.received ≡ Err Tick = c.in-Err-Tick.is ∙ ap (λ (e : NoDatagram). Err e) why in
-    (Err Tick, so_answered c.args.received (Err Tick) c.args.buffer.now is, record { lines = []; are = (refl, refl); told = told_nothing (g.E.Write.contents c.args.self.now.log) })
+    (Err Tick, so_answered c.args.received (Err Tick) c.args.buffer.now is, record { lines = []; are = (refl, refl); told = tells_nothing })
 
 pub returns-in-Err-Failed : goal.returns-in-Err-Failed
 returns-in-Err-Failed g c =
@@ -24,6 +24,6 @@ returns-in-Err-Failed g c =
       record {
         lines = [];
         are = (counted_so c.args.self.now c.count_not_accepted.new.self c.count_not_accepted.ensures.counted c.count_not_accepted.ensures.sessions c.count_not_accepted.ensures.refused, refl);
-        told = told_nothing (g.E.Write.contents c.args.self.now.log);
+        told = tells_nothing;
       },
     )

@@ -1,5 +1,5 @@
 use Rattle.std.proofs.Common.{refl, ◌∙◌}
-use Rattle.recording_datagrams.proofs.Told.{and_told}
+use Rattle.recording_datagrams.proofs.Told.{and_tells}
 use Rattle.recording_datagrams.proofs.datagram_taker.DatagramTaker.tell_and_end.Goals as goal
 
 pub returns : goal.returns
@@ -19,6 +19,6 @@ returns g c =
         others = rw c.tell_unserved-unserved.ensures.none_left refl;
       };
       told = rw (c.and-2.ensures, c.and.ensures)
-          (and_told c.go_over-told.result _ _ (g.E.Write.contents c.go_over-told.new.log) _ _ _ turns.told
-          (and_told c.end_silent-ended.result c.tell_unserved-unserved.result _ (g.E.Write.contents c.end_silent-ended.new.log) _ _ _ silent.told c.tell_unserved-unserved.ensures.told));
+          (and_tells turns.told
+          (and_tells silent.told c.tell_unserved-unserved.ensures.told));
     }
