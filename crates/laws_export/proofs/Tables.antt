@@ -1,28 +1,22 @@
 -- Rows that fit a plan, as values.
-use Rattle.std.proofs.Common.{◌≡◌, ℕ, ◌^◌, ◌<◌, List, [], ◌∷◌, length, map, All, sym, subst}
+use Rattle.std.proofs.Common.{◌≡◌, ℕ, ◌^◌, ◌<◌, List, length, map, All, sym, subst}
 use Rattle.std.specs.List.Sorted.{IsStrictlySortedBy}
 use Rattle.std.proofs.lemmas.List.{length-map}
-use Rattle.std.proofs.lemmas.List.Elements.{All-nil, All-cons, All-head, All-tail, All-weaker}
+use Rattle.std.proofs.lemmas.List.Elements.{All-map, All-weaker}
 use Rattle.flow_table.specs.declared.table.Row.{Row}
 use Rattle.flow_table.specs.declared.table.Table.{Table}
 use Rattle.flow_table.specs.Fitting.{FitsRow, FitsPlan}
 use Rattle.flow_table.specs.Plans.{PlanValue, IsPlan}
-use Rattle.flow_table.specs.SameTables.{RowValue, value_of}
+use Rattle.flow_table.specs.SameTables.{value_of}
 use Rattle.flow_table.specs.Tables.{place_cmp}
 use Rattle.flow_table.proofs.RowsHeld.{places_of_values}
 use Rattle.flow_export.specs.CsvText.{last_of}
 use Rattle.flow_export.specs.Fitting.{FitsValue}
 use Rattle.laws_export.specs.ReadBack.{CanBeExported, CanBeCounted, IsWhole}
 
-All-values : (P : RowValue → Type 0) (rows : List Row) → All (λ row. P (value_of row)) rows → All P (map value_of rows)
-All-values P [] all = All-nil P
-All-values P (row ∷ rows) all = All-cons P (value_of row) (map value_of rows) (All-head (λ r. P (value_of r)) row rows all) (All-values P rows (All-tail (λ r. P (value_of r)) row rows all))
-
 values_fit : (plan : PlanValue) (rows : List Row) → All (FitsRow plan) rows → All (FitsValue plan) (map value_of rows)
-values_fit plan [] all = All-nil (FitsValue plan)
-values_fit plan (row ∷ rows) all =
-    let one = All-head (FitsRow plan) row rows all in
-    All-cons (FitsValue plan) (value_of row) (map value_of rows) (record { key = one.key; sums = one.sums }) (values_fit plan rows (All-tail (FitsRow plan) row rows all))
+values_fit plan rows all =
+    All-map (FitsValue plan) value_of rows (All-weaker (FitsRow plan) (λ row. FitsValue plan (value_of row)) (λ row fits. record { key = fits.key; sums = fits.sums }) rows all)
 
 small_sums : (plan : PlanValue) (rows : List Row) → All (FitsRow plan) rows → All (λ row. All (λ v. v < 2 ^ 64) row.sums.items) rows
 small_sums plan rows all = All-weaker (FitsRow plan) (λ row. All (λ v. v < 2 ^ 64) row.sums.items) (λ row fits. fits.small) rows all
@@ -40,6 +34,6 @@ can_be_counted plan table is fits whole in_time =
       whole = whole;
       fit = values_fit plan table.rows.items fits.rows;
       ascending = subst (IsStrictlySortedBy place_cmp) (sym (places_of_values table.rows.items)) fits.ascending;
-      in_time = All-values (λ row. last_of plan row < 2 ^ 50) table.rows.items in_time;
-      small = All-values (λ row. All (λ v. v < 2 ^ 64) row.sums) table.rows.items (small_sums plan table.rows.items fits.rows);
+      in_time = All-map (λ row. last_of plan row < 2 ^ 50) value_of table.rows.items in_time;
+      small = All-map (λ row. All (λ v. v < 2 ^ 64) row.sums) value_of table.rows.items (small_sums plan table.rows.items fits.rows);
     }
