@@ -3,7 +3,7 @@
 use super::places::{PlaceInPeriods, SmallFiles, SmallPlace};
 use network_prefixes::{PeerFilter, Prefix};
 use recording_connections::SharedCounts;
-use recording_datagrams::{DatagramTaker, end_silent, go_over, tell_unserved};
+use recording_datagrams::DatagramTaker;
 use recording_files::ScriptClock;
 use recording_peers::{Datagram, Peers};
 use std::alloc::Global;
@@ -26,9 +26,9 @@ collectd: session 192.0.2.2:4739: refused 2 datagrams, last fault 1 Version
 collectd: session 192.0.2.2:4739: domain 1: sequence numbers advanced by 1, records 1
 collectd: session 192.0.2.2:4739: fault 19 NotWritten
 collectd: session 192.0.2.3:4739: refused 1 datagrams, last fault 1 Version
+collectd: refused 1 datagrams, last 192.0.3.1:4739
 collectd: session 192.0.2.3:4739: ended: idle
 collectd: session 192.0.2.3:4739: domain 1: sequence numbers advanced by 1, records 1
-collectd: refused 1 datagrams, last 192.0.3.1:4739
 ";
 
 /// Peers of a prefix alone may send.
@@ -53,7 +53,7 @@ fn tell_all(rt: &HostRuntime, out: &mut FailingWriter) -> Result<(), Fail> {
             clock: ScriptClock::new(Vec::new(alloc)),
         },
         filter: &filter,
-        idle: 10,
+        idle: 0,
         second: 0,
         unserved: SharedCounts::new(),
         out,
@@ -80,10 +80,8 @@ fn tell_all(rt: &HostRuntime, out: &mut FailingWriter) -> Result<(), Fail> {
         };
         taker.take(Ok(received), octets, now)?;
     }
-    go_over(&mut taker.peers, false, &mut taker.out)?;
-    end_silent(&mut taker.peers, 3, &mut taker.out)?;
-    end_silent(&mut taker.peers, 4, &mut taker.out)?;
-    tell_unserved(&mut taker.unserved, &mut taker.out)?;
+    taker.go_on_to(3)?;
+    taker.go_on_to(4)?;
     Ok(())
 }
 
