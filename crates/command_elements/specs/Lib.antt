@@ -3,4 +3,5 @@ pub mod Listed
 pub mod Fitting
 pub mod Lines
 pub mod ErrorLines
+pub mod Searches
 pub mod Runs

@@ -1,11 +1,13 @@
 -- The elements that are known, as they are listed.
 use Rattle.std.specs.Prelude.{ℕ, List, ◌++◌, map, codes}
+use Rattle.std.specs.Option.{option_to_list}
 use Rattle.ipfix_wire.specs.declared.specifier.ElementId.{ElementId}
 use Rattle.ipfix_elements.specs.declared.kind.Kind.TheVariants as kinds
 use Rattle.ipfix_elements.specs.declared.kind.Width.{Width}
 use Rattle.ipfix_elements.specs.declared.kind.Width.TheVariants.{One, Two, Four, Eight}
-use Rattle.ipfix_elements.specs.Elements.{Entry, elements, listed}
-use Rattle.element_registry.specs.Registries.{Known}
+use Rattle.ipfix_elements.specs.Elements.{Entry, elements, entry_of, iana, listed}
+use Rattle.element_registry.specs.Registries.{Known, shown}
+use Rattle.element_registry.specs.declared.entry.Entry as kept
 use Rattle.element_registry.specs.declared.kind.ElementKind.{ElementKind}
 use Rattle.element_registry.specs.declared.kind.ElementKind.TheVariants.{Plain, Boolean, Signed, Micros, Nanos, Text}
 
@@ -15,18 +17,30 @@ pub record Listed : Type 0 where
   pub name : List ℕ
   pub kind : ElementKind
 
-abbrev pub element_named_so : ElementId → List ℕ → ElementKind → Listed
-element_named_so element name kind = record { element = element; name = name; kind = kind }
+abbrev pub listed_as : ElementId → List ℕ → ElementKind → Listed
+listed_as element name kind = record { element = element; name = name; kind = kind }
 
 abbrev pub of_entry : Entry → Listed
-of_entry r = element_named_so (listed r) r.name (Plain r.kind)
+of_entry r = listed_as (listed r) r.name (Plain r.kind)
 
 abbrev pub of_known : Known → Listed
-of_known k = element_named_so k.element k.name k.kind
+of_known k = listed_as k.element k.name k.kind
 
--- the built-in elements by their numbers, and then those of files as they stand
+-- the built-in elements, by their numbers
+abbrev pub built_in : List Listed
+built_in = map of_entry elements
+
+-- the one of a number, if there is one
+abbrev pub built_in_at : ℕ → List Listed
+built_in_at number = map of_entry (option_to_list (entry_of (iana number)))
+
+-- those of files
+abbrev pub of_files : List kept.Entry → List Listed
+of_files entries = map (λ k. of_known (shown k)) entries
+
+-- the built-in elements, and then those of files as they stand
 abbrev pub all_listed : List Known → List Listed
-all_listed known = map of_entry elements ++ map of_known known
+all_listed known = built_in ++ map of_known known
 
 -- the types of numbers (RFC 7012, section 3.1)
 abbrev pub unsigned_name : Width → List ℕ

@@ -1,6 +1,7 @@
 //! Which elements a word fits.
 
-ghost use Rattle.std.specs.Prelude.{◌≡◌, option_map};
+ghost use Rattle.std.specs.Prelude.{◌≡◌};
+ghost use Rattle.std.specs.Option.{option_copied};
 ghost use Rattle.std.specs.Char.{is_ascii_digit};
 ghost use Rattle.std.specs.List.{list_all};
 ghost use Rattle.command_elements.specs.Fitting.{begins as begins_in, fits as fits_in, fits_word as fits_word_in, has_part as has_part_in, is_number_of as is_number_in, is_text_of as is_text_in};
@@ -13,7 +14,7 @@ use itoa::Buffer;
 /// each other one is its number with its enterprise, `e<pen>.<number>`, or a part of its name, in any letter
 /// case. Without a word each element fits.
 pub fn fits(word: Option<&str>, element: ElementId, name: &str) -> bool
-    ensures { result ≡ fits_in (option_map (λ w. w.now) word.entry) element name.now }
+    ensures { result ≡ fits_in (option_copied word.entry) element name.now }
 {
     match word {
         Some(word) => fits_word(word, element, name),

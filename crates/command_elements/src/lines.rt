@@ -1,15 +1,15 @@
 //! The line of an element.
 
-ghost use Rattle.std.specs.Prelude.{◌≡◌, ◌-◌, ◌++◌, length, replicate, codes, map, option_map, IfOk, OnOk};
-ghost use Rattle.std.specs.Io.KnownBytes.{Appends};
+ghost use Rattle.std.specs.Prelude.{◌≡◌, [], ◌∷◌, IfOk, OnOk};
 ghost use Rattle.ipfix_elements.specs.Names.{numbered_text};
-ghost use Rattle.command_elements.specs.Fitting.{fits as fits_in};
-ghost use Rattle.command_elements.specs.Lines.{column, element_line, line_if_fits, uses};
-ghost use Rattle.command_elements.specs.Listed.{element_named_so as named_so, type_name as type_in};
+ghost use Rattle.ipfix_elements.specs.Writers.{Writes};
+ghost use Rattle.command_elements.specs.Lines.{blanks, column, line_of, uses};
+ghost use Rattle.command_elements.specs.Searches.{Shows, seen};
 
 use crate::fitting::fits;
+use crate::search::{Listed, Search};
 use crate::type_names::type_name;
-use element_registry::{ElementKind, Elements};
+use element_registry::Elements;
 use flow_table::{is_counter, is_key};
 use ipfix_wire::ElementId;
 use itoa::Buffer;
@@ -21,50 +21,32 @@ const NUMBER_WIDTH: usize = 12;
 /// As wide is the column of types.
 const TYPE_WIDTH: usize = 20;
 
-/// Writes the line of an element that has this name and kind, with what it may be in a plan under `elements`, if
-/// a word fits it. Answers whether it does.
-pub fn write_if_fits<W: Write>(
-    elements: &Elements,
-    word: Option<&str>,
-    element: ElementId,
-    name: &str,
-    kind: ElementKind,
-    out: &mut W,
-) -> io::Result<bool>
-    ensures told { OnOk result (Appends (W.contents out.old) (W.contents out.new)
-        (line_if_fits elements.now (option_map (λ w. w.now) word.entry)
-        (named_so element name.now kind))) }
-    ensures found { IfOk result (λ found.
-        found ≡ fits_in (option_map (λ w. w.now) word.entry) element name.now) }
+/// Writes the line of an element, with what it may be in a plan, if the word fits it. Answers whether it does.
+#[tactic(auto, using(crate::proofs::Joined::shows_one))]
+pub fn write_if_fits<W: Write>(search: &Search, item: &Listed, out: &mut W) -> io::Result<bool>
+    ensures { IfOk result (Shows search.now (seen item.now ∷ []) (Writes W.contents out.old out.new)) }
 {
-    let found = fits(word, element, name);
+    let found = fits(search.word, item.element, item.name);
     if found {
-        write_line(elements, element, name, kind, out)?;
+        write_line(search.elements, item, out)?;
     }
     Ok(found)
 }
 
-fn write_line<W: Write>(
-    elements: &Elements,
-    element: ElementId,
-    name: &str,
-    kind: ElementKind,
-    out: &mut W,
-) -> io::Result<()>
-    ensures { OnOk result (Appends (W.contents out.old) (W.contents out.new)
-        (element_line elements.now (named_so element name.now kind))) }
+fn write_line<W: Write>(elements: &Elements, item: &Listed, out: &mut W) -> io::Result<()>
+    ensures { OnOk result (Writes W.contents out.old out.new (line_of elements.now (seen item.now))) }
 {
-    write_numbers(element, out)?;
-    write_column(type_name(kind), TYPE_WIDTH, out)?;
+    let name = item.name;
+    write_numbers(item.element, out)?;
+    write_column(type_name(item.kind), TYPE_WIDTH, out)?;
     write!(out, "{name}")?;
-    write_uses(elements, element, out)?;
+    write_uses(elements, item.element, out)?;
     writeln!(out)
 }
 
 // Writes what an element may be in a plan.
 fn write_uses<W: Write>(elements: &Elements, element: ElementId, out: &mut W) -> io::Result<()>
-    ensures { OnOk result (Appends (W.contents out.old) (W.contents out.new)
-        (uses elements.now element)) }
+    ensures { OnOk result (Writes W.contents out.old out.new (uses elements.now element)) }
 {
     if is_key(elements, element) {
         write!(out, " key")?;
@@ -75,10 +57,9 @@ fn write_uses<W: Write>(elements: &Elements, element: ElementId, out: &mut W) ->
     Ok(())
 }
 
-// Writes the numbers of an element and blanks behind them.
+// Writes the numbers of an element and blanks after them.
 fn write_numbers<W: Write>(element: ElementId, out: &mut W) -> io::Result<()>
-    ensures { OnOk result (Appends (W.contents out.old) (W.contents out.new)
-        (column 12 (numbered_text element))) }
+    ensures { OnOk result (Writes W.contents out.old out.new (column 12 (numbered_text element))) }
 {
     let (mut pens, mut numbers) = (Buffer::new(), Buffer::new());
     let (pen, number) = (pens.format(element.pen), numbers.format(element.number));
@@ -86,19 +67,17 @@ fn write_numbers<W: Write>(element: ElementId, out: &mut W) -> io::Result<()>
     write_blanks(2 + pen.len() + number.len(), NUMBER_WIDTH, out)
 }
 
-// Writes a text and blanks behind it.
+// Writes a text and blanks after it.
 fn write_column<W: Write>(text: &str, width: usize, out: &mut W) -> io::Result<()>
-    ensures { OnOk result (Appends (W.contents out.old) (W.contents out.new)
-        (column width text.now)) }
+    ensures { OnOk result (Writes W.contents out.old out.new (column width text.now)) }
 {
     write!(out, "{text}")?;
     write_blanks(text.len(), width, out)
 }
 
-// Writes blanks behind a text of this length, up to a width, and one more.
+// Writes blanks after a text of this length, up to a width, and one more.
 fn write_blanks<W: Write>(length: usize, width: usize, out: &mut W) -> io::Result<()>
-    ensures { OnOk result (Appends (W.contents out.old) (W.contents out.new)
-        (replicate (width - length) 32 ++ codes " ")) }
+    ensures { OnOk result (Writes W.contents out.old out.new (blanks width length)) }
 {
     for _ in 0..width.saturating_sub(length) {
         write!(out, " ")?;

@@ -1,15 +1,13 @@
 //! The list of the elements that are known.
 
-ghost use Rattle.std.specs.Prelude.{◌≡◌, [], ◌∷◌, map, option_map, IfOk, OnOk};
-ghost use Rattle.std.specs.Option.{option_to_list};
-ghost use Rattle.std.specs.Io.KnownBytes.{Appends};
-ghost use Rattle.ipfix_elements.specs.Elements.{elements as built_in, entry_of, iana};
-ghost use Rattle.element_registry.specs.Registries.{shown};
-ghost use Rattle.command_elements.specs.Lines.{has_fitting, lines_of, list_text};
-ghost use Rattle.command_elements.specs.Listed.{all_listed, of_entry, of_known};
+ghost use Rattle.std.specs.Prelude.{[], ◌∷◌, IfOk};
+ghost use Rattle.ipfix_elements.specs.Writers.{Writes};
+ghost use Rattle.command_elements.specs.Listed.{built_in, built_in_at, of_files};
+ghost use Rattle.command_elements.specs.Searches.{Shows, all_in};
 
 use crate::lines::write_if_fits;
-use element_registry::{ElementKind, Elements, Entry};
+use crate::search::{Listed, Search};
+use element_registry::{ElementKind, Entry};
 use ipfix_elements::{kind_of, name_of};
 use ipfix_wire::ElementId;
 use std::io::{self, Write};
@@ -20,72 +18,48 @@ const NUMBER_LIMIT: u16 = 0x8000;
 /// Writes a line for each element that is known and that a word fits, as [`fits`](crate::fits) says: the built-in ones
 /// by their numbers, and then those of files as they stand there; each with what it may be in a plan, a key or a
 /// counter. Answers whether there is any, and flushes the writer.
-pub fn list_elements<W: Write>(
-    elements: &Elements,
-    word: Option<&str>,
-    out: &mut W,
-) -> io::Result<bool>
-    ensures told { OnOk result (Appends (W.contents out.old) (W.contents out.new)
-        (list_text (option_map (λ w. w.now) word.entry) elements.now)) }
-    ensures found { IfOk result (λ found.
-        found ≡ has_fitting (option_map (λ w. w.now) word.entry) (all_listed elements.now)) }
+pub fn list_elements<W: Write>(search: &Search, out: &mut W) -> io::Result<bool>
+    ensures { IfOk result (Shows search.now (all_in search.now) (Writes W.contents out.old out.new)) }
 {
-    let is_any = write_listed(elements, word, out)?;
+    let is_any = write_listed(search, out)?;
     out.flush()?;
     Ok(is_any)
 }
 
-fn write_listed<W: Write>(elements: &Elements, word: Option<&str>, out: &mut W) -> io::Result<bool>
-    ensures told { OnOk result (Appends (W.contents out.old) (W.contents out.new)
-        (list_text (option_map (λ w. w.now) word.entry) elements.now)) }
-    ensures found { IfOk result (λ found.
-        found ≡ has_fitting (option_map (λ w. w.now) word.entry) (all_listed elements.now)) }
+fn write_listed<W: Write>(search: &Search, out: &mut W) -> io::Result<bool>
+    ensures { IfOk result (Shows search.now (all_in search.now) (Writes W.contents out.old out.new)) }
 {
-    let is_built_in = write_built_in(elements, word, out)?;
-    let is_of_file = write_entries(elements, word, elements.entries(), out)?;
+    let is_built_in = write_built_in(search, out)?;
+    let is_of_file = write_entries(search, search.elements.entries(), out)?;
     Ok(is_built_in || is_of_file)
 }
 
-fn write_built_in<W: Write>(
-    elements: &Elements,
-    word: Option<&str>,
-    out: &mut W,
-) -> io::Result<bool>
-    ensures told { OnOk result (Appends (W.contents out.old) (W.contents out.new)
-        (lines_of elements.now (option_map (λ w. w.now) word.entry) (map of_entry built_in))) }
-    ensures found { IfOk result (λ found.
-        found ≡ has_fitting (option_map (λ w. w.now) word.entry) (map of_entry built_in)) }
+fn write_built_in<W: Write>(search: &Search, out: &mut W) -> io::Result<bool>
+    ensures { IfOk result (Shows search.now built_in (Writes W.contents out.old out.new)) }
 {
     let mut is_any = false;
     for number in 0..NUMBER_LIMIT {
-        is_any = write_number(elements, word, number, out)? || is_any;
+        is_any = write_number(search, number, out)? || is_any;
     }
     Ok(is_any)
 }
 
-// Writes the line of a built-in element, if there is one of this number and a word fits it.
-fn write_number<W: Write>(
-    elements: &Elements,
-    word: Option<&str>,
-    number: u16,
-    out: &mut W,
-) -> io::Result<bool>
-    ensures told { OnOk result (Appends (W.contents out.old) (W.contents out.new)
-        (lines_of elements.now (option_map (λ w. w.now) word.entry)
-        (map of_entry (option_to_list (entry_of (iana number)))))) }
-    ensures found { IfOk result (λ found.
-        found ≡ has_fitting (option_map (λ w. w.now) word.entry)
-        (map of_entry (option_to_list (entry_of (iana number))))) }
+// Writes the line of a built-in element, if there is one of this number and the word fits it.
+fn write_number<W: Write>(search: &Search, number: u16, out: &mut W) -> io::Result<bool>
+    ensures { IfOk result
+        (Shows search.now (built_in_at number) (Writes W.contents out.old out.new)) }
 {
     let element = ElementId::iana(number);
     match name_of(element) {
         Some(name) => {
+            let kind = ElementKind::Plain(kind_of(element));
             write_if_fits(
-                elements,
-                word,
-                element,
-                name,
-                ElementKind::Plain(kind_of(element)),
+                search,
+                &Listed {
+                    element,
+                    name,
+                    kind,
+                },
                 out,
             )
         }
@@ -93,42 +67,28 @@ fn write_number<W: Write>(
     }
 }
 
-fn write_entries<W: Write>(
-    elements: &Elements,
-    word: Option<&str>,
-    entries: &[Entry],
-    out: &mut W,
-) -> io::Result<bool>
-    ensures told { OnOk result (Appends (W.contents out.old) (W.contents out.new)
-        (lines_of elements.now (option_map (λ w. w.now) word.entry) (map (λ k. of_known (shown k)) entries.now))) }
-    ensures found { IfOk result (λ found.
-        found ≡ has_fitting (option_map (λ w. w.now) word.entry)
-        (map (λ k. of_known (shown k)) entries.now)) }
+fn write_entries<W: Write>(search: &Search, entries: &[Entry], out: &mut W) -> io::Result<bool>
+    ensures { IfOk result
+        (Shows search.now (of_files entries.now) (Writes W.contents out.old out.new)) }
 {
     let mut is_any = false;
     for entry in entries {
-        is_any = write_entry(elements, word, entry, out)? || is_any;
+        is_any = write_entry(search, entry, out)? || is_any;
     }
     Ok(is_any)
 }
 
-fn write_entry<W: Write>(
-    elements: &Elements,
-    word: Option<&str>,
-    entry: &Entry,
-    out: &mut W,
-) -> io::Result<bool>
-    ensures told { OnOk result (Appends (W.contents out.old) (W.contents out.new)
-        (lines_of elements.now (option_map (λ w. w.now) word.entry) (of_known (shown entry.now) ∷ []))) }
-    ensures found { IfOk result (λ found.
-        found ≡ has_fitting (option_map (λ w. w.now) word.entry) (of_known (shown entry.now) ∷ [])) }
+fn write_entry<W: Write>(search: &Search, entry: &Entry, out: &mut W) -> io::Result<bool>
+    ensures { IfOk result
+        (Shows search.now (of_files (entry.now ∷ [])) (Writes W.contents out.old out.new)) }
 {
     write_if_fits(
-        elements,
-        word,
-        entry.element,
-        entry.name.as_str(),
-        entry.kind,
+        search,
+        &Listed {
+            element: entry.element,
+            name: entry.name.as_str(),
+            kind: entry.kind,
+        },
         out,
     )
 }

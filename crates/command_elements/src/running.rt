@@ -1,17 +1,17 @@
 //! The command `elements`.
 
-ghost use Rattle.std.specs.Prelude.{◌≡◌, ◌⊎◌, true, false, [], map, option_map};
-ghost use Rattle.std.specs.Io.KnownBytes.{Appends};
+ghost use Rattle.std.specs.Prelude.{◌≡◌, ◌⊎◌, true, false, [], map};
+ghost use Rattle.std.specs.Option.{option_copied};
+ghost use Rattle.ipfix_elements.specs.Writers.{Writes};
+ghost use Rattle.input_files.specs.Loaded.{Loads};
 ghost use Rattle.report_writing.specs.Told.{AreToldTo};
 ghost use Rattle.command_elements.specs.ErrorLines.{failed_line, none_line};
-ghost use Rattle.command_elements.specs.Lines.{has_fitting, list_text};
-ghost use Rattle.command_elements.specs.Listed.{all_listed};
-ghost use Rattle.input_files.specs.Loaded.{Loads, StopsAtFile};
-ghost use Rattle.command_elements.specs.Runs.{FailsToList, Lists, ListsNone};
+ghost use Rattle.command_elements.specs.Runs.{RunsElements};
+ghost use Rattle.command_elements.specs.Searches.{Shows, all_in};
 
 use crate::error_lines::{write_failed, write_none};
 use crate::listing::list_elements;
-use element_registry::Elements;
+use crate::search::Search;
 use input_files::{ReadText, load_elements};
 use report_writing::{Status, Verbosity, WriteLines};
 use std::alloc::Global;
@@ -21,6 +21,7 @@ use std::io::Write;
 /// built-in elements and theirs. Answers `Well` if a line was written; `NotOpened` if a file was not read, or if the
 /// word fits no element, and then nothing was written; `Failed` if it couldn't be written. Each of the last three is
 /// told by a line to `err`, whose own faults are passed over.
+#[tactic(auto, using(crate::proofs::Joined::none_written))]
 pub fn run_elements<T: ReadText, W: Write, E: WriteLines>(
     files: &T,
     alloc: Global,
@@ -30,55 +31,39 @@ pub fn run_elements<T: ReadText, W: Write, E: WriteLines>(
     out: &mut W,
     err: &mut E,
 ) -> Status
-    ensures statuses { (result ≡ Status.Well) ⊎ (result ≡ Status.NotOpened)
-        ⊎ (result ≡ Status.Failed) }
-    // The lines of the elements that the word fits were written, and nothing else was; there is one.
-    ensures listed { result ≡ Status.Well → Lists
+    ensures runs { RunsElements
         (Loads (T.has files.now) (T.refuses files.now) verbosity [] (map (λ path. path.now) paths.now))
-        (option_map (λ w. w.now) word.entry) (Appends (W.contents out.old) (W.contents out.new))
-        (AreToldTo E.contents E.failed err.old err.new) }
-    // A file was not read, or the word fits none.
-    ensures none { result ≡ Status.NotOpened → StopsAtFile
-        (Loads (T.has files.now) (T.refuses files.now) verbosity [] (map (λ path. path.now) paths.now))
-        (AreToldTo E.contents E.failed err.old err.new)
-        ⊎ ListsNone
-        (Loads (T.has files.now) (T.refuses files.now) verbosity [] (map (λ path. path.now) paths.now))
-        (option_map (λ w. w.now) word.entry) (AreToldTo E.contents E.failed err.old err.new) }
-    ensures untouched { result ≡ Status.NotOpened
-        → Appends (W.contents out.old) (W.contents out.new) [] }
-    ensures failed { result ≡ Status.Failed → FailsToList
-        (Loads (T.has files.now) (T.refuses files.now) verbosity [] (map (λ path. path.now) paths.now))
-        (AreToldTo E.contents E.failed err.old err.new) }
+        (option_copied word.entry) (Writes W.contents out.old out.new)
+        (AreToldTo E.contents E.failed err.old err.new) result }
     ensures kept { E.failed err.old → E.failed err.new }
 {
     match load_elements(files, alloc, paths, verbosity, err) {
-        Some(elements) => list_known(&elements, word, out, err),
+        Some(elements) => {
+            let search = Search {
+                elements: &elements,
+                word,
+            };
+            list_known(&search, out, err)
+        }
         None => Status::NotOpened,
     }
 }
 
-#[tactic(auto, using(crate::proofs::Joined::none_written))]
-fn list_known<W: Write, E: WriteLines>(
-    elements: &Elements,
-    word: Option<&str>,
-    out: &mut W,
-    err: &mut E,
-) -> Status
+fn list_known<W: Write, E: WriteLines>(search: &Search, out: &mut W, err: &mut E) -> Status
     ensures statuses { (result ≡ Status.Well) ⊎ (result ≡ Status.NotOpened)
         ⊎ (result ≡ Status.Failed) }
     ensures listed { result ≡ Status.Well
-        → (has_fitting (option_map (λ w. w.now) word.entry) (all_listed elements.now) ≡ true)
-        × Appends (W.contents out.old) (W.contents out.new)
-        (list_text (option_map (λ w. w.now) word.entry) elements.now) × (err.new ≡ err.old) }
+        → Shows search.now (all_in search.now) (Writes W.contents out.old out.new) true }
+    ensures untold { result ≡ Status.Well → err.new ≡ err.old }
     ensures none { result ≡ Status.NotOpened
-        → (has_fitting (option_map (λ w. w.now) word.entry) (all_listed elements.now) ≡ false)
-        × Appends (W.contents out.old) (W.contents out.new) []
-        × AreToldTo E.contents E.failed err.old err.new none_line }
+        → Shows search.now (all_in search.now) (Writes W.contents out.old out.new) false }
+    ensures none_told { result ≡ Status.NotOpened
+        → AreToldTo E.contents E.failed err.old err.new none_line }
     ensures failed { result ≡ Status.Failed
         → AreToldTo E.contents E.failed err.old err.new failed_line }
     ensures kept { E.failed err.old → E.failed err.new }
 {
-    match list_elements(elements, word, out) {
+    match list_elements(search, out) {
         Ok(true) => Status::Well,
         Ok(false) => {
             let _ = write_none(err);

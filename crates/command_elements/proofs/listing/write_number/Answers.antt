@@ -1,18 +1,12 @@
-use Rattle.std.proofs.Common.{◌≡◌, ℕ, List, Bool, subst}
-use Rattle.std.specs.Prelude.{option_map, IfOk, OnOk}
-use Rattle.std.specs.Io.KnownBytes.{Appends}
+use Rattle.std.proofs.Common.{List, sym, subst}
+use Rattle.std.specs.Prelude.{IfOk}
+use Rattle.ipfix_elements.specs.Writers.{Writes}
+use Rattle.command_elements.specs.Listed.{Listed}
+use Rattle.command_elements.specs.Searches.{Shows}
 use Rattle.command_elements.proofs.BuiltIn.{at_number}
-use Rattle.command_elements.proofs.Joined.{line_as, fits_as}
 use Rattle.command_elements.proofs.listing.write_number.Goals as goal
 
-pub returns-in-Some-clause-told : goal.returns-in-Some-clause-told
-returns-in-Some-clause-told g c =
-    let word = option_map (λ w. w.now) c.args.word in
+pub returns-in-Some : goal.returns-in-Some
+returns-in-Some g c =
     let is = at_number c.iana-element.result c.args.number c.in-Some.name.now c.kind_of.result c.iana-element.ensures c.in-Some.ensures c.kind_of.ensures in
-    subst (λ (t : List ℕ). OnOk c.write_if_fits.result (Appends (g.W.Write.contents c.args.out.now) (g.W.Write.contents c.write_if_fits.new.out) t)) (line_as c.args.elements.now word _ _ is) c.write_if_fits.ensures.told
-
-pub returns-in-Some-clause-found : goal.returns-in-Some-clause-found
-returns-in-Some-clause-found g c =
-    let word = option_map (λ w. w.now) c.args.word in
-    let is = at_number c.iana-element.result c.args.number c.in-Some.name.now c.kind_of.result c.iana-element.ensures c.in-Some.ensures c.kind_of.ensures in
-    subst (λ (b : Bool). IfOk c.write_if_fits.result (λ found. found ≡ b)) (fits_as c.args.elements.now word _ _ is) c.write_if_fits.ensures.found
+    subst (λ (ks : List Listed). IfOk c.write_if_fits.result (Shows c.args.search.now ks (Writes g.W.Write.contents c.args.out.now c.write_if_fits.new.out))) (sym is) c.write_if_fits.ensures

@@ -1,0 +1,18 @@
+-- What is written and answered of the elements of a list.
+use Rattle.std.specs.Prelude.{◌≡◌, ℕ, Bool, List}
+use Rattle.std.specs.Option.{option_copied}
+use Rattle.command_elements.specs.declared.search.Listed as code
+use Rattle.command_elements.specs.declared.search.Search.{Search}
+use Rattle.command_elements.specs.Lines.{has_fitting, lines_of}
+use Rattle.command_elements.specs.Listed.{Listed, all_listed, listed_as}
+
+abbrev pub seen : code.Listed → Listed
+seen k = listed_as k.element k.name.now k.kind
+
+abbrev pub all_in : Search → List Listed
+all_in search = all_listed search.elements.now
+
+-- a line was written for each of these that the word fits, and nothing else; `found` says whether there is one
+pub record Shows (search : Search) (ks : List Listed) (Writes : List ℕ → Type 0) (found : Bool) : Type 0 where
+  pub written : Writes (lines_of search.elements.now (option_copied search.word) ks)
+  pub answered : has_fitting (option_copied search.word) ks ≡ found
