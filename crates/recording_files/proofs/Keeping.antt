@@ -1,14 +1,13 @@
 -- A recorder after one more message.
-use Rattle.std.proofs.Common.{◌≡◌, ℕ, ◌<◌, arith, Bool, true, false, cond, eqb, is_some, List, [], ◌∷◌, ◌++◌, length, Option, Some, None, Result, Ok, Err, refl, sym, ap, ◌∙◌, append_assoc, inl, inr}
+use Rattle.std.proofs.Common.{◌≡◌, ℕ, ◌<◌, arith, Bool, true, false, cond, eqb, is_some, List, [], ◌∷◌, ◌++◌, length, Option, Some, None, Result, Ok, refl, sym, ap, ◌∙◌, append_assoc, inl, inr}
 use Rattle.std.specs.Prelude.{◌||◌, ◌≢◌, ◌↔◌, not, IsTrue, MatchBool}
 use Rattle.std.specs.Map.{lookup}
 use Rattle.std.proofs.lemmas.Bool.Decides.{eqb_tells}
 use Rattle.std.proofs.lemmas.List.{append-nil}
 use Rattle.indexmap.specs.IndexMap.{insert_entry}
 use Rattle.ipfix_wire.specs.declared.header.Header.{Header}
-use Rattle.ipfix_wire.specs.declared.fault.WireFault.{WireFault}
-use Rattle.ipfix_wire.specs.MessageHeader.{header_at}
 use Rattle.ipfix_message.specs.Domains.{Message, StandsFor, message_header}
+use Rattle.ipfix_message.specs.declared.fault.MessageFault.{MessageFault}
 use Rattle.ipfix_session.specs.Given.{known_after}
 use Rattle.ipfix_session.specs.Ledger.{count_in, due_after, messages_of, due_of}
 use Rattle.recording_files.specs.Recordings.{has}
@@ -18,7 +17,6 @@ use Rattle.recording_files.proofs.FilesRead.{has-push}
 use Rattle.ipfix_session.proofs.Accounts.{of_last-push}
 use Rattle.ipfix_session.proofs.Ledgers.{own_one, own_other, own-append}
 use Rattle.recording_files.proofs.Ledgers.{eqb-sym}
-use Rattle.ipfix_message.proofs.History.{header_is}
 
 lookup-insert : {V : Type 0} (es : List (ℕ × V)) (k : ℕ) (v : V) (d : ℕ) → lookup (eqb d) (insert_entry eqb es k v) ≡ cond (eqb d k) (Some v) (lookup (eqb d) es)
 lookup-insert [] k v d = refl
@@ -89,15 +87,12 @@ keeps_on s t before here x h records unknown keeps fresh stands is_header is_rec
     there false o true e = e
     there false o false e = e
 
-abbrev read_as : Result Header WireFault → Result Header WireFault
+abbrev read_as : Result Header MessageFault → Result Header MessageFault
 read_as r = r
 
 -- a message's header is the one that is read
-pub same_header : (m : List ℕ) (h k : Header) → message_header m ≡ Ok h → read_as (Ok k) ≡ header_at m → k ≡ h
-same_header m h k good read = let both : read_as (Ok k) ≡ read_as (Ok h) = read ∙ (header_is m h good).1 in cc
-
-pub no_header : (m : List ℕ) (h : Header) (e : WireFault) → message_header m ≡ Ok h → read_as (Err e) ≡ header_at m → ⊥
-no_header m h e good read = let both : read_as (Err e) ≡ read_as (Ok h) = read ∙ (header_is m h good).1 in cc
+pub one_header : (m : List ℕ) (h k : Header) → message_header m ≡ Ok h → message_header m ≡ Ok k → h ≡ k
+one_header m h k one other = let both : read_as (Ok h) ≡ read_as (Ok k) = sym one ∙ other in cc
 
 -- a file that has a domain has a message
 has_begun : (s : State) (before here : List Message) → Keeps s before here → 0 < length s.here → here ≡ [] → ⊥

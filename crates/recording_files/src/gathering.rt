@@ -1,7 +1,7 @@
 //! Gathering the whole messages of a read.
 
 ghost use Rattle.std.specs.Prelude.{◌≡◌, ◌++◌, [], ℕ, List, Ok, OnOk, OnErr, MatchResult};
-ghost use Rattle.ipfix_message.specs.Domains.{Message};
+ghost use Rattle.ipfix_message.specs.Domains.{Message, message_header};
 ghost use Rattle.ipfix_session.specs.Intake.{IsRest};
 ghost use Rattle.ipfix_session.specs.MessageStream;
 ghost use Rattle.recording_files.specs.Recorders.{Counted, IsFresh};
@@ -14,6 +14,7 @@ use crate::recorder::Recorder;
 use crate::session_counts::SessionCounts;
 use ipfix_message::MessageFault;
 use ipfix_session::next_message;
+use ipfix_wire::Header;
 use std::alloc::{AllocError, Global};
 
 // Appends two texts, or nothing if there is no memory.
@@ -83,8 +84,14 @@ impl Gathering {
         counts.into_session(ended)
     }
 
-    /// Gathers a whole message. After a fault it is not among those that were gathered.
-    pub fn take_message(&mut self, alloc: Global, message: &[u8]) -> Result<(), MessageFault>
+    /// Gathers a whole message, whose header was read. After a fault it is not among those that were gathered.
+    pub fn take_message(
+        &mut self,
+        alloc: Global,
+        header: &Header,
+        message: &[u8],
+    ) -> Result<(), MessageFault>
+        requires { message_header message.now ≡ Ok header.now }
         ensures gathers { (before here : List Message) (text left rest : List ℕ)
             → Gathers before here self.old.recorder text self.old.out.items
             self.old.counts.waiting left
@@ -96,7 +103,9 @@ impl Gathering {
             self.new.counts.waiting) }
         ensures told { self.new.counts.told ≡ self.old.counts.told }
     {
-        let count = self.recorder.take_message(alloc, message, &mut self.lead)?;
+        let count = self
+            .recorder
+            .take_message(alloc, header, message, &mut self.lead)?;
         let length = self.out.len();
         append_both(&self.lead, message, &mut self.out)?;
         match self.counts.wait_for(count) {
@@ -133,7 +142,7 @@ impl Gathering {
                     return Ok(rest);
                 }
             };
-            self.take_message(alloc, found.octets)?;
+            self.take_message(alloc, &found.header, found.octets)?;
             rest = found.rest;
         }
     }

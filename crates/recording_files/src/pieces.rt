@@ -38,7 +38,7 @@ fn take_begun<'a>(
     }
     let left = fill(buffer, piece)?;
     match next_message(buffer) {
-        Ok(found) => gathering.take_message(alloc, found.octets)?,
+        Ok(found) => gathering.take_message(alloc, &found.header, found.octets)?,
         Err(stop) => {
             stop.check_open()?;
             return Ok(None);

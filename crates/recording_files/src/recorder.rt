@@ -2,7 +2,6 @@
 
 ghost use Rattle.std.specs.Prelude.{◌≡◌, ◌≢◌, ◌++◌, [], List, Ok, OnOk, IfOk, IfErr, MatchBool, nat_eq, true};
 ghost use Rattle.indexmap.specs.IndexMap.{insert_entry};
-ghost use Rattle.ipfix_wire.specs.declared.header.Header.{Header as HeaderValue};
 ghost use Rattle.ipfix_message.specs.Domains.{Message, message_header, message_gives};
 ghost use Rattle.ipfix_message.specs.Outcome.{Fails};
 ghost use Rattle.ipfix_session.specs.Given.{known_after};
@@ -14,7 +13,7 @@ use crate::preamble::{append_bare_message, append_preamble};
 use crate::stamp::Stamp;
 use indexmap::IndexMap;
 use ipfix_message::{Domains, MessageFault};
-use ipfix_wire::{HEADER_LENGTH, Header, read_header};
+use ipfix_wire::Header;
 use std::alloc::{AllocError, Global};
 use std::marker::Model;
 
@@ -107,22 +106,6 @@ impl Recorder {
         }
     }
 
-    // Appends what stands before a message, if it is one.
-    fn append_lead_of(&mut self, message: &[u8], out: &mut Vec<u8>) -> Result<(), AllocError>
-        ensures same { self.new ≡ self.old }
-        ensures lead { (before here : List Message) → Keeps self.old before here
-            → (h : HeaderValue) → message_header message.now ≡ Ok h
-            → OnOk result (Leading before here h out.old.items out.new.items) }
-    {
-        if message.len() < HEADER_LENGTH {
-            return Ok(());
-        }
-        match read_header(message) {
-            Ok(header) => self.append_lead(&header, out),
-            Err(_) => Ok(()),
-        }
-    }
-
     // Keeps what a message says of its domain.
     fn keep(&mut self, header: &Header, records: usize, unknown_sets: u64) -> Result<(), AllocError>
         ensures domains { self.new.domains ≡ self.old.domains }
@@ -144,7 +127,7 @@ impl Recorder {
         Ok(())
     }
 
-    /// Takes a message, and makes what a file has before it: its domain's templates, if this file has none
+    /// Takes a message, whose header was read, and makes what a file has before it: its domain's templates, if this file has none
     /// of its messages and an earlier file has. What stood in `lead` before is gone. It answers what the
     /// message adds to the counts.
     ///
@@ -152,9 +135,11 @@ impl Recorder {
     pub fn take_message(
         &mut self,
         alloc: Global,
+        header: &Header,
         message: &[u8],
         lead: &mut Vec<u8>,
     ) -> Result<MessageCount, MessageFault>
+        requires { message_header message.now ≡ Ok header.now }
         ensures records { (before here : List Message) → Keeps self.old before here
             → IfOk result (λ count.
             Records before here self.new message.now (lead.new.items ++ message.now) count) }
@@ -163,14 +148,14 @@ impl Recorder {
             Fails fault (message_gives (known_after [] (before ++ here)) message.now)) }
     {
         lead.clear();
-        self.append_lead_of(message, lead)?;
-        let decoded = match self.domains.decode(alloc, message) {
+        self.append_lead(header, lead)?;
+        let decoded = match self.domains.decode_with_header(alloc, header, message) {
             Ok(decoded) => decoded,
             Err(fault) => return Err(fault),
         };
-        self.keep(&decoded.header, decoded.records.len(), decoded.unknown_sets)?;
+        self.keep(header, decoded.records.len(), decoded.unknown_sets)?;
         Ok(MessageCount {
-            header: decoded.header,
+            header: *header,
             records: decoded.records.len() as u64,
             passed_over: decoded.passed_over(),
         })

@@ -70,13 +70,15 @@ impl PeerRecorder {
         Ok(())
     }
 
-    // Writes a datagram, and counts and notes it then.
+    // Writes a datagram, whose header was read, and counts and notes it then.
     fn append<F: FileSeries>(
         &mut self,
         alloc: Global,
+        header: &Header,
         datagram: &[u8],
         files: &mut F,
     ) -> Result<(), RecordFault>
+        requires { message_header datagram.now ≡ Ok header.now }
         ensures { (first : FilesView) (finished : List (List Taken)) (here : List Taken)
             (ids : List ℕ) (x : Message)
             → IsReady first (F.seen files.old) self.old finished here x.header ids
@@ -88,7 +90,9 @@ impl PeerRecorder {
             datagram.now) }
     {
         self.counts.clear_waiting();
-        let count = self.recorder.take_message(alloc, datagram, &mut self.out)?;
+        let count = self
+            .recorder
+            .take_message(alloc, header, datagram, &mut self.out)?;
         self.out.extend_from_slice(datagram)?;
         self.counts.wait_for(count)?;
         self.advances.make_room()?;
@@ -123,9 +127,9 @@ impl PeerRecorder {
             datagram.now) }
     {
         if ids.is_empty() {
-            return self.append(alloc, datagram, files);
+            return self.append(alloc, header, datagram, files);
         }
         self.begin_file(alloc, header, ids, files)?;
-        self.append(alloc, datagram, files)
+        self.append(alloc, header, datagram, files)
     }
 }

@@ -10,7 +10,7 @@ ghost use Rattle.recording_files.specs.Recorders.{Keeps};
 ghost use Rattle.recording_peer.specs.Freeing.{HasFreed, BeginsFreed};
 
 use ipfix_datagrams::append_withdrawal;
-use ipfix_message::MessageFault;
+use ipfix_message::{MessageFault, header_of};
 use ipfix_wire::Header;
 use recording_files::Recorder;
 use std::alloc::Global;
@@ -34,7 +34,8 @@ fn free_id(
 {
     message.clear();
     append_withdrawal(header, id, message)?;
-    let _ = recorder.take_message(alloc, message, lead)?;
+    let freeing = header_of(message)?;
+    let _ = recorder.take_message(alloc, &freeing, message, lead)?;
     Ok(())
 }
 

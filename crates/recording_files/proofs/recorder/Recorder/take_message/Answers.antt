@@ -1,25 +1,28 @@
 use Rattle.std.proofs.Common.{◌≡◌, ℕ, List, [], ◌++◌, false, length, sym, ap, subst, ◌∙◌, rules}
+use Rattle.ipfix_wire.specs.declared.header.Header.{Header}
 use Rattle.ipfix_message.specs.Domains.{DomainsView, StandsFor}
 use Rattle.ipfix_message.specs.declared.passed_over.PassedOver.{PassedOver}
 use Rattle.ipfix_message.specs.declared.record.DataRecord.{DataRecord}
 use Rattle.ipfix_session.specs.Given.{known_after, octets_of}
 use Rattle.ipfix_session.specs.Ledger.{count_in}
+use Rattle.recording_files.specs.Recordings.{Precedes}
 use Rattle.recording_files.specs.Recorders.{State, Keeps}
 use Rattle.ipfix_message.proofs.PartsOf.{was_read}
-use Rattle.recording_files.proofs.Keeping.{keeps_on}
+use Rattle.recording_files.proofs.Keeping.{one_header, keeps_on}
 use Rattle.recording_files.proofs.recorder.Recorder.take_message.Goals as goal
 
 pub returns-clause-records : goal.returns-clause-records
 returns-clause-records c = λ before here keeps.
     let ds = known_after [] (before ++ here) in
     let inside : State = record { domains = c.self.inside.domains; due = c.self.inside.due.entries; here = c.self.inside.here.entries } in
-    let now : Keeps inside before here = subst (λ (s : State). Keeps s before here) (sym (c.self.view_is ∙ c.append_lead_of.ensures.same)) keeps in
+    let now : Keeps inside before here = subst (λ (s : State). Keeps s before here) (sym (c.self.view_is ∙ c.append_lead.ensures.same)) keeps in
     let r = c.in-Ok.ensures.gives now.not_spent ds now.known in
     let x = r.0 in
     let read = was_read ds c.args.message.now x r.1 in
-    let lead = c.in_ok-append_lead_of.ensures.lead before here keeps x.header read.header in
-    let first : c.append_lead_of.new.out.items ≡ octets_of lead.lead = lead.octets ∙ ap (λ (w : List ℕ). w ++ octets_of lead.lead) c.clear.ensures.items in
-    let back : c.decode.new.self ≡ c.keep.new.self.domains = sym c.in_ok-keep.ensures.domains in
+    let header : c.args.header.now ≡ x.header = one_header c.args.message.now c.args.header.now x.header c.requires read.header in
+    let lead = c.in_ok-append_lead.ensures.lead before here keeps in
+    let first : c.append_lead.new.out.items ≡ octets_of lead.lead = lead.octets ∙ ap (λ (w : List ℕ). w ++ octets_of lead.lead) c.clear.ensures.items in
+    let back : c.decode_with_header.new.self ≡ c.keep.new.self.domains = sym c.in_ok-keep.ensures.domains in
     let fresh : c.keep.new.self.domains.spent ≡ false = subst (λ (s : DomainsView). s.spent ≡ false) back c.in-Ok.ensures.ok in
     let stands : StandsFor c.keep.new.self.domains.domains x.domains = subst (λ (s : DomainsView). StandsFor s.domains x.domains) back r.3 in
     let size : c.len.result ≡ length c.in-Ok.decoded.records.items = search rules in
@@ -30,8 +33,8 @@ returns-clause-records c = λ before here keeps.
       given = x;
       read = r.1;
       lead = lead.lead;
-      is = lead.is;
+      is = subst (λ (h : Header). Precedes before here h lead.lead) header lead.is;
       octets_are = ap (λ (w : List ℕ). w ++ c.args.message.now) first;
-      keeps = keeps_on inside c.keep.new.self before here x c.in-Ok.decoded.header c.len.result c.in-Ok.decoded.unknown_sets now fresh stands r.2.header count unknown c.in_ok-keep.ensures.due c.in_ok-keep.ensures.in_file;
-      counts = record { header = sym r.2.header; records = sym (again ∙ ap (λ (rs : List DataRecord). length rs) r.2.records); passed_over = sym r.2.passed_over ∙ sym c.passed_over.ensures };
+      keeps = keeps_on inside c.keep.new.self before here x c.args.header.now c.len.result c.in-Ok.decoded.unknown_sets now fresh stands header count unknown c.in_ok-keep.ensures.due c.in_ok-keep.ensures.in_file;
+      counts = record { header = sym header; records = sym (again ∙ ap (λ (rs : List DataRecord). length rs) r.2.records); passed_over = sym r.2.passed_over ∙ sym c.passed_over.ensures };
     }
