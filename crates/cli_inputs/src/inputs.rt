@@ -3,11 +3,9 @@
 use crate::arguments::{CollectArguments, ShowProgress, TableArguments};
 use crate::progress_output::{ProgressOutput, open_terminal};
 use crate::timers::ask_for_short_sleeps;
-use element_registry::Elements;
 use flow_export::ExportFault;
-use flow_table::Plan;
 use input_files::load_elements;
-use input_sources::{Noted, load_plan};
+use input_sources::{LoadedPlan, Noted, load_plan};
 use output_tables::write_export_fault;
 use report_writing::{CheckedWriter, Status};
 use std::fs::File;
@@ -34,36 +32,33 @@ pub fn table_output(
     Ok(out)
 }
 
-/// A plan, and what names its keys and counters.
-#[derive(Drop)]
-pub struct NamedPlan {
-    /// By which the plan names its keys and counters, and texts name them again.
-    pub elements: Elements,
-    pub plan: Plan,
-}
-
 /// The files of elements, and the plan. If a file has a fault, or there is no plan, standard error has a line.
-pub fn load_named_plan(rt: &HostRuntime, arguments: &TableArguments) -> Result<NamedPlan, Status> {
+pub fn read_plan_of(rt: &HostRuntime, arguments: &TableArguments) -> Result<LoadedPlan, Status> {
     match try_to_load(rt, arguments) {
-        Some(named) => Ok(named),
+        Some(loaded) => Ok(loaded),
         None => Err(Status::NotOpened),
     }
 }
 
-fn try_to_load(rt: &HostRuntime, arguments: &TableArguments) -> Option<NamedPlan> {
+fn try_to_load(rt: &HostRuntime, arguments: &TableArguments) -> Option<LoadedPlan> {
     let verbosity = arguments.verbosity;
     let mut err = CheckedWriter::new(rt.stderr());
     let files = arguments.element_files;
     let elements = load_elements(rt, rt.alloc(), files, verbosity, &mut err)?;
-    let path = arguments.plan;
-    let plan = load_plan(rt, rt.alloc(), &elements, path, verbosity, &mut err)?;
-    Some(NamedPlan { elements, plan })
+    load_plan(
+        rt,
+        rt.alloc(),
+        elements,
+        arguments.plan,
+        verbosity,
+        &mut err,
+    )
 }
 
 /// What `files` and `tcp` both collect by, and where their table and their progress go.
 #[derive(Drop)]
 pub struct Collecting {
-    pub named: NamedPlan,
+    pub loaded: LoadedPlan,
     pub out: BufWriter<Noted<Stdout>>,
     /// The terminal, if progress is shown there and there is one.
     pub terminal: Option<File>,
@@ -75,7 +70,7 @@ pub fn prepare_collecting(
     arguments: &CollectArguments,
     err: &mut Stderr,
 ) -> Result<Collecting, Status> {
-    let named = load_named_plan(rt, &arguments.table)?;
+    let loaded = read_plan_of(rt, &arguments.table)?;
     let out = table_output(rt, err)?;
     ask_for_short_sleeps(rt);
     let terminal = match arguments.progress {
@@ -83,7 +78,7 @@ pub fn prepare_collecting(
         ShowProgress::Nowhere | ShowProgress::OnStandardError => None,
     };
     Ok(Collecting {
-        named,
+        loaded,
         out,
         terminal,
     })

@@ -15,8 +15,8 @@ pub use arguments::{
     read_arguments,
 };
 pub use inputs::{
-    Collecting, NamedPlan, buffered_output, check_paths, load_named_plan, prepare_collecting,
-    progress_writer, table_output,
+    Collecting, buffered_output, check_paths, prepare_collecting, progress_writer, read_plan_of,
+    table_output,
 };
 pub use listening::listen_on;
 pub use progress_output::ProgressOutput;

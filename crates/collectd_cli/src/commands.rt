@@ -1,16 +1,18 @@
 //! The commands. Each answers how it ended; an error says how if the library was not called.
 
+ghost use Rattle.std.specs.Prelude.{◌≡◌};
+
 use cli_inputs::{
-    CollectArguments, Collecting, DumpArguments, FilesArguments, MergeArguments, NamedPlan,
-    TcpArguments, buffered_output, check_paths, listen_on, load_named_plan, prepare_collecting,
-    progress_writer, table_output, write_refused, write_refused_exports, write_refused_files,
+    CollectArguments, Collecting, DumpArguments, FilesArguments, MergeArguments, TableArguments,
+    TcpArguments, buffered_output, check_paths, listen_on, prepare_collecting, progress_writer,
+    read_plan_of, table_output, write_refused, write_refused_exports, write_refused_files,
     write_refused_output, write_refused_peers,
 };
 use command_collect::{CollectJob, Connections, run_files_with, run_tcp_with, write_limit};
 use command_dump::{DumpJob, run_dump_with, write_dump_fault};
 use command_merge::{MergeJob, run_merge_with};
 use flow_collect::Pool;
-use input_sources::{Noted, SystemFiles, SystemListener};
+use input_sources::{LoadedPlan, Noted, SystemFiles, SystemListener};
 use ipfix_dump::DumpFault;
 use ipfix_session::FromReader;
 use report_writing::{CheckedWriter, Origin, Status, Verbosity};
@@ -67,7 +69,7 @@ pub fn files<R: Clock + Threads + Wait + Sync>(
     let FilesArguments { collect, paths } = *arguments;
     check_paths(paths, &mut err)?;
     let Collecting {
-        named,
+        loaded,
         mut out,
         terminal,
     } = prepare_collecting(rt, &collect, &mut err)?;
@@ -77,7 +79,7 @@ pub fn files<R: Clock + Threads + Wait + Sync>(
         rt.alloc(),
         &mut files,
         paths,
-        &collect_job(&named, &collect),
+        &collect_job(&loaded, &collect),
         progress_writer(collect.progress, &terminal, rt),
         &mut out,
         &mut CheckedWriter::new(rt.stderr()),
@@ -104,7 +106,7 @@ pub fn tcp<R: Clock + Threads + Wait + Sync>(
     } = *arguments;
     let verbosity = collect.table.verbosity;
     let Collecting {
-        named,
+        loaded,
         mut out,
         terminal,
     } = prepare_collecting(rt, &collect, &mut err)?;
@@ -120,7 +122,7 @@ pub fn tcp<R: Clock + Threads + Wait + Sync>(
         rt.alloc(),
         &mut listening,
         &connections,
-        &collect_job(&named, &collect),
+        &collect_job(&loaded, &collect),
         progress_writer(collect.progress, &terminal, rt),
         &mut out,
         &mut CheckedWriter::new(rt.stderr()),
@@ -136,20 +138,14 @@ pub fn merge(rt: &HostRuntime, arguments: &MergeArguments) -> Result<Status, Sta
     let mut err = rt.stderr();
     let MergeArguments { table, paths } = *arguments;
     check_paths(paths, &mut err)?;
-    let named = load_named_plan(rt, &table)?;
+    let loaded = read_plan_of(rt, &table)?;
     let mut out = table_output(rt, &mut err)?;
     let mut files = SystemFiles::new(rt, rt.alloc());
-    let job = MergeJob {
-        elements: &named.elements,
-        plan: &named.plan,
-        output: table.output,
-        verbosity: table.verbosity,
-    };
     let status = run_merge_with(
         &mut files,
         rt.alloc(),
         paths,
-        &job,
+        &merge_job(&loaded, &table),
         &mut out,
         &mut CheckedWriter::new(rt.stderr()),
     );
@@ -158,11 +154,29 @@ pub fn merge(rt: &HostRuntime, arguments: &MergeArguments) -> Result<Status, Sta
     Ok(status)
 }
 
+// What a merge is to do.
+fn merge_job<'a>(loaded: &'a LoadedPlan, table: &TableArguments) -> MergeJob<'a>
+    // It names the plan's keys and counters by the elements that the plan was read with.
+    ensures names { result.elements.now ≡ loaded.now.elements }
+    ensures plan { result.plan.now ≡ loaded.now.plan }
+{
+    MergeJob {
+        elements: &loaded.elements,
+        plan: &loaded.plan,
+        output: table.output,
+        verbosity: table.verbosity,
+    }
+}
+
 // What a run is to do with what it collects.
-fn collect_job<'a>(named: &'a NamedPlan, arguments: &CollectArguments) -> CollectJob<'a> {
+fn collect_job<'a>(loaded: &'a LoadedPlan, arguments: &CollectArguments) -> CollectJob<'a>
+    // It names the plan's keys and counters by the elements that the plan was read with.
+    ensures names { result.elements.now ≡ loaded.now.elements }
+    ensures plan { result.plan.now ≡ loaded.now.plan }
+{
     CollectJob {
-        elements: &named.elements,
-        plan: &named.plan,
+        elements: &loaded.elements,
+        plan: &loaded.plan,
         pool: pool_of(arguments),
         output: arguments.table.output,
         verbosity: arguments.table.verbosity,

@@ -19,7 +19,7 @@ pub use accepting::{Accepted, AcceptedAll, Listener, accept_all};
 pub use noted::{Note, Noted};
 pub use opening::{OpenSource, Opened, SystemFiles};
 pub use opening_all::{NotOpened, OpenedAll, open_all};
-pub use plan::load_plan;
+pub use plan::{LoadedPlan, load_plan};
 pub use plan_fault::write_plan_fault;
 pub use progress::Progress;
 pub use system_listener::{NotedPeer, SystemListener};
