@@ -35,6 +35,11 @@ pub record HoldsExport (plan : PlanValue) (source : SourceView) (rs : List DataR
   pub table : Table
   pub export : IsExportOf plan rs table text
 
+-- a source holds the export of the table of some records
+pub record SomeExport (plan : PlanValue) (source : SourceView) : Type 0 where
+  pub records : List DataRecord
+  pub holds : HoldsExport plan source records
+
 -- each source holds the export of the table of one of the lists, in their order
 abbrev pub AreExportsOf : {S : Type 0} → (S → SourceView) → PlanValue → List S → List (List DataRecord) → Type 0
 AreExportsOf seen plan sources lists = AllZip (λ source rs. HoldsExport plan (seen source) rs) sources lists

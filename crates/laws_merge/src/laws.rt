@@ -17,7 +17,7 @@ ghost use Rattle.flow_merge.specs.declared.merge_fault.MergeFault.{MergeFault};
 ghost use Rattle.flow_merge.specs.declared.merging.Merging.{Merging};
 ghost use Rattle.flow_merge.specs.declared.row_fault.RowFault.{RowFault};
 ghost use Rattle.flow_merge.specs.declared.row_fault.RowFault.TheVariants.{OutOfMemory};
-ghost use Rattle.laws_merge.specs.Exports.{AreExportsOf, HoldsExport, IsExportable, IsExportFault, IsExportOf, with_counts};
+ghost use Rattle.laws_merge.specs.Exports.{AreExportsOf, IsExportable, IsExportFault, IsExportOf, SomeExport, with_counts};
 ghost use Rattle.laws_merge.specs.RowSums.{rows_at, AreSumsOf};
 
 use ipfix_session::Source;
@@ -52,13 +52,13 @@ pub fn exports_have_their_rows()
 /// added, or else the fault is none of its own, but that sums are too large.
 pub fn exports_are_added_whole<S: Source>()
     ensures added { (limit : ℕ) (before after : S) (old new : Merging) (rows : List RowValue)
-        → (rs : List DataRecord) (holds : HoldsExport (merging_plan old) (S.seen before) rs)
+        (held : SomeExport (merging_plan old) (S.seen before))
         → AddsExport S.seen limit old before after rows new
-        → StandsFor new (rows ++ rows_in holds.table) }
-    ensures fault { (limit : ℕ) (before after : S) (old : Merging) (rows : List RowValue)
-        → (rs : List DataRecord) (holds : HoldsExport (merging_plan old) (S.seen before) rs)
-        → (fault : MergeFault) → IsDue S.seen limit (merging_plan old) rows before after fault
-        → IsExportFault (AddUpTooLarge (rows ++ rows_in holds.table)) fault }
+        → StandsFor new (rows ++ rows_in held.holds.table) }
+    ensures fault { (limit : ℕ) (before after : S) (plan : PlanValue) (rows : List RowValue)
+        (held : SomeExport plan (S.seen before)) (fault : MergeFault)
+        → IsDue S.seen limit plan rows before after fault
+        → IsExportFault (AddUpTooLarge (rows ++ rows_in held.holds.table)) fault }
 {}
 
 /// What `collectd merge` promises of its table, that the rows of the sources' exports are added up in it,
