@@ -14,7 +14,7 @@ use std::io::{BufWriter, Stderr, Stdout, Write};
 /// The octets that are gathered before they are written.
 const OUTPUT_BUFFER: usize = 1 << 16;
 
-/// Standard output behind a buffer. Only memory can be refused here.
+/// Standard output through a buffer. Only memory can be refused here.
 pub fn buffered_output(rt: &HostRuntime) -> Option<BufWriter<Noted<Stdout>>> {
     let noted = Noted::new(rt.alloc(), rt.stdout()).ok()?;
     BufWriter::with_capacity(rt.alloc(), OUTPUT_BUFFER, noted).ok()

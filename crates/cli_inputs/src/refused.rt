@@ -1,4 +1,4 @@
-//! Lines behind a run that failed: why the system refused something.
+//! Lines after a run that failed: why the system refused something.
 
 use input_sources::{Note, Noted, NotedPeer};
 use report_sessions::write_read_failed;

@@ -10,7 +10,7 @@ pub const LARGEST: i64 = 4_294_967_295;
 /// An argument of a command.
 #[derive(Clone, Copy)]
 pub struct Argument {
-    /// Its word, behind two hyphens unless it stands bare.
+    /// Its word, after two hyphens unless it stands bare.
     pub word: &'static str,
     pub takes: Takes,
     pub due: Due,
@@ -67,7 +67,7 @@ impl Argument {
     }
 }
 
-// What an argument takes behind its word.
+// What an argument takes after its word.
 fn behind_word<'a>(arg: Arg<'a>, takes: Takes) -> Arg<'a> {
     match takes {
         Takes::Nothing(None) => arg.action(ArgAction::SetTrue),

@@ -9,8 +9,8 @@ pub use command_dump::{DumpJob, run_dump, run_dump_with, write_dump_fault};
 pub use command_merge::{MergeJob, run_merge_with};
 pub use input_files::ReadText;
 pub use input_sources::{
-    Accepted, Listener, LoadedPlan, Note, Noted, NotedPeer, OpenSource, Opened, SystemFiles, SystemListener,
-    load_plan, write_plan_fault,
+    Accepted, Listener, LoadedPlan, Note, Noted, NotedPeer, OpenSource, Opened, SystemFiles,
+    SystemListener, load_plan, write_plan_fault,
 };
 pub use ipfix_dump::{DumpFault, Form, dump};
 pub use ipfix_session::MessageCounter;

@@ -241,7 +241,7 @@ fn count_in_pieces(text: &[u8], size: usize) -> u64
     counter.count()
 }
 
-/// However they are cut: each header here is cut behind each of its octets.
+/// However they are cut: each header here is cut after each of its octets.
 #[test]
 fn counts_messages_in_pieces(rt: HostRuntime) -> Result<(), Fail> {
     let cases: [(&[&[u8]], u64); 7] = [

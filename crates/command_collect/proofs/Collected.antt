@@ -54,7 +54,7 @@ module _ {S W : Type 0} (seen : S → SourceView) (contents : W → Option (List
     abbrev EndsJob : Type 0
     EndsJob = CollectsJob seen AreHad TellsNotHad count contents old new AreTold status job AreOrigins first
 
-    -- sources were had, and run; what the run told stands behind what was told of them
+    -- sources were had, and run; what the run told follows what was told of them
     pub collected : {Z : Type 0} (Told : List ℕ → Type 0) (sources : Vec S Z) (had : List S) (origins shown : List Origin) → sources.items ≡ had → AreHad had → All (IsUnread seen) had → vec_len sources ≡ count → AreOrigins origins → shown ≡ origins
         → ((lines : List ℕ) → Told lines → AreTold (first ++ (opened_lines job.verbosity origins ++ lines))) → RunsJob contents old new Told seen sources job shown status → EndsJob
     collected Told sources had origins shown same are_had unread counted are_origins same_origins behind r =

@@ -22,7 +22,7 @@ use Rattle.input_sources.specs.InputsTold.{opened_lines, StopsAt, TellsPeers}
 use Rattle.command_collect.specs.Told.{run_lines, table_told, TellsFault}
 use Rattle.command_collect.specs.declared.job.CollectJob.{CollectJob}
 
--- a fault, behind what was told before
+-- a fault, after what was told before
 pub fault_behind : (IsUntouched : Type 0) (Told AreTold : List ℕ → Type 0) → ((line : List ℕ) → Told line → AreTold line) → TellsFault IsUntouched Told → TellsFault IsUntouched AreTold
 fault_behind IsUntouched Told AreTold behind (inl collect) = inl (collect.0, collect.1, behind _ collect.2)
 fault_behind IsUntouched Told AreTold behind (inr export) = inr (export.0, behind _ export.1)
@@ -62,13 +62,13 @@ module _ (job : CollectJob) (plain : job.verbosity ≡ NOTHING_MORE) where
   plain_lines origins fulls table =
       ap₂ (λ (l m : List ℕ). l ++ m) (told_plain job.verbosity is_verbose is_strict job.elements.now origins fulls) (plain_table table)
 
-  -- what stands behind nothing
+  -- what follows nothing
   pub behind_nothing : (first : List ℕ) → first ≡ [] → (origins : List Origin) (lines : List ℕ) → first ++ (opened_lines job.verbosity origins ++ lines) ≡ lines
   behind_nothing first none origins lines = ap₂ (λ (l m : List ℕ). l ++ (m ++ lines)) none (none_opened job.verbosity is_verbose 1 origins)
 
 -- ---- what stops a run
 
--- a write behind the path at which a run stops
+-- a write after the path at which a run stops
 pub stops_then : {T E : Type 0} (names : List (List ℕ)) (verbosity : Verbosity) (old mid new : Option (List ℕ)) (Before After : Type 0) (name ys : List ℕ) (answer : Result T E)
     → StopsAt names verbosity (AreTold old mid Before) name → OnOk answer (Appends mid new ys) → OnErr answer After → (Before → After) → StopsAt names verbosity (λ lines. AreTold old new After (lines ++ ys)) name
 stops_then names verbosity old mid new Before After name ys answer stops ok err kept =
@@ -81,7 +81,7 @@ stops_then names verbosity old mid new Before After name ys answer stops ok err 
       told = told_then old mid new Before After answer (opened_lines verbosity stops.origins) ys stops.told ok err kept;
     }
 
--- and behind the connections that were accepted
+-- and after the connections that were accepted
 pub peers_then : {T E : Type 0} (verbosity : Verbosity) (old first mid new : Option (List ℕ)) (Start Before After : Type 0) (xs ys : List ℕ) (answer : Result T E)
     → AreTold old first Start xs → TellsPeers verbosity (AreTold first mid Before) → OnOk answer (Appends mid new ys) → OnErr answer After → (Start → Before) → (Before → After)
     → TellsPeers verbosity (λ lines. AreTold old new After (xs ++ (lines ++ ys)))

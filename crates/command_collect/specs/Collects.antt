@@ -28,13 +28,13 @@ use Rattle.command_collect.specs.declared.job.CollectJob.{CollectJob}
 use Rattle.command_collect.specs.declared.job.Connections.{Connections}
 
 -- what the status of a command says that has so many sources to collect from: they were had and run, and how that ended; it
--- failed, and how that was told; or they weren't had, and how that was told
+-- failed, and how that was reported; or they weren't had, and how that was reported
 pub record Collects (pool : Pool) (count status : ℕ) (IsUntouched Ran TellsFailed TellsNotHad : Type 0) (TellsRefused : CollectFault → Type 0) : Type 0 where
   pub statuses : (status ≡ number_of Well) ⊎ (status ≡ number_of SessionFault) ⊎ (status ≡ number_of NotOpened) ⊎ (status ≡ number_of Failed)
   pub ran : status ≢ number_of NotOpened → Ran
   -- nothing was written unless all were had
   pub not_had : status ≡ number_of NotOpened → IsUntouched
-  -- nothing was collected or written if the arguments have a fault: that is told, unless not all sources were had
+  -- nothing was collected or written if the arguments have a fault: that is reported, unless not all sources were had
   pub refused : IfSome (fault_of_arguments pool count) (λ fault. ((status ≡ number_of NotOpened) ⊎ ((status ≡ number_of Failed) × TellsRefused fault)) × IsUntouched)
   pub failed : status ≡ number_of Failed → TellsFailed
   pub stopped : status ≡ number_of NotOpened → TellsNotHad
@@ -53,7 +53,7 @@ module _ {S W : Type 0} (seen : S → SourceView) (AreHad : List S → Type 0) (
       Collects pool count status (new ≡ old) (RunsSources seen (IsGivenBy seen) HaveNoFault plan pool status (WritesAndTells contents old new AreTold plan output) AreHad) (TellsFault (new ≡ old) AreTold) TellsNotHad
       (λ fault. AreTold (collect_fault_line fault))
 
-  -- the same of a job, by the names that elements have under its files, and told in full: behind the first lines, with origins
+  -- the same of a job, by the names that elements have under its files, and told in full: after the first lines, with origins
   abbrev pub CollectsJob : CollectJob → (List Origin → Type 0) → List ℕ → Type 0
   CollectsJob job AreOrigins first =
       let Behind = TellsBehind AreOrigins job.verbosity first AreTold in

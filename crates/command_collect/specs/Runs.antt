@@ -80,7 +80,7 @@ pub record Runs (pool : Pool) (count status : ℕ) (IsUntouched WritesIt : Type 
   pub table : status ≢ number_of Failed → WritesIt
   -- the line of a fault alone was told; and nothing was written, if it is one of collecting
   pub failed : status ≡ number_of Failed → TellsFault IsUntouched AreTold
-  -- nothing was collected if the arguments have a fault, and that is told
+  -- nothing was collected if the arguments have a fault, and that is reported
   pub refused : IfSome (fault_of_arguments pool count) (λ fault. (status ≡ number_of Failed) × IsUntouched × AreTold (collect_fault_line fault))
 
 -- the table was written to a writer, and nothing else; the lines of the sessions and of the table's counts were told, and

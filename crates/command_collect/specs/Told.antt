@@ -24,7 +24,7 @@ table_told job table = tally_line table.tally ++ missing_told job.verbosity job.
 abbrev pub run_lines : CollectJob → List Origin → List FullReport → Table → List ℕ
 run_lines job origins fulls table = told_lines job.verbosity job.elements.now origins fulls ++ table_told job table
 
--- behind the first lines each session is told when it is had, with its origin; and behind these what the last fact says
+-- after the first lines each session is told when it is had, with its origin; and after these what the last fact says
 pub record TellsBehind (AreOrigins : List Origin → Type 0) (verbosity : Verbosity) (first : List ℕ) (AreTold : List ℕ → Type 0) (Tells : List Origin → (List ℕ → Type 0) → Type 0) : Type 0 where
   pub origins : List Origin
   pub are_origins : AreOrigins origins
@@ -36,7 +36,7 @@ pub record TellsNotOpened (names : List (List ℕ)) (verbosity : Verbosity) (Are
   pub reason : Reason
   pub stops : StopsAt names verbosity (λ lines. AreTold (lines ++ not_had_lines verbosity (codes "open") name reason)) name
 
--- behind the first lines each connection that was accepted was told, and then that there is none at this address
+-- after the first lines each connection that was accepted was told, and then that there is none at this address
 pub record TellsNotAccepted (verbosity : Verbosity) (first address : List ℕ) (AreTold : List ℕ → Type 0) : Type 0 where
   pub reason : Reason
   pub stops : TellsPeers verbosity (λ lines. AreTold (first ++ (lines ++ not_had_lines verbosity (codes "listen") address reason)))

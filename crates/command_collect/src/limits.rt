@@ -10,7 +10,7 @@ use flow_collect::{CollectFault, Pool, refusal};
 use report_writing::{NOTHING_MORE, Verbosity, WriteLines};
 use std::io;
 
-/// Writes what is allowed, behind the fault, if `verbosity` is verbose and a run with this pool and so many
+/// Writes what is allowed, after the fault, if `verbosity` is verbose and a run with this pool and so many
 /// sessions is refused for one of them. Otherwise nothing is written.
 pub fn write_limit<W: WriteLines>(
     verbosity: Verbosity,

@@ -27,7 +27,7 @@ rise_tail m (n ∷ ns) up = grind (arith, nat_tests)
 rise_head : (m n : ℕ) (ns : List ℕ) → rise (m ∷ n ∷ ns) ≡ true → m < n
 rise_head m n ns up = grind (arith, nat_tests)
 
--- none behind an element is below the number after its own
+-- none after an element is below the number after its own
 none_below : (n : ℕ) (r : Entry) (rs : List Entry) → rise (numbers (r ∷ rs)) ≡ true → n ≤ r.number + 1 → below n rs ≡ []
 none_below n r [] up le = refl
 none_below n r (s ∷ rs) up le =

@@ -11,7 +11,7 @@ use Rattle.ipfix_elements.specs.Names.{element_named}
 abbrev pub begins : List ℕ → List ℕ → Bool
 begins text word = str_eq_ignore_ascii_case (take (length word) text) word
 
--- a word is a part of a text: the text begins with it behind some of its octets
+-- a word is a part of a text: the text begins with it after some of its octets
 abbrev pub has_part : List ℕ → List ℕ → Bool
 has_part [] word = length word == 0
 has_part (b ∷ bs) word = begins (b ∷ bs) word || has_part bs word

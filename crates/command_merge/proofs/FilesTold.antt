@@ -62,7 +62,7 @@ module _ {P : Type 0} (name_of : P → List ℕ) (paths : List P) where
         }
     stops_merge i d (Whole fault) less first not_added kept = absurd not_added
 
--- why they weren't merged, behind those that were opened
+-- why they weren't merged, after those that were opened
 pub tells_not_merged : {T E : Type 0} (names : List (List ℕ)) (verbosity : Verbosity) (old mid new : Option (List ℕ)) (Before After : Type 0) (not_merged : NotMerged) (status : Status) (answer : Result T E)
     → StopsMerge names verbosity (AreTold old mid Before) not_merged → OnOk answer (Appends mid new (not_merged_lines verbosity not_merged)) → OnErr answer After → (Before → After)
     → status ≡ status_of not_merged → TellsNotMerged names verbosity (AreTold old new After) status

@@ -19,7 +19,7 @@ use Rattle.command_merge.specs.declared.not_merged.NotMerged.TheVariants.{NotOpe
 unfoldable pub merged_line : ℕ → ℕ → List ℕ
 merged_line files rows = codes "collectd: merged: files " ++ (decimal files ++ (codes " rows " ++ (decimal rows ++ codes "\n")))
 
--- the fault of a file, and behind it that of its session or of its record
+-- the fault of a file, and after it that of its session or of its record
 abbrev pub merge_fault_text : MergeFault → List ℕ
 merge_fault_text (Session fault) = codes ": fault 3 Session" ++ fault_text (number_of fault) (name_of fault)
 merge_fault_text (Row fault) = codes ": fault 6 Row" ++ fault_text (rows.number_of fault) (rows.name_of fault)

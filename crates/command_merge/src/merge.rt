@@ -27,7 +27,7 @@ use std::io::Write;
 ///
 /// To `err` it writes how many files and rows there were, or else a line for the first file that was not
 /// opened or not merged, and what is wrong with it. If the job is verbose it tells each file that is
-/// opened or not merged, by its number and name, and the system's reason behind one that can't be opened.
+/// opened or not merged, by its number and name, and the system's reason after one that can't be opened.
 /// A strict merge is none other, since nothing is merged in which anything was lost or passed over.
 /// A fault of `err` is passed over. Nothing is written to `out` unless all files were merged.
 pub fn run_merge_with<S: Source + Drop, O: OpenSource<S>, W: Write, E: WriteLines>(

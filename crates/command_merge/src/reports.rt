@@ -51,7 +51,7 @@ fn write_merge_fault<W: WriteLines>(fault: MergeFault, out: &mut W) -> io::Resul
     write_fault("merge", fault.number(), fault.name(), out)
 }
 
-// The line of a file, counted from 1, that was not merged: the fault, and behind it that of its session or of
+// The line of a file, counted from 1, that was not merged: the fault, and after it that of its session or of
 // its record. If `verbosity` is verbose, the same line follows with the file's name.
 fn write_file_fault<W: WriteLines>(
     verbosity: Verbosity,
@@ -96,7 +96,7 @@ fn write_named_fault<W: WriteLines>(
     write_merge_fault_text(fault, out)
 }
 
-// The fault of a file, and behind it that of its session or of its record, to the end of the line.
+// The fault of a file, and after it that of its session or of its record, to the end of the line.
 fn write_merge_fault_text<W: WriteLines>(fault: MergeFault, out: &mut W) -> io::Result<()>
     ensures { Tells W.contents W.failed out.old out.new result (merge_fault_text fault) }
 {
@@ -109,7 +109,7 @@ fn write_merge_fault_text<W: WriteLines>(fault: MergeFault, out: &mut W) -> io::
     }
 }
 
-// The last fault, behind what stands before it.
+// The last fault, after what stands before it.
 #[tactic(auto, unfolding(report_writing::specs::FaultLines::fault_text))]
 fn write_inner<W: WriteLines>(what: &str, number: u8, name: &str, out: &mut W) -> io::Result<()>
     ensures { Tells W.contents W.failed out.old out.new result

@@ -26,7 +26,7 @@ FullAnswer S = Collected S FullReport Table
 abbrev pub reports_in : List FullReport → List SessionReport
 reports_in fulls = map (λ (full : FullReport). full.report) fulls
 
--- the ledger of a domain of these messages balances: from before its first message to behind its last, the exporter's
+-- the ledger of a domain of these messages balances: from before its first message to after its last, the exporter's
 -- sequence number advanced, modulo 2^32, by the records that came, those that were lost and those that are unaccounted
 -- for, if it never stepped backward, no message after an unknown set was late, and no count has stopped (RFC 7011, section 3.1)
 pub record IsBalanced (ms : List Message) (report : DomainReport) (balance : DomainBalance) : Type 0 where
@@ -37,7 +37,7 @@ pub record IsBalanced (ms : List Message) (report : DomainReport) (balance : Dom
 
 module _ {S : Type 0} (seen : S → SourceView) where
   -- the records are those of the octets that the source gave, as the report tells; and of the messages that the report
-  -- counts the full report tells the rest: what each domain passed over, the gaps behind its unknown sets, and where the
+  -- counts the full report tells the rest: what each domain passed over, the gaps after its unknown sets, and where the
   -- session stopped
   pub record IsGivenInFull (before after : S) (full : FullReport) (records : List DataRecord) : Type 0 where
     pub given : IsGivenBy seen before after full.report records

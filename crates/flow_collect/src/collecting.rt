@@ -39,7 +39,7 @@ use std::sync::Wait;
 use std::thread::Threads;
 
 /// Does what [`collect`](crate::collect) does, and reports each session in full: with what its domains
-/// passed over, the gaps behind their unknown sets, and the place where it stopped. The rows of the table are
+/// passed over, the gaps after their unknown sets, and the place where it stopped. The rows of the table are
 /// made as they are asked for. The faults are the same.
 pub fn collect_flat<S: Source + Send + Drop, G: Gate + Sync, R: Threads + Wait + Sync>(
     rt: &R,

@@ -8,7 +8,7 @@ use Rattle.report_writing.specs.declared.verbosity.Verbosity.{Verbosity}
 use Rattle.input_files.specs.Loaded.{Adds, Loads, Stops}
 
 module _ (Has : List ℕ → List ℕ → Type 0) (Refuses : List ℕ → Reason → Type 0) (verbosity : Verbosity) where
-  -- what there is to tell of the files behind one that was added is told behind its lines
+  -- what there is to tell of the files after one that was added is told after its lines
   pub adds_then : {X : Type 0} (f : X → List ℕ) (known more : List Known) (paths : List X) (d : X) (first later : List ℕ) (result : Option (List Known))
       → 1 ≤ length paths → Adds Has known (f (slice_index_or paths 0 d)) more first
       → Loads Has Refuses verbosity more (map f (take (length paths - 1) (drop 1 paths))) result later
@@ -26,7 +26,7 @@ module _ (Has : List ℕ → List ℕ → Type 0) (Refuses : List ℕ → Reason
         refl,
       )
 
-  -- nothing is told behind a file that stops
+  -- nothing is told after a file that stops
   pub stops_there : {X : Type 0} (f : X → List ℕ) (known : List Known) (paths : List X) (d : X) (lines : List ℕ)
       → 1 ≤ length paths → Stops Has Refuses verbosity known (f (slice_index_or paths 0 d)) lines → Loads Has Refuses verbosity known (map f paths) None lines
   stops_there {X = X} f known [] d lines some stops = absurd (omega (arith, some))

@@ -9,7 +9,7 @@ use Rattle.report_writing.specs.declared.reason.Reason.{Reason}
 use Rattle.report_writing.specs.declared.verbosity.Verbosity.{Verbosity}
 use Rattle.input_files.specs.FileLines.{error_line, unknown_type_lines}
 
--- a path has a text that is read so, behind those before it
+-- a path has a text that is read so, after those before it
 abbrev pub IsRead : (List ℕ → List ℕ → Type 0) → List Known → List ℕ → Result Added ElementsError → Type 0
 IsRead Has known path result = (octets : List ℕ) × Has path octets × IsOfText known octets result
 
@@ -18,7 +18,7 @@ abbrev pub Adds : (List ℕ → List ℕ → Type 0) → List Known → List ℕ
 Adds Has known path more lines =
     (added : Added) × IsRead Has known path (Ok added) × (more ≡ added.elements) × (lines ≡ unknown_type_lines path added.unknown_type)
 
--- a file can't be had, or has a fault, and that was told
+-- a file can't be had, or has a fault, and that was reported
 abbrev pub Stops : (List ℕ → List ℕ → Type 0) → (List ℕ → Reason → Type 0) → Verbosity → List Known → List ℕ → List ℕ → Type 0
 Stops Has Refuses verbosity known path lines =
     ((reason : Reason) × Refuses path reason × (lines ≡ not_had_lines verbosity (codes "open") path reason))

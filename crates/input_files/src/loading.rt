@@ -12,7 +12,7 @@ use report_writing::{Verbosity, WriteLines, write_not_had_because};
 use std::alloc::Global;
 
 /// Reads files of elements in their order, as [`add_file`] does. If one can't be had, or has a fault, the answer is
-/// `None`, no file behind it is read, and `err` has a line that says so. A file that has rows with types that are
+/// `None`, no file after it is read, and `err` has a line that says so. A file that has rows with types that are
 /// not known has a line, too, of the first of these rows.
 pub fn load_elements<T: ReadText, E: WriteLines>(
     files: &T,

@@ -8,7 +8,7 @@ use Rattle.input_sources.specs.PlaceLines.{plan_lines}
 use Rattle.report_writing.specs.declared.reason.Reason.{Reason}
 use Rattle.report_writing.specs.declared.verbosity.Verbosity.{Verbosity}
 
--- no text of the path can be had, and that is told; or the text that it has is no plan, and its error is told
+-- no text of the path can be had, and that is reported; or the text that it has is no plan, and its error is told
 abbrev pub TellsNoPlan : List Known → (List ℕ → Type 0) → (Reason → Type 0) → Verbosity → List ℕ → (List ℕ → Type 0) → Type 0
 TellsNoPlan known Has Refuses verbosity path AreTold =
     ((reason : Reason) × Refuses reason × AreTold (not_had_lines verbosity (codes "open") path reason))

@@ -35,7 +35,7 @@ pub trait Listener<S: Source> {
     /// Whether a source is a connection with this limit of a read's time, as it is before it is read.
     ghost gives: { Self → Option Duration → S → Type 0 };
 
-    /// The connections that are still to come, in their order, if it tells them.
+    /// The connections that are still to come, in their order, if it shows them.
     ghost coming: { Self → Option (List S) };
 
     /// Whether it is closed.
@@ -70,7 +70,7 @@ pub struct AcceptedAll<S: Source + Drop> {
     pub origins: Vec<Origin<'static>>,
 }
 
-/// So many connections as sources, each with this limit of a read's time. Behind the last, and if one can't
+/// So many connections as sources, each with this limit of a read's time. After the last, and if one can't
 /// be accepted, the listener is closed. `err` has a line for each that was accepted, if `verbosity` is verbose;
 /// a fault of `err` is passed over.
 pub fn accept_all<

@@ -32,7 +32,7 @@ pub trait OpenSource<S: Source> {
     /// Whether a source is the one that a path opens, as it is before it is read.
     ghost opens: { Self → List ℕ → S → Type 0 };
 
-    /// The sources that are still to come, in their order, if it tells them.
+    /// The sources that are still to come, in their order, if it shows them.
     ghost coming: { Self → Option (List S) };
 
     /// The source of a path, of which nothing was read; or why it can't be opened.

@@ -1,4 +1,4 @@
--- Peers that were refused, and are not told yet.
+-- Peers that were refused, and are not reported yet.
 use Rattle.std.specs.Prelude.{ℕ, Option, Some, None}
 use Rattle.std.specs.declared.net.socket_addr.SocketAddr.{SocketAddr}
 use Rattle.ipfix_session.specs.Sources.{one_more}

@@ -15,7 +15,7 @@ use std::time::{Duration, Instant};
 
 /// A source over a reader whose reads have a time limit. A read that reaches it is a tick
 /// (`ReadError::Interrupted`), unless nothing has come for `idle`: then it fails, as it does if the
-/// reader fails. Once it has told its end it doesn't ask the reader again.
+/// reader fails. Once it has shown its end it doesn't ask the reader again.
 #[derive(Drop)]
 pub struct PatientReader<'a, R: Read, C: Clock> {
     reader: R,

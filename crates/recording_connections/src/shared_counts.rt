@@ -7,7 +7,7 @@ ghost use Rattle.recording_connections.specs.Refusals.{one_more_refused, refused
 use std::mem;
 use std::net::SocketAddr;
 
-/// The peers that were refused and are not told yet.
+/// The peers that were refused and are not reported yet.
 #[derive(Clone, Copy, Debug, PartialEq, Eq)]
 pub struct RefusedPeers {
     /// How many, up to `u64::MAX`.
@@ -21,7 +21,7 @@ pub struct SharedCounts {
     /// The number of the last session, counted from 1, up to `u64::MAX`.
     pub sessions: u64,
     pub refused: Option<RefusedPeers>,
-    /// How often no connection could be accepted, as far as it is not told yet, up to `u64::MAX`.
+    /// How often no connection could be accepted, as far as it is not reported yet, up to `u64::MAX`.
     pub not_accepted: u64,
 }
 

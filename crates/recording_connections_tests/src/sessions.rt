@@ -27,7 +27,7 @@ const FLOW: Flow = Flow {
     octets: 1500,
 };
 
-// Records a session of octets, whose reads fail behind `fail_at`, and gives what is told.
+// Records a session of octets, whose reads fail after `fail_at`, and gives what is told.
 fn told_of(
     alloc: Global,
     place: SmallPlace,

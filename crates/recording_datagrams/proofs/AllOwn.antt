@@ -1,4 +1,4 @@
--- What the session of a peer stands for behind rounds in which it didn't end: all its own datagrams.
+-- What the session of a peer stands for after rounds in which it didn't end: all its own datagrams.
 use Rattle.std.proofs.Common.{◌≡◌, ◌≢◌, ℕ, ◌&&◌, Bool, true, false, cond, List, [], ◌∷◌, ◌++◌, Option, Some, None, IsSome, Result, Ok, Err, refl, sym, ap, ◌∙◌, subst, inl, inr, append-nil, append_assoc}
 use Rattle.std.specs.Prelude.{unwrap_or}
 use Rattle.std.specs.declared.net.socket_addr.SocketAddr.{SocketAddr}
@@ -85,7 +85,7 @@ module _ {F : Type 0} (seen : F → FilesView) (peer : SocketAddr) where
         let none : of_peer peer es ≡ None = sym (same_of most peer from es e) ∙ r.0.begins in
         absurd (not_there (of_peer peer es) none (subst (λ (l : List (SocketAddr × PeerState F)). IsIn l) r.0.same s))
 
-    -- behind a datagram
+    -- after a datagram
     with_one : (most now : ℕ) (es after : List (SocketAddr × PeerState F)) (from : SocketAddr) (m : List ℕ) (became : Became F) (leaving : Option (SocketAddr × PeerState F)) → HasAll own es → Records seen became leaving most es after from m now
         → (IsIn es → IsIn after) → (same_peer peer from ≡ true → IsIn after) → HasAll (own_with own from m) after
     with_one most now es after from m became leaving s r stays its =
@@ -129,7 +129,7 @@ module _ {F P W : Type 0} (seen : F → FilesView) (finishes : F → FileReport 
   taken_all own (Err Tick) now old new lines s t stays its = all_same seen peer own _ old.peers.kept.entries new.peers.kept.entries (λ p. sym (append-nil (own p))) (ap (λ (r : DatagramTaker F P W). r.peers.kept.entries) t.0) s
   taken_all own (Err Failed) now old new lines s t stays its = all_same seen peer own _ old.peers.kept.entries new.peers.kept.entries (λ p. sym (append-nil (own p))) (ap (λ (r : DatagramTaker F P W). r.peers.kept.entries) t.0) s
 
-  -- those that are silent stand behind the others
+  -- those that are silent follow the others
   second_all : (own : SocketAddr → List (List ℕ)) (now : ℕ) (old new : DatagramTaker F P W) (lines : List ℕ) → HasAll seen peer own old.peers.kept.entries → KeepsToSeconds seen finishes asked now old new lines → (IsKept peer old → IsKept peer new)
       → HasAll seen peer own new.peers.kept.entries
   second_all own now old new lines s g stays = elim g [

@@ -25,7 +25,7 @@ use Rattle.recording_datagrams.specs.Rounds.{Round, HadTurnsIf, TakesGiven, Tell
 use Rattle.recording_datagrams.specs.Standing.{AreHeard}
 use Rattle.recording_datagrams.specs.declared.datagram_taker.DatagramTaker.{DatagramTaker}
 
--- the latest first, and none behind a second
+-- the latest first, and none after a second
 abbrev IsInOrder : {F : Type 0} → ℕ → List (SocketAddr × PeerState F) → Type 0
 IsInOrder second [] = Unit {0}
 IsInOrder second (e ∷ es) = (e.1.heard ≤ second) × IsInOrder e.1.heard es

@@ -1,4 +1,4 @@
--- What the sessions of peers stand for behind rounds: the last ones of their own datagrams.
+-- What the sessions of peers stand for after rounds: the last ones of their own datagrams.
 use Rattle.std.proofs.Common.{◌≡◌, ℕ, zero, suc, ◌-◌, ◌&&◌, Bool, true, false, cond, List, [], ◌∷◌, ◌++◌, take, is_some, Option, Some, None, Result, Ok, Err, refl, sym, ap, ◌∙◌, subst, inl, inr, append-nil, append_assoc}
 use Rattle.std.specs.Prelude.{unwrap_or}
 use Rattle.std.specs.Map.{lookup_key, remove_entry}
@@ -212,7 +212,7 @@ module _ {F : Type 0} (seen : F → FilesView) where
     none_of None (Some ms) b e = absurd b
     none_of (Some k) q b e = absurd cc
 
-    -- behind a datagram of a peer
+    -- after a datagram of a peer
     pub next_stands : (most now : ℕ) (es after : List (SocketAddr × PeerState F)) (from : SocketAddr) (m : List ℕ) (became : Became F) (leaving : Option (SocketAddr × PeerState F)) (cs : PeerDatagrams) → StandFor seen es cs → AreApart cs → HaveLast own cs
         → Records seen became leaving most es after from m now → AreApart (came_by became most from m cs) × HaveLast (own_with own from m) (came_by became most from m cs)
     next_stands most now es after from m Recorded leaving cs p a h r = first_stands most from m cs a h
@@ -229,7 +229,7 @@ module _ {F : Type 0} (seen : F → FilesView) where
         let next = next_stands most now es after from m became leaving s.cs s.stand s.apart s.last r in
         record { cs = came_by became most from m s.cs; stand = stand; apart = next.0; last = next.1 }
 
-    -- behind the turns of all peers
+    -- after the turns of all peers
     abbrev pub BehindTurns : PeerDatagrams → List (SocketAddr × PeerState F) → Type 0
     BehindTurns cs after = (ds : PeerDatagrams) × StandFor seen after ds × Less own ds cs
 

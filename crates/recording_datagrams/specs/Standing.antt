@@ -1,4 +1,4 @@
--- What the sessions of peers stand for behind rounds, and who is kept then.
+-- What the sessions of peers stand for after rounds, and who is kept then.
 use Rattle.std.specs.Prelude.{◌≡◌, ◌≢◌, ◌≤◌, ◌&&◌, ℕ, List, [], ◌∷◌, ◌++◌, flat_map, if◌then◌else◌, Option, Some, None, IsSome, Result, Ok, Err}
 use Rattle.std.specs.declared.net.socket_addr.SocketAddr.{SocketAddr}
 use Rattle.recording_files.specs.Files.{FilesView}

@@ -38,7 +38,7 @@ module _ {F : Type 0} (seen : F → FilesView) (finishes : F → FileReport → 
     pub goes_on : GoesOn seen is_over before after turn
     pub is_told : IsTurnTold finishes turn.peer turn.refused turn.ended lines
 
-  -- a peer had its turn behind others of which these are kept: it is kept before them, unless its session ended
+  -- a peer had its turn after others of which these are kept: it is kept before them, unless its session ended
   pub record HadTurn (e : SocketAddr × PeerState F) (others after : List (SocketAddr × PeerState F)) (lines : List ℕ) : Type 0 where
     pub new : PeerState F
     pub refused : Option Refusals
@@ -74,7 +74,7 @@ module _ {F : Type 0} (finishes : F → FileReport → Result (Unit {0}) NotWrit
   AreSilent [] lines = lines ≡ []
   AreSilent (e ∷ es) lines = (before : List ℕ) × (own : List ℕ) × AreSilent es before × IsSilent e own × (lines ≡ before ++ own)
 
-  -- those go that stand behind the last one of which a datagram came since then
+  -- those go that follow the last one of which a datagram came since then
   pub record EndsSilent (before after : List (SocketAddr × PeerState F)) (lines : List ℕ) : Type 0 where
     pub gone : List (SocketAddr × PeerState F)
     pub those : before ≡ after ++ gone

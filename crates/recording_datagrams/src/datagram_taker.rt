@@ -83,7 +83,7 @@ impl<
     }
 
     // Takes a datagram of a peer. If the peer may not send it is counted, and nothing more. Otherwise it is recorded or
-    // refused, as `Peers::record` does, and each session that ends at that is told; without memory to begin a session
+    // refused, as `Peers::record` does, and each session that ends at that is reported; without memory to begin a session
     // that is told as its fault.
     fn take_from(&mut self, from: SocketAddr, datagram: &[u8], now: u64) -> io::Result<()>
         ensures { (may_send : Bool) × TellsSome W.contents W.failed self.old.out self.new.out result

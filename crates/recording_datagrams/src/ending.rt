@@ -124,7 +124,7 @@ fn tell_advances<W: WriteLines>(
     Ok(())
 }
 
-/// Tells how many datagrams of a peer were refused that aren't told yet, if there are any.
+/// Tells how many datagrams of a peer were refused that aren't reported yet, if there are any.
 pub fn tell_refusals<W: WriteLines>(
     peer: SocketAddr,
     refused: Option<Refusals>,

@@ -61,7 +61,7 @@ impl<'a, R: Files + Clock, W: Wait, E: Write + Drop> FileFinisher<R::File>
 }
 
 /// Starts the threads that finish the files of a queue, for ever, and answers how many could be started. If those
-/// aren't all that is told.
+/// aren't all that is reported.
 pub(crate) fn start_finishers<
     's,
     'e,

@@ -12,7 +12,7 @@ use recording_connections::RecordingFiles;
 use recording_files::PeriodClock;
 use report_writing::WriteLines;
 
-/// Where no peer was kept at first: behind any rounds the session of each peer that is kept stands for the last
+/// Where no peer was kept at first: after any rounds the session of each peer that is kept stands for the last
 /// ones of the datagrams of that peer alone, those that came since it began, each in its order; whatever came
 /// from others, and whatever periods were over, sessions ended and peers were silent.
 pub fn sessions_stand_behind_rounds<F: RecordingFiles, P: PeriodClock, W: WriteLines + Drop>()
@@ -31,7 +31,7 @@ pub fn session_that_stays_stands_for_all<F: RecordingFiles, P: PeriodClock, W: W
         → StandsForAll F.seen (of_peer peer new.peers.kept.entries) (own_of peer rs) }
 {}
 
-/// Where no peer was kept at first: behind a round in a new second nobody is kept that has been silent for
+/// Where no peer was kept at first: after a round in a new second nobody is kept that has been silent for
 /// longer than a peer may be.
 pub fn nobody_stays_silent<F: RecordingFiles, P: PeriodClock, W: WriteLines + Drop>()
     ensures { (rs : List Round) (r : Round) (old mid new : DatagramTaker F P W)

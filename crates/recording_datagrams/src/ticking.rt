@@ -78,7 +78,7 @@ fn end_if<F: RecordingFiles, W: WriteLines>(
     }
 }
 
-/// Ends the sessions of peers whose last datagram came before a time in seconds: of those behind the last that
+/// Ends the sessions of peers whose last datagram came before a time in seconds: of those after the last that
 /// isn't one. A line that can't be written stops nothing; its first error is the answer.
 pub fn end_silent<F: RecordingFiles + Drop, W: WriteLines>(
     peers: &mut Peers<F>,
@@ -118,7 +118,7 @@ fn end_one<F: RecordingFiles + Drop, W: WriteLines>(
 }
 
 /// Tells how many datagrams came from peers that may not send, and how often none could be received, if that
-/// was so. They are counted anew then, though a line can't be written; its first error is the answer.
+/// was so. They are counted again then, though a line can't be written; its first error is the answer.
 pub fn tell_unserved<W: WriteLines>(unserved: &mut SharedCounts, out: &mut W) -> io::Result<()>
     ensures told { Tells W.contents W.failed out.old out.new result
         (unserved_lines unserved.old) }

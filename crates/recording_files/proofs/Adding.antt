@@ -34,7 +34,7 @@ sum_map report field e is (k ∷ ks) less =
 
 module _ (field : FileReport → ℕ) (g : List Message → List Message → ℕ) (is : (before here : List Message) → field (file_report before here) ≡ capped (g before here)) (total : List Message → ℕ)
     (none : total [] ≡ 0) (goes : (before here : List Message) → g before here + total before ≡ total (before ++ here)) where
-  -- what files add, from behind those before
+  -- what files add, from after those before
   adds_from : (before : List Message) (ps : List Part) → sum_by field (file_reports before ps) < most → sum_by field (file_reports before ps) + total before ≡ total (before ++ all_given ps)
   adds_from before [] less = let same : total before ≡ total (before ++ []) = ap total (sym (append-nil before)) in omega (arith, same)
   adds_from before (p ∷ ps) less =

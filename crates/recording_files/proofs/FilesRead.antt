@@ -160,7 +160,7 @@ file_read before here (m ∷ ms) (x ∷ xs) w fs inside writes =
       (l.given, y, more.0, refl, one.2, l.led_by, more.2),
     )
 
--- ---- the session goes on behind a file
+-- ---- the session goes on after a file
 
 pub writes_session : (before here : List Message) (ms : List (List ℕ)) (xs : List Message) (w : List (List ℕ)) → Writes before here ms xs w → GivesAll (known_after [] (before ++ here)) ms xs
 writes_session before here [] [] w writes = tt

@@ -40,7 +40,7 @@ cut_at w m r e =
 
 -- ---- one after another
 
--- what is known behind them
+-- what is known after them
 abbrev known : List Message → List Message → History
 known before here = known_after [] (before ++ here)
 

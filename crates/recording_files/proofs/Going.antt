@@ -127,7 +127,7 @@ holds_of text files first v s c left b = holds_at text files first v v s c left 
 abbrev pub out_of_memory : (text : List ℕ) (files : List (List Message)) (first v : FilesView) (s : State) (c : Told) (left : List ℕ) → IsBetween text files first v s c left → HoldsSome (Counted c) text files first v
 out_of_memory text files first v s c left b = record { holds = holds_of text files first v s c left b; finished = b.are; not_failed = b.not_failed; tells = b.counted }
 
--- the text stops behind the messages that stand there
+-- the text stops after the messages that stand there
 holds_all : (text : List ℕ) (files : List (List Message)) (first v : FilesView) (s : State) (c : Told) (left : List ℕ) (stop : Stop) (b : IsBetween text files first v s c left) → gives text ≡ record { messages = whole b.finished b.last; stop = stop }
     → HoldsAll (Counted c) text files first v
 holds_all text files first v s c left stop b all = record {

@@ -132,7 +132,7 @@ module _ (f : Message → Message → ℕ) (g : Option ℕ → ℕ → ℕ) (add
   from_lead None n small = adds.due n small ∙ sym (adds.none n)
   from_lead (Some q) n small = refl
 
-  -- a message of the domain, behind those that lead it
+  -- a message of the domain, after those that lead it
   one_own : (before here : List Message) (x : Message) (ls rest : List Message) (o : Option ℕ) (b : Bool) → begins_again before here d ≡ b → eqb x.header.domain d ≡ true → LedBy b (stamp_for before x.header) ls → FileDue d before here o
       → sum_from o (messages_of d ls ++ (x ∷ rest)) ≡ g (due_in d before here) x.header.sequence + sum_from (due_after x) rest
   one_own before here x ls rest o true again e led due =

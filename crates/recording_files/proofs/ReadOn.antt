@@ -55,7 +55,7 @@ interrupted now after buffer read = record {
 }
 
 module _ {S C : Type 0} (seen : S → SourceView) (asked : C → ClockView) where
-  -- after this many reads, behind each of which the clock was asked, the files hold the whole messages of what the source gave,
+  -- after this many reads, after each of which the clock was asked, the files hold the whole messages of what the source gave,
   -- and left is what follows them
   pub record Reading (n : ℕ) (before now : S) (start clock : C) (first v : FilesView) (s : State) (c : Told) (left : List ℕ) : Type 0 where
     pub reads : List (AskedRead S C)
@@ -88,7 +88,7 @@ module _ {S C : Type 0} (seen : S → SourceView) (asked : C → ClockView) wher
   abbrev asked_read : List ℕ → Bool → S → C → AskedRead S C
   asked_read piece is_over after clock = record { octets = piece; is_over = is_over; source = after; clock = clock }
 
-  -- one read more, and the clock's answer behind it
+  -- one read more, and the clock's answer after it
   one_read : (n : ℕ) (before now after : S) (start clock then : C) (first v : FilesView) (s : State) (c : Told) (left piece : List ℕ) (is_over : Bool) (d : Reading n before now start clock first v s c left)
       → ReadsOn (seen now) (seen after) piece → IsAnswer (asked clock) is_over (asked then) → AreAskedReads seen asked before start (asked_read piece is_over after then ∷ d.reads)
   one_read n before now after start clock then first v s c left piece is_over d on answer =

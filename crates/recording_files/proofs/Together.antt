@@ -32,7 +32,7 @@ led_records : (b : Bool) (s : Stamp) (ls : List Message) → LedBy b s ls → re
 led_records true s ls led = ap records_in led.2 ∙ no_records s (led.0 ∷ led.1) led.3
 led_records false s ls led = ap records_in led
 
--- the records of a message, behind those of messages without records
+-- the records of a message, after those of messages without records
 one_more : (ls : List Message) (x y : Message) (rest xs : List Message) → records_in ls ≡ [] → SameMessage x y → records_in rest ≡ records_in xs → records_in (ls ++ (y ∷ rest)) ≡ records_in (x ∷ xs)
 one_more ls x y rest xs none same more =
     records_in-append ls (y ∷ rest) ∙ ap (λ (rs : List DataRecord). rs ++ records_in (y ∷ rest)) none

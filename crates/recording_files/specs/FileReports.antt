@@ -11,7 +11,7 @@ use Rattle.recording_files.specs.Recordings.{Part}
 abbrev pub in_ledger : (Message → Message → ℕ) → List Message → ℕ
 in_ledger f ms = sum_by (λ domain. sum_neighbours f (messages_of domain ms)) (domains_of ms)
 
--- how far that goes on from behind messages to the end of those that follow them
+-- how far that goes on from after messages to the end of those that follow them
 abbrev pub in_ledger_from : (Message → Message → ℕ) → List Message → List Message → ℕ
 in_ledger_from f before here = in_ledger f (before ++ here) - in_ledger f before
 

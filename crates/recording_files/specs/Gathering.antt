@@ -10,7 +10,7 @@ use Rattle.recording_files.specs.declared.message_count.MessageCount.{MessageCou
 use Rattle.recording_files.specs.Recordings.{Writes}
 use Rattle.recording_files.specs.Recorders.{State, Keeps, AreCountsOf}
 
--- behind messages of earlier files and of this one, the first messages of a text stand in out as a file has them, and are to
+-- after messages of earlier files and of this one, the first messages of a text stand in out as a file has them, and are to
 -- be counted so
 pub record HasGathered (before here : List Message) (text out : List ℕ) (counts : List MessageCount) : Type 0 where
   pub messages : List (List ℕ)

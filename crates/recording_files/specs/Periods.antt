@@ -19,7 +19,7 @@ pub record IsAnswer (before : ClockView) (is_over : Bool) (after : ClockView) : 
   pub asked : after.asked ≡ one_more before.asked
   pub over : after.over ≡ (if is_over then one_more before.over else before.over)
 
--- the octets that a read gave, and what the clock told when it was asked behind the read; with the source and the clock as
+-- the octets that a read gave, and what the clock told when it was asked after the read; with the source and the clock as
 -- they were then, themselves and no views that could be made up
 pub record AskedRead (S C : Type 0) : Type 0 where
   pub octets : List ℕ
@@ -28,7 +28,7 @@ pub record AskedRead (S C : Type 0) : Type 0 where
   pub clock : C
 
 module _ {S C : Type 0} where
-  -- the source and the clock behind reads, of which the newest comes first
+  -- the source and the clock after reads, of which the newest comes first
   abbrev pub source_behind : S → List (AskedRead S C) → S
   source_behind source [] = source
   source_behind source (h ∷ hs) = h.source
@@ -44,7 +44,7 @@ module _ {S C : Type 0} (seen : S → SourceView) (asked : C → ClockView) wher
     pub one_read : (seen h.source).reads ≡ one_more (seen source).reads
     pub one_answer : IsAnswer (asked clock) h.is_over (asked h.clock)
 
-  -- reads one after another, the newest first: behind each the clock was asked once
+  -- reads one after another, the newest first: after each the clock was asked once
   abbrev pub AreAskedReads : S → C → List (AskedRead S C) → Type 0
   AreAskedReads source clock [] = Unit {0}
   AreAskedReads source clock (h ∷ hs) = IsAskedRead (source_behind source hs) (clock_behind clock hs) h × AreAskedReads source clock hs
@@ -70,11 +70,11 @@ abbrev pub with_file : List (List Message) → List Message → List (List Messa
 with_file files [] = files
 with_file files (m ∷ ms) = files ++ (m ∷ ms) ∷ []
 
--- the finished files behind an answer: if the period is over, the messages that the text had before are a file
+-- the finished files after an answer: if the period is over, the messages that the text had before are a file
 abbrev pub finished_at : Bool → List ℕ → List (List Message) → List (List Message)
 finished_at is_over text files = if is_over then with_file files (unfinished_in text files) else files
 
--- the messages of each finished file: those that were whole before a read behind which the clock told that the period is over,
+-- the messages of each finished file: those that were whole before a read after which the clock told that the period is over,
 -- and since the last such read. So a file is finished where the clock tells so, if it has a message, and nowhere else.
 abbrev pub finished_by : {S C : Type 0} → List (AskedRead S C) → List (List Message)
 finished_by [] = []

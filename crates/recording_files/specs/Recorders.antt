@@ -36,7 +36,7 @@ pub record IsCountOf (c : MessageCount) (m : Message) : Type 0 where
   pub records : count_in m ≡ c.records
   pub passed_over : m.decoding.passed_over ≡ c.passed_over
 
--- a message was recorded: it was read, and stands behind what precedes it
+-- a message was recorded: it was read, and follows what precedes it
 pub record Records (before here : List Message) (s : State) (m octets : List ℕ) (count : MessageCount) : Type 0 where
   pub given : Message
   pub read : message_gives (known_after [] (before ++ here)) m ≡ Ok given

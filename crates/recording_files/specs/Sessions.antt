@@ -28,7 +28,7 @@ parts finished last = finished ++ last ∷ []
 abbrev pub HasMessage : Part → Type 0
 HasMessage p = p.given ≢ []
 
--- the files that came after the first ones are those of these parts, each finished with its report, and behind the last stand
+-- the files that came after the first ones are those of these parts, each finished with its report, and after the last stand
 -- these octets; where they tell nothing, nothing is said
 abbrev pub Stands : Option Contents → Option Contents → List Part → Part → List ℕ → Type 0
 Stands None None finished last cut_off = Unit {0}
@@ -47,7 +47,7 @@ pub record IsCutOff (text : List ℕ) (before here : List Message) (cut_off : Li
   pub next : IsPrefix (before ++ (here ++ given)) (gives text).messages
   pub first : IsPrefix cut_off (octets_of file)
 
--- the first messages of a text stand in the files that came after the first ones, and behind them, in the last file, octets
+-- the first messages of a text stand in the files that came after the first ones, and after them, in the last file, octets
 -- that are no whole message
 pub record Holds (text : List ℕ) (first after : FilesView) (cut_off : List ℕ) : Type 0 where
   pub finished : List Part
@@ -86,7 +86,7 @@ module _ (told : List Message → List Message → Type 0) where
     pub some : HoldsSome text files first after
     pub at_least : IsPrefix (gives earlier).messages (all_given (parts some.holds.finished some.holds.last))
 
-  -- a file was finished, and no message has come behind it; it is told as the one that isn't finished
+  -- a file was finished, and no message has come after it; it is told as the one that isn't finished
   pub record TellsOfFinished (finished : List Part) (last : Part) : Type 0 where
     pub earlier : List Part
     pub part : Part
@@ -94,7 +94,7 @@ module _ (told : List Message → List Message → Type 0) where
     pub none : last.given ≡ []
     pub tells : told (all_given earlier) part.given
 
-  -- a call of the files failed: the messages that the reads before the last had given stand whole, and behind them are at
+  -- a call of the files failed: the messages that the reads before the last had given stand whole, and after them are at
   -- most the first octets of what was to stand there next
   pub record HoldsCut (text earlier : List ℕ) (files : List (List Message)) (first after : FilesView) : Type 0 where
     pub cut_off : List ℕ
@@ -123,12 +123,12 @@ fault_of (Err TooManyReads) = Some faults.TooManyReads
 fault_of (Err NotWritten) = Some faults.SinkClosed
 
 -- a source gave octets up to this answer, which is due, and the files hold their messages, which are told; a file is finished
--- where the clock, asked behind each read, tells that the period is over
+-- where the clock, asked after each read, tells that the period is over
 pub record RecordsTo {S F C : Type 0} (seen : S → SourceView) (view : F → FilesView) (asked : C → ClockView) (limit : ℕ) (before after : S) (first last : F) (start end : C)
     (answer : Result (Unit {0}) RecordFault) (told : List Message → List Message → Type 0) : Type 0 where
   pub gave : List ℕ
   pub given : Gave seen limit before gave after (fault_of answer)
-  -- behind each read that gave octets, or was interrupted, the clock was asked once, and not otherwise
+  -- after each read that gave octets, or was interrupted, the clock was asked once, and not otherwise
   pub reads : List (AskedRead S C)
   pub are_reads : AreAskedReads seen asked before start reads
   pub octets : gave ≡ octets_read reads

@@ -9,13 +9,13 @@ pub struct FileReport {
     /// Their data records.
     pub records: u64,
     /// Data records that the sequence numbers of the session say were lost (RFC 7011, section 3.1), from
-    /// behind what came before the file to its end, in all domains.
+    /// after what came before the file to its end, in all domains.
     pub lost: u64,
     /// How often a sequence number went backward there.
     pub backward: u64,
     /// Data sets of its messages that had no template in force.
     pub unknown_sets: u64,
-    /// Data records by which sequence numbers advanced there behind messages that had an unknown set. They
+    /// Data records by which sequence numbers advanced there after messages that had an unknown set. They
     /// are not among `lost`.
     pub unaccounted: u64,
 }

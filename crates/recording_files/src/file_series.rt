@@ -14,7 +14,7 @@ pub trait FileSeries {
     ghost use Rattle.recording_files.specs.Files.{FilesView, Appends, Turns};
 
     /// What contracts see of it: the octets and the reports of the finished files in order and the octets
-    /// of the file that isn't finished, if it tells them, and how many calls failed.
+    /// of the file that isn't finished, if it shows them, and how many calls failed.
     ghost seen: { Self → FilesView };
 
     /// Appends octets to the file that isn't finished; they are written when the call returns. After an

@@ -69,7 +69,7 @@ fn write_gathered<F: FileSeries>(gathering: &mut Gathering, files: &mut F) -> Re
     Ok(())
 }
 
-// Gathers what a read gave behind the buffer, and nothing of reads before it.
+// Gathers what a read gave after the buffer, and nothing of reads before it.
 fn gather(
     alloc: Global,
     gathering: &mut Gathering,
@@ -90,7 +90,7 @@ fn gather(
     take_piece(alloc, gathering, buffer, piece)
 }
 
-/// Takes what a read gave, and whether the clock told behind it that the period is over.
+/// Takes what a read gave, and whether the clock told after it that the period is over.
 pub fn take_read<F: FileSeries>(
     alloc: Global,
     gathering: &mut Gathering,

@@ -42,7 +42,7 @@ fn answer_at_end(buffer: &[u8]) -> Result<(), RecordFault>
 ///
 /// The fault is that of the first malformed message; else `ReadFailed` is a read that failed,
 /// `TooManyReads` if `limit` reads haven't shown the end, `Truncated` if the octets end within a message.
-/// `NotWritten` is a call of the files that failed: the messages of earlier reads stand whole, and behind
+/// `NotWritten` is a call of the files that failed: the messages of earlier reads stand whole, and after
 /// them at most the first octets of what the read's messages have. `OutOfMemory` may come in place of
 /// any other.
 ///

@@ -7,7 +7,7 @@ use recording_files::laws::recorded_to_the_end;
 use recording_files::{MemoryFiles, RecordedSession, ScriptClock, TickingSource, record};
 use std::alloc::Global;
 
-/// Records a text in memory, in pieces of at most `piece` octets, with an interrupted read behind each.
+/// Records a text in memory, in pieces of at most `piece` octets, with an interrupted read after each.
 /// After each read the clock gives the next of the answers. If the recording ends without a fault, the
 /// files one after another give all records of the text.
 pub fn record_in_memory(

@@ -32,21 +32,21 @@ no_hyphen n small i within = not_in_digits digits (decimal n) 45 (digits_decimal
 pub parsed : {E : Type 0} (n : ℕ) (text : List ℕ) (r : Result ℕ E) (o : Option ℕ) → n < 2 ^ 64 → text ≡ decimal n → ParsesUnsigned 64 10 text r → o ≡ result_ok r → o ≡ Some n
 parsed n text r o small is parses ok = ok ∙ ap result_ok (parse-decimal 64 n text r small small is parses)
 
--- a hyphen stands behind any text
+-- a hyphen follows any text
 no_seam : (text front back : List ℕ) → HasNoHyphen text → text ≢ front ++ 45 ∷ back
 unfolding HasNoHyphen
 no_seam text front back none is =
     none (length front) (subst (λ (t : List ℕ). length front < length t) (sym is) (omega (arith, length-append front (45 ∷ back))))
     (ap (λ (t : List ℕ). get_or t (length front) 0) is ∙ get_or-append_seam front 45 back 0)
 
--- what stands behind the last hyphen of a text
+-- what follows the last hyphen of a text
 behind_last : (front other back rest : List ℕ) → HasNoHyphen back → HasNoHyphen rest → front ++ 45 ∷ back ≡ other ++ 45 ∷ rest → back ≡ rest
 behind_last [] [] back rest none no_more is = ap (drop 1) is
 behind_last [] (b ∷ other) back rest none no_more is = absurd (no_seam back other rest none (ap (drop 1) is))
 behind_last (b ∷ front) [] back rest none no_more is = absurd (no_seam rest front back no_more (sym (ap (drop 1) is)))
 behind_last (b ∷ front) (d ∷ other) back rest none no_more is = behind_last front other back rest none no_more (ap (drop 1) is)
 
--- a session's number stands behind the last hyphen of its name
+-- a session's number follows the last hyphen of its name
 number_last : (peer : SocketAddr) (number : ℕ) → (address_name (socket_ip peer) ++ 45 ∷ decimal (socket_port peer)) ++ 45 ∷ decimal number ≡ name_of_session peer number
 number_last peer number = append_assoc (address_name (socket_ip peer)) (45 ∷ decimal (socket_port peer)) (45 ∷ decimal number)
 

@@ -76,7 +76,7 @@ fn settle<R: Files + Alloc<A = Global>>(
     Ok(Settled::Placed(path, outcome))
 }
 
-// Cuts the octets behind its whole messages off a file, if that can be done.
+// Cuts the octets after its whole messages off a file, if that can be done.
 fn cut_off<F: OpenFile>(file: &F, whole: u64, more: u64) -> Recovered {
     if more == 0 {
         return Recovered::Whole;

@@ -48,7 +48,7 @@ impl<'a, R: Files + Clock> SystemPlace<'a, R> {
     }
 
     /// The files of a session, of which none is there yet and each is finished at once, and its clock, whose period
-    /// begins now. Sessions of one run are told apart by their numbers.
+    /// begins now. Sessions of one run are distinguished by their numbers.
     pub fn session<L: FinishedFiles>(
         &self,
         alloc: Global,

@@ -16,7 +16,7 @@ pub(crate) struct UnfinishedFile<F> {
     pub(crate) session: Arc<FiledSession>,
     /// The octets of the calls that wrote all of theirs.
     length: u64,
-    /// Whether some of a call that failed may stand behind them.
+    /// Whether some of a call that failed may follow them.
     is_torn: bool,
 }
 

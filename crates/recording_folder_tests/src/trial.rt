@@ -72,7 +72,7 @@ impl<'a> Trial<'a> {
         Ok(format!(in self.alloc; "{folder}/{name}")?)
     }
 
-    /// What the disk refuses from now on. Its calls are counted anew.
+    /// What the disk refuses from now on. Its calls are counted again.
     pub fn refuse(&self, refusal: Option<Refusal>) -> io::Result<()> {
         let mut tree = lent(&self.tree)?;
         tree.calls = 0;

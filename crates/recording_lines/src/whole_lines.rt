@@ -33,7 +33,7 @@ impl<E: Write + Drop> WholeLines<E> {
         }
     }
 
-    // Writes the line, if it has ended, behind what was added to it.
+    // Writes the line, if it has ended, after what was added to it.
     fn end_line(&mut self, added: io::Result<()>) -> io::Result<()>
         ensures added { OnOk result (IsOk added) }
         ensures written { OnOk result (Appends

@@ -60,7 +60,7 @@ stops_adds first after start now c finished here m r s tells is none there = eli
   | inr k ↦ adds_to_session first after start now finished here k.cut_off r k.holds (tells finished here s.counted) is none there
 ]
 
--- the last of the reports that were given is the one that is told
+-- the last of the reports that were given is the one that is reported
 given_last : (finished : List (List Taken)) (here : List Taken) (r : RecordedSession) → IsTold r (givens (flat_map (λ (ts : List Taken). ts) finished)) (givens here) → reports_of (finished ++ here ∷ []) ≡ reports_of finished ++ r.last ∷ []
 given_last finished here r told =
     ap (λ (ps : List Part). file_reports [] ps) (map-append part_with finished (here ∷ [])) ∙ reports-push [] (map part_with finished) (part_with here)

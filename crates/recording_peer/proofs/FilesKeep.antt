@@ -26,7 +26,7 @@ open_each [] all = All-nil (λ file. IsOpen (stop_of file))
 open_each (w ∷ ws) all =
     All-cons (λ file. IsOpen (stop_of file)) w ws (subst IsOpen (sym (All-head (λ file. stop_of file ≡ Clean) w ws all)) tt) (open_each ws (All-tail (λ file. stop_of file ≡ Clean) w ws all))
 
--- no octet stands behind the datagrams
+-- no octet follows the datagrams
 keeps_all : (first after : FilesView) (start now : Contents) (finished : List (List Taken)) (here : List Taken) (m : List ℕ) → FilesHold first after finished here [] → first.contents ≡ Some start → start.finished ≡ [] → after.contents ≡ Some now
     → KeepsWhole (all_taken finished here) m (all_of now)
 keeps_all first after start now finished here m h is none there =
@@ -43,7 +43,7 @@ keeps_all first after start now finished here m h is none there =
 one_file : (w : List ℕ) → flat_map records_of (w ∷ []) ≡ records_of w
 one_file w = append-nil (records_of w)
 
--- those of the whole files, and at least those of the last without what stands behind it
+-- those of the whole files, and at least those of the last without what follows it
 longer : (ws : List (List ℕ)) (w more : List ℕ) → IsPrefix (flat_map records_of (ws ++ w ∷ [])) (flat_map records_of (ws ++ (w ++ more) ∷ []))
 longer ws w more =
     let p = records_of-prefix w more in

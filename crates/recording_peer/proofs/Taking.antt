@@ -61,7 +61,7 @@ peer_first v s empty on keeps counted none = record {
 abbrev pub file_now : (first v : FilesView) (finished : List (List Taken)) (here : List Taken) → FilesHold first v finished here [] → PeerFile
 file_now first v finished here h = record { freed = h.freed; taken = here; file = h.file }
 
--- the files behind it
+-- the files after it
 abbrev pub files_now : (first v : FilesView) (finished : List (List Taken)) (here : List Taken) → FilesHold first v finished here [] → List PeerFile
 files_now first v finished here h = h.files ++ file_now first v finished here h ∷ []
 

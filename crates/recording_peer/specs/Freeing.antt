@@ -8,7 +8,7 @@ use Rattle.recording_files.specs.Recorders.{State, Keeps}
 use Rattle.ipfix_datagrams.specs.Datagrams.{with_freed}
 use Rattle.ipfix_datagrams.specs.Withdrawals.{withdrawal_message}
 
--- behind messages these ids are freed
+-- after messages these ids are freed
 pub record AreFreed (before : List Message) (h : Header) (ids : List ℕ) : Type 0 where
   pub part : Part
   pub messages : part.messages ≡ map (withdrawal_message h) ids
@@ -20,7 +20,7 @@ pub record HasFreed (before : List Message) (s : State) (h : Header) (ids : List
   pub are : AreFreed before h ids
   pub keeps : Keeps s before are.part.given
 
--- and begins a file behind them
+-- and begins a file after them
 pub record BeginsFreed (before : List Message) (s : State) (h : Header) (ids : List ℕ) : Type 0 where
   pub are : AreFreed before h ids
   pub keeps : Keeps s (before ++ are.part.given) []

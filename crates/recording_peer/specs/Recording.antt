@@ -45,7 +45,7 @@ abbrev pub HasDatagram : List Taken → Type 0
 HasDatagram ts = ts ≢ []
 
 -- these datagrams were taken, and stand in the files that came after the first ones: those of each finished file, and those of
--- the file that isn't finished, behind which stand these octets
+-- the file that isn't finished, after which stand these octets
 pub record FilesHold (first after : FilesView) (finished : List (List Taken)) (here : List Taken) (cut_off : List ℕ) : Type 0 where
   pub taken : AreTaken [] (all_taken finished here)
   pub files : List PeerFile
@@ -70,7 +70,7 @@ pub record IsPeer (first after : FilesView) (s : PeerView) (finished : List (Lis
   pub goes_on : s.ended ≡ None
   pub counted : Counts s.told finished here
   pub keeps : Keeps s.recorder (all_before holds.files ++ holds.freed.given) (givens here)
-  -- what frees ids between files leaves no trace behind the next datagram
+  -- what frees ids between files leaves no trace after the next datagram
   pub known : known_after [] ((all_before holds.files ++ holds.freed.given) ++ givens here) ≡ known_after [] (givens (all_taken finished here))
 
 -- ---- its calls
@@ -89,7 +89,7 @@ abbrev pub here_before : List ℕ → List Taken → List Taken
 here_before [] here = here
 here_before (id ∷ ids) here = []
 
--- a call of the files failed: behind the datagrams stand the first octets of what was to stand there for this one
+-- a call of the files failed: after the datagrams stand the first octets of what was to stand there for this one
 pub record IsCutOff (first after : FilesView) (finished : List (List Taken)) (here : List Taken) (m : List ℕ) : Type 0 where
   pub cut_off : List ℕ
   pub holds : FilesHold first after finished here cut_off
@@ -116,7 +116,7 @@ abbrev pub FailsBy : RecordFault → ℕ → ℕ → Type 0
 FailsBy NotWritten before after = after ≡ one_more before
 FailsBy fault before after = (fault ≡ OfMessage OutOfMemory) × (after ≡ before)
 
--- it ended with a fault, in this file, or behind it before the next has a datagram
+-- it ended with a fault, in this file, or after it before the next has a datagram
 pub record HasStopped (fault : RecordFault) (first after : FilesView) (c : PeerTold) (finished : List (List Taken)) (here : List Taken) (m : List ℕ) : Type 0 where
   pub fails : FailsBy fault first.failed after.failed
   pub stops : StopsAt first after c finished here m ⊎ (StopsAt first after c (finished_now finished here) [] m ⊎ TurnedUnknown first after c finished here)
@@ -131,7 +131,7 @@ pub record KeepsWhole (ts : List Taken) (m : List ℕ) (files : List (List ℕ))
   pub at_least : IsPrefix (records_over_udp ts) (flat_map records_of files)
   pub at_most : IsPrefix (flat_map records_of files) (records_over_udp (ts ++ next))
 
--- what is answered of a datagram, by the files and the recorder before and behind it
+-- what is answered of a datagram, by the files and the recorder before and after it
 abbrev pub Answers : Result PeerAnswer RecordFault → List ℕ → FilesView → FilesView → FilesView → PeerView → PeerView → List (List Taken) → List Taken → Type 0
 Answers (Ok Recorded) m first before after s t finished here =
     (x : Taken) × (x.datagram ≡ m) × IsPeer first after t (finished_before x.ids finished here) (here_before x.ids here ++ x ∷ [])

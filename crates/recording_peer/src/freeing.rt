@@ -39,7 +39,7 @@ fn free_id(
     Ok(())
 }
 
-/// Frees ids in the domain of a header, which has appeared, behind a finished file. They are freed before
+/// Frees ids in the domain of a header, which has appeared, after a finished file. They are freed before
 /// the file that comes next begins. The fault is `OutOfMemory`, and after it the recorder is of no use.
 pub fn free_ids(
     alloc: Global,

@@ -51,7 +51,7 @@ impl PeerRecorder {
         }
     }
 
-    /// Takes a datagram. One that is read after the rules over UDP is recorded as it came, behind a preamble
+    /// Takes a datagram. One that is read after the rules over UDP is recorded as it came, after a preamble
     /// of its domain if the file has none of the domain's messages yet and an earlier file has. If it
     /// changes a template, the file is finished first, and the preamble has the templates in force but for
     /// those of the ids that it has templates of its own for. Any other datagram is refused, and changes

@@ -11,7 +11,7 @@ use Rattle.recording_peer.proofs.Taking.{all_taken-now}
 use Rattle.recording_peers.specs.declared.peer_state.PeerState.{PeerState}
 use Rattle.recording_peers.specs.Kept.{Settles, IsSession, HasEnded, Takes, Finishes}
 
--- one more behind those that are settled
+-- one more after those that are settled
 more : (before : List Taken) (came : List (List ℕ)) (all : List Taken) (m : List ℕ) (now : List Taken) → Settles before came all → Settles all (m ∷ []) now → Settles before (came ++ m ∷ []) now
 more before [] all m now s one = subst (λ ts. Settles ts (m ∷ []) now) s one
 more before (c ∷ cs) all m now s one = elim s [
@@ -25,7 +25,7 @@ taken_behind [] finished here x = all_taken-push finished here x
 taken_behind (id ∷ ids) finished here x = all_taken-push (finished_now finished here) [] x ∙ ap (λ (ts : List Taken). ts ++ x ∷ []) (all_taken-now finished here)
 
 module _ {F : Type 0} (seen : F → FilesView) where
-  -- what a session stands for behind a datagram, by the answer
+  -- what a session stands for after a datagram, by the answer
   abbrev pub StandsBy : Result PeerAnswer RecordFault → PeerState F → List (List ℕ) → List ℕ → Type 0
   StandsBy (Ok answer) new came m = IsSession seen new (came ++ m ∷ [])
   StandsBy (Err fault) new came m = HasEnded seen new came m

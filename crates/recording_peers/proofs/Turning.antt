@@ -1,4 +1,4 @@
--- What the peers that are kept stand for, behind the turn of the last one.
+-- What the peers that are kept stand for, after the turn of the last one.
 use Rattle.std.proofs.Common.{◌≡◌, ℕ, ◌-◌, Bool, true, false, List, [], ◌∷◌, take, length, slice_get, Option, Some, None, Result, Ok, Err, refl, sym, subst}
 use Rattle.std.specs.declared.net.socket_addr.SocketAddr.{SocketAddr}
 use Rattle.lru.specs.LruCache.{last_entry}

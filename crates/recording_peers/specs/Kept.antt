@@ -15,7 +15,7 @@ use Rattle.recording_peers.specs.declared.refusals.Refusals.{Refusals}
 
 -- ---- the datagrams of a peer
 
--- each of these, one after another, was taken or refused behind those that were taken before it; then all these were taken
+-- each of these, one after another, was taken or refused after those that were taken before it; then all these were taken
 abbrev pub Settles : List Taken → List (List ℕ) → List Taken → Type 0
 Settles before [] all = all ≡ before
 Settles before (m ∷ ms) all = ((x : Taken) × (x.datagram ≡ m) × Settles (before ++ x ∷ []) ms all)
@@ -31,7 +31,7 @@ pub record IsSession {F : Type 0} (seen : F → FilesView) (k : PeerState F) (ca
   pub is : IsPeer first (seen k.files) k.recorder finished here
   pub settles : Settles [] came (all_taken finished here)
 
--- the session has ended with a fault, while this datagram was taken behind them, or a file was finished
+-- the session has ended with a fault, while this datagram was taken after them, or a file was finished
 pub record HasEnded {F : Type 0} (seen : F → FilesView) (k : PeerState F) (came : List (List ℕ)) (m : List ℕ) : Type 0 where
   pub first : FilesView
   pub empty : IsEmpty first.contents
@@ -44,7 +44,7 @@ pub record HasEnded {F : Type 0} (seen : F → FilesView) (k : PeerState F) (cam
 
 -- ---- calls
 
--- how many were refused and aren't told yet
+-- how many were refused and aren't reported yet
 abbrev pub untold : Option Refusals → ℕ
 untold None = 0
 untold (Some r) = r.count

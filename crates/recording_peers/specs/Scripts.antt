@@ -9,7 +9,7 @@ abbrev pub scripted : Result ScriptedDatagram NoDatagram → Answer
 scripted (Ok d) = Ok (d.peer, d.octets.items)
 scripted (Err why) = Err why
 
--- so many of a script, and behind its last one ticks
+-- so many of a script, and after its last one ticks
 pub record AreFirst (script : List (Result ScriptedDatagram NoDatagram)) (count : ℕ) (answers : List Answer) : Type 0 where
   pub ticks : ℕ
   pub are : answers ≡ map scripted (take count script) ++ replicate ticks (Err Tick)

@@ -28,7 +28,7 @@ module _ {F : Type 0} (seen : F → FilesView) where
   abbrev pub EvictedStands : Option (SocketAddr × PeerState F) → Option (SocketAddr × List (List ℕ)) → Type 0
   EvictedStands gone c = Both (Beside (IsSession seen)) gone c
 
-  -- behind a datagram of a peer
+  -- after a datagram of a peer
   abbrev pub StandBehind : Became F → Option (SocketAddr × PeerState F) → ℕ → List (SocketAddr × PeerState F) → PeerDatagrams → SocketAddr → List ℕ → Type 0
   StandBehind Recorded gone most after cs peer m = StandFor after (with_datagram most cs peer m) × EvictedStands gone (gone_for most peer cs)
   StandBehind (Refused fault) gone most after cs peer m = StandFor after (with_datagram most cs peer m) × EvictedStands gone (gone_for most peer cs)
@@ -36,7 +36,7 @@ module _ {F : Type 0} (seen : F → FilesView) where
       StandFor after (others_for most peer cs) × EvictedStands gone (gone_for most peer cs) × HasEnded seen k (came_of peer cs) m
   StandBehind NoMemory gone most after cs peer m = StandFor after cs × (gone ≡ None)
 
-  -- behind the turn of the last one
+  -- after the turn of the last one
   abbrev pub StandInTurn : Option (PeerState F) → List (SocketAddr × PeerState F) → PeerDatagrams → SocketAddr × List (List ℕ) → Type 0
   StandInTurn None after cs c = StandFor after (c ∷ take (length cs - 1) cs)
   StandInTurn (Some k) after cs c = StandFor after (take (length cs - 1) cs) × HasEnded seen k c.1 []

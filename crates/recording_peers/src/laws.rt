@@ -14,7 +14,7 @@ ghost use Rattle.recording_peers.specs.Steps.{Records, GoesOn};
 use recording_files::FileSeries;
 
 /// Where the session of each peer stands for the datagrams of that peer that came since it began, so it
-/// does behind one more: that is recorded behind those of its own peer, as it came, or refused, and no
+/// does after one more: that is recorded after those of its own peer, as it came, or refused, and no
 /// other session has changed. The first of a peer begins a session. The session of a peer that goes out
 /// still stands for its own; one that ended has those of its datagrams that came before.
 pub fn sessions_stand_for_their_datagrams<F: FileSeries>()

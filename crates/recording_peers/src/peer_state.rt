@@ -20,7 +20,7 @@ pub struct PeerState<F> {
     pub files: F,
     /// When its last datagram came, in seconds.
     pub heard: u64,
-    /// Its datagrams that were refused and aren't told yet, if there are any.
+    /// Its datagrams that were refused and aren't reported yet, if there are any.
     pub refused: Option<Refusals>,
 }
 
@@ -77,7 +77,7 @@ impl<F: FileSeries> PeerState<F> {
     }
 }
 
-// The refused datagrams behind this answer.
+// The refused datagrams after this answer.
 fn refused_by(
     answer: &Result<PeerAnswer, RecordFault>,
     refused: Option<Refusals>,

@@ -2,7 +2,7 @@
 
 use ipfix_datagrams::DatagramFault;
 
-/// The datagrams of a peer that were refused, and aren't told yet.
+/// The datagrams of a peer that were refused, and aren't reported yet.
 #[derive(Clone, Copy, Debug, PartialEq, Eq)]
 pub struct Refusals {
     /// How many, up to `u64::MAX`.

@@ -12,7 +12,7 @@ pub struct ScriptedDatagram {
     pub octets: Vec<u8>,
 }
 
-/// A source that gives the answers of a script in turn. Behind the last it ticks. At a datagram that is
+/// A source that gives the answers of a script in turn. After the last it ticks. At a datagram that is
 /// longer than the buffer it fails, and from then on contracts see none of its answers.
 #[derive(Drop)]
 pub struct ScriptDatagrams {

@@ -22,7 +22,7 @@ pub record IsSpotlessSession (full : FullReport) : Type 0 where
   pub none_unknown : full.report.unknown_sets ≡ 0
   -- each set has an id that RFC 7011, section 3.3.2, gives a meaning
   pub none_skipped : full.report.skipped_sets ≡ 0
-  -- no sequence number went on behind an unknown set
+  -- no sequence number went on after an unknown set
   pub none_unaccounted : All (λ (b : DomainBalance). b.unaccounted ≡ 0) full.balances.items
 
 -- each data record that isn't about options was used
@@ -44,7 +44,7 @@ pub record IsSpotless (fulls : List FullReport) (t : Tally) (m : Missing) : Type
 
 -- ---- what that says of a session's messages
 
--- each message has the sequence number that is due behind the one before it (RFC 7011, section 3.1)
+-- each message has the sequence number that is due after the one before it (RFC 7011, section 3.1)
 abbrev pub IsInSequence : List Message → Type 0
 IsInSequence [] = Unit {0}
 IsInSequence (m ∷ []) = Unit {0}

@@ -28,7 +28,7 @@ unfoldable pub records_text : ℕ → ℕ → List ℕ
 records_text ignored_withdrawals unaccounted = codes " ignored_withdrawals " ++ (decimal ignored_withdrawals ++ (codes " unaccounted " ++ (decimal unaccounted ++ codes "\n")))
 
 -- the sets and withdrawals of a domain that gave nothing (RFC 7011, sections 3.3.2, 8.1 and 9), and the data records by
--- which its sequence number went on behind an unknown set
+-- which its sequence number went on after an unknown set
 abbrev pub balance_text : DomainBalance → List ℕ
 balance_text b = sets_text b.domain b.passed_over ++ records_text b.passed_over.ignored_withdrawals b.unaccounted
 

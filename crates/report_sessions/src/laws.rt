@@ -7,7 +7,7 @@ ghost use Rattle.ipfix_session.specs.declared.report.FullReport.{FullReport};
 ghost use Rattle.report_sessions.specs.Spotless.{IsSpotlessSession, IsUnbrokenStream};
 
 /// A session is spotless exactly if it has no fault, and its messages are an unbroken stream: in each
-/// domain every message has the sequence number that is due behind the one before it (RFC 7011,
+/// domain every message has the sequence number that is due after the one before it (RFC 7011,
 /// section 3.1), each data set had its template (section 9), and no set was skipped (section 3.3.2).
 pub fn spotless_is_unbroken()
     ensures { (full : FullReport) (ms : List Message) (delivered : ℕ)

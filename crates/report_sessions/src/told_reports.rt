@@ -22,7 +22,7 @@ use std::io;
 /// sets, skipped sets, ignored withdrawals, and records that are unaccounted for. If it is verbose, there
 /// follow the elements of the templates in force at the session's end which neither the built-in list nor
 /// the files of `elements` name, if there are any; then the place of the session's fault, and how much of
-/// it counts. Each of these lines has the origin that stands at the session's place in `origins` behind
+/// it counts. Each of these lines has the origin that stands at the session's place in `origins` after
 /// the session's number; none if it is missing there.
 pub fn write_told_reports<W: WriteLines>(
     verbosity: Verbosity,

@@ -6,7 +6,7 @@ use Rattle.std.specs.Io.KnownBytes.{Appends}
 use Rattle.report_writing.specs.Told.{AreTold}
 
 module _ (old mid new : Option (List ℕ)) (Before After : Type 0) where
-  -- a write, behind what was told before
+  -- a write, after what was told before
   pub told_then : {T E : Type 0} (answer : Result T E) (xs ys : List ℕ) → AreTold old mid Before xs → OnOk answer (Appends mid new ys) → OnErr answer After → (Before → After) → AreTold old new After (xs ++ ys)
   told_then (Ok x) xs ys (inl first) ok err kept = inl (Appends-trans old mid new xs ys first ok)
   told_then (Err e) xs ys (inl first) ok err kept = inr err

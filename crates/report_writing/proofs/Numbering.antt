@@ -1,4 +1,4 @@
--- One session more behind others.
+-- One session more after others.
 use Rattle.std.proofs.Common.{◌≡◌, ℕ, ◌+◌, ◌<◌, List, [], ◌∷◌, ◌++◌, length, take, get_or, sym, ap, ◌∙◌, arith, append-nil, length-take-le}
 use Rattle.std.specs.List.{flat_map, enumerate_from}
 use Rattle.std.proofs.lemmas.List.{take_more}
@@ -28,7 +28,7 @@ numbered-more {X} lines rs i r less is =
     numbered_from lines 1 rs i (i + 1) r less (omega arith)
     ∙ ap (λ x. flat_map (λ (y : ℕ × X). lines y.0 y.1) (enumerate_from 1 (take i rs)) ++ lines (i + 1) x) (sym is)
 
--- one more thing behind those that are counted from 1
+-- one more thing after those that are counted from 1
 pub numbered-last : {X : Type 0} (lines : ℕ → X → List ℕ) (rs : List X) (r : X)
     → flat_map (λ (x : ℕ × X). lines x.0 x.1) (enumerate_from 1 (rs ++ r ∷ [])) ≡ flat_map (λ (x : ℕ × X). lines x.0 x.1) (enumerate_from 1 rs) ++ lines (length rs + 1) r
 numbered-last {X} lines rs r =

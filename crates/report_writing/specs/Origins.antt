@@ -15,7 +15,7 @@ whole_name name = codes " \"" ++ (flat_map octet_shown name ++ codes "\"")
 unfoldable pub peer_text : List ℕ → List ℕ
 peer_text address = codes " " ++ address
 
--- what stands behind the number of a session: the name of its file, or the address of its peer
+-- what follows the number of a session: the name of its file, or the address of its peer
 abbrev pub origin_text : Origin → List ℕ
 origin_text (File name size) = whole_name name.now
 origin_text (Peer address) = peer_text (socket_text address)

@@ -36,7 +36,7 @@ impl Origin<'_> {
     }
 }
 
-/// Writes whose session it is, as it stands behind the number of a session or of a file: a space, and a
+/// Writes whose session it is, as it follows the number of a session or of a file: a space, and a
 /// name in quotation marks or an address. Nothing is written if it isn't known.
 pub fn write_origin<W: WriteLines>(origin: &Origin, out: &mut W) -> io::Result<()>
     ensures { Tells W.contents W.failed out.old out.new result (origin_text origin.now) }

@@ -11,7 +11,7 @@ pub trait WriteLines {
     ghost use Rattle.std.specs.Fmt.{with_newline};
     ghost use Rattle.std.specs.Io.KnownBytes.{Appends};
 
-    /// The octets that it holds, if it tells them.
+    /// The octets that it holds, if it shows them.
     ghost contents: { Self → Option (List ℕ) };
 
     /// Whether it is allowed that a write of it failed: of a writer that remembers it, whether one did.

@@ -116,7 +116,7 @@ impl Listener<ScriptSource> for Inputs {
     }
 }
 
-// What is written by a run of these files, what is told of it, and the status, one behind the other.
+// What is written by a run of these files, what is told of it, and the status, one after the other.
 fn run_paths<R: Clock + Threads + Wait + Sync>(
     rt: &R,
     alloc: Global,

@@ -29,7 +29,7 @@ impl ReadText for OneText {
     }
 }
 
-// What is told of the plan of octets at the path "plan" that is read at this path, and behind it the plan's
+// What is told of the plan of octets at the path "plan" that is read at this path, and after it the plan's
 // length, if there is one.
 fn loaded(alloc: Global, octets: &[u8], path: &str, verbose: bool) -> Result<Vec<u8>, Fail> {
     let text = OneText {

@@ -42,7 +42,7 @@ fn three_sources(alloc: Global, fail_at: usize) -> Result<Vec<ScriptSource>, All
     Ok(sources)
 }
 
-// What is told of a run of these sessions, and behind it the status.
+// What is told of a run of these sessions, and after it the status.
 fn run_by_source<W: Write, R: Threads + Wait + Sync>(
     rt: &R,
     alloc: Global,

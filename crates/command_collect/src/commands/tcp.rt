@@ -79,7 +79,7 @@ pub fn run_tcp<
 
 /// Does as [`run_tcp`], and tells more if `job.verbosity` asks for it, as
 /// [`run_with`](crate::run_with): in verbose lines that it waits for connections, each that is accepted,
-/// and the system's reason behind one that can't be. If the pool has a fault, no connection is accepted, and it
+/// and the system's reason after one that can't be. If the pool has a fault, no connection is accepted, and it
 /// ends with `Failed`.
 #[tactic(auto, using(crate::proofs::Refused::whatever, crate::proofs::Refused::even_if_none, crate::proofs::Refused::not_if_some, crate::proofs::Refused::not_if_none))]
 pub fn run_tcp_with<

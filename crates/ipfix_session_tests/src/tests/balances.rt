@@ -75,7 +75,11 @@ fn a_gap_after_an_unknown_set_is_unaccounted(rt: HostRuntime) -> Result<(), Fail
 #[test]
 fn a_step_backward_after_an_unknown_set_is_late(rt: HostRuntime) -> Result<(), Fail> {
     // Half of all sequence numbers and more ahead is a step backward (RFC 7011, section 3.1): 5 - 1, 4 + 2^31.
-    let steps = [(4, 0, 1), (2_147_483_652, 2_147_483_647, 0), (2_147_483_653, 0, 1)];
+    let steps = [
+        (4, 0, 1),
+        (2_147_483_652, 2_147_483_647, 0),
+        (2_147_483_653, 0, 1),
+    ];
     for (sequence, unaccounted, late) in steps {
         let parts: [&[u8]; 3] = [&header(24, 5, 1), &UNKNOWN_SET, &header(16, sequence, 1)];
         let full = full_report(rt.alloc(), &parts)?;

@@ -6,7 +6,7 @@ use std::alloc::Global;
 use std::test::*;
 
 // What the sequence numbers say (RFC 7011, section 3.1): 7 records of domain 1 are lost before its second
-// message, and 6 before its last; behind the unknown set of domain 2 nothing can be said, and its last
+// message, and 6 before its last; after the unknown set of domain 2 nothing can be said, and its last
 // message steps backward.
 const WHOLE: Sums = Sums {
     records: 12,
@@ -27,8 +27,8 @@ fn no_rotation(rt: HostRuntime) -> Result<(), Fail> {
     Ok(())
 }
 
-// The period is over after each read. The messages end behind 71, 121, 162, 184, 217, 249, 285, 317 and
-// 351 octets, so pieces of 40 octets end 7 times behind one or two messages, and the others behind none.
+// The period is over after each read. The messages end after 71, 121, 162, 184, 217, 249, 285, 317 and
+// 351 octets, so pieces of 40 octets end 7 times after one or two messages, and the others after none.
 #[test]
 fn rotation_at_each_read(rt: HostRuntime) -> Result<(), Fail> {
     let alloc: Global = rt.alloc();

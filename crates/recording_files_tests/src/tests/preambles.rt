@@ -46,7 +46,7 @@ fn templates_in_force(rt: HostRuntime) -> Result<(), Fail> {
     Ok(())
 }
 
-// An options template. Behind an unknown set no sequence number is due, so that of the message stands
+// An options template. After an unknown set no sequence number is due, so that of the message stands
 // there; later it is 6, and the message steps backward from it.
 #[test]
 fn options_template(rt: HostRuntime) -> Result<(), Fail> {

@@ -19,7 +19,7 @@ fn numbers(report: &FileReport) -> [u64; 6] {
 }
 
 // Pieces of 40 octets end the messages 1; 2; 3 and 4; 5; 6; 7 and 8; 9. The third jumps from sequence number
-// 3 to 10, and the fourth has the unknown set. The sixth begins at 5 behind that set, which ended at 1. The
+// 3 to 10, and the fourth has the unknown set. The sixth begins at 5 after that set, which ended at 1. The
 // seventh jumps from 14 to 20, and the eighth steps back from 6 to 3.
 const BY_FILE: [[u64; 6]; 7] = [
     [1, 3, 0, 0, 0, 0],

@@ -71,7 +71,7 @@ fn a_file_is_finished_before_any_datagram(rt: HostRuntime) -> Result<(), Fail> {
     Ok(())
 }
 
-// Files behind their end before any datagram, and twice behind one; with whether each call answered well.
+// Files after their end before any datagram, and twice after one; with whether each call answered well.
 fn ended_often(alloc: Global) -> (MemoryFiles, bool) {
     let mut peer = new_peer(alloc);
     let mut files = MemoryFiles::new(alloc, 1000);

@@ -28,7 +28,7 @@ fn are_refused(alloc: Global, peer: &mut PeerRecorder, files: &mut MemoryFiles) 
     right
 }
 
-// Takes all datagrams, those before each of them, and behind it one that withdraws. Answers whether only they were
+// Takes all datagrams, those before each of them, and after it one that withdraws. Answers whether only they were
 // recorded.
 fn take_among_refused(alloc: Global, peer: &mut PeerRecorder, files: &mut MemoryFiles) -> bool {
     let mut right = true;

@@ -11,7 +11,7 @@ use std::process::Abort;
 use std::test::*;
 use worked_examples::recordings::FIRST_OF_1;
 
-// A peer behind all datagrams, and its files.
+// A peer after all datagrams, and its files.
 fn recorded(rt: &impl Abort, alloc: Global) -> (PeerRecorder, MemoryFiles) {
     let mut peer = new_peer(alloc);
     let mut files = MemoryFiles::new(alloc, 100_000);
@@ -72,7 +72,7 @@ fn the_advance_goes_over_all_files(rt: HostRuntime) -> Result<(), Fail> {
     Ok(())
 }
 
-// The second datagram of domain 1 comes last, behind the one that it was sent before, and twice.
+// The second datagram of domain 1 comes last, after the one that it was sent before, and twice.
 #[test]
 fn late_and_doubled_datagrams_came(rt: HostRuntime) -> Result<(), Fail> {
     let datagrams = [FIRST_OF_1, CHANGES_257, SECOND_OF_1, SECOND_OF_1];

@@ -19,7 +19,7 @@ fn each_has_its_own_files(rt: HostRuntime) -> Result<(), Fail> {
     Ok(())
 }
 
-// A datagram of version 9 behind another is refused and counted, and changes nothing.
+// A datagram of version 9 after another is refused and counted, and changes nothing.
 #[test]
 fn refused_is_counted(rt: HostRuntime) -> Result<(), Fail> {
     let alloc = rt.alloc();

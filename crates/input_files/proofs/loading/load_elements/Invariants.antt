@@ -4,7 +4,7 @@ use Rattle.element_registry.specs.Registries.{Known}
 use Rattle.input_files.specs.Loaded.{Loads}
 use Rattle.input_files.proofs.loading.load_elements.Given as goal
 
--- what is told of the files that are left is told behind what was told so far
+-- what is told of the files that are left is told after what was told so far
 abbrev pub invariant-loop-paths : goal.invariant-loop-paths
 invariant-loop-paths g l = record {
   loads : (told : List ℕ) × AreTold (g.E.WriteLines.contents l.initial.err) (g.E.WriteLines.contents l.err) (g.E.WriteLines.failed l.err) told
