@@ -19,3 +19,7 @@ gives-append ds (m ∷ ms) ns [] ys h k = absurd h
 pub known-append : (ds : History) (xs ys : List Message) → known_after ds (xs ++ ys) ≡ known_after (known_after ds xs) ys
 known-append ds [] ys = refl
 known-append ds (x ∷ xs) ys = known-append x.domains xs ys
+
+pub known_after-push : (ds : History) (ms : List Message) (x : Message) → known_after ds (ms ++ x ∷ []) ≡ x.domains
+known_after-push ds [] x = refl
+known_after-push ds (m ∷ ms) x = known_after-push m.domains ms x

@@ -14,8 +14,7 @@ use Rattle.ipfix_session.specs.declared.stop.Stop.{Stop}
 use Rattle.ipfix_session.specs.declared.stop.Stop.TheVariants.{Fault}
 use Rattle.ipfix_session.specs.MessageStream.{rest_stop, message_under, next_message}
 use Rattle.ipfix_session.specs.Given.{IsOpen}
-use Rattle.ipfix_session.specs.Intake.{IsRest}
-use Rattle.ipfix_session.specs.Buffers.{Moves, MovesUpTo, IsFilled, Fills}
+use Rattle.ipfix_session.specs.Buffers.{IsRest, Moves, MovesUpTo, IsFilled, Fills}
 use Rattle.ipfix_session.proofs.Cut.{Begins, found, none_at, next_stop, next_bad, begins_next, bad_goes_on, messages_stable}
 
 -- a rest is less than a header, or less than its header says

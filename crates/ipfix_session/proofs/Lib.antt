@@ -7,6 +7,7 @@ pub mod Accounts
 pub mod Ledgers
 pub mod Places
 pub mod Balances
+pub mod MessagesTaken
 pub mod Reaching
 pub mod Filling
 pub mod Putting

@@ -2,14 +2,12 @@
 use Rattle.std.proofs.Common.{◌≡◌, ℕ, ◌+◌, false, ltb, List, [], ◌∷◌, ◌++◌, length, Option, Some, None, Result, Ok, Err, refl, sym, ap, subst, ◌∙◌, append_assoc, arith, inl, inr}
 use Rattle.std.proofs.lemmas.List.{append-nil, length-append}
 use Rattle.std.specs.List.{FoldsTo}
-use Rattle.std.specs.Prelude.{MatchResult}
 use Rattle.std.specs.Result.{result_err}
 use Rattle.ipfix_wire.specs.InTurn.{Parts}
-use Rattle.ipfix_wire.proofs.Parts.{parts_of-next, parts_of-none}
+use Rattle.ipfix_wire.proofs.Parts.{parts_of-none}
 use Rattle.ipfix_wire.proofs.Longest.{parts_of-last}
 use Rattle.ipfix_wire.proofs.Streams.{parts_of-append}
-use Rattle.ipfix_message.specs.Domains.{History, DomainsView, Message, message_gives, StandsFor}
-use Rattle.ipfix_message.specs.Outcome.{Fails}
+use Rattle.ipfix_message.specs.Domains.{History, Message, message_gives, StandsFor}
 use Rattle.ipfix_message.specs.declared.fault.MessageFault.{MessageFault}
 use Rattle.ipfix_message.specs.declared.fault.MessageFault.TheVariants.{OutOfMemory}
 use Rattle.ipfix_message.specs.declared.record.DataRecord.{DataRecord}
@@ -25,13 +23,17 @@ use Rattle.ipfix_wire.proofs.Choices.{chosen}
 use Rattle.ipfix_wire.specs.MessageHeader.{header_at}
 use Rattle.ipfix_wire.specs.declared.header.Header.{Header}
 use Rattle.ipfix_wire.specs.declared.fault.WireFault.{WireFault}
-use Rattle.ipfix_session.specs.Given.{Given, gives, gives_after, behind, known_after, records_in, records_of, stop_of, IsOpen, IsPrefix}
+use Rattle.ipfix_session.specs.Given.{Given, gives, gives_after, behind, known_after, records_in, records_of, stop_of, IsOpen}
 use Rattle.ipfix_session.specs.Sinks.{SinkView, Takes}
-use Rattle.ipfix_session.specs.Feeding.{Counts, State, Tells, fault_at, StandsForText, PutsWhole, PutsAll, RunsOut, IsRefused, Feeds}
-use Rattle.ipfix_session.specs.Intake.{IsRest, IsBetween, GoesNoFurther}
+use Rattle.ipfix_session.specs.Feeding.{Counts, State, Tells, fault_at, StandsForText, PutsWhole, PutsAll, Feeds}
+use Rattle.ipfix_session.specs.Buffers.{IsRest}
+use Rattle.ipfix_session.specs.declared.intake.Intake.{Intake}
+use Rattle.ipfix_session.specs.Intake.{counts_of, Earlier, all_of, PutsGiven, GivesBackOf, record_intake}
+use Rattle.ipfix_session.specs.MessageSinks.{HasTaken, TakesOne, IsAtRest, Stops, Reads}
 use Rattle.ipfix_session.specs.Puts.{CountsOn, GivesBack, Puts}
-use Rattle.ipfix_session.proofs.Cut.{found, none_at, next_stop, messages_shrink, messages_stable}
-use Rattle.ipfix_session.proofs.Giving.{stops, gives_after-stop, gives_after-next, gives_after-fault, behind-behind, records_in-append, gives_after-open, gives_after-fault_stays, stop_is_rest}
+use Rattle.ipfix_session.proofs.Cut.{none_at, next_stop, messages_shrink, messages_stable}
+use Rattle.ipfix_session.proofs.Chains.{known-append, known_after-push}
+use Rattle.ipfix_session.proofs.Giving.{stops, gives_after-stop, behind-behind, records_in-append, gives_after-open, gives_after-fault_stays, stop_is_rest}
 
 -- ---- what a sink took
 
@@ -59,120 +61,129 @@ tells_delivered c delivered more ms d t on =
 
 -- ---- one more message
 
-pub known_after-push : (ds : History) (ms : List Message) (x : Message) → known_after ds (ms ++ x ∷ []) ≡ x.domains
-known_after-push ds [] x = refl
-known_after-push ds (m ∷ ms) x = known_after-push m.domains ms x
-
 records_in-push : (ms : List Message) (x : Message) → records_in (ms ++ x ∷ []) ≡ records_in ms ++ x.decoding.records
 records_in-push ms x = records_in-append ms (x ∷ []) ∙ ap (λ (rs : List DataRecord). records_in ms ++ rs) (append-nil x.decoding.records)
 
 pub delivered-push : (ms : List Message) (x : Message) → length (records_in (ms ++ x ∷ [])) ≡ length (records_in ms) + length x.decoding.records
 delivered-push ms x = ap length (records_in-push ms x) ∙ length-append (records_in ms) x.decoding.records
 
-prefix-push : (old whole : List Message) (x : Message) → IsPrefix old whole → IsPrefix old (whole ++ x ∷ [])
-prefix-push old whole x p = (p.0 ++ x ∷ [], ap (λ (ms : List Message). ms ++ x ∷ []) p.1 ∙ append_assoc old p.0 (x ∷ []))
-
 pub put_more : (has old put more : List DataRecord) → has ≡ old ++ put → has ++ more ≡ old ++ (put ++ more)
 put_more has old put more e = ap (λ (rs : List DataRecord). rs ++ more) e ∙ append_assoc old put more
 
-pub reaches_on : {K : Type 0} (view : SinkView K) (old : List Message) (text left m rest : List ℕ) (before now after : K) (c news : Counts) (domains later : DomainsView)
-    (r : IsBetween view old text before now c domains left) → next_message left ≡ found m rest → (x : Message) → message_gives (known_after [] r.whole) m ≡ Ok x
-    → Takes view now x.decoding.records after → Tells news (r.whole ++ x ∷ []) (length (records_in r.whole) + length x.decoding.records) → later.spent ≡ false → StandsFor later.domains x.domains
-    → IsBetween view old text before after news later rest
-reaches_on view old text left m rest before now after c news domains later r begins x reads takes tells fresh stands =
-    let known = known_after [] r.whole in
-    let now_known : known_after [] (r.whole ++ x ∷ []) ≡ x.domains = known_after-push [] r.whole x in
-    record {
-      whole = r.whole ++ x ∷ [];
-      from = prefix-push old r.whole x r.from;
-      is = r.is ∙ ap (behind r.whole) (gives_after-next known left m rest x begins reads) ∙ behind-behind r.whole (x ∷ []) (gives_after x.domains rest)
-          ∙ ap (λ (ds : History). behind (r.whole ++ x ∷ []) (gives_after ds rest)) (sym now_known);
-      rest = r.rest ∙ ap (λ (p : Parts (List ℕ)). p.rest) (parts_of-next next_message messages_shrink left m rest begins);
-      puts = record {
-        put = r.puts.put ++ x.decoding.records;
-        takes = takes-append view before now after r.puts.put x.decoding.records r.puts.takes takes;
-        records = records_in-push r.whole x ∙ put_more (records_in r.whole) (records_in old) r.puts.put x.decoding.records r.puts.records;
-        tells = subst (λ (d : ℕ). Tells news (r.whole ++ x ∷ []) d) (sym (delivered-push r.whole x)) tells;
-      };
-      not_spent = fresh;
-      stands = subst (λ (ds : History). StandsFor later.domains ds) (sym now_known) stands;
-    }
+-- ---- a message whose records are put
 
--- ---- why it goes no further
+module _ {K : Type 0} (view : SinkView K) (before : Earlier K) where
+  behind_messages : (given : List Message) (x : Message) → all_of before given ++ x ∷ [] ≡ all_of before (given ++ x ∷ [])
+  behind_messages given x = append_assoc before.messages given (x ∷ [])
 
-pub ends_out : {K : Type 0} (view : SinkView K) (old : List Message) (text left : List ℕ) (before now : K) (c news : Counts) (domains : DomainsView)
-    (r : IsBetween view old text before now c domains left) → Tells news r.whole (length (records_in r.whole)) → RunsOut view old (gives text).messages before now (Tells news)
-ends_out view old text left before now c news domains r tells =
-    record {
-      whole = r.whole;
-      from = r.from;
-      up_to = ((gives_after (known_after [] r.whole) left).messages, ap (λ (g : Given). g.messages) r.is);
-      puts = record { put = r.puts.put; takes = r.puts.takes; records = r.puts.records; tells = tells };
-    }
+  -- it was read, its records were put, and it was counted
+  pub takes_on : (now after : K) (c : Counts) (later : Intake) (messages : List (List ℕ)) (given : List Message) (octets : List ℕ) (x : Message) → PutsGiven view before c now given
+      → message_gives (known_after (known_after [] before.messages) given) octets ≡ Ok x → Takes view now x.decoding.records after
+      → Tells (counts_of later.tally) (all_of before given ++ x ∷ []) (length (records_in (all_of before given)) + length x.decoding.records) → later.domains.spent ≡ false → StandsFor later.domains.domains x.domains
+      → TakesOne (record_intake view) before (Ok tt) later after messages given octets
+  takes_on now after c later messages given octets x p reads takes tells fresh stands =
+      let whole = all_of before given in
+      let news = counts_of later.tally in (
+        x,
+        reads,
+        record {
+          took = record {
+            put = p.put ++ x.decoding.records;
+            takes = takes-append view before.sink now after p.put x.decoding.records p.takes takes;
+            records = ap records_in (sym (behind_messages given x)) ∙ records_in-push whole x ∙ put_more (records_in whole) (records_in before.messages) p.put x.decoding.records p.records;
+            tells = subst (λ (ms : List Message). Tells news ms (length (records_in ms))) (behind_messages given x) (subst (λ (d : ℕ). Tells news (whole ++ x ∷ []) d) (sym (delivered-push whole x)) tells);
+          };
+          is_ready = record {
+            not_spent = fresh;
+            stands = subst (λ (ds : History). StandsFor later.domains.domains ds) (sym (known_after-push (known_after [] before.messages) given x)) stands;
+          };
+        },
+      )
+
+  -- or the sink gave one of them back
+  pub gives_back : (now after : K) (c : Counts) (accounts : List (ℕ × Account)) (delivered : ℕ) (later : Intake) (f : SessionFault) (records : List DataRecord) (messages : List (List ℕ)) (given : List Message) (octets : List ℕ) (x : Message)
+      → record c { accounts = accounts; delivered = delivered } ≡ counts_of later.tally → PutsGiven view before c now given → message_gives (known_after (known_after [] before.messages) given) octets ≡ Ok x
+      → records ≡ x.decoding.records → accounts ≡ c.accounts → Puts view (Err f) records c.delivered delivered now after → TakesOne (record_intake view) before (Err f) later after messages given octets
+  gives_back now after c accounts delivered later faults.SinkClosed records messages given octets x is p reads are same puts =
+      let b = subst (λ (rs : List DataRecord). GivesBack view rs c.delivered delivered now after) are puts in
+      let whole = all_of before given in
+      let told = length (records_in whole) in (
+        x,
+        reads,
+        subst (λ (n : Counts). GivesBackOf view before n after given x) is (record {
+          first = b.first;
+          item = b.item;
+          others = b.others;
+          cut_off = b.are;
+          put = p.put ++ b.first;
+          last = b.last;
+          takes = takes-append view before.sink now b.last p.put b.first p.takes b.takes;
+          records = put_more (records_in whole) (records_in before.messages) p.put b.first p.records;
+          back = b.back;
+          tells = tells_delivered (record c { accounts = accounts }) delivered (length b.first) whole told (tells_accounts c accounts whole told p.tells same) b.counted;
+        }),
+      )
+  gives_back now after c accounts delivered later (faults.Message e) records messages given octets x is p reads are same puts = absurd puts
+  gives_back now after c accounts delivered later faults.Truncated records messages given octets x is p reads are same puts = absurd puts
+  gives_back now after c accounts delivered later faults.ReadFailed records messages given octets x is p reads are same puts = absurd puts
+  gives_back now after c accounts delivered later faults.TooManyReads records messages given octets x is p reads are same puts = absurd puts
+
+  -- or memory ran out before
+  pub puts_no_more : (now : K) (c : Counts) (accounts : List (ℕ × Account)) (given : List Message) → PutsGiven view before c now given → accounts ≡ c.accounts → PutsGiven view before (record c { accounts = accounts }) now given
+  puts_no_more now c accounts given p same =
+      record { put = p.put; takes = p.takes; records = p.records; tells = tells_accounts c accounts (all_of before given) (length (records_in (all_of before given))) p.tells same }
+
+pub tells_put : {K : Type 0} (view : SinkView K) (now after : K) (c : Counts) (accounts : List (ℕ × Account)) (delivered : ℕ) (whole : List Message) (records : List DataRecord) (x : Message)
+    → Tells c whole (length (records_in whole)) → records ≡ x.decoding.records → accounts ≡ c.accounts → Takes view now records after × CountsOn c.delivered (length records) delivered
+    → Takes view now x.decoding.records after × Tells (record c { accounts = accounts; delivered = delivered }) whole (length (records_in whole) + length x.decoding.records)
+tells_put view now after c accounts delivered whole records x tells are same puts = (
+  subst (λ (rs : List DataRecord). Takes view now rs after) are puts.0,
+  subst (λ (rs : List DataRecord). Tells (record c { accounts = accounts; delivered = delivered }) whole (length (records_in whole) + length rs)) are
+      (tells_delivered (record c { accounts = accounts }) delivered (length records) whole (length (records_in whole)) (tells_accounts c accounts whole (length (records_in whole)) tells same) puts.1),
+)
+
+-- ---- a text that its messages stop
 
 -- the text stops after the messages that were put
 pub stops_there : (text left : List ℕ) (whole : List Message) (s : Stop) → gives text ≡ behind whole (gives_after (known_after [] whole) left) → gives_after (known_after [] whole) left ≡ stops s
     → gives text ≡ record { messages = whole; stop = s }
 stops_there text left whole s is e = is ∙ ap (behind whole) e ∙ ap (λ (ms : List Message). record { messages = ms; stop = s }) (append-nil whole)
 
-puts_all : {K : Type 0} (view : SinkView K) (old : List Message) (text : List ℕ) (before now : K) (c : Counts) (whole : List Message) (s : Stop)
-    → gives text ≡ record { messages = whole; stop = s } → PutsWhole view old whole before now (Tells c) → PutsWhole view old (gives text).messages before now (Tells c)
-puts_all view old text before now c whole s all puts =
-    subst (λ (ms : List Message). PutsWhole view old ms before now (Tells c)) (sym (ap (λ (g : Given). g.messages) all)) puts
-
-pub ends_at : {K : Type 0} (view : SinkView K) (old : List Message) (text left : List ℕ) (before now : K) (c : Counts) (domains : DomainsView) (e : MessageFault)
-    (r : IsBetween view old text before now c domains left) → gives_after (known_after [] r.whole) left ≡ stops (Fault e) → GoesNoFurther view (faults.Message e) old text before now c
-ends_at view old text left before now c domains OutOfMemory r stop = ends_out view old text left before now c c domains r r.puts.tells
-ends_at view old text left before now c domains e r stop =
-    let all = stops_there text left r.whole (Fault e) r.is stop in
-    (ap (λ (g : Given). g.stop) all, puts_all view old text before now c r.whole (Fault e) all r.puts)
-
-pub ends_decoding : {K : Type 0} (view : SinkView K) (old : List Message) (text left m rest : List ℕ) (before now : K) (c : Counts) (domains : DomainsView) (e : MessageFault)
-    (r : IsBetween view old text before now c domains left) → next_message left ≡ found m rest → Fails e (message_gives (known_after [] r.whole) m) → GoesNoFurther view (faults.Message e) old text before now c
-ends_decoding view old text left m rest before now c domains OutOfMemory r begins fails = ends_out view old text left before now c c domains r r.puts.tells
-ends_decoding view old text left m rest before now c domains e r begins fails =
-    ends_at view old text left before now c domains e r (gives_after-fault (known_after [] r.whole) left m rest e begins fails)
-
-pub ends_refused : {K : Type 0} (view : SinkView K) (old : List Message) (text left m rest : List ℕ) (before now after : K) (c news : Counts) (domains : DomainsView) (was is : ℕ)
-    (r : IsBetween view old text before now c domains left) → next_message left ≡ found m rest → (x : Message) → message_gives (known_after [] r.whole) m ≡ Ok x
-    → (b : GivesBack view x.decoding.records was is now after) → Tells news r.whole (length (records_in r.whole) + length b.first)
-    → IsRefused view old (gives text).messages before after (Tells news)
-ends_refused view old text left m rest before now after c news domains was is r begins x reads b tells =
-    record {
-      whole = r.whole;
-      next = x;
-      more = (gives_after x.domains rest).messages;
-      from = r.from;
-      are = ap (λ (g : Given). g.messages) (r.is ∙ ap (behind r.whole) (gives_after-next (known_after [] r.whole) left m rest x begins reads));
-      first = b.first;
-      item = b.item;
-      others = b.others;
-      cut_off = b.are;
-      put = r.puts.put ++ b.first;
-      last = b.last;
-      takes = takes-append view before now b.last r.puts.put b.first r.puts.takes b.takes;
-      records = put_more (records_in r.whole) (records_in old) r.puts.put b.first r.puts.records;
-      back = b.back;
-      tells = tells;
-    }
-
 -- ---- a piece of a text
 
+-- the messages of a text, and the sink after them
+abbrev pub earlier : {K : Type 0} → List ℕ → K → Earlier K
+earlier text sink = record { messages = (gives text).messages; sink = sink }
+
+-- a session that goes on from this
+abbrev pub state_of : Intake → List ℕ → Option SessionFault → State
+state_of i left fault = record { counts = counts_of i.tally; domains = i.domains; buffer = left; fault = fault }
+
 -- before the piece
-pub reaches_first : {K : Type 0} (view : SinkView K) (s : State) (text piece : List ℕ) (k : K) → StandsForText s text → IsOpen (stop_of text)
-    → IsBetween view (gives text).messages (text ++ piece) k k s.counts s.domains (s.buffer ++ piece)
-reaches_first view s text piece k stands is_open =
-    let on = stands.goes_on is_open in
-    let again = ap (λ (w : List ℕ). w ++ piece) (sym on.rest) in
+pub taken_first : {K : Type 0} (view : SinkView K) (i : Intake) (text : List ℕ) (k : K) → Tells (counts_of i.tally) (gives text).messages (length (records_of text)) → i.domains.spent ≡ false
+    → StandsFor i.domains.domains (known_after [] (gives text).messages) → HasTaken (record_intake view) (earlier text k) i k [] []
+taken_first view i text k tells fresh stands =
+    let old = (gives text).messages in
+    let none = sym (append-nil old) in
     record {
-      whole = (gives text).messages;
-      from = ([], sym (append-nil (gives text).messages));
-      is = gives_after-open [] text piece is_open ∙ ap (λ (w : List ℕ). behind (gives text).messages (gives_after (known_after [] (gives text).messages) w)) again;
-      rest = ap (λ (p : Parts (List ℕ)). p.rest) (parts_of-append next_message messages_shrink messages_stable (length text) text piece (omega arith)) ∙ ap (λ (w : List ℕ). (cut w).rest) again;
-      puts = record { put = []; takes = takes-none view k; records = sym (append-nil (records_of text)); tells = stands.tells };
-      not_spent = on.not_spent;
-      stands = on.known;
+      took = record {
+        put = [];
+        takes = takes-none view k;
+        records = ap records_in (append-nil old) ∙ sym (append-nil (records_of text));
+        tells = subst (λ (ms : List Message). Tells (counts_of i.tally) ms (length (records_in ms))) none tells;
+      };
+      is_ready = record { not_spent = fresh; stands = stands };
     }
+
+-- what the longer text gives
+longer : (text rest piece : List ℕ) → rest ≡ (cut text).rest → IsOpen (stop_of text)
+    → gives (text ++ piece) ≡ behind (gives text).messages (gives_after (known_after [] (gives text).messages) (rest ++ piece))
+longer text rest piece is is_open =
+    gives_after-open [] text piece is_open ∙ ap (λ (w : List ℕ). behind (gives text).messages (gives_after (known_after [] (gives text).messages) (w ++ piece))) (sym is)
+
+longer_messages : (text rest piece : List ℕ) → rest ≡ (cut text).rest → IsOpen (stop_of text)
+    → (gives (text ++ piece)).messages ≡ (gives text).messages ++ (gives_after (known_after [] (gives text).messages) (rest ++ piece)).messages
+longer_messages text rest piece is is_open = ap (λ (g : Given). g.messages) (longer text rest piece is is_open)
 
 no_fault : (s : Stop) → IsOpen s → None ≡ fault_at s
 no_fault Clean o = refl
@@ -180,53 +191,94 @@ no_fault Short o = refl
 no_fault (Fault e) o = absurd o
 
 -- after the piece, where it may go on
-pub fed : {K : Type 0} (view : SinkView K) (s : State) (text piece : List ℕ) (before after : K)
-    → IsBetween view (gives text).messages (text ++ piece) before after s.counts s.domains s.buffer → IsRest s.buffer → s.fault ≡ None
-    → IsOpen (stop_of (text ++ piece)) × PutsAll view text piece before after s
-fed view s text piece before after r rest none =
-    let all = stops_there (text ++ piece) s.buffer r.whole rest.stop r.is (gives_after-stop (known_after [] r.whole) s.buffer rest.stop rest.none) in
-    let stop : stop_of (text ++ piece) ≡ rest.stop = ap (λ (g : Given). g.stop) all in
-    let is_open = subst IsOpen (sym stop) rest.is_open in
-    let puts = puts_all view (gives text).messages (text ++ piece) before after s.counts r.whole rest.stop all r.puts in (
-      is_open,
+fed : {K : Type 0} (view : SinkView K) (i : Intake) (text rest piece left : List ℕ) (before after : K) → rest ≡ (cut text).rest → IsOpen (stop_of text)
+    → IsAtRest (record_intake view) (earlier text before) (rest ++ piece) i after left → IsOpen (stop_of (text ++ piece)) × PutsAll view text piece before after (state_of i left None)
+fed view i text rest piece left before after is is_open r =
+    let b = r.between in
+    let stop = r.is_rest.stop in
+    let old = (gives text).messages in
+    let whole = old ++ b.given in
+    let known = known_after (known_after [] old) b.given in
+    let all : gives (text ++ piece) ≡ record { messages = whole; stop = stop } =
+    longer text rest piece is is_open ∙ ap (behind old) b.is ∙ behind-behind old b.given (gives_after known left) ∙ ap (behind whole) (gives_after-stop known left stop r.is_rest.none)
+    ∙ ap (λ (ms : List Message). record { messages = ms; stop = stop }) (append-nil whole) in
+    let messages : (gives (text ++ piece)).messages ≡ whole = ap (λ (g : Given). g.messages) all in
+    let open_yet = subst IsOpen (sym (ap (λ (g : Given). g.stop) all)) r.is_rest.is_open in
+    let puts = subst (λ (ms : List Message). PutsWhole view old ms before after (Tells (counts_of i.tally))) (sym messages) b.taken.took in
+    let same : (cut (text ++ piece)).rest ≡ (cut (rest ++ piece)).rest =
+    ap (λ (p : Parts (List ℕ)). p.rest) (parts_of-append next_message messages_shrink messages_stable (length text) text piece (omega arith)) ∙ ap (λ (w : List ℕ). (cut (w ++ piece)).rest) (sym is) in (
+      open_yet,
       record {
         put = puts.put;
         takes = puts.takes;
         records = puts.records;
         stands = record {
-          fault = none ∙ no_fault (stop_of (text ++ piece)) is_open;
+          fault = no_fault (stop_of (text ++ piece)) open_yet;
           tells = puts.tells;
           goes_on = λ o. record {
-            rest = sym (r.rest ∙ ap (λ (p : Parts (List ℕ)). p.rest) (parts_of-none next_message s.buffer rest.stop rest.none));
-            not_spent = r.not_spent;
-            known = subst (λ (ms : List Message). StandsFor s.domains.domains (known_after [] ms)) (sym (ap (λ (g : Given). g.messages) all)) r.stands;
+            rest = sym (same ∙ b.rest ∙ ap (λ (p : Parts (List ℕ)). p.rest) (parts_of-none next_message left stop r.is_rest.none));
+            not_spent = b.taken.is_ready.not_spent;
+            known = subst (λ (ds : History). StandsFor i.domains.domains ds) (sym (ap (known_after []) messages ∙ known-append [] old b.given)) b.taken.is_ready.stands;
           };
         };
       },
     )
 
 -- after the piece, where it goes no further
-pub fed_fault : {K : Type 0} (view : SinkView K) (s : State) (text piece : List ℕ) (before after : K) (f : SessionFault)
-    → GoesNoFurther view f (gives text).messages (text ++ piece) before after s.counts → s.fault ≡ Some f
-    → Feeds view (Err f) text piece before after s
-fed_fault view s text piece before after (faults.Message OutOfMemory) ends fault = ends
-fed_fault view s text piece before after (faults.Message e) ends fault = (
-  ends.0,
-  record {
-    put = ends.1.put;
-    takes = ends.1.takes;
-    records = ends.1.records;
-    stands = record {
-      fault = fault ∙ sym (ap fault_at ends.0);
-      tells = ends.1.tells;
-      goes_on = λ o. absurd (subst IsOpen ends.0 o);
-    };
-  },
-)
-fed_fault view s text piece before after faults.SinkClosed ends fault = ends
-fed_fault view s text piece before after faults.Truncated ends fault = absurd ends
-fed_fault view s text piece before after faults.ReadFailed ends fault = absurd ends
-fed_fault view s text piece before after faults.TooManyReads ends fault = absurd ends
+fed_fault : {K : Type 0} (view : SinkView K) (i : Intake) (text rest piece left : List ℕ) (before after : K) (f : SessionFault) → rest ≡ (cut text).rest → IsOpen (stop_of text)
+    → Stops (record_intake view) (earlier text before) f (rest ++ piece) i after → Feeds view (Err f) text piece before after (state_of i left (Some f))
+fed_fault view i text rest piece left before after (faults.Message OutOfMemory) is is_open r =
+    let old = (gives text).messages in
+    record {
+      whole = old ++ r.given;
+      from = (r.given, refl);
+      up_to = (r.next.0, longer_messages text rest piece is is_open ∙ ap (λ (ms : List Message). old ++ ms) r.next.1 ∙ sym (append_assoc old r.given r.next.0));
+      puts = r.took;
+    }
+fed_fault view i text rest piece left before after (faults.Message e) is is_open r =
+    let old = (gives text).messages in
+    let all : gives (text ++ piece) ≡ record { messages = old ++ r.first.given; stop = Fault e } = longer text rest piece is is_open ∙ ap (behind old) r.all in
+    let stop : stop_of (text ++ piece) ≡ Fault e = ap (λ (g : Given). g.stop) all in
+    let puts = subst (λ (ms : List Message). PutsWhole view old ms before after (Tells (counts_of i.tally))) (sym (ap (λ (g : Given). g.messages) all)) r.first.took in (
+      stop,
+      record {
+        put = puts.put;
+        takes = puts.takes;
+        records = puts.records;
+        stands = record { fault = sym (ap fault_at stop); tells = puts.tells; goes_on = λ o. absurd (subst IsOpen stop o) };
+      },
+    )
+fed_fault view i text rest piece left before after faults.SinkClosed is is_open r =
+    let old = (gives text).messages in
+    let p = r.part in
+    record {
+      whole = old ++ r.given;
+      next = r.next;
+      more = r.more;
+      from = (r.given, refl);
+      are = longer_messages text rest piece is is_open ∙ ap (λ (ms : List Message). old ++ ms) r.are ∙ sym (append_assoc old r.given (r.next ∷ r.more));
+      first = p.first;
+      item = p.item;
+      others = p.others;
+      cut_off = p.cut_off;
+      put = p.put;
+      last = p.last;
+      takes = p.takes;
+      records = p.records;
+      back = p.back;
+      tells = p.tells;
+    }
+fed_fault view i text rest piece left before after faults.Truncated is is_open r = absurd r
+fed_fault view i text rest piece left before after faults.ReadFailed is is_open r = absurd r
+fed_fault view i text rest piece left before after faults.TooManyReads is is_open r = absurd r
+
+-- by the answer
+pub fed_by : {K : Type 0} (view : SinkView K) (i : Intake) (text rest piece left : List ℕ) (before after : K) (r : Result (Unit {0}) SessionFault) (fault : Option SessionFault) → rest ≡ (cut text).rest → IsOpen (stop_of text)
+    → Reads (record_intake view) (earlier text before) r (rest ++ piece) i after left → result_err r ≡ fault → Feeds view r text piece before after (state_of i left fault)
+fed_by view i text rest piece left before after (Ok tt) fault is is_open done e =
+    subst (λ (o : Option SessionFault). IsOpen (stop_of (text ++ piece)) × PutsAll view text piece before after (state_of i left o)) e (fed view i text rest piece left before after is is_open done)
+fed_by view i text rest piece left before after (Err f) fault is is_open done e =
+    subst (λ (o : Option SessionFault). Feeds view (Err f) text piece before after (state_of i left o)) e (fed_fault view i text rest piece left before after f is is_open done)
 
 -- ---- after a fault
 
@@ -246,27 +298,40 @@ no_fault_is (Fault m) e = let same : None ≡ some_fault (faults.Message m) = e 
 pub may_go_on : (s : State) (text : List ℕ) → StandsForText s text → s.fault ≡ None → IsOpen (stop_of text)
 may_go_on s text stands none = no_fault_is (stop_of text) (sym none ∙ stands.fault)
 
-stays : {K : Type 0} (view : SinkView K) (s : State) (text longer : List ℕ) (k : K) (e : MessageFault) → StandsForText s text → gives longer ≡ gives text → stop_of text ≡ Fault e
-    → GoesNoFurther view (faults.Message e) (gives text).messages longer k k s.counts
-stays view s text longer k OutOfMemory stands same stop =
+behind_fault : {K : Type 0} (view : SinkView K) (s : State) (text longer : List ℕ) (k : K) → StandsForText s text → gives longer ≡ gives text
+    → PutsWhole view (gives text).messages (gives longer).messages k k (Tells s.counts)
+behind_fault view s text longer k stands same =
+    subst (λ (ms : List Message). PutsWhole view (gives text).messages ms k k (Tells s.counts)) (sym (ap (λ (g : Given). g.messages) same))
+    (record { put = []; takes = takes-none view k; records = sym (append-nil (records_of text)); tells = stands.tells })
+
+stays : {K : Type 0} (view : SinkView K) (s : State) (text piece : List ℕ) (k : K) (e : MessageFault) → StandsForText s text → gives (text ++ piece) ≡ gives text → stop_of text ≡ Fault e
+    → s.fault ≡ Some (faults.Message e) → Feeds view (Err (faults.Message e)) text piece k k s
+stays view s text piece k OutOfMemory stands same stop fault =
+    let old = (gives text).messages in
     record {
-      whole = (gives text).messages;
-      from = ([], sym (append-nil (gives text).messages));
-      up_to = ([], ap (λ (g : Given). g.messages) same ∙ sym (append-nil (gives text).messages));
+      whole = old;
+      from = ([], sym (append-nil old));
+      up_to = ([], ap (λ (g : Given). g.messages) same ∙ sym (append-nil old));
       puts = record { put = []; takes = takes-none view k; records = sym (append-nil (records_of text)); tells = stands.tells };
     }
-stays view s text longer k e stands same stop = (
-  ap (λ (g : Given). g.stop) same ∙ stop,
-  subst (λ (ms : List Message). PutsWhole view (gives text).messages ms k k (Tells s.counts)) (sym (ap (λ (g : Given). g.messages) same))
-      (record { put = []; takes = takes-none view k; records = sym (append-nil (records_of text)); tells = stands.tells }),
-)
+stays view s text piece k e stands same stop fault =
+    let there : stop_of (text ++ piece) ≡ Fault e = ap (λ (g : Given). g.stop) same ∙ stop in
+    let puts = behind_fault view s text (text ++ piece) k stands same in (
+      there,
+      record {
+        put = puts.put;
+        takes = puts.takes;
+        records = puts.records;
+        stands = record { fault = fault ∙ sym (ap fault_at there); tells = puts.tells; goes_on = λ o. absurd (subst IsOpen there o) };
+      },
+    )
 
 pub fed_again : {K : Type 0} (view : SinkView K) (s : State) (text piece : List ℕ) (k : K) (f : SessionFault) → StandsForText s text → s.fault ≡ Some f
     → Feeds view (Err f) text piece k k s
 fed_again view s text piece k f stands fault =
     let is = fault_is (stop_of text) f (sym fault ∙ stands.fault) in
-    let ends = stays view s text (text ++ piece) k is.0 stands (gives_after-fault_stays [] text piece is.0 is.1) is.1 in
-    fed_fault view s text piece k k f (subst (λ (g : SessionFault). GoesNoFurther view g (gives text).messages (text ++ piece) k k s.counts) (sym is.2) ends) fault
+    let at = stays view s text piece k is.0 stands (gives_after-fault_stays [] text piece is.0 is.1) is.1 (fault ∙ ap (λ (g : SessionFault). Some g) is.2) in
+    subst (λ (g : SessionFault). Feeds view (Err g) text piece k k s) (sym is.2) at
 
 -- ---- the rest of a text
 
@@ -280,46 +345,6 @@ pub buffer_is_rest : (s : State) (text : List ℕ) → StandsForText s text → 
 buffer_is_rest s text stands none =
     let is_open = may_go_on s text stands none in
     subst IsRest (sym (stands.goes_on is_open).rest) (rest_is_rest text is_open)
-
--- ---- many messages
-
--- from one place in a text to a later one
-abbrev pub GoesOver : {K : Type 0} (view : SinkView K) (was now : K) (c news : Counts) (domains later : DomainsView) (left rest : List ℕ) → Type 0
-GoesOver {K} view was now c news domains later left rest =
-    (old : List Message) (text : List ℕ) (before : K) → IsBetween view old text before was c domains left → IsBetween view old text before now news later rest
-
-pub reaches_from : {K : Type 0} (view : SinkView K) (old : List Message) (text : List ℕ) (before now : K) (c : Counts) (domains : DomainsView) (left same : List ℕ) → left ≡ same
-    → IsBetween view old text before now c domains left → IsBetween view old text before now c domains same
-reaches_from view old text before now c domains left same e r = subst (λ (w : List ℕ). IsBetween view old text before now c domains w) e r
-
-pub reaches_kept : {K : Type 0} (view : SinkView K) (old : List Message) (text : List ℕ) (before now : K) (c : Counts) (domains : DomainsView) (left same : List ℕ) → left ≡ same
-    → IsBetween view old text before now c domains left × IsRest left → IsBetween view old text before now c domains same × IsRest same
-reaches_kept view old text before now c domains left same e both =
-    (subst (λ (w : List ℕ). IsBetween view old text before now c domains w) e both.0, subst IsRest e both.1)
-
--- ---- a message whose records are put
-
-pub ends_put : {K : Type 0} (view : SinkView K) (old : List Message) (text left m rest : List ℕ) (before now after : K) (c : Counts) (domains : DomainsView) (accounts : List (ℕ × Account)) (delivered : ℕ)
-    (f : SessionFault) (records : List DataRecord) (r : IsBetween view old text before now c domains left) → next_message left ≡ found m rest → (x : Message) → message_gives (known_after [] r.whole) m ≡ Ok x → records ≡ x.decoding.records
-    → accounts ≡ c.accounts → Puts view (Err f) records c.delivered delivered now after
-    → GoesNoFurther view f old text before after (record c { accounts = accounts; delivered = delivered })
-ends_put view old text left m rest before now after c domains accounts delivered faults.SinkClosed records r begins x reads are same puts =
-    let gives_back = subst (λ (rs : List DataRecord). GivesBack view rs c.delivered delivered now after) are puts in
-    ends_refused view old text left m rest before now after c (record c { accounts = accounts; delivered = delivered }) domains c.delivered delivered r begins x reads gives_back
-    (tells_delivered (record c { accounts = accounts }) delivered (length gives_back.first) r.whole (length (records_in r.whole)) (tells_accounts c accounts r.whole (length (records_in r.whole)) r.puts.tells same) gives_back.counted)
-ends_put view old text left m rest before now after c domains accounts delivered (faults.Message e) records r begins x reads are same puts = absurd puts
-ends_put view old text left m rest before now after c domains accounts delivered faults.Truncated records r begins x reads are same puts = absurd puts
-ends_put view old text left m rest before now after c domains accounts delivered faults.ReadFailed records r begins x reads are same puts = absurd puts
-ends_put view old text left m rest before now after c domains accounts delivered faults.TooManyReads records r begins x reads are same puts = absurd puts
-
-pub tells_put : {K : Type 0} (view : SinkView K) (now after : K) (c : Counts) (accounts : List (ℕ × Account)) (delivered : ℕ) (whole : List Message) (records : List DataRecord) (x : Message)
-    → Tells c whole (length (records_in whole)) → records ≡ x.decoding.records → accounts ≡ c.accounts → Takes view now records after × CountsOn c.delivered (length records) delivered
-    → Takes view now x.decoding.records after × Tells (record c { accounts = accounts; delivered = delivered }) whole (length (records_in whole) + length x.decoding.records)
-tells_put view now after c accounts delivered whole records x tells are same puts = (
-  subst (λ (rs : List DataRecord). Takes view now rs after) are puts.0,
-  subst (λ (rs : List DataRecord). Tells (record c { accounts = accounts; delivered = delivered }) whole (length (records_in whole) + length rs)) are
-      (tells_delivered (record c { accounts = accounts }) delivered (length records) whole (length (records_in whole)) (tells_accounts c accounts whole (length (records_in whole)) tells same) puts.1),
-)
 
 -- ---- before the first piece
 
@@ -343,14 +368,6 @@ stands_first s tells fresh none buffer fault =
         known = subst (λ (xs : List Message). StandsFor s.domains.domains (known_after [] xs)) (sym ms) none;
       };
     }
-
--- ---- by the answer
-
-pub fed_by : {K : Type 0} (view : SinkView K) (s : State) (text piece : List ℕ) (before after : K) (r : Result (Unit {0}) SessionFault)
-    → MatchResult r (λ x. IsBetween view (gives text).messages (text ++ piece) before after s.counts s.domains s.buffer × IsRest s.buffer) (λ f. GoesNoFurther view f (gives text).messages (text ++ piece) before after s.counts)
-    → s.fault ≡ result_err r → Feeds view r text piece before after s
-fed_by view s text piece before after (Ok x) done fault = fed view s text piece before after done.0 done.1 fault
-fed_by view s text piece before after (Err f) done fault = fed_fault view s text piece before after f done fault
 
 -- ---- the end
 

@@ -4,6 +4,12 @@ use Rattle.ipfix_session.specs.declared.stop.Stop.{Stop}
 use Rattle.ipfix_session.specs.MessageStream.{next_message}
 use Rattle.ipfix_session.specs.Given.{IsOpen}
 
+-- a text that begins with no message, but may when it goes on
+pub record IsRest (w : List ℕ) : Type 0 where
+  pub stop : Stop
+  pub none : next_message w ≡ Err stop
+  pub is_open : IsOpen stop
+
 -- octets went from the front of a piece to the end of a buffer
 pub record Moves (old new piece left : List ℕ) : Type 0 where
   pub moved : List ℕ

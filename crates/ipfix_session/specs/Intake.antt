@@ -1,51 +1,57 @@
--- What a session has done of a text while it goes over the messages.
-use Rattle.std.specs.Prelude.{◌≡◌, ℕ, false, List, [], Err}
-use Rattle.ipfix_message.specs.Domains.{DomainsView, Message, StandsFor}
-use Rattle.ipfix_message.specs.declared.fault.MessageFault.TheVariants.{OutOfMemory}
-use Rattle.ipfix_session.specs.declared.stop.Stop.{Stop}
-use Rattle.ipfix_session.specs.declared.stop.Stop.TheVariants.{Fault}
-use Rattle.ipfix_session.specs.declared.fault.SessionFault.{SessionFault}
-use Rattle.ipfix_session.specs.declared.fault.SessionFault.TheVariants as faults
+-- What the messages of a session leave: what was counted of them, and what a sink took of their records.
+use Rattle.std.specs.Prelude.{◌≡◌, ◌+◌, false, List, [], ◌∷◌, ◌++◌, length}
+use Rattle.ipfix_message.specs.Domains.{History, Message, StandsFor}
+use Rattle.ipfix_message.specs.declared.record.DataRecord.{DataRecord}
 use Rattle.ipfix_session.specs.declared.intake.Intake.{Intake}
 use Rattle.ipfix_session.specs.declared.tally.Tally.{Tally}
-use Rattle.ipfix_session.specs.MessageStream.{cut, next_message}
-use Rattle.ipfix_session.specs.Given.{gives, gives_after, behind, known_after, stop_of, IsOpen, IsPrefix}
-use Rattle.ipfix_session.specs.Sinks.{SinkView}
-use Rattle.ipfix_session.specs.Feeding.{Counts, Tells, PutsWhole, RunsOut, IsRefused}
+use Rattle.ipfix_session.specs.Given.{known_after, records_in}
+use Rattle.ipfix_session.specs.Sinks.{SinkView, Takes}
+use Rattle.ipfix_session.specs.Sources.{one_more}
+use Rattle.ipfix_session.specs.Feeding.{Counts, Tells, PutsWhole}
+use Rattle.ipfix_session.specs.MessageSinks.{MessageSinkView}
 
 -- the counts that a tally keeps
 abbrev pub counts_of : Tally → Counts
 counts_of t = record { messages = t.messages; octets = t.octets; delivered = t.delivered; passed_over = t.passed_over; accounts = t.ledger.accounts.entries }
 
--- a text that begins with no message, but may when it goes on
-pub record IsRest (w : List ℕ) : Type 0 where
-  pub stop : Stop
-  pub none : next_message w ≡ Err stop
-  pub is_open : IsOpen stop
+-- a session's messages before, and the sink after them
+pub record Earlier (K : Type 0) : Type 0 where
+  pub messages : List Message
+  pub sink : K
+
+-- these messages, and those that were given since
+abbrev pub all_of : {K : Type 0} → Earlier K → List Message → List Message
+all_of before given = before.messages ++ given
+
+-- these domains and events are known, and no message was refused
+pub record KnowsDomains (intake : Intake) (ds : History) : Type 0 where
+  pub not_spent : intake.domains.spent ≡ false
+  pub stands : StandsFor intake.domains.domains ds
 
 module _ {K : Type 0} (view : SinkView K) where
-  -- whole messages of a text were put, the old ones before, and left is what follows them
-  pub record IsBetween (old : List Message) (text : List ℕ) (before after : K) (c : Counts) (domains : DomainsView) (left : List ℕ) : Type 0 where
-    pub whole : List Message
-    pub from : IsPrefix old whole
-    pub is : gives text ≡ behind whole (gives_after (known_after [] whole) left)
-    pub rest : (cut text).rest ≡ (cut left).rest
-    pub puts : PutsWhole view old whole before after (Tells c)
-    pub not_spent : domains.spent ≡ false
-    pub stands : StandsFor domains.domains (known_after [] whole)
+  -- the records of messages were put and counted
+  abbrev pub PutsGiven : Earlier K → Counts → K → List Message → Type 0
+  PutsGiven before counts after given = PutsWhole view before.messages (all_of before given) before.sink after (Tells counts)
 
-  -- why it went no further
-  abbrev pub GoesNoFurther : SessionFault → List Message → List ℕ → K → K → Counts → Type 0
-  GoesNoFurther (faults.Message OutOfMemory) old text before after c = RunsOut view old (gives text).messages before after (Tells c)
-  GoesNoFurther (faults.Message e) old text before after c = (stop_of text ≡ Fault e) × PutsWhole view old (gives text).messages before after (Tells c)
-  GoesNoFurther faults.SinkClosed old text before after c = IsRefused view old (gives text).messages before after (Tells c)
-  GoesNoFurther faults.Truncated old text before after c = ⊥
-  GoesNoFurther faults.ReadFailed old text before after c = ⊥
-  GoesNoFurther faults.TooManyReads old text before after c = ⊥
+  -- the sink gave a record of the next message back, after the first records of it
+  pub record GivesBackOf (before : Earlier K) (counts : Counts) (after : K) (given : List Message) (next : Message) : Type 0 where
+    pub first : List DataRecord
+    pub item : DataRecord
+    pub others : List DataRecord
+    pub cut_off : next.decoding.records ≡ first ++ item ∷ others
+    pub put : List DataRecord
+    pub last : K
+    pub takes : Takes view before.sink put last
+    pub records : records_in (all_of before given) ++ first ≡ records_in before.messages ++ put
+    pub back : view.refused after ≡ one_more (view.refused last)
+    pub tells : Tells counts (all_of before given) (length (records_in (all_of before given)) + length first)
 
-  -- the same of what an intake has taken, and of why it can take no more
-  abbrev pub HasTaken : List Message → List ℕ → K → K → Intake → List ℕ → Type 0
-  HasTaken old text before after intake left = IsBetween old text before after (counts_of intake.tally) intake.domains left
-
-  abbrev pub CanTakeNoMore : SessionFault → List Message → List ℕ → K → K → Intake → Type 0
-  CanTakeNoMore fault old text before after intake = GoesNoFurther fault old text before after (counts_of intake.tally)
+  -- what a session does with its messages: their records go to a sink
+  abbrev pub record_intake : MessageSinkView Intake K
+  record_intake = record {
+    Before = Earlier K;
+    known = λ before. known_after [] before.messages;
+    took = λ before intake after messages given. PutsGiven before (counts_of intake.tally) after given;
+    is_ready = λ before intake given. KnowsDomains intake (known_after (known_after [] before.messages) given);
+    gave_part = λ before intake after given next. GivesBackOf before (counts_of intake.tally) after given next;
+  }

@@ -18,8 +18,9 @@ pub mod Drives
 pub mod Accounts
 pub mod Tallies
 pub mod Rooms
-pub mod Intake
 pub mod Buffers
+pub mod MessageSinks
+pub mod Intake
 pub mod CounterPlaces
 pub mod Walked
 -- What only inner functions and proofs need.

@@ -1,16 +1,14 @@
-//! The buffer of a session, which holds the front of a message until the rest of it comes.
+//! A text that comes in pieces, as messages: the front of a message is kept until the rest of it comes.
 
-ghost use Rattle.std.specs.Prelude.{◌≡◌, ◌≤◌, ◌++◌, [], ℕ, max, length, List, OnOk, IfOk, MatchOption, MatchResult};
+ghost use Rattle.std.specs.Prelude.{◌≡◌, ◌<◌, ◌≤◌, ◌++◌, [], ℕ, max, length, List, IfSome, IfNone, IfOk, IfErr};
 ghost use Rattle.std.specs.Option.{ForSome};
-ghost use Rattle.ipfix_message.specs.Domains.{Message};
-ghost use Rattle.ipfix_session.specs.Intake.{IsRest, HasTaken, CanTakeNoMore};
+ghost use Rattle.ipfix_session.specs.MessageSinks.{IsBetween, IsAtRest, Stops, Reads};
 ghost use Rattle.ipfix_session.specs.declared.message_stream.TheConstants.{LONGEST_MESSAGE};
-ghost use Rattle.ipfix_session.specs.Buffers.{MovesUpTo, Fills};
+ghost use Rattle.ipfix_session.specs.Buffers.{IsRest, MovesUpTo, Fills};
 
 use crate::fault::SessionFault;
-use crate::intake::Intake;
+use crate::message_sink::MessageSink;
 use crate::message_stream::next_message;
-use crate::sink::Sink;
 use ipfix_wire::{HEADER_LENGTH, read_header};
 use std::alloc::{AllocError, Global};
 
@@ -30,9 +28,9 @@ fn move_up_to<'a>(
     Ok(left)
 }
 
-/// Moves octets from the front of a piece until the buffer is a whole message, or begins with a header
-/// that is refused, and gives what is left.
-pub fn fill<'a>(buffer: &mut Vec<u8>, piece: &'a [u8]) -> Result<&'a [u8], AllocError>
+// Moves octets from the front of a piece until the buffer is a whole message, or begins with a header
+// that is refused, and gives what is left.
+fn fill<'a>(buffer: &mut Vec<u8>, piece: &'a [u8]) -> Result<&'a [u8], AllocError>
     ensures fills { IsRest buffer.old.items → IfOk result (λ left.
         Fills buffer.old.items buffer.new.items piece.now left.now) }
     ensures at_most { length buffer.new.items ≤ max LONGEST_MESSAGE (length buffer.old.items) }
@@ -49,21 +47,23 @@ pub fn fill<'a>(buffer: &mut Vec<u8>, piece: &'a [u8]) -> Result<&'a [u8], Alloc
 
 // Takes the message that the buffer begins, if the piece ends it, and gives what follows it; `None` if
 // it doesn't, and the buffer keeps it all.
-fn take_begun<'a, K: Sink>(
+fn take_begun<'a, T, M: MessageSink<T>>(
     alloc: Global,
-    intake: &mut Intake,
+    messages: &mut M,
     buffer: &mut Vec<u8>,
     piece: &'a [u8],
-    sink: &mut K,
+    to: &mut T,
 ) -> Result<Option<&'a [u8]>, SessionFault>
-    ensures takes { (old : List Message) (text : List ℕ) (before : K) → IsRest buffer.old.items
-        → HasTaken K.seen old text before sink.old intake.old (buffer.old.items ++ piece.now)
-        → MatchResult result
-        (λ o. MatchOption o
-        (HasTaken K.seen old text before sink.new intake.new buffer.new.items
-        × IsRest buffer.new.items)
-        (λ left. HasTaken K.seen old text before sink.new intake.new left.now))
-        (λ fault. CanTakeNoMore K.seen fault old text before sink.new intake.new) }
+    ensures takes { (x : M.seen.Before) (text : List ℕ) → IsRest buffer.old.items
+        → IsBetween M.seen x text messages.old to.old (buffer.old.items ++ piece.now)
+        → IfOk result (λ o. IfSome o (λ left.
+        IsBetween M.seen x text messages.new to.new left.now)) }
+    ensures keeps { (x : M.seen.Before) (text : List ℕ) → IsRest buffer.old.items
+        → IsBetween M.seen x text messages.old to.old (buffer.old.items ++ piece.now)
+        → IfOk result (λ o. IfNone o (IsAtRest M.seen x text messages.new to.new buffer.new.items)) }
+    ensures stops { (x : M.seen.Before) (text : List ℕ) → IsRest buffer.old.items
+        → IsBetween M.seen x text messages.old to.old (buffer.old.items ++ piece.now)
+        → IfErr result (λ fault. Stops M.seen x fault text messages.new to.new) }
     ensures emptied { IfOk result (λ o. ForSome o (λ left. buffer.new.items ≡ [])) }
     ensures at_most { length buffer.new.items ≤ max LONGEST_MESSAGE (length buffer.old.items) }
 {
@@ -72,7 +72,7 @@ fn take_begun<'a, K: Sink>(
     }
     let left = fill(buffer, piece)?;
     match next_message(buffer) {
-        Ok(first) => intake.take_message(alloc, &first.header, first.octets, sink)?,
+        Ok(first) => messages.take(alloc, &first.header, first.octets, to)?,
         Err(stop) => {
             stop.check_open()?;
             return Ok(None);
@@ -82,28 +82,54 @@ fn take_begun<'a, K: Sink>(
     Ok(Some(left))
 }
 
-/// Takes the messages that the buffer and a piece hold, and keeps what follows them in the buffer. A
-/// message that lies whole in the piece isn't copied.
-pub fn read_on<K: Sink>(
+// Takes the messages that octets begin with, and gives what follows them.
+fn take_whole<'a, T, M: MessageSink<T>>(
     alloc: Global,
-    intake: &mut Intake,
+    messages: &mut M,
+    octets: &'a [u8],
+    to: &mut T,
+) -> Result<&'a [u8], SessionFault>
+    ensures takes { (x : M.seen.Before) (text : List ℕ)
+        → IsBetween M.seen x text messages.old to.old octets.now
+        → IfOk result (λ rest. IsAtRest M.seen x text messages.new to.new rest.now) }
+    ensures stops { (x : M.seen.Before) (text : List ℕ)
+        → IsBetween M.seen x text messages.old to.old octets.now
+        → IfErr result (λ fault. Stops M.seen x fault text messages.new to.new) }
+    ensures begun { IfOk result (λ rest. length rest.now < LONGEST_MESSAGE) }
+{
+    let mut rest = octets;
+    loop {
+        let first = match next_message(rest) {
+            Ok(first) => first,
+            Err(stop) => {
+                stop.check_open()?;
+                return Ok(rest);
+            }
+        };
+        messages.take(alloc, &first.header, first.octets, to)?;
+        rest = first.rest;
+    }
+}
+
+/// Takes the messages that the buffer and a piece hold, and keeps what follows them in the buffer. A
+/// message that lies whole in the piece isn't copied to the buffer.
+pub fn read_on<T, M: MessageSink<T>>(
+    alloc: Global,
+    messages: &mut M,
     buffer: &mut Vec<u8>,
     piece: &[u8],
-    sink: &mut K,
+    to: &mut T,
 ) -> Result<(), SessionFault>
-    ensures reads { (old : List Message) (text : List ℕ) (before : K) → IsRest buffer.old.items
-        → HasTaken K.seen old text before sink.old intake.old (buffer.old.items ++ piece.now)
-        → MatchResult result
-        (λ _. HasTaken K.seen old text before sink.new intake.new buffer.new.items
-        × IsRest buffer.new.items)
-        (λ fault. CanTakeNoMore K.seen fault old text before sink.new intake.new) }
+    ensures reads { (x : M.seen.Before) (text : List ℕ) → IsRest buffer.old.items
+        → IsBetween M.seen x text messages.old to.old (buffer.old.items ++ piece.now)
+        → Reads M.seen x result text messages.new to.new buffer.new.items }
     ensures at_most { length buffer.new.items ≤ max LONGEST_MESSAGE (length buffer.old.items) }
 {
-    let left = match take_begun(alloc, intake, buffer, piece, sink)? {
+    let left = match take_begun(alloc, messages, buffer, piece, to)? {
         Some(left) => left,
         None => return Ok(()),
     };
-    let rest = intake.take_messages(alloc, left, sink)?;
+    let rest = take_whole(alloc, messages, left, to)?;
     buffer.extend_from_slice(rest)?;
     Ok(())
 }

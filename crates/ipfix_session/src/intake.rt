@@ -1,26 +1,21 @@
 //! Taking the messages of a session: each is decoded, its records are put, and then it is counted.
 
-ghost use Rattle.std.specs.Prelude.{◌≡◌, ◌<◌, ◌++◌, ◌∷◌, [], ℕ, List, Ok, Some, None, MatchResult, length, OnOk, IfOk, IfErr, false, if◌then◌else◌};
-ghost use Rattle.ipfix_message.specs.declared.record.DataRecord.{DataRecord};
-ghost use Rattle.ipfix_message.specs.Domains.{Message, StandsFor, message_header};
-ghost use Rattle.ipfix_session.specs.MessageStream;
-ghost use Rattle.ipfix_session.specs.declared.message_stream.TheConstants.{LONGEST_MESSAGE};
+ghost use Rattle.std.specs.Prelude.{◌≡◌, [], ℕ, List, Some, None, false, if◌then◌else◌};
+ghost use Rattle.ipfix_message.specs.Domains.{Message, StandsFor};
 ghost use Rattle.ipfix_session.specs.Faults.{ends_open as is_end_open};
-ghost use Rattle.ipfix_session.specs.Ledger.{capped};
 ghost use Rattle.ipfix_session.specs.Feeding.{Tells};
-ghost use Rattle.ipfix_session.specs.Intake.{counts_of, IsRest, HasTaken, CanTakeNoMore};
+ghost use Rattle.ipfix_session.specs.Intake.{counts_of};
 ghost use Rattle.ipfix_session.specs.Places.{CountsInFull};
 ghost use Rattle.ipfix_session.specs.Puts.{Puts};
 
 use crate::fault::{SessionFault, ends_open};
-use crate::message_stream::next_message;
+use crate::message_sink::MessageSink;
 use crate::report::FullReport;
 use crate::sink::Sink;
 use crate::tally::Tally;
 use ipfix_message::{DataRecord, Domains};
 use ipfix_wire::Header;
 use std::alloc::Global;
-
 /// What whole messages of a session left: its domains, and its counts.
 #[derive(Drop)]
 pub struct Intake {
@@ -73,58 +68,27 @@ impl Intake {
         };
         tally.into_report(fault, in_force)
     }
+}
 
-    /// Takes a whole message, whose header was read.
-    pub fn take_message<K: Sink>(
+impl<K: Sink> MessageSink<K> for Intake {
+    ghost use Rattle.ipfix_session.specs.Intake.{record_intake};
+
+    ghost seen = { record_intake K.seen };
+
+    /// Decodes a message, puts its records, and counts it then.
+    fn take(
         &mut self,
         alloc: Global,
         header: &Header,
         message: &[u8],
-        sink: &mut K,
-    ) -> Result<(), SessionFault>
-        requires { message_header message.now ≡ Ok header.now }
-        ensures { (old : List Message) (text left rest : List ℕ) (before : K)
-            → HasTaken K.seen old text before sink.old self.old left
-            → MessageStream.next_message left ≡ Ok (message.now, rest)
-            → MatchResult result
-            (λ _. HasTaken K.seen old text before sink.new self.new rest)
-            (λ fault. CanTakeNoMore K.seen fault old text before sink.new self.new) }
-    {
+        to: &mut K,
+    ) -> Result<(), SessionFault> {
         let decoded = self.domains.decode_with_header(alloc, header, message)?;
         self.tally.ledger.make_room(1)?;
         let passed_over = decoded.passed_over();
         let count = decoded.records.len() as u64;
-        put_all(decoded.records, &mut self.tally.delivered, sink)?;
+        put_all(decoded.records, &mut self.tally.delivered, to)?;
         self.tally.take(&decoded.header, count, passed_over);
         Ok(())
-    }
-
-    /// Takes the messages that a text begins with, and gives what follows them.
-    pub fn take_messages<'a, K: Sink>(
-        &mut self,
-        alloc: Global,
-        text: &'a [u8],
-        sink: &mut K,
-    ) -> Result<&'a [u8], SessionFault>
-        ensures takes { (old : List Message) (text_of : List ℕ) (before : K)
-            → HasTaken K.seen old text_of before sink.old self.old text.now
-            → MatchResult result
-            (λ rest. HasTaken K.seen old text_of before sink.new self.new rest.now
-            × IsRest rest.now)
-            (λ fault. CanTakeNoMore K.seen fault old text_of before sink.new self.new) }
-        ensures begun { IfOk result (λ rest. length rest.now < LONGEST_MESSAGE) }
-    {
-        let mut rest = text;
-        loop {
-            let first = match next_message(rest) {
-                Ok(first) => first,
-                Err(stop) => {
-                    stop.check_open()?;
-                    return Ok(rest);
-                }
-            };
-            self.take_message(alloc, &first.header, first.octets, sink)?;
-            rest = first.rest;
-        }
     }
 }

@@ -24,7 +24,7 @@ use Rattle.recording_files.specs.Files.{Contents, FilesView, all_of}
 use Rattle.recording_files.specs.Periods.{ClockView, octets_before, finished_by}
 use Rattle.recording_files.specs.Sessions.{file_octets, parts, Stands, IsCutOff, HoldsAll, HoldsCut, HoldsBy, IsTold, fault_of, RecordsSession}
 use Rattle.recording_files.proofs.Growing.{writes-append}
-use Rattle.recording_files.proofs.Gatherings.{octets-append}
+use Rattle.ipfix_session.proofs.MessagesTaken.{octets-append}
 use Rattle.recording_files.proofs.Going.{WritesPart, recorded-push, all_given-parts}
 use Rattle.recording_files.proofs.Together.{is_faithful}
 

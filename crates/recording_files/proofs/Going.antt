@@ -17,7 +17,7 @@ use Rattle.ipfix_session.specs.declared.stop.Stop.{Stop}
 use Rattle.ipfix_session.specs.declared.stop.Stop.TheVariants.{Fault}
 use Rattle.ipfix_session.specs.MessageStream.{next_message, cut}
 use Rattle.ipfix_session.specs.Given.{Given, gives, gives_after, behind, known_after, stop_of, IsOpen, IsPrefix, octets_of}
-use Rattle.ipfix_session.specs.Intake.{IsRest}
+use Rattle.ipfix_session.specs.Buffers.{IsRest}
 use Rattle.ipfix_session.specs.Sources.{one_more}
 use Rattle.ipfix_session.proofs.Cut.{messages_shrink, messages_stable}
 use Rattle.ipfix_session.proofs.Giving.{gives_after-stop, behind-behind, gives_after-open}
@@ -35,7 +35,7 @@ use Rattle.recording_files.specs.Periods.{unfinished_in, with_file, finished_at}
 use Rattle.recording_files.specs.Sessions.{HasMessage, file_octets, parts, files_of, Stands, IsCutOff, Holds, HoldsSome, HoldsEarlier, HoldsAll, HoldsCut}
 use Rattle.recording_files.specs.Between.{IsBetween, StopsRecording}
 use Rattle.recording_files.proofs.Growing.{writes-append}
-use Rattle.recording_files.proofs.Gatherings.{octets-append}
+use Rattle.ipfix_session.proofs.MessagesTaken.{octets-append}
 
 -- ---- parts, one after another
 

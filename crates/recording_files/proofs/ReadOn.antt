@@ -12,7 +12,7 @@ use Rattle.ipfix_session.specs.declared.stop.Stop.TheVariants.{Clean, Short, Fau
 use Rattle.ipfix_session.specs.declared.source.ReadError.TheVariants.{Interrupted, Failed}
 use Rattle.ipfix_session.specs.MessageStream.{rest_stop}
 use Rattle.ipfix_session.specs.Given.{stop_of, IsOpen}
-use Rattle.ipfix_session.specs.Intake.{IsRest}
+use Rattle.ipfix_session.specs.Buffers.{IsRest}
 use Rattle.ipfix_session.specs.Sources.{SourceView, IsRead, one_more}
 use Rattle.ipfix_session.specs.declared.driver.TheConstants.{READ_SIZE}
 use Rattle.ipfix_session.specs.Drives.{IsDue, StopsAtFault}

@@ -1,11 +1,8 @@
 //! Gathering the whole messages of a read.
 
-ghost use Rattle.std.specs.Prelude.{◌≡◌, ◌++◌, [], ℕ, List, Ok, OnOk, OnErr, MatchResult};
-ghost use Rattle.ipfix_message.specs.Domains.{Message, message_header};
-ghost use Rattle.ipfix_session.specs.Intake.{IsRest};
-ghost use Rattle.ipfix_session.specs.MessageStream;
+ghost use Rattle.std.specs.Prelude.{◌≡◌, ◌++◌, [], List, OnOk, OnErr};
+ghost use Rattle.ipfix_message.specs.Domains.{Message};
 ghost use Rattle.recording_files.specs.Recorders.{Counted, IsFresh};
-ghost use Rattle.recording_files.specs.Gathering.{Gathers, GathersUpTo};
 ghost use Rattle.recording_files.specs.Sessions.{IsTold};
 
 use crate::record_fault::RecordFault;
@@ -13,7 +10,7 @@ use crate::recorded_session::RecordedSession;
 use crate::recorder::Recorder;
 use crate::session_counts::SessionCounts;
 use ipfix_message::MessageFault;
-use ipfix_session::next_message;
+use ipfix_session::{MessageSink, SessionFault};
 use ipfix_wire::Header;
 use std::alloc::{AllocError, Global};
 
@@ -83,26 +80,21 @@ impl Gathering {
         } = self;
         counts.into_session(ended)
     }
+}
 
-    /// Gathers a whole message, whose header was read. After a fault it is not among those that were gathered.
-    pub fn take_message(
+impl MessageSink<()> for Gathering {
+    ghost use Rattle.recording_files.specs.Gathering.{gathering_view};
+
+    ghost seen = { gathering_view };
+
+    /// Gathers a message. After a fault it is not among those that were gathered.
+    fn take(
         &mut self,
         alloc: Global,
         header: &Header,
         message: &[u8],
-    ) -> Result<(), MessageFault>
-        requires { message_header message.now ≡ Ok header.now }
-        ensures gathers { (before here : List Message) (text left rest : List ℕ)
-            → Gathers before here self.old.recorder text self.old.out.items
-            self.old.counts.waiting left
-            → MessageStream.next_message left ≡ Ok (message.now, rest)
-            → MatchResult result
-            (λ _. Gathers before here self.new.recorder text self.new.out.items
-            self.new.counts.waiting rest)
-            (λ fault. GathersUpTo fault before here text self.new.out.items
-            self.new.counts.waiting) }
-        ensures told { self.new.counts.told ≡ self.old.counts.told }
-    {
+        to: &mut (),
+    ) -> Result<(), SessionFault> {
         let count = self
             .recorder
             .take_message(alloc, header, message, &mut self.lead)?;
@@ -112,38 +104,8 @@ impl Gathering {
             Ok(()) => Ok(()),
             Err(_) => {
                 self.out.truncate(length);
-                Err(MessageFault::OutOfMemory)
+                Err(SessionFault::Message(MessageFault::OutOfMemory))
             }
-        }
-    }
-
-    /// Gathers the messages that octets begin with, and gives what follows them.
-    pub fn take_messages<'a>(
-        &mut self,
-        alloc: Global,
-        octets: &'a [u8],
-    ) -> Result<&'a [u8], MessageFault>
-        ensures gathers { (before here : List Message) (text : List ℕ)
-            → Gathers before here self.old.recorder text self.old.out.items
-            self.old.counts.waiting octets.now
-            → MatchResult result
-            (λ rest. Gathers before here self.new.recorder text self.new.out.items
-            self.new.counts.waiting rest.now × IsRest rest.now)
-            (λ fault. GathersUpTo fault before here text self.new.out.items
-            self.new.counts.waiting) }
-        ensures told { self.new.counts.told ≡ self.old.counts.told }
-    {
-        let mut rest = octets;
-        loop {
-            let found = match next_message(rest) {
-                Ok(found) => found,
-                Err(stop) => {
-                    stop.check_open()?;
-                    return Ok(rest);
-                }
-            };
-            self.take_message(alloc, &found.header, found.octets)?;
-            rest = found.rest;
         }
     }
 }

@@ -12,7 +12,6 @@ pub mod laws;
 mod memory_files;
 mod message_count;
 mod period_clock;
-mod pieces;
 mod preamble;
 mod reads;
 mod record_fault;

@@ -2,18 +2,17 @@
 
 ghost use Rattle.std.specs.Prelude.{◌≡◌, ◌++◌, ℕ, List, MatchResult, OnOk, OnErr};
 ghost use Rattle.ipfix_message.specs.Domains.{Message};
-ghost use Rattle.ipfix_session.specs.Intake.{IsRest};
+ghost use Rattle.ipfix_session.specs.Buffers.{IsRest};
 ghost use Rattle.recording_files.specs.Recorders.{AreCountsOf, Counted, Keeps};
 ghost use Rattle.recording_files.specs.Files.{Appends, FilesView};
 ghost use Rattle.recording_files.specs.Periods.{finished_at};
-ghost use Rattle.recording_files.specs.Gathering.{Gathers, GathersUpTo, HasGathered};
+ghost use Rattle.recording_files.specs.Gathering.{HasGathered, ReadsOn};
 ghost use Rattle.recording_files.specs.Between.{IsBetween, StopsRecording};
 
 use crate::file_series::{FileSeries, NotWritten};
 use crate::gathering::Gathering;
-use crate::pieces::take_piece;
 use crate::record_fault::RecordFault;
-use ipfix_message::MessageFault;
+use ipfix_session::read_on;
 use std::alloc::Global;
 
 // Begins the next file if the period is over and this one has a message.
@@ -75,19 +74,19 @@ fn gather(
     gathering: &mut Gathering,
     buffer: &mut Vec<u8>,
     piece: &[u8],
-) -> Result<(), MessageFault>
+) -> Result<(), RecordFault>
     ensures gathers { (before here : List Message) → IsRest buffer.old.items
         → Keeps gathering.old.recorder before here
-        → MatchResult result
-        (λ _. Gathers before here gathering.new.recorder (buffer.old.items ++ piece.now)
-        gathering.new.out.items gathering.new.counts.waiting buffer.new.items
-        × IsRest buffer.new.items)
-        (λ fault. GathersUpTo fault before here (buffer.old.items ++ piece.now)
-        gathering.new.out.items gathering.new.counts.waiting) }
-    ensures told { gathering.new.counts.told ≡ gathering.old.counts.told }
+        → ReadsOn result before here (buffer.old.items ++ piece.now) gathering.new
+        buffer.new.items }
+    ensures told { (before here : List Message) → IsRest buffer.old.items
+        → Keeps gathering.old.recorder before here
+        → gathering.new.counts.told ≡ gathering.old.counts.told }
 {
     gathering.begin_read();
-    take_piece(alloc, gathering, buffer, piece)
+    let mut nothing = ();
+    read_on(alloc, gathering, buffer, piece, &mut nothing)?;
+    Ok(())
 }
 
 /// Takes what a read gave, and whether the clock told after it that the period is over.
@@ -113,8 +112,5 @@ pub fn take_read<F: FileSeries>(
     turn_if_over(is_over, gathering, files)?;
     let taken = gather(alloc, gathering, buffer, piece);
     write_gathered(gathering, files)?;
-    match taken {
-        Ok(()) => Ok(()),
-        Err(fault) => Err(RecordFault::Message(fault)),
-    }
+    taken
 }

@@ -76,6 +76,20 @@ impl From<MessageFault> for RecordFault {
     }
 }
 
+impl From<SessionFault> for RecordFault {
+    ghost from_gives = { λ m e. fault_of (Err e) ≡ Some m };
+
+    fn from(fault: SessionFault) -> RecordFault {
+        match fault {
+            SessionFault::Message(fault) => RecordFault::Message(fault),
+            SessionFault::Truncated => RecordFault::Truncated,
+            SessionFault::ReadFailed => RecordFault::ReadFailed,
+            SessionFault::TooManyReads => RecordFault::TooManyReads,
+            SessionFault::SinkClosed => RecordFault::NotWritten,
+        }
+    }
+}
+
 impl From<NotWritten> for RecordFault {
     ghost from_gives = { λ _ e. e ≡ faults.NotWritten };
 

@@ -9,7 +9,7 @@ use Rattle.ipfix_message.specs.declared.fault.MessageFault.{MessageFault}
 use Rattle.ipfix_message.specs.declared.fault.MessageFault.TheVariants.{OutOfMemory}
 use Rattle.ipfix_message.proofs.Reading.{ok_is}
 use Rattle.ipfix_session.specs.Given.{known_after}
-use Rattle.ipfix_session.proofs.Reaching.{known_after-push}
+use Rattle.ipfix_session.proofs.Chains.{known_after-push}
 use Rattle.recording_files.specs.declared.message_count.MessageCount.{MessageCount}
 use Rattle.recording_files.specs.Recorders.{State, Keeps, Records}
 use Rattle.recording_files.proofs.Growing.{writes_more}

@@ -10,7 +10,7 @@ use Rattle.ipfix_message.specs.Domains.{History, Message, message_header, messag
 use Rattle.ipfix_message.specs.Alike.{knows}
 use Rattle.ipfix_message.proofs.Reading.{ok_is}
 use Rattle.ipfix_session.specs.Given.{known_after, octets_of}
-use Rattle.ipfix_session.proofs.Reaching.{known_after-push}
+use Rattle.ipfix_session.proofs.Chains.{known_after-push}
 use Rattle.recording_files.specs.declared.record_fault.RecordFault.{RecordFault}
 use Rattle.recording_files.specs.declared.message_count.MessageCount.{MessageCount}
 use Rattle.recording_files.specs.FileReports.{file_report}
@@ -19,7 +19,7 @@ use Rattle.recording_files.specs.Files.{FilesView, IsEmpty, with_more, with_next
 use Rattle.recording_files.specs.Recordings.{Part, Writes}
 use Rattle.recording_files.specs.Recorders.{Keeps, Counted, Records}
 use Rattle.recording_files.specs.Sessions.{Stands}
-use Rattle.recording_files.proofs.Gatherings.{octets-append, octets-push}
+use Rattle.ipfix_session.proofs.MessagesTaken.{octets-append, octets-push}
 use Rattle.recording_files.proofs.Growing.{writes_more}
 use Rattle.recording_files.proofs.Going.{empty_part, stands_first, stands_more, stands_turned}
 use Rattle.ipfix_datagrams.specs.Datagrams.{IsTaken, Frees as FreesIds, with_freed}

@@ -1,7 +1,8 @@
 use Rattle.std.proofs.Common.{sym, ap, subst, ◌∙◌, ◌++◌}
-use Rattle.ipfix_session.specs.Given.{gives}
+use Rattle.ipfix_session.specs.Intake.{record_intake}
 use Rattle.ipfix_session.specs.Feeding.{State, StandsForText}
-use Rattle.ipfix_session.proofs.Reaching.{none_but, fed_again, fed_by, reaches_first, buffer_is_rest, may_go_on}
+use Rattle.ipfix_session.proofs.MessagesTaken.{between_first}
+use Rattle.ipfix_session.proofs.Reaching.{none_but, fed_again, fed_by, earlier, taken_first, buffer_is_rest, may_go_on}
 use Rattle.ipfix_session.proofs.session.Session.feed.Goals as goal
 
 pub returns-in-Some-clause-feeds : goal.returns-in-Some-clause-feeds
@@ -12,7 +13,12 @@ pub returns-clause-feeds : goal.returns-clause-feeds
 returns-clause-feeds g c = λ text stands.
     let inside = subst (λ (s : State). StandsForText s text) (sym c.self.view_is) stands in
     let none = none_but _ c.in_default.not-Some in
-    fed_by g.K.Sink.seen _ text c.args.piece.now c.args.sink.now c.read_on-result.new.sink c.read_on-result.result
-    (c.read_on-result.ensures.reads (gives text).messages (text ++ c.args.piece.now) c.args.sink.now (buffer_is_rest _ text inside none)
-    (reaches_first g.K.Sink.seen _ text c.args.piece.now c.args.sink.now inside (may_go_on _ text inside none)))
-    c.err-self-inside.ensures.value
+    let is_open = may_go_on _ text inside none in
+    let on = inside.goes_on is_open in
+    let sink = c.args.sink.now in
+    let octets = c.self.inside.buffer.items ++ c.args.piece.now in
+    let before = earlier text sink in
+    let taken = taken_first g.K.Sink.seen c.self.inside.intake text sink inside.tells on.not_spent on.known in
+    let reads = c.read_on-result.ensures.reads before octets (buffer_is_rest _ text inside none) (between_first (record_intake g.K.Sink.seen) before octets c.self.inside.intake sink taken) in
+    fed_by g.K.Sink.seen c.read_on-result.new.messages text c.self.inside.buffer.items c.args.piece.now c.read_on-result.new.buffer.items sink c.read_on-result.new.to c.read_on-result.result c.err-self-inside.result on.rest is_open reads
+    (sym c.err-self-inside.ensures.value)
