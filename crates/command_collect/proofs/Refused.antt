@@ -1,5 +1,5 @@
 -- Arguments and pools that have a fault.
-use Rattle.std.proofs.Common.{◌≡◌, ℕ, Bool, true, false, Option, Some, None, Result, Err, refl, sym, ◌∙◌, subst, inr}
+use Rattle.std.proofs.Common.{◌≡◌, ℕ, Bool, true, false, Option, Some, None, Result, Ok, Err, refl, sym, ◌∙◌, subst, inr}
 use Rattle.std.proofs.lemmas.Option.{IfSome_then}
 use Rattle.std.specs.Prelude.{◌⊎◌, ◌||◌, is_some, if◌then◌else◌, ◌==◌, nat_lt, IfSome, IfNone}
 use Rattle.flow_collect.specs.Refusals.{fault_of_arguments}
@@ -58,6 +58,11 @@ pub refusal_told : {X : Type 0} (C : Type 0) (fault : Option X) (answered : X) (
     → IfSome fault (λ x. Status × Untouched × Told x)
 refusal_told C None answered Status Untouched Told is status untouched told = tt
 refusal_told C (Some x) answered Status Untouched Told is status untouched told = let same : answered ≡ x = cc is in (status, untouched, subst Told same told)
+
+-- and there is none where none was answered
+pub not_refused : {X C : Type 0} (fault : Option X) (collected : C) (P : X → Type 0) → IfSome fault (λ x. ◌≡◌ {A = Result C X} (Ok collected) (Err x)) → IfSome fault P
+not_refused None collected P is = tt
+not_refused (Some x) collected P is = absurd (cc is)
 
 -- ---- a run by a caller that has one status more, for what can't be opened
 

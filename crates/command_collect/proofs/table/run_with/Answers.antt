@@ -1,10 +1,9 @@
 use Rattle.std.proofs.Common.{inl, inr, refl, rules}
-use Rattle.std.proofs.lemmas.Option.{IfSome_then}
 use Rattle.report_writing.specs.Statuses.{number_of}
 use Rattle.report_writing.proofs.Ended.{never_three, one_of_three, zero_if_well}
 use Rattle.report_writing.proofs.LinesTold.{is_told}
 use Rattle.command_collect.proofs.Ran.{writes_table}
-use Rattle.command_collect.proofs.Refused.{refusal_told}
+use Rattle.command_collect.proofs.Refused.{not_refused, refusal_told}
 use Rattle.command_collect.proofs.table.run_with.Goals as goal
 
 pub returns-in-Err-clause-runs : goal.returns-in-Err-clause-runs
@@ -23,7 +22,7 @@ returns-in-Err-export-clause-runs g c =
       statuses = inr (inr refl);
       table = λ ran. absurd (ran refl);
       failed = λ failed. inr (c.in-Err-export.fault, is_told _ _ _ c.write_export_fault.result _ c.write_export_fault.ensures.told c.write_export_fault.ensures.failed);
-      refused = IfSome_then _ c.in-Ok.ensures.faults.arguments (λ fault is. absurd (cc is));
+      refused = not_refused _ c.in-Ok.collected _ c.in-Ok.ensures.faults.arguments;
     }
 
 pub returns-clause-runs : goal.returns-clause-runs
@@ -38,5 +37,5 @@ returns-clause-runs g c =
           (λ zero. c.status_of.ensures.whole c.args.sources.items job.plan.now job.pool c.in-Ok.ensures.ok (well.0 zero))
           (search rules, is_told _ _ _ c.tell.result _ c.tell.ensures.told c.tell.ensures.failed);
       failed = never_three c.status_of.result status refl c.status_of.ensures.ends;
-      refused = IfSome_then _ c.in-Ok.ensures.faults.arguments (λ fault is. absurd (cc is));
+      refused = not_refused _ c.in-Ok.collected _ c.in-Ok.ensures.faults.arguments;
     }
