@@ -1,14 +1,15 @@
 -- Files that were told as opened, one after another, until a merge ended.
-use Rattle.std.proofs.Common.{◌≡◌, ℕ, ◌+◌, ◌<◌, ◌≤◌, suc, List, ◌++◌, length, take, drop, get_or, map, take-append-drop, Option, Result, sym, ap, ◌∙◌, subst, append-nil, arith}
+use Rattle.std.proofs.Common.{◌≡◌, ℕ, ◌+◌, ◌<◌, ◌≤◌, suc, List, ◌++◌, length, take, drop, get_or, map, take-append-drop, Option, Result, refl, sym, ap, ◌∙◌, subst, append-nil, arith, inr}
 use Rattle.std.specs.Prelude.{OnErr, OnOk}
 use Rattle.std.specs.Io.KnownBytes.{Appends}
-use Rattle.std.proofs.lemmas.List.{length-map, map-append, map_more, length-take-le}
+use Rattle.std.proofs.lemmas.List.{length-map, map-append, map_more, length-take-le, take_all}
 use Rattle.report_writing.specs.declared.status.Status.{Status}
 use Rattle.report_writing.specs.OpeningLines.{if_verbose}
 use Rattle.report_writing.specs.Told.{AreTold}
 use Rattle.report_writing.specs.declared.verbosity.Verbosity.{Verbosity}
 use Rattle.report_writing.proofs.Numbering.{numbered-last}
 use Rattle.flow_table.specs.declared.table.Table.{Table}
+use Rattle.flow_merge.specs.declared.merge_fault.MergeFault.{MergeFault}
 use Rattle.command_merge.specs.MergeLines.{file_opened_line, files_opened_lines, merged_line, not_merged_lines, status_of}
 use Rattle.command_merge.specs.Merges.{IsNotAdded, StopsMerge}
 use Rattle.command_merge.specs.MergesTold.{TellsNotMerged}
@@ -31,6 +32,14 @@ module _ {P : Type 0} (name_of : P → List ℕ) (paths : List P) where
       let line = λ (n : ℕ) (name : List ℕ). if_verbose verbosity (file_opened_line n name) in
       ap (λ (l : List (List ℕ)). files_opened_lines verbosity l) (map_more name_of paths i d less) ∙ numbered-last line (first_names i) name
       ∙ ap (λ (n : ℕ). files_opened_lines verbosity (first_names i) ++ line (n + 1) name) (names_count i (omega (arith, less)))
+
+  -- all of them, and then a fault that is no file's
+  module _ (old new : Option (List ℕ)) (After : Type 0) (verbosity : Verbosity) (i : ℕ) (all : length paths ≤ i) (told : AreTold old new After (files_opened_lines verbosity (first_names i))) where
+    pub all_told : AreTold old new After (files_opened_lines verbosity (map name_of paths))
+    all_told = subst (λ (ps : List P). AreTold old new After (files_opened_lines verbosity (map name_of ps))) (take_all i paths all) told
+
+    pub stops_whole : (fault : MergeFault) → StopsMerge (map name_of paths) verbosity (AreTold old new After) (Whole fault)
+    stops_whole fault = record { opened = map name_of paths; stops = inr refl; told = all_told }
 
   module _ (old mid new : Option (List ℕ)) (Before After : Type 0) (verbosity : Verbosity) where
     -- one more

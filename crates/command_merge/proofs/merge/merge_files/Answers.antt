@@ -1,4 +1,4 @@
-use Rattle.command_merge.proofs.FilesTold.{one_file_told, stops_merge}
+use Rattle.command_merge.proofs.FilesTold.{all_told, one_file_told, stops_merge, stops_whole}
 use Rattle.input_sources.proofs.InputsTold.{passed_on}
 use Rattle.report_writing.proofs.LinesTold.{none_told}
 use Rattle.command_merge.proofs.Merged.{all_paths, all_rows, none_read, one_path}
@@ -32,3 +32,11 @@ pub returns-in-Ok-finish-clause-merged : goal.returns-in-Ok-finish-clause-merged
 returns-in-Ok-finish-clause-merged g c =
     let so_far = c.loop-index.invariant.stands in
     all_paths _ _ c.args.job.now.plan.now _ c.args.paths.now c.loop-index.index _ c.loop-index.merging c.in-Ok-finish.table c.loop-index-test.false so_far (c.in-Ok-finish.ensures.rows (all_rows so_far.exports) so_far.stands)
+
+pub returns-in-Ok-finish-clause-told : goal.returns-in-Ok-finish-clause-told
+returns-in-Ok-finish-clause-told g c =
+    all_told (λ path. path.now) c.args.paths.now _ _ _ c.args.job.now.verbosity c.loop-index.index c.loop-index-test.false c.loop-index.invariant.told
+
+pub returns-in-Err-finish-clause-stops : goal.returns-in-Err-finish-clause-stops
+returns-in-Err-finish-clause-stops g c =
+    stops_whole (λ path. path.now) c.args.paths.now _ _ _ c.args.job.now.verbosity c.loop-index.index c.loop-index-test.false c.loop-index.invariant.told c.in-Err-finish.fault
