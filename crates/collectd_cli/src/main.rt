@@ -4,6 +4,7 @@
 mod commands;
 mod guides;
 
+use clap::ArgMatches;
 use cli_inputs::{Arguments, read_arguments};
 use cli_words::{Chosen, matches_of, show};
 use command_record::record;
@@ -32,12 +33,21 @@ fn run<R: Clock + Threads + Wait + Sync>(threads: &R, rt: &HostRuntime) -> io::R
         words.push(word)?;
     }
     match matches_of(rt.alloc(), words.as_slice()) {
-        Ok(matches) => Ok(match Chosen::of(&matches) {
-            Some(chosen) => run_command(threads, rt, chosen),
-            // (the parser asks for a command)
-            None => Status::NotOpened,
-        }),
+        Ok(matches) => Ok(run_matches(threads, rt, &matches)),
         Err(error) => Ok(show(rt, &error)),
+    }
+}
+
+// Runs the command that the parser found.
+fn run_matches<R: Clock + Threads + Wait + Sync>(
+    threads: &R,
+    rt: &HostRuntime,
+    matches: &ArgMatches,
+) -> Status {
+    match Chosen::of(matches) {
+        Some(chosen) => run_command(threads, rt, chosen),
+        // (the parser asks for a command)
+        None => Status::NotOpened,
     }
 }
 
