@@ -1,2 +1,0 @@
--- What public contracts cite.
-pub mod Given
