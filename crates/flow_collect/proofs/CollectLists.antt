@@ -11,7 +11,6 @@ use Rattle.flow_link.specs.declared.settled.Settled.{Settled}
 use Rattle.flow_table.specs.Bags.{IsSameBag}
 use Rattle.flow_table.specs.Fitting.{FitsPlan}
 use Rattle.flow_table.specs.Plans.{PlanValue}
-use Rattle.flow_table.specs.declared.table.Table.{Table}
 use Rattle.flow_collect.specs.Dealt.{IsPaired, IsNewShare, IsNewStart, IsDealt, start_link}
 use Rattle.flow_collect.specs.Finished.{HasTaken, link_ends_of, ended_link, SettlesEnds, CameOver, FinishedAs, IsOverfull, parts_of}
 use Rattle.flow_collect.specs.Headline.{all_of}

@@ -29,7 +29,6 @@ use Rattle.ipfix_session.proofs.Giving.{gives-prefix}
 use Rattle.ipfix_session.proofs.Places.{place_is}
 use Rattle.ipfix_session.proofs.Reaching.{takes-append}
 use Rattle.flow_table.specs.Plans.{PlanValue}
-use Rattle.flow_table.specs.declared.table.Table.{Table}
 use Rattle.flow_table.proofs.FlatTables.{is_same_table}
 use Rattle.flow_collect.specs.Headline.{Answer, Headline, IsGivenBy, all_of}
 use Rattle.flow_collect.specs.InFull.{FullAnswer, FullHeadline, IsBalanced, IsGivenInFull, HasBalanced, IsWithoutRest, reports_in}

@@ -1,5 +1,4 @@
 use Rattle.std.proofs.Common.{arith, rules}
-use Rattle.flow_rows.specs.Rows.{total_at}
 use Rattle.flow_rows.proofs.Totals.{popped_front, popped_last, popped_total}
 use Rattle.flow_rows.proofs.merging.merge_onto.Goals as goal
 
