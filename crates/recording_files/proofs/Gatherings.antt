@@ -1,27 +1,22 @@
 -- Gathering the messages of a read.
-use Rattle.std.proofs.Common.{◌≡◌, ℕ, List, [], ◌∷◌, ◌++◌, Some, refl, sym, ap, ap₂, subst, ◌∙◌, append_assoc}
-use Rattle.std.specs.Prelude.{Result, Ok, Err, MatchResult}
+use Rattle.std.proofs.Common.{◌≡◌, ℕ, List, [], ◌∷◌, ◌++◌, refl, sym, ap, ap₂, subst, ◌∙◌, append_assoc}
+use Rattle.std.specs.Prelude.{Result, Ok, Err}
 use Rattle.std.proofs.lemmas.List.{append-nil}
 use Rattle.ipfix_message.specs.Domains.{History, Message, message_gives}
 use Rattle.ipfix_message.specs.Outcome.{Fails}
 use Rattle.ipfix_message.specs.declared.fault.MessageFault.{MessageFault}
 use Rattle.ipfix_message.specs.declared.fault.MessageFault.TheVariants.{OutOfMemory}
-use Rattle.ipfix_session.specs.declared.stop.Stop.TheVariants.{Fault}
 use Rattle.ipfix_session.specs.declared.fault.SessionFault.{SessionFault}
 use Rattle.ipfix_session.specs.declared.fault.SessionFault.TheVariants as faults
-use Rattle.ipfix_session.specs.Given.{gives_after, behind, known_after, octets_of}
-use Rattle.ipfix_session.specs.Buffers.{IsRest}
-use Rattle.ipfix_session.specs.MessageSinks.{HasTaken, TakesOne, IsBetween, TookFirst, Stops, Reads}
+use Rattle.ipfix_session.specs.Given.{known_after, octets_of}
+use Rattle.ipfix_session.specs.MessageSinks.{HasTaken, TakesOne, TookFirst, Reads}
 use Rattle.ipfix_session.proofs.Chains.{known-append}
 use Rattle.ipfix_session.proofs.MessagesTaken.{octets-append, octets-push, took_first}
 use Rattle.recording_files.specs.declared.gathering.Gathering.{Gathering}
 use Rattle.recording_files.specs.declared.message_count.MessageCount.{MessageCount}
-use Rattle.recording_files.specs.declared.record_fault.RecordFault.{RecordFault}
-use Rattle.recording_files.specs.declared.record_fault.RecordFault.TheVariants.{Message as OfMessage, Truncated, ReadFailed, TooManyReads, NotWritten}
 use Rattle.recording_files.specs.Recordings.{Writes}
 use Rattle.recording_files.specs.Recorders.{Keeps, Records, AreCountsOf}
-use Rattle.recording_files.specs.Sessions.{fault_of}
-use Rattle.recording_files.specs.Gathering.{HasGathered, Gathers, GathersUpTo, BeforeRead, Waits, gathering_view, ReadsOn}
+use Rattle.recording_files.specs.Gathering.{BeforeRead, Waits, gathering_view}
 use Rattle.recording_files.proofs.Growing.{writes_more}
 use Rattle.recording_files.proofs.Counts.{counts-push, no_counts}
 
@@ -78,84 +73,24 @@ takes_on b g h messages given m octets c taken r grown one_more told =
       },
     )
 
--- ---- the messages of a read
+-- ---- what waits after a read
 
-abbrev has_gathered : (b : BeforeRead) (g : Gathering) (text : List ℕ) → TookFirst gathering_view b text g tt → HasGathered b.before b.here text g.out.items g.counts.waiting
-has_gathered b g text t = record {
-  messages = t.messages;
-  given = t.given;
-  file = t.took.file;
-  writes = t.took.writes;
-  out_is = t.took.out_is;
-  counted = t.took.counted;
-  left = t.left;
-  octets = t.octets;
-  next = t.next;
-}
+-- the first messages of it, by the answer
+pub gathered : (b : BeforeRead) (g : Gathering) (text left : List ℕ) (r : Result (Unit {0}) SessionFault) → Reads gathering_view b r text g tt left → TookFirst gathering_view b text g tt
+gathered b g text left (Ok x) reads = took_first gathering_view b text g g tt tt left reads.between reads.between.taken.took
+gathered b g text left (Err (faults.Message OutOfMemory)) reads = reads
+gathered b g text left (Err (faults.Message e)) reads = reads.first
+gathered b g text left (Err faults.SinkClosed) reads = absurd reads.part
+gathered b g text left (Err faults.Truncated) reads = absurd reads
+gathered b g text left (Err faults.ReadFailed) reads = absurd reads
+gathered b g text left (Err faults.TooManyReads) reads = absurd reads
 
-pub gathers : (b : BeforeRead) (g : Gathering) (text left : List ℕ) → IsBetween gathering_view b text g tt left → Gathers b.before b.here g.recorder text g.out.items g.counts.waiting left
-gathers b g text left r = record {
-  some = has_gathered b g text (took_first gathering_view b text g g tt tt left r r.taken.took);
-  left_is = refl;
-  keeps = r.taken.is_ready;
-  is = r.is ∙ ap (λ (ds : History). behind r.given (gives_after ds left)) (sym (known_is b r.given));
-  rest_is = r.rest;
-}
+no_file : (before here : List Message) (ms : List (List ℕ)) (w : List (List ℕ)) → Writes before here ms [] w → w ≡ []
+no_file before here [] w writes = writes
+no_file before here (m ∷ ms) w writes = absurd writes
 
--- why it goes no further
-pub stops_gathering : (b : BeforeRead) (g : Gathering) (text left : List ℕ) (f : SessionFault) (e : RecordFault) → fault_of (Err e) ≡ Some f → Stops gathering_view b f text g tt → ReadsOn (Err e) b.before b.here text g left
-stops_gathering b g text left (faults.Message OutOfMemory) (OfMessage e) is t =
-    let same : e ≡ OutOfMemory = cc in
-    record { some = has_gathered b g text t; all = λ memory. absurd (memory same) }
-stops_gathering b g text left (faults.Message m) (OfMessage e) is t =
-    let same : m ≡ e = cc in
-    record { some = has_gathered b g text t.first; all = λ memory. t.all ∙ ap (λ (f : MessageFault). record { messages = t.first.given; stop = Fault f }) same }
-stops_gathering b g text left (faults.Message m) Truncated is t = absurd cc
-stops_gathering b g text left (faults.Message m) ReadFailed is t = absurd cc
-stops_gathering b g text left (faults.Message m) TooManyReads is t = absurd cc
-stops_gathering b g text left (faults.Message m) NotWritten is t = absurd cc
-stops_gathering b g text left faults.SinkClosed e is t = absurd t.part
-stops_gathering b g text left faults.Truncated e is t = absurd t
-stops_gathering b g text left faults.ReadFailed e is t = absurd t
-stops_gathering b g text left faults.TooManyReads e is t = absurd t
-
--- of one read, by the answer: the octets and counts that wait
-pub reads_told : (b : BeforeRead) (g : Gathering) (text left : List ℕ) (r : Result (Unit {0}) SessionFault) → Reads gathering_view b r text g tt left → g.counts.told ≡ b.told
-reads_told b g text left (Ok x) reads = reads.between.taken.took.told_is
-reads_told b g text left (Err (faults.Message OutOfMemory)) reads = reads.took.told_is
-reads_told b g text left (Err (faults.Message e)) reads = reads.first.took.told_is
-reads_told b g text left (Err faults.SinkClosed) reads = absurd reads.part
-reads_told b g text left (Err faults.Truncated) reads = absurd reads
-reads_told b g text left (Err faults.ReadFailed) reads = absurd reads
-reads_told b g text left (Err faults.TooManyReads) reads = absurd reads
-
--- ---- nothing was gathered
-
-no_file : (before here : List Message) (ms : List (List ℕ)) (xs : List Message) (w : List (List ℕ)) → xs ≡ [] → Writes before here ms xs w → w ≡ []
-no_file before here [] [] w none writes = writes
-no_file before here [] (x ∷ xs) w none writes = absurd writes
-no_file before here (m ∷ ms) [] w none writes = absurd writes
-no_file before here (m ∷ ms) (x ∷ xs) w none writes = absurd cc
-
-pub nothing_gathered : (before here : List Message) (text out : List ℕ) (counts : List MessageCount) → HasGathered before here text out counts → counts ≡ [] → out ≡ []
-nothing_gathered before here text out counts g none = g.out_is ∙ ap octets_of (no_file before here g.messages g.given g.file (no_counts counts g.given none g.counted) g.writes)
-
--- what was gathered, by the answer
-pub gathered_by : (r : Result (Unit {0}) RecordFault) (before here : List Message) (text : List ℕ) (g : Gathering) (left : List ℕ) → ReadsOn r before here text g left → HasGathered before here text g.out.items g.counts.waiting
-gathered_by (Ok x) before here text g left reads = reads.0.some
-gathered_by (Err (OfMessage e)) before here text g left reads = reads.some
-gathered_by (Err Truncated) before here text g left reads = absurd reads
-gathered_by (Err ReadFailed) before here text g left reads = absurd reads
-gathered_by (Err TooManyReads) before here text g left reads = absurd reads
-gathered_by (Err NotWritten) before here text g left reads = absurd reads
-
--- what follows from it, by the answer
-pub by_answer : (r : Result (Unit {0}) RecordFault) (before here : List Message) (text : List ℕ) (g : Gathering) (left : List ℕ) (P : Type 0) (Q : RecordFault → Type 0)
-    → (Gathers before here g.recorder text g.out.items g.counts.waiting left → IsRest left → P) → ((e : MessageFault) → GathersUpTo e before here text g.out.items g.counts.waiting → Q (OfMessage e))
-    → ReadsOn r before here text g left → MatchResult r (λ x. P) Q
-by_answer (Ok x) before here text g left P Q on up_to reads = on reads.0 reads.1
-by_answer (Err (OfMessage e)) before here text g left P Q on up_to reads = up_to e reads
-by_answer (Err Truncated) before here text g left P Q on up_to reads = absurd reads
-by_answer (Err ReadFailed) before here text g left P Q on up_to reads = absurd reads
-by_answer (Err TooManyReads) before here text g left P Q on up_to reads = absurd reads
-by_answer (Err NotWritten) before here text g left P Q on up_to reads = absurd reads
+-- where none waits to be counted, nothing waits to be written
+pub nothing_waits : (b : BeforeRead) (g : Gathering) (messages : List (List ℕ)) (given : List Message) → Waits b g messages given → g.counts.waiting ≡ [] → g.out.items ≡ []
+nothing_waits b g messages given w none =
+    let writes = subst (λ (xs : List Message). Writes b.before b.here messages xs w.file) (no_counts g.counts.waiting given none w.counted) w.writes in
+    w.out_is ∙ ap octets_of (no_file b.before b.here messages w.file writes)

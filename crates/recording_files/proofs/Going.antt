@@ -1,6 +1,6 @@
 -- The files of a session while it is recorded, read by read.
 use Rattle.std.proofs.Common.{◌≡◌, ℕ, List, [], ◌∷◌, ◌++◌, length, drop, Option, Some, None, refl, sym, ap, ap₂, subst, ◌∙◌, append_assoc, arith, inl, inr, map}
-use Rattle.std.specs.Prelude.{◌⊎◌, ◌≢◌, true}
+use Rattle.std.specs.Prelude.{◌⊎◌, ◌≢◌, true, Err, IfSome}
 use Rattle.std.specs.List.{flat_map}
 use Rattle.std.specs.Option.{option_map}
 use Rattle.std.proofs.lemmas.List.{append-nil, map-append, drop_at}
@@ -19,23 +19,26 @@ use Rattle.ipfix_session.specs.MessageStream.{next_message, cut}
 use Rattle.ipfix_session.specs.Given.{Given, gives, gives_after, behind, known_after, stop_of, IsOpen, IsPrefix, octets_of}
 use Rattle.ipfix_session.specs.Buffers.{IsRest}
 use Rattle.ipfix_session.specs.Sources.{one_more}
+use Rattle.ipfix_session.specs.MessageSinks.{IsAtRest, TookFirst, TookUpTo, Stops}
+use Rattle.ipfix_session.proofs.Chains.{known-append}
 use Rattle.ipfix_session.proofs.Cut.{messages_shrink, messages_stable}
 use Rattle.ipfix_session.proofs.Giving.{gives_after-stop, behind-behind, gives_after-open}
 use Rattle.ipfix_session.proofs.Reaching.{stops_there}
-use Rattle.recording_files.specs.declared.record_fault.RecordFault.TheVariants.{Message as OfMessage}
+use Rattle.recording_files.specs.declared.record_fault.RecordFault.{RecordFault}
+use Rattle.recording_files.specs.declared.record_fault.RecordFault.TheVariants.{Message as OfMessage, Truncated, ReadFailed, TooManyReads, NotWritten}
 use Rattle.recording_files.specs.declared.file_report.FileReport.{FileReport}
-use Rattle.recording_files.specs.declared.message_count.MessageCount.{MessageCount}
 use Rattle.recording_files.specs.FileReports.{file_report, file_reports}
-use Rattle.recording_files.specs.Gathering.{HasGathered, Gathers, GathersUpTo}
+use Rattle.recording_files.specs.declared.gathering.Gathering.{Gathering}
+use Rattle.recording_files.specs.Gathering.{BeforeRead, gathering_view}
 use Rattle.recording_files.specs.Recordings.{Part, Recorded, Writes}
 use Rattle.recording_files.specs.Recorders.{State, Keeps, Told, Counted, IsFresh}
 use Rattle.recording_files.specs.Faithful.{all_messages, all_given}
 use Rattle.recording_files.specs.Files.{Contents, grown, turned, FilesView, with_more, with_next, failing, IsEmpty}
 use Rattle.recording_files.specs.Periods.{unfinished_in, with_file, finished_at}
-use Rattle.recording_files.specs.Sessions.{HasMessage, file_octets, parts, files_of, Stands, IsCutOff, Holds, HoldsSome, HoldsEarlier, HoldsAll, HoldsCut}
+use Rattle.recording_files.specs.Sessions.{HasMessage, file_octets, parts, files_of, Stands, IsCutOff, Holds, HoldsSome, HoldsEarlier, HoldsAll, HoldsCut, fault_of}
 use Rattle.recording_files.specs.Between.{IsBetween, StopsRecording}
 use Rattle.recording_files.proofs.Growing.{writes-append}
-use Rattle.ipfix_session.proofs.MessagesTaken.{octets-append}
+use Rattle.ipfix_session.proofs.MessagesTaken.{octets-append, took_first}
 
 -- ---- parts, one after another
 
@@ -317,144 +320,136 @@ with_more-none v octets none = ap (λ (o : Option Contents). seen_as v o) (sym (
         some : Contents → Option Contents
         some x = Some x
 
--- the file with it
-abbrev grown_part : (before here : List Message) (text out : List ℕ) (counts : List MessageCount) → Part → HasGathered before here text out counts → Part
-grown_part before here text out counts p g = record { messages = p.messages ++ g.messages; given = p.given ++ g.given; file = p.file ++ g.file }
+module _ (text piece : List ℕ) (files : List (List Message)) (first v : FilesView) (s : State) (c : Told) (left : List ℕ) (b : IsBetween text files first v s c left) (r : IsRest left) (g : Gathering) where
+  abbrev before_read : BeforeRead
+  before_read = record { before = all_given b.finished; here = b.last.given; told = c }
 
-grown_writes : (finished : List Part) (last : Part) (text out : List ℕ) (counts : List MessageCount) → WritesPart (all_given finished) last → (g : HasGathered (all_given finished) last.given text out counts)
-    → WritesPart (all_given finished) (grown_part (all_given finished) last.given text out counts last g)
-grown_writes finished last text out counts writes g = writes-append (all_given finished) [] last.messages g.messages last.given g.given last.file g.file writes g.writes
+  abbrev Gathered : Type 0
+  Gathered = TookFirst gathering_view before_read (left ++ piece) g tt
 
-grown_octets : (finished : List Part) (last : Part) (text out : List ℕ) (counts : List MessageCount) (g : HasGathered (all_given finished) last.given text out counts)
-    → file_octets (grown_part (all_given finished) last.given text out counts last g) ≡ file_octets last ++ out
-grown_octets finished last text out counts g = octets-append last.file g.file ∙ ap (λ (w : List ℕ). file_octets last ++ w) (sym g.out_is)
+  -- the file with it
+  abbrev grown_part : Gathered → Part
+  grown_part t = record { messages = b.last.messages ++ t.messages; given = b.last.given ++ t.given; file = b.last.file ++ t.took.file }
 
--- its messages are the next octets of the text
-grown_text : (finished : List Part) (last : Part) (whole_text left out : List ℕ) (counts : List MessageCount) (g : HasGathered (all_given finished) last.given left out counts)
-    → whole_text ≡ octets_of (all_messages finished ++ last.messages) ++ left → whole_text ≡ octets_of (all_messages finished ++ (last.messages ++ g.messages)) ++ g.left
-grown_text finished last whole_text left out counts g is =
-    let old = all_messages finished ++ last.messages in
-    is ∙ ap (λ (w : List ℕ). octets_of old ++ w) g.octets ∙ sym (append_assoc (octets_of old) (octets_of g.messages) g.left)
-    ∙ ap (λ (w : List ℕ). w ++ g.left) (sym (octets-append old g.messages)) ∙ ap (λ (ms : List (List ℕ)). octets_of ms ++ g.left) (append_assoc (all_messages finished) last.messages g.messages)
+  grown_writes : (t : Gathered) → WritesPart (all_given b.finished) (grown_part t)
+  grown_writes t = writes-append (all_given b.finished) [] b.last.messages t.messages b.last.given t.given b.last.file t.took.file b.writes t.took.writes
 
--- and give the next of its messages
-grown_given : (text : List ℕ) (before here given more : List Message) (ds : History) (left : List ℕ) → gives text ≡ behind (before ++ here) (gives_after ds left) → (gives_after ds left).messages ≡ given ++ more
-    → (gives text).messages ≡ (before ++ (here ++ given)) ++ more
-grown_given text before here given more ds left is next =
-    ap (λ (g : Given). g.messages) is ∙ ap (λ (ms : List Message). (before ++ here) ++ ms) next ∙ sym (append_assoc (before ++ here) given more)
-    ∙ ap (λ (ms : List Message). ms ++ more) (append_assoc before here given)
+  grown_octets : (t : Gathered) → file_octets (grown_part t) ≡ file_octets b.last ++ g.out.items
+  grown_octets t = octets-append b.last.file t.took.file ∙ ap (λ (w : List ℕ). file_octets b.last ++ w) (sym t.took.out_is)
 
-pub read_on : (text piece : List ℕ) (files : List (List Message)) (first v after : FilesView) (s t : State) (c d : Told) (left out rest : List ℕ) (counts : List MessageCount) (b : IsBetween text files first v s c left) → IsRest left
-    → (g : Gathers (all_given b.finished) b.last.given t (left ++ piece) out counts rest) → after ≡ with_more v out → Counted d (all_given b.finished) (b.last.given ++ g.some.given)
-    → IsBetween (text ++ piece) files first after t d rest
-unfolding between_more
-read_on text piece files first v after s t c d left out rest counts b r g is counted =
-    let more = between_more text files first v s c left piece b r in
-    let before = all_given b.finished in
-    let here = b.last.given in
-    let last = grown_part before here (left ++ piece) out counts b.last g.some in
-    let w = whole b.finished b.last in
-    let on : gives (text ++ piece) ≡ behind (w ++ g.some.given) (gives_after (known_after [] (before ++ (here ++ g.some.given))) rest) =
-    more.is ∙ ap (behind w) g.is ∙ behind-behind w g.some.given (gives_after (known_after [] (before ++ (here ++ g.some.given))) rest) in
-    record {
-      finished = b.finished;
-      last = last;
-      are = b.are;
-      earlier = b.earlier;
-      writes = grown_writes b.finished b.last (left ++ piece) out counts b.writes g.some;
-      some = b.some;
-      keeps = g.keeps;
-      counted = counted;
-      stands = stands_more first.contents v.contents after.contents b.finished b.last last out (ap (λ (u : FilesView). u.contents) is) (grown_octets b.finished b.last (left ++ piece) out counts g.some) b.stands;
-      not_failed = ap (λ (u : FilesView). u.failed) is ∙ b.not_failed;
-      octets = grown_text b.finished b.last (text ++ piece) (left ++ piece) out counts g.some more.octets ∙ ap (λ (x : List ℕ). octets_of (all_messages b.finished ++ last.messages) ++ x) g.left_is;
-      is = on ∙ ap (λ (ms : List Message). behind ms (gives_after (known_after [] (before ++ (here ++ g.some.given))) rest)) (append_assoc before here g.some.given);
-      rest = more.rest ∙ g.rest_is;
-    }
+  -- its messages are the next octets of the text
+  grown_text : (t : Gathered) → text ++ piece ≡ octets_of (all_messages b.finished ++ (b.last.messages ++ t.messages)) ++ t.left
+  unfolding between_more
+  grown_text t =
+      let old = all_messages b.finished ++ b.last.messages in
+      (between_more text files first v s c left piece b r).octets
+      ∙ ap (λ (w : List ℕ). octets_of old ++ w) t.octets ∙ sym (append_assoc (octets_of old) (octets_of t.messages) t.left)
+      ∙ ap (λ (w : List ℕ). w ++ t.left) (sym (octets-append old t.messages)) ∙ ap (λ (ms : List (List ℕ)). octets_of ms ++ t.left) (append_assoc (all_messages b.finished) b.last.messages t.messages)
 
--- the first octets of it may stand there
-pub read_cut : (text piece : List ℕ) (files : List (List Message)) (first v after : FilesView) (s : State) (c : Told) (left out front : List ℕ) (counts : List MessageCount) (b : IsBetween text files first v s c left) → IsRest left
-    → HasGathered (all_given b.finished) b.last.given (left ++ piece) out counts → IsPrefix front out → after ≡ failing (with_more v front) → HoldsCut (Counted c) (text ++ piece) text files first after
-unfolding between_more
-read_cut text piece files first v after s c left out front counts b r g p is =
-    let more = between_more text files first v s c left piece b r in
-    let ds = known_after [] (whole b.finished b.last) in
-    record {
-      cut_off = front;
-      holds = holds_at (text ++ piece) files first v after s c (left ++ piece) front more (stands_cut first.contents v.contents after.contents b.finished b.last front (ap (λ (u : FilesView). u.contents) is) b.stands);
-      all = held_there text files first v s c left b r;
-      next = record {
-        messages = g.messages;
-        given = g.given;
-        file = g.file;
-        writes = g.writes;
-        next = (g.next.0, grown_given (text ++ piece) (all_given b.finished) b.last.given g.given g.next.0 ds (left ++ piece) more.is g.next.1);
-        first = (p.0, sym g.out_is ∙ p.1);
-      };
-      finished = inl b.are;
-      failed = ap (λ (u : FilesView). u.failed) is ∙ ap one_more b.not_failed;
-      tells = inl b.counted;
-    }
+  -- and give the next of its messages
+  grown_given : (t : Gathered) → (gives (text ++ piece)).messages ≡ whole b.finished (grown_part t) ++ t.next.0
+  unfolding between_more
+  grown_given t =
+      let w = whole b.finished b.last in
+      ap (λ (g : Given). g.messages) (between_more text files first v s c left piece b r).is ∙ ap (λ (ms : List Message). w ++ ms) t.next.1 ∙ sym (append_assoc w t.given t.next.0)
+      ∙ ap (λ (ms : List Message). ms ++ t.next.0) (append_assoc (all_given b.finished) b.last.given t.given)
 
--- it stands there, and no more is read
-read_some : (text piece : List ℕ) (files : List (List Message)) (first v after : FilesView) (s : State) (c d : Told) (left out : List ℕ) (counts : List MessageCount) (b : IsBetween text files first v s c left) → IsRest left
-    → (g : HasGathered (all_given b.finished) b.last.given (left ++ piece) out counts) → after ≡ with_more v out → Counted d (all_given b.finished) (b.last.given ++ g.given) → HoldsSome (Counted d) (text ++ piece) files first after
-unfolding between_more
-read_some text piece files first v after s c d left out counts b r g is counted =
-    let more = between_more text files first v s c left piece b r in
-    let last = grown_part (all_given b.finished) b.last.given (left ++ piece) out counts b.last g in
-    let ds = known_after [] (whole b.finished b.last) in
-    record {
+  -- the first octets of it may stand there
+  pub read_cut : (after : FilesView) (front : List ℕ) → Gathered → IsPrefix front g.out.items → after ≡ failing (with_more v front) → HoldsCut (Counted c) (text ++ piece) text files first after
+  unfolding between_more
+  read_cut after front t p is =
+      let more = between_more text files first v s c left piece b r in
+      record {
+        cut_off = front;
+        holds = holds_at (text ++ piece) files first v after s c (left ++ piece) front more (stands_cut first.contents v.contents after.contents b.finished b.last front (ap (λ (u : FilesView). u.contents) is) b.stands);
+        all = held_there text files first v s c left b r;
+        next = record {
+          messages = t.messages;
+          given = t.given;
+          file = t.took.file;
+          writes = t.took.writes;
+          next = (t.next.0, grown_given t);
+          first = (p.0, sym t.took.out_is ∙ p.1);
+        };
+        finished = inl b.are;
+        failed = ap (λ (u : FilesView). u.failed) is ∙ ap one_more b.not_failed;
+        tells = inl b.counted;
+      }
+
+  module _ (after : FilesView) (is : after ≡ with_more v g.out.items) (d : Told) (counts : (t : Gathered) → Counted d (all_given b.finished) (b.last.given ++ t.given)) where
+    grown_stands : (t : Gathered) → Stands first.contents after.contents b.finished (grown_part t) []
+    grown_stands t = stands_more first.contents v.contents after.contents b.finished b.last (grown_part t) g.out.items (ap (λ (u : FilesView). u.contents) is) (grown_octets t) b.stands
+
+    pub read_on : (t : State) (rest : List ℕ) → t ≡ g.recorder → IsAtRest gathering_view before_read (left ++ piece) g tt rest → IsBetween (text ++ piece) files first after t d rest
+    unfolding between_more
+    read_on t rest same x =
+        let more = between_more text files first v s c left piece b r in
+        let took : Gathered = took_first gathering_view before_read (left ++ piece) g g tt tt rest x.between x.between.taken.took in
+        let w = whole b.finished b.last in
+        let on : gives (text ++ piece) ≡ behind (w ++ took.given) (gives_after (known_after (known_after [] w) took.given) rest) =
+        more.is ∙ ap (behind w) x.between.is ∙ behind-behind w took.given (gives_after (known_after (known_after [] w) took.given) rest) in
+        record {
+          finished = b.finished;
+          last = grown_part took;
+          are = b.are;
+          earlier = b.earlier;
+          writes = grown_writes took;
+          some = b.some;
+          keeps = subst (λ (u : State). Keeps u (all_given b.finished) (b.last.given ++ took.given)) (sym same) x.between.taken.is_ready;
+          counted = counts took;
+          stands = grown_stands took;
+          not_failed = ap (λ (u : FilesView). u.failed) is ∙ b.not_failed;
+          octets = grown_text took;
+          is = on ∙ ap (λ (ds : History). behind (w ++ took.given) (gives_after ds rest)) (sym (known-append [] w took.given))
+              ∙ ap (λ (ms : List Message). behind ms (gives_after (known_after [] ms) rest)) (append_assoc (all_given b.finished) b.last.given took.given);
+          rest = more.rest ∙ x.between.rest;
+        }
+
+    -- it stands there, and no more is read
+    read_some : (t : Gathered) → HoldsSome (Counted d) (text ++ piece) files first after
+    read_some t = record {
       holds = record {
         finished = b.finished;
-        last = last;
-        recorded = recorded-push [] b.finished last b.earlier (grown_writes b.finished b.last (left ++ piece) out counts b.writes g);
+        last = grown_part t;
+        recorded = recorded-push [] b.finished (grown_part t) b.earlier (grown_writes t);
         some = b.some;
-        stands = stands_more first.contents v.contents after.contents b.finished b.last last out (ap (λ (u : FilesView). u.contents) is) (grown_octets b.finished b.last (left ++ piece) out counts g) b.stands;
-        left = g.left;
-        octets = grown_text b.finished b.last (text ++ piece) (left ++ piece) out counts g more.octets ∙ ap (λ (ms : List (List ℕ)). octets_of ms ++ g.left) (sym (all_messages-parts b.finished last));
-        given = (
-          g.next.0,
-          grown_given (text ++ piece) (all_given b.finished) b.last.given g.given g.next.0 ds (left ++ piece) more.is g.next.1 ∙ ap (λ (ms : List Message). ms ++ g.next.0) (sym (all_given-parts b.finished last)),
-        );
+        stands = grown_stands t;
+        left = t.left;
+        octets = grown_text t ∙ ap (λ (ms : List (List ℕ)). octets_of ms ++ t.left) (sym (all_messages-parts b.finished (grown_part t)));
+        given = (t.next.0, grown_given t ∙ ap (λ (ms : List Message). ms ++ t.next.0) (sym (all_given-parts b.finished (grown_part t))));
       };
       finished = b.are;
       not_failed = ap (λ (u : FilesView). u.failed) is ∙ b.not_failed;
-      tells = counted;
+      tells = counts t;
     }
 
-read_all : (text piece : List ℕ) (files : List (List Message)) (first v after : FilesView) (s : State) (c d : Told) (left out : List ℕ) (counts : List MessageCount) (e : MessageFault) (b : IsBetween text files first v s c left) → IsRest left
-    → (g : GathersUpTo e (all_given b.finished) b.last.given (left ++ piece) out counts) → after ≡ with_more v out → Counted d (all_given b.finished) (b.last.given ++ g.some.given) → (e ≡ OutOfMemory → ⊥)
-    → (stop_of (text ++ piece) ≡ Fault e) × HoldsAll (Counted d) (text ++ piece) files first after
-unfolding between_more read_some
-read_all text piece files first v after s c d left out counts e b r g is counted memory =
-    let more = between_more text files first v s c left piece b r in
-    let last = grown_part (all_given b.finished) b.last.given (left ++ piece) out counts b.last g.some in
-    let w = whole b.finished b.last in
-    let on : gives (text ++ piece) ≡ record { messages = w ++ g.some.given; stop = Fault e } = more.is ∙ ap (behind w) (g.all memory) in (
-      ap (λ (k : Given). k.stop) on,
-      record {
-        some = read_some text piece files first v after s c d left out counts b r g.some is counted;
-        all = all_given-parts b.finished last ∙ sym (ap (λ (k : Given). k.messages) on ∙ append_assoc (all_given b.finished) b.last.given g.some.given);
-      },
-    )
+    read_all : (e : MessageFault) → TookUpTo gathering_view before_read e (left ++ piece) g tt → (stop_of (text ++ piece) ≡ Fault e) × HoldsAll (Counted d) (text ++ piece) files first after
+    unfolding between_more read_some
+    read_all e t =
+        let w = whole b.finished b.last in
+        let on : gives (text ++ piece) ≡ record { messages = w ++ t.first.given; stop = Fault e } = (between_more text files first v s c left piece b r).is ∙ ap (behind w) t.all in (
+          ap (λ (k : Given). k.stop) on,
+          record {
+            some = read_some t.first;
+            all = all_given-parts b.finished (grown_part t.first) ∙ sym (ap (λ (k : Given). k.messages) on ∙ append_assoc (all_given b.finished) b.last.given t.first.given);
+          },
+        )
 
-read_earlier : (text piece : List ℕ) (files : List (List Message)) (first v after : FilesView) (s : State) (c d : Told) (left out : List ℕ) (counts : List MessageCount) (b : IsBetween text files first v s c left) → IsRest left
-    → (g : HasGathered (all_given b.finished) b.last.given (left ++ piece) out counts) → after ≡ with_more v out → Counted d (all_given b.finished) (b.last.given ++ g.given) → HoldsEarlier (Counted d) (text ++ piece) text files first after
-unfolding read_some
-read_earlier text piece files first v after s c d left out counts b r g is counted =
-    let last = grown_part (all_given b.finished) b.last.given (left ++ piece) out counts b.last g in
-    record {
-      some = read_some text piece files first v after s c d left out counts b r g is counted;
+    read_earlier : Gathered → HoldsEarlier (Counted d) (text ++ piece) text files first after
+    unfolding read_some
+    read_earlier t = record {
+      some = read_some t;
       at_least = (
-        g.given,
-        all_given-parts b.finished last ∙ sym (append_assoc (all_given b.finished) b.last.given g.given)
-            ∙ ap (λ (ms : List Message). ms ++ g.given) (sym (all_given-parts b.finished b.last) ∙ held_there text files first v s c left b r),
+        t.given,
+        all_given-parts b.finished (grown_part t) ∙ sym (append_assoc (all_given b.finished) b.last.given t.given)
+            ∙ ap (λ (ms : List Message). ms ++ t.given) (sym (all_given-parts b.finished b.last) ∙ held_there text files first v s c left b r),
       );
     }
 
-pub read_fault : (text piece : List ℕ) (files : List (List Message)) (first v after : FilesView) (s : State) (c d : Told) (left out : List ℕ) (counts : List MessageCount) (e : MessageFault) (b : IsBetween text files first v s c left) → IsRest left
-    → (g : GathersUpTo e (all_given b.finished) b.last.given (left ++ piece) out counts) → after ≡ with_more v out → Counted d (all_given b.finished) (b.last.given ++ g.some.given)
-    → StopsRecording (OfMessage e) (text ++ piece) text files first after d
-read_fault text piece files first v after s c d left out counts OutOfMemory b r g is counted = read_earlier text piece files first v after s c d left out counts b r g.some is counted
-read_fault text piece files first v after s c d left out counts e b r g is counted = read_all text piece files first v after s c d left out counts e b r g is counted (λ h. cc h)
+    pub read_fault : (e : RecordFault) → IfSome (fault_of (Err e)) (λ f. Stops gathering_view before_read f (left ++ piece) g tt) → StopsRecording e (text ++ piece) text files first after d
+    read_fault (OfMessage OutOfMemory) stops = read_earlier stops
+    read_fault (OfMessage e) stops = read_all e stops
+    read_fault Truncated stops = absurd stops
+    read_fault ReadFailed stops = absurd stops
+    read_fault TooManyReads stops = absurd stops
+    read_fault NotWritten stops = absurd stops.part

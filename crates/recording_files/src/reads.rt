@@ -3,16 +3,17 @@
 ghost use Rattle.std.specs.Prelude.{◌≡◌, ◌++◌, ℕ, List, MatchResult, OnOk, OnErr};
 ghost use Rattle.ipfix_message.specs.Domains.{Message};
 ghost use Rattle.ipfix_session.specs.Buffers.{IsRest};
-ghost use Rattle.recording_files.specs.Recorders.{AreCountsOf, Counted, Keeps};
+ghost use Rattle.ipfix_session.specs.MessageSinks.{Reads, TookFirst};
+ghost use Rattle.recording_files.specs.Recorders.{Counted, Keeps};
 ghost use Rattle.recording_files.specs.Files.{Appends, FilesView};
 ghost use Rattle.recording_files.specs.Periods.{finished_at};
-ghost use Rattle.recording_files.specs.Gathering.{HasGathered, ReadsOn};
+ghost use Rattle.recording_files.specs.Gathering.{BeforeRead, gathering_view};
 ghost use Rattle.recording_files.specs.Between.{IsBetween, StopsRecording};
 
 use crate::file_series::{FileSeries, NotWritten};
 use crate::gathering::Gathering;
 use crate::record_fault::RecordFault;
-use ipfix_session::read_on;
+use ipfix_session::{SessionFault, read_on};
 use std::alloc::Global;
 
 // Begins the next file if the period is over and this one has a message.
@@ -51,13 +52,12 @@ fn turn_if_over<F: FileSeries>(
 // Writes what was gathered, and counts it then.
 fn write_gathered<F: FileSeries>(gathering: &mut Gathering, files: &mut F) -> Result<(), NotWritten>
     ensures recorder { gathering.new.recorder ≡ gathering.old.recorder }
-    ensures appends { (before here : List Message) (text : List ℕ)
-        → HasGathered before here text gathering.old.out.items gathering.old.counts.waiting
+    ensures appends { (b : BeforeRead) (text : List ℕ)
+        → TookFirst gathering_view b text gathering.old tt
         → Appends result gathering.old.out.items (F.seen files.old) (F.seen files.new) }
-    ensures counted { OnOk result ((before here given : List Message)
-        → Counted gathering.old.counts.told before here
-        → AreCountsOf gathering.old.counts.waiting given
-        → Counted gathering.new.counts.told before (here ++ given)) }
+    ensures counted { OnOk result ((b : BeforeRead) (text : List ℕ)
+        (t : TookFirst gathering_view b text gathering.old tt) → Counted b.told b.before b.here
+        → Counted gathering.new.counts.told b.before (b.here ++ t.given)) }
     ensures err { OnErr result (gathering.new.counts.told ≡ gathering.old.counts.told) }
 {
     if gathering.counts.is_settled() {
@@ -74,19 +74,14 @@ fn gather(
     gathering: &mut Gathering,
     buffer: &mut Vec<u8>,
     piece: &[u8],
-) -> Result<(), RecordFault>
-    ensures gathers { (before here : List Message) → IsRest buffer.old.items
-        → Keeps gathering.old.recorder before here
-        → ReadsOn result before here (buffer.old.items ++ piece.now) gathering.new
+) -> Result<(), SessionFault>
+    ensures { (b : BeforeRead) → IsRest buffer.old.items
+        → Keeps gathering.old.recorder b.before b.here → gathering.old.counts.told ≡ b.told
+        → Reads gathering_view b result (buffer.old.items ++ piece.now) gathering.new tt
         buffer.new.items }
-    ensures told { (before here : List Message) → IsRest buffer.old.items
-        → Keeps gathering.old.recorder before here
-        → gathering.new.counts.told ≡ gathering.old.counts.told }
 {
     gathering.begin_read();
-    let mut nothing = ();
-    read_on(alloc, gathering, buffer, piece, &mut nothing)?;
-    Ok(())
+    read_on(alloc, gathering, buffer, piece, &mut ())
 }
 
 /// Takes what a read gave, and whether the clock told after it that the period is over.
@@ -112,5 +107,5 @@ pub fn take_read<F: FileSeries>(
     turn_if_over(is_over, gathering, files)?;
     let taken = gather(alloc, gathering, buffer, piece);
     write_gathered(gathering, files)?;
-    taken
+    Ok(taken?)
 }
