@@ -1,5 +1,5 @@
 -- All records of some sessions, by their texts and by their files.
-use Rattle.std.proofs.Common.{◌≡◌, ℕ, ◌+◌, List, [], ◌∷◌, ◌++◌, map, sum_by, refl, sym, ap, ap₂, subst, ◌∙◌, arith}
+use Rattle.std.proofs.Common.{◌≡◌, ℕ, ◌+◌, List, [], ◌∷◌, ◌++◌, sum_by, refl, sym, ap, ap₂, subst, ◌∙◌}
 use Rattle.std.specs.Prelude.{flat_map}
 use Rattle.std.specs.List.{AllZip}
 use Rattle.std.proofs.lemmas.List.Sums.{sum_by-append, sum_by-cons}
@@ -18,13 +18,13 @@ use Rattle.flow_table.specs.declared.table.Table.{Table}
 use Rattle.flow_table.specs.declared.tally.Tally.{Tally}
 use Rattle.flow_table.proofs.Bags.{table_bag}
 use Rattle.flow_merge.specs.Merging.{all_of, HasRowsOf}
-use Rattle.laws_recordings.specs.RecordedFiles.{all_files, records_of_each, AreSameFiles, IsRecordedIn}
+use Rattle.laws_recordings.specs.RecordedFiles.{all_files, records_of_each, IsRecordedIn, AreRecordedIn}
 
 -- the files of a session give the records of its text
 gives_records : (text : List ℕ) (files : List (List ℕ)) → IsRecordedIn text files → flat_map records_of files ≡ records_of text
 gives_records text files r =
-    let given = files_give (IsTold r.session) text r.finished r.first r.after r.start r.now r.holds r.begins r.none_before r.ends in
-    ap (λ (fs : List (List ℕ)). flat_map records_of fs) r.are ∙ given.1
+    let given = files_give (IsTold r.session) r.progress r.after r.start r.now r.holds r.seen r.none_before in
+    ap (λ (fs : List (List ℕ)). flat_map records_of fs) r.are ∙ given.records ∙ ap records_of (sym r.text_is)
 
 -- and those of all sessions the records of all texts
 give_all : (texts : List (List ℕ)) (recordings : List (List (List ℕ))) → AllZip IsRecordedIn texts recordings → flat_map records_of (all_files recordings) ≡ flat_map records_of texts
@@ -50,16 +50,13 @@ weighed weight (file ∷ files) =
     ∙ ap (λ (n : ℕ). sum_by weight (records_of file) + n) (weighed weight files)
     ∙ sym (sum_by-cons (weight_of weight) file files)
 
-pub same_records : (texts : List (List ℕ)) (recordings : List (List (List ℕ))) (files : List (List ℕ)) → AllZip IsRecordedIn texts recordings → AreSameFiles (all_files recordings) files
-    → IsSameBag (flat_map records_of files) (flat_map records_of texts)
-same_records texts recordings files all same weight =
-    weighed weight files ∙ sym (same (weight_of weight) (no_weight weight)) ∙ sym (weighed weight (all_files recordings))
-    ∙ ap (λ (rs : List DataRecord). sum_by weight rs) (give_all texts recordings all)
+pub same_records : (texts files : List (List ℕ)) → AreRecordedIn texts files → IsSameBag (flat_map records_of files) (flat_map records_of texts)
+same_records texts files r weight =
+    weighed weight files ∙ sym (r.same (weight_of weight) (no_weight weight)) ∙ sym (weighed weight (all_files r.recordings))
+    ∙ ap (λ (rs : List DataRecord). sum_by weight rs) (give_all texts r.recordings r.each)
 
-pub same_table : (plan : PlanValue) (table : Table) (texts : List (List ℕ)) (recordings : List (List (List ℕ))) (files : List (List ℕ)) → AllZip IsRecordedIn texts recordings
-    → AreSameFiles (all_files recordings) files → IsTable plan (flat_map records_of files) table → IsTable plan (flat_map records_of texts) table
-same_table plan table texts recordings files all same is =
-    table_bag plan (flat_map records_of files) (flat_map records_of texts) table (same_records texts recordings files all same) is
+pub same_table : (plan : PlanValue) (table : Table) (texts files : List (List ℕ)) → AreRecordedIn texts files → IsTable plan (flat_map records_of files) table → IsTable plan (flat_map records_of texts) table
+same_table plan table texts files r is = table_bag plan (flat_map records_of files) (flat_map records_of texts) table (same_records texts files r) is
 
 -- the records of all files are those of each group of them, one group after another
 all_of_each : (groups : List (List (List ℕ))) → all_of (records_of_each groups) ≡ flat_map records_of (all_files groups)
@@ -75,8 +72,8 @@ has_rows plan rs qs table same has =
     subst (λ (t : Tally). IsTable plan qs (record table { tally = t; missing = missing_of plan qs })) moved.tally
     (subst (λ (m : Missing). IsTable plan qs (record table { tally = tally_of plan rs; missing = m })) moved.missing moved)
 
-pub merged_table : (plan : PlanValue) (table : Table) (texts : List (List ℕ)) (recordings periods : List (List (List ℕ))) → AllZip IsRecordedIn texts recordings
-    → AreSameFiles (all_files recordings) (all_files periods) → HasRowsOf plan (all_of (records_of_each periods)) table → HasRowsOf plan (flat_map records_of texts) table
-merged_table plan table texts recordings periods all same has =
-    has_rows plan (flat_map records_of (all_files periods)) (flat_map records_of texts) table (same_records texts recordings (all_files periods) all same)
+pub merged_table : (plan : PlanValue) (table : Table) (texts : List (List ℕ)) (periods : List (List (List ℕ))) → AreRecordedIn texts (all_files periods) → HasRowsOf plan (all_of (records_of_each periods)) table
+    → HasRowsOf plan (flat_map records_of texts) table
+merged_table plan table texts periods r has =
+    has_rows plan (flat_map records_of (all_files periods)) (flat_map records_of texts) table (same_records texts (all_files periods) r)
     (subst (λ (rs : List DataRecord). HasRowsOf plan rs table) (all_of_each periods) has)

@@ -1,24 +1,28 @@
 -- The files of recorded sessions, as they are collected.
-use Rattle.std.specs.Prelude.{◌≡◌, ℕ, List, [], Some, map, flat_map, sum_by}
-use Rattle.ipfix_message.specs.Domains.{Message}
+use Rattle.std.specs.Prelude.{◌≡◌, ℕ, List, [], map, flat_map, sum_by}
+use Rattle.std.specs.List.{AllZip}
 use Rattle.ipfix_message.specs.declared.record.DataRecord.{DataRecord}
 use Rattle.ipfix_session.specs.Given.{records_of}
-use Rattle.recording_files.specs.Files.{Contents, FilesView, all_of}
-use Rattle.recording_files.specs.Sessions.{HoldsAll, IsTold}
+use Rattle.ipfix_session.specs.Sources.{SourceView}
+use Rattle.recording_files.specs.Files.{Contents, FilesView, AreSeen, all_of}
+use Rattle.recording_files.specs.Sessions.{Progress, HoldsAll, IsTold}
 use Rattle.recording_files.specs.declared.recorded_session.RecordedSession.{RecordedSession}
+use Rattle.flow_table.specs.Plans.{PlanValue}
+use Rattle.flow_table.specs.declared.table.Table.{Table}
+use Rattle.flow_merge.specs.Merging.{AddsAllUp}
+use Rattle.laws_merge.specs.Exports.{AreExportsOf}
 
 -- a text was recorded in these files, up to its end or its first fault: they are what a session's files hold
 pub record IsRecordedIn (text : List ℕ) (files : List (List ℕ)) : Type 0 where
   pub session : RecordedSession
-  pub finished : List (List Message)
-  pub first : FilesView
+  pub progress : Progress
+  pub text_is : text ≡ progress.text
   pub after : FilesView
-  pub holds : HoldsAll (IsTold session) text finished first after
+  pub holds : HoldsAll (IsTold session) progress after
   pub start : Contents
-  pub begins : first.contents ≡ Some start
-  pub none_before : start.finished ≡ []
   pub now : Contents
-  pub ends : after.contents ≡ Some now
+  pub seen : AreSeen progress.first after start now
+  pub none_before : start.finished ≡ []
   pub are : files ≡ all_of now
 
 -- the files of some sessions, or of some periods
@@ -29,6 +33,19 @@ all_files groups = flat_map (λ files. files) groups
 abbrev pub AreSameFiles : List (List ℕ) → List (List ℕ) → Type 0
 AreSameFiles files others = (weight : List ℕ → ℕ) → weight [] ≡ 0 → sum_by weight files ≡ sum_by weight others
 
+-- these are the files in which texts were recorded
+pub record AreRecordedIn (texts files : List (List ℕ)) : Type 0 where
+  pub recordings : List (List (List ℕ))
+  pub each : AllZip IsRecordedIn texts recordings
+  pub same : AreSameFiles (all_files recordings) files
+
 -- the records of each group of files
 abbrev pub records_of_each : List (List (List ℕ)) → List (List DataRecord)
 records_of_each groups = map (λ files. flat_map records_of files) groups
+
+-- a table of each period's files was exported, sources hold these exports, and this is the merged table of them all
+pub record IsMergedFrom {S : Type 0} (seen : S → SourceView) (plan : PlanValue) (periods : List (List (List ℕ))) (table : Table) : Type 0 where
+  pub limit : ℕ
+  pub sources : List S
+  pub exports : AreExportsOf seen plan sources (records_of_each periods)
+  pub adds_up : AddsAllUp seen limit plan sources table

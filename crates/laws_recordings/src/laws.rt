@@ -1,40 +1,30 @@
 //! Laws of recordings that are collected and merged.
 
 ghost use Rattle.std.specs.Prelude.{ℕ, List, flat_map};
-ghost use Rattle.std.specs.List.{AllZip};
 ghost use Rattle.ipfix_session.specs.Given.{records_of};
 ghost use Rattle.flow_table.specs.Bags.{IsSameBag};
 ghost use Rattle.flow_table.specs.Plans.{PlanValue};
 ghost use Rattle.flow_table.specs.Tables.{IsTable};
 ghost use Rattle.flow_table.specs.declared.table.Table.{Table};
-ghost use Rattle.flow_merge.specs.Merging.{AddsAllUp, HasRowsOf};
-ghost use Rattle.laws_merge.specs.Exports.{AreExportsOf};
-ghost use Rattle.laws_recordings.specs.RecordedFiles.{all_files, records_of_each, AreSameFiles, IsRecordedIn};
+ghost use Rattle.flow_merge.specs.Merging.{HasRowsOf};
+ghost use Rattle.laws_recordings.specs.RecordedFiles.{all_files, AreRecordedIn, IsMergedFrom};
 
 use ipfix_session::Source;
 
 /// The files in which sessions were recorded, in whatever order, give the records of the sessions' texts,
 /// each as often, and so they have the same table (RFC 7015, section 5).
 pub fn recordings_give_all_records()
-    ensures records { (texts : List (List ℕ)) (recordings : List (List (List ℕ)))
-        → (files : List (List ℕ)) → AllZip IsRecordedIn texts recordings
-        → AreSameFiles (all_files recordings) files
+    ensures records { (texts files : List (List ℕ)) → AreRecordedIn texts files
         → IsSameBag (flat_map records_of files) (flat_map records_of texts) }
-    ensures table { (plan : PlanValue) (table : Table) (texts : List (List ℕ))
-        → (recordings : List (List (List ℕ))) (files : List (List ℕ))
-        → AllZip IsRecordedIn texts recordings → AreSameFiles (all_files recordings) files
-        → IsTable plan (flat_map records_of files) table
+    ensures table { (plan : PlanValue) (table : Table) (texts files : List (List ℕ))
+        → AreRecordedIn texts files → IsTable plan (flat_map records_of files) table
         → IsTable plan (flat_map records_of texts) table }
 {}
 
 /// If a table is made of the files of each period, and its export is what a source holds, then the merged
 /// table of all sources is the aggregate of all records of the sessions' texts.
 pub fn periods_merge_to_all_records<S: Source>()
-    ensures { (limit : ℕ) (plan : PlanValue) (sources : List S) (table : Table)
-        → (texts : List (List ℕ)) (recordings periods : List (List (List ℕ)))
-        → AllZip IsRecordedIn texts recordings
-        → AreSameFiles (all_files recordings) (all_files periods)
-        → AreExportsOf S.seen plan sources (records_of_each periods)
-        → AddsAllUp S.seen limit plan sources table
-        → HasRowsOf plan (flat_map records_of texts) table }
+    ensures { (plan : PlanValue) (table : Table) (texts : List (List ℕ))
+        (periods : List (List (List ℕ))) → AreRecordedIn texts (all_files periods)
+        → IsMergedFrom S.seen plan periods table → HasRowsOf plan (flat_map records_of texts) table }
 {}

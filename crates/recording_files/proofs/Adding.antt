@@ -1,6 +1,6 @@
 -- The reports of files add up to that of their session.
 use Rattle.std.proofs.Common.{◌≡◌, ℕ, ◌+◌, ◌<◌, List, [], ◌∷◌, ◌++◌, length, map, refl, sym, ap, subst, ◌∙◌, append_assoc, arith}
-use Rattle.std.specs.Prelude.{◌-◌, ◌^◌, None, Option, Some, sum_by}
+use Rattle.std.specs.Prelude.{◌-◌, ◌^◌, None, Option, sum_by}
 use Rattle.std.proofs.lemmas.List.{append-nil, length-append}
 use Rattle.std.proofs.lemmas.List.Sums.{sum_by-cons, sum_by-append}
 use Rattle.ipfix_message.specs.Domains.{Message}
@@ -13,8 +13,8 @@ use Rattle.recording_files.specs.declared.recorded_session.RecordedSession.{Reco
 use Rattle.recording_files.specs.FileReports.{in_ledger, in_ledger_from, file_report, file_reports, AddsTo, AddUp}
 use Rattle.recording_files.specs.Recordings.{Part}
 use Rattle.recording_files.specs.Faithful.{all_given}
-use Rattle.recording_files.specs.Files.{Contents, FilesView}
-use Rattle.recording_files.specs.Sessions.{parts, HoldsSome, IsTold}
+use Rattle.recording_files.specs.Files.{Contents, FilesView, AreSeen}
+use Rattle.recording_files.specs.Sessions.{Progress, parts, HoldsSome, IsTold}
 use Rattle.recording_files.proofs.FileCounts.{in_ledger-grows}
 use Rattle.recording_files.proofs.Going.{whole, all_given-parts, reports-push}
 use Rattle.recording_files.proofs.FilesGive.{contents_are}
@@ -126,9 +126,8 @@ adds_up finished last r told =
     subst (λ (fs : List FileReport). AddUp fs r.report) (sym same) all
 
 -- the same of what files tell
-pub files_add_up : (text : List ℕ) (files : List (List Message)) (first after : FilesView) (start now : Contents) (r : RecordedSession) → HoldsSome (IsTold r) text files first after
-    → first.contents ≡ Some start → start.reports ≡ [] → after.contents ≡ Some now → AddUp (now.reports ++ r.last ∷ []) r.report
-files_add_up text files first after start now r h is none then =
-    let t = contents_are first.contents after.contents start now h.holds.finished h.holds.last [] is then h.holds.stands in
+pub files_add_up : (p : Progress) (after : FilesView) (start now : Contents) (r : RecordedSession) → HoldsSome (IsTold r) p after → AreSeen p.first after start now → start.reports ≡ [] → AddUp (now.reports ++ r.last ∷ []) r.report
+files_add_up p after start now r h seen none =
+    let t = contents_are p.first.contents after.contents start now h.holds.finished h.holds.last [] seen.at_first seen.at_last h.holds.stands in
     let reports : now.reports ≡ file_reports [] h.holds.finished = t.1 ∙ ap (λ (fs : List FileReport). fs ++ file_reports [] h.holds.finished) none in
     subst (λ (fs : List FileReport). AddUp (fs ++ r.last ∷ []) r.report) (sym reports) (adds_up h.holds.finished h.holds.last r h.tells)

@@ -15,7 +15,7 @@ use Rattle.recording_files.specs.declared.file_report.FileReport.{FileReport}
 use Rattle.recording_files.specs.declared.message_count.MessageCount.{MessageCount}
 use Rattle.recording_files.specs.FileReports.{file_report}
 use Rattle.recording_files.specs.Recorders.{Told, Counted, IsCountOf, AreCountsOf}
-use Rattle.recording_files.specs.Counting.{file_after}
+use Rattle.recording_files.specs.Counting.{file_after, CountsUpTo}
 use Rattle.recording_files.proofs.FileCounts.{report-push, report-none}
 
 -- ---- one more message
@@ -74,10 +74,6 @@ pub no_counts : (cs : List MessageCount) (ms : List Message) → cs ≡ [] → A
 no_counts [] [] e are = refl
 no_counts [] (m ∷ ms) e are = absurd are
 no_counts (c ∷ cs) ms e are = absurd cc
-
--- the first of them are counted
-abbrev pub CountsUpTo : Told → Told → List MessageCount → Type 0
-CountsUpTo old new cs = (before here given : List Message) → Counted old before here → AreCountsOf cs given → Counted new before (here ++ given)
 
 pub up_to-none : (c : Told) (cs : List MessageCount) → cs ≡ [] → CountsUpTo c c cs
 up_to-none c cs none = λ before here given counted are.

@@ -1,6 +1,6 @@
 -- What the files of a recorded session give.
 use Rattle.std.proofs.Common.{◌≡◌, ℕ, List, [], ◌∷◌, ◌++◌, refl, sym, ap, subst, ◌∙◌, append_assoc, map}
-use Rattle.std.specs.Prelude.{All, Option, Some, None, Result, Ok, true}
+use Rattle.std.specs.Prelude.{All, Option, Some, None, Result, true}
 use Rattle.std.specs.Option.{ForSome}
 use Rattle.std.specs.Io.KnownBytes.{Consumes}
 use Rattle.ipfix_session.specs.Sources.{SourceView}
@@ -16,16 +16,15 @@ use Rattle.ipfix_session.specs.Given.{Given, gives, records_in, records_of, stop
 use Rattle.ipfix_session.proofs.Giving.{records_in-append, records_of-prefix, gives_after-fault_stays}
 use Rattle.ipfix_session.specs.Drives.{IsDue}
 use Rattle.recording_files.specs.declared.record_fault.RecordFault.{RecordFault}
-use Rattle.recording_files.specs.declared.recorded_session.RecordedSession.{RecordedSession}
 use Rattle.recording_files.specs.FileReports.{file_reports}
 use Rattle.recording_files.specs.Recordings.{Part, Recorded}
-use Rattle.recording_files.specs.Faithful.{all_given, IsReadAlone}
-use Rattle.recording_files.specs.Files.{Contents, FilesView, all_of}
-use Rattle.recording_files.specs.Periods.{ClockView, octets_before, finished_by}
-use Rattle.recording_files.specs.Sessions.{file_octets, parts, Stands, IsCutOff, HoldsAll, HoldsCut, HoldsBy, IsTold, fault_of, RecordsSession}
+use Rattle.recording_files.specs.Faithful.{all_given, IsReadAlone, GiveRecordsOf, GiveFirstRecordsOf}
+use Rattle.recording_files.specs.Files.{Contents, FilesView, AreSeen, all_of}
+use Rattle.recording_files.specs.Periods.{ClockView, octets_read}
+use Rattle.recording_files.specs.Sessions.{Progress, progress_after, file_octets, parts, Stands, IsCutOff, HoldsAll, HoldsCut, HoldsBy, IsTold, fault_of, RecordsAll}
 use Rattle.recording_files.proofs.Growing.{writes-append}
 use Rattle.ipfix_session.proofs.MessagesTaken.{octets-append}
-use Rattle.recording_files.proofs.Going.{WritesPart, recorded-push, all_given-parts}
+use Rattle.recording_files.proofs.Going.{WritesPart, with_messages, recorded-push, all_given-parts}
 use Rattle.recording_files.proofs.Together.{is_faithful}
 
 pub all_clean : (ps : List Part) → All IsReadAlone ps → All (λ file. stop_of file ≡ Clean) (map file_octets ps)
@@ -45,19 +44,19 @@ pub contents_are : (first after : Option Contents) (none c : Contents) (finished
 contents_are first after none c finished last cut_off is now stands =
     subst (λ (o : Option Contents). Stands (Some none) o finished last cut_off) now (subst (λ (o : Option Contents). Stands o after finished last cut_off) is stands)
 
-pub files_give : (told : List Message → List Message → Type 0) (text : List ℕ) (files : List (List Message)) (first after : FilesView) (start c : Contents) → HoldsAll told text files first after → first.contents ≡ Some start → start.finished ≡ [] → after.contents ≡ Some c
-    → All (λ file. stop_of file ≡ Clean) (all_of c) × (flat_map records_of (all_of c) ≡ records_of text)
-files_give told text files first after start c h is none now =
+pub files_give : (told : List Message → List Message → Type 0) (p : Progress) (after : FilesView) (start c : Contents) → HoldsAll told p after → AreSeen p.first after start c → start.finished ≡ [] → GiveRecordsOf (all_of c) p.text
+files_give told p after start c h seen none =
     let ps = parts h.some.holds.finished h.some.holds.last in
     let read = (is_faithful ps h.some.holds.recorded).files in
-    let t = contents_are first.contents after.contents start c h.some.holds.finished h.some.holds.last [] is now h.some.holds.stands in
+    let t = contents_are p.first.contents after.contents start c h.some.holds.finished h.some.holds.last [] seen.at_first seen.at_last h.some.holds.stands in
     let are : all_of c ≡ map file_octets ps =
     ap (λ (w : List ℕ). c.finished ++ w ∷ []) (t.2 ∙ append-nil (file_octets h.some.holds.last))
     ∙ ap (λ (fs : List (List ℕ)). fs ++ file_octets h.some.holds.last ∷ []) (t.0 ∙ ap (λ (fs : List (List ℕ)). fs ++ map file_octets h.some.holds.finished) none)
-    ∙ sym (map-append file_octets h.some.holds.finished (h.some.holds.last ∷ [])) in (
-      subst (λ (fs : List (List ℕ)). All (λ file. stop_of file ≡ Clean) fs) (sym are) (all_clean ps read),
-      ap (λ (fs : List (List ℕ)). flat_map records_of fs) are ∙ all_records ps read ∙ ap records_in h.all,
-    )
+    ∙ sym (map-append file_octets h.some.holds.finished (h.some.holds.last ∷ [])) in
+    record {
+      stops = subst (λ (fs : List (List ℕ)). All (λ file. stop_of file ≡ Clean) fs) (sym are) (all_clean ps read);
+      records = ap (λ (fs : List (List ℕ)). flat_map records_of fs) are ∙ all_records ps read ∙ ap records_in h.all;
+    }
 
 -- ---- a file that was cut
 
@@ -108,12 +107,8 @@ recorded-last before (q ∷ ps) p r =
     let more = recorded-last (before ++ q.given) ps p r.1 in
     ((r.0, more.0), subst (λ (b : List Message). WritesPart b p) (append_assoc before q.given (all_given ps)) more.1)
 
--- the file as it was to be
-abbrev with_messages : Part → List (List ℕ) → List Message → List (List ℕ) → Part
-with_messages p messages given file = record { messages = p.messages ++ messages; given = p.given ++ given; file = p.file ++ file }
-
 kept_cut : (text : List ℕ) (finished : List Part) (last : Part) (cut_off : List ℕ) → Recorded [] (parts finished last) → IsCutOff text (all_given finished) last.given cut_off
-    → All (λ file. IsOpen (stop_of file)) (map file_octets finished ++ (file_octets last ++ cut_off) ∷ []) × IsPrefix (flat_map records_of (map file_octets finished ++ (file_octets last ++ cut_off) ∷ [])) (records_of text)
+    → GiveFirstRecordsOf (map file_octets finished ++ (file_octets last ++ cut_off) ∷ []) text
 kept_cut text finished last cut_off recorded c =
     let was = recorded-last [] finished last recorded in
     let q = with_messages last c.messages c.given c.file in
@@ -122,19 +117,21 @@ kept_cut text finished last cut_off recorded c =
     octets-append last.file c.file ∙ ap (λ (w : List ℕ). file_octets last ++ w) c.first.1 ∙ sym (append_assoc (file_octets last) cut_off c.first.0) in
     let k = kept finished q (file_octets last ++ cut_off) c.first.0 (is_faithful (parts finished q) now).files octets in
     let given : IsPrefix (all_given (parts finished q)) (gives text).messages = subst (λ (ms : List Message). IsPrefix ms (gives text).messages) (sym (all_given-parts finished q)) c.next in
-    (k.0, prefix-trans (flat_map records_of (map file_octets finished ++ (file_octets last ++ cut_off) ∷ [])) (records_in (all_given (parts finished q))) (records_of text) k.1 (records-prefix (all_given (parts finished q)) (gives text).messages given))
+    record {
+      stops = k.0;
+      records = prefix-trans (flat_map records_of (map file_octets finished ++ (file_octets last ++ cut_off) ∷ [])) (records_in (all_given (parts finished q))) (records_of text) k.1
+          (records-prefix (all_given (parts finished q)) (gives text).messages given);
+    }
 
-pub files_keep : (told : List Message → List Message → Type 0) (text earlier : List ℕ) (files : List (List Message)) (first after : FilesView) (start c : Contents) → HoldsCut told text earlier files first after → first.contents ≡ Some start → start.finished ≡ [] → after.contents ≡ Some c
-    → All (λ file. IsOpen (stop_of file)) (all_of c) × IsPrefix (flat_map records_of (all_of c)) (records_of text)
-files_keep told text earlier files first after start c h is none now =
+pub files_keep : (told : List Message → List Message → Type 0) (p : Progress) (after : FilesView) (start c : Contents) → HoldsCut told p after → AreSeen p.first after start c → start.finished ≡ [] → GiveFirstRecordsOf (all_of c) p.text
+files_keep told p after start c h seen none =
     let finished = h.holds.finished in
     let last = h.holds.last in
-    let t = contents_are first.contents after.contents start c finished last h.cut_off is now h.holds.stands in
+    let t = contents_are p.first.contents after.contents start c finished last h.cut_off seen.at_first seen.at_last h.holds.stands in
     let are : all_of c ≡ map file_octets finished ++ (file_octets last ++ h.cut_off) ∷ [] =
     ap (λ (w : List ℕ). c.finished ++ w ∷ []) t.2
     ∙ ap (λ (fs : List (List ℕ)). fs ++ (file_octets last ++ h.cut_off) ∷ []) (t.0 ∙ ap (λ (fs : List (List ℕ)). fs ++ map file_octets finished) none) in
-    subst (λ (fs : List (List ℕ)). All (λ file. IsOpen (stop_of file)) fs × IsPrefix (flat_map records_of fs) (records_of text)) (sym are)
-    (kept_cut text finished last h.cut_off h.holds.recorded h.next)
+    subst (λ (fs : List (List ℕ)). GiveFirstRecordsOf fs p.text) (sym are) (kept_cut p.text finished last h.cut_off h.holds.recorded h.next)
 
 -- ---- to the end of the source
 
@@ -144,15 +141,12 @@ consumed_all before (Some left) whole gave is some end =
     let all : whole ≡ gave ++ left = subst (λ b. Consumes b (Some left) gave) is some in
     sym (all ∙ ap (λ (w : List ℕ). gave ++ w) (end left refl) ∙ append-nil gave)
 
-pub recorded_all : {S F C : Type 0} (seen : S → SourceView) (view : F → FilesView) (asked : C → ClockView) (limit : ℕ) (before after : S) (first last : F) (clock then : C) (text : List ℕ) (start c : Contents) (s : RecordedSession)
-    → ((seen after).ended ≡ true → ForSome (seen after).text (λ xs. xs ≡ []))
-    → RecordsSession seen view asked limit before after first last clock then s → s.ended ≡ Ok tt → (seen before).text ≡ Some text
-    → (view first).contents ≡ Some start → start.finished ≡ [] → (view last).contents ≡ Some c
-    → (stop_of text ≡ Clean) × All (λ file. stop_of file ≡ Clean) (all_of c) × (flat_map records_of (all_of c) ≡ records_of text)
-recorded_all seen view asked limit before after first last clock then text start c s at_end r ok is is_first none now =
-    let due : IsDue None limit r.gave (seen before) (seen after) = subst (λ (a : Result (Unit {0}) RecordFault). IsDue (fault_of a) limit r.gave (seen before) (seen after)) ok r.given.fault_is_due in
-    let holds : HoldsAll (IsTold s) r.gave (finished_by r.reads) (view first) (view last) =
-    subst (λ (a : Result (Unit {0}) RecordFault). HoldsBy (IsTold s) a r.gave (octets_before r.reads) (finished_by r.reads) (view first) (view last)) ok r.holds in
-    let all : r.gave ≡ text = consumed_all (seen before).text (seen after).text text r.gave is r.given.octets (at_end due.1) in
-    let f = files_give (IsTold s) r.gave (finished_by r.reads) (view first) (view last) start c holds is_first none now in
-    (ap stop_of (sym all) ∙ due.0, f.0, f.1 ∙ ap records_of all)
+pub recorded_all : {S F C : Type 0} (seen : S → SourceView) (view : F → FilesView) (asked : C → ClockView) (ended_is_end : (s : S) → (seen s).ended ≡ true → ForSome (seen s).text (λ xs. xs ≡ []))
+    (text : List ℕ) (first last : F) (start c : Contents) → RecordsAll seen view asked text first last → AreSeen (view first) (view last) start c → start.finished ≡ [] → (stop_of text ≡ Clean) × GiveRecordsOf (all_of c) text
+recorded_all seen view asked ended_is_end text first last start c r is none =
+    let gave = octets_read r.records.reads in
+    let p = progress_after (view first) r.records.reads in
+    let due : IsDue None r.limit gave (seen r.before) (seen r.after) = subst (λ (a : Result (Unit {0}) RecordFault). IsDue (fault_of a) r.limit gave (seen r.before) (seen r.after)) r.no_fault r.records.given.fault_is_due in
+    let holds : HoldsAll (IsTold r.session) p (view last) = subst (λ (a : Result (Unit {0}) RecordFault). HoldsBy (IsTold r.session) a p (view last)) r.no_fault r.records.holds in
+    let all : gave ≡ text = consumed_all (seen r.before).text (seen r.after).text text gave r.text_is r.records.given.octets (ended_is_end r.after due.1) in
+    (ap stop_of (sym all) ∙ due.0, subst (GiveRecordsOf (all_of c)) all (files_give (IsTold r.session) p (view last) start c holds is none))

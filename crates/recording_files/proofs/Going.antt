@@ -10,35 +10,33 @@ use Rattle.std.proofs.lemmas.List.Folds.{flat_map-map}
 use Rattle.ipfix_wire.specs.InTurn.{Parts}
 use Rattle.ipfix_wire.proofs.Parts.{parts_of-none}
 use Rattle.ipfix_wire.proofs.Streams.{parts_of-append}
-use Rattle.ipfix_message.specs.Domains.{History, Message}
+use Rattle.ipfix_message.specs.Domains.{Message}
 use Rattle.ipfix_message.specs.declared.fault.MessageFault.{MessageFault}
 use Rattle.ipfix_message.specs.declared.fault.MessageFault.TheVariants.{OutOfMemory}
-use Rattle.ipfix_session.specs.declared.stop.Stop.{Stop}
-use Rattle.ipfix_session.specs.declared.stop.Stop.TheVariants.{Fault}
+use Rattle.ipfix_session.specs.declared.stop.Stop.TheVariants.{Clean, Fault}
 use Rattle.ipfix_session.specs.MessageStream.{next_message, cut}
 use Rattle.ipfix_session.specs.Given.{Given, gives, gives_after, behind, known_after, stop_of, IsOpen, IsPrefix, octets_of}
-use Rattle.ipfix_session.specs.Buffers.{IsRest}
 use Rattle.ipfix_session.specs.Sources.{one_more}
 use Rattle.ipfix_session.specs.MessageSinks.{IsAtRest, TookFirst, TookUpTo, Stops}
-use Rattle.ipfix_session.proofs.Chains.{known-append}
 use Rattle.ipfix_session.proofs.Cut.{messages_shrink, messages_stable}
-use Rattle.ipfix_session.proofs.Giving.{gives_after-stop, behind-behind, gives_after-open}
-use Rattle.ipfix_session.proofs.Reaching.{stops_there}
+use Rattle.ipfix_session.proofs.Giving.{gives_after-stop, gives_after-open}
+use Rattle.ipfix_session.proofs.Texts.{nothing_follows}
+use Rattle.ipfix_session.proofs.MessagesTaken.{octets-append, took_first}
 use Rattle.recording_files.specs.declared.record_fault.RecordFault.{RecordFault}
 use Rattle.recording_files.specs.declared.record_fault.RecordFault.TheVariants.{Message as OfMessage, Truncated, ReadFailed, TooManyReads, NotWritten}
 use Rattle.recording_files.specs.declared.file_report.FileReport.{FileReport}
-use Rattle.recording_files.specs.FileReports.{file_report, file_reports}
 use Rattle.recording_files.specs.declared.gathering.Gathering.{Gathering}
-use Rattle.recording_files.specs.Gathering.{BeforeRead, gathering_view}
+use Rattle.recording_files.specs.FileReports.{file_report, file_reports}
+use Rattle.recording_files.specs.Gathering.{BeforeRead, IsFresh, gathering_view}
 use Rattle.recording_files.specs.Recordings.{Part, Recorded, Writes}
-use Rattle.recording_files.specs.Recorders.{State, Keeps, Told, Counted, IsFresh}
+use Rattle.recording_files.specs.Recorders.{State, Keeps, Told, Counted}
+use Rattle.recording_files.specs.Counting.{CountsUpTo}
 use Rattle.recording_files.specs.Faithful.{all_messages, all_given}
 use Rattle.recording_files.specs.Files.{Contents, grown, turned, FilesView, with_more, with_next, failing, IsEmpty}
 use Rattle.recording_files.specs.Periods.{unfinished_in, with_file, finished_at}
-use Rattle.recording_files.specs.Sessions.{HasMessage, file_octets, parts, files_of, Stands, IsCutOff, Holds, HoldsSome, HoldsEarlier, HoldsAll, HoldsCut, fault_of}
-use Rattle.recording_files.specs.Between.{IsBetween, StopsRecording}
+use Rattle.recording_files.specs.Sessions.{Progress, HasMessage, file_octets, parts, files_of, Stands, IsCutOff, Holds, HoldsSome, HoldsEarlier, HoldsAll, HoldsCut, fault_of}
+use Rattle.recording_files.specs.Between.{HasRecorded, StopsRecording, turned_if, with_read}
 use Rattle.recording_files.proofs.Growing.{writes-append}
-use Rattle.ipfix_session.proofs.MessagesTaken.{octets-append, took_first}
 
 -- ---- parts, one after another
 
@@ -109,150 +107,15 @@ stands_turned first v after finished last report is reported stands = subst (λ 
       refl,
     )
 
-abbrev pub holds_at : (text : List ℕ) (files : List (List Message)) (first v after : FilesView) (s : State) (c : Told) (left cut_off : List ℕ) (b : IsBetween text files first v s c left) → Stands first.contents after.contents b.finished b.last cut_off → Holds text first after cut_off
-holds_at text files first v after s c left cut_off b stands = record {
-  finished = b.finished;
-  last = b.last;
-  recorded = recorded-push [] b.finished b.last b.earlier b.writes;
-  some = b.some;
-  stands = stands;
-  left = left;
-  octets = b.octets ∙ ap (λ (ms : List (List ℕ)). octets_of ms ++ left) (sym (all_messages-parts b.finished b.last));
-  given = (
-    (gives_after (known_after [] (whole b.finished b.last)) left).messages,
-    ap (λ (g : Given). g.messages) b.is ∙ ap (λ (ms : List Message). ms ++ (gives_after (known_after [] (whole b.finished b.last)) left).messages) (sym (all_given-parts b.finished b.last)),
-  );
-}
+-- ---- between two reads
 
-abbrev pub holds_of : (text : List ℕ) (files : List (List Message)) (first v : FilesView) (s : State) (c : Told) (left : List ℕ) → IsBetween text files first v s c left → Holds text first v []
-holds_of text files first v s c left b = holds_at text files first v v s c left [] b b.stands
-
-abbrev pub out_of_memory : (text : List ℕ) (files : List (List Message)) (first v : FilesView) (s : State) (c : Told) (left : List ℕ) → IsBetween text files first v s c left → HoldsSome (Counted c) text files first v
-out_of_memory text files first v s c left b = record { holds = holds_of text files first v s c left b; finished = b.are; not_failed = b.not_failed; tells = b.counted }
-
--- the text stops after the messages that stand there
-holds_all : (text : List ℕ) (files : List (List Message)) (first v : FilesView) (s : State) (c : Told) (left : List ℕ) (stop : Stop) (b : IsBetween text files first v s c left) → gives text ≡ record { messages = whole b.finished b.last; stop = stop }
-    → HoldsAll (Counted c) text files first v
-holds_all text files first v s c left stop b all = record {
-  some = out_of_memory text files first v s c left b;
-  all = all_given-parts b.finished b.last ∙ sym (ap (λ (g : Given). g.messages) all);
-}
-
--- ---- pieces of a text
-
-pub between_first : (v : FilesView) (s : State) (c : Told) → IsFresh s c → IsEmpty v.contents → IsBetween [] [] v v s c []
-between_first v s c fresh none = record {
-  finished = [];
-  last = empty_part;
-  are = refl;
-  earlier = tt;
-  writes = refl;
-  some = All-nil HasMessage;
-  keeps = fresh.keeps;
-  counted = fresh.counted;
-  stands = stands_first v.contents none;
-  not_failed = refl;
-  octets = refl;
-  is = refl;
-  rest = refl;
-}
-
-all_there : (text : List ℕ) (files : List (List Message)) (first v : FilesView) (s : State) (c : Told) (left : List ℕ) (b : IsBetween text files first v s c left) (r : IsRest left) → gives text ≡ record { messages = whole b.finished b.last; stop = r.stop }
-all_there text files first v s c left b r = stops_there text left (whole b.finished b.last) r.stop b.is (gives_after-stop (known_after [] (whole b.finished b.last)) left r.stop r.none)
-
-pub stop_is : (text : List ℕ) (files : List (List Message)) (first v : FilesView) (s : State) (c : Told) (left : List ℕ) → IsBetween text files first v s c left → (r : IsRest left) → stop_of text ≡ r.stop
-stop_is text files first v s c left b r = ap (λ (g : Given). g.stop) (all_there text files first v s c left b r)
-
-pub open_yet : (text : List ℕ) (files : List (List Message)) (first v : FilesView) (s : State) (c : Told) (left : List ℕ) → IsBetween text files first v s c left → IsRest left → IsOpen (stop_of text)
-open_yet text files first v s c left b r = subst IsOpen (sym (stop_is text files first v s c left b r)) r.is_open
-
-pub all_held : (text : List ℕ) (files : List (List Message)) (first v : FilesView) (s : State) (c : Told) (left : List ℕ) → IsBetween text files first v s c left → IsRest left → HoldsAll (Counted c) text files first v
-all_held text files first v s c left b r = holds_all text files first v s c left r.stop b (all_there text files first v s c left b r)
-
--- all messages of the text stand there
-held_there : (text : List ℕ) (files : List (List Message)) (first v : FilesView) (s : State) (c : Told) (left : List ℕ) (b : IsBetween text files first v s c left) → IsRest left → all_given (parts b.finished b.last) ≡ (gives text).messages
-held_there text files first v s c left b r = all_given-parts b.finished b.last ∙ sym (ap (λ (g : Given). g.messages) (all_there text files first v s c left b r))
-
--- memory ran out where all of them stand
-pub out_behind : (text : List ℕ) (files : List (List Message)) (first v : FilesView) (s : State) (c : Told) (left : List ℕ) → IsBetween text files first v s c left → IsRest left → HoldsEarlier (Counted c) text text files first v
-out_behind text files first v s c left b r =
-    record { some = out_of_memory text files first v s c left b; at_least = ([], held_there text files first v s c left b r ∙ sym (append-nil (gives text).messages)) }
-
--- the text goes on
-pub between_more : (text : List ℕ) (files : List (List Message)) (first v : FilesView) (s : State) (c : Told) (left piece : List ℕ) → IsBetween text files first v s c left → IsRest left → IsBetween (text ++ piece) files first v s c (left ++ piece)
-between_more text files first v s c left piece b r =
-    let w = whole b.finished b.last in
-    let all = all_there text files first v s c left b r in
-    let left_is : (cut text).rest ≡ left = b.rest ∙ ap (λ (p : Parts (List ℕ)). p.rest) (parts_of-none next_message left r.stop r.none) in
-    record {
-      finished = b.finished;
-      last = b.last;
-      are = b.are;
-      earlier = b.earlier;
-      writes = b.writes;
-      some = b.some;
-      keeps = b.keeps;
-      counted = b.counted;
-      stands = b.stands;
-      not_failed = b.not_failed;
-      octets = ap (λ (x : List ℕ). x ++ piece) b.octets ∙ append_assoc (octets_of (all_messages b.finished ++ b.last.messages)) left piece;
-      is = gives_after-open [] text piece (open_yet text files first v s c left b r)
-          ∙ ap (λ (g : Given). behind g.messages (gives_after (known_after [] g.messages) ((cut text).rest ++ piece))) all
-          ∙ ap (λ (x : List ℕ). behind w (gives_after (known_after [] w) (x ++ piece))) left_is;
-      rest = ap (λ (p : Parts (List ℕ)). p.rest) (parts_of-append next_message messages_shrink messages_stable (length text) text piece (omega arith)) ∙ ap (λ (x : List ℕ). (cut (x ++ piece)).rest) left_is;
-    }
-
--- ---- the next file
-
--- what stands in no finished file is in the last
-unfinished_is : (text : List ℕ) (files : List (List Message)) (first v : FilesView) (s : State) (c : Told) (left : List ℕ) (b : IsBetween text files first v s c left) → IsRest left → unfinished_in text files ≡ b.last.given
-unfinished_is text files first v s c left b r =
-    let all : (gives text).messages ≡ whole b.finished b.last = ap (λ (g : Given). g.messages) (all_there text files first v s c left b r) in
-    let same : flat_map (λ (file : List Message). file) files ≡ all_given b.finished =
-    ap (flat_map (λ (file : List Message). file)) (sym b.are) ∙ flat_map-map (λ (file : List Message). file) (λ (p : Part). p.given) b.finished in
-    ap (λ (ms : List Message). drop (length ms) (gives text).messages) same
-    ∙ ap (drop (length (all_given b.finished))) all
-    ∙ drop_at (all_given b.finished) b.last.given (length (all_given b.finished)) refl
+-- a file with more messages
+abbrev pub with_messages : Part → List (List ℕ) → List Message → List (List ℕ) → Part
+with_messages p messages given file = record { messages = p.messages ++ messages; given = p.given ++ given; file = p.file ++ file }
 
 with_some : (files : List (List Message)) (ms : List Message) → ms ≢ [] → with_file files ms ≡ files ++ ms ∷ []
 with_some files [] some = absurd (some refl)
 with_some files (m ∷ ms) some = refl
-
-turned_are : (text : List ℕ) (files : List (List Message)) (first v : FilesView) (s : State) (c : Told) (left : List ℕ) (b : IsBetween text files first v s c left) → IsRest left → HasMessage b.last
-    → files_of (parts b.finished b.last) ≡ finished_at true text files
-turned_are text files first v s c left b r has_one =
-    map-append (λ (p : Part). p.given) b.finished (b.last ∷ [])
-    ∙ ap (λ (fs : List (List Message)). fs ++ b.last.given ∷ []) b.are
-    ∙ sym (with_some files b.last.given has_one)
-    ∙ ap (with_file files) (sym (unfinished_is text files first v s c left b r))
-
--- a file without a message goes on
-pub between_unbegun : (text : List ℕ) (files : List (List Message)) (first v : FilesView) (s : State) (c : Told) (left : List ℕ) (b : IsBetween text files first v s c left) → IsRest left → b.last.given ≡ []
-    → IsBetween text (finished_at true text files) first v s c left
-between_unbegun text files first v s c left b r none =
-    let same : finished_at true text files ≡ files = ap (with_file files) (unfinished_is text files first v s c left b r ∙ none) in
-    subst (λ (fs : List (List Message)). IsBetween text fs first v s c left) (sym same) b
-
-pub between_turned : (text : List ℕ) (files : List (List Message)) (first v after : FilesView) (s t : State) (c d : Told) (left : List ℕ) (b : IsBetween text files first v s c left) → IsRest left → after ≡ with_next v c.file
-    → Keeps t (whole b.finished b.last) [] → Counted d (whole b.finished b.last) [] → HasMessage b.last → IsBetween text (finished_at true text files) first after t d left
-between_turned text files first v after s t c d left b r next keeps counted has_one =
-    let given : whole b.finished b.last ≡ whole (parts b.finished b.last) empty_part = sym (append-nil (all_given (parts b.finished b.last)) ∙ all_given-parts b.finished b.last) in
-    let messages : all_messages b.finished ++ b.last.messages ≡ all_messages (parts b.finished b.last) ++ [] = sym (append-nil (all_messages (parts b.finished b.last)) ∙ all_messages-parts b.finished b.last) in
-    record {
-      finished = parts b.finished b.last;
-      last = empty_part;
-      are = turned_are text files first v s c left b r has_one;
-      earlier = recorded-push [] b.finished b.last b.earlier b.writes;
-      writes = refl;
-      some = All-push HasMessage b.finished b.last b.some has_one;
-      keeps = subst (λ (ms : List Message). Keeps t ms []) (sym (all_given-parts b.finished b.last)) keeps;
-      counted = subst (λ (ms : List Message). Counted d ms []) (sym (all_given-parts b.finished b.last)) counted;
-      stands = stands_turned first.contents v.contents after.contents b.finished b.last c.file (ap (λ (u : FilesView). u.contents) next) b.counted.file b.stands;
-      not_failed = ap (λ (u : FilesView). u.failed) next ∙ b.not_failed;
-      octets = b.octets ∙ ap (λ (ms : List (List ℕ)). octets_of ms ++ left) messages;
-      is = subst (λ (ms : List Message). gives text ≡ behind ms (gives_after (known_after [] ms) left)) given b.is;
-      rest = b.rest;
-    }
 
 -- nothing was to stand next
 none_next : (text : List ℕ) (before here : List Message) → IsPrefix (before ++ here) (gives text).messages → IsCutOff text before here []
@@ -264,47 +127,6 @@ none_next text before here given = record {
   next = subst (λ (ms : List Message). IsPrefix (before ++ ms) (gives text).messages) (sym (append-nil here)) given;
   first = ([], refl);
 }
-
--- a file was not finished, or it was and no other came
-pub ends_turning : (text piece : List ℕ) (files : List (List Message)) (first v after : FilesView) (s : State) (c : Told) (left : List ℕ) (b : IsBetween text files first v s c left) → IsRest left
-    → (after ≡ failing v) ⊎ (after ≡ failing (with_next v c.file)) → HasMessage b.last → HoldsCut (Counted c) (text ++ piece) text (finished_at true text files) first after
-unfolding between_more
-ends_turning text piece files first v after s c left b r (inl same) has_one =
-    let more = between_more text files first v s c left piece b r in
-    let holds = holds_at (text ++ piece) files first v after s c (left ++ piece) [] more (subst (λ (o : Option Contents). Stands first.contents o b.finished b.last []) (sym (ap (λ (u : FilesView). u.contents) same)) b.stands) in
-    record {
-      cut_off = [];
-      holds = holds;
-      all = held_there text files first v s c left b r;
-      next = none_next (text ++ piece) (all_given b.finished) b.last.given (subst (λ (ms : List Message). IsPrefix ms (gives (text ++ piece)).messages) (all_given-parts b.finished b.last) holds.given);
-      finished = inr (turned_are text files first v s c left b r has_one);
-      failed = ap (λ (u : FilesView). u.failed) same ∙ ap one_more b.not_failed;
-      tells = inl b.counted;
-    }
-ends_turning text piece files first v after s c left b r (inr next) has_one =
-    let given : all_given (parts (parts b.finished b.last) empty_part) ≡ all_given (parts b.finished b.last) = all_given-parts (parts b.finished b.last) empty_part ∙ append-nil (all_given (parts b.finished b.last)) in
-    let messages : all_messages (parts (parts b.finished b.last) empty_part) ≡ all_messages (parts b.finished b.last) = all_messages-parts (parts b.finished b.last) empty_part ∙ append-nil (all_messages (parts b.finished b.last)) in
-    let old = holds_of (text ++ piece) files first v s c (left ++ piece) (between_more text files first v s c left piece b r) in
-    record {
-      cut_off = [];
-      holds = record {
-        finished = parts b.finished b.last;
-        last = empty_part;
-        recorded = recorded-push [] (parts b.finished b.last) empty_part old.recorded refl;
-        some = All-push HasMessage b.finished b.last b.some has_one;
-        stands = stands_turned first.contents v.contents after.contents b.finished b.last c.file (ap (λ (u : FilesView). u.contents) next) b.counted.file b.stands;
-        left = left ++ piece;
-        octets = old.octets ∙ ap (λ (ms : List (List ℕ)). octets_of ms ++ (left ++ piece)) (sym messages);
-        given = (old.given.0, old.given.1 ∙ ap (λ (ms : List Message). ms ++ old.given.0) (sym given));
-      };
-      all = given ∙ held_there text files first v s c left b r;
-      next = none_next (text ++ piece) (all_given (parts b.finished b.last)) [] (old.given.0, old.given.1 ∙ ap (λ (ms : List Message). ms ++ old.given.0) (sym (append-nil (all_given (parts b.finished b.last)))));
-      finished = inl (turned_are text files first v s c left b r has_one);
-      failed = ap (λ (u : FilesView). u.failed) next ∙ ap one_more b.not_failed;
-      tells = inr (record { earlier = b.finished; part = b.last; are = refl; none = refl; tells = b.counted });
-    }
-
--- ---- what was gathered is written
 
 -- nothing is appended
 pub with_more-none : (v : FilesView) (octets : List ℕ) → octets ≡ [] → v ≡ with_more v octets
@@ -320,136 +142,291 @@ with_more-none v octets none = ap (λ (o : Option Contents). seen_as v o) (sym (
         some : Contents → Option Contents
         some x = Some x
 
-module _ (text piece : List ℕ) (files : List (List Message)) (first v : FilesView) (s : State) (c : Told) (left : List ℕ) (b : IsBetween text files first v s c left) (r : IsRest left) (g : Gathering) where
-  abbrev before_read : BeforeRead
-  before_read = record { before = all_given b.finished; here = b.last.given; told = c }
+pub nothing_recorded : (v : FilesView) (g : Gathering) → IsFresh g → IsEmpty v.contents → HasRecorded (record { text = []; earlier = []; finished = []; first = v }) v g []
+nothing_recorded v g fresh none = record {
+  finished = [];
+  last = empty_part;
+  are = refl;
+  earlier = tt;
+  writes = refl;
+  some = All-nil HasMessage;
+  keeps = fresh.keeps;
+  counted = fresh.counted;
+  stands = stands_first v.contents none;
+  not_failed = refl;
+  octets = refl;
+  is_rest = record { stop = Clean; none = nothing_follows; is_open = tt };
+  is = gives_after-stop [] [] Clean nothing_follows;
+  rest = ap (λ (q : Parts (List ℕ)). q.rest) (parts_of-none next_message [] Clean nothing_follows);
+}
 
-  abbrev Gathered : Type 0
-  Gathered = TookFirst gathering_view before_read (left ++ piece) g tt
+module _ {p : Progress} {v : FilesView} {g : Gathering} {left : List ℕ} (b : HasRecorded p v g left) where
+  abbrev before : List Message
+  before = all_given b.finished
 
-  -- the file with it
-  abbrev grown_part : Gathered → Part
-  grown_part t = record { messages = b.last.messages ++ t.messages; given = b.last.given ++ t.given; file = b.last.file ++ t.took.file }
+  abbrev messages : List (List ℕ)
+  messages = all_messages b.finished ++ b.last.messages
 
-  grown_writes : (t : Gathered) → WritesPart (all_given b.finished) (grown_part t)
-  grown_writes t = writes-append (all_given b.finished) [] b.last.messages t.messages b.last.given t.given b.last.file t.took.file b.writes t.took.writes
+  abbrev given : List Message
+  given = whole b.finished b.last
 
-  grown_octets : (t : Gathered) → file_octets (grown_part t) ≡ file_octets b.last ++ g.out.items
-  grown_octets t = octets-append b.last.file t.took.file ∙ ap (λ (w : List ℕ). file_octets b.last ++ w) (sym t.took.out_is)
+  all_there : (gives p.text).messages ≡ given
+  all_there = ap (λ (x : Given). x.messages) b.is
 
-  -- its messages are the next octets of the text
-  grown_text : (t : Gathered) → text ++ piece ≡ octets_of (all_messages b.finished ++ (b.last.messages ++ t.messages)) ++ t.left
-  unfolding between_more
-  grown_text t =
-      let old = all_messages b.finished ++ b.last.messages in
-      (between_more text files first v s c left piece b r).octets
-      ∙ ap (λ (w : List ℕ). octets_of old ++ w) t.octets ∙ sym (append_assoc (octets_of old) (octets_of t.messages) t.left)
-      ∙ ap (λ (w : List ℕ). w ++ t.left) (sym (octets-append old t.messages)) ∙ ap (λ (ms : List (List ℕ)). octets_of ms ++ t.left) (append_assoc (all_messages b.finished) b.last.messages t.messages)
+  held_there : all_given (parts b.finished b.last) ≡ (gives p.text).messages
+  held_there = all_given-parts b.finished b.last ∙ sym all_there
 
-  -- and give the next of its messages
-  grown_given : (t : Gathered) → (gives (text ++ piece)).messages ≡ whole b.finished (grown_part t) ++ t.next.0
-  unfolding between_more
-  grown_given t =
-      let w = whole b.finished b.last in
-      ap (λ (g : Given). g.messages) (between_more text files first v s c left piece b r).is ∙ ap (λ (ms : List Message). w ++ ms) t.next.1 ∙ sym (append_assoc w t.given t.next.0)
-      ∙ ap (λ (ms : List Message). ms ++ t.next.0) (append_assoc (all_given b.finished) b.last.given t.given)
+  pub stop_is : stop_of p.text ≡ b.is_rest.stop
+  stop_is = ap (λ (x : Given). x.stop) b.is
 
-  -- the first octets of it may stand there
-  pub read_cut : (after : FilesView) (front : List ℕ) → Gathered → IsPrefix front g.out.items → after ≡ failing (with_more v front) → HoldsCut (Counted c) (text ++ piece) text files first after
-  unfolding between_more
-  read_cut after front t p is =
-      let more = between_more text files first v s c left piece b r in
-      record {
-        cut_off = front;
-        holds = holds_at (text ++ piece) files first v after s c (left ++ piece) front more (stands_cut first.contents v.contents after.contents b.finished b.last front (ap (λ (u : FilesView). u.contents) is) b.stands);
-        all = held_there text files first v s c left b r;
-        next = record {
-          messages = t.messages;
-          given = t.given;
-          file = t.took.file;
-          writes = t.took.writes;
-          next = (t.next.0, grown_given t);
-          first = (p.0, sym t.took.out_is ∙ p.1);
-        };
-        finished = inl b.are;
-        failed = ap (λ (u : FilesView). u.failed) is ∙ ap one_more b.not_failed;
-        tells = inl b.counted;
-      }
+  pub open_yet : IsOpen (stop_of p.text)
+  open_yet = subst IsOpen (sym stop_is) b.is_rest.is_open
 
-  module _ (after : FilesView) (is : after ≡ with_more v g.out.items) (d : Told) (counts : (t : Gathered) → Counted d (all_given b.finished) (b.last.given ++ t.given)) where
-    grown_stands : (t : Gathered) → Stands first.contents after.contents b.finished (grown_part t) []
-    grown_stands t = stands_more first.contents v.contents after.contents b.finished b.last (grown_part t) g.out.items (ap (λ (u : FilesView). u.contents) is) (grown_octets t) b.stands
+  -- the files hold what a text begins with, with this as the last of them
+  abbrev holds_with : (last : Part) → WritesPart before last → (text more : List ℕ) (others : List Message) (after : FilesView) (cut_off : List ℕ) → text ≡ octets_of (all_messages b.finished ++ last.messages) ++ more
+      → (gives text).messages ≡ whole b.finished last ++ others → Stands p.first.contents after.contents b.finished last cut_off → Holds text p.first after cut_off
+  holds_with last writes text more others after cut_off octets is stands = record {
+    finished = b.finished;
+    last = last;
+    recorded = recorded-push [] b.finished last b.earlier writes;
+    some = b.some;
+    stands = stands;
+    left = more;
+    octets = octets ∙ ap (λ (ms : List (List ℕ)). octets_of ms ++ more) (sym (all_messages-parts b.finished last));
+    given = (others, is ∙ ap (λ (ms : List Message). ms ++ others) (sym (all_given-parts b.finished last)));
+  }
 
-    pub read_on : (t : State) (rest : List ℕ) → t ≡ g.recorder → IsAtRest gathering_view before_read (left ++ piece) g tt rest → IsBetween (text ++ piece) files first after t d rest
-    unfolding between_more
-    read_on t rest same x =
-        let more = between_more text files first v s c left piece b r in
-        let took : Gathered = took_first gathering_view before_read (left ++ piece) g g tt tt rest x.between x.between.taken.took in
-        let w = whole b.finished b.last in
-        let on : gives (text ++ piece) ≡ behind (w ++ took.given) (gives_after (known_after (known_after [] w) took.given) rest) =
-        more.is ∙ ap (behind w) x.between.is ∙ behind-behind w took.given (gives_after (known_after (known_after [] w) took.given) rest) in
+  abbrev some_held : HoldsSome (Counted g.counts.told) p v
+  some_held = record { holds = holds_with b.last b.writes p.text left [] v [] b.octets (all_there ∙ sym (append-nil given)) b.stands; finished = b.are; not_failed = b.not_failed; tells = b.counted }
+
+  pub all_held : HoldsAll (Counted g.counts.told) p v
+  all_held = record { some = some_held; all = held_there }
+
+  -- memory ran out where all of them stand
+  pub earlier_held : p.earlier ≡ p.text → HoldsEarlier (Counted g.counts.told) p v
+  earlier_held same = record { some = some_held; at_least = ([], held_there ∙ ap (λ (text : List ℕ). (gives text).messages) (sym same) ∙ sym (append-nil (gives p.earlier).messages)) }
+
+  -- ---- the text goes on
+
+  module _ (piece : List ℕ) where
+    more_octets : p.text ++ piece ≡ octets_of messages ++ (left ++ piece)
+    more_octets = ap (λ (x : List ℕ). x ++ piece) b.octets ∙ append_assoc (octets_of messages) left piece
+
+    more_is : gives (p.text ++ piece) ≡ behind given (gives_after (known_after [] given) (left ++ piece))
+    more_is =
+        gives_after-open [] p.text piece open_yet
+        ∙ ap (λ (x : Given). behind x.messages (gives_after (known_after [] x.messages) ((cut p.text).rest ++ piece))) b.is
+        ∙ ap (λ (x : List ℕ). behind given (gives_after (known_after [] given) (x ++ piece))) b.rest
+
+    more_rest : (cut (p.text ++ piece)).rest ≡ (cut (left ++ piece)).rest
+    more_rest =
+        ap (λ (q : Parts (List ℕ)). q.rest) (parts_of-append next_message messages_shrink messages_stable (length p.text) p.text piece (omega arith)) ∙ ap (λ (x : List ℕ). (cut (x ++ piece)).rest) b.rest
+
+    -- the first octets of what was to stand next may stand there
+    abbrev holds_yet : (after : FilesView) (cut_off : List ℕ) → Stands p.first.contents after.contents b.finished b.last cut_off → Holds (p.text ++ piece) p.first after cut_off
+    holds_yet after cut_off stands =
+        holds_with b.last b.writes (p.text ++ piece) (left ++ piece) (gives_after (known_after [] given) (left ++ piece)).messages after cut_off more_octets (ap (λ (x : Given). x.messages) more_is) stands
+
+  -- ---- the next file
+
+  -- what stands in no finished file is in the last
+  unfinished_is : unfinished_in p.text p.finished ≡ b.last.given
+  unfinished_is =
+      let same : flat_map (λ (file : List Message). file) p.finished ≡ before =
+      ap (flat_map (λ (file : List Message). file)) (sym b.are) ∙ flat_map-map (λ (file : List Message). file) (λ (q : Part). q.given) b.finished in
+      ap (λ (ms : List Message). drop (length ms) (gives p.text).messages) same ∙ ap (drop (length before)) all_there ∙ drop_at before b.last.given (length before) refl
+
+  turned_are : HasMessage b.last → files_of (parts b.finished b.last) ≡ finished_at true p.text p.finished
+  turned_are has_one =
+      map-append (λ (q : Part). q.given) b.finished (b.last ∷ [])
+      ∙ ap (λ (fs : List (List Message)). fs ++ b.last.given ∷ []) b.are
+      ∙ sym (with_some p.finished b.last.given has_one)
+      ∙ ap (with_file p.finished) (sym unfinished_is)
+
+  -- a file without a message goes on
+  pub unbegun : b.last.given ≡ [] → HasRecorded (turned_if true p) v g left
+  unbegun none =
+      let same : finished_at true p.text p.finished ≡ p.finished = ap (with_file p.finished) (unfinished_is ∙ none) in
+      subst (λ (fs : List (List Message)). HasRecorded (record p { finished = fs }) v g left) (sym same) b
+
+  module _ (has_one : HasMessage b.last) where
+    given_turned : given ≡ whole (parts b.finished b.last) empty_part
+    given_turned = sym (append-nil (all_given (parts b.finished b.last)) ∙ all_given-parts b.finished b.last)
+
+    turned_stands : (after : Option Contents) → after ≡ option_map (turned g.counts.told.file) v.contents → Stands p.first.contents after (parts b.finished b.last) empty_part []
+    turned_stands after is = stands_turned p.first.contents v.contents after b.finished b.last g.counts.told.file is b.counted.file b.stands
+
+    pub has_turned : (after : FilesView) (h : Gathering) → after ≡ with_next v g.counts.told.file → Keeps h.recorder given [] → Counted h.counts.told given [] → HasRecorded (turned_if true p) after h left
+    has_turned after h next keeps counted =
+        let none : all_messages (parts b.finished b.last) ++ [] ≡ messages = append-nil (all_messages (parts b.finished b.last)) ∙ all_messages-parts b.finished b.last in
         record {
-          finished = b.finished;
-          last = grown_part took;
-          are = b.are;
-          earlier = b.earlier;
-          writes = grown_writes took;
-          some = b.some;
-          keeps = subst (λ (u : State). Keeps u (all_given b.finished) (b.last.given ++ took.given)) (sym same) x.between.taken.is_ready;
-          counted = counts took;
-          stands = grown_stands took;
-          not_failed = ap (λ (u : FilesView). u.failed) is ∙ b.not_failed;
-          octets = grown_text took;
-          is = on ∙ ap (λ (ds : History). behind (w ++ took.given) (gives_after ds rest)) (sym (known-append [] w took.given))
-              ∙ ap (λ (ms : List Message). behind ms (gives_after (known_after [] ms) rest)) (append_assoc (all_given b.finished) b.last.given took.given);
-          rest = more.rest ∙ x.between.rest;
+          finished = parts b.finished b.last;
+          last = empty_part;
+          are = turned_are has_one;
+          earlier = recorded-push [] b.finished b.last b.earlier b.writes;
+          writes = refl;
+          some = All-push HasMessage b.finished b.last b.some has_one;
+          keeps = subst (λ (ms : List Message). Keeps h.recorder ms []) (sym (all_given-parts b.finished b.last)) keeps;
+          counted = subst (λ (ms : List Message). Counted h.counts.told ms []) (sym (all_given-parts b.finished b.last)) counted;
+          stands = turned_stands after.contents (ap (λ (u : FilesView). u.contents) next);
+          not_failed = ap (λ (u : FilesView). u.failed) next ∙ b.not_failed;
+          octets = b.octets ∙ ap (λ (ms : List (List ℕ)). octets_of ms ++ left) (sym none);
+          is_rest = b.is_rest;
+          is = b.is ∙ ap (λ (ms : List Message). record { messages = ms; stop = b.is_rest.stop }) given_turned;
+          rest = b.rest;
         }
 
-    -- it stands there, and no more is read
-    read_some : (t : Gathered) → HoldsSome (Counted d) (text ++ piece) files first after
-    read_some t = record {
-      holds = record {
-        finished = b.finished;
-        last = grown_part t;
-        recorded = recorded-push [] b.finished (grown_part t) b.earlier (grown_writes t);
-        some = b.some;
-        stands = grown_stands t;
-        left = t.left;
-        octets = grown_text t ∙ ap (λ (ms : List (List ℕ)). octets_of ms ++ t.left) (sym (all_messages-parts b.finished (grown_part t)));
-        given = (t.next.0, grown_given t ∙ ap (λ (ms : List Message). ms ++ t.next.0) (sym (all_given-parts b.finished (grown_part t))));
+    -- a file was not finished, or it was and no other came
+    pub ends_turning : (piece : List ℕ) (after : FilesView) → (after ≡ failing v) ⊎ (after ≡ failing (with_next v g.counts.told.file)) → HoldsCut (Counted g.counts.told) (with_read piece (turned_if true p)) after
+    ends_turning piece after (inl same) =
+        let holds = holds_yet piece after [] (subst (λ (o : Option Contents). Stands p.first.contents o b.finished b.last []) (sym (ap (λ (u : FilesView). u.contents) same)) b.stands) in
+        record {
+          cut_off = [];
+          holds = holds;
+          all = held_there;
+          next = none_next (p.text ++ piece) before b.last.given (subst (λ (ms : List Message). IsPrefix ms (gives (p.text ++ piece)).messages) (all_given-parts b.finished b.last) holds.given);
+          finished = inr (turned_are has_one);
+          failed = ap (λ (u : FilesView). u.failed) same ∙ ap one_more b.not_failed;
+          tells = inl b.counted;
+        }
+    ends_turning piece after (inr next) =
+        let same : all_given (parts (parts b.finished b.last) empty_part) ≡ all_given (parts b.finished b.last) = all_given-parts (parts b.finished b.last) empty_part ∙ append-nil (all_given (parts b.finished b.last)) in
+        let octets : all_messages (parts (parts b.finished b.last) empty_part) ≡ all_messages (parts b.finished b.last) = all_messages-parts (parts b.finished b.last) empty_part ∙ append-nil (all_messages (parts b.finished b.last)) in
+        let old = holds_yet piece v [] b.stands in
+        record {
+          cut_off = [];
+          holds = record {
+            finished = parts b.finished b.last;
+            last = empty_part;
+            recorded = recorded-push [] (parts b.finished b.last) empty_part old.recorded refl;
+            some = All-push HasMessage b.finished b.last b.some has_one;
+            stands = turned_stands after.contents (ap (λ (u : FilesView). u.contents) next);
+            left = left ++ piece;
+            octets = old.octets ∙ ap (λ (ms : List (List ℕ)). octets_of ms ++ (left ++ piece)) (sym octets);
+            given = (old.given.0, old.given.1 ∙ ap (λ (ms : List Message). ms ++ old.given.0) (sym same));
+          };
+          all = same ∙ held_there;
+          next = none_next (p.text ++ piece) (all_given (parts b.finished b.last)) [] (old.given.0, old.given.1 ∙ ap (λ (ms : List Message). ms ++ old.given.0) (sym (append-nil (all_given (parts b.finished b.last)))));
+          finished = inl (turned_are has_one);
+          failed = ap (λ (u : FilesView). u.failed) next ∙ ap one_more b.not_failed;
+          tells = inr (record { earlier = b.finished; part = b.last; are = refl; none = refl; tells = b.counted });
+        }
+
+  -- ---- what was gathered is written
+
+  abbrev pub before_read : BeforeRead
+  before_read = record { before = before; here = b.last.given; told = g.counts.told }
+
+  module _ (piece : List ℕ) (h : Gathering) where
+    abbrev Gathered : Type 0
+    Gathered = TookFirst gathering_view before_read (left ++ piece) h tt
+
+    -- the file with it
+    abbrev grown_part : Gathered → Part
+    grown_part t = with_messages b.last t.messages t.given t.took.file
+
+    grown_writes : (t : Gathered) → WritesPart before (grown_part t)
+    grown_writes t = writes-append before [] b.last.messages t.messages b.last.given t.given b.last.file t.took.file b.writes t.took.writes
+
+    grown_octets : (t : Gathered) → file_octets (grown_part t) ≡ file_octets b.last ++ h.out.items
+    grown_octets t = octets-append b.last.file t.took.file ∙ ap (λ (w : List ℕ). file_octets b.last ++ w) (sym t.took.out_is)
+
+    -- its messages are the next octets of the text
+    grown_text : (t : Gathered) → p.text ++ piece ≡ octets_of (all_messages b.finished ++ (b.last.messages ++ t.messages)) ++ t.left
+    grown_text t =
+        more_octets piece
+        ∙ ap (λ (w : List ℕ). octets_of messages ++ w) t.octets ∙ sym (append_assoc (octets_of messages) (octets_of t.messages) t.left)
+        ∙ ap (λ (w : List ℕ). w ++ t.left) (sym (octets-append messages t.messages)) ∙ ap (λ (ms : List (List ℕ)). octets_of ms ++ t.left) (append_assoc (all_messages b.finished) b.last.messages t.messages)
+
+    -- and give the next of its messages
+    grown_given : (t : Gathered) → (gives (p.text ++ piece)).messages ≡ whole b.finished (grown_part t) ++ t.next.0
+    grown_given t =
+        ap (λ (x : Given). x.messages) (more_is piece) ∙ ap (λ (ms : List Message). given ++ ms) t.next.1 ∙ sym (append_assoc given t.given t.next.0)
+        ∙ ap (λ (ms : List Message). ms ++ t.next.0) (append_assoc before b.last.given t.given)
+
+    -- the first octets of it may stand there
+    pub read_cut : (after : FilesView) (front : List ℕ) → Gathered → IsPrefix front h.out.items → after ≡ failing (with_more v front) → HoldsCut (Counted g.counts.told) (with_read piece p) after
+    read_cut after front t q is = record {
+      cut_off = front;
+      holds = holds_yet piece after front (stands_cut p.first.contents v.contents after.contents b.finished b.last front (ap (λ (u : FilesView). u.contents) is) b.stands);
+      all = held_there;
+      next = record {
+        messages = t.messages;
+        given = t.given;
+        file = t.took.file;
+        writes = t.took.writes;
+        next = (t.next.0, grown_given t);
+        first = (q.0, sym t.took.out_is ∙ q.1);
       };
-      finished = b.are;
-      not_failed = ap (λ (u : FilesView). u.failed) is ∙ b.not_failed;
-      tells = counts t;
+      finished = inl b.are;
+      failed = ap (λ (u : FilesView). u.failed) is ∙ ap one_more b.not_failed;
+      tells = inl b.counted;
     }
 
-    read_all : (e : MessageFault) → TookUpTo gathering_view before_read e (left ++ piece) g tt → (stop_of (text ++ piece) ≡ Fault e) × HoldsAll (Counted d) (text ++ piece) files first after
-    unfolding between_more read_some
-    read_all e t =
-        let w = whole b.finished b.last in
-        let on : gives (text ++ piece) ≡ record { messages = w ++ t.first.given; stop = Fault e } = (between_more text files first v s c left piece b r).is ∙ ap (behind w) t.all in (
-          ap (λ (k : Given). k.stop) on,
+    module _ {after : FilesView} (is : after ≡ with_more v h.out.items) (k : Gathering) (counts : CountsUpTo h.counts.told k.counts.told h.counts.waiting) where
+      grown_counted : (t : Gathered) → Counted k.counts.told before (b.last.given ++ t.given)
+      grown_counted t = counts before b.last.given t.given (subst (λ (told : Told). Counted told before b.last.given) (sym t.took.told_is) b.counted) t.took.counted
+
+      grown_stands : (t : Gathered) → Stands p.first.contents after.contents b.finished (grown_part t) []
+      grown_stands t = stands_more p.first.contents v.contents after.contents b.finished b.last (grown_part t) h.out.items (ap (λ (u : FilesView). u.contents) is) (grown_octets t) b.stands
+
+      pub read_on : (rest : List ℕ) → k.recorder ≡ h.recorder → IsAtRest gathering_view before_read (left ++ piece) h tt rest → HasRecorded (with_read piece p) after k rest
+      read_on rest same x =
+          let t : Gathered = took_first gathering_view before_read (left ++ piece) h h tt tt rest x.between x.between.taken.took in
+          let stop = x.is_rest.stop in
+          let next : gives_after (known_after [] given) (left ++ piece) ≡ record { messages = t.given; stop = stop } =
+          x.between.is ∙ ap (behind t.given) (gives_after-stop (known_after (known_after [] given) t.given) rest stop x.is_rest.none) ∙ ap (λ (ms : List Message). record { messages = ms; stop = stop }) (append-nil t.given) in
           record {
-            some = read_some t.first;
-            all = all_given-parts b.finished (grown_part t.first) ∙ sym (ap (λ (k : Given). k.messages) on ∙ append_assoc (all_given b.finished) b.last.given t.first.given);
-          },
-        )
+            finished = b.finished;
+            last = grown_part t;
+            are = b.are;
+            earlier = b.earlier;
+            writes = grown_writes t;
+            some = b.some;
+            keeps = subst (λ (s : State). Keeps s before (b.last.given ++ t.given)) (sym same) x.between.taken.is_ready;
+            counted = grown_counted t;
+            stands = grown_stands t;
+            not_failed = ap (λ (u : FilesView). u.failed) is ∙ b.not_failed;
+            octets = grown_text t;
+            is_rest = x.is_rest;
+            is = more_is piece ∙ ap (behind given) next ∙ ap (λ (ms : List Message). record { messages = ms; stop = stop }) (append_assoc before b.last.given t.given);
+            rest = more_rest piece ∙ x.between.rest ∙ ap (λ (q : Parts (List ℕ)). q.rest) (parts_of-none next_message rest stop x.is_rest.none);
+          }
 
-    read_earlier : Gathered → HoldsEarlier (Counted d) (text ++ piece) text files first after
-    unfolding read_some
-    read_earlier t = record {
-      some = read_some t;
-      at_least = (
-        t.given,
-        all_given-parts b.finished (grown_part t) ∙ sym (append_assoc (all_given b.finished) b.last.given t.given)
-            ∙ ap (λ (ms : List Message). ms ++ t.given) (sym (all_given-parts b.finished b.last) ∙ held_there text files first v s c left b r),
-      );
-    }
+      -- it stands there, and no more is read
+      read_some : (t : Gathered) → HoldsSome (Counted k.counts.told) (with_read piece p) after
+      read_some t = record {
+        holds = holds_with (grown_part t) (grown_writes t) (p.text ++ piece) t.left t.next.0 after [] (grown_text t) (grown_given t) (grown_stands t);
+        finished = b.are;
+        not_failed = ap (λ (u : FilesView). u.failed) is ∙ b.not_failed;
+        tells = grown_counted t;
+      }
 
-    pub read_fault : (e : RecordFault) → IfSome (fault_of (Err e)) (λ f. Stops gathering_view before_read f (left ++ piece) g tt) → StopsRecording e (text ++ piece) text files first after d
-    read_fault (OfMessage OutOfMemory) stops = read_earlier stops
-    read_fault (OfMessage e) stops = read_all e stops
-    read_fault Truncated stops = absurd stops
-    read_fault ReadFailed stops = absurd stops
-    read_fault TooManyReads stops = absurd stops
-    read_fault NotWritten stops = absurd stops.part
+      read_all : (e : MessageFault) → TookUpTo gathering_view before_read e (left ++ piece) h tt → (stop_of (p.text ++ piece) ≡ Fault e) × HoldsAll (Counted k.counts.told) (with_read piece p) after
+      unfolding read_some
+      read_all e t =
+          let on : gives (p.text ++ piece) ≡ record { messages = given ++ t.first.given; stop = Fault e } = more_is piece ∙ ap (behind given) t.all in (
+            ap (λ (x : Given). x.stop) on,
+            record {
+              some = read_some t.first;
+              all = all_given-parts b.finished (grown_part t.first) ∙ sym (ap (λ (x : Given). x.messages) on ∙ append_assoc before b.last.given t.first.given);
+            },
+          )
+
+      read_earlier : Gathered → HoldsEarlier (Counted k.counts.told) (with_read piece p) after
+      unfolding read_some
+      read_earlier t = record {
+        some = read_some t;
+        at_least = (
+          t.given,
+          all_given-parts b.finished (grown_part t) ∙ sym (append_assoc before b.last.given t.given) ∙ ap (λ (ms : List Message). ms ++ t.given) (sym all_there),
+        );
+      }
+
+      pub read_fault : (e : RecordFault) → IfSome (fault_of (Err e)) (λ f. Stops gathering_view before_read f (left ++ piece) h tt) → StopsRecording e (with_read piece p) after k
+      read_fault (OfMessage OutOfMemory) stops = (tt, read_earlier stops)
+      read_fault (OfMessage e) stops = read_all e stops
+      read_fault Truncated stops = absurd stops
+      read_fault ReadFailed stops = absurd stops
+      read_fault TooManyReads stops = absurd stops
+      read_fault NotWritten stops = absurd stops.part

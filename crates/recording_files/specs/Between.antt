@@ -1,40 +1,59 @@
--- What a recording has done of a text while it goes over the messages.
-use Rattle.std.specs.Prelude.{◌≡◌, All, ℕ, List, [], ◌++◌}
-use Rattle.ipfix_message.specs.Domains.{Message}
+-- What a recording has done between two reads.
+use Rattle.std.specs.Prelude.{◌≡◌, All, Bool, ℕ, List, [], ◌++◌, Result, Ok, Err}
 use Rattle.ipfix_message.specs.declared.fault.MessageFault.TheVariants.{OutOfMemory}
 use Rattle.ipfix_session.specs.declared.stop.Stop.TheVariants.{Fault}
 use Rattle.ipfix_session.specs.MessageStream.{cut}
-use Rattle.ipfix_session.specs.Given.{gives, gives_after, behind, known_after, stop_of, octets_of}
+use Rattle.ipfix_session.specs.Buffers.{IsRest}
+use Rattle.ipfix_session.specs.Given.{gives, stop_of, octets_of}
+use Rattle.recording_files.specs.declared.gathering.Gathering.{Gathering}
 use Rattle.recording_files.specs.declared.record_fault.RecordFault.{RecordFault}
 use Rattle.recording_files.specs.declared.record_fault.RecordFault.TheVariants.{Message as OfMessage, Truncated, ReadFailed, TooManyReads, NotWritten}
 use Rattle.recording_files.specs.Recordings.{Part, Recorded, Writes}
-use Rattle.recording_files.specs.Recorders.{State, Keeps, Told, Counted}
+use Rattle.recording_files.specs.Recorders.{Keeps, Counted}
 use Rattle.recording_files.specs.Faithful.{all_messages, all_given}
 use Rattle.recording_files.specs.Files.{FilesView}
-use Rattle.recording_files.specs.Sessions.{HasMessage, files_of, Stands, HoldsEarlier, HoldsAll, HoldsCut}
+use Rattle.recording_files.specs.Periods.{finished_at}
+use Rattle.recording_files.specs.Sessions.{Progress, HasMessage, files_of, Stands, HoldsBy}
 
--- whole messages of a text stand in the files, of which those that are finished have these, and are counted; left is what
--- follows them
-pub record IsBetween (text : List ℕ) (files : List (List Message)) (first after : FilesView) (s : State) (c : Told) (left : List ℕ) : Type 0 where
+-- the file is finished if the period is over, and it has a message
+abbrev pub turned_if : Bool → Progress → Progress
+turned_if is_over p = record p { finished = finished_at is_over p.text p.finished }
+
+-- one more read gave these octets
+abbrev pub with_read : List ℕ → Progress → Progress
+with_read piece p = record p { text = p.text ++ piece; earlier = p.text }
+
+-- all messages of what was read stand in the files, and are counted; left is what follows them
+pub record HasRecorded (p : Progress) (after : FilesView) (g : Gathering) (left : List ℕ) : Type 0 where
   pub finished : List Part
   pub last : Part
-  pub are : files_of finished ≡ files
+  pub are : files_of finished ≡ p.finished
   pub earlier : Recorded [] finished
   pub writes : Writes (all_given finished) [] last.messages last.given last.file
   pub some : All HasMessage finished
-  pub keeps : Keeps s (all_given finished) last.given
-  pub counted : Counted c (all_given finished) last.given
-  pub stands : Stands first.contents after.contents finished last []
-  pub not_failed : after.failed ≡ first.failed
-  pub octets : text ≡ octets_of (all_messages finished ++ last.messages) ++ left
-  pub is : gives text ≡ behind (all_given finished ++ last.given) (gives_after (known_after [] (all_given finished ++ last.given)) left)
-  pub rest : (cut text).rest ≡ (cut left).rest
+  pub keeps : Keeps g.recorder (all_given finished) last.given
+  pub counted : Counted g.counts.told (all_given finished) last.given
+  pub stands : Stands p.first.contents after.contents finished last []
+  pub not_failed : after.failed ≡ p.first.failed
+  pub octets : p.text ≡ octets_of (all_messages finished ++ last.messages) ++ left
+  pub is_rest : IsRest left
+  pub is : gives p.text ≡ record { messages = all_given finished ++ last.given; stop = is_rest.stop }
+  pub rest : (cut p.text).rest ≡ left
 
--- why it went no further than a read, before which this had come of the text, and what is counted then
-abbrev pub StopsRecording : RecordFault → List ℕ → List ℕ → List (List Message) → FilesView → FilesView → Told → Type 0
-StopsRecording (OfMessage OutOfMemory) text earlier files first after c = HoldsEarlier (Counted c) text earlier files first after
-StopsRecording (OfMessage e) text earlier files first after c = (stop_of text ≡ Fault e) × HoldsAll (Counted c) text files first after
-StopsRecording NotWritten text earlier files first after c = HoldsCut (Counted c) text earlier files first after
-StopsRecording Truncated text earlier files first after c = ⊥
-StopsRecording ReadFailed text earlier files first after c = ⊥
-StopsRecording TooManyReads text earlier files first after c = ⊥
+-- a read has no other fault than that of its messages, want of memory, and that of the files
+abbrev pub StopsAt : RecordFault → List ℕ → Type 0
+StopsAt (OfMessage OutOfMemory) text = Unit {0}
+StopsAt (OfMessage e) text = stop_of text ≡ Fault e
+StopsAt NotWritten text = Unit {0}
+StopsAt Truncated text = ⊥
+StopsAt ReadFailed text = ⊥
+StopsAt TooManyReads text = ⊥
+
+-- why it went no further than the last read, and what stands in the files then
+abbrev pub StopsRecording : RecordFault → Progress → FilesView → Gathering → Type 0
+StopsRecording fault p after g = StopsAt fault p.text × HoldsBy (Counted g.counts.told) (Err fault) p after
+
+-- what the last read did, by the answer
+abbrev pub GoesOn : Result (Unit {0}) RecordFault → Progress → FilesView → Gathering → List ℕ → Type 0
+GoesOn (Ok x) p after g left = HasRecorded p after g left
+GoesOn (Err fault) p after g left = StopsRecording fault p after g

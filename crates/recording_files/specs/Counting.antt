@@ -1,12 +1,13 @@
 -- What a message adds to the report of its file.
-use Rattle.std.specs.Prelude.{◌+◌}
+use Rattle.std.specs.Prelude.{◌+◌, List, ◌++◌}
+use Rattle.ipfix_message.specs.Domains.{Message}
 use Rattle.ipfix_session.specs.declared.account.Account.{Account}
 use Rattle.ipfix_session.specs.declared.tally.Tally.{Tally}
 use Rattle.ipfix_session.specs.Ledger.{capped, lost_at, backward_at}
 use Rattle.ipfix_session.specs.Intake.{counts_of}
 use Rattle.recording_files.specs.declared.file_report.FileReport.{FileReport}
 use Rattle.recording_files.specs.declared.message_count.MessageCount.{MessageCount}
-use Rattle.recording_files.specs.Recorders.{Told}
+use Rattle.recording_files.specs.Recorders.{AreCountsOf, Told, Counted}
 
 -- the report after one more message of a domain that has this account
 abbrev pub file_after : FileReport → Account → MessageCount → FileReport
@@ -22,3 +23,7 @@ file_after f a c = record {
 -- the counts that a tally and the report of a file keep
 abbrev pub told_of : Tally → FileReport → Told
 told_of t f = record { session = counts_of t; file = f }
+
+-- whatever was counted before, the messages that add these counts are counted after it
+abbrev pub CountsUpTo : Told → Told → List MessageCount → Type 0
+CountsUpTo old new counts = (before here given : List Message) → Counted old before here → AreCountsOf counts given → Counted new before (here ++ given)

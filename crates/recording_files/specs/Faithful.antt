@@ -2,7 +2,7 @@
 use Rattle.std.specs.Prelude.{◌≡◌, ℕ, ◌+◌, List, [], ◌∷◌, flat_map, All}
 use Rattle.ipfix_message.specs.Domains.{Message}
 use Rattle.ipfix_session.specs.declared.stop.Stop.TheVariants.{Clean}
-use Rattle.ipfix_session.specs.Given.{gives, stop_of, records_of, records_in, octets_of}
+use Rattle.ipfix_session.specs.Given.{gives, stop_of, records_of, records_in, octets_of, IsOpen, IsPrefix}
 use Rattle.ipfix_session.specs.Ledger.{messages_of, lost_between, backward_between, sum_neighbours}
 use Rattle.recording_files.specs.Recordings.{Part}
 
@@ -27,6 +27,17 @@ all_files ps = flat_map (λ p. p.file) ps
 pub record IsReadAlone (p : Part) : Type 0 where
   pub stop : stop_of (octets_of p.file) ≡ Clean
   pub records : records_of (octets_of p.file) ≡ records_in p.given
+
+-- each of these files is read by itself, with no fault, and one after another they give the records of a text
+pub record GiveRecordsOf (files : List (List ℕ)) (text : List ℕ) : Type 0 where
+  pub stops : All (λ file. stop_of file ≡ Clean) files
+  pub records : flat_map records_of files ≡ records_of text
+
+-- each of these files is read by itself, with no fault, though it may end within a message, and one after another they give the
+-- first records of a text
+pub record GiveFirstRecordsOf (files : List (List ℕ)) (text : List ℕ) : Type 0 where
+  pub stops : All (λ file. IsOpen (stop_of file)) files
+  pub records : IsPrefix (flat_map records_of files) (records_of text)
 
 pub record IsFaithful (ps : List Part) : Type 0 where
   -- the parts are the session: its text gives their messages, with no fault

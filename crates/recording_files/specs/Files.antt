@@ -43,6 +43,11 @@ with_more v octets = record v { contents = option_map (grown octets) v.contents 
 abbrev pub with_next : FilesView → FileReport → FilesView
 with_next v report = record v { contents = option_map (turned report) v.contents }
 
+-- files tell what stands in them: they had this at first, and have that now
+pub record AreSeen (first after : FilesView) (start now : Contents) : Type 0 where
+  pub at_first : first.contents ≡ Some start
+  pub at_last : after.contents ≡ Some now
+
 -- one more call failed
 abbrev pub failing : FilesView → FilesView
 failing v = record v { failed = one_more v.failed }

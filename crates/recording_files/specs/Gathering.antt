@@ -4,8 +4,13 @@ use Rattle.ipfix_message.specs.Domains.{Message}
 use Rattle.ipfix_session.specs.Given.{known_after, octets_of}
 use Rattle.ipfix_session.specs.MessageSinks.{MessageSinkView}
 use Rattle.recording_files.specs.Recordings.{Writes}
-use Rattle.recording_files.specs.Recorders.{Keeps, AreCountsOf, Told}
+use Rattle.recording_files.specs.Recorders.{Keeps, AreCountsOf, Told, Counted}
 use Rattle.recording_files.specs.declared.gathering.Gathering.{Gathering}
+
+-- nothing has come yet
+pub record IsFresh (g : Gathering) : Type 0 where
+  pub keeps : Keeps g.recorder [] []
+  pub counted : Counted g.counts.told [] []
 
 -- the messages of earlier files, those of this one before a read, and what is told of them
 pub record BeforeRead : Type 0 where

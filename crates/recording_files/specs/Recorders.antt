@@ -73,8 +73,3 @@ pub record CountsView : Type 0 where
 pub record Counted (c : Told) (before here : List Message) : Type 0 where
   pub session : Tells c.session (before ++ here) (length (records_in (before ++ here)))
   pub file : c.file ≡ file_report before here
-
--- nothing has come yet
-pub record IsFresh (s : State) (c : Told) : Type 0 where
-  pub keeps : Keeps s [] []
-  pub counted : Counted c [] []

@@ -17,6 +17,20 @@ use Rattle.recording_files.specs.Faithful.{all_messages, all_given}
 use Rattle.recording_files.specs.Files.{Contents, FilesView}
 use Rattle.recording_files.specs.Periods.{ClockView, AskedRead, AreAskedReads, clock_behind, source_behind, octets_read, octets_before, finished_by}
 
+-- how far a recording has come
+pub record Progress : Type 0 where
+  -- the octets that its reads gave, and those of the reads before the last
+  pub text : List ℕ
+  pub earlier : List ℕ
+  -- the messages of each file whose period is over
+  pub finished : List (List Message)
+  -- the files as they were at first
+  pub first : FilesView
+
+-- after these reads, of which the newest comes first
+abbrev pub progress_after : {S C : Type 0} → FilesView → List (AskedRead S C) → Progress
+progress_after first reads = record { text = octets_read reads; earlier = octets_before reads; finished = finished_by reads; first = first }
+
 -- the octets of the file that a part stands in
 abbrev pub file_octets : Part → List ℕ
 file_octets p = octets_of p.file
@@ -69,22 +83,22 @@ files_of ps = map (λ p. p.given) ps
 
 -- what is told of the messages of finished files, and of those of the file that isn't finished
 module _ (told : List Message → List Message → Type 0) where
-  -- no call of the files failed, and the finished ones are these
-  pub record HoldsSome (text : List ℕ) (files : List (List Message)) (first after : FilesView) : Type 0 where
-    pub holds : Holds text first after []
-    pub finished : files_of holds.finished ≡ files
-    pub not_failed : after.failed ≡ first.failed
+  -- no call of the files failed, and those whose period is over are finished
+  pub record HoldsSome (p : Progress) (after : FilesView) : Type 0 where
+    pub holds : Holds p.text p.first after []
+    pub finished : files_of holds.finished ≡ p.finished
+    pub not_failed : after.failed ≡ p.first.failed
     pub tells : told (all_given holds.finished) holds.last.given
 
   -- and the files have all messages of the text, up to its end or its first fault
-  pub record HoldsAll (text : List ℕ) (files : List (List Message)) (first after : FilesView) : Type 0 where
-    pub some : HoldsSome text files first after
-    pub all : all_given (parts some.holds.finished some.holds.last) ≡ (gives text).messages
+  pub record HoldsAll (p : Progress) (after : FilesView) : Type 0 where
+    pub some : HoldsSome p after
+    pub all : all_given (parts some.holds.finished some.holds.last) ≡ (gives p.text).messages
 
   -- and the files have at least all messages that the reads before the last had given
-  pub record HoldsEarlier (text earlier : List ℕ) (files : List (List Message)) (first after : FilesView) : Type 0 where
-    pub some : HoldsSome text files first after
-    pub at_least : IsPrefix (gives earlier).messages (all_given (parts some.holds.finished some.holds.last))
+  pub record HoldsEarlier (p : Progress) (after : FilesView) : Type 0 where
+    pub some : HoldsSome p after
+    pub at_least : IsPrefix (gives p.earlier).messages (all_given (parts some.holds.finished some.holds.last))
 
   -- a file was finished, and no message has come after it; it is told as the one that isn't finished
   pub record TellsOfFinished (finished : List Part) (last : Part) : Type 0 where
@@ -96,22 +110,22 @@ module _ (told : List Message → List Message → Type 0) where
 
   -- a call of the files failed: the messages that the reads before the last had given stand whole, and after them are at
   -- most the first octets of what was to stand there next
-  pub record HoldsCut (text earlier : List ℕ) (files : List (List Message)) (first after : FilesView) : Type 0 where
+  pub record HoldsCut (p : Progress) (after : FilesView) : Type 0 where
     pub cut_off : List ℕ
-    pub holds : Holds text first after cut_off
-    pub all : all_given (parts holds.finished holds.last) ≡ (gives earlier).messages
-    pub next : IsCutOff text (all_given holds.finished) holds.last.given cut_off
+    pub holds : Holds p.text p.first after cut_off
+    pub all : all_given (parts holds.finished holds.last) ≡ (gives p.earlier).messages
+    pub next : IsCutOff p.text (all_given holds.finished) holds.last.given cut_off
     -- these files are finished, or all but the last of them
-    pub finished : (files_of holds.finished ≡ files) ⊎ (files_of (parts holds.finished holds.last) ≡ files)
-    pub failed : after.failed ≡ one_more first.failed
+    pub finished : (files_of holds.finished ≡ p.finished) ⊎ (files_of (parts holds.finished holds.last) ≡ p.finished)
+    pub failed : after.failed ≡ one_more p.first.failed
     -- the messages that stand whole are told, in their files; where a file could not be finished, it is told as that
     pub tells : told (all_given holds.finished) holds.last.given ⊎ TellsOfFinished holds.finished holds.last
 
   -- what stands in the files by the answer
-  abbrev pub HoldsBy : Result (Unit {0}) RecordFault → List ℕ → List ℕ → List (List Message) → FilesView → FilesView → Type 0
-  HoldsBy (Err NotWritten) text earlier files first after = HoldsCut text earlier files first after
-  HoldsBy (Err (OfMessage OutOfMemory)) text earlier files first after = HoldsEarlier text earlier files first after
-  HoldsBy answer text earlier files first after = HoldsAll text files first after
+  abbrev pub HoldsBy : Result (Unit {0}) RecordFault → Progress → FilesView → Type 0
+  HoldsBy (Err NotWritten) p after = HoldsCut p after
+  HoldsBy (Err (OfMessage OutOfMemory)) p after = HoldsEarlier p after
+  HoldsBy answer p after = HoldsAll p after
 
 -- the fault as a session's: files that take no more are a sink that takes no more
 abbrev pub fault_of : Result (Unit {0}) RecordFault → Option SessionFault
@@ -122,19 +136,17 @@ fault_of (Err ReadFailed) = Some faults.ReadFailed
 fault_of (Err TooManyReads) = Some faults.TooManyReads
 fault_of (Err NotWritten) = Some faults.SinkClosed
 
--- a source gave octets up to this answer, which is due, and the files hold their messages, which are told; a file is finished
--- where the clock, asked after each read, tells that the period is over
+-- the reads of a source gave octets up to this answer, which is due, and the files hold their messages, which are told; a file is
+-- finished where the clock, asked after each read, tells that the period is over
 pub record RecordsTo {S F C : Type 0} (seen : S → SourceView) (view : F → FilesView) (asked : C → ClockView) (limit : ℕ) (before after : S) (first last : F) (start end : C)
     (answer : Result (Unit {0}) RecordFault) (told : List Message → List Message → Type 0) : Type 0 where
-  pub gave : List ℕ
-  pub given : Gave seen limit before gave after (fault_of answer)
   -- after each read that gave octets, or was interrupted, the clock was asked once, and not otherwise
   pub reads : List (AskedRead S C)
   pub are_reads : AreAskedReads seen asked before start reads
-  pub octets : gave ≡ octets_read reads
+  pub given : Gave seen limit before (octets_read reads) after (fault_of answer)
   pub last_answer : clock_behind start reads ≡ end
   pub one_read : (seen after).reads ≤ (seen (source_behind before reads)).reads + 1
-  pub holds : HoldsBy told answer gave (octets_before reads) (finished_by reads) (view first) (view last)
+  pub holds : HoldsBy told answer (progress_after (view first) reads) (view last)
 
 -- the reports of a recorded session: that of all its messages, and that of the file that isn't finished
 pub record IsTold (r : RecordedSession) (before here : List Message) : Type 0 where
@@ -147,3 +159,15 @@ pub record IsTold (r : RecordedSession) (before here : List Message) : Type 0 wh
 -- and the reports tell them
 abbrev pub RecordsSession : {S F C : Type 0} → (S → SourceView) → (F → FilesView) → (C → ClockView) → ℕ → S → S → F → F → C → C → RecordedSession → Type 0
 RecordsSession seen view asked limit before after first last start end r = RecordsTo seen view asked limit before after first last start end r.ended (IsTold r)
+
+-- the session of a source with this text was recorded without a fault, and took the first files to the last
+pub record RecordsAll {S F C : Type 0} (seen : S → SourceView) (view : F → FilesView) (asked : C → ClockView) (text : List ℕ) (first last : F) : Type 0 where
+  pub limit : ℕ
+  pub before : S
+  pub after : S
+  pub start : C
+  pub end : C
+  pub session : RecordedSession
+  pub records : RecordsSession seen view asked limit before after first last start end session
+  pub no_fault : session.ended ≡ Ok tt
+  pub text_is : (seen before).text ≡ Some text

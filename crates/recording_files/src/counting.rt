@@ -3,8 +3,8 @@
 ghost use Rattle.std.specs.Prelude.{◌≡◌, ◌+◌, ◌++◌, ◌∷◌, [], ℕ, List, length};
 ghost use Rattle.ipfix_message.specs.Domains.{Message};
 ghost use Rattle.ipfix_session.specs.Rooms.{HasRoom};
-ghost use Rattle.recording_files.specs.Counting.{file_after, told_of};
-ghost use Rattle.recording_files.specs.Recorders.{AreCountsOf, Counted, IsCountOf};
+ghost use Rattle.recording_files.specs.Counting.{file_after, told_of, CountsUpTo};
+ghost use Rattle.recording_files.specs.Recorders.{Counted, IsCountOf};
 
 use crate::file_report::FileReport;
 use crate::message_count::MessageCount;
@@ -48,9 +48,7 @@ fn count_one(message: &MessageCount, tally: &mut Tally, file: &mut FileReport)
 pub fn count_all(messages: &[MessageCount], tally: &mut Tally, file: &mut FileReport)
     requires { HasRoom tally.old.ledger (length messages.now) }
     ensures room { HasRoom tally.new.ledger 0 }
-    ensures counts { (before here given : List Message)
-        → Counted (told_of tally.old file.old) before here → AreCountsOf messages.now given
-        → Counted (told_of tally.new file.new) before (here ++ given) }
+    ensures counts { CountsUpTo (told_of tally.old file.old) (told_of tally.new file.new) messages.now }
 {
     for message in messages {
         count_one(message, tally, file);

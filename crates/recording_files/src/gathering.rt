@@ -2,7 +2,8 @@
 
 ghost use Rattle.std.specs.Prelude.{◌≡◌, ◌++◌, [], List, OnOk, OnErr};
 ghost use Rattle.ipfix_message.specs.Domains.{Message};
-ghost use Rattle.recording_files.specs.Recorders.{Counted, IsFresh};
+ghost use Rattle.recording_files.specs.Recorders.{Counted};
+ghost use Rattle.recording_files.specs.Gathering.{IsFresh};
 ghost use Rattle.recording_files.specs.Sessions.{IsTold};
 
 use crate::record_fault::RecordFault;
@@ -45,7 +46,7 @@ pub struct Gathering {
 impl Gathering {
     /// The start of a session.
     pub fn new(alloc: Global) -> Self
-        ensures { IsFresh result.recorder result.counts.told }
+        ensures { IsFresh result }
     {
         Gathering {
             recorder: Recorder::new(alloc),

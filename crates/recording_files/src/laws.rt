@@ -1,17 +1,16 @@
 //! Laws of the definitions. Each is a function that does nothing, and its contract is the theorem: a
 //! call brings that to the proof of its caller.
 
-ghost use Rattle.std.specs.Prelude.{◌≡◌, ◌≢◌, ◌++◌, ◌∷◌, ℕ, List, [], Ok, Err, Some, All, flat_map};
-ghost use Rattle.ipfix_message.specs.Domains.{Message};
+ghost use Rattle.std.specs.Prelude.{◌≡◌, ◌≢◌, ◌++◌, ◌∷◌, ℕ, List, [], Err, Some};
 ghost use Rattle.ipfix_session.specs.declared.stop.Stop.TheVariants.{Clean};
 ghost use Rattle.ipfix_session.specs.declared.fault.SessionFault.{SessionFault};
 ghost use Rattle.ipfix_session.specs.Faults as sessions;
-ghost use Rattle.ipfix_session.specs.Given.{records_of, stop_of, IsOpen, IsPrefix};
+ghost use Rattle.ipfix_session.specs.Given.{stop_of};
 ghost use Rattle.recording_files.specs.declared.recorded_session.RecordedSession.{RecordedSession};
-ghost use Rattle.recording_files.specs.Files.{Contents, FilesView, all_of};
-ghost use Rattle.recording_files.specs.Sessions.{HoldsSome, HoldsAll, HoldsCut, IsTold, RecordsSession, fault_of};
+ghost use Rattle.recording_files.specs.Files.{Contents, FilesView, AreSeen, all_of};
+ghost use Rattle.recording_files.specs.Sessions.{Progress, HoldsSome, HoldsAll, HoldsCut, IsTold, RecordsAll, fault_of};
 ghost use Rattle.recording_files.specs.Recordings.{Part, Recorded};
-ghost use Rattle.recording_files.specs.Faithful.{IsFaithful, all_given};
+ghost use Rattle.recording_files.specs.Faithful.{IsFaithful, GiveRecordsOf, GiveFirstRecordsOf, all_given};
 ghost use Rattle.recording_files.specs.FileReports.{AddUp, file_reports};
 ghost use Rattle.recording_files.specs.Faults.{number_of, name_of};
 ghost use Rattle.recording_files.specs.declared.record_fault.RecordFault.{RecordFault};
@@ -32,23 +31,17 @@ pub fn recordings_are_faithful()
 /// itself, with no fault, and one after another they give the records of the text up to its end or
 /// first fault.
 pub fn files_give_the_records()
-    ensures { (text : List ℕ) (files : List (List Message)) (first after : FilesView)
-        (start now : Contents) (r : RecordedSession)
-        → HoldsAll (IsTold r) text files first after
-        → first.contents ≡ Some start → start.finished ≡ [] → after.contents ≡ Some now
-        → All (λ file. stop_of file ≡ Clean) (all_of now)
-        × (flat_map records_of (all_of now) ≡ records_of text) }
+    ensures { (p : Progress) (after : FilesView) (start now : Contents) (r : RecordedSession)
+        → HoldsAll (IsTold r) p after → AreSeen p.first after start now → start.finished ≡ []
+        → GiveRecordsOf (all_of now) p.text }
 {}
 
 /// What stands there where a call of the files failed: the files, of which the last may end within a
 /// message, have no fault else, and they give the first records of the text, each once and in order.
 pub fn files_keep_whole_messages()
-    ensures { (text : List ℕ) (files : List (List Message)) (first after : FilesView)
-        (start now : Contents) (earlier : List ℕ) (r : RecordedSession)
-        → HoldsCut (IsTold r) text earlier files first after
-        → first.contents ≡ Some start → start.finished ≡ [] → after.contents ≡ Some now
-        → All (λ file. IsOpen (stop_of file)) (all_of now)
-        × IsPrefix (flat_map records_of (all_of now)) (records_of text) }
+    ensures { (p : Progress) (after : FilesView) (start now : Contents) (r : RecordedSession)
+        → HoldsCut (IsTold r) p after → AreSeen p.first after start now → start.finished ≡ []
+        → GiveFirstRecordsOf (all_of now) p.text }
 {}
 
 /// The reports of the files, with that of the file that isn't finished, add up to the session's, each sum
@@ -57,10 +50,8 @@ pub fn file_reports_add_up()
     ensures told { (finished : List Part) (last : Part) (r : RecordedSession)
         → IsTold r (all_given finished) last.given
         → AddUp (file_reports [] finished ++ r.last ∷ []) r.report }
-    ensures files { (text : List ℕ) (files : List (List Message)) (first after : FilesView)
-        (start now : Contents) (r : RecordedSession)
-        → HoldsSome (IsTold r) text files first after
-        → first.contents ≡ Some start → start.reports ≡ [] → after.contents ≡ Some now
+    ensures files { (p : Progress) (after : FilesView) (start now : Contents) (r : RecordedSession)
+        → HoldsSome (IsTold r) p after → AreSeen p.first after start now → start.reports ≡ []
         → AddUp (now.reports ++ r.last ∷ []) r.report }
 {}
 
@@ -76,13 +67,8 @@ pub fn fault_numbers()
 /// A recording that ended without a fault: the source's text is whole messages, each file is read by
 /// itself, with no fault, and one after another they give all records of the text.
 pub fn recorded_to_the_end<S: Source, F: FileSeries, C: PeriodClock>()
-    ensures { (limit : ℕ) (before after : S) (first last : F) (clock then : C) (text : List ℕ)
-        (start now : Contents) (r : RecordedSession)
-        → RecordsSession S.seen F.seen C.asked limit before after first last clock then r
-        → r.ended ≡ Ok tt
-        → (S.seen before).text ≡ Some text
-        → (F.seen first).contents ≡ Some start → start.finished ≡ []
-        → (F.seen last).contents ≡ Some now
-        → (stop_of text ≡ Clean) × All (λ file. stop_of file ≡ Clean) (all_of now)
-        × (flat_map records_of (all_of now) ≡ records_of text) }
+    ensures { (text : List ℕ) (first last : F) (start now : Contents)
+        → RecordsAll S.seen F.seen C.asked text first last
+        → AreSeen (F.seen first) (F.seen last) start now → start.finished ≡ []
+        → (stop_of text ≡ Clean) × GiveRecordsOf (all_of now) text }
 {}

@@ -1,14 +1,14 @@
 //! What a read does to the files of a session.
 
-ghost use Rattle.std.specs.Prelude.{◌≡◌, ◌++◌, ℕ, List, MatchResult, OnOk, OnErr};
-ghost use Rattle.ipfix_message.specs.Domains.{Message};
+ghost use Rattle.std.specs.Prelude.{◌≡◌, ◌++◌, ℕ, List, OnOk, OnErr, IfErr};
 ghost use Rattle.ipfix_session.specs.Buffers.{IsRest};
 ghost use Rattle.ipfix_session.specs.MessageSinks.{Reads, TookFirst};
-ghost use Rattle.recording_files.specs.Recorders.{Counted, Keeps};
-ghost use Rattle.recording_files.specs.Files.{Appends, FilesView};
-ghost use Rattle.recording_files.specs.Periods.{finished_at};
+ghost use Rattle.recording_files.specs.Recorders.{Keeps};
+ghost use Rattle.recording_files.specs.Counting.{CountsUpTo};
+ghost use Rattle.recording_files.specs.Files.{Appends};
+ghost use Rattle.recording_files.specs.Sessions.{Progress};
 ghost use Rattle.recording_files.specs.Gathering.{BeforeRead, gathering_view};
-ghost use Rattle.recording_files.specs.Between.{IsBetween, StopsRecording};
+ghost use Rattle.recording_files.specs.Between.{HasRecorded, StopsRecording, GoesOn, turned_if, with_read};
 
 use crate::file_series::{FileSeries, NotWritten};
 use crate::gathering::Gathering;
@@ -22,15 +22,13 @@ fn turn_if_over<F: FileSeries>(
     gathering: &mut Gathering,
     files: &mut F,
 ) -> Result<(), RecordFault>
-    ensures { (text left : List ℕ) (finished : List (List Message)) (first : FilesView)
-        → IsBetween text finished first (F.seen files.old)
-        gathering.old.recorder gathering.old.counts.told left → IsRest left
-        → MatchResult result
-        (λ _. IsBetween text (finished_at is_over text finished) first (F.seen files.new)
-        gathering.new.recorder gathering.new.counts.told left)
-        (λ fault. (piece : List ℕ) → StopsRecording fault (text ++ piece) text
-        (finished_at is_over text finished) first (F.seen files.new)
-        gathering.new.counts.told) }
+    ensures turned { (p : Progress) (left : List ℕ)
+        → HasRecorded p (F.seen files.old) gathering.old left
+        → OnOk result (HasRecorded (turned_if is_over p) (F.seen files.new) gathering.new left) }
+    ensures stops { (p : Progress) (left piece : List ℕ)
+        → HasRecorded p (F.seen files.old) gathering.old left
+        → IfErr result (λ fault. StopsRecording fault (with_read piece (turned_if is_over p))
+        (F.seen files.new) gathering.new) }
 {
     if !is_over {
         return Ok(());
@@ -55,9 +53,8 @@ fn write_gathered<F: FileSeries>(gathering: &mut Gathering, files: &mut F) -> Re
     ensures appends { (b : BeforeRead) (text : List ℕ)
         → TookFirst gathering_view b text gathering.old tt
         → Appends result gathering.old.out.items (F.seen files.old) (F.seen files.new) }
-    ensures counted { OnOk result ((b : BeforeRead) (text : List ℕ)
-        (t : TookFirst gathering_view b text gathering.old tt) → Counted b.told b.before b.here
-        → Counted gathering.new.counts.told b.before (b.here ++ t.given)) }
+    ensures counted { OnOk result (CountsUpTo gathering.old.counts.told gathering.new.counts.told
+        gathering.old.counts.waiting) }
     ensures err { OnErr result (gathering.new.counts.told ≡ gathering.old.counts.told) }
 {
     if gathering.counts.is_settled() {
@@ -93,16 +90,9 @@ pub fn take_read<F: FileSeries>(
     is_over: bool,
     files: &mut F,
 ) -> Result<(), RecordFault>
-    ensures { (text : List ℕ) (finished : List (List Message)) (first : FilesView)
-        → IsRest buffer.old.items
-        → IsBetween text finished first (F.seen files.old)
-        gathering.old.recorder gathering.old.counts.told buffer.old.items
-        → MatchResult result
-        (λ _. IsBetween (text ++ piece.now) (finished_at is_over text finished) first
-        (F.seen files.new) gathering.new.recorder gathering.new.counts.told buffer.new.items
-        × IsRest buffer.new.items)
-        (λ fault. StopsRecording fault (text ++ piece.now) text (finished_at is_over text finished)
-        first (F.seen files.new) gathering.new.counts.told) }
+    ensures { (p : Progress) → HasRecorded p (F.seen files.old) gathering.old buffer.old.items
+        → GoesOn result (with_read piece.now (turned_if is_over p)) (F.seen files.new)
+        gathering.new buffer.new.items }
 {
     turn_if_over(is_over, gathering, files)?;
     let taken = gather(alloc, gathering, buffer, piece);

@@ -2,7 +2,8 @@
 
 ghost use Rattle.std.specs.Prelude.{◌≡◌, ◌<◌, ◌≤◌, [], ℕ, length, MatchResult};
 ghost use Rattle.ipfix_session.specs.declared.driver.TheConstants.{READ_SIZE};
-ghost use Rattle.recording_files.specs.Recorders.{Counted, IsFresh};
+ghost use Rattle.recording_files.specs.Recorders.{Counted};
+ghost use Rattle.recording_files.specs.Gathering.{IsFresh};
 ghost use Rattle.recording_files.specs.Files.{IsEmpty};
 ghost use Rattle.recording_files.specs.Sessions.{RecordsTo, RecordsSession};
 
@@ -73,7 +74,7 @@ fn record_gathering<S: Source, F: FileSeries, C: PeriodClock>(
     clock: &mut C,
     limit: u64,
 ) -> Result<(), RecordFault>
-    ensures { IsFresh gathering.old.recorder gathering.old.counts.told
+    ensures { IsFresh gathering.old
         → IsEmpty (F.seen files.old).contents
         → RecordsTo S.seen F.seen C.asked limit source.old source.new
         files.old files.new clock.old clock.new result (Counted gathering.new.counts.told) }
@@ -104,7 +105,7 @@ fn record_through<S: Source, F: FileSeries, C: PeriodClock>(
 ) -> Result<(), RecordFault>
     requires { 0 < length buffer.old }
     ensures { length buffer.old ≤ READ_SIZE
-        → IsFresh gathering.old.recorder gathering.old.counts.told
+        → IsFresh gathering.old
         → IsEmpty (F.seen files.old).contents
         → RecordsTo S.seen F.seen C.asked limit source.old source.new
         files.old files.new clock.old clock.new result (Counted gathering.new.counts.told) }

@@ -2,8 +2,8 @@ use Rattle.std.proofs.Common.{◌+◌, List, [], length, get_or, take, refl, sym
 use Rattle.std.specs.Prelude.{◌-◌}
 use Rattle.std.proofs.lemmas.List.{take_all, take_more}
 use Rattle.recording_files.specs.declared.message_count.MessageCount.{MessageCount}
-use Rattle.recording_files.specs.Counting.{told_of}
-use Rattle.recording_files.proofs.Counts.{CountsUpTo, up_to-none, up_to-push, room_at}
+use Rattle.recording_files.specs.Counting.{told_of, CountsUpTo}
+use Rattle.recording_files.proofs.Counts.{up_to-none, up_to-push, room_at}
 use Rattle.recording_files.proofs.counting.count_all.Goals as goal
 
 abbrev no_count : MessageCount

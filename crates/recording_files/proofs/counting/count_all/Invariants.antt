@@ -2,7 +2,7 @@ use Rattle.std.proofs.Common.{length, take}
 use Rattle.std.specs.Prelude.{◌-◌}
 use Rattle.ipfix_session.specs.Rooms.{HasRoom}
 use Rattle.recording_files.specs.Counting.{told_of}
-use Rattle.recording_files.proofs.Counts.{CountsUpTo}
+use Rattle.recording_files.specs.Counting.{CountsUpTo}
 use Rattle.recording_files.proofs.counting.count_all.Given as goal
 
 abbrev pub invariant-loop-message : goal.invariant-loop-message

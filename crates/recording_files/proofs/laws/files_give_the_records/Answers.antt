@@ -3,4 +3,4 @@ use Rattle.recording_files.proofs.FilesGive.{files_give}
 use Rattle.recording_files.proofs.laws.files_give_the_records.Goals as goal
 
 pub returns : goal.returns
-returns c = λ text files first after start now r. files_give (IsTold r) text files first after start now
+returns c = λ p after start now r. files_give (IsTold r) p after start now

@@ -3,4 +3,4 @@ use Rattle.recording_files.proofs.FilesGive.{files_keep}
 use Rattle.recording_files.proofs.laws.files_keep_whole_messages.Goals as goal
 
 pub returns : goal.returns
-returns c = λ text files first after start now earlier r. files_keep (IsTold r) text earlier files first after start now
+returns c = λ p after start now r. files_keep (IsTold r) p after start now

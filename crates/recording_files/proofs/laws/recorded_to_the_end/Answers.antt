@@ -2,5 +2,4 @@ use Rattle.recording_files.proofs.FilesGive.{recorded_all}
 use Rattle.recording_files.proofs.laws.recorded_to_the_end.Goals as goal
 
 pub returns : goal.returns
-returns g c = λ limit before after first last clock then text start now r.
-    recorded_all g.S.Source.seen g.F.FileSeries.seen g.C.PeriodClock.asked limit before after first last clock then text start now r (g.met.S.Source.ended_is_end after)
+returns g c = recorded_all g.S.Source.seen g.F.FileSeries.seen g.C.PeriodClock.asked g.met.S.Source.ended_is_end

@@ -1,5 +1,3 @@
-use Rattle.std.proofs.Common.{sym, subst}
-use Rattle.recording_files.specs.Recorders.{Told, Counted}
 use Rattle.recording_files.proofs.Counts.{up_to-none}
 use Rattle.recording_files.proofs.Gatherings.{nothing_waits}
 use Rattle.recording_files.proofs.Going.{with_more-none}
@@ -11,10 +9,4 @@ returns-then-is_settled-clause-appends g c = λ b text t.
     with_more-none (g.F.FileSeries.seen c.args.files.now) c.args.gathering.now.out.items (nothing_waits b c.args.gathering.now t.messages t.given t.took settled)
 
 pub returns-then-is_settled-clause-counted : goal.returns-then-is_settled-clause-counted
-returns-then-is_settled-clause-counted g c = λ b text t counted.
-    let told = c.args.gathering.now.counts.told in
-    up_to-none told c.args.gathering.now.counts.waiting (c.is_settled.ensures.0 c.if-is_settled.true) b.before b.here t.given (subst (λ (u : Told). Counted u b.before b.here) (sym t.took.told_is) counted) t.took.counted
-
-pub returns-clause-counted : goal.returns-clause-counted
-returns-clause-counted g c = λ b text t counted.
-    c.count_waiting.ensures b.before b.here t.given (subst (λ (u : Told). Counted u b.before b.here) (sym t.took.told_is) counted) t.took.counted
+returns-then-is_settled-clause-counted g c = up_to-none c.args.gathering.now.counts.told c.args.gathering.now.counts.waiting (c.is_settled.ensures.0 c.if-is_settled.true)

@@ -9,5 +9,14 @@ returns c = λ is.
     let start : Contents = record { finished = []; reports = []; unfinished = [] } in
     let now : Contents = record { finished = map (λ v. v.items) files.finished.items; reports = files.reports.items; unfinished = files.unfinished.items } in
     let fresh = subst (λ (v : FilesView). IsEmpty v.contents) (sym c.new-files.ensures) refl in
-    (c.recorded_to_the_end.ensures _ _ _ _ _ _ _ c.args.text.items start now c.record-session.result (c.record-session.ensures fresh) is
-    (ap (λ (v : SourceView). v.text) c.new-source.ensures) (ap (λ (v : FilesView). v.contents) c.new-files.ensures) refl refl).2
+    (c.recorded_to_the_end.ensures c.args.text.items _ _ start now (record {
+      limit = _;
+      before = _;
+      after = _;
+      start = _;
+      end = _;
+      session = c.record-session.result;
+      records = c.record-session.ensures fresh;
+      no_fault = is;
+      text_is = ap (λ (v : SourceView). v.text) c.new-source.ensures;
+    }) (record { at_first = ap (λ (v : FilesView). v.contents) c.new-files.ensures; at_last = refl }) refl).1.records
