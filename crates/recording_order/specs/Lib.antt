@@ -1,0 +1,6 @@
+-- What public contracts cite.
+pub mod Arrivals
+pub mod DataSets
+pub mod Numbers
+pub mod Leasts
+pub mod Windows
