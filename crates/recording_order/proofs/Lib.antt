@@ -1,1 +1,2 @@
 mod DataSets
+mod Keeping

@@ -5,6 +5,7 @@ use Rattle.std.specs.Map.{lookup}
 use Rattle.std.specs.Option.{option_map_or}
 use Rattle.indexmap.specs.IndexMap.{insert_entry}
 use Rattle.ipfix_session.specs.Ledger.{capped}
+use Rattle.ipfix_wire.specs.declared.header.Header.{Header}
 use Rattle.recording_order.specs.Arrivals.{Arrival, is_in, count_in, octets_of, room_beside, is_among}
 use Rattle.recording_order.specs.DataSets.{has_data}
 use Rattle.recording_order.specs.Leasts.{least_of}
@@ -130,11 +131,12 @@ with_last w a = record w { last = fitting (room_beside ROOM w.waiting) (at_most 
 -- ---- a datagram that comes
 
 -- it is doubled: it has a data set, and is the same as one that waits or one of the last
-abbrev pub is_doubled : WindowView → Arrival → Bool
-is_doubled w a = has_data a.octets && (is_among a.header.domain a.octets w.waiting || is_among a.header.domain a.octets w.last)
+abbrev pub is_doubled : WindowView → ℕ → List ℕ → Bool
+is_doubled w domain octets = has_data octets && (is_among domain octets w.waiting || is_among domain octets w.last)
 
-abbrev pub has_room : WindowView → Arrival → Bool
-has_room w a = nat_lt (count_in a.header.domain w.waiting) MOST_WAITING && nat_le (length a.octets) (room_beside ROOM w.waiting)
+-- there is room for one more of a domain, with so many octets
+abbrev pub has_room : WindowView → ℕ → ℕ → Bool
+has_room w domain size = nat_lt (count_in domain w.waiting) MOST_WAITING && nat_le size (room_beside ROOM w.waiting)
 
 -- it waits, and the last ones take what is left of the room
 abbrev pub held : WindowView → Arrival → WindowView
@@ -145,8 +147,8 @@ held w a =
 abbrev pub Offered : Type 0
 Offered = Offer × WindowView
 
-abbrev pub now : WindowView → Arrival → Offered
-now w a = (Write, passing w a.header.domain w.waiting)
+abbrev pub now : WindowView → ℕ → Offered
+now w domain = (Write, passing w domain w.waiting)
 
 -- the one that leaves is first, if one does
 abbrev pub first_or : Offered → Option (Arrival × WindowView) → Offered
@@ -154,21 +156,28 @@ first_or other None = other
 first_or other (Some x) = (First x.0, x.1)
 
 -- there is no room: the least of those that wait and itself is written
-abbrev pub offered_full : WindowView → Arrival → Option Least → Offered
-offered_full w a None = now w a
-offered_full w a (Some l) =
-    if nat_le l.place (place (due_number w a.header.domain) a.header.sequence) then first_or (now w a) (leaving w (Some l)) else now w a
+abbrev pub offered_full : WindowView → Header → Option Least → Offered
+offered_full w h None = now w h.domain
+offered_full w h (Some l) =
+    if nat_le l.place (place (due_number w h.domain) h.sequence) then first_or (now w h.domain) (leaving w (Some l)) else now w h.domain
+
+-- it is far away: those that wait are written first
+abbrev pub offered_anew : WindowView → ℕ → Offered
+offered_anew w domain = first_or (now w domain) (leaving w (least w domain))
+
+abbrev pub offered_ahead : WindowView → Arrival → Offered
+offered_ahead w a = if has_room w a.header.domain (length a.octets) then (Waits, held w a) else offered_full w a.header (least w a.header.domain)
 
 abbrev pub offered_as : WindowView → Arrival → Standing → Offered
-offered_as w a AtOnce = now w a
-offered_as w a Ahead = if has_room w a then (Waits, held w a) else offered_full w a (least w a.header.domain)
-offered_as w a Afar = first_or (now w a) (leaving w (least w a.header.domain))
+offered_as w a AtOnce = now w a.header.domain
+offered_as w a Ahead = offered_ahead w a
+offered_as w a Afar = offered_anew w a.header.domain
 
 -- what is to be done with it, and what is kept then
 abbrev pub offered : WindowView → Arrival → Offered
 offered w a =
     if w.seconds == 0 then (Write, w)
-    else if is_doubled w a then (Doubled, with_doubled w a.header.domain)
+    else if is_doubled w a.header.domain a.octets then (Doubled, with_doubled w a.header.domain)
     else offered_as w a (standing_of (numbering w a.header.domain) a.header.sequence)
 
 -- ---- after it was written

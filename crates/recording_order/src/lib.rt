@@ -6,12 +6,16 @@
 mod data_sets;
 mod datagram;
 mod datagram_counts;
+mod last;
 mod least;
+mod leaving;
 mod limits;
 mod lists;
 mod numbering;
 mod offer;
+mod offering;
 mod window;
+mod writing;
 
 pub use datagram::Datagram;
 pub use datagram_counts::DatagramCounts;

@@ -1,6 +1,6 @@
 //! Lists of datagrams.
 
-ghost use Rattle.std.specs.Prelude.{◌≡◌, ◌≤◌, length};
+ghost use Rattle.std.specs.Prelude.{◌≡◌, ◌<◌, length, nat_le, IfSome};
 ghost use Rattle.recording_order.specs.Arrivals as specs;
 ghost use Rattle.std.specs.List.{list_any, position_from};
 
@@ -27,7 +27,8 @@ pub(crate) fn has_one(datagrams: &[Datagram], domain: u32) -> bool
 
 /// Where the first of a domain is.
 pub(crate) fn first_in(datagrams: &[Datagram], domain: u32) -> Option<usize>
-    ensures { result ≡ position_from (specs.is_in domain) 0 datagrams.now }
+    ensures value { result ≡ position_from (specs.is_in domain) 0 datagrams.now }
+    ensures within { IfSome result (λ index. index < length datagrams.now) }
 {
     datagrams
         .iter()
@@ -52,4 +53,18 @@ pub(crate) fn room_beside(room: usize, datagrams: &[Datagram]) -> usize
         left = left.saturating_sub(datagram.octets().len());
     }
     left
+}
+
+/// Whether datagrams take no more than a room.
+pub(crate) fn fits(room: usize, datagrams: &[Datagram]) -> bool
+    ensures { result ≡ nat_le (specs.octets_of datagrams.now) room }
+{
+    let mut left = room;
+    for datagram in datagrams {
+        match left.checked_sub(datagram.octets().len()) {
+            Some(rest) => left = rest,
+            None => return false,
+        }
+    }
+    true
 }
