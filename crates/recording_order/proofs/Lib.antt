@@ -1,2 +1,4 @@
 mod DataSets
+mod Bags
+mod Ends
 mod Keeping

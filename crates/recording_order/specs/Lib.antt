@@ -4,3 +4,4 @@ pub mod DataSets
 pub mod Numbers
 pub mod Leasts
 pub mod Windows
+pub mod Releases

@@ -6,6 +6,7 @@
 mod data_sets;
 mod datagram;
 mod datagram_counts;
+pub mod laws;
 mod last;
 mod least;
 mod leaving;

@@ -1,0 +1,108 @@
+-- What is written of a peer's datagrams, over a whole run.
+use Rattle.std.specs.Prelude.{◌≡◌, ℕ, zero, suc, ◌+◌, Option, Some, None, List, [], ◌∷◌, ◌++◌, length, flat_map}
+use Rattle.recording_order.specs.Arrivals.{Arrival}
+use Rattle.recording_order.specs.Windows.{WindowView, Offered, offered, after_writing, next_of, late_domain, last_of}
+use Rattle.recording_order.specs.declared.datagram_counts.DatagramCounts.{DatagramCounts}
+use Rattle.recording_order.specs.declared.offer.Offer.{Offer}
+use Rattle.recording_order.specs.declared.offer.Offer.TheVariants.{Write, Waits, Doubled, First}
+
+-- a datagram came, or a second began
+pub data Event : Type 0 where
+  Came : Arrival → Event
+  Tick : ℕ → Event
+
+-- the datagrams that came
+abbrev pub came_in : Event → List Arrival
+came_in (Came a) = a ∷ []
+came_in (Tick second) = []
+
+abbrev pub came : List Event → List Arrival
+came es = flat_map came_in es
+
+-- what the recorder says of each datagram that it writes, by how many it wrote before
+abbrev pub Says : Type 0
+Says = ℕ → DatagramCounts
+
+-- what is kept, and the datagrams that were written and those that were doubled, each in turn
+pub record Run : Type 0 where
+  pub window : WindowView
+  pub written : List Arrival
+  pub doubled : List Arrival
+
+-- this one is written, where this is kept
+abbrev pub write : Says → Arrival → WindowView → Run → Run
+write says a w r = record { window = after_writing w a (says (length r.written)); written = r.written ++ a ∷ []; doubled = r.doubled }
+
+-- ---- a datagram that comes
+
+-- it is offered; where another is first, it is offered again once that was written
+abbrev pub take_offered : Says → Arrival → (Run → Run) → Run → Offered → Run
+take_offered says a again r o = elim o.0 [
+  | Write ↦ write says a o.1 r
+  | Waits ↦ record r { window = o.1 }
+  | Doubled ↦ record r { window = o.1; doubled = r.doubled ++ a ∷ [] }
+  | First b ↦ again (write says b o.1 r)
+]
+
+-- at most so many are first
+abbrev pub take_with : Says → Arrival → ℕ → Run → Run
+take_with says a zero r = write says a r.window r
+take_with says a (suc fuel) r = take_offered says a (take_with says a fuel) r (offered r.window a)
+
+-- those that wait are at most first
+abbrev pub take_run : Says → Arrival → Run → Run
+take_run says a r = take_with says a (suc (length r.window.waiting)) r
+
+-- ---- those that waited
+
+-- the next ones of a domain are written, at most so many
+abbrev pub go_on : (Run → Run) → Says → Run → Option (Arrival × WindowView) → Run
+go_on again says r None = r
+go_on again says r (Some x) = again (write says x.0 x.1 r)
+
+abbrev pub settle_with : Says → ℕ → ℕ → ℕ → Run → Run
+settle_with says domain second zero r = r
+settle_with says domain second (suc fuel) r = go_on (settle_with says domain second fuel) says r (next_of r.window domain second)
+
+abbrev pub settle : Says → ℕ → ℕ → Run → Run
+settle says domain second r = settle_with says domain second (length r.window.waiting) r
+
+-- a second began: the domains where the time of one is over
+abbrev pub settle_late : (Run → Run) → Says → ℕ → Run → Option ℕ → Run
+settle_late again says second r None = r
+settle_late again says second r (Some domain) = again (settle says domain second r)
+
+abbrev pub tick_with : Says → ℕ → ℕ → Run → Run
+tick_with says second zero r = r
+tick_with says second (suc fuel) r = settle_late (tick_with says second fuel) says second r (late_domain r.window second)
+
+abbrev pub tick : Says → ℕ → Run → Run
+tick says second r = tick_with says second (length r.window.waiting) r
+
+-- the end of the peer
+abbrev pub finish_with : Says → ℕ → Run → Run
+finish_with says zero r = r
+finish_with says (suc fuel) r = go_on (finish_with says fuel) says r (last_of r.window r.window.waiting)
+
+abbrev pub finish : Says → Run → Run
+finish says r = finish_with says (length r.window.waiting) r
+
+-- ---- a whole run
+
+abbrev pub step : Says → Run → Event → Run
+step says r (Came a) = settle says a.header.domain a.second (take_run says a r)
+step says r (Tick second) = tick says second r
+
+abbrev pub run_from : Says → Run → List Event → Run
+run_from says r [] = r
+run_from says r (e ∷ es) = run_from says (step says r e) es
+
+abbrev pub start : ℕ → Run
+start seconds = record { window = record { seconds = seconds; numbers = []; waiting = []; last = [] }; written = []; doubled = [] }
+
+abbrev pub run : Says → ℕ → List Event → Run
+run says seconds es = run_from says (start seconds) es
+
+-- what is written of all that came, where the peer ended after it
+abbrev pub released : Says → ℕ → List Event → List Arrival
+released says seconds es = (finish says (run says seconds es)).written

@@ -1,0 +1,24 @@
+//! Laws of the definitions. Each is a function that does nothing, and its contract is the theorem: a
+//! call brings that to the proof of its caller.
+
+ghost use Rattle.std.specs.Prelude.{◌≡◌, ◌+◌, ℕ, List, [], sum_by};
+ghost use Rattle.recording_order.specs.Arrivals.{Arrival};
+ghost use Rattle.recording_order.specs.Releases.{Event, Says, came, finish, released, run};
+
+/// Every datagram that came was written, waits, or was doubled, and each once: whatever weights are given
+/// to datagrams, those of the three add up to those of all that came.
+pub fn each_once()
+    ensures { (weight : Arrival → ℕ) (says : Says) (seconds : ℕ) (es : List Event)
+        → sum_by weight (run says seconds es).written
+        + sum_by weight (run says seconds es).window.waiting
+        + sum_by weight (run says seconds es).doubled ≡ sum_by weight (came es) }
+{}
+
+/// At the peer's end nothing waits: what was released, and what was doubled, is all that came, each once.
+pub fn nothing_waits_at_the_end()
+    ensures waiting { (says : Says) (seconds : ℕ) (es : List Event)
+        → (finish says (run says seconds es)).window.waiting ≡ [] }
+    ensures each_once { (weight : Arrival → ℕ) (says : Says) (seconds : ℕ) (es : List Event)
+        → sum_by weight (released says seconds es) + sum_by weight (run says seconds es).doubled
+        ≡ sum_by weight (came es) }
+{}
