@@ -18,9 +18,11 @@ use Rattle.ipfix_message.specs.Alike.{knows}
 use Rattle.ipfix_message.proofs.Reading.{not_both, fault_is}
 use Rattle.ipfix_message.proofs.History.{bad_header, none_is}
 use Rattle.ipfix_message.proofs.PartsOf.{HasRoom}
+use Rattle.ipfix_message.specs.declared.record.Template.{Template}
+use Rattle.ipfix_datagrams.specs.declared.withdrawn_template.WithdrawnTemplate.{WithdrawnTemplate}
 use Rattle.ipfix_datagrams.specs.declared.datagram_fault.DatagramFault.{DatagramFault}
 use Rattle.ipfix_datagrams.specs.declared.datagram_fault.DatagramFault.TheVariants.{Message as OfMessage, Withdrawal}
-use Rattle.ipfix_datagrams.specs.Datagrams.{with_freed, HasOwn, Frees, KeepsIds, IsTaken, IsRefused}
+use Rattle.ipfix_datagrams.specs.Datagrams.{with_withdrawn, replaced, HasOwn, Changes, KeepsIds, IsTaken, IsRefused}
 use Rattle.ipfix_datagrams.specs.Attempts.{Reads, FailsBy}
 use Rattle.ipfix_datagrams.proofs.Readings.{fails_or, room_or, same_reading, alike_fault}
 
@@ -81,7 +83,7 @@ pub taken_plainly : (ds : History) (m : List ℕ) (domain : ℕ) → Reads ds do
 taken_plainly ds m domain r = (
   r.given,
   record {
-    frees = inl refl;
+    changes = inl refl;
     read = r.read;
     keeps = subst (λ (d : ℕ). KeepsIds (events_in ds d) r.given.decoding.events) (sym r.domain_is) r.keeps;
   },
@@ -93,16 +95,16 @@ refused_plainly ds m domain (OfMessage f) other fails = elim (fails_or f (messag
   | inr e ↦ inr (inl (e, λ same. other (ap (λ (k : MessageFault). OfMessage k) same)))
 ]
 refused_plainly ds m domain Withdrawal other loses = record {
-  ids = [];
+  withdrawn = [];
   given = loses.given;
-  frees = inl refl;
+  changes = inl refl;
   read = loses.read;
   id = loses.id;
   was = subst (λ (d : ℕ). IsSome (in_force (events_in ds d) loses.id)) (sym loses.domain_is) loses.was;
   is = loses.is;
 }
 
--- ---- with its own ids freed
+-- ---- after the templates that it replaces are withdrawn
 
 pub changed_is : (ds : History) (m : List ℕ) (domain : ℕ) (fault : DatagramFault) → fault ≡ OfMessage TemplateChanged → FailsBy fault ds domain [] m → message_gives ds m ≡ Err TemplateChanged
 changed_is ds m domain fault is fails = by_fault (subst (λ (f : DatagramFault). FailsBy f ds domain [] m) is fails)
@@ -116,42 +118,46 @@ itself_refused ds m f changed fails = elim (fails_or f (message_gives [] m) fail
   | inr e ↦ inr (inr (inl (changed, e)))
 ]
 
+-- what its own templates replace
+pub changes_are : (ds : History) (m : List ℕ) (domain : ℕ) (ws : List WithdrawnTemplate) → message_gives ds m ≡ Err TemplateChanged → (own : List Template) × HasOwn m domain own × (ws ≡ replaced (events_in ds domain) own) → Changes ds m domain ws
+changes_are ds m domain ws changed own = record { changed = changed; templates = own.0; has_own = own.1; are = own.2 }
+
 -- a domain whose templates are changed is known
-pub changed_knows : (ds : History) (m : List ℕ) (h : Header) (ids : List ℕ) → message_header m ≡ Ok h → HasRoom ds h.domain → message_gives ds m ≡ Err TemplateChanged → HasOwn m h.domain ids → knows ds h.domain ≡ true
-changed_knows ds m h ids good room changed own = elim room [
+pub changed_knows : (ds : History) (m : List ℕ) (h : Header) (ws : List WithdrawnTemplate) → message_header m ≡ Ok h → HasRoom ds h.domain → Changes ds m h.domain ws → knows ds h.domain ≡ true
+changed_knows ds m h ws good room c = elim room [
   | inl there ↦ there
   | inr new ↦
       let none : events_in ds h.domain ≡ [] = ap (λ (o : Option (List Event)). unwrap_or o []) (none_is (lookup (eqb h.domain) ds) new.0) in
       let alike = same_reading ds [] m h good (inr new) (inr (refl, omega arith)) none in
-      absurd (not_both own.own TemplateChanged (sym own.is ∙ alike_fault (message_gives ds m) (message_gives [] m) TemplateChanged alike changed))
+      absurd (not_both c.has_own.own TemplateChanged (sym c.has_own.is ∙ alike_fault (message_gives ds m) (message_gives [] m) TemplateChanged alike c.changed))
 ]
 
-pub freed_knows : (ds : History) (m : List ℕ) (h : Header) (ids : List ℕ) → message_header m ≡ Ok h → Frees ds m h.domain ids → knows ds h.domain ≡ true
-freed_knows ds m h ids good f = elim (room_or ds h.domain) [
-  | inl room ↦ changed_knows ds m h ids good room f.changed f.has_own
-  | inr full ↦ absurd (room_is_changed (message_gives ds m) (no_room_gives ds m h good full) f.changed)
+pub changes_knows : (ds : History) (m : List ℕ) (h : Header) (ws : List WithdrawnTemplate) → message_header m ≡ Ok h → Changes ds m h.domain ws → knows ds h.domain ≡ true
+changes_knows ds m h ws good c = elim (room_or ds h.domain) [
+  | inl room ↦ changed_knows ds m h ws good room c
+  | inr full ↦ absurd (room_is_changed (message_gives ds m) (no_room_gives ds m h good full) c.changed)
 ]
 
-pub taken_freed : (ds : History) (m : List ℕ) (domain : ℕ) (ids : List ℕ) → message_gives ds m ≡ Err TemplateChanged → HasOwn m domain ids → Reads ds domain ids m → (x : Message) × IsTaken ds m ids x
-taken_freed ds m domain ids changed own r = (
+pub taken_changed : (ds : History) (m : List ℕ) (domain : ℕ) (ws : List WithdrawnTemplate) → Changes ds m domain ws → Reads ds domain ws m → (x : Message) × IsTaken ds m ws x
+taken_changed ds m domain ws c r = (
   r.given,
   record {
-    frees = inr (record { changed = changed; has_own = subst (λ (d : ℕ). HasOwn m d ids) (sym r.domain_is) own });
-    read = subst (λ (d : ℕ). message_gives (with_freed ds d ids) m ≡ Ok r.given) (sym r.domain_is) r.read;
+    changes = inr (subst (λ (d : ℕ). Changes ds m d ws) (sym r.domain_is) c);
+    read = subst (λ (d : ℕ). message_gives (with_withdrawn ds d ws) m ≡ Ok r.given) (sym r.domain_is) r.read;
     keeps = subst (λ (d : ℕ). KeepsIds (events_in ds d) r.given.decoding.events) (sym r.domain_is) r.keeps;
   },
 )
 
-pub refused_freed : (ds : History) (m : List ℕ) (domain : ℕ) (ids : List ℕ) (fault : DatagramFault) → message_gives ds m ≡ Err TemplateChanged → HasOwn m domain ids → FailsBy fault ds domain ids m → IsRefused ds m fault
-refused_freed ds m domain ids (OfMessage f) changed own fails = elim (fails_or f (message_gives (with_freed ds domain ids) m) fails) [
+pub refused_changed : (ds : History) (m : List ℕ) (domain : ℕ) (ws : List WithdrawnTemplate) (fault : DatagramFault) → Changes ds m domain ws → FailsBy fault ds domain ws m → IsRefused ds m fault
+refused_changed ds m domain ws (OfMessage f) c fails = elim (fails_or f (message_gives (with_withdrawn ds domain ws) m) fails) [
   | inl e ↦ inl e
-  | inr e ↦ inr (inr (inr (record { domain = domain; ids = ids; frees = record { changed = changed; has_own = own }; fault = e })))
+  | inr e ↦ inr (inr (inr (record { domain = domain; withdrawn = ws; changes = c; fault = e })))
 ]
-refused_freed ds m domain ids Withdrawal changed own loses = record {
-  ids = ids;
+refused_changed ds m domain ws Withdrawal c loses = record {
+  withdrawn = ws;
   given = loses.given;
-  frees = inr (record { changed = changed; has_own = subst (λ (d : ℕ). HasOwn m d ids) (sym loses.domain_is) own });
-  read = subst (λ (d : ℕ). message_gives (with_freed ds d ids) m ≡ Ok loses.given) (sym loses.domain_is) loses.read;
+  changes = inr (subst (λ (d : ℕ). Changes ds m d ws) (sym loses.domain_is) c);
+  read = subst (λ (d : ℕ). message_gives (with_withdrawn ds d ws) m ≡ Ok loses.given) (sym loses.domain_is) loses.read;
   id = loses.id;
   was = subst (λ (d : ℕ). IsSome (in_force (events_in ds d) loses.id)) (sym loses.domain_is) loses.was;
   is = loses.is;

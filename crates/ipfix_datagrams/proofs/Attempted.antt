@@ -20,19 +20,20 @@ use Rattle.ipfix_message.specs.Messages.{Decoding}
 use Rattle.ipfix_message.specs.Domains.{History, Message, admit, alone, events_in, template_for, message_header, message_gives}
 use Rattle.ipfix_message.specs.Alike.{Alike, knows}
 use Rattle.ipfix_message.proofs.PartsOf.{HasRoom}
+use Rattle.ipfix_datagrams.specs.declared.withdrawn_template.WithdrawnTemplate.{WithdrawnTemplate}
 use Rattle.ipfix_datagrams.specs.declared.datagram_fault.DatagramFault.TheVariants.{Message as OfMessage}
-use Rattle.ipfix_datagrams.specs.Datagrams.{with_freed}
+use Rattle.ipfix_datagrams.specs.Datagrams.{with_withdrawn}
 use Rattle.ipfix_datagrams.specs.Attempts.{Reads, Loses, FailsBy}
-use Rattle.ipfix_datagrams.proofs.FreedIds.{alone_none, knows-freed, same_freed, alone_events, alone_knows}
+use Rattle.ipfix_datagrams.proofs.WithdrawnDomains.{alone_none, knows-withdrawn, same_withdrawn, alone_events, alone_knows}
 use Rattle.ipfix_datagrams.proofs.Readings.{SameGiven, room_of, same_reading, alike_given, alike_fails, template_is, template_behind, header_same}
 
--- the copy, and the domains themselves, with the ids freed
-abbrev copy : History → ℕ → List ℕ → History
-copy ds domain ids = with_freed (alone ds domain) domain ids
+-- the copy, after the templates are withdrawn
+abbrev copy : History → ℕ → List WithdrawnTemplate → History
+copy ds domain ws = with_withdrawn (alone ds domain) domain ws
 
-copy_events : (ds : History) (domain : ℕ) (ids : List ℕ) → (ids ≡ []) ⊎ (knows ds domain ≡ true) → events_in (copy ds domain ids) domain ≡ events_in (with_freed ds domain ids) domain
-copy_events ds domain ids (inl none) = subst (λ (xs : List ℕ). events_in (copy ds domain xs) domain ≡ events_in (with_freed ds domain xs) domain) (sym none) (alone_events ds domain)
-copy_events ds domain ids (inr there) = same_freed ds (alone ds domain) domain ids there (alone_knows ds domain ∙ there) (alone_events ds domain)
+copy_events : (ds : History) (domain : ℕ) (ws : List WithdrawnTemplate) → (ws ≡ []) ⊎ (knows ds domain ≡ true) → events_in (copy ds domain ws) domain ≡ events_in (with_withdrawn ds domain ws) domain
+copy_events ds domain ws (inl none) = subst (λ (xs : List WithdrawnTemplate). events_in (copy ds domain xs) domain ≡ events_in (with_withdrawn ds domain xs) domain) (sym none) (alone_events ds domain)
+copy_events ds domain ws (inr there) = same_withdrawn ds (alone ds domain) domain ws there (alone_knows ds domain ∙ there) (alone_events ds domain)
 
 unknown_alone : (ds : History) (domain : ℕ) → knows ds domain ≡ false → alone ds domain ≡ []
 unknown_alone ds domain new = by_cases (lookup (eqb domain) ds) refl
@@ -41,59 +42,59 @@ unknown_alone ds domain new = by_cases (lookup (eqb domain) ds) refl
     by_cases None e = alone_none ds domain e
     by_cases (Some es) e = let no : true ≡ false = sym (ap is_some e) ∙ new in absurd cc
 
-freed_none : (domain : ℕ) (ids : List ℕ) → with_freed [] domain ids ≡ []
-freed_none domain [] = refl
-freed_none domain (id ∷ ids) = freed_none domain ids
+withdrawn_none : (domain : ℕ) (ws : List WithdrawnTemplate) → with_withdrawn [] domain ws ≡ []
+withdrawn_none domain [] = refl
+withdrawn_none domain (w ∷ ws) = withdrawn_none domain ws
 
-copy_room : (ds : History) (domain : ℕ) (ids : List ℕ) → HasRoom ds domain → HasRoom (copy ds domain ids) domain
-copy_room ds domain ids (inl there) = inl (knows-freed (alone ds domain) domain ids domain ∙ alone_knows ds domain ∙ there)
-copy_room ds domain ids (inr new) =
-    let none : copy ds domain ids ≡ [] = ap (λ (k : History). with_freed k domain ids) (unknown_alone ds domain new.0) ∙ freed_none domain ids in
+copy_room : (ds : History) (domain : ℕ) (ws : List WithdrawnTemplate) → HasRoom ds domain → HasRoom (copy ds domain ws) domain
+copy_room ds domain ws (inl there) = inl (knows-withdrawn (alone ds domain) domain ws domain ∙ alone_knows ds domain ∙ there)
+copy_room ds domain ws (inr new) =
+    let none : copy ds domain ws ≡ [] = ap (λ (k : History). with_withdrawn k domain ws) (unknown_alone ds domain new.0) ∙ withdrawn_none domain ws in
     inr (rw none refl, rw none (omega arith))
 
-freed_room : (ds : History) (domain : ℕ) (ids : List ℕ) → (ids ≡ []) ⊎ (knows ds domain ≡ true) → HasRoom ds domain → HasRoom (with_freed ds domain ids) domain
-freed_room ds domain ids (inl none) room = subst (λ (xs : List ℕ). HasRoom (with_freed ds domain xs) domain) (sym none) room
-freed_room ds domain ids (inr there) room = inl (knows-freed ds domain ids domain ∙ there)
+withdrawn_room : (ds : History) (domain : ℕ) (ws : List WithdrawnTemplate) → (ws ≡ []) ⊎ (knows ds domain ≡ true) → HasRoom ds domain → HasRoom (with_withdrawn ds domain ws) domain
+withdrawn_room ds domain ws (inl none) room = subst (λ (xs : List WithdrawnTemplate). HasRoom (with_withdrawn ds domain xs) domain) (sym none) room
+withdrawn_room ds domain ws (inr there) room = inl (knows-withdrawn ds domain ws domain ∙ there)
 
 -- the datagram is read in the copy as it is there
-copy_reads : (ds : History) (m : List ℕ) (h : Header) (ids : List ℕ) → message_header m ≡ Ok h → IsOk (admit ds h.domain) → (ids ≡ []) ⊎ (knows ds h.domain ≡ true)
-    → Alike SameGiven (message_gives (copy ds h.domain ids) m) (message_gives (with_freed ds h.domain ids) m)
-copy_reads ds m h ids good ok known =
+copy_reads : (ds : History) (m : List ℕ) (h : Header) (ws : List WithdrawnTemplate) → message_header m ≡ Ok h → IsOk (admit ds h.domain) → (ws ≡ []) ⊎ (knows ds h.domain ≡ true)
+    → Alike SameGiven (message_gives (copy ds h.domain ws) m) (message_gives (with_withdrawn ds h.domain ws) m)
+copy_reads ds m h ws good ok known =
     let room = room_of ds h.domain ok in
-    same_reading (copy ds h.domain ids) (with_freed ds h.domain ids) m h good (copy_room ds h.domain ids room) (freed_room ds h.domain ids known room) (copy_events ds h.domain ids known)
+    same_reading (copy ds h.domain ws) (with_withdrawn ds h.domain ws) m h good (copy_room ds h.domain ws room) (withdrawn_room ds h.domain ws known room) (copy_events ds h.domain ws known)
 
-pub attempt_fails : (ds : History) (m : List ℕ) (h : Header) (ids : List ℕ) (f : MessageFault) → message_header m ≡ Ok h → IsOk (admit ds h.domain) → (ids ≡ []) ⊎ (knows ds h.domain ≡ true)
-    → Fails f (message_gives (copy ds h.domain ids) m) → FailsBy (OfMessage f) ds h.domain ids m
-attempt_fails ds m h ids f good ok known fails =
-    alike_fails (message_gives (copy ds h.domain ids) m) (message_gives (with_freed ds h.domain ids) m) f (copy_reads ds m h ids good ok known) fails
+pub attempt_fails : (ds : History) (m : List ℕ) (h : Header) (ws : List WithdrawnTemplate) (f : MessageFault) → message_header m ≡ Ok h → IsOk (admit ds h.domain) → (ws ≡ []) ⊎ (knows ds h.domain ≡ true)
+    → Fails f (message_gives (copy ds h.domain ws) m) → FailsBy (OfMessage f) ds h.domain ws m
+attempt_fails ds m h ws f good ok known fails =
+    alike_fails (message_gives (copy ds h.domain ws) m) (message_gives (with_withdrawn ds h.domain ws) m) f (copy_reads ds m h ws good ok known) fails
 
 -- the templates after it are those of the message
 behind : (fs ds : History) (m : List ℕ) (h : Header) (x y : Message) (id : ℕ) → message_header m ≡ Ok h → message_gives fs m ≡ Ok x → SameGiven x y → template_for x.domains h.domain id ≡ in_force y.decoding.events id
 behind fs ds m h x y id good read same =
     ap (λ (k : Header). template_for x.domains k.domain id) (sym (header_same fs m h x good read)) ∙ template_behind fs m x id read ∙ ap (λ (d : Decoding). in_force d.events id) same.1
 
-pub attempt_reads : (ds : History) (m : List ℕ) (h : Header) (ids : List ℕ) (x : Message) → message_header m ≡ Ok h → IsOk (admit ds h.domain) → (ids ≡ []) ⊎ (knows ds h.domain ≡ true)
-    → message_gives (copy ds h.domain ids) m ≡ Ok x → ((id : ℕ) → IsSome (template_for ds h.domain id) → IsSome (template_for x.domains h.domain id)) → Reads ds h.domain ids m
-attempt_reads ds m h ids x good ok known read keeps =
-    let y = alike_given (message_gives (copy ds h.domain ids) m) (message_gives (with_freed ds h.domain ids) m) x (copy_reads ds m h ids good ok known) read in
+pub attempt_reads : (ds : History) (m : List ℕ) (h : Header) (ws : List WithdrawnTemplate) (x : Message) → message_header m ≡ Ok h → IsOk (admit ds h.domain) → (ws ≡ []) ⊎ (knows ds h.domain ≡ true)
+    → message_gives (copy ds h.domain ws) m ≡ Ok x → ((id : ℕ) → IsSome (template_for ds h.domain id) → IsSome (template_for x.domains h.domain id)) → Reads ds h.domain ws m
+attempt_reads ds m h ws x good ok known read keeps =
+    let y = alike_given (message_gives (copy ds h.domain ws) m) (message_gives (with_withdrawn ds h.domain ws) m) x (copy_reads ds m h ws good ok known) read in
     record {
       given = y.0;
-      domain_is = ap (λ (k : Header). k.domain) (header_same (with_freed ds h.domain ids) m h y.0 good y.1);
+      domain_is = ap (λ (k : Header). k.domain) (header_same (with_withdrawn ds h.domain ws) m h y.0 good y.1);
       read = y.1;
-      keeps = λ id was. ap is_some (sym (behind (copy ds h.domain ids) ds m h x y.0 id good read y.2)) ∙ keeps id (ap is_some (template_is ds h.domain id) ∙ was);
+      keeps = λ id was. ap is_some (sym (behind (copy ds h.domain ws) ds m h x y.0 id good read y.2)) ∙ keeps id (ap is_some (template_is ds h.domain id) ∙ was);
     }
 
-pub attempt_loses : (ds : History) (m : List ℕ) (h : Header) (ids : List ℕ) (x : Message) → message_header m ≡ Ok h → IsOk (admit ds h.domain) → (ids ≡ []) ⊎ (knows ds h.domain ≡ true)
-    → message_gives (copy ds h.domain ids) m ≡ Ok x → (id : ℕ) × IsSome (template_for ds h.domain id) × (template_for x.domains h.domain id ≡ None) → Loses ds h.domain ids m
-attempt_loses ds m h ids x good ok known read lost =
-    let y = alike_given (message_gives (copy ds h.domain ids) m) (message_gives (with_freed ds h.domain ids) m) x (copy_reads ds m h ids good ok known) read in
+pub attempt_loses : (ds : History) (m : List ℕ) (h : Header) (ws : List WithdrawnTemplate) (x : Message) → message_header m ≡ Ok h → IsOk (admit ds h.domain) → (ws ≡ []) ⊎ (knows ds h.domain ≡ true)
+    → message_gives (copy ds h.domain ws) m ≡ Ok x → (id : ℕ) × IsSome (template_for ds h.domain id) × (template_for x.domains h.domain id ≡ None) → Loses ds h.domain ws m
+attempt_loses ds m h ws x good ok known read lost =
+    let y = alike_given (message_gives (copy ds h.domain ws) m) (message_gives (with_withdrawn ds h.domain ws) m) x (copy_reads ds m h ws good ok known) read in
     record {
       given = y.0;
-      domain_is = ap (λ (k : Header). k.domain) (header_same (with_freed ds h.domain ids) m h y.0 good y.1);
+      domain_is = ap (λ (k : Header). k.domain) (header_same (with_withdrawn ds h.domain ws) m h y.0 good y.1);
       read = y.1;
       id = lost.0;
       was = ap is_some (sym (template_is ds h.domain lost.0)) ∙ lost.1;
-      is = sym (behind (copy ds h.domain ids) ds m h x y.0 lost.0 good read y.2) ∙ lost.2;
+      is = sym (behind (copy ds h.domain ws) ds m h x y.0 lost.0 good read y.2) ∙ lost.2;
     }
 
 -- ---- whether all ids are kept

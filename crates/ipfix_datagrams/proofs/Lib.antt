@@ -1,7 +1,7 @@
 pub mod Withdrawn
-pub mod FreedIds
+pub mod WithdrawnDomains
 pub mod Readings
-pub mod OwnTemplates
+pub mod Replacing
 pub mod Answered
 pub mod Attempted
 pub mod Reaches

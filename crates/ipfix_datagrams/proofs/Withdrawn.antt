@@ -1,5 +1,5 @@
--- A message that withdraws an id is read: it gives no record, and no template is in force for the id any more.
-use Rattle.std.proofs.Common.{◌≡◌, ℕ, ◌+◌, ◌^◌, ◌<◌, ◌≤◌, true, cond, eqb, List, [], ◌∷◌, ◌++◌, length, drop, Result, Ok, Err, refl, sym, ap, ◌∙◌, arith}
+-- A message that withdraws a template is read: it gives no record, and the template is in force no more.
+use Rattle.std.proofs.Common.{◌≡◌, ℕ, ◌+◌, ◌^◌, ◌<◌, ◌≤◌, true, cond, eqb, List, [], ◌∷◌, ◌++◌, length, drop, Result, Ok, Err, refl, sym, ap, ap₂, append_assoc, ◌∙◌, arith}
 use Rattle.std.specs.Prelude.{OnOk}
 use Rattle.std.proofs.lemmas.List.{append-nil, drop_at}
 use Rattle.ipfix_wire.specs.MessageHeader.{header_octets, header_at}
@@ -23,8 +23,9 @@ use Rattle.ipfix_message.proofs.TemplateSets.{plus, count_of, template_set_gives
 use Rattle.ipfix_message.proofs.MessageSets.{next_set-only}
 use Rattle.ipfix_message.proofs.Decoding.{sets_from-next, sets_from-done}
 use Rattle.ipfix_message.proofs.History.{after_admit, after_sets}
-use Rattle.ipfix_datagrams.specs.Withdrawals.{withdrawal_header, withdrawal_record, withdrawal_set, withdrawal_message}
-use Rattle.ipfix_datagrams.specs.Datagrams.{with_one_freed}
+use Rattle.ipfix_datagrams.specs.declared.withdrawn_template.WithdrawnTemplate.{WithdrawnTemplate}
+use Rattle.ipfix_datagrams.specs.Withdrawals.{kind_withdrawn, withdrawal_header, withdrawal_record, withdrawal_set, withdrawal_message}
+use Rattle.ipfix_datagrams.specs.Datagrams.{with_one_withdrawn}
 
 -- ---- its sets
 
@@ -69,28 +70,28 @@ small_id Options = omega arith
 next_is : (kind : TemplateKind) (id : ℕ) (rest : List ℕ) → next_set (withdrawal_set kind id ++ rest) ≡ Ok (set_of kind id, rest)
 next_is kind id rest = next_set-only (set_of kind id) (withdrawal_set kind id) rest (record { id = small_id kind; size = omega arith; octets = refl })
 
-abbrev sets_octets : ℕ → List ℕ
-sets_octets id = withdrawal_set Plain id ++ withdrawal_set Options id
-
-sets_are : (h : Header) (d : Decoding) (id : ℕ) → 256 ≤ id → id < 2 ^ 16 → sets_from h d (sets_octets id) ≡ Ok (withdrawing Options id (withdrawing Plain id d))
-sets_are h d id low high =
-    let e = withdrawing Plain id d in
-    let last : next_set (withdrawal_set Options id) ≡ Ok (set_of Options id, []) = ap next_set (sym (append-nil (withdrawal_set Options id))) ∙ next_is Options id [] in
-    sets_from-next h d e (sets_octets id) (set_of Plain id) (withdrawal_set Options id) (next_is Plain id (withdrawal_set Options id)) (one_set h d Plain id low high)
-    ∙ sets_from-next h e (withdrawing Options id e) (withdrawal_set Options id) (set_of Options id) [] last (one_set h e Options id low high)
-    ∙ sets_from-done h (withdrawing Options id e) [] refl
+sets_are : (h : Header) (d : Decoding) (kind : TemplateKind) (id : ℕ) → 256 ≤ id → id < 2 ^ 16 → sets_from h d (withdrawal_set kind id) ≡ Ok (withdrawing kind id d)
+sets_are h d kind id low high =
+    let last : next_set (withdrawal_set kind id) ≡ Ok (set_of kind id, []) = ap next_set (sym (append-nil (withdrawal_set kind id))) ∙ next_is kind id [] in
+    sets_from-next h d (withdrawing kind id d) (withdrawal_set kind id) (set_of kind id) [] last (one_set h d kind id low high)
+    ∙ sets_from-done h (withdrawing kind id d) [] refl
 
 -- ---- the message
 
-pub header_is : (h : Header) (id : ℕ) → header_at (header_octets (withdrawal_header h) ++ sets_octets id) ≡ Ok (withdrawal_header h) → message_header (withdrawal_message h id) ≡ Ok (withdrawal_header h)
+pub header_is : (h : Header) (w : WithdrawnTemplate) → header_at (header_octets (withdrawal_header h) ++ withdrawal_set (kind_withdrawn w) w.id) ≡ Ok (withdrawal_header h) → message_header (withdrawal_message h w) ≡ Ok (withdrawal_header h)
 unfolding message_header
-header_is h id at =
-    let m = withdrawal_message h id in
+header_is h w at =
+    let m = withdrawal_message h w in
     ap (λ (r : Result Header WireFault). of_wire r >>= λ k. cond (eqb k.length (length m)) (Ok k) (Err MessageLength)) at
 
 pub always : {T E P : Type 0} (r : Result T E) → P → OnOk r P
 always (Ok x) p = p
 always (Err e) p = tt
+
+-- what was appended in two steps
+pub written : {T E : Type 0} (r : Result T E) (new mid old front x y : List ℕ) → mid ≡ old ++ front → x ≡ y → OnOk r (new ≡ mid ++ x) → OnOk r (new ≡ old ++ (front ++ y))
+written (Ok v) new mid old front x y first same h = h ∙ ap₂ (λ (a b : List ℕ). a ++ b) first same ∙ append_assoc old front y
+written (Err e) new mid old front x y first same h = tt
 
 -- a message of a domain that is known is read so
 pub given_by : (ds : History) (m : List ℕ) (h : Header) (known : History) → message_header m ≡ Ok h → admit ds h.domain ≡ Ok known → message_gives ds m ≡ after_admit h m known
@@ -104,22 +105,27 @@ unfolding admit
 admitted ds domain there = rw there refl
 
 -- what it gives
-pub record Withdrawn (ds : History) (h : Header) (id : ℕ) (y : Message) : Type 0 where
-  pub is : message_gives ds (withdrawal_message h id) ≡ Ok y
-  pub domains : y.domains ≡ with_one_freed ds h.domain id
+pub record Withdrawn (ds : History) (h : Header) (w : WithdrawnTemplate) (y : Message) : Type 0 where
+  pub is : message_gives ds (withdrawal_message h w) ≡ Ok y
+  pub domains : y.domains ≡ with_one_withdrawn ds h.domain w
   pub records : y.decoding.records ≡ []
+  pub header : y.header ≡ withdrawal_header h
+  pub unknown_sets : y.decoding.passed_over.unknown_sets ≡ 0
 
-pub withdraws : (ds : History) (h : Header) (id : ℕ) → message_header (withdrawal_message h id) ≡ Ok (withdrawal_header h) → knows ds h.domain ≡ true → 256 ≤ id → id < 2 ^ 16 → (y : Message) × Withdrawn ds h id y
-withdraws ds h id good there low high =
+pub withdraws : (ds : History) (h : Header) (w : WithdrawnTemplate) → message_header (withdrawal_message h w) ≡ Ok (withdrawal_header h) → knows ds h.domain ≡ true → 256 ≤ w.id → w.id < 2 ^ 16 → (y : Message) × Withdrawn ds h w y
+withdraws ds h w good there low high =
     let k = withdrawal_header h in
     let es = events_in ds h.domain in
-    let d = withdrawing Options id (withdrawing Plain id (before es)) in
-    let sets : sets_from k (before es) (drop 16 (withdrawal_message h id)) ≡ Ok d =
-    ap (sets_from k (before es)) (drop_at (header_octets k) (sets_octets id) 16 refl) ∙ sets_are k (before es) id low high in (
+    let kind = kind_withdrawn w in
+    let d = withdrawing kind w.id (before es) in
+    let sets : sets_from k (before es) (drop 16 (withdrawal_message h w)) ≡ Ok d =
+    ap (sets_from k (before es)) (drop_at (header_octets k) (withdrawal_set kind w.id) 16 refl) ∙ sets_are k (before es) kind w.id low high in (
       record { header = k; decoding = d; domains = with_events ds h.domain d.events },
       record {
-        is = given_by ds (withdrawal_message h id) k ds good (admitted ds h.domain there) ∙ ap (λ (r : Result Decoding MessageFault). r >>= λ x. after_sets k ds x) sets;
+        is = given_by ds (withdrawal_message h w) k ds good (admitted ds h.domain there) ∙ ap (λ (r : Result Decoding MessageFault). r >>= λ x. after_sets k ds x) sets;
         domains = refl;
         records = refl;
+        header = refl;
+        unknown_sets = refl;
       },
     )

@@ -9,10 +9,11 @@ ghost use Rattle.ipfix_message.specs.Alike.{knows};
 ghost use Rattle.ipfix_message.specs.Domains.{History, StandsFor, admit, alone, message_header, template_for};
 ghost use Rattle.ipfix_message.specs.declared.fault.MessageFault.TheVariants.{OutOfMemory};
 ghost use Rattle.ipfix_datagrams.specs.Attempts.{Reads, FailsBy};
-ghost use Rattle.ipfix_datagrams.specs.Datagrams.{with_freed};
+ghost use Rattle.ipfix_datagrams.specs.Datagrams.{with_withdrawn};
 
 use crate::datagram_fault::DatagramFault;
-use crate::freeing::free_ids;
+use crate::withdrawing::withdraw_all;
+use crate::withdrawn_template::WithdrawnTemplate;
 use ipfix_message::{Domains, MessageFault, Templates};
 use ipfix_wire::Header;
 use std::alloc::Global;
@@ -51,52 +52,53 @@ fn keeps_all(before: &Domains, after: &Domains, domain: u32) -> bool
     }
 }
 
-// One domain alone, with these ids freed in it. The fault is `OutOfMemory`.
-fn freed_alone(
+// One domain alone, after these templates are withdrawn in it. The fault is `OutOfMemory`.
+fn alone_after(
     alloc: Global,
     domains: &Domains,
     header: &Header,
-    ids: &[u16],
+    withdrawn: &[WithdrawnTemplate],
 ) -> Result<Domains, MessageFault>
-    requires { All (λ id. FIRST_TEMPLATE_ID ≤ id) ids.now }
+    requires { All (λ w. FIRST_TEMPLATE_ID ≤ w.id) withdrawn.now }
     ensures { (ds : History) → domains.now.spent ≡ false → StandsFor domains.now.domains ds
-        → (ids.now ≡ []) ⊎ (knows ds header.now.domain ≡ true)
+        → (withdrawn.now ≡ []) ⊎ (knows ds header.now.domain ≡ true)
         → MatchResult result
         (λ d. (d.spent ≡ false) × StandsFor d.domains
-        (with_freed (alone ds header.now.domain) header.now.domain ids.now))
+        (with_withdrawn (alone ds header.now.domain) header.now.domain withdrawn.now))
         (λ fault. fault ≡ OutOfMemory) }
 {
     let mut alone = match domains.alone(alloc, header.domain) {
         Ok(alone) => alone,
         Err(_) => return Err(MessageFault::OutOfMemory),
     };
-    if ids.is_empty() {
+    if withdrawn.is_empty() {
         return Ok(alone);
     }
-    match free_ids(alloc, &mut alone, header, ids) {
+    match withdraw_all(alloc, &mut alone, header, withdrawn) {
         Ok(()) => Ok(alone),
         Err(fault) => Err(fault),
     }
 }
 
-/// Reads a datagram, with these ids freed in its domain, as if in a copy of the domain. Nothing is changed.
+/// Reads a datagram after these templates are withdrawn in its domain, in a copy of the domain. Nothing is
+/// changed.
 pub fn attempt(
     alloc: Global,
     domains: &Domains,
     header: &Header,
-    ids: &[u16],
+    withdrawn: &[WithdrawnTemplate],
     datagram: &[u8],
 ) -> Result<(), DatagramFault>
     requires header { message_header datagram.now ≡ Ok header.now }
-    requires ids { All (λ id. FIRST_TEMPLATE_ID ≤ id) ids.now }
+    requires ids { All (λ w. FIRST_TEMPLATE_ID ≤ w.id) withdrawn.now }
     ensures { (ds : History) → domains.now.spent ≡ false → StandsFor domains.now.domains ds
         → IsOk (admit ds header.now.domain)
-        → (ids.now ≡ []) ⊎ (knows ds header.now.domain ≡ true)
+        → (withdrawn.now ≡ []) ⊎ (knows ds header.now.domain ≡ true)
         → MatchResult result
-        (λ _. Reads ds header.now.domain ids.now datagram.now)
-        (λ fault. FailsBy fault ds header.now.domain ids.now datagram.now) }
+        (λ _. Reads ds header.now.domain withdrawn.now datagram.now)
+        (λ fault. FailsBy fault ds header.now.domain withdrawn.now datagram.now) }
 {
-    let mut alone = match freed_alone(alloc, domains, header, ids) {
+    let mut alone = match alone_after(alloc, domains, header, withdrawn) {
         Ok(alone) => alone,
         Err(fault) => return Err(DatagramFault::Message(fault)),
     };

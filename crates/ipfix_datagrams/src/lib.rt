@@ -4,15 +4,16 @@
 #![tactic(auto)]
 
 mod attempt;
+mod changes;
 mod datagram_fault;
 mod domain_advance;
-mod freeing;
 pub mod laws;
-mod own_ids;
 mod reach;
 mod reading;
 mod sequence_advances;
 mod withdrawal;
+mod withdrawing;
+mod withdrawn_template;
 
 pub use datagram_fault::DatagramFault;
 pub use domain_advance::DomainAdvance;
@@ -20,3 +21,4 @@ pub use reach::Reach;
 pub use reading::read_datagram;
 pub use sequence_advances::SequenceAdvances;
 pub use withdrawal::append_withdrawal;
+pub use withdrawn_template::WithdrawnTemplate;

@@ -8,8 +8,9 @@ ghost use Rattle.ipfix_datagrams.specs.declared.datagram_fault.DatagramFault.The
 ghost use Rattle.ipfix_datagrams.specs.Datagrams.{IsTaken, IsRefused};
 
 use crate::attempt::attempt;
+use crate::changes::changes;
 use crate::datagram_fault::DatagramFault;
-use crate::own_ids::own_ids;
+use crate::withdrawn_template::WithdrawnTemplate;
 use ipfix_message::{Domains, MessageFault};
 use ipfix_wire::Header;
 use std::alloc::Global;
@@ -25,9 +26,8 @@ fn is_change(fault: &DatagramFault) -> bool
     }
 }
 
-/// Reads a datagram after the domains of its peer, which stay as they are. It answers the ids that are to
-/// be freed before it is taken: none, but where it changes a template. Then its own templates replace all
-/// that are in force for their ids.
+/// Reads a datagram after the domains of its peer, which stay as they are. It answers the templates that are
+/// to be withdrawn before it is taken, in the order of their ids: those in force for which it leaves others.
 ///
 /// The fault is the first of these: `TooManyDomains`, the faults of its sets in the order of its octets, and
 /// `Withdrawal`. `TemplateChanged` comes only where a datagram contradicts itself. `OutOfMemory` may come
@@ -37,12 +37,12 @@ pub fn read_datagram(
     domains: &Domains,
     header: &Header,
     datagram: &[u8],
-) -> Result<Vec<u16>, DatagramFault>
+) -> Result<Vec<WithdrawnTemplate>, DatagramFault>
     requires { message_header datagram.now ≡ Ok header.now }
-    ensures ids { IfOk result (λ ids. All (λ id. FIRST_TEMPLATE_ID ≤ id) ids.items) }
+    ensures ids { IfOk result (λ ws. All (λ w. FIRST_TEMPLATE_ID ≤ w.id) ws.items) }
     ensures reads { (ds : History) → domains.now.spent ≡ false → StandsFor domains.now.domains ds
         → MatchResult result
-        (λ ids. (x : Message) × IsTaken ds datagram.now ids.items x)
+        (λ ws. (x : Message) × IsTaken ds datagram.now ws.items x)
         (λ fault. IsRefused ds datagram.now fault) }
 {
     if !domains.has_room(header.domain) {
@@ -56,12 +56,12 @@ pub fn read_datagram(
             }
         }
     }
-    let ids = match own_ids(alloc, header, datagram) {
-        Ok(ids) => ids,
+    let withdrawn = match changes(alloc, domains, header, datagram) {
+        Ok(withdrawn) => withdrawn,
         Err(fault) => return Err(DatagramFault::Message(fault)),
     };
-    match attempt(alloc, domains, header, &ids, datagram) {
-        Ok(()) => Ok(ids),
+    match attempt(alloc, domains, header, &withdrawn, datagram) {
+        Ok(()) => Ok(withdrawn),
         Err(fault) => Err(fault),
     }
 }

@@ -1,11 +1,13 @@
-//! A message that withdraws the templates of an id (RFC 7011, section 8.1).
+//! A message that withdraws a template (RFC 7011, section 8.1).
 
 ghost use Rattle.std.specs.Prelude.{◌≡◌, ◌++◌, Ok, OnOk};
 ghost use Rattle.byteorder.specs.Endian.{big_bytes};
 ghost use Rattle.ipfix_wire.specs.SetHeader.{set_octets};
 ghost use Rattle.ipfix_message.specs.Domains.{message_header};
-ghost use Rattle.ipfix_datagrams.specs.Withdrawals.{withdrawal_header, withdrawal_message, withdrawal_record};
+ghost use Rattle.ipfix_message.specs.WrittenTemplates.{set_id_of};
+ghost use Rattle.ipfix_datagrams.specs.Withdrawals.{kind_withdrawn, withdrawal_header, withdrawal_message, withdrawal_record};
 
+use crate::withdrawn_template::WithdrawnTemplate;
 use byteorder::{BigEndian, ByteOrder};
 use ipfix_wire::{
     HEADER_LENGTH, Header, OPTIONS_TEMPLATE_SET_ID, SET_HEADER_LENGTH, TEMPLATE_SET_ID,
@@ -15,6 +17,17 @@ use std::alloc::AllocError;
 
 // Octets of a template record without fields.
 const RECORD_LENGTH: usize = 4;
+
+// The id of the sets that bring templates of its kind.
+fn set_id(template: WithdrawnTemplate) -> u16
+    ensures { result ≡ set_id_of (kind_withdrawn template) }
+{
+    if template.is_options {
+        OPTIONS_TEMPLATE_SET_ID
+    } else {
+        TEMPLATE_SET_ID
+    }
+}
 
 // Appends a template record without fields.
 fn append_record(id: u16, out: &mut Vec<u8>) -> Result<(), AllocError>
@@ -36,21 +49,24 @@ fn append_set(set_id: u16, id: u16, out: &mut Vec<u8>) -> Result<(), AllocError>
     append_record(id, out)
 }
 
-/// Appends a message that withdraws the template of an id, of whichever kind it is, in the domain of a
-/// header, with its export time and its sequence number.
-pub fn append_withdrawal(header: &Header, id: u16, out: &mut Vec<u8>) -> Result<(), AllocError>
+/// Appends a message that withdraws a template, in the domain of a header, with its export time and its
+/// sequence number.
+pub fn append_withdrawal(
+    header: &Header,
+    template: WithdrawnTemplate,
+    out: &mut Vec<u8>,
+) -> Result<(), AllocError>
     ensures octets { OnOk result
-        (out.new.items ≡ out.old.items ++ withdrawal_message header.now id) }
-    ensures header { OnOk result
-        (message_header (withdrawal_message header.now id) ≡ Ok (withdrawal_header header.now)) }
+        (out.new.items ≡ out.old.items ++ withdrawal_message header.now template) }
+    ensures header { OnOk result (message_header (withdrawal_message header.now template)
+        ≡ Ok (withdrawal_header header.now)) }
 {
     let header = Header {
-        length: (HEADER_LENGTH + 2 * (SET_HEADER_LENGTH + RECORD_LENGTH)) as u16,
+        length: (HEADER_LENGTH + SET_HEADER_LENGTH + RECORD_LENGTH) as u16,
         export_time: header.export_time,
         sequence: header.sequence,
         domain: header.domain,
     };
     write_header(&header, out)?;
-    append_set(TEMPLATE_SET_ID, id, out)?;
-    append_set(OPTIONS_TEMPLATE_SET_ID, id, out)
+    append_set(set_id(template), template.id, out)
 }

@@ -1,4 +1,4 @@
--- Domains in which ids are freed.
+-- Domains in which templates are withdrawn.
 use Rattle.std.proofs.Common.{◌≡◌, ℕ, Bool, true, false, cond, eqb, is_some, List, [], ◌∷◌, ◌++◌, Option, Some, None, Ok, refl, sym, ap, subst, ◌∙◌}
 use Rattle.std.specs.Map.{lookup}
 use Rattle.std.specs.Option.{unwrap_or}
@@ -10,14 +10,20 @@ use Rattle.ipfix_message.specs.Domains.{History, Message, StandsFor, alone, even
 use Rattle.ipfix_message.specs.Alike.{knows}
 use Rattle.ipfix_message.proofs.History.{put, lookup-set_value}
 use Rattle.ipfix_message.proofs.Reading.{ok_is}
-use Rattle.ipfix_datagrams.specs.Withdrawals.{withdrawal_message}
-use Rattle.ipfix_datagrams.specs.Datagrams.{freed, with_one_freed, with_freed}
+use Rattle.ipfix_message.specs.declared.template_record.Event.TheVariants.{Withdraw}
+use Rattle.ipfix_datagrams.specs.declared.withdrawn_template.WithdrawnTemplate.{WithdrawnTemplate}
+use Rattle.ipfix_datagrams.specs.Withdrawals.{kind_withdrawn, withdrawal_message}
+use Rattle.ipfix_datagrams.specs.Datagrams.{with_one_withdrawn, with_withdrawn}
 use Rattle.ipfix_datagrams.proofs.Withdrawn.{Withdrawn}
 
--- one id more
-pub freed-push : (ds : History) (domain : ℕ) (ids : List ℕ) (id : ℕ) → with_freed ds domain (ids ++ id ∷ []) ≡ with_one_freed (with_freed ds domain ids) domain id
-freed-push ds domain [] id = refl
-freed-push ds domain (i ∷ ids) id = freed-push (with_one_freed ds domain i) domain ids id
+-- one more
+pub withdrawn-push : (ds : History) (domain : ℕ) (ws : List WithdrawnTemplate) (w : WithdrawnTemplate) → with_withdrawn ds domain (ws ++ w ∷ []) ≡ with_one_withdrawn (with_withdrawn ds domain ws) domain w
+withdrawn-push ds domain [] w = refl
+withdrawn-push ds domain (v ∷ ws) w = withdrawn-push (with_one_withdrawn ds domain v) domain ws w
+
+-- the events after it
+abbrev events_after : List Event → WithdrawnTemplate → List Event
+events_after es w = Withdraw (kind_withdrawn w) w.id ∷ es
 
 is_some-put : {X : Type 0} (w : X) (b : Bool) (o : Option X) → is_some (put w b o) ≡ is_some o
 is_some-put w false o = refl
@@ -28,9 +34,9 @@ is_some-put w true (Some x) = refl
 pub knows-events : (ds : History) (domain q : ℕ) (es : List Event) → knows (with_events ds domain es) q ≡ knows ds q
 knows-events ds domain q es = ap is_some (lookup-set_value q domain ds es) ∙ is_some-put es (eqb q domain) (lookup (eqb q) ds)
 
-pub knows-freed : (ds : History) (domain : ℕ) (ids : List ℕ) (q : ℕ) → knows (with_freed ds domain ids) q ≡ knows ds q
-knows-freed ds domain [] q = refl
-knows-freed ds domain (id ∷ ids) q = knows-freed (with_one_freed ds domain id) domain ids q ∙ knows-events ds domain q (freed (events_in ds domain) id)
+pub knows-withdrawn : (ds : History) (domain : ℕ) (ws : List WithdrawnTemplate) (q : ℕ) → knows (with_withdrawn ds domain ws) q ≡ knows ds q
+knows-withdrawn ds domain [] q = refl
+knows-withdrawn ds domain (w ∷ ws) q = knows-withdrawn (with_one_withdrawn ds domain w) domain ws q ∙ knows-events ds domain q (events_after (events_in ds domain) w)
 
 -- the events of a domain that is known
 pub events_now : (ds : History) (domain : ℕ) (es : List Event) → knows ds domain ≡ true → events_in (with_events ds domain es) domain ≡ es
@@ -43,14 +49,14 @@ events_now ds domain es there =
     some (Some x) h = refl
     some None h = absurd cc
 
--- the events after ids were freed depend on those before alone
-pub same_freed : (ds fs : History) (domain : ℕ) (ids : List ℕ) → knows ds domain ≡ true → knows fs domain ≡ true → events_in fs domain ≡ events_in ds domain
-    → events_in (with_freed fs domain ids) domain ≡ events_in (with_freed ds domain ids) domain
-same_freed ds fs domain [] there here same = same
-same_freed ds fs domain (id ∷ ids) there here same =
-    same_freed (with_one_freed ds domain id) (with_one_freed fs domain id) domain ids
-    (knows-events ds domain domain (freed (events_in ds domain) id) ∙ there) (knows-events fs domain domain (freed (events_in fs domain) id) ∙ here)
-    (events_now fs domain (freed (events_in fs domain) id) here ∙ ap (λ (es : List Event). freed es id) same ∙ sym (events_now ds domain (freed (events_in ds domain) id) there))
+-- the events after templates were withdrawn depend on those before alone
+pub same_withdrawn : (ds fs : History) (domain : ℕ) (ws : List WithdrawnTemplate) → knows ds domain ≡ true → knows fs domain ≡ true → events_in fs domain ≡ events_in ds domain
+    → events_in (with_withdrawn fs domain ws) domain ≡ events_in (with_withdrawn ds domain ws) domain
+same_withdrawn ds fs domain [] there here same = same
+same_withdrawn ds fs domain (w ∷ ws) there here same =
+    same_withdrawn (with_one_withdrawn ds domain w) (with_one_withdrawn fs domain w) domain ws
+    (knows-events ds domain domain (events_after (events_in ds domain) w) ∙ there) (knows-events fs domain domain (events_after (events_in fs domain) w) ∙ here)
+    (events_now fs domain (events_after (events_in fs domain) w) here ∙ ap (λ (es : List Event). events_after es w) same ∙ sym (events_now ds domain (events_after (events_in ds domain) w) there))
 
 -- ---- one domain alone
 
@@ -75,9 +81,9 @@ alone_knows ds domain = ap is_some (lookup_alone ds domain (lookup (eqb domain) 
 
 -- ---- the code
 
--- a message that withdraws an id was decoded
-pub freed_one : (kept : List (ℕ × List (ℕ × Template))) (ds : History) (h : Header) (id : ℕ) (w : List ℕ) (m y : Message) → w ≡ withdrawal_message h id → message_gives ds w ≡ Ok m → StandsFor kept m.domains → Withdrawn ds h id y
-    → StandsFor kept (with_one_freed ds h.domain id)
-freed_one kept ds h id w m y written read stands gives =
-    let same : m.domains ≡ with_one_freed ds h.domain id = ap (λ (k : Message). k.domains) (ok_is m y (sym read ∙ ap (message_gives ds) written ∙ gives.is)) ∙ gives.domains in
+-- a message that withdraws a template was decoded
+pub withdrawn_one : (kept : List (ℕ × List (ℕ × Template))) (ds : History) (h : Header) (w : WithdrawnTemplate) (octets : List ℕ) (m y : Message) → octets ≡ withdrawal_message h w → message_gives ds octets ≡ Ok m → StandsFor kept m.domains → Withdrawn ds h w y
+    → StandsFor kept (with_one_withdrawn ds h.domain w)
+withdrawn_one kept ds h w octets m y written read stands gives =
+    let same : m.domains ≡ with_one_withdrawn ds h.domain w = ap (λ (k : Message). k.domains) (ok_is m y (sym read ∙ ap (message_gives ds) written ∙ gives.is)) ∙ gives.domains in
     subst (StandsFor kept) same stands

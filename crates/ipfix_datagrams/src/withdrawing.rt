@@ -1,60 +1,61 @@
-//! Freeing ids: their templates are in force no more (RFC 7011, section 8.1).
+//! Withdrawing templates: they are in force no more (RFC 7011, section 8.1).
 
 ghost use Rattle.std.specs.Prelude.{◌≡◌, ◌≤◌, ℕ, true, false, All, MatchResult};
 ghost use Rattle.ipfix_wire.specs.declared.set.TheConstants.{FIRST_TEMPLATE_ID};
 ghost use Rattle.ipfix_message.specs.Alike.{knows};
 ghost use Rattle.ipfix_message.specs.Domains.{History, StandsFor};
 ghost use Rattle.ipfix_message.specs.declared.fault.MessageFault.TheVariants.{OutOfMemory};
-ghost use Rattle.ipfix_datagrams.specs.Datagrams.{with_freed, with_one_freed};
+ghost use Rattle.ipfix_datagrams.specs.Datagrams.{with_withdrawn, with_one_withdrawn};
 
 use crate::withdrawal::append_withdrawal;
+use crate::withdrawn_template::WithdrawnTemplate;
 use ipfix_message::{Domains, MessageFault};
 use ipfix_wire::Header;
 use std::alloc::Global;
 
-// Frees an id. What stood in `message` before is gone.
-fn free_id(
+// Withdraws a template. What stood in `message` before is gone.
+fn withdraw(
     alloc: Global,
     domains: &mut Domains,
     header: &Header,
-    id: u16,
+    template: WithdrawnTemplate,
     message: &mut Vec<u8>,
 ) -> Result<(), MessageFault>
-    requires { FIRST_TEMPLATE_ID ≤ id }
+    requires { FIRST_TEMPLATE_ID ≤ template.id }
     ensures { (ds : History) → domains.old.spent ≡ false → StandsFor domains.old.domains ds
         → knows ds header.now.domain ≡ true
         → MatchResult result
         (λ _. (domains.new.spent ≡ false)
-        × StandsFor domains.new.domains (with_one_freed ds header.now.domain id))
+        × StandsFor domains.new.domains (with_one_withdrawn ds header.now.domain template))
         (λ fault. fault ≡ OutOfMemory) }
 {
     message.clear();
-    if append_withdrawal(header, id, message).is_err() {
+    if append_withdrawal(header, template, message).is_err() {
         return Err(MessageFault::OutOfMemory);
     }
     let _ = domains.decode(alloc, message)?;
     Ok(())
 }
 
-/// Frees ids in the domain of a header, which has appeared. The fault is `OutOfMemory`, and after it the
-/// domains are of no use.
-pub fn free_ids(
+/// Withdraws templates in the domain of a header, which has appeared. The fault is `OutOfMemory`, and after
+/// it the domains are of no use.
+pub fn withdraw_all(
     alloc: Global,
     domains: &mut Domains,
     header: &Header,
-    ids: &[u16],
+    templates: &[WithdrawnTemplate],
 ) -> Result<(), MessageFault>
-    requires { All (λ id. FIRST_TEMPLATE_ID ≤ id) ids.now }
+    requires { All (λ w. FIRST_TEMPLATE_ID ≤ w.id) templates.now }
     ensures { (ds : History) → domains.old.spent ≡ false → StandsFor domains.old.domains ds
         → knows ds header.now.domain ≡ true
         → MatchResult result
         (λ _. (domains.new.spent ≡ false)
-        × StandsFor domains.new.domains (with_freed ds header.now.domain ids.now))
+        × StandsFor domains.new.domains (with_withdrawn ds header.now.domain templates.now))
         (λ fault. fault ≡ OutOfMemory) }
 {
     let mut message = Vec::new(alloc);
-    for id in ids {
-        free_id(alloc, domains, header, *id, &mut message)?;
+    for template in templates {
+        withdraw(alloc, domains, header, *template, &mut message)?;
     }
     Ok(())
 }

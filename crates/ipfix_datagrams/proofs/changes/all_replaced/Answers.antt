@@ -1,0 +1,20 @@
+use Rattle.std.proofs.Common.{◌≡◌, ◌∷◌, List, subst, sym, rules}
+use Rattle.std.specs.Prelude.{All, flat_map, option_copied, option_and_then}
+use Rattle.std.specs.BTreeMap.{get, values}
+use Rattle.std.specs.Ordering.{nat_cmp}
+use Rattle.std.proofs.lemmas.List.Elements.{All-cons}
+use Rattle.ipfix_message.specs.declared.record.Template.{Template}
+use Rattle.ipfix_message.specs.WrittenTemplates.{IsTemplate}
+use Rattle.ipfix_datagrams.specs.declared.withdrawn_template.WithdrawnTemplate.{WithdrawnTemplate}
+use Rattle.ipfix_datagrams.specs.Datagrams.{replaced_by}
+use Rattle.ipfix_datagrams.proofs.Replacing.{replaced_more}
+use Rattle.ipfix_datagrams.proofs.changes.all_replaced.Goals as goal
+
+pub loop-known-preserved : goal.loop-known-preserved
+loop-known-preserved c =
+    let step : c.loop-known.known-iterator ≡ c.in-Some.known.now ∷ c.next.new.self = search rules in
+    let f = λ (t : Template). replaced_by t (option_and_then (λ b. get nat_cmp b t.id) (option_copied c.args.before)) in
+    record {
+      items = replaced_more f (flat_map f (values c.args.own.now)) c.loop-known.withdrawn.items c.push_replaced.new.withdrawn.items c.in-Some.known.now c.to_write.result.now c.loop-known.known-iterator c.next.new.self step c.to_write.ensures.same c.in_ok-push_replaced.ensures c.loop-known.invariant.items;
+      each = λ rest. c.loop-known.invariant.each (subst (λ (ts : List Template). All IsTemplate ts) (sym step) (All-cons IsTemplate c.in-Some.known.now c.next.new.self c.to_write.ensures.writable rest));
+    }
