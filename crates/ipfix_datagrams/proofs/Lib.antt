@@ -1,3 +1,4 @@
+pub mod Events
 pub mod Withdrawn
 pub mod WithdrawnDomains
 pub mod Readings

@@ -18,6 +18,7 @@ use Rattle.ipfix_message.proofs.LastDefinition.{in_force-found}
 use Rattle.ipfix_message.proofs.Same.{is_same_template}
 use Rattle.ipfix_session.proofs.TemplateLists.{map_in_force}
 use Rattle.ipfix_datagrams.specs.declared.withdrawn_template.WithdrawnTemplate.{WithdrawnTemplate}
+use Rattle.ipfix_datagrams.specs.Withdrawals.{HasTemplateId}
 use Rattle.ipfix_datagrams.specs.Datagrams.{HasOwn, replaced, replaced_by}
 use Rattle.ipfix_datagrams.proofs.Readings.{header_same, template_behind, template_is}
 
@@ -81,18 +82,19 @@ other_replaced t u o b old new found decides other pushed =
     rw (found, is) pushed
 
 -- their ids are those of templates
-low_by : (t : Template) (o : Option Template) → 256 ≤ t.id → All (λ (w : WithdrawnTemplate). 256 ≤ w.id) (replaced_by t o)
-low_by t None low = All-nil (λ (w : WithdrawnTemplate). 256 ≤ w.id)
+low_by : (t : Template) (o : Option Template) → HasTemplateId (record { id = t.id; is_options = false }) → All HasTemplateId (replaced_by t o)
+low_by t None low = All-nil HasTemplateId
 low_by t (Some u) low = by_test (same_template t u)
   where
-    by_test : (b : Bool) → All (λ (w : WithdrawnTemplate). 256 ≤ w.id) (cond b [] (record { id = t.id; is_options = not (u.scope == 0) } ∷ []))
-    by_test true = All-nil (λ (w : WithdrawnTemplate). 256 ≤ w.id)
-    by_test false = All-cons (λ (w : WithdrawnTemplate). 256 ≤ w.id) (record { id = t.id; is_options = not (u.scope == 0) }) [] low (All-nil (λ (w : WithdrawnTemplate). 256 ≤ w.id))
+    by_test : (b : Bool) → All HasTemplateId (cond b [] (record { id = t.id; is_options = not (u.scope == 0) } ∷ []))
+    by_test true = All-nil HasTemplateId
+    by_test false = All-cons HasTemplateId (record { id = t.id; is_options = not (u.scope == 0) }) [] low (All-nil HasTemplateId)
 
-pub ids_low : (f : Template → Option Template) (ts : List Template) → All IsTemplate ts → All (λ (w : WithdrawnTemplate). 256 ≤ w.id) (flat_map (λ t. replaced_by t (f t)) ts)
-ids_low f [] are = All-nil (λ (w : WithdrawnTemplate). 256 ≤ w.id)
+pub ids_low : (f : Template → Option Template) (ts : List Template) → All IsTemplate ts → All HasTemplateId (flat_map (λ t. replaced_by t (f t)) ts)
+ids_low f [] are = All-nil HasTemplateId
 ids_low f (t ∷ ts) are =
-    All-append (λ (w : WithdrawnTemplate). 256 ≤ w.id) (replaced_by t (f t)) (flat_map (λ u. replaced_by u (f u)) ts) (low_by t (f t) ((All-head IsTemplate t ts are).lowest)) (ids_low f ts (All-tail IsTemplate t ts are))
+    let is = All-head IsTemplate t ts are in
+    All-append HasTemplateId (replaced_by t (f t)) (flat_map (λ u. replaced_by u (f u)) ts) (low_by t (f t) (is.lowest, is.highest)) (ids_low f ts (All-tail IsTemplate t ts are))
 
 -- the same templates in force
 pub replaced_in : (f : Template → Option Template) (ds : History) (domain : ℕ) (ts : List Template) → ((t : Template) → f t ≡ template_for ds domain t.id) → flat_map (λ t. replaced_by t (f t)) ts ≡ replaced (events_in ds domain) ts

@@ -1,6 +1,11 @@
 -- A message that withdraws a template is read: it gives no record, and the template is in force no more.
-use Rattle.std.proofs.Common.{◌≡◌, ℕ, ◌+◌, ◌^◌, ◌<◌, ◌≤◌, true, cond, eqb, List, [], ◌∷◌, ◌++◌, length, drop, Result, Ok, Err, refl, sym, ap, ap₂, append_assoc, ◌∙◌, arith}
-use Rattle.std.specs.Prelude.{OnOk}
+use Rattle.std.proofs.Common.{◌≡◌, ℕ, ◌+◌, ◌*◌, ◌^◌, ◌<◌, ◌≤◌, Bool, true, false, cond, eqb, ltb, is_some, length-append, Option, Some, None, List, [], ◌∷◌, ◌++◌, length, drop, Result, Ok, Err, refl, sym, ap, ap₂, append_assoc, ◌∙◌, arith}
+use Rattle.std.specs.Prelude.{All, OnOk}
+use Rattle.std.specs.Map.{lookup}
+use Rattle.std.specs.Option.{unwrap_or}
+use Rattle.std.proofs.lemmas.Bool.{eq-eqb, le-ltb}
+use Rattle.std.proofs.lemmas.List.Elements.{All-head, All-tail}
+use Rattle.std.proofs.lemmas.Map.Steps.{set_value_same}
 use Rattle.std.proofs.lemmas.List.{append-nil, drop_at}
 use Rattle.ipfix_wire.specs.MessageHeader.{header_octets, header_at}
 use Rattle.ipfix_wire.specs.declared.header.Header.{Header}
@@ -24,8 +29,9 @@ use Rattle.ipfix_message.proofs.MessageSets.{next_set-only}
 use Rattle.ipfix_message.proofs.Decoding.{sets_from-next, sets_from-done}
 use Rattle.ipfix_message.proofs.History.{after_admit, after_sets}
 use Rattle.ipfix_datagrams.specs.declared.withdrawn_template.WithdrawnTemplate.{WithdrawnTemplate}
-use Rattle.ipfix_datagrams.specs.Withdrawals.{kind_withdrawn, withdrawal_header, withdrawal_record, withdrawal_set, withdrawal_message}
-use Rattle.ipfix_datagrams.specs.Datagrams.{with_one_withdrawn}
+use Rattle.ipfix_datagrams.specs.Withdrawals.{HasTemplateId, kind_withdrawn, withdrawal_header, withdrawal_record, withdrawal_set, withdrawal_sets, withdrawal_message}
+use Rattle.ipfix_datagrams.specs.Datagrams.{with_one_withdrawn, with_withdrawn}
+use Rattle.ipfix_datagrams.proofs.Events.{events_now}
 
 -- ---- its sets
 
@@ -70,19 +76,40 @@ small_id Options = omega arith
 next_is : (kind : TemplateKind) (id : ℕ) (rest : List ℕ) → next_set (withdrawal_set kind id ++ rest) ≡ Ok (set_of kind id, rest)
 next_is kind id rest = next_set-only (set_of kind id) (withdrawal_set kind id) rest (record { id = small_id kind; size = omega arith; octets = refl })
 
-sets_are : (h : Header) (d : Decoding) (kind : TemplateKind) (id : ℕ) → 256 ≤ id → id < 2 ^ 16 → sets_from h d (withdrawal_set kind id) ≡ Ok (withdrawing kind id d)
-sets_are h d kind id low high =
-    let last : next_set (withdrawal_set kind id) ≡ Ok (set_of kind id, []) = ap next_set (sym (append-nil (withdrawal_set kind id))) ∙ next_is kind id [] in
-    sets_from-next h d (withdrawing kind id d) (withdrawal_set kind id) (set_of kind id) [] last (one_set h d kind id low high)
-    ∙ sets_from-done h (withdrawing kind id d) [] refl
+-- sets in turn
+abbrev pub withdrawing_all : List WithdrawnTemplate → Decoding → Decoding
+withdrawing_all [] d = d
+withdrawing_all (w ∷ ws) d = withdrawing_all ws (withdrawing (kind_withdrawn w) w.id d)
+
+sets_are : (h : Header) (d : Decoding) (ws : List WithdrawnTemplate) → All HasTemplateId ws → sets_from h d (withdrawal_sets ws) ≡ Ok (withdrawing_all ws d)
+sets_are h d [] ids = sets_from-done h d [] refl
+sets_are h d (w ∷ ws) ids =
+    let kind = kind_withdrawn w in
+    let e = withdrawing kind w.id d in
+    let id = All-head HasTemplateId w ws ids in
+    sets_from-next h d e (withdrawal_sets (w ∷ ws)) (set_of kind w.id) (withdrawal_sets ws) (next_is kind w.id (withdrawal_sets ws)) (one_set h d kind w.id id.0 id.1)
+    ∙ sets_are h e ws (All-tail HasTemplateId w ws ids)
+
+no_record : (ws : List WithdrawnTemplate) (d : Decoding) → (withdrawing_all ws d).records ≡ d.records
+no_record [] d = refl
+no_record (w ∷ ws) d = no_record ws (withdrawing (kind_withdrawn w) w.id d)
 
 -- ---- the message
 
-pub header_is : (h : Header) (w : WithdrawnTemplate) → header_at (header_octets (withdrawal_header h) ++ withdrawal_set (kind_withdrawn w) w.id) ≡ Ok (withdrawal_header h) → message_header (withdrawal_message h w) ≡ Ok (withdrawal_header h)
+-- each set has 8 octets
+pub sized : (ws : List WithdrawnTemplate) → length (withdrawal_sets ws) ≡ length ws * 8
+sized [] = refl
+sized (w ∷ ws) = omega (arith, length-append (withdrawal_set (kind_withdrawn w) w.id) (withdrawal_sets ws), sized ws)
+
+pub header_is : (h : Header) (ws : List WithdrawnTemplate) → header_at (header_octets (withdrawal_header h ws) ++ withdrawal_sets ws) ≡ Ok (withdrawal_header h ws) → message_header (withdrawal_message h ws) ≡ Ok (withdrawal_header h ws)
 unfolding message_header
-header_is h w at =
-    let m = withdrawal_message h w in
-    ap (λ (r : Result Header WireFault). of_wire r >>= λ k. cond (eqb k.length (length m)) (Ok k) (Err MessageLength)) at
+header_is h ws at =
+    let m = withdrawal_message h ws in
+    let k = withdrawal_header h ws in
+    let size : length m ≡ 16 + length (withdrawal_sets ws) = omega (arith, length-append (header_octets k) (withdrawal_sets ws)) in
+    let long : ltb (length m) 16 ≡ false = le-ltb (length m) 16 (omega (arith, size)) in
+    let same : eqb (16 + length (withdrawal_sets ws)) (length m) ≡ true = eq-eqb (16 + length (withdrawal_sets ws)) (length m) (sym size) in
+    rw (long, at, same) refl
 
 pub always : {T E P : Type 0} (r : Result T E) → P → OnOk r P
 always (Ok x) p = p
@@ -104,28 +131,51 @@ pub admitted : (ds : History) (domain : ℕ) → knows ds domain ≡ true → ad
 unfolding admit
 admitted ds domain there = rw there refl
 
--- what it gives
-pub record Withdrawn (ds : History) (h : Header) (w : WithdrawnTemplate) (y : Message) : Type 0 where
-  pub is : message_gives ds (withdrawal_message h w) ≡ Ok y
-  pub domains : y.domains ≡ with_one_withdrawn ds h.domain w
-  pub records : y.decoding.records ≡ []
-  pub header : y.header ≡ withdrawal_header h
-  pub unknown_sets : y.decoding.passed_over.unknown_sets ≡ 0
+-- ---- what it gives
 
-pub withdraws : (ds : History) (h : Header) (w : WithdrawnTemplate) → message_header (withdrawal_message h w) ≡ Ok (withdrawal_header h) → knows ds h.domain ≡ true → 256 ≤ w.id → w.id < 2 ^ 16 → (y : Message) × Withdrawn ds h w y
-withdraws ds h w good there low high =
-    let k = withdrawal_header h in
+-- the domains after it are those after each withdrawal in turn
+set_twice : (domain : ℕ) (ds : History) (es fs : List Event) → with_events (with_events ds domain es) domain fs ≡ with_events ds domain fs
+set_twice domain [] es fs = refl
+set_twice domain (e ∷ ds) es fs = by_test (eqb domain e.0) refl (set_twice domain ds es fs)
+  where
+    by_test : (b : Bool) → eqb domain e.0 ≡ b → with_events (with_events ds domain es) domain fs ≡ with_events ds domain fs → with_events (with_events (e ∷ ds) domain es) domain fs ≡ with_events (e ∷ ds) domain fs
+    by_test true is same = rw (is, is) refl
+    by_test false is same = rw (is, is) (ap (λ (rest : History). e ∷ rest) same)
+
+found : (o : Option (List Event)) → is_some o ≡ true → o ≡ Some (unwrap_or o [])
+found (Some es) there = refl
+found None there = absurd cc
+
+put_back : (ds : History) (domain : ℕ) → knows ds domain ≡ true → with_events ds domain (events_in ds domain) ≡ ds
+put_back ds domain there = set_value_same (eqb domain) ds (events_in ds domain) (found (lookup (eqb domain) ds) there)
+
+domains_are : (ds : History) (domain : ℕ) (ws : List WithdrawnTemplate) (d : Decoding) → knows ds domain ≡ true → with_events ds domain (withdrawing_all ws d).events ≡ with_withdrawn (with_events ds domain d.events) domain ws
+domains_are ds domain [] d there = refl
+domains_are ds domain (w ∷ ws) d there =
+    let e = withdrawing (kind_withdrawn w) w.id d in
+    let now : events_in (with_events ds domain d.events) domain ≡ d.events = events_now ds domain d.events there in
+    let step : with_one_withdrawn (with_events ds domain d.events) domain w ≡ with_events ds domain e.events =
+    ap (λ (es : List Event). with_events (with_events ds domain d.events) domain (Withdraw (kind_withdrawn w) w.id ∷ es)) now ∙ set_twice domain ds d.events e.events in
+    domains_are ds domain ws e there ∙ ap (λ (k : History). with_withdrawn k domain ws) (sym step)
+
+pub record Withdrawn (ds : History) (h : Header) (ws : List WithdrawnTemplate) (y : Message) : Type 0 where
+  pub is : message_gives ds (withdrawal_message h ws) ≡ Ok y
+  pub domains : y.domains ≡ with_withdrawn ds h.domain ws
+  pub records : y.decoding.records ≡ []
+  pub header : y.header ≡ withdrawal_header h ws
+
+pub withdraws : (ds : History) (h : Header) (ws : List WithdrawnTemplate) → message_header (withdrawal_message h ws) ≡ Ok (withdrawal_header h ws) → knows ds h.domain ≡ true → All HasTemplateId ws → (y : Message) × Withdrawn ds h ws y
+withdraws ds h ws good there ids =
+    let k = withdrawal_header h ws in
     let es = events_in ds h.domain in
-    let kind = kind_withdrawn w in
-    let d = withdrawing kind w.id (before es) in
-    let sets : sets_from k (before es) (drop 16 (withdrawal_message h w)) ≡ Ok d =
-    ap (sets_from k (before es)) (drop_at (header_octets k) (withdrawal_set kind w.id) 16 refl) ∙ sets_are k (before es) kind w.id low high in (
+    let d = withdrawing_all ws (before es) in
+    let sets : sets_from k (before es) (drop 16 (withdrawal_message h ws)) ≡ Ok d =
+    ap (sets_from k (before es)) (drop_at (header_octets k) (withdrawal_sets ws) 16 refl) ∙ sets_are k (before es) ws ids in (
       record { header = k; decoding = d; domains = with_events ds h.domain d.events },
       record {
-        is = given_by ds (withdrawal_message h w) k ds good (admitted ds h.domain there) ∙ ap (λ (r : Result Decoding MessageFault). r >>= λ x. after_sets k ds x) sets;
-        domains = refl;
-        records = refl;
+        is = given_by ds (withdrawal_message h ws) k ds good (admitted ds h.domain there) ∙ ap (λ (r : Result Decoding MessageFault). r >>= λ x. after_sets k ds x) sets;
+        domains = domains_are ds h.domain ws (before es) there ∙ ap (λ (q : History). with_withdrawn q h.domain ws) (put_back ds h.domain there);
+        records = no_record ws (before es);
         header = refl;
-        unknown_sets = refl;
       },
     )

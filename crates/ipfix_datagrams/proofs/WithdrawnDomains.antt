@@ -8,12 +8,12 @@ use Rattle.ipfix_message.specs.declared.record.Template.{Template}
 use Rattle.ipfix_message.specs.declared.template_record.Event.{Event}
 use Rattle.ipfix_message.specs.Domains.{History, Message, StandsFor, alone, events_in, with_events, message_gives}
 use Rattle.ipfix_message.specs.Alike.{knows}
-use Rattle.ipfix_message.proofs.History.{put, lookup-set_value}
 use Rattle.ipfix_message.proofs.Reading.{ok_is}
 use Rattle.ipfix_message.specs.declared.template_record.Event.TheVariants.{Withdraw}
 use Rattle.ipfix_datagrams.specs.declared.withdrawn_template.WithdrawnTemplate.{WithdrawnTemplate}
 use Rattle.ipfix_datagrams.specs.Withdrawals.{kind_withdrawn, withdrawal_message}
 use Rattle.ipfix_datagrams.specs.Datagrams.{with_one_withdrawn, with_withdrawn}
+use Rattle.ipfix_datagrams.proofs.Events.{knows-events, events_now}
 use Rattle.ipfix_datagrams.proofs.Withdrawn.{Withdrawn}
 
 -- one more
@@ -25,29 +25,9 @@ withdrawn-push ds domain (v ∷ ws) w = withdrawn-push (with_one_withdrawn ds do
 abbrev events_after : List Event → WithdrawnTemplate → List Event
 events_after es w = Withdraw (kind_withdrawn w) w.id ∷ es
 
-is_some-put : {X : Type 0} (w : X) (b : Bool) (o : Option X) → is_some (put w b o) ≡ is_some o
-is_some-put w false o = refl
-is_some-put w true None = refl
-is_some-put w true (Some x) = refl
-
--- no domain comes or goes
-pub knows-events : (ds : History) (domain q : ℕ) (es : List Event) → knows (with_events ds domain es) q ≡ knows ds q
-knows-events ds domain q es = ap is_some (lookup-set_value q domain ds es) ∙ is_some-put es (eqb q domain) (lookup (eqb q) ds)
-
 pub knows-withdrawn : (ds : History) (domain : ℕ) (ws : List WithdrawnTemplate) (q : ℕ) → knows (with_withdrawn ds domain ws) q ≡ knows ds q
 knows-withdrawn ds domain [] q = refl
 knows-withdrawn ds domain (w ∷ ws) q = knows-withdrawn (with_one_withdrawn ds domain w) domain ws q ∙ knows-events ds domain q (events_after (events_in ds domain) w)
-
--- the events of a domain that is known
-pub events_now : (ds : History) (domain : ℕ) (es : List Event) → knows ds domain ≡ true → events_in (with_events ds domain es) domain ≡ es
-events_now ds domain es there =
-    ap (λ (o : Option (List Event)). unwrap_or o []) (lookup-set_value domain domain ds es)
-    ∙ ap (λ (b : Bool). unwrap_or (put es b (lookup (eqb domain) ds)) []) (eq-eqb domain domain refl)
-    ∙ some (lookup (eqb domain) ds) there
-  where
-    some : (o : Option (List Event)) → is_some o ≡ true → unwrap_or (put es true o) [] ≡ es
-    some (Some x) h = refl
-    some None h = absurd cc
 
 -- the events after templates were withdrawn depend on those before alone
 pub same_withdrawn : (ds fs : History) (domain : ℕ) (ws : List WithdrawnTemplate) → knows ds domain ≡ true → knows fs domain ≡ true → events_in fs domain ≡ events_in ds domain
@@ -81,9 +61,9 @@ alone_knows ds domain = ap is_some (lookup_alone ds domain (lookup (eqb domain) 
 
 -- ---- the code
 
--- a message that withdraws a template was decoded
-pub withdrawn_one : (kept : List (ℕ × List (ℕ × Template))) (ds : History) (h : Header) (w : WithdrawnTemplate) (octets : List ℕ) (m y : Message) → octets ≡ withdrawal_message h w → message_gives ds octets ≡ Ok m → StandsFor kept m.domains → Withdrawn ds h w y
-    → StandsFor kept (with_one_withdrawn ds h.domain w)
-withdrawn_one kept ds h w octets m y written read stands gives =
-    let same : m.domains ≡ with_one_withdrawn ds h.domain w = ap (λ (k : Message). k.domains) (ok_is m y (sym read ∙ ap (message_gives ds) written ∙ gives.is)) ∙ gives.domains in
+-- a message that withdraws templates was decoded
+pub withdrawn_by : (kept : List (ℕ × List (ℕ × Template))) (ds : History) (h : Header) (ws : List WithdrawnTemplate) (octets : List ℕ) (m y : Message) → octets ≡ withdrawal_message h ws → message_gives ds octets ≡ Ok m → StandsFor kept m.domains → Withdrawn ds h ws y
+    → StandsFor kept (with_withdrawn ds h.domain ws)
+withdrawn_by kept ds h ws octets m y written read stands gives =
+    let same : m.domains ≡ with_withdrawn ds h.domain ws = ap (λ (k : Message). k.domains) (ok_is m y (sym read ∙ ap (message_gives ds) written ∙ gives.is)) ∙ gives.domains in
     subst (StandsFor kept) same stands

@@ -4,12 +4,12 @@ ghost use Rattle.std.specs.Prelude.{◌≡◌, ◌≤◌, ◌⊎◌, [], true, f
 ghost use Rattle.std.specs.List.{list_all};
 ghost use Rattle.std.specs.BTreeMap.{get, keys, IsOrdered};
 ghost use Rattle.std.specs.Ordering.{nat_cmp};
-ghost use Rattle.ipfix_wire.specs.declared.set.TheConstants.{FIRST_TEMPLATE_ID};
 ghost use Rattle.ipfix_message.specs.Alike.{knows};
 ghost use Rattle.ipfix_message.specs.Domains.{History, StandsFor, admit, alone, message_header, template_for};
 ghost use Rattle.ipfix_message.specs.declared.fault.MessageFault.TheVariants.{OutOfMemory};
 ghost use Rattle.ipfix_datagrams.specs.Attempts.{Reads, FailsBy};
 ghost use Rattle.ipfix_datagrams.specs.Datagrams.{with_withdrawn};
+ghost use Rattle.ipfix_datagrams.specs.Withdrawals.{HasTemplateId};
 
 use crate::datagram_fault::DatagramFault;
 use crate::withdrawing::withdraw_all;
@@ -59,7 +59,7 @@ fn alone_after(
     header: &Header,
     withdrawn: &[WithdrawnTemplate],
 ) -> Result<Domains, MessageFault>
-    requires { All (λ w. FIRST_TEMPLATE_ID ≤ w.id) withdrawn.now }
+    requires { All HasTemplateId withdrawn.now }
     ensures { (ds : History) → domains.now.spent ≡ false → StandsFor domains.now.domains ds
         → (withdrawn.now ≡ []) ⊎ (knows ds header.now.domain ≡ true)
         → MatchResult result
@@ -90,7 +90,7 @@ pub fn attempt(
     datagram: &[u8],
 ) -> Result<(), DatagramFault>
     requires header { message_header datagram.now ≡ Ok header.now }
-    requires ids { All (λ w. FIRST_TEMPLATE_ID ≤ w.id) withdrawn.now }
+    requires ids { All HasTemplateId withdrawn.now }
     ensures { (ds : History) → domains.now.spent ≡ false → StandsFor domains.now.domains ds
         → IsOk (admit ds header.now.domain)
         → (withdrawn.now ≡ []) ⊎ (knows ds header.now.domain ≡ true)

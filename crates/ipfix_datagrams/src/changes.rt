@@ -4,13 +4,13 @@ ghost use Rattle.std.specs.Prelude.{◌≡◌, ◌≤◌, ◌++◌, [], false, A
 ghost use Rattle.std.specs.Bool.{Decides};
 ghost use Rattle.std.specs.BTreeMap.{get, values, IsOrdered};
 ghost use Rattle.std.specs.Ordering.{nat_cmp};
-ghost use Rattle.ipfix_wire.specs.declared.set.TheConstants.{FIRST_TEMPLATE_ID};
 ghost use Rattle.ipfix_message.specs.Outcome.{Fails};
 ghost use Rattle.ipfix_message.specs.TemplatesInForce.{same_template};
 ghost use Rattle.ipfix_message.specs.WrittenTemplates.{IsTemplate};
 ghost use Rattle.ipfix_message.specs.Domains.{History, StandsFor, events_in, message_header, message_gives};
 ghost use Rattle.ipfix_message.specs.declared.record.Template.{Template};
 ghost use Rattle.ipfix_datagrams.specs.Datagrams.{HasOwn, replaced, replaced_by};
+ghost use Rattle.ipfix_datagrams.specs.Withdrawals.{HasTemplateId};
 
 use crate::withdrawn_template::WithdrawnTemplate;
 use ipfix_message::{Domains, MessageFault, Template, Templates};
@@ -85,7 +85,7 @@ pub fn changes(
     datagram: &[u8],
 ) -> Result<Vec<WithdrawnTemplate>, MessageFault>
     requires { message_header datagram.now ≡ Ok header.now }
-    ensures ids { IfOk result (λ ws. All (λ w. FIRST_TEMPLATE_ID ≤ w.id) ws.items) }
+    ensures ids { IfOk result (λ ws. All HasTemplateId ws.items) }
     ensures are { (ds : History) → domains.now.spent ≡ false → StandsFor domains.now.domains ds
         → MatchResult result
         (λ ws. (own : List Template) × HasOwn datagram.now header.now.domain own

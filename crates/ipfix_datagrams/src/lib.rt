@@ -20,5 +20,5 @@ pub use domain_advance::DomainAdvance;
 pub use reach::Reach;
 pub use reading::read_datagram;
 pub use sequence_advances::SequenceAdvances;
-pub use withdrawal::append_withdrawal;
+pub use withdrawal::{MOST_WITHDRAWN, append_withdrawals};
 pub use withdrawn_template::WithdrawnTemplate;

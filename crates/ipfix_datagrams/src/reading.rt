@@ -1,11 +1,11 @@
 //! Whether a datagram is taken.
 
 ghost use Rattle.std.specs.Prelude.{◌≡◌, ◌≢◌, ◌≤◌, false, All, Ok, IfOk, MatchBool, MatchResult};
-ghost use Rattle.ipfix_wire.specs.declared.set.TheConstants.{FIRST_TEMPLATE_ID};
 ghost use Rattle.ipfix_message.specs.Domains.{History, Message, StandsFor, message_header};
 ghost use Rattle.ipfix_message.specs.declared.fault.MessageFault.TheVariants.{TemplateChanged};
 ghost use Rattle.ipfix_datagrams.specs.declared.datagram_fault.DatagramFault.TheVariants.{Message as OfMessage};
 ghost use Rattle.ipfix_datagrams.specs.Datagrams.{IsTaken, IsRefused};
+ghost use Rattle.ipfix_datagrams.specs.Withdrawals.{HasTemplateId};
 
 use crate::attempt::attempt;
 use crate::changes::changes;
@@ -39,7 +39,7 @@ pub fn read_datagram(
     datagram: &[u8],
 ) -> Result<Vec<WithdrawnTemplate>, DatagramFault>
     requires { message_header datagram.now ≡ Ok header.now }
-    ensures ids { IfOk result (λ ws. All (λ w. FIRST_TEMPLATE_ID ≤ w.id) ws.items) }
+    ensures ids { IfOk result (λ ws. All HasTemplateId ws.items) }
     ensures reads { (ds : History) → domains.now.spent ≡ false → StandsFor domains.now.domains ds
         → MatchResult result
         (λ ws. (x : Message) × IsTaken ds datagram.now ws.items x)

@@ -1,13 +1,13 @@
 //! Withdrawing templates: they are in force no more (RFC 7011, section 8.1).
 
-ghost use Rattle.std.specs.Prelude.{◌≡◌, ◌≤◌, ℕ, true, false, All, MatchResult};
-ghost use Rattle.ipfix_wire.specs.declared.set.TheConstants.{FIRST_TEMPLATE_ID};
+ghost use Rattle.std.specs.Prelude.{◌≡◌, ℕ, true, false, All, MatchResult};
 ghost use Rattle.ipfix_message.specs.Alike.{knows};
 ghost use Rattle.ipfix_message.specs.Domains.{History, StandsFor};
 ghost use Rattle.ipfix_message.specs.declared.fault.MessageFault.TheVariants.{OutOfMemory};
 ghost use Rattle.ipfix_datagrams.specs.Datagrams.{with_withdrawn, with_one_withdrawn};
+ghost use Rattle.ipfix_datagrams.specs.Withdrawals.{HasTemplateId};
 
-use crate::withdrawal::append_withdrawal;
+use crate::withdrawal::append_withdrawals;
 use crate::withdrawn_template::WithdrawnTemplate;
 use ipfix_message::{Domains, MessageFault};
 use ipfix_wire::Header;
@@ -21,7 +21,7 @@ fn withdraw(
     template: WithdrawnTemplate,
     message: &mut Vec<u8>,
 ) -> Result<(), MessageFault>
-    requires { FIRST_TEMPLATE_ID ≤ template.id }
+    requires { HasTemplateId template }
     ensures { (ds : History) → domains.old.spent ≡ false → StandsFor domains.old.domains ds
         → knows ds header.now.domain ≡ true
         → MatchResult result
@@ -30,7 +30,7 @@ fn withdraw(
         (λ fault. fault ≡ OutOfMemory) }
 {
     message.clear();
-    if append_withdrawal(header, template, message).is_err() {
+    if append_withdrawals(header, &[template], message).is_err() {
         return Err(MessageFault::OutOfMemory);
     }
     let _ = domains.decode(alloc, message)?;
@@ -45,7 +45,7 @@ pub fn withdraw_all(
     header: &Header,
     templates: &[WithdrawnTemplate],
 ) -> Result<(), MessageFault>
-    requires { All (λ w. FIRST_TEMPLATE_ID ≤ w.id) templates.now }
+    requires { All HasTemplateId templates.now }
     ensures { (ds : History) → domains.old.spent ≡ false → StandsFor domains.old.domains ds
         → knows ds header.now.domain ≡ true
         → MatchResult result

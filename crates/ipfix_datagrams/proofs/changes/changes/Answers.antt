@@ -5,6 +5,7 @@ use Rattle.std.specs.Ordering.{nat_cmp}
 use Rattle.std.proofs.lemmas.List.Elements.{All-nil}
 use Rattle.ipfix_message.specs.declared.record.Template.{Template}
 use Rattle.ipfix_datagrams.specs.declared.withdrawn_template.WithdrawnTemplate.{WithdrawnTemplate}
+use Rattle.ipfix_datagrams.specs.Withdrawals.{HasTemplateId}
 use Rattle.ipfix_datagrams.specs.Datagrams.{replaced_by}
 use Rattle.ipfix_datagrams.proofs.Replacing.{own_some, own_none, ids_low, replaced_in}
 use Rattle.ipfix_datagrams.proofs.changes.changes.Goals as goal
@@ -13,7 +14,7 @@ pub returns-in-Some-clause-ids : goal.returns-in-Some-clause-ids
 returns-in-Some-clause-ids c =
     let ws = c.in_ok-withdrawn-in-Some in
     let f = λ (t : Template). option_and_then (λ b. get nat_cmp b t.id) (option_copied c.templates-in-Some.result) in
-    subst (λ (xs : List WithdrawnTemplate). All (λ w. 256 ≤ w.id) xs) (sym ws.ensures.items) (ids_low f (values c.in-Some.templates.now) ws.ensures.writable)
+    subst (λ (xs : List WithdrawnTemplate). All HasTemplateId xs) (sym ws.ensures.items) (ids_low f (values c.in-Some.templates.now) ws.ensures.writable)
 
 pub returns-in-Some-clause-are : goal.returns-in-Some-clause-are
 returns-in-Some-clause-are c = λ ds fresh stands.
@@ -29,7 +30,7 @@ returns-in-Some-clause-are c = λ ds fresh stands.
     )
 
 pub returns-clause-ids : goal.returns-clause-ids
-returns-clause-ids c = subst (λ (xs : List WithdrawnTemplate). All (λ w. 256 ≤ w.id) xs) (sym c.new.ensures.items) (All-nil (λ (w : WithdrawnTemplate). 256 ≤ w.id))
+returns-clause-ids c = subst (λ (xs : List WithdrawnTemplate). All HasTemplateId xs) (sym c.new.ensures.items) (All-nil HasTemplateId)
 
 pub returns-clause-are : goal.returns-clause-are
 returns-clause-are c = λ ds fresh stands.
