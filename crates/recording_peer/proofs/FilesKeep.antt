@@ -15,11 +15,12 @@ use Rattle.recording_files.specs.Faithful.{IsReadAlone, all_given}
 use Rattle.recording_files.specs.Files.{Contents, FilesView, all_of}
 use Rattle.recording_files.specs.Sessions.{file_octets}
 use Rattle.recording_files.proofs.FilesGive.{kept, all_records, contents_are}
-use Rattle.recording_peer.specs.Peers.{Taken, AreTaken, PeerFile, records_over_udp, givens}
-use Rattle.recording_peer.specs.Recording.{FilesHold, IsCutOff, StopsAt, HasStopped, KeepsWhole, PeerTold, all_taken, finished_now, part_of}
-use Rattle.recording_peer.proofs.PeerFiles.{files-push, flat_given}
+use Rattle.recording_peer.specs.Peers.{Taken, AreTaken, PeerFile, part_of, sent_of, records_over_udp}
+use Rattle.recording_peer.specs.Recording.{FilesHold, IsCutOff, StopsAt, HasStopped, KeepsWhole, PeerTold, last_file, all_finished, all_taken, finished_now}
+use Rattle.recording_peer.proofs.PeerFiles.{recorded_with, octets_same}
 use Rattle.recording_peer.proofs.Taking.{all_taken-now}
-use Rattle.recording_peer.proofs.FilesGive.{read_alone, files_give}
+use Rattle.recording_peer.proofs.FilesGive.{faithful_files, records_with as records_over, files_give}
+use Rattle.recording_files.proofs.Together.{is_faithful}
 
 open_each : (ws : List (List ℕ)) → All (λ file. stop_of file ≡ Clean) ws → All (λ file. IsOpen (stop_of file)) ws
 open_each [] all = All-nil (λ file. IsOpen (stop_of file))
@@ -64,27 +65,29 @@ keeps_cut : (first after : FilesView) (start now : Contents) (finished : List (L
     → KeepsWhole (all_taken finished here) m (all_of now)
 keeps_cut first after start now finished here m k is none there =
     let h = k.holds in
-    let last : PeerFile = record { freed = h.freed; taken = here; file = h.file } in
-    let next : PeerFile = record { freed = k.freed; taken = here ++ k.next ∷ []; file = k.file } in
+    let last = last_file here h.file in
+    let next = last_file (here ++ k.next ∷ []) k.file in
     let ps = map part_of h.files in
     let w = octets_of h.file ++ k.cut_off in
-    let t = contents_are first.contents after.contents start now ps (part_of last) k.cut_off is there h.stands in
-    let are : all_of now ≡ map file_octets ps ++ w ∷ [] = ap (λ (x : List ℕ). now.finished ++ x ∷ []) t.2 ∙ ap (λ (ws : List (List ℕ)). ws ++ w ∷ []) (t.0 ∙ ap (λ (ws : List (List ℕ)). ws ++ map file_octets ps) none) in
-    let read_next = read_alone (h.files ++ next ∷ []) (files-push [] h.files next h.earlier k.whole) in
-    let read_last = read_alone (h.files ++ last ∷ []) (files-push [] h.files last h.earlier h.last) in
+    let t = contents_are first.contents after.contents start now (map sent_of h.files) (sent_of last) k.cut_off is there h.stands in
+    let are : all_of now ≡ map file_octets ps ++ w ∷ [] = ap (λ (x : List ℕ). now.finished ++ x ∷ []) t.2
+    ∙ ap (λ (ws : List (List ℕ)). ws ++ w ∷ []) (t.0 ∙ ap (λ (ws : List (List ℕ)). ws ++ map file_octets (map sent_of h.files)) none ∙ octets_same h.files) in
+    let read_next = (is_faithful (map part_of (h.files ++ next ∷ [])) (recorded_with h.files finished (here ++ k.next ∷ []) k.file h.are h.earlier k.whole)).files in
+    let read_last = (faithful_files first after finished here k.cut_off h).files in
     let split : map part_of (h.files ++ next ∷ []) ≡ ps ++ part_of next ∷ [] = map-append part_of h.files (next ∷ []) in
     let whole = kept ps (part_of next) w k.front.0 (subst (λ (qs : List Part). All IsReadAlone qs) split read_next) k.front.1 in
-    let given : all_given (ps ++ part_of next ∷ []) ≡ givens (all_taken finished (here ++ k.next ∷ [])) = ap all_given (sym split) ∙ flat_given h.files next finished h.are in
-    let given_last : all_given (map part_of (h.files ++ last ∷ [])) ≡ givens (all_taken finished here) = flat_given h.files last finished h.are in
+    let given : records_in (all_given (ps ++ part_of next ∷ [])) ≡ records_over_udp (all_taken finished (here ++ k.next ∷ [])) =
+    ap (λ (qs : List Part). records_in (all_given qs)) (sym split) ∙ records_over h.files next finished h.are k.fronts in
+    let given_last : records_in (all_given (map part_of (h.files ++ last ∷ []))) ≡ records_over_udp (all_taken finished here) = records_over h.files last finished h.are h.fronts in
     let more = longer (map file_octets ps) (octets_of h.file) k.cut_off in
-    let behind : all_taken finished (here ++ k.next ∷ []) ≡ all_taken finished here ++ k.next ∷ [] = sym (append_assoc (flat_map (λ (ts : List Taken). ts) finished) here (k.next ∷ [])) in
+    let behind : all_taken finished (here ++ k.next ∷ []) ≡ all_taken finished here ++ k.next ∷ [] = sym (append_assoc (all_finished finished) here (k.next ∷ [])) in
     record {
       read = subst (λ (ws : List (List ℕ)). All (λ file. IsOpen (stop_of file)) ws) (sym are) whole.0;
       next = k.next ∷ [];
       one = inr (ap (λ (w : List ℕ). w ∷ []) k.datagram);
       taken = subst (AreTaken []) behind k.taken;
-      at_least = (more.0, ap (λ (ws : List (List ℕ)). flat_map records_of ws) are ∙ more.1 ∙ ap (λ (rs : List DataRecord). rs ++ more.0) (records_with h.files last read_last ∙ ap records_in given_last));
-      at_most = (whole.1.0, ap records_over_udp (sym behind) ∙ ap records_in (sym given) ∙ whole.1.1 ∙ ap (λ (ws : List (List ℕ)). flat_map records_of ws ++ whole.1.0) (sym are));
+      at_least = (more.0, ap (λ (ws : List (List ℕ)). flat_map records_of ws) are ∙ more.1 ∙ ap (λ (rs : List DataRecord). rs ++ more.0) (records_with h.files last read_last ∙ given_last));
+      at_most = (whole.1.0, ap records_over_udp (sym behind) ∙ sym given ∙ whole.1.1 ∙ ap (λ (ws : List (List ℕ)). flat_map records_of ws ++ whole.1.0) (sym are));
     }
 
 keeps_at : (first after : FilesView) (start now : Contents) (c : PeerTold) (finished : List (List Taken)) (here : List Taken) (m : List ℕ) → StopsAt first after c finished here m → first.contents ≡ Some start → start.finished ≡ [] → after.contents ≡ Some now
@@ -98,8 +101,5 @@ pub keeps_whole : (fault : RecordFault) (first after : FilesView) (start now : C
     → KeepsWhole (all_taken finished here) m (all_of now)
 keeps_whole fault first after start now c finished here m h is none there = elim h.stops [
   | inl s ↦ keeps_at first after start now c finished here m s is none there
-  | inr both ↦ subst (λ (ts : List Taken). KeepsWhole ts m (all_of now)) (all_taken-now finished here) (elim both [
-    | inl s ↦ keeps_at first after start now c (finished_now finished here) [] m s is none there
-    | inr t ↦ keeps_all first after start now (finished_now finished here) [] m t.holds is none there
-  ])
+  | inr t ↦ subst (λ (ts : List Taken). KeepsWhole ts m (all_of now)) (all_taken-now finished here) (keeps_all first after start now (finished_now finished here) [] m t.holds is none there)
 ]

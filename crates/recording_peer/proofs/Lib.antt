@@ -1,4 +1,4 @@
-pub mod FreedIds
+pub mod Fronting
 pub mod PeerFiles
 pub mod Taking
 pub mod Stopping

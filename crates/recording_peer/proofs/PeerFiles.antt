@@ -1,74 +1,103 @@
--- The files of a peer as a session's.
-use Rattle.std.proofs.Common.{◌≡◌, ℕ, List, [], ◌∷◌, ◌++◌, map, refl, sym, ap, subst, ◌∙◌, append_assoc}
-use Rattle.std.specs.List.{flat_map}
+-- The datagrams and the files of a peer, one after another.
+use Rattle.std.proofs.Common.{◌≡◌, ℕ, List, [], ◌∷◌, ◌++◌, map, refl, sym, ap, ap₂, subst, ◌∙◌, append_assoc}
 use Rattle.std.proofs.lemmas.List.{append-nil, map-append}
 use Rattle.std.proofs.lemmas.Grind.{flat_map-append}
-use Rattle.std.proofs.lemmas.List.Elements.{All-nil, All-push}
 use Rattle.ipfix_message.specs.Domains.{History, Message}
-use Rattle.ipfix_session.specs.Given.{known_after}
-use Rattle.recording_files.specs.Recordings.{Part, Recorded}
-use Rattle.recording_files.specs.Faithful.{all_given}
+use Rattle.ipfix_message.specs.declared.record.DataRecord.{DataRecord}
+use Rattle.ipfix_session.specs.Given.{known_after, octets_of, records_in}
+use Rattle.ipfix_session.proofs.Chains.{known-append, known_after-push}
+use Rattle.ipfix_session.proofs.Giving.{records_in-append}
+use Rattle.recording_files.specs.Recordings.{Recorded, Writes}
+use Rattle.recording_files.specs.Faithful as faithful
+use Rattle.recording_files.specs.Sessions.{file_octets}
+use Rattle.recording_files.proofs.Going.{recorded-push}
 use Rattle.ipfix_datagrams.specs.Datagrams.{IsTaken}
-use Rattle.recording_peer.specs.Peers.{Taken, AreTaken, PeerFile, datagrams, givens, all_in, all_before, Frees, IsFile, AreFiles}
-use Rattle.recording_peer.specs.Recording.{part_of, taken_in, all_taken}
+use Rattle.recording_peer.specs.Peers.{Taken, AreTaken, HasFront, HaveFronts, PeerFile, givens, messages_with, given_with, all_messages, all_given, part_of, sent_of}
+use Rattle.recording_peer.specs.Recording.{taken_in, last_file, all_finished, all_taken}
 
 -- ---- datagrams, one after another
 
 pub givens-append : (ts us : List Taken) → givens (ts ++ us) ≡ givens ts ++ givens us
 givens-append ts us = map-append (λ (t : Taken). t.given) ts us
 
-pub datagrams-append : (ts us : List Taken) → datagrams (ts ++ us) ≡ datagrams ts ++ datagrams us
-datagrams-append ts us = map-append (λ (t : Taken). t.datagram) ts us
+pub all_given-append : (ts us : List Taken) → all_given (ts ++ us) ≡ all_given ts ++ all_given us
+all_given-append ts us = flat_map-append given_with ts us
 
-pub taken-push : (ds : History) (ts : List Taken) (t : Taken) → AreTaken ds ts → IsTaken (known_after ds (givens ts)) t.datagram t.ids t.given → AreTaken ds (ts ++ t ∷ [])
+pub all_given-push : (ts : List Taken) (t : Taken) → all_given (ts ++ t ∷ []) ≡ all_given ts ++ given_with t
+all_given-push ts t = all_given-append ts (t ∷ []) ∙ ap (λ (ms : List Message). all_given ts ++ ms) (append-nil (given_with t))
+
+pub all_messages-push : (ts : List Taken) (t : Taken) → all_messages (ts ++ t ∷ []) ≡ all_messages ts ++ messages_with t
+all_messages-push ts t = flat_map-append messages_with ts (t ∷ []) ∙ ap (λ (ms : List (List ℕ)). all_messages ts ++ ms) (append-nil (messages_with t))
+
+pub taken-push : (ds : History) (ts : List Taken) (t : Taken) → AreTaken ds ts → IsTaken (known_after ds (givens ts)) t.datagram t.withdrawn t.given → AreTaken ds (ts ++ t ∷ [])
 taken-push ds [] t are is = (is, tt)
 taken-push ds (u ∷ us) t are is = (are.0, taken-push u.given.domains us t are.1 is)
 
+pub fronts-push : (before : List Message) (ts : List Taken) (t : Taken) → HaveFronts before ts → HasFront (before ++ all_given ts) t → HaveFronts before (ts ++ t ∷ [])
+fronts-push before [] t have has = (subst (λ (b : List Message). HasFront b t) (append-nil before) has, tt)
+fronts-push before (u ∷ us) t have has = (have.0, fronts-push (before ++ given_with u) us t have.1 (subst (λ (b : List Message). HasFront b t) (sym (append_assoc before (given_with u) (all_given us))) has))
+
 -- all of them, one more
 pub all_taken-push : (finished : List (List Taken)) (here : List Taken) (t : Taken) → all_taken finished (here ++ t ∷ []) ≡ all_taken finished here ++ t ∷ []
-all_taken-push finished here t = sym (append_assoc (flat_map (λ (ts : List Taken). ts) finished) here (t ∷ []))
+all_taken-push finished here t = sym (append_assoc (all_finished finished) here (t ∷ []))
 
-flat-push : (finished : List (List Taken)) (here : List Taken) → flat_map (λ (ts : List Taken). ts) (finished ++ here ∷ []) ≡ all_taken finished here
-flat-push finished here =
-    flat_map-append (λ (ts : List Taken). ts) finished (here ∷ []) ∙ ap (λ (ts : List Taken). flat_map (λ (us : List Taken). us) finished ++ ts) (append-nil here)
+flat-push : (finished : List (List Taken)) (here : List Taken) → all_finished (finished ++ here ∷ []) ≡ all_taken finished here
+flat-push finished here = flat_map-append (λ (ts : List Taken). ts) finished (here ∷ []) ∙ ap (λ (ts : List Taken). all_finished finished ++ ts) (append-nil here)
 
 -- the same with a file finished
 pub all_taken-turned : (finished : List (List Taken)) (here : List Taken) → all_taken (finished ++ here ∷ []) [] ≡ all_taken finished here
-all_taken-turned finished here = append-nil (flat_map (λ (ts : List Taken). ts) (finished ++ here ∷ [])) ∙ flat-push finished here
+all_taken-turned finished here = append-nil (all_finished (finished ++ here ∷ [])) ∙ flat-push finished here
 
-pub givens-turned : (finished : List (List Taken)) (here : List Taken) → givens (flat_map (λ (ts : List Taken). ts) (finished ++ here ∷ [])) ≡ givens (flat_map (λ (ts : List Taken). ts) finished) ++ givens here
-givens-turned finished here = ap givens (flat-push finished here) ∙ givens-append (flat_map (λ (ts : List Taken). ts) finished) here
+pub givens-turned : (finished : List (List Taken)) (here : List Taken) → givens (all_finished (finished ++ here ∷ [])) ≡ givens (all_finished finished) ++ givens here
+givens-turned finished here = ap givens (flat-push finished here) ∙ givens-append (all_finished finished) here
 
--- one datagram more of a file frees nothing, unless it is the first
-pub frees_none : (before : List Message) (here : List Taken) (t : Taken) (ms : List (List ℕ)) → Frees before here ms → t.ids ≡ [] → Frees before (here ++ t ∷ []) ms
-frees_none before [] t ms frees none = (frees ∙ sym (ap (map _) none), All-nil (λ u. u.ids ≡ []))
-frees_none before (u ∷ us) t ms frees none = (frees.0, All-push (λ u. u.ids ≡ []) us t frees.1 none)
+pub all_given-turned : (finished : List (List Taken)) (here : List Taken) → all_given (all_finished (finished ++ here ∷ [])) ≡ all_given (all_finished finished) ++ all_given here
+all_given-turned finished here = ap all_given (flat-push finished here) ∙ all_given-append (all_finished finished) here
+
+-- ---- what stands in front of them leaves no trace
+
+-- in the domains
+known_in : (ds : History) (ts : List Taken) → known_after ds (all_given ts) ≡ known_after ds (givens ts)
+known_in ds [] = refl
+known_in ds (t ∷ ts) =
+    known-append ds (given_with t) (all_given ts) ∙ ap (λ (k : History). known_after k (all_given ts)) (known_after-push ds t.front.given t.given) ∙ known_in t.given.domains ts
+
+pub known_here : (finished : List (List Taken)) (here : List Taken) → known_after [] (all_given (all_finished finished) ++ all_given here) ≡ known_after [] (givens (all_taken finished here))
+known_here finished here = ap (known_after []) (sym (all_given-append (all_finished finished) here)) ∙ known_in [] (all_taken finished here)
+
+-- and in the records
+pub records_same : (before : List Message) (ts : List Taken) → HaveFronts before ts → records_in (all_given ts) ≡ records_in (givens ts)
+records_same before [] have = refl
+records_same before (t ∷ ts) have =
+    ap records_in (append_assoc t.front.given (t.given ∷ []) (all_given ts)) ∙ records_in-append t.front.given (t.given ∷ all_given ts)
+    ∙ ap₂ (λ (a b : List DataRecord). a ++ (t.given.decoding.records ++ b)) have.0.records (records_same (before ++ given_with t) ts have.1)
 
 -- ---- files, one after another
 
-pub files-push : (before : List Message) (fs : List PeerFile) (f : PeerFile) → AreFiles before fs → IsFile (before ++ all_before fs) f → AreFiles before (fs ++ f ∷ [])
-files-push before [] f are is = (subst (λ (b : List Message). IsFile b f) (append-nil before) is, tt)
-files-push before (g ∷ fs) f are is = (are.0, files-push (before ++ all_in g) fs f are.1 (subst (λ (b : List Message). IsFile b f) (sym (append_assoc before (all_in g) (all_before fs))) is))
+-- what they gave
+pub all_is : (fs : List PeerFile) → faithful.all_given (map part_of fs) ≡ all_given (all_finished (taken_in fs))
+all_is [] = refl
+all_is (f ∷ fs) = ap (λ (ms : List Message). all_given f.taken ++ ms) (all_is fs) ∙ sym (all_given-append f.taken (all_finished (taken_in fs)))
 
-pub all_before-push : (fs : List PeerFile) (f : PeerFile) → all_before (fs ++ f ∷ []) ≡ all_before fs ++ all_in f
-all_before-push fs f = flat_map-append all_in fs (f ∷ []) ∙ ap (λ (ms : List Message). all_before fs ++ ms) (append-nil (all_in f))
-
--- what they gave is what their datagrams did
-pub given_is : (fs : List PeerFile) → all_given (map part_of fs) ≡ givens (flat_map (λ (ts : List Taken). ts) (taken_in fs))
-given_is [] = refl
-given_is (f ∷ fs) = ap (λ (ms : List Message). givens f.taken ++ ms) (given_is fs) ∙ sym (givens-append f.taken (flat_map (λ (ts : List Taken). ts) (taken_in fs)))
+pub sent_is : (fs : List PeerFile) → faithful.all_given (map sent_of fs) ≡ givens (all_finished (taken_in fs))
+sent_is [] = refl
+sent_is (f ∷ fs) = ap (λ (ms : List Message). givens f.taken ++ ms) (sent_is fs) ∙ sym (givens-append f.taken (all_finished (taken_in fs)))
 
 -- with one file more
-pub flat_given : (fs : List PeerFile) (f : PeerFile) (finished : List (List Taken)) → taken_in fs ≡ finished → all_given (map part_of (fs ++ f ∷ [])) ≡ givens (all_taken finished f.taken)
-flat_given fs f finished are =
-    given_is (fs ++ f ∷ []) ∙ ap (λ (tss : List (List Taken)). givens (flat_map (λ (ts : List Taken). ts) tss)) (map-append (λ (g : PeerFile). g.taken) fs (f ∷ []) ∙ ap (λ (tss : List (List Taken)). tss ++ f.taken ∷ []) are)
-    ∙ ap givens (flat-push finished f.taken)
+pub all_with : (fs : List PeerFile) (f : PeerFile) (finished : List (List Taken)) → taken_in fs ≡ finished → faithful.all_given (map part_of (fs ++ f ∷ [])) ≡ all_given (all_taken finished f.taken)
+all_with fs f finished are =
+    all_is (fs ++ f ∷ []) ∙ ap (λ (tss : List (List Taken)). all_given (all_finished tss)) (map-append (λ (g : PeerFile). g.taken) fs (f ∷ []) ∙ ap (λ (tss : List (List Taken)). tss ++ f.taken ∷ []) are)
+    ∙ ap all_given (flat-push finished f.taken)
 
--- as parts of one session, in which ids are freed between the files
-abbrev pub session_of : List PeerFile → List Part
-session_of fs = flat_map (λ f. f.freed ∷ part_of f ∷ []) fs
+-- they are a recording
+pub recorded_with : (fs : List PeerFile) (finished : List (List Taken)) (here : List Taken) (file : List (List ℕ)) → taken_in fs ≡ finished → Recorded [] (map part_of fs) → Writes (all_given (all_finished finished)) [] (all_messages here) (all_given here) file
+    → Recorded [] (map part_of (fs ++ last_file here file ∷ []))
+recorded_with fs finished here file are earlier last =
+    let before : faithful.all_given (map part_of fs) ≡ all_given (all_finished finished) = all_is fs ∙ ap (λ (tss : List (List Taken)). all_given (all_finished tss)) are in
+    subst (Recorded []) (sym (map-append part_of fs (last_file here file ∷ [])))
+    (recorded-push [] (map part_of fs) (part_of (last_file here file)) earlier (subst (λ (b : List Message). Writes b [] (all_messages here) (all_given here) file) (sym before) last))
 
-pub files_recorded : (before : List Message) (fs : List PeerFile) → AreFiles before fs → Recorded before (session_of fs)
-files_recorded before [] are = tt
-files_recorded before (f ∷ fs) are =
-    (are.0.freed, (are.0.writes, subst (λ (b : List Message). Recorded b (session_of fs)) (sym (append_assoc before f.freed.given (givens f.taken))) (files_recorded (before ++ all_in f) fs are.1)))
+-- the same octets
+pub octets_same : (fs : List PeerFile) → map file_octets (map sent_of fs) ≡ map file_octets (map part_of fs)
+octets_same [] = refl
+octets_same (f ∷ fs) = ap (λ (ws : List (List ℕ)). octets_of f.file ∷ ws) (octets_same fs)

@@ -2,5 +2,4 @@
 pub mod Peers
 pub mod Recording
 -- What only inner functions and proofs need.
-pub mod Freeing
-pub mod Ready
+pub mod Fronts

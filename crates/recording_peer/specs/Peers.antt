@@ -1,27 +1,35 @@
 -- The datagrams of a peer, and its files (RFC 7011, sections 8.1, 8.4 and 10.3).
-use Rattle.std.specs.Prelude.{◌≡◌, ℕ, List, [], ◌∷◌, ◌++◌, map, flat_map, All}
+use Rattle.std.specs.Prelude.{◌≡◌, ◌≢◌, ℕ, List, [], ◌∷◌, ◌++◌, take, drop, map, flat_map}
 use Rattle.std.specs.Option.{unwrap_or}
 use Rattle.ipfix_wire.specs.declared.header.Header.{Header}
 use Rattle.ipfix_message.specs.Domains.{History, Message}
 use Rattle.ipfix_message.specs.declared.record.DataRecord.{DataRecord}
 use Rattle.ipfix_session.specs.Given.{records_in}
 use Rattle.ipfix_session.specs.Ledger.{messages_of, due_of}
-use Rattle.recording_files.specs.Recordings.{Part, Writes}
+use Rattle.recording_files.specs.Recordings.{Part}
 use Rattle.ipfix_datagrams.specs.Datagrams.{IsTaken}
 use Rattle.ipfix_datagrams.specs.Withdrawals.{withdrawal_message}
+use Rattle.ipfix_datagrams.specs.declared.withdrawal.TheConstants.{MOST_WITHDRAWN}
+use Rattle.ipfix_datagrams.specs.declared.withdrawn_template.WithdrawnTemplate.{WithdrawnTemplate}
 
 -- ---- datagrams
 
--- a datagram that was taken, the ids that it freed, and what it gave
+-- messages of the recorder's own in front of a datagram, and what they give
+pub record Front : Type 0 where
+  pub messages : List (List ℕ)
+  pub given : List Message
+
+-- a datagram that was taken, the templates that are withdrawn before it, what stands in front of it, and what it gave
 pub record Taken : Type 0 where
   pub datagram : List ℕ
-  pub ids : List ℕ
+  pub withdrawn : List WithdrawnTemplate
+  pub front : Front
   pub given : Message
 
 -- datagrams one after another, each taken after the domains that those before it leave
 abbrev pub AreTaken : History → List Taken → Type 0
 AreTaken ds [] = Unit {0}
-AreTaken ds (t ∷ ts) = IsTaken ds t.datagram t.ids t.given × AreTaken t.given.domains ts
+AreTaken ds (t ∷ ts) = IsTaken ds t.datagram t.withdrawn t.given × AreTaken t.given.domains ts
 
 abbrev pub datagrams : List Taken → List (List ℕ)
 datagrams ts = map (λ t. t.datagram) ts
@@ -33,39 +41,53 @@ givens ts = map (λ t. t.given) ts
 abbrev pub records_over_udp : List Taken → List DataRecord
 records_over_udp ts = records_in (givens ts)
 
+-- ---- what stands in front of them
+
+-- the header of a message of the recorder's own: that of the datagram, with the sequence number that is due, if one is known
+abbrev pub front_header : List Message → Header → Header
+front_header before h = record h { sequence = unwrap_or (due_of (messages_of h.domain before)) h.sequence }
+
+-- templates in parts, as many in each as a message withdraws at most, and those that are left in the last
+abbrev pub InParts : List WithdrawnTemplate → List (List WithdrawnTemplate) → Type 0
+InParts ws [] = ws ≡ []
+InParts ws (part ∷ parts) = (ws ≢ []) × (part ≡ take MOST_WITHDRAWN ws) × InParts (drop MOST_WITHDRAWN ws) parts
+
+-- after these messages of the session, those in front of a datagram withdraw its templates, and give no record
+pub record HasFront (before : List Message) (t : Taken) : Type 0 where
+  pub parts : List (List WithdrawnTemplate)
+  pub are : InParts t.withdrawn parts
+  pub messages : t.front.messages ≡ map (withdrawal_message (front_header before t.given.header)) parts
+  pub records : records_in t.front.given ≡ []
+
+-- a datagram after what stands in front of it
+abbrev pub messages_with : Taken → List (List ℕ)
+messages_with t = t.front.messages ++ t.datagram ∷ []
+
+abbrev pub given_with : Taken → List Message
+given_with t = t.front.given ++ t.given ∷ []
+
+abbrev pub all_messages : List Taken → List (List ℕ)
+all_messages ts = flat_map messages_with ts
+
+abbrev pub all_given : List Taken → List Message
+all_given ts = flat_map given_with ts
+
+-- and so each of them
+abbrev pub HaveFronts : List Message → List Taken → Type 0
+HaveFronts before [] = Unit {0}
+HaveFronts before (t ∷ ts) = HasFront before t × HaveFronts (before ++ given_with t) ts
+
 -- ---- files
 
--- a file of a peer: its datagrams, the messages of the file, and the messages that would free the ids of its first datagram
--- before it; those stand in no file
+-- a file of a peer: its datagrams, and all messages that stand in it
 pub record PeerFile : Type 0 where
-  pub freed : Part
   pub taken : List Taken
   pub file : List (List ℕ)
 
--- what a file and what stands before it gave
-abbrev pub all_in : PeerFile → List Message
-all_in f = f.freed.given ++ givens f.taken
+-- as a part of the session that the files are: each datagram after what stands in front of it
+abbrev pub part_of : PeerFile → Part
+part_of f = record { messages = all_messages f.taken; given = all_given f.taken; file = f.file }
 
-abbrev pub all_before : List PeerFile → List Message
-all_before fs = flat_map all_in fs
-
--- the header of the messages that free the ids of a datagram: the sequence number is the one that is due
-abbrev pub freeing_header : List Message → Header → Header
-freeing_header before h = record h { sequence = unwrap_or (due_of (messages_of h.domain before)) h.sequence }
-
--- only the first datagram of a file frees ids
-abbrev pub Frees : List Message → List Taken → List (List ℕ) → Type 0
-Frees before [] ms = ms ≡ []
-Frees before (t ∷ ts) ms = (ms ≡ map (withdrawal_message (freeing_header before t.given.header)) t.ids) × All (λ t. t.ids ≡ []) ts
-
--- in a file stands each datagram as it came, and before the first of a domain that an earlier file has a preamble of the
--- templates in force there, but for those of the ids that are freed
-pub record IsFile (before : List Message) (f : PeerFile) : Type 0 where
-  pub frees : Frees before f.taken f.freed.messages
-  pub freed : Writes before [] f.freed.messages f.freed.given f.freed.file
-  pub writes : Writes (before ++ f.freed.given) [] (datagrams f.taken) (givens f.taken) f.file
-
--- files in turn
-abbrev pub AreFiles : List Message → List PeerFile → Type 0
-AreFiles before [] = Unit {0}
-AreFiles before (f ∷ fs) = IsFile before f × AreFiles (before ++ all_in f) fs
+-- as a part of what the exporter sent
+abbrev pub sent_of : PeerFile → Part
+sent_of f = record { messages = datagrams f.taken; given = givens f.taken; file = f.file }

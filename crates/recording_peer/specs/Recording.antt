@@ -5,7 +5,7 @@ use Rattle.ipfix_message.specs.declared.fault.MessageFault.TheVariants.{OutOfMem
 use Rattle.ipfix_session.specs.Sources.{one_more}
 use Rattle.recording_files.specs.declared.record_fault.RecordFault.{RecordFault}
 use Rattle.recording_files.specs.declared.record_fault.RecordFault.TheVariants.{Message as OfMessage, NotWritten}
-use Rattle.recording_files.specs.Recordings.{Part}
+use Rattle.recording_files.specs.Recordings.{Recorded as AreRecorded, Writes}
 use Rattle.recording_files.specs.Recorders.{State, Keeps, Told, Counted}
 use Rattle.recording_files.specs.Files.{FilesView}
 use Rattle.recording_files.specs.Sessions.{Stands, IsTold}
@@ -16,7 +16,7 @@ use Rattle.ipfix_datagrams.specs.Datagrams.{IsRefused}
 use Rattle.recording_peer.specs.declared.peer_answer.PeerAnswer.{PeerAnswer}
 use Rattle.recording_peer.specs.declared.peer_answer.PeerAnswer.TheVariants.{Recorded, Refused}
 use Rattle.recording_peer.specs.declared.peer_session.PeerSession.{PeerSession}
-use Rattle.recording_peer.specs.Peers.{Taken, AreTaken, PeerFile, datagrams, givens, records_over_udp, all_before, IsFile, AreFiles}
+use Rattle.recording_peer.specs.Peers.{Taken, AreTaken, HaveFronts, PeerFile, part_of, sent_of, datagrams, givens, all_messages, all_given, records_over_udp}
 
 -- the counts, and how far the sequence numbers of each domain reach
 pub record PeerTold : Type 0 where
@@ -31,36 +31,43 @@ pub record PeerView : Type 0 where
 
 -- ---- the files of a peer
 
-abbrev pub part_of : PeerFile → Part
-part_of f = record { messages = datagrams f.taken; given = givens f.taken; file = f.file }
-
 abbrev pub taken_in : List PeerFile → List (List Taken)
 taken_in fs = map (λ f. f.taken) fs
 
--- all datagrams of finished files, and of the one that isn't finished
+-- the file that isn't finished
+abbrev pub last_file : List Taken → List (List ℕ) → PeerFile
+last_file here file = record { taken = here; file = file }
+
+-- all datagrams of finished files
+abbrev pub all_finished : List (List Taken) → List Taken
+all_finished finished = flat_map (λ ts. ts) finished
+
+-- and those of the one that isn't finished
 abbrev pub all_taken : List (List Taken) → List Taken → List Taken
-all_taken finished here = flat_map (λ ts. ts) finished ++ here
+all_taken finished here = all_finished finished ++ here
 
 abbrev pub HasDatagram : List Taken → Type 0
 HasDatagram ts = ts ≢ []
 
--- these datagrams were taken, and stand in the files that came after the first ones: those of each finished file, and those of
--- the file that isn't finished, after which stand these octets
+-- these datagrams were taken, and stand in the files that came after the first ones, each after what stands in front of it: those
+-- of each finished file, and those of the file that isn't finished, after which stand these octets
 pub record FilesHold (first after : FilesView) (finished : List (List Taken)) (here : List Taken) (cut_off : List ℕ) : Type 0 where
   pub taken : AreTaken [] (all_taken finished here)
+  pub fronts : HaveFronts [] (all_taken finished here)
+  pub some : All HasDatagram finished
   pub files : List PeerFile
   pub are : taken_in files ≡ finished
-  pub earlier : AreFiles [] files
-  pub some : All HasDatagram finished
-  pub freed : Part
+  -- the files are a recording of one session
+  pub earlier : AreRecorded [] (map part_of files)
   pub file : List (List ℕ)
-  pub last : IsFile (all_before files) (record { freed = freed; taken = here; file = file })
-  pub stands : Stands first.contents after.contents (map part_of files) (part_of (record { freed = freed; taken = here; file = file })) cut_off
+  pub last : Writes (all_given (all_finished finished)) [] (all_messages here) (all_given here) file
+  -- and each was finished with a report of what the exporter sent in it
+  pub stands : Stands first.contents after.contents (map sent_of files) (sent_of (last_file here file)) cut_off
 
 -- the datagrams of finished files are counted, and those of the file that isn't finished; and of all of them it is noted how far
 -- they reach
 pub record Counts (c : PeerTold) (finished : List (List Taken)) (here : List Taken) : Type 0 where
-  pub counted : Counted c.counts (givens (flat_map (λ ts. ts) finished)) (givens here)
+  pub counted : Counted c.counts (givens (all_finished finished)) (givens here)
   pub noted : c.advances ≡ reaches_of (givens (all_taken finished here))
 
 -- the recorder stands for them
@@ -69,9 +76,7 @@ pub record IsPeer (first after : FilesView) (s : PeerView) (finished : List (Lis
   pub not_failed : after.failed ≡ first.failed
   pub goes_on : s.ended ≡ None
   pub counted : Counts s.told finished here
-  pub keeps : Keeps s.recorder (all_before holds.files ++ holds.freed.given) (givens here)
-  -- what frees ids between files leaves no trace after the next datagram
-  pub known : known_after [] ((all_before holds.files ++ holds.freed.given) ++ givens here) ≡ known_after [] (givens (all_taken finished here))
+  pub keeps : Keeps s.recorder (all_given (all_finished finished)) (all_given here)
 
 -- ---- its calls
 
@@ -80,15 +85,6 @@ abbrev pub finished_now : List (List Taken) → List Taken → List (List Taken)
 finished_now finished [] = finished
 finished_now finished (t ∷ ts) = finished ++ (t ∷ ts) ∷ []
 
--- before a datagram that frees ids it is, and before any other it goes on
-abbrev pub finished_before : List ℕ → List (List Taken) → List Taken → List (List Taken)
-finished_before [] finished here = finished
-finished_before (id ∷ ids) finished here = finished_now finished here
-
-abbrev pub here_before : List ℕ → List Taken → List Taken
-here_before [] here = here
-here_before (id ∷ ids) here = []
-
 -- a call of the files failed: after the datagrams stand the first octets of what was to stand there for this one
 pub record IsCutOff (first after : FilesView) (finished : List (List Taken)) (here : List Taken) (m : List ℕ) : Type 0 where
   pub cut_off : List ℕ
@@ -96,9 +92,9 @@ pub record IsCutOff (first after : FilesView) (finished : List (List Taken)) (he
   pub next : Taken
   pub datagram : next.datagram ≡ m
   pub taken : AreTaken [] (all_taken finished (here ++ next ∷ []))
-  pub freed : Part
+  pub fronts : HaveFronts [] (all_taken finished (here ++ next ∷ []))
   pub file : List (List ℕ)
-  pub whole : IsFile (all_before holds.files) (record { freed = freed; taken = here ++ next ∷ []; file = file })
+  pub whole : Writes (all_given (all_finished finished)) [] (all_messages (here ++ next ∷ [])) (all_given (here ++ next ∷ [])) file
   pub front : IsPrefix (octets_of holds.file ++ cut_off) (octets_of file)
 
 -- the files have these datagrams, and at most some octets of the next, and they are counted
@@ -116,10 +112,10 @@ abbrev pub FailsBy : RecordFault → ℕ → ℕ → Type 0
 FailsBy NotWritten before after = after ≡ one_more before
 FailsBy fault before after = (fault ≡ OfMessage OutOfMemory) × (after ≡ before)
 
--- it ended with a fault, in this file, or after it before the next has a datagram
+-- it ended with a fault
 pub record HasStopped (fault : RecordFault) (first after : FilesView) (c : PeerTold) (finished : List (List Taken)) (here : List Taken) (m : List ℕ) : Type 0 where
   pub fails : FailsBy fault first.failed after.failed
-  pub stops : StopsAt first after c finished here m ⊎ (StopsAt first after c (finished_now finished here) [] m ⊎ TurnedUnknown first after c finished here)
+  pub stops : StopsAt first after c finished here m ⊎ TurnedUnknown first after c finished here
 
 -- the files of a peer that ended: each is read without a fault, where the last may end within a message, and they give the data
 -- records of the datagrams, and no others but maybe the first of this one, which was to stand there next
@@ -134,7 +130,7 @@ pub record KeepsWhole (ts : List Taken) (m : List ℕ) (files : List (List ℕ))
 -- what is answered of a datagram, by the files and the recorder before and after it
 abbrev pub Answers : Result PeerAnswer RecordFault → List ℕ → FilesView → FilesView → FilesView → PeerView → PeerView → List (List Taken) → List Taken → Type 0
 Answers (Ok Recorded) m first before after s t finished here =
-    (x : Taken) × (x.datagram ≡ m) × IsPeer first after t (finished_before x.ids finished here) (here_before x.ids here ++ x ∷ [])
+    (x : Taken) × (x.datagram ≡ m) × IsPeer first after t finished (here ++ x ∷ [])
 Answers (Ok (Refused fault)) m first before after s t finished here =
     IsRefused (known_after [] (givens (all_taken finished here))) m fault × (t ≡ s) × (after ≡ before)
 Answers (Err fault) m first before after s t finished here = (t.ended ≡ Some fault) × HasStopped fault first after t.told finished here m
@@ -146,7 +142,7 @@ answer_of (Some fault) = Err fault
 
 -- what is told of it: its reports, and the advance in each domain of exactly the datagrams that were recorded, over all files
 pub record IsPeerTold (r : PeerSession) (finished : List (List Taken)) (here : List Taken) : Type 0 where
-  pub session : IsTold r.session (givens (flat_map (λ ts. ts) finished)) (givens here)
+  pub session : IsTold r.session (givens (all_finished finished)) (givens here)
   pub advances : told_of r.advances.reaches ≡ advances_of (givens (all_taken finished here))
 
 -- and so of whatever was counted

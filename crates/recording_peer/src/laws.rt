@@ -3,7 +3,7 @@
 
 ghost use Rattle.std.specs.Prelude.{◌≡◌, ◌⊎◌, ◌++◌, ◌∷◌, ℕ, List, [], Some, All, flat_map};
 ghost use Rattle.ipfix_session.specs.declared.stop.Stop.TheVariants.{Clean};
-ghost use Rattle.ipfix_session.specs.Given.{records_of, stop_of};
+ghost use Rattle.ipfix_session.specs.Given.{octets_of, records_of, stop_of};
 ghost use Rattle.recording_files.specs.declared.record_fault.RecordFault.{RecordFault};
 ghost use Rattle.recording_files.specs.FileReports.{AddUp};
 ghost use Rattle.recording_files.specs.Files.{Contents, FilesView, all_of};
@@ -21,6 +21,16 @@ pub fn files_give_the_records_over_udp()
         → AreTaken [] (all_taken finished here)
         × All (λ file. stop_of file ≡ Clean) (all_of now)
         × (flat_map records_of (all_of now) ≡ records_over_udp (all_taken finished here)) }
+{}
+
+/// One after another, as octets, those files are one session of a connection, with no fault and with the same
+/// data records.
+pub fn files_are_one_session()
+    ensures { (first after : FilesView) (start now : Contents) (finished : List (List Taken))
+        (here : List Taken) → FilesHold first after finished here []
+        → first.contents ≡ Some start → start.finished ≡ [] → after.contents ≡ Some now
+        → (stop_of (octets_of (all_of now)) ≡ Clean) × (records_of (octets_of (all_of now))
+        ≡ records_over_udp (all_taken finished here)) }
 {}
 
 /// The files of a peer that ended with a fault, while this datagram was taken, keep the whole datagrams.

@@ -1,9 +1,9 @@
 //! A peer that sends over UDP in files, each of which can be read by itself as a session: its datagrams as
-//! they came. A datagram that changes a template begins a file.
+//! they came. A message that withdraws the templates that a datagram changes stands in front of it.
 #![tactic(auto)]
 
 mod filing;
-mod freeing;
+mod fronts;
 pub mod laws;
 mod peer_answer;
 mod peer_recorder;

@@ -53,9 +53,8 @@ impl PeerRecorder {
 
     /// Takes a datagram. One that is read after the rules over UDP is recorded as it came, after a preamble
     /// of its domain if the file has none of the domain's messages yet and an earlier file has. If it
-    /// changes a template, the file is finished first, and the preamble has the templates in force but for
-    /// those of the ids that it has templates of its own for. Any other datagram is refused, and changes
-    /// nothing.
+    /// changes templates, a message stands in front of it that withdraws them. Any other datagram is
+    /// refused, and changes nothing.
     ///
     /// The fault is `NotWritten` where a call of the files failed, or `OutOfMemory`: then the peer has ended,
     /// and the datagrams before stand whole.
@@ -80,11 +79,11 @@ impl PeerRecorder {
             Ok(header) => header,
             Err(fault) => return Ok(PeerAnswer::Refused(DatagramFault::Message(fault))),
         };
-        let ids = match read_datagram(alloc, self.recorder.domains(), &header, datagram) {
-            Ok(ids) => ids,
+        let withdrawn = match read_datagram(alloc, self.recorder.domains(), &header, datagram) {
+            Ok(withdrawn) => withdrawn,
             Err(fault) => return Ok(PeerAnswer::Refused(fault)),
         };
-        match self.record(alloc, &header, &ids, datagram, files) {
+        match self.record(alloc, &header, &withdrawn, datagram, files) {
             Ok(()) => Ok(PeerAnswer::Recorded),
             Err(fault) => {
                 self.ended = Some(fault);

@@ -5,7 +5,7 @@ use Rattle.recording_files.specs.Files.{FilesView}
 use Rattle.recording_peer.specs.declared.peer_answer.PeerAnswer.{PeerAnswer}
 use Rattle.recording_peer.specs.declared.peer_answer.PeerAnswer.TheVariants.{Recorded, Refused}
 use Rattle.recording_peer.specs.Peers.{Taken}
-use Rattle.recording_peer.specs.Recording.{IsPeer, Answers, all_taken, finished_now, finished_before, here_before}
+use Rattle.recording_peer.specs.Recording.{IsPeer, Answers, all_taken, finished_now}
 use Rattle.recording_peer.proofs.PeerFiles.{all_taken-push}
 use Rattle.recording_peer.proofs.Taking.{all_taken-now}
 use Rattle.recording_peers.specs.declared.peer_state.PeerState.{PeerState}
@@ -19,11 +19,6 @@ more before (c ∷ cs) all m now s one = elim s [
   | inr t ↦ inr (t.0, t.1, more before cs all m now t.2 one)
 ]
 
--- the datagrams that were taken, with one that frees these ids
-taken_behind : (ids : List ℕ) (finished : List (List Taken)) (here : List Taken) (x : Taken) → all_taken (finished_before ids finished here) (here_before ids here ++ x ∷ []) ≡ all_taken finished here ++ x ∷ []
-taken_behind [] finished here x = all_taken-push finished here x
-taken_behind (id ∷ ids) finished here x = all_taken-push (finished_now finished here) [] x ∙ ap (λ (ts : List Taken). ts ++ x ∷ []) (all_taken-now finished here)
-
 module _ {F : Type 0} (seen : F → FilesView) where
   -- what a session stands for after a datagram, by the answer
   abbrev pub StandsBy : Result PeerAnswer RecordFault → PeerState F → List (List ℕ) → List ℕ → Type 0
@@ -35,10 +30,10 @@ module _ {F : Type 0} (seen : F → FilesView) where
   by_answer (Ok Recorded) old new came m s a = record {
     first = s.first;
     empty = s.empty;
-    finished = finished_before a.0.ids s.finished s.here;
-    here = here_before a.0.ids s.here ++ a.0 ∷ [];
+    finished = s.finished;
+    here = s.here ++ a.0 ∷ [];
     is = a.2;
-    settles = more [] came (all_taken s.finished s.here) m _ s.settles (inl (a.0, a.1, taken_behind a.0.ids s.finished s.here a.0));
+    settles = more [] came (all_taken s.finished s.here) m _ s.settles (inl (a.0, a.1, all_taken-push s.finished s.here a.0));
   }
   by_answer (Ok (Refused fault)) old new came m s a = record {
     first = s.first;

@@ -1,0 +1,5 @@
+use Rattle.recording_peer.proofs.FilesGive.{one_session}
+use Rattle.recording_peer.proofs.laws.files_are_one_session.Goals as goal
+
+pub returns : goal.returns
+returns c = one_session
