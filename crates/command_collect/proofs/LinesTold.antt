@@ -6,6 +6,8 @@ use Rattle.std.specs.Io.KnownBytes.{Appends}
 use Rattle.std.proofs.KnownBytes.{Appends-trans}
 use Rattle.ipfix_session.specs.declared.report.FullReport.{FullReport}
 use Rattle.flow_collect.specs.InFull.{reports_in}
+use Rattle.flow_collect.specs.declared.fault.CollectFault.{CollectFault}
+use Rattle.flow_export.specs.declared.fault.ExportFault.{ExportFault}
 use Rattle.flow_table.specs.declared.missing.Missing.{Missing}
 use Rattle.flow_table.specs.declared.table.Table.{Table}
 use Rattle.flow_table.specs.declared.tally.Tally.{Tally}
@@ -22,10 +24,12 @@ use Rattle.input_sources.specs.InputsTold.{opened_lines, StopsAt, TellsPeers}
 use Rattle.command_collect.specs.Told.{run_lines, table_told, TellsFault}
 use Rattle.command_collect.specs.declared.job.CollectJob.{CollectJob}
 
--- a fault, after what was told before
-pub fault_behind : (IsUntouched : Type 0) (Told AreTold : List ℕ → Type 0) → ((line : List ℕ) → Told line → AreTold line) → TellsFault IsUntouched Told → TellsFault IsUntouched AreTold
-fault_behind IsUntouched Told AreTold behind (inl collect) = inl (collect.0, collect.1, behind _ collect.2)
-fault_behind IsUntouched Told AreTold behind (inr export) = inr (export.0, behind _ export.1)
+-- the fault of a run that failed, said otherwise
+module _ (IsUntouched : Type 0) (IsCollect AsCollect : CollectFault → Type 0) (IsExport AsExport : ExportFault → Type 0) (Told AreTold : List ℕ → Type 0) where
+  pub fault_told : ((fault : CollectFault) → IsCollect fault → AsCollect fault) → ((fault : ExportFault) → IsExport fault → AsExport fault) → ((line : List ℕ) → Told line → AreTold line)
+      → TellsFault IsUntouched IsCollect IsExport Told → TellsFault IsUntouched AsCollect AsExport AreTold
+  fault_told collect export otherwise (inl f) = inl (f.0, collect f.0 f.1, f.2, otherwise _ f.3)
+  fault_told collect export otherwise (inr f) = inr (f.0, export f.0 f.1, otherwise _ f.2)
 
 -- what is told of a table, by its tally and by what records lack
 pub table_lines : {T E : Type 0} (answer : Result T E) (job : CollectJob) (table : Table) (tally : Tally) (missing : Missing) (old mid new : Option (List ℕ)) → tally ≡ table.tally → missing ≡ table.missing

@@ -1,6 +1,6 @@
 -- What a run wrote, from the headline and from what the export wrote; and what it is without the rest.
 use Rattle.std.proofs.Common.{◌≡◌, ℕ, Bool, true, false, List, [], All, subst}
-use Rattle.std.specs.Prelude.{◌↔◌, ◌≢◌}
+use Rattle.std.specs.Prelude.{◌↔◌}
 use Rattle.std.specs.Option.{ForSome}
 use Rattle.ipfix_message.specs.declared.record.DataRecord.{DataRecord}
 use Rattle.ipfix_session.specs.Sources.{SourceView}
@@ -8,13 +8,14 @@ use Rattle.ipfix_session.specs.declared.report.FullReport.{FullReport}
 use Rattle.ipfix_session.specs.declared.report.SessionReport.{SessionReport}
 use Rattle.flow_table.specs.Plans.{PlanValue}
 use Rattle.flow_table.specs.declared.table.Table.{Table}
-use Rattle.flow_collect.specs.Headline.{IsAddedUp, IsGivenBy}
+use Rattle.flow_collect.specs.Headline.{HeadlineWith, IsAddedUp, IsGivenBy}
 use Rattle.flow_collect.specs.InFull.{FullAnswer, FullHeadline, IsGivenInFull, reports_in}
 use Rattle.flow_collect.specs.declared.collected.Pool.{Pool}
 use Rattle.flow_collect.proofs.GivenLists.{first_each, all_whole, whole_records, whole_clean}
 use Rattle.flow_collect.proofs.InFull.{given_short, short_run}
-use Rattle.input_sources.specs.Had.{IsUnread}
-use Rattle.command_collect.specs.Runs.{AddsUpWhole, HaveNoFault, RunsSources, WentWell, WritesTable}
+use Rattle.flow_export.specs.declared.fault.ExportFault.{ExportFault}
+use Rattle.output_tables.specs.declared.output.Output.{Output}
+use Rattle.command_collect.specs.Runs.{AddsUpWhole, HaveNoFault, IsNotExported, WentWell, WritesTable}
 use Rattle.command_collect.proofs.WentWell.{NoFault, no_fault_short, well_plainly}
 
 module _ {S : Type 0} (seen : S → SourceView) where
@@ -32,9 +33,6 @@ module _ {S : Type 0} (seen : S → SourceView) where
     abbrev pub Full : (List FullReport → Table → Type 0) → List S → Type 0
     Full Ends sources = WritesTable seen (IsGivenInFull seen) (WentWell strict) plan pool status Ends sources
 
-    abbrev pub RunsFull : (List FullReport → Table → Type 0) → (List S → Type 0) → Type 0
-    RunsFull Ends AreHad = RunsSources seen (IsGivenInFull seen) (WentWell strict) plan pool status Ends AreHad
-
     pub writes_table : (Ends : List FullReport → Table → Type 0) (sources : List S) (c : FullAnswer S)
         → FullHeadline seen sources plan pool c → ((status ≡ 0) ↔ WentWell strict c.sessions.items c.table) → (status ≡ 0 → AddsUpWhole seen sources plan c.table) → Ends c.sessions.items c.table
         → Full Ends sources
@@ -48,34 +46,31 @@ module _ {S : Type 0} (seen : S → SourceView) where
           ends = ends;
         }
 
-    -- sources that were had one after another, and then run, with what was told before
-    pub runs_sources : (Ends All_ends : List FullReport → Table → Type 0) (AreHad : List S → Type 0) (sources had : List S) → sources ≡ had → AreHad had → All (IsUnread seen) had → (status ≢ 3 → Full Ends sources)
-        → ((fulls : List FullReport) (table : Table) → Ends fulls table → All_ends fulls table) → RunsFull All_ends AreHad
-    runs_sources Ends All_ends AreHad sources had same are_had unread table all =
-        record {
-          sources = sources;
-          had = rw same are_had;
-          unread = rw same unread;
-          table = λ ran.
-              let w = table ran in
-              record { collected = w.collected; headline = w.headline; first = w.first; status_is = w.status_is; whole = w.whole; ends = all w.collected.sessions.items w.collected.table w.ends };
-        }
+    -- the same, where more is said of how it ended
+    pub ends_so : (Ends All_ends : List FullReport → Table → Type 0) (sources : List S) → ((fulls : List FullReport) (table : Table) → Ends fulls table → All_ends fulls table) → Full Ends sources → Full All_ends sources
+    ends_so Ends All_ends sources all w =
+        record { collected = w.collected; headline = w.headline; first = w.first; status_is = w.status_is; whole = w.whole; ends = all w.collected.sessions.items w.collected.table w.ends }
 
     -- ---- without the rest
 
-    module _ (Ends : List FullReport → Table → Type 0) (Short : List SessionReport → Table → Type 0) (plain : strict ≡ false) (shorter : (fulls : List FullReport) (table : Table) → Ends fulls table → Short (reports_in fulls) table) where
-      pub table_short : (sources : List S) → Full Ends sources → WritesTable seen (IsGivenBy seen) HaveNoFault plan pool status Short sources
-      table_short sources w =
-          let c = w.collected in
-          let h = w.headline in
-          record {
-            collected = short_run c;
-            headline = record { records = h.records; received = h.received; given = given_short seen sources c.sources.items c.sessions.items h.records h.given; added_up = h.added_up };
-            first = w.first;
-            status_is = well_plainly status strict w.collected.sessions.items w.collected.table plain w.status_is;
-            whole = w.whole;
-            ends = shorter w.collected.sessions.items w.collected.table w.ends;
-          }
+    headline_short : (sources : List S) (c : FullAnswer S) → FullHeadline seen sources plan pool c → HeadlineWith (IsGivenBy seen) sources plan pool (short_run c)
+    headline_short sources c h =
+        record { records = h.records; received = h.received; given = given_short seen sources c.sources.items c.sessions.items h.records h.given; added_up = h.added_up }
 
-      pub runs_short : (AreHad : List S → Type 0) → RunsFull Ends AreHad → RunsSources seen (IsGivenBy seen) HaveNoFault plan pool status Short AreHad
-      runs_short AreHad r = record { sources = r.sources; had = r.had; unread = r.unread; table = λ ran. table_short r.sources (r.table ran) }
+    pub not_exported_short : (output : Output) (IsUntouched : Type 0) (sources : List S) (fault : ExportFault)
+        → IsNotExported seen (IsGivenInFull seen) plan pool output IsUntouched sources fault → IsNotExported seen (IsGivenBy seen) plan pool output IsUntouched sources fault
+    not_exported_short output IsUntouched sources fault n =
+        record { collected = short_run n.collected; headline = headline_short sources n.collected n.headline; not_written = n.not_written }
+
+    pub table_short : (Ends : List FullReport → Table → Type 0) (Short : List SessionReport → Table → Type 0) → strict ≡ false → ((fulls : List FullReport) (table : Table) → Ends fulls table → Short (reports_in fulls) table)
+        → (sources : List S) → Full Ends sources → WritesTable seen (IsGivenBy seen) HaveNoFault plan pool status Short sources
+    unfolding headline_short
+    table_short Ends Short plain shorter sources w =
+        record {
+          collected = short_run w.collected;
+          headline = headline_short sources w.collected w.headline;
+          first = w.first;
+          status_is = well_plainly status strict w.collected.sessions.items w.collected.table plain w.status_is;
+          whole = w.whole;
+          ends = shorter w.collected.sessions.items w.collected.table w.ends;
+        }

@@ -1,13 +1,16 @@
 -- Arguments and pools that have a fault.
-use Rattle.std.proofs.Common.{◌≡◌, ℕ, Bool, true, false, Option, Some, None, Result, Ok, Err, refl, sym, ◌∙◌, subst, inr}
+use Rattle.std.proofs.Common.{◌≡◌, ℕ, Bool, true, false, Option, Some, None, Result, Ok, Err, length, refl, sym, ap, ◌∙◌, subst}
 use Rattle.std.proofs.lemmas.Option.{IfSome_then}
-use Rattle.std.specs.Prelude.{◌⊎◌, ◌||◌, is_some, if◌then◌else◌, ◌==◌, nat_lt, IfSome, IfNone}
-use Rattle.flow_collect.specs.Refusals.{fault_of_arguments}
+use Rattle.std.specs.Prelude.{◌||◌, is_some, if◌then◌else◌, ◌==◌, nat_lt, IfSome, IfNone, Vec, vec_len}
+use Rattle.ipfix_session.specs.Sources.{SourceView}
+use Rattle.flow_table.specs.Plans.{PlanValue}
+use Rattle.flow_collect.specs.Refusals.{fault_of_arguments, HasFaults, IsLate}
 use Rattle.flow_collect.specs.declared.collected.Pool.{Pool}
 use Rattle.flow_collect.specs.declared.fault.CollectFault.{CollectFault}
 use Rattle.flow_collect.specs.declared.fault.CollectFault.TheVariants.{Workers, Sessions, Link}
 use Rattle.flow_collect.specs.declared.collected.TheConstants.{MAX_WORKERS, MAX_SESSIONS}
 use Rattle.flow_link.specs.declared.making.TheConstants.{MAX_CAPACITY}
+use Rattle.command_collect.specs.Runs.{IsCollectFault}
 
 faults_too : (workers sessions link : Bool) (w s l : CollectFault) → is_some (if workers then Some w else (if false then Some s else (if link then Some l else None))) ≡ true
     → is_some (if workers then Some w else (if sessions then Some s else (if link then Some l else None))) ≡ true
@@ -35,10 +38,6 @@ pub whatever : {X : Type 0} (o : Option X) (P : Type 0) → P → IfSome o (λ x
 whatever None P p = tt
 whatever (Some x) P p = p
 
-pub whatever_fault : {X : Type 0} (o : Option X) (P : X → Type 0) → ((x : X) → P x) → IfSome o P
-whatever_fault None P p = tt
-whatever_fault (Some x) P p = p x
-
 pub even_if_none : {X : Type 0} (o : Option X) (P : Type 0) → P → IfNone o P
 even_if_none None P p = p
 even_if_none (Some x) P p = tt
@@ -53,22 +52,22 @@ not_if_none (Some x) P none = absurd (cc none)
 
 -- ---- what was answered
 
--- the fault that was answered is theirs
-pub refusal_told : {X : Type 0} (C : Type 0) (fault : Option X) (answered : X) (Status Untouched : Type 0) (Told : X → Type 0) → IfSome fault (λ x. ◌≡◌ {A = Result C X} (Err answered) (Err x)) → Status → Untouched → Told answered
-    → IfSome fault (λ x. Status × Untouched × Told x)
-refusal_told C None answered Status Untouched Told is status untouched told = tt
-refusal_told C (Some x) answered Status Untouched Told is status untouched told = let same : answered ≡ x = cc is in (status, untouched, subst Told same told)
+-- the fault that was answered is the one that there is
+pub collect_fault : {S X Z : Type 0} (seen : S → SourceView) (sources : Vec S Z) (plan : PlanValue) (pool : Pool) (fault : CollectFault) → vec_len sources ≡ length sources.items
+    → HasFaults {X = X} seen sources plan pool (Err fault) → IsCollectFault seen sources.items plan pool fault
+collect_fault {X = X} seen sources plan pool fault same has =
+    record {
+      arguments = IfSome_then (fault_of_arguments pool (length sources.items)) (subst (λ (n : ℕ). IfSome (fault_of_arguments pool n) (λ due. ◌≡◌ {A = Result X CollectFault} (Err fault) (Err due))) same has.arguments) (λ due is. cc is);
+      others = subst (λ (n : ℕ). IfNone (fault_of_arguments pool n) (IsLate fault)) same has.others;
+      too_large = λ is. has.too_large (ap Err is);
+    }
+
+-- it is theirs, if the arguments have one
+pub refusal_told : (due : Option CollectFault) (fault : CollectFault) (Status Untouched : Type 0) (Told : CollectFault → Type 0) → IfSome due (λ x. fault ≡ x) → Status → Untouched → Told fault → IfSome due (λ x. Status × Untouched × Told x)
+refusal_told due fault Status Untouched Told is status untouched told = IfSome_then due is (λ x same. (status, untouched, subst Told same told))
 
 -- and there is none where none was answered
-pub not_refused : {X C : Type 0} (fault : Option X) (collected : C) (P : X → Type 0) → IfSome fault (λ x. ◌≡◌ {A = Result C X} (Ok collected) (Err x)) → IfSome fault P
-not_refused None collected P is = tt
-not_refused (Some x) collected P is = absurd (cc is)
-
--- ---- a run by a caller that has one status more, for what can't be opened
-
--- arguments that have a fault
-pub refused_for : (pool : Pool) (sources count status : ℕ) (Untouched : Type 0) (Told Tells : CollectFault → Type 0) → sources ≡ count → IfSome (fault_of_arguments pool sources) (λ fault. (status ≡ 3) × Untouched × Told fault)
-    → ((fault : CollectFault) → Told fault → Tells fault) → IfSome (fault_of_arguments pool count) (λ fault. ((status ≡ 2) ⊎ ((status ≡ 3) × Tells fault)) × Untouched)
-refused_for pool sources count status Untouched Told Tells same refused tells =
-    IfSome_then (fault_of_arguments pool count) (subst (λ (n : ℕ). IfSome (fault_of_arguments pool n) (λ fault. (status ≡ 3) × Untouched × Told fault)) same refused)
-    (λ fault told. (inr (told.0, tells fault told.2), told.1))
+pub not_refused : {S X Z : Type 0} (seen : S → SourceView) (sources : Vec S Z) (plan : PlanValue) (pool : Pool) (collected : X) (P : CollectFault → Type 0) → vec_len sources ≡ length sources.items
+    → HasFaults seen sources plan pool (Ok collected) → IfSome (fault_of_arguments pool (length sources.items)) P
+not_refused {X = X} seen sources plan pool collected P same has =
+    IfSome_then (fault_of_arguments pool (length sources.items)) (subst (λ (n : ℕ). IfSome (fault_of_arguments pool n) (λ due. ◌≡◌ {A = Result X CollectFault} (Ok collected) (Err due))) same has.arguments) (λ due is. absurd (cc is))

@@ -1,5 +1,5 @@
 -- How a command ended that collects from files or from connections.
-use Rattle.std.specs.Prelude.{◌≡◌, ◌≢◌, ◌⊎◌, ◌<◌, ℕ, List, [], IfSome, Option, length, map}
+use Rattle.std.specs.Prelude.{◌≡◌, ◌≢◌, ◌⊎◌, ◌<◌, ℕ, List, [], IfSome, Option, map}
 use Rattle.std.specs.Borrow.{Bor}
 use Rattle.std.specs.Duration.{as_nanos}
 use Rattle.std.specs.List.{AllZip}
@@ -11,32 +11,26 @@ use Rattle.report_writing.specs.declared.status.Status.TheVariants.{Well, Sessio
 use Rattle.report_writing.specs.declared.verbosity.TheConstants.{NOTHING_MORE}
 use Rattle.report_writing.specs.declared.verbosity.Verbosity.{Verbosity}
 use Rattle.flow_table.specs.Plans.{PlanValue}
-use Rattle.flow_collect.specs.Headline.{IsGivenBy}
-use Rattle.flow_collect.specs.InFull.{IsGivenInFull}
 use Rattle.flow_collect.specs.Refusals.{fault_of_arguments}
 use Rattle.flow_collect.specs.declared.collected.Pool.{Pool}
 use Rattle.flow_collect.specs.declared.fault.CollectFault.{CollectFault}
 use Rattle.report_writing.specs.declared.origin.Origin.{Origin}
 use Rattle.input_sources.specs.Had.{AreAccepted, AreOpened}
 use Rattle.input_sources.specs.Origins.{ArePeers, IsFileNamed}
-use Rattle.output_tables.specs.TableTexts.{Writes}
 use Rattle.output_tables.specs.declared.output.Output.{Output}
-use Rattle.command_collect.specs.Runs.{fault_of_pool, HaveNoFault, RunsSources, WentWell, WritesAndTells}
+use Rattle.command_collect.specs.Runs.{fault_of_pool, RunsJob, RunsPlainly, RunsSources}
 use Rattle.command_collect.specs.CollectLines.{collect_fault_line}
-use Rattle.command_collect.specs.Told.{run_lines, TellsBehind, TellsFault, TellsNotAccepted, TellsNotOpened}
+use Rattle.command_collect.specs.Told.{TellsBehind, TellsNotAccepted, TellsNotOpened}
 use Rattle.command_collect.specs.declared.job.CollectJob.{CollectJob}
 use Rattle.command_collect.specs.declared.job.Connections.{Connections}
 
--- what the status of a command says that has so many sources to collect from: they were had and run, and how that ended; it
--- failed, and how that was reported; or they weren't had, and how that was reported
-pub record Collects (pool : Pool) (count status : ℕ) (IsUntouched Ran TellsFailed TellsNotHad : Type 0) (TellsRefused : CollectFault → Type 0) : Type 0 where
+-- what the status of a command says that has sources to collect from: they were had and run, and how that ended; or they
+-- weren't had, and how that was reported
+pub record Collects (status : ℕ) (IsUntouched Ran TellsNotHad : Type 0) : Type 0 where
   pub statuses : (status ≡ number_of Well) ⊎ (status ≡ number_of SessionFault) ⊎ (status ≡ number_of NotOpened) ⊎ (status ≡ number_of Failed)
   pub ran : status ≢ number_of NotOpened → Ran
   -- nothing was written unless all were had
   pub not_had : status ≡ number_of NotOpened → IsUntouched
-  -- nothing was collected or written if the arguments have a fault: that is reported, unless not all sources were had
-  pub refused : IfSome (fault_of_arguments pool count) (λ fault. ((status ≡ number_of NotOpened) ⊎ ((status ≡ number_of Failed) × TellsRefused fault)) × IsUntouched)
-  pub failed : status ≡ number_of Failed → TellsFailed
   pub stopped : status ≡ number_of NotOpened → TellsNotHad
 
 -- a pool that has a fault with however many sources is refused: the fault that it has with so many is told, and nothing is written
@@ -45,22 +39,19 @@ RefusesPool pool count status IsUntouched AreTold =
     IfSome (fault_of_pool pool) (λ any. (status ≡ number_of Failed) × IsUntouched × IfSome (fault_of_arguments pool count) (λ fault. AreTold (collect_fault_line fault)))
 
 -- with how sources are had, and how it is told that they aren't
-module _ {S W : Type 0} (seen : S → SourceView) (AreHad : List S → Type 0) (TellsNotHad : Type 0) (count : ℕ) (contents : W → Option (List ℕ)) (old new : W) (AreTold : List ℕ → Type 0) (status : ℕ) where
+module _ {S W : Type 0} (seen : S → SourceView) (AreHad : List S → Type 0) (TellsNotHad : Type 0) (contents : W → Option (List ℕ)) (old new : W) (AreTold : List ℕ → Type 0) (status : ℕ) where
   -- the table of the sources was written, and nothing else; the lines of their sessions and of the table's counts were told,
   -- and nothing else; and at a failure the line of the fault alone
   abbrev pub CollectsPlainly : PlanValue → Pool → Output → Type 0
   CollectsPlainly plan pool output =
-      Collects pool count status (new ≡ old) (RunsSources seen (IsGivenBy seen) HaveNoFault plan pool status (WritesAndTells contents old new AreTold plan output) AreHad) (TellsFault (new ≡ old) AreTold) TellsNotHad
-      (λ fault. AreTold (collect_fault_line fault))
+      Collects status (new ≡ old) (RunsSources seen AreHad (λ sources. RunsPlainly contents old new AreTold seen sources plan pool output status)) TellsNotHad
 
   -- the same of a job, by the names that elements have under its files, and told in full: after the first lines, with origins
   abbrev pub CollectsJob : CollectJob → (List Origin → Type 0) → List ℕ → Type 0
   CollectsJob job AreOrigins first =
-      let Behind = TellsBehind AreOrigins job.verbosity first AreTold in
-      Collects job.pool count status (new ≡ old)
-      (RunsSources seen (IsGivenInFull seen) (WentWell job.verbosity.strict) job.plan.now job.pool status
-      (λ fulls table. Writes job.elements.now job.plan.now job.output (contents old) (contents new) table × Behind (λ origins Told. Told (run_lines job origins fulls table))) AreHad)
-      (Behind (λ origins. TellsFault (new ≡ old))) TellsNotHad (λ fault. Behind (λ origins Told. Told (collect_fault_line fault)))
+      Collects status (new ≡ old)
+      (RunsSources seen AreHad (λ sources. TellsBehind AreOrigins job.verbosity first AreTold (λ origins Told. RunsJob contents old new Told seen sources job origins status)))
+      TellsNotHad
 
 -- from the files of these paths: each that was had is told, and then the path that can't be opened
 module _ {S O W : Type 0} (seen : S → SourceView) (opens : O → List ℕ → S → Type 0) (coming : O → Option (List S)) (before after : O) (paths : List (Bor (List ℕ))) (contents : W → Option (List ℕ)) (old new : W) (AreTold : List ℕ → Type 0)
@@ -73,11 +64,11 @@ module _ {S O W : Type 0} (seen : S → SourceView) (opens : O → List ℕ → 
 
   abbrev pub CollectsFilesPlainly : PlanValue → Pool → Output → Type 0
   CollectsFilesPlainly plan pool output =
-      CollectsPlainly seen PathsAreOpened (TellsPath NOTHING_MORE) (length paths) contents old new AreTold status plan pool output
+      CollectsPlainly seen PathsAreOpened (TellsPath NOTHING_MORE) contents old new AreTold status plan pool output
 
   abbrev pub CollectsFiles : CollectJob → Type 0
   CollectsFiles job =
-      CollectsJob seen PathsAreOpened (TellsPath job.verbosity) (length paths) contents old new AreTold status job (AllZip (λ (path : Bor (List ℕ)). IsFileNamed path.now) paths) []
+      CollectsJob seen PathsAreOpened (TellsPath job.verbosity) contents old new AreTold status job (AllZip (λ (path : Bor (List ℕ)). IsFileNamed path.now) paths) []
 
 -- from so many connections with this limit, at an address: each that was had is told, and then the address that gives none
 module _ {S L : Type 0} (seen : S → SourceView) (gives : L → Option Duration → S → Type 0) (coming : L → Option (List S)) (before after : L) where
@@ -86,12 +77,12 @@ module _ {S L : Type 0} (seen : S → SourceView) (gives : L → Option Duration
 
   abbrev pub CollectsConnectionsPlainly : {W : Type 0} → Option Duration → ℕ → List ℕ → (W → Option (List ℕ)) → W → W → (List ℕ → Type 0) → ℕ → PlanValue → Pool → Output → Type 0
   CollectsConnectionsPlainly idle count address contents old new AreTold status plan pool output =
-      CollectsPlainly seen (AreConnections idle count) (TellsNotAccepted NOTHING_MORE [] address AreTold) count contents old new AreTold status plan pool output
+      CollectsPlainly seen (AreConnections idle count) (TellsNotAccepted NOTHING_MORE [] address AreTold) contents old new AreTold status plan pool output
 
   abbrev pub CollectsConnections : {W : Type 0} → Connections → (W → Option (List ℕ)) → W → W → (List ℕ → Type 0) → ℕ → CollectJob → Type 0
   CollectsConnections to contents old new AreTold status job =
       let first = if_verbose job.verbosity (listening_line to.address.now to.count) in
-      CollectsJob seen (AreConnections to.idle to.count) (TellsNotAccepted job.verbosity first to.address.now AreTold) to.count contents old new AreTold status job (ArePeers to.count) first
+      CollectsJob seen (AreConnections to.idle to.count) (TellsNotAccepted job.verbosity first to.address.now AreTold) contents old new AreTold status job (ArePeers to.count) first
 
 -- a fact that holds if there is to be a connection that has a limit of no time
 abbrev pub IfNoTime : Connections → Type 0 → Type 0

@@ -1,5 +1,5 @@
 -- What a run of collecting wrote, and when its status says that all was well.
-use Rattle.std.specs.Prelude.{◌≡◌, ◌≢◌, ◌⊎◌, ◌↔◌, ℕ, Bool, true, false, List, [], ◌++◌, All, IfSome, Option, Vec, vec_len}
+use Rattle.std.specs.Prelude.{◌≡◌, ◌≢◌, ◌⊎◌, ◌↔◌, ℕ, Bool, true, false, List, [], ◌++◌, All, IfSome, IfNone, Option, length}
 use Rattle.std.specs.List.{AllZip, flat_map}
 use Rattle.ipfix_message.specs.declared.record.DataRecord.{DataRecord}
 use Rattle.ipfix_session.specs.Given.{records_of, stop_of, IsPrefix}
@@ -12,17 +12,20 @@ use Rattle.report_writing.specs.declared.origin.Origin.{Origin}
 use Rattle.report_writing.specs.declared.status.Status.TheVariants.{Well, SessionFault, Failed}
 use Rattle.report_sessions.specs.ReportLines.{report_lines, tally_line}
 use Rattle.report_sessions.specs.Spotless.{IsSpotless}
+use Rattle.flow_table.specs.AddedUp.{rows_in}
 use Rattle.flow_table.specs.Plans.{PlanValue}
 use Rattle.flow_table.specs.declared.table.Table.{Table}
 use Rattle.flow_collect.specs.Headline.{HeadlineWith, IsAddedUp, IsGivenBy}
 use Rattle.flow_collect.specs.InFull.{IsGivenInFull}
-use Rattle.flow_collect.specs.Refusals.{fault_of_arguments}
+use Rattle.flow_collect.specs.Refusals.{fault_of_arguments, AreTooLarge, IsLate}
 use Rattle.flow_collect.specs.Texts.{AreTexts, HasNoFault}
 use Rattle.flow_collect.specs.declared.collected.Collected.{Collected}
 use Rattle.flow_collect.specs.declared.collected.Pool.{Pool}
 use Rattle.flow_collect.specs.declared.fault.CollectFault.{CollectFault}
+use Rattle.flow_collect.specs.declared.fault.CollectFault.TheVariants.{SumTooLarge}
+use Rattle.flow_export.specs.declared.fault.ExportFault.{ExportFault}
 use Rattle.input_sources.specs.Had.{IsUnread}
-use Rattle.output_tables.specs.TableTexts.{Writes}
+use Rattle.output_tables.specs.TableTexts.{IsNotWritten, Writes}
 use Rattle.output_tables.specs.declared.output.Output.{Output}
 use Rattle.command_collect.specs.CollectLines.{collect_fault_line}
 use Rattle.command_collect.specs.Told.{run_lines, TellsFault}
@@ -51,11 +54,11 @@ module _ {S : Type 0} (seen : S → SourceView) where
   abbrev pub AddsUpWhole : List S → PlanValue → Table → Type 0
   AddsUpWhole sources plan table = (texts : List (List ℕ)) → AreTexts seen sources texts → IsOfWhole plan table texts
 
-  -- by what a worker gets, as in the headline, and by when all was well
-  module _ {R : Type 0} (Gets : S → S → R → List DataRecord → Type 0) (IsWell : List R → Table → Type 0) (plan : PlanValue) (pool : Pool) (status : ℕ) (Ends : List R → Table → Type 0) where
+  -- by what a worker gets, as in the headline
+  module _ {R : Type 0} (Gets : S → S → R → List DataRecord → Type 0) where
     -- what was collected ended as the last fact says it, of the sessions and their table; the status says that all was well
     -- exactly if it was
-    pub record WritesTable (sources : List S) : Type 0 where
+    pub record WritesTable (IsWell : List R → Table → Type 0) (plan : PlanValue) (pool : Pool) (status : ℕ) (Ends : List R → Table → Type 0) (sources : List S) : Type 0 where
       -- what the headline says
       pub collected : Collected S R Table
       pub headline : HeadlineWith Gets sources plan pool collected
@@ -66,20 +69,32 @@ module _ {S : Type 0} (seen : S → SourceView) where
       pub whole : status ≡ number_of Well → AddsUpWhole sources plan collected.table
       pub ends : Ends collected.sessions.items collected.table
 
-    -- sources were had as the first fact says it, none of which was read before, and a run of them ended as the last one says
-    -- it, of their sessions and the table
-    pub record RunsSources (AreHad : List S → Type 0) : Type 0 where
-      pub sources : List S
-      pub had : AreHad sources
-      pub unread : All (IsUnread seen) sources
-      pub table : status ≢ number_of Failed → WritesTable sources
+    -- all was collected, and the table that it gave wasn't written for this reason
+    pub record IsNotExported (plan : PlanValue) (pool : Pool) (output : Output) (IsUntouched : Type 0) (sources : List S) (fault : ExportFault) : Type 0 where
+      pub collected : Collected S R Table
+      pub headline : HeadlineWith Gets sources plan pool collected
+      pub not_written : IsNotWritten output (length (rows_in collected.table)) IsUntouched fault
+
+  -- nothing may be collected from these sources for this reason: it is the fault that the arguments have, if they have one;
+  -- else one that comes late, and only if the records of the sources' whole texts are too large that a sum is
+  pub record IsCollectFault (sources : List S) (plan : PlanValue) (pool : Pool) (fault : CollectFault) : Type 0 where
+    pub arguments : IfSome (fault_of_arguments pool (length sources)) (λ due. fault ≡ due)
+    pub others : IfNone (fault_of_arguments pool (length sources)) (IsLate fault)
+    pub too_large : fault ≡ SumTooLarge → AreTooLarge seen plan sources
+
+  -- sources were had as the first fact says it, none of which was read before, and they were run as the last one says it
+  pub record RunsSources (AreHad RunsThem : List S → Type 0) : Type 0 where
+    pub sources : List S
+    pub had : AreHad sources
+    pub unread : All (IsUnread seen) sources
+    pub runs : RunsThem sources
 
 -- what the status of a run says of so many sources
-pub record Runs (pool : Pool) (count status : ℕ) (IsUntouched WritesIt : Type 0) (AreTold : List ℕ → Type 0) : Type 0 where
+pub record Runs (pool : Pool) (count status : ℕ) (IsUntouched WritesIt TellsFailed : Type 0) (AreTold : List ℕ → Type 0) : Type 0 where
   pub statuses : (status ≡ number_of Well) ⊎ (status ≡ number_of SessionFault) ⊎ (status ≡ number_of Failed)
   pub table : status ≢ number_of Failed → WritesIt
-  -- the line of a fault alone was told; and nothing was written, if it is one of collecting
-  pub failed : status ≡ number_of Failed → TellsFault IsUntouched AreTold
+  -- the line of a fault alone was told, which is the one that there was
+  pub failed : status ≡ number_of Failed → TellsFailed
   -- nothing was collected if the arguments have a fault, and that is reported
   pub refused : IfSome (fault_of_arguments pool count) (λ fault. (status ≡ number_of Failed) × IsUntouched × AreTold (collect_fault_line fault))
 
@@ -90,13 +105,16 @@ module _ {W : Type 0} (contents : W → Option (List ℕ)) (old new : W) (AreTol
   WritesAndTells plan output reports table = Writes [] plan output (contents old) (contents new) table × AreTold (report_lines reports ++ tally_line table.tally)
 
   -- how a run ended that has no options,
-  abbrev pub RunsPlainly : {S Z : Type 0} → (S → SourceView) → Vec S Z → PlanValue → Pool → Output → ℕ → Type 0
+  abbrev pub RunsPlainly : {S : Type 0} → (S → SourceView) → List S → PlanValue → Pool → Output → ℕ → Type 0
   RunsPlainly seen sources plan pool output status =
-      Runs pool (vec_len sources) status (new ≡ old) (WritesTable seen (IsGivenBy seen) HaveNoFault plan pool status (WritesAndTells plan output) sources.items) AreTold
+      Runs pool (length sources) status (new ≡ old)
+      (WritesTable seen (IsGivenBy seen) HaveNoFault plan pool status (WritesAndTells plan output) sources)
+      (TellsFault (new ≡ old) (IsCollectFault seen sources plan pool) (IsNotExported seen (IsGivenBy seen) plan pool output (new ≡ old) sources) AreTold) AreTold
 
   -- and one with a job, by the names that elements have under its files, and told in full
-  abbrev pub RunsJob : {S Z : Type 0} → (S → SourceView) → Vec S Z → CollectJob → List Origin → ℕ → Type 0
+  abbrev pub RunsJob : {S : Type 0} → (S → SourceView) → List S → CollectJob → List Origin → ℕ → Type 0
   RunsJob seen sources job origins status =
-      Runs job.pool (vec_len sources) status (new ≡ old)
+      Runs job.pool (length sources) status (new ≡ old)
       (WritesTable seen (IsGivenInFull seen) (WentWell job.verbosity.strict) job.plan.now job.pool status
-      (λ fulls table. Writes job.elements.now job.plan.now job.output (contents old) (contents new) table × AreTold (run_lines job origins fulls table)) sources.items) AreTold
+      (λ fulls table. Writes job.elements.now job.plan.now job.output (contents old) (contents new) table × AreTold (run_lines job origins fulls table)) sources)
+      (TellsFault (new ≡ old) (IsCollectFault seen sources job.plan.now job.pool) (IsNotExported seen (IsGivenInFull seen) job.plan.now job.pool job.output (new ≡ old) sources) AreTold) AreTold

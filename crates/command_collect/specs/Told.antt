@@ -41,6 +41,9 @@ pub record TellsNotAccepted (verbosity : Verbosity) (first address : List ℕ) (
   pub reason : Reason
   pub stops : TellsPeers verbosity (λ lines. AreTold (first ++ (lines ++ not_had_lines verbosity (codes "listen") address reason)))
 
--- a run that failed tells its fault: of collecting, and then nothing was written, or of the export
-abbrev pub TellsFault : Type 0 → (List ℕ → Type 0) → Type 0
-TellsFault IsUntouched AreTold = ((fault : CollectFault) × IsUntouched × AreTold (collect_fault_line fault)) ⊎ ((fault : ExportFault) × AreTold (export_fault_line fault))
+-- a run that failed tells why nothing was collected, and then nothing was written; or why the table of what was collected
+-- wasn't written
+abbrev pub TellsFault : Type 0 → (CollectFault → Type 0) → (ExportFault → Type 0) → (List ℕ → Type 0) → Type 0
+TellsFault IsUntouched IsCollectFault IsExportFault AreTold =
+    ((fault : CollectFault) × IsCollectFault fault × IsUntouched × AreTold (collect_fault_line fault))
+    ⊎ ((fault : ExportFault) × IsExportFault fault × AreTold (export_fault_line fault))

@@ -40,7 +40,7 @@ pub fn run<S: Source + Send + Drop, W: Write, E: WriteLines, R: Threads + Wait +
     // well exactly if no session had a fault: then the table is that of all whole texts, and each of them ends
     // with a whole message.
     ensures runs { RunsPlainly W.contents out.old out.new
-        (AreToldTo E.contents E.failed err.old err.new) S.seen sources plan.now pool output result }
+        (AreToldTo E.contents E.failed err.old err.new) S.seen sources.items plan.now pool output result }
     ensures kept { E.failed err.old → E.failed err.new }
 {
     let elements = Elements::built_in(alloc);
@@ -64,7 +64,7 @@ pub fn run_with<S: Source + Send + Drop, W: Write, E: WriteLines, R: Threads + W
     // The same, with what `job` says beside: all was well exactly if no session had a fault, and if the run is
     // strict exactly if it was spotless.
     ensures runs { RunsJob W.contents out.old out.new
-        (AreToldTo E.contents E.failed err.old err.new) S.seen sources job.now origins.now
+        (AreToldTo E.contents E.failed err.old err.new) S.seen sources.items job.now origins.now
         (number_of result) }
     ensures kept { E.failed err.old → E.failed err.new }
 {

@@ -1,8 +1,9 @@
 //! How a table is written.
 
-ghost use Rattle.std.specs.Prelude.{OnOk};
+ghost use Rattle.std.specs.Prelude.{◌≡◌, ◌↔◌, length, IsErrOf, OnOk};
+ghost use Rattle.flow_table.specs.AddedUp.{rows_in};
 ghost use Rattle.flow_table.specs.Fitting.{FitsPlan};
-ghost use Rattle.output_tables.specs.TableTexts.{Writes};
+ghost use Rattle.output_tables.specs.TableTexts.{IsTooMany, Writes};
 
 use element_registry::Elements;
 use flow_export::{AnyTable, ExportFault, Format, TableText, write_table};
@@ -20,6 +21,8 @@ pub struct Output {
 
 /// Writes a table, with the names that `elements` gives keys and counters, and sees to it that nothing is
 /// left in the writer's buffer.
+///
+/// The fault is `TooManyRows` exactly if a table is written as IPFIX and has 2^32 rows or more; then nothing is written.
 pub fn export<W: Write>(
     alloc: Global,
     elements: &Elements,
@@ -29,8 +32,11 @@ pub fn export<W: Write>(
     out: &mut W,
 ) -> Result<(), ExportFault>
     requires { FitsPlan plan.now table.now }
-    ensures { OnOk result (Writes elements.now plan.now output
+    ensures ok { OnOk result (Writes elements.now plan.now output
         (W.contents out.old) (W.contents out.new) table.now) }
+    ensures many { IsErrOf result ExportFault.TooManyRows
+        ↔ IsTooMany output.format (length (rows_in table.now)) }
+    ensures untouched { IsErrOf result ExportFault.TooManyRows → out.new ≡ out.old }
 {
     let text = match output.format {
         Format::Csv => TableText::Csv(elements),

@@ -1,32 +1,43 @@
-use Rattle.std.proofs.Common.{inl, inr, refl, rules}
+use Rattle.std.proofs.Common.{◌≡◌, inl, inr, length, refl, rules}
+use Rattle.std.specs.Prelude.{vec_len}
 use Rattle.report_writing.specs.Statuses.{number_of}
 use Rattle.report_writing.proofs.Ended.{never_three, one_of_three, zero_if_well}
 use Rattle.report_writing.proofs.LinesTold.{is_told}
+use Rattle.output_tables.proofs.NotWritten.{not_written}
 use Rattle.command_collect.proofs.Ran.{writes_table}
-use Rattle.command_collect.proofs.Refused.{not_refused, refusal_told}
+use Rattle.command_collect.proofs.Refused.{collect_fault, not_refused, refusal_told}
 use Rattle.command_collect.proofs.table.run_with.Goals as goal
 
 pub returns-in-Err-clause-runs : goal.returns-in-Err-clause-runs
 returns-in-Err-clause-runs g c =
     let told = is_told _ _ _ c.write_collect_fault.result _ c.write_collect_fault.ensures.told c.write_collect_fault.ensures.failed in
+    let same : vec_len c.args.sources ≡ length c.args.sources.items = search rules in
+    let fault = collect_fault g.S.Source.seen c.args.sources c.args.job.now.plan.now c.args.job.now.pool c.in-Err.fault same c.in-Err.ensures.faults in
     record {
       statuses = inr (inr refl);
       table = λ ran. absurd (ran refl);
-      failed = λ failed. inl (c.in-Err.fault, refl, told);
-      refused = refusal_told _ _ c.in-Err.fault _ _ _ c.in-Err.ensures.faults.arguments refl refl told;
+      failed = λ failed. inl (c.in-Err.fault, fault, refl, told);
+      refused = refusal_told _ c.in-Err.fault _ _ _ fault.arguments refl refl told;
     }
 
 pub returns-in-Err-export-clause-runs : goal.returns-in-Err-export-clause-runs
 returns-in-Err-export-clause-runs g c =
+    let same : vec_len c.args.sources ≡ length c.args.sources.items = search rules in
+    let export = c.in-Err-export.ensures in
     record {
       statuses = inr (inr refl);
       table = λ ran. absurd (ran refl);
-      failed = λ failed. inr (c.in-Err-export.fault, is_told _ _ _ c.write_export_fault.result _ c.write_export_fault.ensures.told c.write_export_fault.ensures.failed);
-      refused = not_refused _ c.in-Ok.collected _ c.in-Ok.ensures.faults.arguments;
+      failed = λ failed. inr (
+        c.in-Err-export.fault,
+        record { collected = c.in-Ok.collected; headline = c.in-Ok.ensures.ok; not_written = not_written _ _ _ c.in-Err-export.fault export.many (λ many. export.untouched many) },
+        is_told _ _ _ c.write_export_fault.result _ c.write_export_fault.ensures.told c.write_export_fault.ensures.failed,
+      );
+      refused = not_refused g.S.Source.seen c.args.sources c.args.job.now.plan.now c.args.job.now.pool c.in-Ok.collected _ same c.in-Ok.ensures.faults;
     }
 
 pub returns-clause-runs : goal.returns-clause-runs
 returns-clause-runs g c =
+    let same : vec_len c.args.sources ≡ length c.args.sources.items = search rules in
     let status = number_of c.status_of.result in
     let job = c.args.job.now in
     let well = zero_if_well c.status_of.result status _ refl c.status_of.ensures.ends c.status_of.ensures.well in
@@ -37,5 +48,5 @@ returns-clause-runs g c =
           (λ zero. c.status_of.ensures.whole c.args.sources.items job.plan.now job.pool c.in-Ok.ensures.ok (well.0 zero))
           (search rules, is_told _ _ _ c.tell.result _ c.tell.ensures.told c.tell.ensures.failed);
       failed = never_three c.status_of.result status refl c.status_of.ensures.ends;
-      refused = not_refused _ c.in-Ok.collected _ c.in-Ok.ensures.faults.arguments;
+      refused = not_refused g.S.Source.seen c.args.sources job.plan.now job.pool c.in-Ok.collected _ same c.in-Ok.ensures.faults;
     }

@@ -8,10 +8,9 @@ use Rattle.command_collect.proofs.commands.connections.run_connections.Goals as 
 
 pub returns-in-Ok-clause-collects : goal.returns-in-Ok-clause-collects
 returns-in-Ok-clause-collects g c =
-    let count = c.in-Ok.ensures.accepted.one_each in
     let first = is_told _ _ _ c.write_listening.result _ c.write_listening.ensures.told c.write_listening.ensures.failed in
-    collected g.S.Source.seen g.W.Write.contents _ _ _ c.args.job.now _ _ _ _ _ _ (AreToldTo g.E.WriteLines.contents g.E.WriteLines.failed c.accept_all.new.err c.run_with.new.err)
-    c.into_sources-sources.result c.in-Ok.field-0.sources c.in-Ok.field-0.origins.items c.deref.result.now c.into_sources-sources.ensures.list c.in-Ok.ensures.accepted c.into_sources-sources.ensures.unread (search (rules, count)) c.in-Ok.ensures.peers c.deref.ensures.value
+    collected g.S.Source.seen g.W.Write.contents _ _ c.args.job.now _ _ _ _ _ _ (AreToldTo g.E.WriteLines.contents g.E.WriteLines.failed c.accept_all.new.err c.run_with.new.err)
+    c.into_sources-sources.result.items c.in-Ok.field-0.sources c.in-Ok.field-0.origins.items c.deref.result.now c.into_sources-sources.ensures.list c.in-Ok.ensures.accepted c.into_sources-sources.ensures.unread c.in-Ok.ensures.peers c.deref.ensures.value
     (λ lines told.
     both_told _ _ _ _ _ _ _ first (both_told _ _ _ _ _ _ _ c.in-Ok.ensures.told told c.run_with.ensures.kept) (λ failed. c.run_with.ensures.kept (c.accept_all.ensures.kept failed))) c.run_with.ensures.runs
 
@@ -21,7 +20,7 @@ returns-in-Ok-clause-no_time g c = IfSome_then c.args.connections.now.idle c.in-
 pub returns-in-Err-clause-collects : goal.returns-in-Err-clause-collects
 returns-in-Err-clause-collects g c =
     let first = is_told _ _ _ c.write_listening.result _ c.write_listening.ensures.told c.write_listening.ensures.failed in
-    not_collected _ _ _ _ _ _ _ _ refl (search rules) (record {
+    not_collected _ _ _ _ refl (search rules) (record {
       reason = c.in-Err.reason;
       stops = peers_then _ _ _ _ _ _ _ _ _ _ c.write_not_had_because.result first c.in-Err.ensures.stopped c.write_not_had_because.ensures.told c.write_not_had_because.ensures.failed c.accept_all.ensures.kept c.write_not_had_because.ensures.kept;
     })
