@@ -18,4 +18,4 @@ pub use recording_folder::FolderFault;
 pub use running::{ConnectionRecorder, record_connections};
 pub use serving::{record_connection, write_session};
 pub use shared_counts::{RefusedPeers, SharedCounts};
-pub use system::{ConnectionFolder, open_recordings, run_record};
+pub use system::{ConnectionFolder, finish_recordings, open_recordings, run_record};

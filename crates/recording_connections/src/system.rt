@@ -10,7 +10,7 @@ use crate::running::{ConnectionRecorder, record_connections};
 use recording_files::{FileReport, NotWritten};
 use recording_folder::{
     FileFinisher, Folder, FolderFault, FolderFinisher, SessionFiles, SystemPeriods, SystemPlace,
-    SystemSession, open_folder, recover,
+    SystemSession, open_folder, recover, reopen_folder,
 };
 use recording_lines::WholeLines;
 use report_writing::Status;
@@ -72,10 +72,29 @@ pub fn open_recordings<E: Write + Drop, H: Files<File = File> + Alloc<A = Global
     err: E,
 ) -> Result<Folder, FolderFault> {
     let folder = open_folder(rt, alloc, path)?;
-    match recover(rt, &folder, &mut WholeLines::new(err)) {
-        Ok(()) => Ok(folder),
-        Err(error) => Err(FolderFault::NotHad(error)),
-    }
+    finish_left(rt, &folder, err)?;
+    Ok(folder)
+}
+
+/// Finishes what a stopped run left in a folder of recordings, with a line in `err` for each file, and answers how
+/// many files stay. The folder is not made where it isn't there.
+pub fn finish_recordings<E: Write + Drop, H: Files<File = File> + Alloc<A = Global> + Clone + Drop>(
+    rt: &H,
+    alloc: Global,
+    path: &str,
+    err: E,
+) -> Result<u64, FolderFault> {
+    let folder = reopen_folder(rt, alloc, path)?;
+    finish_left(rt, &folder, err)
+}
+
+// Finishes what an earlier run left in a folder, and answers how many files stay.
+fn finish_left<E: Write + Drop, H: Files<File = File> + Alloc<A = Global> + Clone + Drop>(
+    rt: &H,
+    folder: &Folder,
+    err: E,
+) -> Result<u64, FolderFault> {
+    Ok(recover(rt, folder, &mut WholeLines::new(err))?)
 }
 
 /// Records in the folder of a run what comes over connections, for ever. Sessions are numbered by the shared counts. It

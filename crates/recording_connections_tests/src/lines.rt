@@ -1,6 +1,6 @@
 //! The lines that are told, as the program's manual has them.
 
-use recording_files::{FileReport, Recovered};
+use recording_files::{FileEnd, FileReport, Recovered};
 use recording_lines::{
     WholeLines, write_finished, write_not_accepted, write_not_finished, write_outcome,
     write_peer_fault, write_refused, write_threads,
@@ -20,6 +20,15 @@ const REPORT: FileReport = FileReport {
     unaccounted: 0,
 };
 
+const UNACCOUNTED: FileReport = FileReport {
+    messages: 2,
+    records: 11,
+    lost: 3,
+    backward: 1,
+    unknown_sets: 0,
+    unaccounted: 4,
+};
+
 const LINES: &str = "collectd: a: messages 2, records 11, lost 3, backward 1
 collectd: a: messages 2, records 11, lost 3, backward 1, unknown_sets 0, unaccounted 4
 collectd: not finished: a
@@ -27,9 +36,9 @@ collectd: session 192.0.2.1:4739: fault 15 ReadFailed
 collectd: refused 7 connections, last 192.0.2.1:4739
 collectd: record: accept failed 12 times
 collectd: record: threads 3 of 64
-collectd: recovered: a
-collectd: recovered: a: cut off 5 octets
-collectd: recovered: a: ends 5 octets into a message
+collectd: recovered: a: messages 2, records 11, lost 3, backward 1
+collectd: recovered: a: messages 2, records 11, lost 3, backward 1, unknown_sets 0, unaccounted 4, cut off 5 octets
+collectd: recovered: a: messages 2, records 11, lost 3, backward 1, ends 5 octets into a message
 collectd: not recovered: a: removed 5 octets, no whole message
 collectd: not recovered: a
 ";
@@ -38,23 +47,24 @@ fn peer() -> SocketAddr {
     SocketAddr::new(IpAddr::V4(Ipv4Addr::new(192, 0, 2, 1)), 4739)
 }
 
+// A file that was recovered.
+fn placed(report: FileReport, end: FileEnd) -> Recovered {
+    Recovered::Placed { report, end }
+}
+
 // Tells a line of each kind.
 fn tell_all(out: &mut WholeLines<&mut FailingWriter>) -> io::Result<()> {
     write_finished("a", &REPORT, out)?;
-    let unaccounted = FileReport {
-        unaccounted: 4,
-        ..REPORT
-    };
-    write_finished("a", &unaccounted, out)?;
+    write_finished("a", &UNACCOUNTED, out)?;
     write_not_finished("a", out)?;
     write_peer_fault(peer(), 15, "ReadFailed", out)?;
     write_refused(7, peer(), out)?;
     write_not_accepted(12, out)?;
     write_threads(3, 64, out)?;
     for outcome in [
-        Recovered::Whole,
-        Recovered::CutOff(5),
-        Recovered::Truncated(5),
+        placed(REPORT, FileEnd::Whole),
+        placed(UNACCOUNTED, FileEnd::CutOff(5)),
+        placed(REPORT, FileEnd::Truncated(5)),
         Recovered::Removed(5),
         Recovered::Stayed,
     ] {
@@ -101,7 +111,10 @@ fn tell_longest(alloc: Global, out: &mut WholeLines<&mut FailingWriter>) -> io::
         unknown_sets: u64::MAX,
         unaccounted: u64::MAX,
     };
-    write_finished("a".repeat(alloc, 4095)?.as_str(), &most, out)?;
+    let longest = "a".repeat(alloc, 4095)?;
+    write_finished(longest.as_str(), &most, out)?;
+    let recovered = placed(most, FileEnd::Truncated(u64::MAX));
+    write_outcome(longest.as_str(), recovered, out)?;
     write_outcome("a".repeat(alloc, 4351)?.as_str(), Recovered::Stayed, out)
 }
 
@@ -109,8 +122,8 @@ fn tell_longest(alloc: Global, out: &mut WholeLines<&mut FailingWriter>) -> io::
 #[test]
 fn longest_lines(rt: HostRuntime) -> Result<(), Fail> {
     let alloc: Global = rt.alloc();
-    let mut out = FailingWriter::new(alloc, 10_000, 2);
+    let mut out = FailingWriter::new(alloc, 15_000, 3);
     tell_longest(alloc, &mut WholeLines::new(&mut out))?;
-    assert_eq!(rt; out.taken.len(), 4095 + 199 + 4351 + 26);
+    assert_eq!(rt; out.taken.len(), 4095 + 199 + 4095 + 259 + 4351 + 26);
     Ok(())
 }

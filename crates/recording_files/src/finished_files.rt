@@ -2,15 +2,27 @@
 
 use crate::file_report::FileReport;
 
+/// How a file ends that an earlier run left.
+#[derive(Clone, Copy, Debug, PartialEq, Eq)]
+pub enum FileEnd {
+    /// With a whole message.
+    Whole,
+    /// So it does since this many octets were cut off: those of a message that isn't whole.
+    CutOff(u64),
+    /// With this many octets that are no whole message, and could not be cut off.
+    Truncated(u64),
+}
+
 /// What became of a file that an earlier run left.
 #[derive(Clone, Copy, Debug, PartialEq, Eq)]
 pub enum Recovered {
-    /// It has its final name, and ends with a whole message.
-    Whole,
-    /// It has its final name. This many octets were cut off its end: those of a message that isn't whole.
-    CutOff(u64),
-    /// It has its final name. This many octets still stand at its end that are no whole message.
-    Truncated(u64),
+    /// It has its final name.
+    Placed {
+        /// What it has, read by itself as a session, up to its end or the first message that has a fault.
+        /// Preambles are counted, too.
+        report: FileReport,
+        end: FileEnd,
+    },
     /// It had these octets and no whole message, and went away.
     Removed(u64),
     /// It could not be read, or not be moved, and stays where it was.

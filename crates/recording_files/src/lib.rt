@@ -26,7 +26,7 @@ mod ticking_source;
 pub use counting::count_all;
 pub use file_report::FileReport;
 pub use file_series::{FileSeries, NotWritten};
-pub use finished_files::{FinishedFiles, Recovered};
+pub use finished_files::{FileEnd, FinishedFiles, Recovered};
 pub use memory_files::MemoryFiles;
 pub use message_count::MessageCount;
 pub use period_clock::PeriodClock;

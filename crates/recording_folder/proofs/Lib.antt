@@ -1,1 +1,3 @@
 pub mod Hyphens
+pub mod FullReports
+pub mod FileReadings

@@ -55,11 +55,40 @@ pub fn open_folder<R: Files<File = File>>(
     alloc: Global,
     path: &str,
 ) -> Result<Folder, FolderFault> {
-    if path.is_empty() {
-        return Err(FolderFault::NotHad(io::Error::from(ErrorKind::NotFound)));
-    }
-    let unfinished = path_in(alloc, path, UNFINISHED)?;
+    let unfinished = unfinished_in(alloc, path)?;
     fs::create_dir_all(rt, unfinished.as_str())?;
+    lock_folder(rt, alloc, path, unfinished)
+}
+
+/// Opens a folder of recordings that an earlier run made, and locks it. What isn't there is not made: without a folder of
+/// what isn't finished it is no folder of recordings.
+pub fn reopen_folder<R: Files<File = File>>(
+    rt: &R,
+    alloc: Global,
+    path: &str,
+) -> Result<Folder, FolderFault> {
+    let unfinished = unfinished_in(alloc, path)?;
+    if !fs::metadata(rt, unfinished.as_str())?.is_dir() {
+        return Err(FolderFault::NotHad(io::Error::from(ErrorKind::NotADirectory)));
+    }
+    lock_folder(rt, alloc, path, unfinished)
+}
+
+// The path of the folder of what isn't finished.
+fn unfinished_in(alloc: Global, path: &str) -> io::Result<String> {
+    if path.is_empty() {
+        return Err(io::Error::from(ErrorKind::NotFound));
+    }
+    path_in(alloc, path, UNFINISHED)
+}
+
+// Locks a folder that is there.
+fn lock_folder<R: Files<File = File>>(
+    rt: &R,
+    alloc: Global,
+    path: &str,
+    unfinished: String,
+) -> Result<Folder, FolderFault> {
     let lock = path_in(alloc, path, LOCK)?;
     let lock = OpenOptions::new()
         .append(true)

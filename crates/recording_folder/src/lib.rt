@@ -3,8 +3,11 @@
 #![tactic(auto)]
 
 mod ended_file;
+mod file_contents;
+mod file_reading;
 mod filed_session;
 mod folder;
+mod full_reports;
 mod lack;
 pub mod laws;
 mod period;
@@ -20,7 +23,8 @@ mod unfinished_file;
 mod unfinished_names;
 
 pub use ended_file::{EndedFile, FileFinisher, FolderFinisher};
-pub use folder::{Folder, FolderFault, open_folder};
+pub use file_contents::{FileContents, read_contents};
+pub use folder::{Folder, FolderFault, open_folder, reopen_folder};
 pub use period::{CALENDAR_END, Period, period_of};
 pub use period_names::period_name;
 pub use recovery::recover;

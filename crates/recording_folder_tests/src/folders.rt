@@ -6,7 +6,7 @@ use super::script_file::lent;
 use super::sessions::{FIRST, FIRST_NAME, SECOND, peer};
 use super::trial::Trial;
 use recording_files::{FileReport, NotWritten};
-use recording_folder::{FolderFault, SystemPlace, open_folder};
+use recording_folder::{FolderFault, SystemPlace, open_folder, reopen_folder};
 use std::fs;
 use std::io::ErrorKind;
 use std::test::*;
@@ -40,6 +40,32 @@ fn a_folder_that_cannot_be_made_is_a_fault(rt: HostRuntime) -> Result<(), Fail> 
             "{path}"
         );
     }
+    Ok(())
+}
+
+#[test]
+fn a_folder_that_no_run_made_is_not_made(rt: HostRuntime) -> Result<(), Fail> {
+    fs::create_dir(&rt, "empty")?;
+    for path in ["", "absent", "empty"] {
+        let opened = reopen_folder(&rt, rt.alloc(), path);
+        assert!(rt;
+            matches!(opened, Err(FolderFault::NotHad(error)) if error.kind() == ErrorKind::NotFound),
+            "{path}"
+        );
+    }
+    assert!(rt; fs::metadata(&rt, "absent").is_err());
+    assert!(rt; fs::metadata(&rt, "empty/.lock").is_err());
+    Ok(())
+}
+
+#[test]
+fn a_folder_that_a_run_made_is_one_runs_alone(rt: HostRuntime) -> Result<(), Fail> {
+    let folder = open_folder(&rt, rt.alloc(), "made")?;
+    let other = reopen_folder(&rt, rt.alloc(), "made");
+    assert!(rt; matches!(other, Err(FolderFault::InUse)));
+    drop(folder);
+    let other = reopen_folder(&rt, rt.alloc(), "made")?;
+    assert!(rt; other.unfinished() == "made/unfinished");
     Ok(())
 }
 

@@ -5,6 +5,8 @@
 #[cfg(test)]
 mod apart;
 #[cfg(test)]
+mod counted;
+#[cfg(test)]
 mod folders;
 #[cfg(test)]
 mod kept_files;

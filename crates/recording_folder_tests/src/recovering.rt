@@ -150,14 +150,14 @@ fn each_file_that_an_earlier_run_left_is_settled_and_told(rt: HostRuntime) -> Re
     let trial = Trial::new(&rt, &folder)?;
     let kept = leave_each(&trial)?;
     leave_unreadable(&trial)?;
-    trial.recover()?;
+    assert_eq!(rt; trial.recover()?, 2);
     trial.check_lines(&[
-        ("Whole ", WHOLE_FINAL),
-        ("CutOff(9) ", CUT_FINAL),
+        ("Whole 0 0 0 ", WHOLE_FINAL),
+        ("CutOff(9) 0 0 0 ", CUT_FINAL),
         ("Removed(9) ", NO_MESSAGE),
         ("Stayed ", FOLDER),
-        ("Whole ", TWO_NAMES_FINAL),
-        ("Whole ", TAKEN_NEXT),
+        ("Whole 0 0 0 ", TWO_NAMES_FINAL),
+        ("Whole 0 0 0 ", TAKEN_NEXT),
         ("Stayed ", UNREADABLE),
     ])?;
     trial.check_file(WHOLE_FINAL, FIRST_TWO)?;

@@ -6,7 +6,8 @@ use std::alloc::{AllocError, Global};
 use std::cell::RefCell;
 use std::test::Fail;
 
-/// Notes what is said of files, a line each.
+/// Notes what is said of files, a line each: of one that was recovered how it ends, its messages, their records, and how
+/// many were lost.
 #[derive(Clone, Copy)]
 pub struct Notes<'a> {
     pub lines: &'a RefCell<Vec<String>>,
@@ -34,7 +35,19 @@ impl<'a> FinishedFiles for Notes<'a> {
     }
 
     fn recovered(&mut self, path: &str, outcome: Recovered) {
-        self.note(format!(in self.alloc; "{outcome:?} {path}"));
+        let line = match outcome {
+            Recovered::Placed { report, end } => {
+                let FileReport {
+                    messages,
+                    records,
+                    lost,
+                    ..
+                } = report;
+                format!(in self.alloc; "{end:?} {messages} {records} {lost} {path}")
+            }
+            outcome => format!(in self.alloc; "{outcome:?} {path}"),
+        };
+        self.note(line);
     }
 }
 
@@ -76,7 +89,7 @@ fn is_final(name: &Name) -> bool {
 }
 
 /// What is said of a file whose cut-off octets stay: the tests leave nine of them.
-const STILL_CUT_OFF: &str = "Truncated(9) ";
+const STILL_CUT_OFF: &str = "Truncated(9) 0 0 0 ";
 
 // Whether a name has what it may have: a final one a file that was acknowledged, and no octet more, unless it
 // was said that they stay. Where a disk has no hard links an empty file may have taken the name.

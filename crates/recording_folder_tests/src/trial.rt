@@ -85,8 +85,8 @@ impl<'a> Trial<'a> {
         Ok(lent(&self.tree)?.calls > calls)
     }
 
-    /// Finishes what is left, with nothing refused.
-    pub fn recover(&self) -> io::Result<()> {
+    /// Finishes what is left, with nothing refused, and answers how many files stay.
+    pub fn recover(&self) -> io::Result<u64> {
         self.refuse(None)?;
         recover(&self.disk(), self.folder, &mut self.notes())
     }

@@ -5,12 +5,13 @@ use Rattle.std.specs.Net.Text.{socket_text}
 use Rattle.std.specs.declared.net.socket_addr.SocketAddr.{SocketAddr}
 use Rattle.ipfix_session.specs.declared.report.DomainReport.{DomainReport}
 use Rattle.recording_files.specs.declared.file_report.FileReport.{FileReport}
+use Rattle.recording_files.specs.declared.finished_files.FileEnd.{FileEnd}
+use Rattle.recording_files.specs.declared.finished_files.FileEnd.TheVariants.{Whole, CutOff, Truncated}
 use Rattle.recording_files.specs.declared.finished_files.Recovered.{Recovered}
-use Rattle.recording_files.specs.declared.finished_files.Recovered.TheVariants.{Whole, CutOff, Truncated, Removed, Stayed}
+use Rattle.recording_files.specs.declared.finished_files.Recovered.TheVariants.{Placed, Removed, Stayed}
 
--- ---- a file that is finished
+-- ---- what a file has
 
--- what the exporter sent in it
 unfoldable pub counts_text : FileReport → List ℕ
 counts_text r = codes ": messages " ++ (decimal r.messages ++ (codes ", records " ++ decimal r.records))
 
@@ -24,11 +25,17 @@ uncounted_text r = codes ", unknown_sets " ++ (decimal r.unknown_sets ++ (codes 
 abbrev pub uncounted_end : FileReport → List ℕ
 uncounted_end r = if (r.unknown_sets == 0) && (r.unaccounted == 0) then [] else uncounted_text r
 
+abbrev pub report_text : FileReport → List ℕ
+report_text r = counts_text r ++ (losses_text r ++ uncounted_end r)
+
+-- ---- a file that is finished
+
 unfoldable pub line_start : List ℕ → List ℕ
 line_start name = codes "collectd: " ++ name
 
+-- what the exporter sent in it
 abbrev pub finished_line : List ℕ → FileReport → List ℕ
-finished_line path r = line_start path ++ (counts_text r ++ (losses_text r ++ (uncounted_end r ++ codes "\n")))
+finished_line path r = line_start path ++ (report_text r ++ codes "\n")
 
 -- one that could not be finished
 unfoldable pub not_finished_line : List ℕ → List ℕ
@@ -83,14 +90,24 @@ not_received_line count = codes "collectd: record: receive failed " ++ (decimal 
 
 -- ---- files that an earlier run left
 
-unfoldable pub recovered_line : List ℕ → List ℕ
-recovered_line path = codes "collectd: recovered: " ++ (path ++ codes "\n")
+unfoldable pub recovered_start : List ℕ → List ℕ
+recovered_start path = codes "collectd: recovered: " ++ path
 
-unfoldable pub cut_off_line : List ℕ → ℕ → List ℕ
-cut_off_line path octets = codes "collectd: recovered: " ++ (path ++ (codes ": cut off " ++ (decimal octets ++ codes " octets\n")))
+unfoldable pub cut_off_text : ℕ → List ℕ
+cut_off_text octets = codes ", cut off " ++ (decimal octets ++ codes " octets")
 
-unfoldable pub truncated_line : List ℕ → ℕ → List ℕ
-truncated_line path octets = codes "collectd: recovered: " ++ (path ++ (codes ": ends " ++ (decimal octets ++ codes " octets into a message\n")))
+unfoldable pub truncated_text : ℕ → List ℕ
+truncated_text octets = codes ", ends " ++ (decimal octets ++ codes " octets into a message")
+
+-- how it ends, if that is not with a whole message as it was left
+abbrev pub end_text : FileEnd → List ℕ
+end_text Whole = []
+end_text (CutOff octets) = cut_off_text octets
+end_text (Truncated octets) = truncated_text octets
+
+-- what it has, read by itself as a session
+abbrev pub recovered_line : List ℕ → FileReport → FileEnd → List ℕ
+recovered_line path r end = recovered_start path ++ (report_text r ++ (end_text end ++ codes "\n"))
 
 unfoldable pub stayed_line : List ℕ → List ℕ
 stayed_line path = codes "collectd: not recovered: " ++ (path ++ codes "\n")
@@ -99,9 +116,7 @@ unfoldable pub removed_line : List ℕ → ℕ → List ℕ
 removed_line path octets = codes "collectd: not recovered: " ++ (path ++ (codes ": removed " ++ (decimal octets ++ codes " octets, no whole message\n")))
 
 abbrev pub outcome_line : List ℕ → Recovered → List ℕ
-outcome_line path Whole = recovered_line path
-outcome_line path (CutOff octets) = cut_off_line path octets
-outcome_line path (Truncated octets) = truncated_line path octets
+outcome_line path (Placed r end) = recovered_line path r end
 outcome_line path (Removed octets) = removed_line path octets
 outcome_line path Stayed = stayed_line path
 

@@ -1,23 +1,29 @@
 //! The lines of a file that is finished, and of one that could not be.
 
 ghost use Rattle.report_writing.specs.Writing.{Tells};
-ghost use Rattle.recording_lines.specs.RecordLines.{counts_text, finished_line, line_start, losses_text, not_finished_line, uncounted_end, uncounted_text};
+ghost use Rattle.recording_lines.specs.RecordLines.{counts_text, finished_line, line_start, losses_text, not_finished_line, report_text, uncounted_end, uncounted_text};
 
 use recording_files::FileReport;
 use report_writing::WriteLines;
 use std::io;
 
-/// Writes the line of a file that is finished: its path, and what the exporter sent in it. Unknown sets and
-/// unaccounted records stand there only if there were some.
+/// Writes the line of a file that is finished: its path, and what the exporter sent in it.
 pub fn write_finished<W: WriteLines>(path: &str, report: &FileReport, out: &mut W) -> io::Result<()>
     ensures { Tells W.contents W.failed out.old out.new result
         (finished_line path.now report.now) }
 {
     write_start(path, out)?;
+    write_report(report, out)?;
+    writeln!(out)
+}
+
+/// Writes what a file has. Unknown sets and unaccounted records stand there only if there were some.
+pub(crate) fn write_report<W: WriteLines>(report: &FileReport, out: &mut W) -> io::Result<()>
+    ensures { Tells W.contents W.failed out.old out.new result (report_text report.now) }
+{
     write_counts(report, out)?;
     write_losses(report, out)?;
-    write_uncounted(report, out)?;
-    writeln!(out)
+    write_uncounted(report, out)
 }
 
 /// Writes that a file could not be finished, by its path.

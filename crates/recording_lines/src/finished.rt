@@ -1,7 +1,7 @@
 //! Files that are finished have a line each.
 
 use crate::file_lines::{write_finished, write_not_finished};
-use crate::notice_lines::write_outcome;
+use crate::recovered_lines::write_outcome;
 use crate::whole_lines::WholeLines;
 use recording_files::{FileReport, FinishedFiles, Recovered};
 use std::io::Write;

@@ -7,6 +7,7 @@ mod file_lines;
 mod finished;
 pub mod laws;
 mod notice_lines;
+mod recovered_lines;
 mod session_lines;
 mod whole_lines;
 
@@ -14,6 +15,7 @@ pub use datagram_lines::{
     write_advance, write_not_received, write_peer_ended, write_refused_datagrams, write_turned_away,
 };
 pub use file_lines::{write_finished, write_not_finished};
-pub use notice_lines::{write_not_accepted, write_outcome, write_refused, write_threads};
+pub use notice_lines::{write_not_accepted, write_refused, write_threads};
+pub use recovered_lines::write_outcome;
 pub use session_lines::{write_peer_fault, write_peer_losses};
 pub use whole_lines::WholeLines;

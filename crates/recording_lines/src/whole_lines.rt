@@ -10,7 +10,7 @@ use std::fmt::Display;
 use std::io::{self, Write};
 
 /// How many octets a line has at most. A path that the system takes has 4,095, one that it lists in such a
-/// folder 256 more, and what stands beside a path has 200.
+/// folder 256 more, and what stands beside a path has 260.
 const LINE_ROOM: usize = 4608;
 
 /// Writes each line to a writer in one piece, by one call, so that the lines of several threads stay whole. No line
