@@ -1,6 +1,7 @@
-//! What the words of a command say, read: its files, plan, formats and limits, and where it writes.
+//! What each command is told by its words, the files that it reads before its input, and where it writes.
 #![tactic(auto)]
 
+mod arguments;
 mod formats;
 mod inputs;
 mod listening;
@@ -8,9 +9,14 @@ mod progress_output;
 mod refused;
 mod timers;
 
+pub use arguments::{
+    Arguments, CollectArguments, DumpArguments, ElementsArguments, ExplainArguments,
+    FilesArguments, MergeArguments, RecordArguments, ShowProgress, TableArguments, TcpArguments,
+    read_arguments,
+};
 pub use inputs::{
-    Collecting, Job, buffered_output, read_collecting, read_dump_form, read_idle, read_job,
-    read_paths, read_progress, read_verbosity, table_output,
+    Collecting, buffered_output, check_paths, load_table_plan, prepare_collecting, progress_writer,
+    table_output,
 };
 pub use listening::listen_on;
 pub use progress_output::ProgressOutput;

@@ -44,7 +44,7 @@ pub fn write_refused_exports(
 /// Why the system did not give octets of files, each of which is a session: `err` has a line for each that
 /// ended so, if `verbosity` is verbose.
 pub fn write_refused_files(
-    status: u8,
+    status: Status,
     verbosity: Verbosity,
     paths: &[&str],
     notes: &[Note],
@@ -59,7 +59,7 @@ pub fn write_refused_files(
 
 /// The same of connections.
 pub fn write_refused_peers(
-    status: u8,
+    status: Status,
     verbosity: Verbosity,
     peers: &[NotedPeer],
     err: &mut Stderr,
@@ -72,14 +72,14 @@ pub fn write_refused_peers(
 
 // The line of a session, counted from 1. A run that ended otherwise has told of none.
 fn write_refused_session(
-    status: u8,
+    status: Status,
     verbosity: Verbosity,
     session: usize,
     origin: &Origin,
     note: &Note,
     err: &mut Stderr,
 ) {
-    if let (true, Some(reason)) = (status == Status::SessionFault.number(), note.reason()) {
+    if let (true, Some(reason)) = (status == Status::SessionFault, note.reason()) {
         let _ = write_read_failed(verbosity, session, origin, reason, err);
     }
 }

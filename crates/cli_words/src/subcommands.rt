@@ -1,6 +1,6 @@
 //! The commands, and the words that name them.
 
-ghost use Rattle.std.specs.Prelude.{◌≡◌, Some};
+ghost use Rattle.std.specs.Prelude.{◌≡◌, Some, IfSome};
 ghost use Rattle.cli_words.specs.Words.{word_of};
 
 /// A command of the program.
@@ -44,6 +44,7 @@ impl Subcommand {
 
     /// The one that a word names.
     pub fn named(word: &str) -> Option<Subcommand>
+        ensures names { IfSome result (λ command. word.now ≡ word_of command) }
         ensures each { (command : Subcommand) → word.now ≡ word_of command → result ≡ Some command }
     {
         match word {

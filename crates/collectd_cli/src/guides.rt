@@ -1,13 +1,12 @@
 //! `collectd elements` and `collectd explain`, which read no flows.
 
-use clap::ArgMatches;
-use cli_inputs::{WITH_REASONS, buffered_output};
+use cli_inputs::{ElementsArguments, ExplainArguments, WITH_REASONS, buffered_output};
 use command_elements::{run_elements, write_out_of_memory};
 use command_explain::run_explain;
 use report_writing::{CheckedWriter, Status};
 
 /// `collectd elements`: the elements that are known, or those that a word fits, to standard output.
-pub fn elements(rt: &HostRuntime, chosen: &ArgMatches) -> Result<u8, Status> {
+pub fn elements(rt: &HostRuntime, arguments: &ElementsArguments) -> Result<Status, Status> {
     let mut err = CheckedWriter::new(rt.stderr());
     let Some(mut out) = buffered_output(rt) else {
         let _ = write_out_of_memory(&mut err);
@@ -16,16 +15,16 @@ pub fn elements(rt: &HostRuntime, chosen: &ArgMatches) -> Result<u8, Status> {
     let status = run_elements(
         rt,
         rt.alloc(),
-        chosen.get_strs("elements").unwrap_or(&[]),
-        chosen.get_str("word"),
+        arguments.element_files,
+        arguments.word,
         WITH_REASONS,
         &mut out,
         &mut err,
     );
-    Ok(status.number())
+    Ok(status)
 }
 
 /// `collectd explain`: what is told of a fault, or the list of all, to standard output.
-pub fn explain(rt: &HostRuntime, chosen: &ArgMatches) -> u8 {
-    run_explain(chosen.get_str("fault"), &mut rt.stdout(), &mut rt.stderr()).number()
+pub fn explain(rt: &HostRuntime, arguments: &ExplainArguments) -> Status {
+    run_explain(arguments.fault, &mut rt.stdout(), &mut rt.stderr())
 }

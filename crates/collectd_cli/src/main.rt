@@ -5,7 +5,8 @@ mod commands;
 mod guides;
 
 use clap::ArgMatches;
-use cli_words::{Subcommand, matches_of, show};
+use cli_inputs::{Arguments, read_arguments};
+use cli_words::{Chosen, matches_of, show};
 use command_record::record;
 use report_writing::Status;
 use std::process::ExitCode;
@@ -15,51 +16,60 @@ use std::thread::Threads;
 use std::{env, io};
 
 fn main(rt: HostRuntime) -> ExitCode {
-    match run(&rt, &rt) {
-        Ok(number) => ExitCode::from(number),
+    let status = match run(&rt, &rt) {
+        Ok(status) => status,
         Err(error) => {
             let _ = eprintln!(rt; "error: {error}");
-            ExitCode::from(Status::NotOpened.number())
+            Status::NotOpened
         }
-    }
+    };
+    ExitCode::from(status.number())
 }
 
 // Reads the words and runs the command that they name. The first handle may start threads.
-fn run<R: Clock + Threads + Wait + Sync>(threads: &R, rt: &HostRuntime) -> io::Result<u8> {
+fn run<R: Clock + Threads + Wait + Sync>(threads: &R, rt: &HostRuntime) -> io::Result<Status> {
     let mut words = Vec::new(rt.alloc());
     for word in env::args(rt)? {
         words.push(word)?;
     }
     match matches_of(rt.alloc(), words.as_slice()) {
-        Ok(matches) => Ok(match matches.subcommand() {
-            Some((word, chosen)) => run_subcommand(threads, rt, word, chosen),
-            // (the parser asks for a command)
-            None => Status::NotOpened.number(),
-        }),
-        Err(error) => Ok(show(rt, &error).number()),
+        Ok(matches) => Ok(run_matches(threads, rt, &matches)),
+        Err(error) => Ok(show(rt, &error)),
     }
 }
 
-// Runs the command that a word names.
-fn run_subcommand<R: Clock + Threads + Wait + Sync>(
+// Runs the command that the parser found.
+fn run_matches<R: Clock + Threads + Wait + Sync>(
     threads: &R,
     rt: &HostRuntime,
-    word: &str,
-    chosen: &ArgMatches,
-) -> u8 {
-    let ended = match Subcommand::named(word) {
-        Some(Subcommand::Dump) => commands::dump(rt, chosen),
-        Some(Subcommand::Files) => commands::files(threads, rt, chosen),
-        Some(Subcommand::Tcp) => commands::tcp(threads, rt, chosen),
-        Some(Subcommand::Record) => record(threads, rt, chosen),
-        Some(Subcommand::Merge) => commands::merge(rt, chosen),
-        Some(Subcommand::Elements) => guides::elements(rt, chosen),
-        Some(Subcommand::Explain) => Ok(guides::explain(rt, chosen)),
-        // (the parser lets no other word through)
+    matches: &ArgMatches,
+) -> Status {
+    match Chosen::of(matches) {
+        Some(chosen) => run_command(threads, rt, chosen),
+        // (the parser asks for a command)
+        None => Status::NotOpened,
+    }
+}
+
+// Runs the command that was chosen.
+fn run_command<R: Clock + Threads + Wait + Sync>(
+    threads: &R,
+    rt: &HostRuntime,
+    chosen: Chosen,
+) -> Status {
+    let ended = match read_arguments(chosen) {
+        Some(Arguments::Dump(arguments)) => commands::dump(rt, &arguments),
+        Some(Arguments::Files(arguments)) => commands::files(threads, rt, &arguments),
+        Some(Arguments::Tcp(arguments)) => commands::tcp(threads, rt, &arguments),
+        Some(Arguments::Record(arguments)) => record(threads, rt, &arguments),
+        Some(Arguments::Merge(arguments)) => commands::merge(rt, &arguments),
+        Some(Arguments::Elements(arguments)) => guides::elements(rt, &arguments),
+        Some(Arguments::Explain(arguments)) => Ok(guides::explain(rt, &arguments)),
+        // (the parser lets no other words through)
         None => Err(Status::NotOpened),
     };
     match ended {
-        Ok(number) => number,
-        Err(status) => status.number(),
+        Ok(status) => status,
+        Err(status) => status,
     }
 }

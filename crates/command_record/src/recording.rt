@@ -1,15 +1,13 @@
 //! Recording as the words say it.
 
 use crate::system::{Sockets, run_recorder};
-use clap::ArgMatches;
-use cli_inputs::{WITH_REASONS, listen_on, read_idle};
+use cli_inputs::{RecordArguments, WITH_REASONS, listen_on};
 use network_prefixes::{PeerFilter, Prefix};
 use recording_connections::{FolderFault, RecordOrder, open_recordings};
 use recording_datagrams::{PeerLimits, SystemSocket};
 use report_writing::{Reason, Status, write_not_had, write_not_had_because};
 use std::io::{Stderr, Write};
 use std::net::TcpListener;
-use std::num::{NonZeroU64, NonZeroUsize};
 use std::rt::Clock;
 use std::sync::Wait;
 use std::thread::Threads;
@@ -21,17 +19,15 @@ const IDLE: u64 = 1800;
 pub fn record<R: Clock + Threads + Wait + Sync>(
     threads: &R,
     rt: &HostRuntime,
-    chosen: &ArgMatches,
-) -> Result<u8, Status> {
+    arguments: &RecordArguments,
+) -> Result<Status, Status> {
     let mut err = rt.stderr();
-    let path = chosen.get_str("into").ok_or(Status::NotOpened)?;
-    let order = read_order(rt, chosen, &mut err)?;
-    let limits = read_limits(chosen).ok_or(Status::NotOpened)?;
+    let order = order_of(rt, arguments, &mut err)?;
     let sockets = Sockets {
-        listener: read_listener(rt, chosen, &mut err)?,
-        socket: read_socket(rt, chosen, &mut err)?,
+        listener: open_listener(rt, arguments.listen, &mut err)?,
+        socket: open_socket(rt, arguments.udp, &mut err)?,
     };
-    match open_recordings(rt, rt.alloc(), path, err) {
+    match open_recordings(rt, rt.alloc(), arguments.into, err) {
         Ok(folder) => Ok(run_recorder(
             threads,
             rt,
@@ -39,36 +35,35 @@ pub fn record<R: Clock + Threads + Wait + Sync>(
             sockets,
             &folder,
             &order,
-            limits,
+            limits_of(arguments),
             err,
-        )
-        .number()),
+        )),
         Err(fault) => {
-            tell_folder(path, &fault, &mut err);
+            tell_folder(arguments.into, &fault, &mut err);
             Err(Status::NotOpened)
         }
     }
 }
 
 // The listener for connections, if they are taken.
-fn read_listener(
+fn open_listener(
     rt: &HostRuntime,
-    chosen: &ArgMatches,
+    addr: Option<&str>,
     err: &mut Stderr,
 ) -> Result<Option<TcpListener>, Status> {
-    match chosen.get_str("listen") {
+    match addr {
         Some(addr) => Ok(Some(listen_on(rt, addr, WITH_REASONS, err)?)),
         None => Ok(None),
     }
 }
 
 // The socket for datagrams, if they are taken. If it can't be had, `err` has a line.
-fn read_socket(
+fn open_socket(
     rt: &HostRuntime,
-    chosen: &ArgMatches,
+    addr: Option<&str>,
     err: &mut Stderr,
 ) -> Result<Option<SystemSocket>, Status> {
-    let Some(addr) = chosen.get_str("udp") else {
+    let Some(addr) = addr else {
         return Ok(None);
     };
     match SystemSocket::bind(rt, addr) {
@@ -82,16 +77,14 @@ fn read_socket(
 }
 
 // How many peers that send datagrams are kept, and how long each may be silent.
-fn read_limits(chosen: &ArgMatches) -> Option<PeerLimits> {
-    let most = chosen.get_one::<u32>("peers")?;
-    let idle = match chosen.get_one::<u32>("idle") {
-        Some(seconds) => u64::from(seconds),
-        None => IDLE,
-    };
-    Some(PeerLimits {
-        most: NonZeroUsize::new(most as usize)?,
-        idle,
-    })
+fn limits_of(arguments: &RecordArguments) -> PeerLimits {
+    PeerLimits {
+        most: arguments.peers,
+        idle: match arguments.idle {
+            Some(limit) => limit.as_secs(),
+            None => IDLE,
+        },
+    }
 }
 
 // The line of a folder that can't be had.
@@ -105,38 +98,30 @@ fn tell_folder(path: &str, fault: &FolderFault, err: &mut Stderr) {
 }
 
 // What is recorded, and how.
-fn read_order(
+fn order_of(
     rt: &HostRuntime,
-    chosen: &ArgMatches,
+    arguments: &RecordArguments,
     err: &mut Stderr,
 ) -> Result<RecordOrder, Status> {
-    let every = chosen.get_one::<u32>("every").ok_or(Status::NotOpened)?;
-    let sessions = chosen.get_one::<u32>("sessions").ok_or(Status::NotOpened)?;
     Ok(RecordOrder {
-        every: NonZeroU64::new(u64::from(every)).ok_or(Status::NotOpened)?,
-        sessions: sessions as usize,
-        idle: read_idle(chosen),
-        filter: read_filter(rt, chosen, err)?,
+        every: arguments.every,
+        sessions: arguments.sessions,
+        idle: arguments.idle,
+        filter: filter_of(rt, arguments.prefixes, err)?,
     })
 }
 
 // The prefixes that peers may have. If a word is none, `err` has a line.
-fn read_filter(
-    rt: &HostRuntime,
-    chosen: &ArgMatches,
-    err: &mut Stderr,
-) -> Result<PeerFilter, Status> {
+fn filter_of(rt: &HostRuntime, words: &[&str], err: &mut Stderr) -> Result<PeerFilter, Status> {
     let mut prefixes = Vec::new(rt.alloc());
-    if let Some(words) = chosen.get_strs("from") {
-        for word in words {
-            let Ok(prefix) = Prefix::parse(*word) else {
-                let _ = writeln!(err, "error: '{word}' of --from is no address and no prefix");
-                return Err(Status::NotOpened);
-            };
-            if prefixes.push(prefix).is_err() {
-                let _ = writeln!(err, "error: out of memory");
-                return Err(Status::NotOpened);
-            }
+    for word in words {
+        let Ok(prefix) = Prefix::parse(*word) else {
+            let _ = writeln!(err, "error: '{word}' of --from is no address and no prefix");
+            return Err(Status::NotOpened);
+        };
+        if prefixes.push(prefix).is_err() {
+            let _ = writeln!(err, "error: out of memory");
+            return Err(Status::NotOpened);
         }
     }
     Ok(PeerFilter { prefixes })

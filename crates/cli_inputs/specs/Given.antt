@@ -1,0 +1,97 @@
+-- What a command is told is what was given for its arguments: no value of one stands for that of another.
+use Rattle.std.specs.Prelude.{◌≡◌, ◌*◌, ℕ, List, Option, Some, nat_eq, if◌then◌else◌, option_map, map, codes}
+use Rattle.std.specs.Duration.{as_nanos}
+use Rattle.std.specs.declared.time.Duration.{Duration}
+use Rattle.std.specs.Int.NonZero.{non_zero_u64_get, non_zero_usize_get}
+use Rattle.report_writing.specs.declared.verbosity.Verbosity.{Verbosity}
+use Rattle.cli_words.specs.Given.{IsFlagGiven, IsNumberGiven, count_given, text_given, texts_given}
+use Rattle.cli_words.specs.declared.chosen.Chosen.{Chosen}
+use Rattle.cli_words.specs.declared.subcommands.Subcommand.TheVariants as command
+use Rattle.cli_inputs.specs.Formats.{form_word, format_word}
+use Rattle.cli_inputs.specs.declared.arguments.Arguments.{Arguments}
+use Rattle.cli_inputs.specs.declared.arguments.Arguments.TheVariants.{Dump, Files, Tcp, Record, Merge, Elements, Explain}
+use Rattle.cli_inputs.specs.declared.arguments.DumpArguments.{DumpArguments}
+use Rattle.cli_inputs.specs.declared.arguments.TableArguments.{TableArguments}
+use Rattle.cli_inputs.specs.declared.arguments.CollectArguments.{CollectArguments}
+use Rattle.cli_inputs.specs.declared.arguments.FilesArguments.{FilesArguments}
+use Rattle.cli_inputs.specs.declared.arguments.TcpArguments.{TcpArguments}
+use Rattle.cli_inputs.specs.declared.arguments.RecordArguments.{RecordArguments}
+use Rattle.cli_inputs.specs.declared.arguments.MergeArguments.{MergeArguments}
+use Rattle.cli_inputs.specs.declared.arguments.ElementsArguments.{ElementsArguments}
+use Rattle.cli_inputs.specs.declared.arguments.ExplainArguments.{ExplainArguments}
+use Rattle.cli_inputs.specs.declared.arguments.ShowProgress.{ShowProgress}
+use Rattle.cli_inputs.specs.declared.arguments.ShowProgress.TheVariants.{Nowhere, OnTerminal, OnStandardError}
+
+-- where progress is shown by how often that is asked for
+abbrev pub progress_shown : ℕ → ShowProgress
+progress_shown asked =
+    if nat_eq asked 0 then Nowhere else if nat_eq asked 1 then OnTerminal else OnStandardError
+
+module _ (chosen : Chosen) where
+  -- a duration has as many seconds as the number of an argument says; there is none if there is no number
+  abbrev pub IsDurationGiven : List ℕ → Option Duration → Type 0
+  IsDurationGiven word duration = (seconds : Option ℕ) × IsNumberGiven chosen word seconds
+      × (option_map as_nanos duration ≡ option_map (λ n. n * 1000000000) seconds)
+
+  pub record IsVerbosity (told : Verbosity) : Type 0 where
+    pub verbose : IsFlagGiven chosen (codes "verbose") told.verbose
+    pub strict : IsFlagGiven chosen (codes "strict") told.strict
+
+  pub record IsDump (told : DumpArguments) : Type 0 where
+    pub format : text_given chosen (codes "format") ≡ Some (form_word told.form)
+    pub elements : map (λ path. path.now) told.element_files.now ≡ texts_given chosen (codes "elements")
+    pub verbosity : IsVerbosity told.verbosity
+
+  pub record IsTable (told : TableArguments) : Type 0 where
+    pub elements : map (λ path. path.now) told.element_files.now ≡ texts_given chosen (codes "elements")
+    pub plan : text_given chosen (codes "plan") ≡ Some told.plan.now
+    pub format : text_given chosen (codes "format") ≡ Some (format_word told.output.format)
+    pub time : IsNumberGiven chosen (codes "time") (Some told.output.time)
+    pub verbosity : IsVerbosity told.verbosity
+
+  pub record IsCollect (told : CollectArguments) : Type 0 where
+    pub table : IsTable told.table
+    pub workers : IsNumberGiven chosen (codes "workers") (Some told.pool.workers)
+    pub ring : IsNumberGiven chosen (codes "ring") (Some told.pool.capacity)
+    pub progress : told.progress ≡ progress_shown (count_given chosen (codes "progress"))
+
+  pub record IsFiles (told : FilesArguments) : Type 0 where
+    pub collect : IsCollect told.collect
+    pub files : map (λ path. path.now) told.paths.now ≡ texts_given chosen (codes "file")
+
+  pub record IsTcp (told : TcpArguments) : Type 0 where
+    pub collect : IsCollect told.collect
+    pub listen : text_given chosen (codes "listen") ≡ Some told.addr.now
+    pub sessions : IsNumberGiven chosen (codes "sessions") (Some told.sessions)
+    pub idle : IsDurationGiven (codes "idle") told.idle
+
+  pub record IsRecord (told : RecordArguments) : Type 0 where
+    pub into : text_given chosen (codes "into") ≡ Some told.into.now
+    pub listen : option_map (λ addr. addr.now) told.listen ≡ text_given chosen (codes "listen")
+    pub udp : option_map (λ addr. addr.now) told.udp ≡ text_given chosen (codes "udp")
+    pub every : IsNumberGiven chosen (codes "every") (Some (non_zero_u64_get told.every))
+    pub sessions : IsNumberGiven chosen (codes "sessions") (Some told.sessions)
+    pub peers : IsNumberGiven chosen (codes "peers") (Some (non_zero_usize_get told.peers))
+    pub prefixes : map (λ prefix. prefix.now) told.prefixes.now ≡ texts_given chosen (codes "from")
+    pub idle : IsDurationGiven (codes "idle") told.idle
+
+  pub record IsMerge (told : MergeArguments) : Type 0 where
+    pub table : IsTable told.table
+    pub files : map (λ path. path.now) told.paths.now ≡ texts_given chosen (codes "file")
+
+  pub record IsElements (told : ElementsArguments) : Type 0 where
+    pub elements : map (λ path. path.now) told.element_files.now ≡ texts_given chosen (codes "elements")
+    pub word : option_map (λ word. word.now) told.word ≡ text_given chosen (codes "word")
+
+  pub record IsExplain (told : ExplainArguments) : Type 0 where
+    pub fault : option_map (λ fault. fault.now) told.fault ≡ text_given chosen (codes "fault")
+
+  -- the command is the one that was chosen, and it is told what was given
+  abbrev pub IsGiven : Arguments → Type 0
+  IsGiven (Dump told) = (chosen.command ≡ command.Dump) × IsDump told
+  IsGiven (Files told) = (chosen.command ≡ command.Files) × IsFiles told
+  IsGiven (Tcp told) = (chosen.command ≡ command.Tcp) × IsTcp told
+  IsGiven (Record told) = (chosen.command ≡ command.Record) × IsRecord told
+  IsGiven (Merge told) = (chosen.command ≡ command.Merge) × IsMerge told
+  IsGiven (Elements told) = (chosen.command ≡ command.Elements) × IsElements told
+  IsGiven (Explain told) = (chosen.command ≡ command.Explain) × IsExplain told

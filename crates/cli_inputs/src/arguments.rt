@@ -1,0 +1,261 @@
+//! What the words of each command say.
+
+ghost use Rattle.std.specs.Prelude.{◌≡◌, IfSome, IsSome};
+ghost use Rattle.cli_inputs.specs.Given.{IsCollect, IsDump, IsFiles, IsGiven, IsMerge, IsRecord, IsTable, IsTcp, IsDurationGiven, IsVerbosity};
+ghost use Rattle.cli_words.specs.Arguments.{OneNumber, reading_of};
+
+use crate::formats::{dump_form, table_format};
+use cli_words::{
+    Argument, Chosen, DUMP_FORMAT, ELEMENTS, EVERY, FAULT, FLOW_FILES, FROM, IDLE, INTO, LISTEN,
+    PEERS, PLAN, PROGRESS, RECORD_IDLE, RECORD_LISTEN, RECORD_SESSIONS, RING, SESSIONS, STRICT,
+    Subcommand, TABLE_FILES, TABLE_FORMAT, TIME, UDP, VERBOSE, WORD, WORKERS,
+};
+use flow_collect::Pool;
+use ipfix_dump::Form;
+use output_tables::Output;
+use report_writing::Verbosity;
+use std::num::{NonZeroU64, NonZeroUsize};
+use std::time::Duration;
+
+/// A command, and what it is told.
+#[derive(Clone, Copy)]
+pub enum Arguments<'m, 'w> {
+    Dump(DumpArguments<'m, 'w>),
+    Files(FilesArguments<'m, 'w>),
+    Tcp(TcpArguments<'m, 'w>),
+    Record(RecordArguments<'m, 'w>),
+    Merge(MergeArguments<'m, 'w>),
+    Elements(ElementsArguments<'m, 'w>),
+    Explain(ExplainArguments<'w>),
+}
+
+/// What `dump` is told.
+#[derive(Clone, Copy)]
+pub struct DumpArguments<'m, 'w> {
+    pub form: Form,
+    /// The paths of files of elements, in the order in which they are read.
+    pub element_files: &'m [&'w str],
+    pub verbosity: Verbosity,
+}
+
+/// What all commands that write a table are told.
+#[derive(Clone, Copy)]
+pub struct TableArguments<'m, 'w> {
+    /// The paths of files of elements, in the order in which they are read.
+    pub element_files: &'m [&'w str],
+    /// The path of the plan.
+    pub plan: &'w str,
+    pub output: Output,
+    pub verbosity: Verbosity,
+}
+
+/// What `files` and `tcp` are both told.
+#[derive(Clone, Copy)]
+pub struct CollectArguments<'m, 'w> {
+    pub table: TableArguments<'m, 'w>,
+    pub pool: Pool,
+    pub progress: ShowProgress,
+}
+
+/// Where progress is shown.
+#[derive(Clone, Copy, Debug, PartialEq, Eq)]
+pub enum ShowProgress {
+    Nowhere,
+    /// On the terminal that the program was started from, if there is one.
+    OnTerminal,
+    /// On standard error, whatever that is.
+    OnStandardError,
+}
+
+/// What `files` is told.
+#[derive(Clone, Copy)]
+pub struct FilesArguments<'m, 'w> {
+    pub collect: CollectArguments<'m, 'w>,
+    pub paths: &'m [&'w str],
+}
+
+/// What `tcp` is told.
+#[derive(Clone, Copy)]
+pub struct TcpArguments<'m, 'w> {
+    pub collect: CollectArguments<'m, 'w>,
+    pub addr: &'w str,
+    pub sessions: usize,
+    /// How long a connection may send nothing, if there is a limit.
+    pub idle: Option<Duration>,
+}
+
+/// What `record` is told.
+#[derive(Clone, Copy)]
+pub struct RecordArguments<'m, 'w> {
+    /// The folder.
+    pub into: &'w str,
+    /// The address for connections, and the one for datagrams.
+    pub listen: Option<&'w str>,
+    pub udp: Option<&'w str>,
+    /// How many seconds a period has.
+    pub every: NonZeroU64,
+    pub sessions: usize,
+    pub peers: NonZeroUsize,
+    /// The prefixes that peers may have, as they were given.
+    pub prefixes: &'m [&'w str],
+    /// How long a peer may send nothing, if that was given.
+    pub idle: Option<Duration>,
+}
+
+/// What `merge` is told.
+#[derive(Clone, Copy)]
+pub struct MergeArguments<'m, 'w> {
+    pub table: TableArguments<'m, 'w>,
+    pub paths: &'m [&'w str],
+}
+
+/// What `elements` is told.
+#[derive(Clone, Copy)]
+pub struct ElementsArguments<'m, 'w> {
+    /// The paths of files of elements, in the order in which they are read.
+    pub element_files: &'m [&'w str],
+    pub word: Option<&'w str>,
+}
+
+/// What `explain` is told.
+#[derive(Clone, Copy)]
+pub struct ExplainArguments<'w> {
+    pub fault: Option<&'w str>,
+}
+
+/// The command that was chosen, and what it is told. The parser lets no words through for which there is `None`.
+pub fn read_arguments<'m, 'w>(chosen: Chosen<'m, 'w>) -> Option<Arguments<'m, 'w>>
+    ensures told { IfSome result (IsGiven chosen.entry) }
+    // There is one if what was given can be told at all.
+    ensures each { (told : Arguments) → IsGiven chosen.entry told → IsSome result }
+{
+    match chosen.command {
+        Subcommand::Dump => Some(Arguments::Dump(read_dump(chosen)?)),
+        Subcommand::Files => Some(Arguments::Files(read_files(chosen)?)),
+        Subcommand::Tcp => Some(Arguments::Tcp(read_tcp(chosen)?)),
+        Subcommand::Record => Some(Arguments::Record(read_record(chosen)?)),
+        Subcommand::Merge => Some(Arguments::Merge(read_merge(chosen)?)),
+        Subcommand::Elements => Some(Arguments::Elements(ElementsArguments {
+            element_files: chosen.texts(ELEMENTS),
+            word: chosen.text(WORD),
+        })),
+        Subcommand::Explain => Some(Arguments::Explain(ExplainArguments {
+            fault: chosen.text(FAULT),
+        })),
+    }
+}
+
+fn read_dump<'m, 'w>(chosen: Chosen<'m, 'w>) -> Option<DumpArguments<'m, 'w>>
+    ensures told { IfSome result (IsDump chosen.entry) }
+    ensures each { (told : DumpArguments) → IsDump chosen.entry told → IsSome result }
+{
+    Some(DumpArguments {
+        form: dump_form(chosen.text(DUMP_FORMAT)?)?,
+        element_files: chosen.texts(ELEMENTS),
+        verbosity: read_verbosity(chosen),
+    })
+}
+
+fn read_verbosity(chosen: Chosen) -> Verbosity
+    ensures { IsVerbosity chosen.entry result }
+{
+    Verbosity {
+        verbose: chosen.is_given(VERBOSE),
+        strict: chosen.is_given(STRICT),
+    }
+}
+
+fn read_table<'m, 'w>(chosen: Chosen<'m, 'w>) -> Option<TableArguments<'m, 'w>>
+    ensures told { IfSome result (IsTable chosen.entry) }
+    ensures each { (told : TableArguments) → IsTable chosen.entry told → IsSome result }
+{
+    let format = table_format(chosen.text(TABLE_FORMAT)?)?;
+    let time = chosen.number(TIME)?;
+    Some(TableArguments {
+        element_files: chosen.texts(ELEMENTS),
+        plan: chosen.text(PLAN)?,
+        output: Output { format, time },
+        verbosity: read_verbosity(chosen),
+    })
+}
+
+fn read_collect<'m, 'w>(chosen: Chosen<'m, 'w>) -> Option<CollectArguments<'m, 'w>>
+    ensures told { IfSome result (IsCollect chosen.entry) }
+    ensures each { (told : CollectArguments) → IsCollect chosen.entry told → IsSome result }
+{
+    let workers = chosen.number(WORKERS)?;
+    let capacity = chosen.number(RING)?;
+    Some(CollectArguments {
+        table: read_table(chosen)?,
+        pool: Pool {
+            workers: workers as usize,
+            capacity: capacity as usize,
+        },
+        progress: match chosen.count(PROGRESS) {
+            0 => ShowProgress::Nowhere,
+            1 => ShowProgress::OnTerminal,
+            _ => ShowProgress::OnStandardError,
+        },
+    })
+}
+
+fn read_files<'m, 'w>(chosen: Chosen<'m, 'w>) -> Option<FilesArguments<'m, 'w>>
+    ensures told { IfSome result (IsFiles chosen.entry) }
+    ensures each { (told : FilesArguments) → IsFiles chosen.entry told → IsSome result }
+{
+    Some(FilesArguments {
+        collect: read_collect(chosen)?,
+        paths: chosen.texts(FLOW_FILES),
+    })
+}
+
+fn read_tcp<'m, 'w>(chosen: Chosen<'m, 'w>) -> Option<TcpArguments<'m, 'w>>
+    ensures told { IfSome result (IsTcp chosen.entry) }
+    ensures each { (told : TcpArguments) → IsTcp chosen.entry told → IsSome result }
+{
+    let sessions = chosen.number(SESSIONS)?;
+    Some(TcpArguments {
+        collect: read_collect(chosen)?,
+        addr: chosen.text(LISTEN)?,
+        sessions: sessions as usize,
+        idle: read_duration(chosen, IDLE),
+    })
+}
+
+fn read_record<'m, 'w>(chosen: Chosen<'m, 'w>) -> Option<RecordArguments<'m, 'w>>
+    ensures told { IfSome result (IsRecord chosen.entry) }
+    ensures each { (told : RecordArguments) → IsRecord chosen.entry told → IsSome result }
+{
+    let every = chosen.number(EVERY)?;
+    let sessions = chosen.number(RECORD_SESSIONS)?;
+    let peers = chosen.number(PEERS)?;
+    Some(RecordArguments {
+        into: chosen.text(INTO)?,
+        listen: chosen.text(RECORD_LISTEN),
+        udp: chosen.text(UDP),
+        every: NonZeroU64::new(u64::from(every))?,
+        sessions: sessions as usize,
+        peers: NonZeroUsize::new(peers as usize)?,
+        prefixes: chosen.texts(FROM),
+        idle: read_duration(chosen, RECORD_IDLE),
+    })
+}
+
+fn read_merge<'m, 'w>(chosen: Chosen<'m, 'w>) -> Option<MergeArguments<'m, 'w>>
+    ensures told { IfSome result (IsMerge chosen.entry) }
+    ensures each { (told : MergeArguments) → IsMerge chosen.entry told → IsSome result }
+{
+    Some(MergeArguments {
+        table: read_table(chosen)?,
+        paths: chosen.texts(TABLE_FILES),
+    })
+}
+
+// The seconds of an option, as a duration.
+fn read_duration(chosen: Chosen, option: Argument) -> Option<Duration>
+    requires { reading_of option.takes ≡ OneNumber }
+    ensures { IsDurationGiven chosen.entry option.word.now result }
+{
+    let seconds = chosen.number(option)?;
+    Some(Duration::from_secs(u64::from(seconds)))
+}
