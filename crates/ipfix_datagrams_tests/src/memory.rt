@@ -1,7 +1,7 @@
 //! What is answered where memory runs out.
 
 use crate::octets::CHANGES_256;
-use ipfix_datagrams::{DatagramFault, read_datagram};
+use ipfix_datagrams::{DatagramFault, WithdrawnTemplate, read_datagram};
 use ipfix_message::{Domains, MessageFault, header_of};
 use std::test::*;
 use worked_examples::flows::ONE_FLOW;
@@ -13,8 +13,12 @@ fn reading_survives_refused_memory(rt: HostRuntime) -> Result<(), Fail> {
     let _ = domains.decode(rt.alloc(), ONE_FLOW)?;
     let header = header_of(CHANGES_256)?;
     match read_datagram(rt.alloc(), &domains, &header, CHANGES_256) {
-        Ok(ids) => {
-            assert_eq!(rt; ids.as_slice(), [256].as_slice());
+        Ok(withdrawn) => {
+            let expected = WithdrawnTemplate {
+                id: 256,
+                is_options: false,
+            };
+            assert_eq!(rt; withdrawn.as_slice(), [expected].as_slice());
             let _ = eprintln!(rt; "read: right");
         }
         Err(fault) => {

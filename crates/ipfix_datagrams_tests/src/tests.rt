@@ -1,8 +1,8 @@
-//! Which datagrams are taken over UDP, which ids they free, and why the others are refused (RFC 7011,
+//! Which datagrams are taken over UDP, which templates they replace, and why the others are refused (RFC 7011,
 //! sections 8, 8.1, 8.4 and 10.3).
 
 use crate::octets::*;
-use ipfix_datagrams::{DatagramFault, append_withdrawal, read_datagram};
+use ipfix_datagrams::{DatagramFault, WithdrawnTemplate, append_withdrawals, read_datagram};
 use ipfix_message::{Domains, MessageFault, header_of};
 use ipfix_wire::Header;
 use std::alloc::Global;
@@ -15,8 +15,22 @@ use worked_examples::flows::{
 use worked_examples::header;
 use worked_examples::templates::*;
 
+const TEMPLATE: WithdrawnTemplate = WithdrawnTemplate {
+    id: 256,
+    is_options: false,
+};
+
+const OPTIONS: WithdrawnTemplate = WithdrawnTemplate {
+    id: 256,
+    is_options: true,
+};
+
 // What is answered of a datagram.
-fn answer(alloc: Global, domains: &Domains, datagram: &[u8]) -> Result<Vec<u16>, DatagramFault> {
+fn answer(
+    alloc: Global,
+    domains: &Domains,
+    datagram: &[u8],
+) -> Result<Vec<WithdrawnTemplate>, DatagramFault> {
     let header = header_of(datagram)?;
     read_datagram(alloc, domains, &header, datagram)
 }
@@ -30,17 +44,17 @@ fn domains_after(alloc: Global, messages: &[&[u8]]) -> Result<Domains, MessageFa
     Ok(domains)
 }
 
-// Asserts that a datagram is taken after messages, and frees these ids.
+// Asserts that a datagram is taken after messages, and replaces these templates.
 fn assert_taken(
     rt: &impl Abort,
     alloc: Global,
     messages: &[&[u8]],
     datagram: &[u8],
-    freed: &[u16],
+    expected: &[WithdrawnTemplate],
 ) -> Result<(), Fail> {
     let domains = domains_after(alloc, messages)?;
-    let ids = answer(alloc, &domains, datagram)?;
-    assert_eq!(rt; ids.as_slice(), freed);
+    let withdrawn = answer(alloc, &domains, datagram)?;
+    assert_eq!(rt; withdrawn.as_slice(), expected);
     Ok(())
 }
 
@@ -74,31 +88,46 @@ fn a_datagram_is_one_message(rt: HostRuntime) -> Result<(), Fail> {
 
 // Exporters send templates again and again over UDP.
 #[test]
-fn a_template_that_is_sent_again_frees_nothing(rt: HostRuntime) -> Result<(), Fail> {
+fn a_template_that_is_sent_again_replaces_nothing(rt: HostRuntime) -> Result<(), Fail> {
     assert_taken(&rt, rt.alloc(), &[ONE_FLOW], TEMPLATE_256, &[])?;
     assert_taken(&rt, rt.alloc(), &[ONE_FLOW, NEXT_FLOW], ONE_FLOW, &[])?;
     assert_taken(&rt, rt.alloc(), &[OPTIONS_TEMPLATE], OPTIONS_TEMPLATE, &[])
 }
 
-// A definition replaces an older one of its id. All ids are freed that the datagram has templates for, in
-// ascending order.
+// A definition replaces an older one of its id, and no other.
 #[test]
-fn a_changed_template_frees_its_ids(rt: HostRuntime) -> Result<(), Fail> {
-    assert_taken(&rt, rt.alloc(), &[ONE_FLOW], CHANGES_256, &[256])?;
-    assert_taken(&rt, rt.alloc(), &[CHANGES_256], ONE_FLOW, &[256])?;
+fn a_changed_template_is_replaced(rt: HostRuntime) -> Result<(), Fail> {
+    assert_taken(&rt, rt.alloc(), &[ONE_FLOW], CHANGES_256, &[TEMPLATE])?;
+    assert_taken(&rt, rt.alloc(), &[CHANGES_256], ONE_FLOW, &[TEMPLATE])?;
     assert_taken(
         &rt,
         rt.alloc(),
         &[ONE_FLOW],
         DEFINES_300_AND_CHANGES_256,
-        &[256, 300],
+        &[TEMPLATE],
     )
 }
 
 #[test]
 fn an_options_template_replaces_a_template(rt: HostRuntime) -> Result<(), Fail> {
-    assert_taken(&rt, rt.alloc(), &[ONE_FLOW], OPTIONS_256, &[256])?;
-    assert_taken(&rt, rt.alloc(), &[OPTIONS_256], ONE_FLOW, &[256])
+    assert_taken(&rt, rt.alloc(), &[ONE_FLOW], OPTIONS_256, &[TEMPLATE])?;
+    assert_taken(&rt, rt.alloc(), &[OPTIONS_256], ONE_FLOW, &[OPTIONS])
+}
+
+// The record of the template that stays is read, though its template comes after it; that of the changed one
+// has no template.
+#[test]
+fn records_of_unchanged_templates_are_read(rt: HostRuntime) -> Result<(), Fail> {
+    let alloc: Global = rt.alloc();
+    let mut domains = domains_after(alloc, &[ONE_FLOW, DEFINES_257])?;
+    let withdrawn = answer(alloc, &domains, CHANGES_256_AFTER_RECORDS)?;
+    assert_eq!(rt; withdrawn.as_slice(), [TEMPLATE].as_slice());
+    let mut front = Vec::new(alloc);
+    append_withdrawals(&header_of(ONE_FLOW)?, &[TEMPLATE], &mut front)?;
+    let _ = domains.decode(alloc, &front)?;
+    let decoded = domains.decode(alloc, CHANGES_256_AFTER_RECORDS)?;
+    assert_eq!(rt; (decoded.records.len(), decoded.unknown_sets), (1, 1));
+    Ok(())
 }
 
 // One that defines an id in two ways is no datagram of one exporter.
@@ -144,7 +173,7 @@ fn domains_are_apart(rt: HostRuntime) -> Result<(), Fail> {
         rt.alloc(),
         &[FLOW_OF_DOMAIN_2, CHANGES_256],
         ONE_FLOW,
-        &[256],
+        &[TEMPLATE],
     )
 }
 
@@ -183,9 +212,9 @@ fn domains_stay_as_they_are(rt: HostRuntime) -> Result<(), Fail> {
     Ok(())
 }
 
-// Both sets of a withdrawal (RFC 7011, section 8.1), and what they do.
+// A set for each template (RFC 7011, section 8.1), and what it does.
 #[test]
-fn a_withdrawal_frees_an_id(rt: HostRuntime) -> Result<(), Fail> {
+fn a_message_withdraws_templates(rt: HostRuntime) -> Result<(), Fail> {
     let alloc: Global = rt.alloc();
     let mut octets = Vec::new(alloc);
     let header = Header {
@@ -194,14 +223,21 @@ fn a_withdrawal_frees_an_id(rt: HostRuntime) -> Result<(), Fail> {
         sequence: 5,
         domain: 7,
     };
-    append_withdrawal(&header, 256, &mut octets)?;
-    assert_eq!(rt; octets.as_slice(), WITHDRAWAL_OF_256);
-    for first in [ONE_FLOW, OPTIONS_256] {
+    let last = WithdrawnTemplate {
+        id: 300,
+        is_options: true,
+    };
+    append_withdrawals(&header, &[TEMPLATE, last], &mut octets)?;
+    assert_eq!(rt; octets.as_slice(), WITHDRAWAL_OF_TWO);
+    for (first, template) in [(ONE_FLOW, TEMPLATE), (OPTIONS_256, OPTIONS)] {
         let mut domains = domains_after(alloc, &[first])?;
         octets.clear();
-        append_withdrawal(&header_of(first)?, 256, &mut octets)?;
+        append_withdrawals(&header_of(first)?, &[template], &mut octets)?;
         let decoded = domains.decode(alloc, &octets)?;
-        assert_eq!(rt; decoded.records.len(), 0);
+        assert_eq!(rt;
+            (decoded.records.len(), decoded.ignored_withdrawals),
+            (0, 0)
+        );
         assert!(rt; domains.lookup(1, 256).is_none());
     }
     Ok(())

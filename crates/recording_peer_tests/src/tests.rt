@@ -1,4 +1,4 @@
-//! A peer in files: where they begin, what each gives, and what refused datagrams and failed calls do.
+//! A peer in files: what stands in them, what each gives, and what refused datagrams and failed calls do.
 
 mod datagrams;
 mod endings;

@@ -74,7 +74,7 @@ fn recording_survives_refused_memory(rt: HostRuntime) -> Result<(), Fail> {
         }
     }
     if recorded == 6 {
-        assert_eq!(rt; files.finished.len(), 1);
+        assert_eq!(rt; files.finished.len(), 0);
         let _ = eprintln!(rt; "take: right");
     } else {
         let _ = eprintln!(rt; "take: OutOfMemory");

@@ -1,7 +1,7 @@
-//! Where the files of a peer begin, and what stands in them (RFC 7011, sections 8.1 and 8.4).
+//! What stands in the files of a peer (RFC 7011, sections 8.1 and 8.4).
 
 use super::datagrams::*;
-use super::running::{files_of, told_by};
+use super::running::{files_of, told_as_one, told_by};
 use super::told::{finish, new_peer, take};
 use recording_files::MemoryFiles;
 use std::alloc::{AllocError, Global};
@@ -32,12 +32,34 @@ fn datagrams_stand_as_they_came(rt: HostRuntime) -> Result<(), Fail> {
     Ok(())
 }
 
-// The datagram that changes template 257 begins a file. Of the domain's templates only 256 stands before
-// it, with the sequence number that is due, which is 5; and before the first datagram of domain 2 its own.
+// In front of the datagram that changes template 257 a message withdraws it, with the sequence number that is
+// due, which is 5.
 #[test]
-fn a_changed_template_begins_a_file(rt: HostRuntime) -> Result<(), Fail> {
-    let alloc: Global = rt.alloc();
+fn a_changed_template_is_withdrawn(rt: HostRuntime) -> Result<(), Fail> {
     let files = files_of(&rt, rt.alloc(), &DATAGRAMS, NEVER);
+    assert_eq!(rt; files.finished.len(), 0);
+    let text = text_of(
+        rt.alloc(),
+        &[
+            FIRST_OF_1,
+            FIRST_OF_2,
+            SECOND_OF_1,
+            WITHDRAWAL_OF_257,
+            CHANGES_257,
+            LAST_OF_1,
+            LAST_OF_2,
+        ],
+    )?;
+    assert_eq!(rt; files.unfinished.as_slice(), text.as_slice());
+    Ok(())
+}
+
+// Where the datagram is the first of its domain in a file, the message stands after the preamble, which has both
+// templates; before the first datagram of domain 2 stands its own.
+#[test]
+fn a_changed_template_is_withdrawn_after_the_preamble(rt: HostRuntime) -> Result<(), Fail> {
+    let alloc: Global = rt.alloc();
+    let files = files_of(&rt, rt.alloc(), &DATAGRAMS, 3);
     let first = text_of(alloc, &[FIRST_OF_1, FIRST_OF_2, SECOND_OF_1])?;
     assert_eq!(rt; files.finished.len(), 1);
     assert_eq!(rt;
@@ -46,7 +68,18 @@ fn a_changed_template_begins_a_file(rt: HostRuntime) -> Result<(), Fail> {
     );
     let of_1 = preamble(alloc, 5, 1, &FIRST_OF_1[16..36])?;
     let of_2 = preamble(alloc, 1, 2, &FIRST_OF_2[16..34])?;
-    let second = text_of(alloc, &[&of_1, CHANGES_257, LAST_OF_1, &of_2, LAST_OF_2])?;
+    let second = text_of(
+        alloc,
+        &[
+            &of_1,
+            TEMPLATE_257,
+            WITHDRAWAL_OF_257,
+            CHANGES_257,
+            LAST_OF_1,
+            &of_2,
+            LAST_OF_2,
+        ],
+    )?;
     assert_eq!(rt; files.unfinished.as_slice(), second.as_slice());
     Ok(())
 }
@@ -59,14 +92,14 @@ fn files_have_the_records_of_the_datagrams(rt: HostRuntime) -> Result<(), Fail> 
     Ok(())
 }
 
-// The same wherever else a file is finished. Where it is finished right before the datagram that begins
-// one, there is nothing more to finish.
+// The same wherever a file is finished; and one after another the files are read as one.
 #[test]
 fn a_file_is_finished_before_any_datagram(rt: HostRuntime) -> Result<(), Fail> {
-    for (before, finished) in [1, 2, 2, 1, 2, 2].iter().enumerate() {
+    for (before, finished) in [0, 1, 1, 1, 1, 1].iter().enumerate() {
         let files = files_of(&rt, rt.alloc(), &DATAGRAMS, before);
         assert_eq!(rt; files.finished.len(), *finished);
         assert_eq!(rt; told_by(&rt, rt.alloc(), &files)?.as_slice(), TOLD);
+        assert_eq!(rt; told_as_one(&rt, rt.alloc(), &files)?.as_slice(), TOLD);
     }
     Ok(())
 }
@@ -92,12 +125,12 @@ fn no_file_is_empty(rt: HostRuntime) -> Result<(), Fail> {
     Ok(())
 }
 
-// A template that changes back and forth: each time a file, and each record by the template before it.
+// A template that changes back and forth: each record by the template before it.
 #[test]
 fn a_template_changes_again_and_again(rt: HostRuntime) -> Result<(), Fail> {
     let datagrams = [FIRST_OF_1, CHANGES_257, FIRST_OF_1, CHANGES_257];
     let files = files_of(&rt, rt.alloc(), &datagrams, NEVER);
-    assert_eq!(rt; files.finished.len(), 3);
+    assert_eq!(rt; files.finished.len(), 0);
     let told = text_of(
         rt.alloc(),
         &[TOLD_FIRST, TOLD_CHANGED, TOLD_FIRST, TOLD_CHANGED],

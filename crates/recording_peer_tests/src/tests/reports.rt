@@ -2,7 +2,7 @@
 
 use super::datagrams::*;
 use super::running::take_all;
-use super::told::{advance_of, domain_of, end, new_peer};
+use super::told::{advance_of, domain_of, end, finish, new_peer};
 use ipfix_datagrams::DomainAdvance;
 use recording_files::{FileReport, MemoryFiles};
 use recording_peer::PeerRecorder;
@@ -11,15 +11,17 @@ use std::process::Abort;
 use std::test::*;
 use worked_examples::recordings::FIRST_OF_1;
 
-// A peer after all datagrams, and its files.
+// A peer after all datagrams, and its files: one was finished before the changed template.
 fn recorded(rt: &impl Abort, alloc: Global) -> (PeerRecorder, MemoryFiles) {
     let mut peer = new_peer(alloc);
     let mut files = MemoryFiles::new(alloc, 100_000);
-    take_all(rt, alloc, &mut peer, &DATAGRAMS, &mut files);
+    take_all(rt, alloc, &mut peer, &DATAGRAMS[..3], &mut files);
+    assert_eq!(rt; finish(&mut peer, &mut files), Ok(()));
+    take_all(rt, alloc, &mut peer, &DATAGRAMS[3..], &mut files);
     (peer, files)
 }
 
-// The changed template begins the second file.
+// The message that withdraws the changed template is counted in neither.
 #[test]
 fn each_file_has_its_report(rt: HostRuntime) -> Result<(), Fail> {
     let first = FileReport {
@@ -52,7 +54,7 @@ fn the_ledger_goes_on_in_the_next_file(rt: HostRuntime) -> Result<(), Fail> {
     Ok(())
 }
 
-// What is told of the advance in domain 1, over the files of these datagrams.
+// What is told of the advance in domain 1, over these datagrams.
 fn advance_over(rt: &impl Abort, alloc: Global, datagrams: &[&[u8]]) -> Option<DomainAdvance> {
     let mut peer = new_peer(alloc);
     let mut files = MemoryFiles::new(alloc, 100_000);
@@ -60,9 +62,9 @@ fn advance_over(rt: &impl Abort, alloc: Global, datagrams: &[&[u8]]) -> Option<D
     advance_of(peer, 0)
 }
 
-// Over both files: of twelve records eight came.
+// Of twelve records eight came.
 #[test]
-fn the_advance_goes_over_all_files(rt: HostRuntime) -> Result<(), Fail> {
+fn the_advance_is_of_the_datagrams(rt: HostRuntime) -> Result<(), Fail> {
     let expected = DomainAdvance {
         domain: 1,
         advance: 12,

@@ -89,3 +89,19 @@ pub fn told_by(rt: &impl Abort, alloc: Global, files: &MemoryFiles) -> Result<Ve
     tell_file(rt, alloc, files.unfinished.as_slice(), &mut told)?;
     Ok(told)
 }
+
+/// The records of all files, which are read as one, one after another.
+pub fn told_as_one(
+    rt: &impl Abort,
+    alloc: Global,
+    files: &MemoryFiles,
+) -> Result<Vec<u8>, AllocError> {
+    let mut text = Vec::new(alloc);
+    for file in files.finished.iter() {
+        text.extend_from_slice(file.as_slice())?;
+    }
+    text.extend_from_slice(files.unfinished.as_slice())?;
+    let mut told = Vec::new(alloc);
+    tell_file(rt, alloc, &text, &mut told)?;
+    Ok(told)
+}
