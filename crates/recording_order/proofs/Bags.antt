@@ -13,9 +13,9 @@ use Rattle.recording_order.specs.declared.numbering.Numbering.{Numbering}
 use Rattle.recording_order.specs.declared.numbering.Standing.{Standing}
 use Rattle.recording_order.specs.declared.numbering.Standing.TheVariants.{AtOnce, Ahead, Afar}
 use Rattle.recording_order.specs.declared.offer.Offer.{Offer}
-use Rattle.recording_order.specs.declared.offer.Offer.TheVariants.{Write, Waits, Doubled, First}
-use Rattle.recording_order.specs.Windows.{WindowView, Offered, counted, renumbered, passing, with_reordered, with_doubled, one_reordered, one_doubled, numbering, due_number, after_writing, noted, with_last, least, leaving, ripe, next_of, late_domain, last_of, now, first_or, held, has_room, is_doubled, offered_full, offered_as, offered}
-use Rattle.recording_order.specs.Releases.{Event, Came, Tick, came_in, came, Run, Says, write, take_offered, take_with, take_run, go_on, settle_with, settle, settle_late, tick_with, tick, finish_with, finish, step, run_from, start, run}
+use Rattle.recording_order.specs.declared.offer.Offer.TheVariants.{Write, Waits, Doubled, First, Anew}
+use Rattle.recording_order.specs.Windows.{WindowView, Offered, counted, renumbered, passing, with_reordered, with_doubled, one_reordered, one_doubled, numbering, due_number, after_writing, noted, with_last, least, leaving, ripe, next_of, late_domain, least_in, last_of, now, first_or, held, has_room, is_doubled, offered_full, offered_as, offered}
+use Rattle.recording_order.specs.Releases.{Event, Came, Tick, came_in, came, Run, Says, write, take_offered, take_with, take_run, go_on, empty_with, empty, begin_anew, settle_with, settle, settle_late, tick_with, tick, finish_with, finish, step, run_from, start, run}
 
 -- ---- what waits
 
@@ -73,6 +73,7 @@ Offers weight w a o = elim o.0 [
   | Waits ↦ sum_by weight o.1.waiting ≡ sum_by weight w.waiting + weight a
   | Doubled ↦ sum_by weight o.1.waiting ≡ sum_by weight w.waiting
   | First b ↦ sum_by weight o.1.waiting + weight b ≡ sum_by weight w.waiting
+  | Anew ↦ sum_by weight o.1.waiting ≡ sum_by weight w.waiting
 ]
 
 offers-either : (weight : Weight) (w : WindowView) (a : Arrival) (b : Bool) (x y : Offered) → Offers weight w a x → Offers weight w a y → Offers weight w a (cond b x y)
@@ -95,8 +96,7 @@ offers-as : (weight : Weight) (w : WindowView) (a : Arrival) (s : Standing) → 
 offers-as weight w a AtOnce = offers-now weight w a a.header.domain
 offers-as weight w a Ahead =
     offers-either weight w a (has_room w a.header.domain (length a.octets)) (Waits, held w a) (offered_full w a.header (least w a.header.domain)) (sum_by_push weight w.waiting a) (offers-full weight w a (least w a.header.domain))
-offers-as weight w a Afar =
-    offers-first weight w a (now w a.header.domain) (leaving w (least w a.header.domain)) (offers-now weight w a a.header.domain) (leaving-left weight w (least w a.header.domain))
+offers-as weight w a Afar = refl
 
 pub offered-offers : (weight : Weight) (w : WindowView) (a : Arrival) → Offers weight w a (offered w a)
 offered-offers weight w a =
@@ -117,6 +117,25 @@ write-bag weight says a w r =
     let waits = ap (sum_by weight) (writing-waiting w a (says (length r.written))) in
     rw (written, waits) refl
 
+go_on-bag : (weight : Weight) (says : Says) (again : Run → Run) (r : Run) (o : Option (Arrival × WindowView)) → Left weight r.window o → ((s : Run) → bag weight (again s) ≡ bag weight s) → bag weight (go_on again says r o) ≡ bag weight r
+go_on-bag weight says again r None left goes = refl
+go_on-bag weight says again r (Some x) left goes =
+    let here = write-bag weight says x.0 x.1 r in
+    let then_ = goes (write says x.0 x.1 r) in
+    omega arith
+
+empty_with-bag : (weight : Weight) (says : Says) (domain fuel : ℕ) (r : Run) → bag weight (empty_with says domain fuel r) ≡ bag weight r
+empty_with-bag weight says domain zero r = refl
+empty_with-bag weight says domain (suc fuel) r =
+    go_on-bag weight says (empty_with says domain fuel) r (least_in r.window domain) (leaving-left weight r.window (least r.window domain)) (empty_with-bag weight says domain fuel)
+
+begin_anew-bag : (weight : Weight) (says : Says) (a : Arrival) (r : Run) → bag weight (begin_anew says a r) ≡ bag weight r + weight a
+begin_anew-bag weight says a r =
+    let s = empty says a.header.domain r in
+    let here = write-bag weight says a s.window s in
+    let same = empty_with-bag weight says a.header.domain (length r.window.waiting) r in
+    omega arith
+
 take_offered-bag : (weight : Weight) (says : Says) (a : Arrival) (again : Run → Run) (r : Run) (o : Offer) (w : WindowView) → Offers weight r.window a (o, w)
     → ((s : Run) → bag weight (again s) ≡ bag weight s + weight a) → bag weight (take_offered says a again r (o, w)) ≡ bag weight r + weight a
 take_offered-bag weight says a again r Write w offers goes = let here = write-bag weight says a w r in omega arith
@@ -126,19 +145,15 @@ take_offered-bag weight says a again r (First b) w offers goes =
     let here = write-bag weight says b w r in
     let then_ = goes (write says b w r) in
     omega arith
+take_offered-bag weight says a again r Anew w offers goes =
+    let here = begin_anew-bag weight says a (record r { window = w }) in
+    omega arith
 
 take_with-bag : (weight : Weight) (says : Says) (a : Arrival) (fuel : ℕ) (r : Run) → bag weight (take_with says a fuel r) ≡ bag weight r + weight a
 take_with-bag weight says a zero r = let here = write-bag weight says a r.window r in omega arith
 take_with-bag weight says a (suc fuel) r =
     let o = offered r.window a in
     take_offered-bag weight says a (take_with says a fuel) r o.0 o.1 (offered-offers weight r.window a) (take_with-bag weight says a fuel)
-
-go_on-bag : (weight : Weight) (says : Says) (again : Run → Run) (r : Run) (o : Option (Arrival × WindowView)) → Left weight r.window o → ((s : Run) → bag weight (again s) ≡ bag weight s) → bag weight (go_on again says r o) ≡ bag weight r
-go_on-bag weight says again r None left goes = refl
-go_on-bag weight says again r (Some x) left goes =
-    let here = write-bag weight says x.0 x.1 r in
-    let then_ = goes (write says x.0 x.1 r) in
-    omega arith
 
 settle_with-bag : (weight : Weight) (says : Says) (domain second fuel : ℕ) (r : Run) → bag weight (settle_with says domain second fuel r) ≡ bag weight r
 settle_with-bag weight says domain second zero r = refl

@@ -83,7 +83,7 @@ goes-least w l o is below =
     elim (slice_get_cases w.waiting l.index).1 [
       | inl found ↦
           let x : Arrival × WindowView = (found.0, without w l.index found.0) in
-          let here : leaving w (Some l) ≡ Some x = ap (λ (p : Option Arrival). elim p [ | None ↦ None | Some a ↦ Some (a, without w l.index a) ]) found.2 in
+          let here : leaving w (Some l) ≡ Some x = ap (λ (p : Option Arrival). elim p [ None ↦ None | Some a ↦ Some (a, without w l.index a) ]) found.2 in
           let stays : length x.1.waiting ≡ length (remove w.waiting l.index) = ap length (passing-waiting (record w { waiting = remove w.waiting l.index }) found.0.header.domain (take l.index w.waiting)) in
           record { left = x; is = ap (leaving w) is ∙ here; fewer = omega (arith, stays, length-remove w.waiting l.index below) }
       | inr none ↦ absurd (omega (arith, none.0))

@@ -5,3 +5,4 @@ pub mod Numbers
 pub mod Leasts
 pub mod Windows
 pub mod Releases
+pub mod Counts

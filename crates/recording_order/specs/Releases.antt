@@ -1,10 +1,10 @@
 -- What is written of a peer's datagrams, over a whole run.
 use Rattle.std.specs.Prelude.{◌≡◌, ℕ, zero, suc, ◌+◌, Option, Some, None, List, [], ◌∷◌, ◌++◌, length, flat_map}
 use Rattle.recording_order.specs.Arrivals.{Arrival}
-use Rattle.recording_order.specs.Windows.{WindowView, Offered, offered, after_writing, next_of, late_domain, last_of}
+use Rattle.recording_order.specs.Windows.{WindowView, Offered, offered, after_writing, next_of, late_domain, least_in, last_of}
 use Rattle.recording_order.specs.declared.datagram_counts.DatagramCounts.{DatagramCounts}
 use Rattle.recording_order.specs.declared.offer.Offer.{Offer}
-use Rattle.recording_order.specs.declared.offer.Offer.TheVariants.{Write, Waits, Doubled, First}
+use Rattle.recording_order.specs.declared.offer.Offer.TheVariants.{Write, Waits, Doubled, First, Anew}
 
 -- a datagram came, or a second began
 pub data Event : Type 0 where
@@ -33,7 +33,24 @@ pub record Run : Type 0 where
 abbrev pub write : Says → Arrival → WindowView → Run → Run
 write says a w r = record { window = after_writing w a (says (length r.written)); written = r.written ++ a ∷ []; doubled = r.doubled }
 
+-- one that waited is written, if there is one, and then others
+abbrev pub go_on : (Run → Run) → Says → Run → Option (Arrival × WindowView) → Run
+go_on again says r None = r
+go_on again says r (Some x) = again (write says x.0 x.1 r)
+
 -- ---- a datagram that comes
+
+-- all that wait of a domain are written, the least first
+abbrev pub empty_with : Says → ℕ → ℕ → Run → Run
+empty_with says domain zero r = r
+empty_with says domain (suc fuel) r = go_on (empty_with says domain fuel) says r (least_in r.window domain)
+
+abbrev pub empty : Says → ℕ → Run → Run
+empty says domain r = empty_with says domain (length r.window.waiting) r
+
+-- it is written after those of its domain that wait
+abbrev pub begin_anew : Says → Arrival → Run → Run
+begin_anew says a r = let s = empty says a.header.domain r in write says a s.window s
 
 -- it is offered; where another is first, it is offered again once that was written
 abbrev pub take_offered : Says → Arrival → (Run → Run) → Run → Offered → Run
@@ -42,6 +59,7 @@ take_offered says a again r o = elim o.0 [
   | Waits ↦ record r { window = o.1 }
   | Doubled ↦ record r { window = o.1; doubled = r.doubled ++ a ∷ [] }
   | First b ↦ again (write says b o.1 r)
+  | Anew ↦ begin_anew says a (record r { window = o.1 })
 ]
 
 -- at most so many are first
@@ -56,10 +74,6 @@ take_run says a r = take_with says a (suc (length r.window.waiting)) r
 -- ---- those that waited
 
 -- the next ones of a domain are written, at most so many
-abbrev pub go_on : (Run → Run) → Says → Run → Option (Arrival × WindowView) → Run
-go_on again says r None = r
-go_on again says r (Some x) = again (write says x.0 x.1 r)
-
 abbrev pub settle_with : Says → ℕ → ℕ → ℕ → Run → Run
 settle_with says domain second zero r = r
 settle_with says domain second (suc fuel) r = go_on (settle_with says domain second fuel) says r (next_of r.window domain second)

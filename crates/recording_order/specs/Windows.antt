@@ -17,7 +17,7 @@ use Rattle.recording_order.specs.declared.numbering.Numbering.{Numbering}
 use Rattle.recording_order.specs.declared.numbering.Standing.{Standing}
 use Rattle.recording_order.specs.declared.numbering.Standing.TheVariants.{AtOnce, Ahead, Afar}
 use Rattle.recording_order.specs.declared.offer.Offer.{Offer}
-use Rattle.recording_order.specs.declared.offer.Offer.TheVariants.{Write, Waits, Doubled, First}
+use Rattle.recording_order.specs.declared.offer.Offer.TheVariants.{Write, Waits, Doubled, First, Anew}
 
 -- for how many seconds a datagram waits; the numbers of each domain; the datagrams that wait, in the order in which they came; and
 -- the last ones that were written at the due number
@@ -99,10 +99,14 @@ is_late w second a = nat_le w.seconds (second - a.second) && is_some (ripe w a.h
 abbrev pub late_domain : WindowView → ℕ → Option ℕ
 late_domain w second = option_map (λ a. a.header.domain) (find (is_late w second) w.waiting)
 
--- at the end, the least of the domain of the first that waits
+-- the least of a domain, whatever is due
+abbrev pub least_in : WindowView → ℕ → Option (Arrival × WindowView)
+least_in w domain = leaving w (least w domain)
+
+-- at the end, that of the domain of the first that waits
 abbrev pub last_of : WindowView → List Arrival → Option (Arrival × WindowView)
 last_of w [] = None
-last_of w (a ∷ xs) = leaving w (least w a.header.domain)
+last_of w (a ∷ xs) = least_in w a.header.domain
 
 -- what a call answers that lets a datagram leave, and what is left then
 abbrev pub Leaves : Option (Arrival × WindowView) → WindowView → Option Arrival → WindowView → Type 0
@@ -161,17 +165,13 @@ offered_full w h None = now w h.domain
 offered_full w h (Some l) =
     if nat_le l.place (place (due_number w h.domain) h.sequence) then first_or (now w h.domain) (leaving w (Some l)) else now w h.domain
 
--- it is far away: those that wait are written first
-abbrev pub offered_anew : WindowView → ℕ → Offered
-offered_anew w domain = first_or (now w domain) (leaving w (least w domain))
-
 abbrev pub offered_ahead : WindowView → Arrival → Offered
 offered_ahead w a = if has_room w a.header.domain (length a.octets) then (Waits, held w a) else offered_full w a.header (least w a.header.domain)
 
 abbrev pub offered_as : WindowView → Arrival → Standing → Offered
 offered_as w a AtOnce = now w a.header.domain
 offered_as w a Ahead = offered_ahead w a
-offered_as w a Afar = offered_anew w a.header.domain
+offered_as w a Afar = (Anew, w)
 
 -- what is to be done with it, and what is kept then
 abbrev pub offered : WindowView → Arrival → Offered

@@ -70,13 +70,20 @@ impl Window {
             .map(|datagram| datagram.header().domain)
     }
 
-    /// The next datagram that is to be written at the peer's end. Each domain's leave in their order; if
+    /// The least datagram of a domain that waits, whatever is due.
+    pub fn leave_domain(&mut self, domain: u32) -> Option<Datagram>
+        ensures { specs.Leaves (specs.least_in self.old domain) self.old result self.new }
+    {
+        let least = self.least(domain)?;
+        Some(self.leave_at(least.index))
+    }
+
+    /// The next datagram that is to be written at the peer's end. Those of a domain leave in their order; if
     /// there is none, nothing waits any more.
     pub fn leave(&mut self) -> Option<Datagram>
         ensures { specs.Leaves (specs.last_of self.old self.old.waiting) self.old result self.new }
     {
         let domain = self.waiting.first()?.header().domain;
-        let least = self.least(domain)?;
-        Some(self.leave_at(least.index))
+        self.leave_domain(domain)
     }
 }

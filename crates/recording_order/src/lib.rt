@@ -6,8 +6,8 @@
 mod data_sets;
 mod datagram;
 mod datagram_counts;
-pub mod laws;
 mod last;
+pub mod laws;
 mod least;
 mod leaving;
 mod limits;
@@ -15,6 +15,7 @@ mod lists;
 mod numbering;
 mod offer;
 mod offering;
+mod order_counts;
 mod window;
 mod writing;
 
@@ -23,4 +24,5 @@ pub use datagram_counts::DatagramCounts;
 pub use limits::{MOST_LAST, MOST_WAITING, ROOM};
 pub use numbering::{FARTHEST, Numbering};
 pub use offer::Offer;
+pub use order_counts::OrderCounts;
 pub use window::Window;

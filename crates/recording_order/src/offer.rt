@@ -13,4 +13,7 @@ pub enum Offer {
     Doubled,
     /// This one, that waited, is to be written first, and then the other is to be offered again.
     First(Datagram),
+    /// The numbers of its domain begin anew with it: those of the domain that wait are to be written first, as
+    /// [`Window::leave_domain`](crate::Window::leave_domain) gives them, and then it.
+    Anew,
 }

@@ -40,19 +40,6 @@ impl Window {
         Ok(())
     }
 
-    // Begins a domain anew.
-    fn offer_anew(&mut self, domain: u32) -> Offer
-        ensures { (result, self.new) ≡ specs.offered_anew self.old domain }
-    {
-        match self.least(domain) {
-            Some(least) => Offer::First(self.leave_at(least.index)),
-            None => {
-                self.pass(domain);
-                Offer::Write
-            }
-        }
-    }
-
     // Writes the least of those that wait and one for which there is no room.
     fn offer_full(&mut self, header: &Header) -> Offer
         ensures { (result, self.new)
@@ -113,7 +100,7 @@ impl Window {
                 Ok(Offer::Write)
             }
             Standing::Ahead => self.offer_ahead(alloc, header, datagram, second),
-            Standing::Afar => Ok(self.offer_anew(header.domain)),
+            Standing::Afar => Ok(Offer::Anew),
         }
     }
 }

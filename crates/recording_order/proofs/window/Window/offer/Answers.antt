@@ -32,4 +32,4 @@ returns-in-Afar-clause-ok c =
     let waits : eqb c.args.self.now.seconds 0 ≡ false = ap (λ (v : WindowView). eqb v.seconds 0) (sym c.self.view_is) ∙ ne_eqb c.self.inside.seconds 0 c.if-self-eq0.false in
     let other : false ≡ is_doubled c.args.self.now c.args.header.now.domain c.args.datagram.now = sym c.if-is_doubled.false ∙ c.is_doubled.ensures in
     let a : Arrival = record { header = c.args.header.now; second = c.args.second; octets = c.args.datagram.now } in
-    c.offer_anew.ensures ∙ sym (offered-other c.args.self.now a Afar waits other (rw c.numbering.ensures at (sym c.in-Afar.is ∙ c.standing_of.ensures)))
+    sym (offered-other c.args.self.now a Afar waits other (rw c.numbering.ensures at (sym c.in-Afar.is ∙ c.standing_of.ensures)))

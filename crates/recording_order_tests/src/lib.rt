@@ -1,0 +1,10 @@
+//! Tests of `recording_order`, by what it offers to others. They stand in a crate of their own, so that they
+//! are proved without the library being proved a second time.
+#![tactic(auto)]
+
+#[cfg(test)]
+mod exporter;
+#[cfg(test)]
+mod recorder;
+#[cfg(test)]
+mod tests;
