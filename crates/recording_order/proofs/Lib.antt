@@ -1,4 +1,5 @@
 mod DataSets
 mod Bags
 mod Ends
+mod InOrder
 mod Keeping

@@ -6,3 +6,5 @@ pub mod Leasts
 pub mod Windows
 pub mod Releases
 pub mod Counts
+pub mod InOrder
+pub mod Domains

@@ -3,7 +3,8 @@
 
 ghost use Rattle.std.specs.Prelude.{◌≡◌, ◌+◌, ℕ, List, [], sum_by};
 ghost use Rattle.recording_order.specs.Arrivals.{Arrival};
-ghost use Rattle.recording_order.specs.Releases.{Event, Says, came, finish, released, run};
+ghost use Rattle.recording_order.specs.InOrder.{AreNext};
+ghost use Rattle.recording_order.specs.Releases.{Event, Says, came, finish, released, run, start};
 
 /// Every datagram that came was written, waits, or was doubled, and each once: whatever weights are given
 /// to datagrams, those of the three add up to those of all that came.
@@ -21,4 +22,16 @@ pub fn nothing_waits_at_the_end()
     ensures each_once { (weight : Arrival → ℕ) (says : Says) (seconds : ℕ) (es : List Event)
         → sum_by weight (released says seconds es) + sum_by weight (run says seconds es).doubled
         ≡ sum_by weight (came es) }
+{}
+
+/// Where each comes at the number that is due or before that, or where none is due, and none came already,
+/// all are released as they came.
+pub fn in_order_nothing_changes()
+    ensures { (says : Says) (seconds : ℕ) (es : List Event) → AreNext says (start seconds) es
+        → released says seconds es ≡ came es }
+{}
+
+/// With no seconds all are released as they came.
+pub fn with_no_seconds_nothing_changes()
+    ensures { (says : Says) (es : List Event) → released says 0 es ≡ came es }
 {}

@@ -1,0 +1,15 @@
+-- What a run has of one domain.
+use Rattle.std.specs.Prelude.{◌≡◌, ℕ, filter}
+use Rattle.recording_order.specs.Arrivals.{is_in}
+use Rattle.recording_order.specs.Releases.{Run}
+use Rattle.recording_order.specs.Windows.{WindowView, numbering}
+
+-- the numbers of a domain and its datagrams that wait are the same
+pub record KeepsDomain (domain : ℕ) (before after : WindowView) : Type 0 where
+  pub numbers : numbering after domain ≡ numbering before domain
+  pub waiting : filter (is_in domain) after.waiting ≡ filter (is_in domain) before.waiting
+
+-- and so is what was written of it
+pub record LeavesDomain (domain : ℕ) (before after : Run) : Type 0 where
+  pub window : KeepsDomain domain before.window after.window
+  pub written : filter (is_in domain) after.written ≡ filter (is_in domain) before.written
