@@ -46,12 +46,12 @@ module _ {S W : Type 0} (seen : S → SourceView) (contents : W → Option (List
         refused = r.refused;
       }
 
-  module _ (AreTold : List ℕ → Type 0) (AreHad : List S → Type 0) (TellsNotHad : Type 0) (AreOrigins : List Origin → Type 0) (first : List ℕ) where
+  module _ (AreTold : List ℕ → Type 0) (AreHad : List S → Type 0) (TellsNotHad : Type 0) (AreOrigins : List S → List Origin → Type 0) (first : List ℕ) where
     abbrev pub EndsJob : Type 0
     EndsJob = CollectsJob seen AreHad TellsNotHad contents old new AreTold status job AreOrigins first
 
     -- sources were had, and run; what the run told follows what was told of them
-    pub collected : (Told : List ℕ → Type 0) (sources had : List S) (origins shown : List Origin) → sources ≡ had → AreHad had → All (IsUnread seen) had → AreOrigins origins → shown ≡ origins
+    pub collected : (Told : List ℕ → Type 0) (sources had : List S) (origins shown : List Origin) → sources ≡ had → AreHad had → All (IsUnread seen) had → AreOrigins had origins → shown ≡ origins
         → ((lines : List ℕ) → Told lines → AreTold (first ++ (opened_lines job.verbosity origins ++ lines))) → RunsJob contents old new Told seen sources job shown status → EndsJob
     collected Told sources had origins shown same are_had unread are_origins same_origins behind r =
         record {
@@ -62,7 +62,7 @@ module _ {S W : Type 0} (seen : S → SourceView) (contents : W → Option (List
             unread = rw same unread;
             runs = record {
               origins = origins;
-              are_origins = are_origins;
+              are_origins = rw same are_origins;
               told = retold Told (λ lines. AreTold (first ++ (opened_lines job.verbosity origins ++ lines))) sources origins behind
                   (subst (λ (os : List Origin). RunsJob contents old new Told seen sources job os status) same_origins r);
             };

@@ -3,6 +3,7 @@ use Rattle.std.proofs.Common.{◌≡◌, ℕ, ◌+◌, List, [], ◌∷◌, ◌+
 use Rattle.std.specs.Prelude.{OnOk, OnErr}
 use Rattle.std.specs.List.{flat_map, enumerate_from}
 use Rattle.std.specs.Io.KnownBytes.{Appends}
+use Rattle.std.specs.declared.net.socket_addr.SocketAddr.{SocketAddr}
 use Rattle.std.proofs.KnownBytes.{Appends-trans}
 use Rattle.ipfix_session.specs.declared.report.FullReport.{FullReport}
 use Rattle.flow_collect.specs.InFull.{reports_in}
@@ -73,9 +74,9 @@ module _ (job : CollectJob) (plain : job.verbosity ≡ NOTHING_MORE) where
 -- ---- what stops a run
 
 -- a write after the path at which a run stops
-pub stops_then : {T E : Type 0} (names : List (List ℕ)) (verbosity : Verbosity) (old mid new : Option (List ℕ)) (Before After : Type 0) (name ys : List ℕ) (answer : Result T E)
-    → StopsAt names verbosity (AreTold old mid Before) name → OnOk answer (Appends mid new ys) → OnErr answer After → (Before → After) → StopsAt names verbosity (λ lines. AreTold old new After (lines ++ ys)) name
-stops_then names verbosity old mid new Before After name ys answer stops ok err kept =
+pub stops_then : {T E : Type 0} (HasSize : List ℕ → Option ℕ → Type 0) (names : List (List ℕ)) (verbosity : Verbosity) (old mid new : Option (List ℕ)) (Before After : Type 0) (name ys : List ℕ) (answer : Result T E)
+    → StopsAt HasSize names verbosity (AreTold old mid Before) name → OnOk answer (Appends mid new ys) → OnErr answer After → (Before → After) → StopsAt HasSize names verbosity (λ lines. AreTold old new After (lines ++ ys)) name
+stops_then HasSize names verbosity old mid new Before After name ys answer stops ok err kept =
     record {
       before = stops.before;
       later = stops.later;
@@ -86,11 +87,12 @@ stops_then names verbosity old mid new Before After name ys answer stops ok err 
     }
 
 -- and after the connections that were accepted
-pub peers_then : {T E : Type 0} (verbosity : Verbosity) (old first mid new : Option (List ℕ)) (Start Before After : Type 0) (xs ys : List ℕ) (answer : Result T E)
-    → AreTold old first Start xs → TellsPeers verbosity (AreTold first mid Before) → OnOk answer (Appends mid new ys) → OnErr answer After → (Start → Before) → (Before → After)
-    → TellsPeers verbosity (λ lines. AreTold old new After (xs ++ (lines ++ ys)))
-peers_then verbosity old first mid new Start Before After xs ys answer start peers ok err before kept =
+pub peers_then : {S T E : Type 0} (IsOf : S → SocketAddr → Type 0) (verbosity : Verbosity) (old first mid new : Option (List ℕ)) (Start Before After : Type 0) (xs ys : List ℕ) (answer : Result T E)
+    → AreTold old first Start xs → TellsPeers IsOf verbosity (AreTold first mid Before) → OnOk answer (Appends mid new ys) → OnErr answer After → (Start → Before) → (Before → After)
+    → TellsPeers IsOf verbosity (λ lines. AreTold old new After (xs ++ (lines ++ ys)))
+peers_then IsOf verbosity old first mid new Start Before After xs ys answer start peers ok err before kept =
     record {
+      sources = peers.sources;
       origins = peers.origins;
       peers = peers.peers;
       told = both_told old first new Start After xs _ start (told_then first mid new Before After answer (opened_lines verbosity peers.origins) ys peers.told ok err kept) (λ failed. kept (before failed));

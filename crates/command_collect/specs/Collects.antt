@@ -2,7 +2,7 @@
 use Rattle.std.specs.Prelude.{◌≡◌, ◌≢◌, ◌⊎◌, ◌<◌, ℕ, List, [], IfSome, Option, map}
 use Rattle.std.specs.Borrow.{Bor}
 use Rattle.std.specs.Duration.{as_nanos}
-use Rattle.std.specs.List.{AllZip}
+use Rattle.std.specs.declared.net.socket_addr.SocketAddr.{SocketAddr}
 use Rattle.std.specs.declared.time.Duration.{Duration}
 use Rattle.ipfix_session.specs.Sources.{SourceView}
 use Rattle.report_writing.specs.OpeningLines.{if_verbose, listening_line}
@@ -15,8 +15,9 @@ use Rattle.flow_collect.specs.Refusals.{fault_of_arguments}
 use Rattle.flow_collect.specs.declared.collected.Pool.{Pool}
 use Rattle.flow_collect.specs.declared.fault.CollectFault.{CollectFault}
 use Rattle.report_writing.specs.declared.origin.Origin.{Origin}
-use Rattle.input_sources.specs.Had.{AreAccepted, AreOpened}
-use Rattle.input_sources.specs.Origins.{ArePeers, IsFileNamed}
+use Rattle.report_writing.specs.declared.reason.Reason.{Reason}
+use Rattle.input_sources.specs.Had.{AreAccepted, PathsAreOpened}
+use Rattle.input_sources.specs.Origins.{AreFiles, ArePeers}
 use Rattle.output_tables.specs.declared.output.Output.{Output}
 use Rattle.command_collect.specs.Runs.{fault_of_pool, RunsJob, RunsPlainly, RunsSources}
 use Rattle.command_collect.specs.CollectLines.{collect_fault_line}
@@ -47,42 +48,44 @@ module _ {S W : Type 0} (seen : S → SourceView) (AreHad : List S → Type 0) (
       Collects status (new ≡ old) (RunsSources seen AreHad (λ sources. RunsPlainly contents old new AreTold seen sources plan pool output status)) TellsNotHad
 
   -- the same of a job, by the names that elements have under its files, and told in full: after the first lines, with origins
-  abbrev pub CollectsJob : CollectJob → (List Origin → Type 0) → List ℕ → Type 0
+  abbrev pub CollectsJob : CollectJob → (List S → List Origin → Type 0) → List ℕ → Type 0
   CollectsJob job AreOrigins first =
       Collects status (new ≡ old)
-      (RunsSources seen AreHad (λ sources. TellsBehind AreOrigins job.verbosity first AreTold (λ origins Told. RunsJob contents old new Told seen sources job origins status)))
+      (RunsSources seen AreHad (λ sources. TellsBehind (AreOrigins sources) job.verbosity first AreTold (λ origins Told. RunsJob contents old new Told seen sources job origins status)))
       TellsNotHad
 
 -- from the files of these paths: each that was had is told, and then the path that can't be opened
-module _ {S O W : Type 0} (seen : S → SourceView) (opens : O → List ℕ → S → Type 0) (coming : O → Option (List S)) (before after : O) (paths : List (Bor (List ℕ))) (contents : W → Option (List ℕ)) (old new : W) (AreTold : List ℕ → Type 0)
-    (status : ℕ) where
-  abbrev PathsAreOpened : List S → Type 0
-  PathsAreOpened sources = AreOpened (λ (path : Bor (List ℕ)). opens before path.now) paths (coming before) (coming after) sources
+module _ {S O W : Type 0} (seen : S → SourceView) (opens : O → List ℕ → S → Type 0) (sizes : O → List ℕ → Option ℕ → Type 0) (refuses : O → List ℕ → Reason → Type 0) (coming : O → Option (List S)) (before after : O) (paths : List (Bor (List ℕ)))
+    (contents : W → Option (List ℕ)) (old new : W) (AreTold : List ℕ → Type 0) (status : ℕ) where
+  abbrev WereOpened : List S → Type 0
+  WereOpened sources = PathsAreOpened opens coming before after paths sources
 
   abbrev TellsPath : Verbosity → Type 0
-  TellsPath verbosity = TellsNotOpened (map (λ (path : Bor (List ℕ)). path.now) paths) verbosity AreTold
+  TellsPath verbosity = TellsNotOpened (sizes before) (refuses before) (map (λ (path : Bor (List ℕ)). path.now) paths) verbosity AreTold
 
   abbrev pub CollectsFilesPlainly : PlanValue → Pool → Output → Type 0
   CollectsFilesPlainly plan pool output =
-      CollectsPlainly seen PathsAreOpened (TellsPath NOTHING_MORE) contents old new AreTold status plan pool output
+      CollectsPlainly seen WereOpened (TellsPath NOTHING_MORE) contents old new AreTold status plan pool output
 
   abbrev pub CollectsFiles : CollectJob → Type 0
   CollectsFiles job =
-      CollectsJob seen PathsAreOpened (TellsPath job.verbosity) contents old new AreTold status job (AllZip (λ (path : Bor (List ℕ)). IsFileNamed path.now) paths) []
+      CollectsJob seen WereOpened (TellsPath job.verbosity) contents old new AreTold status job (λ sources. AreFiles (sizes before) paths) []
 
--- from so many connections with this limit, at an address: each that was had is told, and then the address that gives none
-module _ {S L : Type 0} (seen : S → SourceView) (gives : L → Option Duration → S → Type 0) (coming : L → Option (List S)) (before after : L) where
+-- from so many connections with this limit, at an address: each that was had is told, with its peer, and then the address that
+-- gives none
+module _ {S L : Type 0} (seen : S → SourceView) (gives : L → Option Duration → S → Type 0) (is_of : L → S → SocketAddr → Type 0) (refuses : L → Reason → Type 0) (coming : L → Option (List S)) (before after : L) where
   abbrev AreConnections : Option Duration → ℕ → List S → Type 0
   AreConnections idle count sources = AreAccepted (gives before idle) count (coming before) (coming after) sources
 
   abbrev pub CollectsConnectionsPlainly : {W : Type 0} → Option Duration → ℕ → List ℕ → (W → Option (List ℕ)) → W → W → (List ℕ → Type 0) → ℕ → PlanValue → Pool → Output → Type 0
   CollectsConnectionsPlainly idle count address contents old new AreTold status plan pool output =
-      CollectsPlainly seen (AreConnections idle count) (TellsNotAccepted NOTHING_MORE [] address AreTold) contents old new AreTold status plan pool output
+      CollectsPlainly seen (AreConnections idle count) (TellsNotAccepted (is_of before) (refuses before) NOTHING_MORE [] address AreTold) contents old new AreTold status plan pool output
 
   abbrev pub CollectsConnections : {W : Type 0} → Connections → (W → Option (List ℕ)) → W → W → (List ℕ → Type 0) → ℕ → CollectJob → Type 0
   CollectsConnections to contents old new AreTold status job =
       let first = if_verbose job.verbosity (listening_line to.address.now to.count) in
-      CollectsJob seen (AreConnections to.idle to.count) (TellsNotAccepted job.verbosity first to.address.now AreTold) contents old new AreTold status job (ArePeers to.count) first
+      let TellsNone = TellsNotAccepted (is_of before) (refuses before) job.verbosity first to.address.now AreTold in
+      CollectsJob seen (AreConnections to.idle to.count) TellsNone contents old new AreTold status job (ArePeers (is_of before)) first
 
 -- a fact that holds if there is to be a connection that has a limit of no time
 abbrev pub IfNoTime : Connections → Type 0 → Type 0

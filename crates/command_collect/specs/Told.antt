@@ -1,5 +1,6 @@
 -- What a run tells on standard error.
-use Rattle.std.specs.Prelude.{◌⊎◌, ℕ, List, ◌++◌, codes}
+use Rattle.std.specs.Prelude.{◌⊎◌, ℕ, List, ◌++◌, codes, Option}
+use Rattle.std.specs.declared.net.socket_addr.SocketAddr.{SocketAddr}
 use Rattle.ipfix_session.specs.declared.report.FullReport.{FullReport}
 use Rattle.flow_table.specs.declared.table.Table.{Table}
 use Rattle.flow_export.specs.declared.fault.ExportFault.{ExportFault}
@@ -14,6 +15,7 @@ use Rattle.report_writing.specs.declared.reason.Reason.{Reason}
 use Rattle.report_writing.specs.declared.verbosity.Verbosity.{Verbosity}
 use Rattle.command_collect.specs.CollectLines.{collect_fault_line}
 use Rattle.command_collect.specs.declared.job.CollectJob.{CollectJob}
+use Rattle.input_sources.specs.Had.{IsReasonOf}
 use Rattle.input_sources.specs.InputsTold.{opened_lines, StopsAt, TellsPeers}
 
 -- what is told of a table: how many records there were of each class, and what they lack, by its name under files
@@ -30,16 +32,18 @@ pub record TellsBehind (AreOrigins : List Origin → Type 0) (verbosity : Verbos
   pub are_origins : AreOrigins origins
   pub told : Tells origins (λ lines. AreTold (first ++ (opened_lines verbosity origins ++ lines)))
 
--- and then that it can't be had
-pub record TellsNotOpened (names : List (List ℕ)) (verbosity : Verbosity) (AreTold : List ℕ → Type 0) : Type 0 where
+-- and then that it can't be had, and why
+pub record TellsNotOpened (HasSize : List ℕ → Option ℕ → Type 0) (Refuses : List ℕ → Reason → Type 0) (names : List (List ℕ)) (verbosity : Verbosity) (AreTold : List ℕ → Type 0) : Type 0 where
   pub name : List ℕ
   pub reason : Reason
-  pub stops : StopsAt names verbosity (λ lines. AreTold (lines ++ not_had_lines verbosity (codes "open") name reason)) name
+  pub refused : IsReasonOf (Refuses name) reason
+  pub stops : StopsAt HasSize names verbosity (λ lines. AreTold (lines ++ not_had_lines verbosity (codes "open") name reason)) name
 
--- after the first lines each connection that was accepted was told, and then that there is none at this address
-pub record TellsNotAccepted (verbosity : Verbosity) (first address : List ℕ) (AreTold : List ℕ → Type 0) : Type 0 where
+-- after the first lines each connection that was accepted was told, and then that there is none at this address, and why
+pub record TellsNotAccepted {S : Type 0} (IsOf : S → SocketAddr → Type 0) (Refuses : Reason → Type 0) (verbosity : Verbosity) (first address : List ℕ) (AreTold : List ℕ → Type 0) : Type 0 where
   pub reason : Reason
-  pub stops : TellsPeers verbosity (λ lines. AreTold (first ++ (lines ++ not_had_lines verbosity (codes "listen") address reason)))
+  pub refused : IsReasonOf Refuses reason
+  pub stops : TellsPeers IsOf verbosity (λ lines. AreTold (first ++ (lines ++ not_had_lines verbosity (codes "listen") address reason)))
 
 -- a run that failed tells why nothing was collected, and then nothing was written; or why the table of what was collected
 -- wasn't written

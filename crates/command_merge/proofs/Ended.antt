@@ -23,9 +23,9 @@ never_well : {P : Type 0} (status : Status) → (status ≡ ends.NotOpened) ⊎ 
 never_well status (inl not_opened) well = absurd (cc (not_opened, well))
 never_well status (inr failed) well = absurd (cc (failed, well))
 
-module _ {S W : Type 0} (seen : S → SourceView) (AreHad : List S → Type 0) (job : MergeJob) (names : List (List ℕ)) (contents : W → Option (List ℕ)) (old new : W) (AreTold : List ℕ → Type 0) (status : Status) where
+module _ {S W : Type 0} (seen : S → SourceView) (AreHad : List S → Type 0) (IsDueTo : List (List ℕ) → NotMerged → Type 0) (job : MergeJob) (names : List (List ℕ)) (contents : W → Option (List ℕ)) (old new : W) (AreTold : List ℕ → Type 0) (status : Status) where
   pub merges_all : status ≡ ends.Well → EndsMerged seen AreHad job.plan.now (Writes job.elements.now job.plan.now job.output (contents old) (contents new)) (λ table. AreTold (merge_lines job.verbosity names table))
-      → RunsMerge seen AreHad job names contents old new AreTold status
+      → RunsMerge seen AreHad IsDueTo job names contents old new AreTold status
   merges_all well merged =
       record {
         statuses = inl well;
@@ -34,7 +34,7 @@ module _ {S W : Type 0} (seen : S → SourceView) (AreHad : List S → Type 0) (
         failed = λ is. absurd (cc (well, is));
       }
 
-  pub merges_none : (not_merged : NotMerged) → status ≡ status_of not_merged → new ≡ old → TellsNotMerged names job.verbosity AreTold status → RunsMerge seen AreHad job names contents old new AreTold status
+  pub merges_none : (not_merged : NotMerged) → status ≡ status_of not_merged → new ≡ old → TellsNotMerged IsDueTo names job.verbosity AreTold status → RunsMerge seen AreHad IsDueTo job names contents old new AreTold status
   merges_none not_merged is untouched told =
       record {
         statuses = inr (ways_to_fail not_merged status is);
@@ -43,11 +43,11 @@ module _ {S W : Type 0} (seen : S → SourceView) (AreHad : List S → Type 0) (
         failed = λ failed. inl (untouched, told);
       }
 
-  pub exports_none : (table : Table) → status ≡ ends.Failed → IsMerged seen AreHad job.plan.now table → TellsNotExported names job.verbosity AreTold → RunsMerge seen AreHad job names contents old new AreTold status
+  pub exports_none : (table : Table) → status ≡ ends.Failed → IsMerged seen AreHad job.plan.now table → TellsNotExported job.output names job.verbosity (new ≡ old) AreTold table → RunsMerge seen AreHad IsDueTo job names contents old new AreTold status
   exports_none table failed merged told =
       record {
         statuses = inr (inr failed);
         table = λ is. absurd (cc (failed, is));
         not_opened = λ is. absurd (cc (failed, is));
-        failed = λ is. inr ((table, merged), told);
+        failed = λ is. inr (table, merged, told);
       }

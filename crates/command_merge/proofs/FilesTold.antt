@@ -1,8 +1,10 @@
 -- Files that were told as opened, one after another, until a merge ended.
 use Rattle.std.proofs.Common.{◌≡◌, ℕ, ◌+◌, ◌<◌, ◌≤◌, suc, List, ◌++◌, length, take, drop, get_or, map, take-append-drop, Option, Result, refl, sym, ap, ◌∙◌, subst, append-nil, arith, inr}
 use Rattle.std.specs.Prelude.{OnErr, OnOk}
+use Rattle.std.specs.Borrow.{Bor}
 use Rattle.std.specs.Io.KnownBytes.{Appends}
 use Rattle.std.proofs.lemmas.List.{length-map, map-append, map_more, length-take-le, take_all}
+use Rattle.report_writing.specs.declared.reason.Reason.{Reason}
 use Rattle.report_writing.specs.declared.status.Status.{Status}
 use Rattle.report_writing.specs.OpeningLines.{if_verbose}
 use Rattle.report_writing.specs.Told.{AreTold}
@@ -38,8 +40,8 @@ module _ {P : Type 0} (name_of : P → List ℕ) (paths : List P) where
     pub all_told : AreTold old new After (files_opened_lines verbosity (map name_of paths))
     all_told = subst (λ (ps : List P). AreTold old new After (files_opened_lines verbosity (map name_of ps))) (take_all i paths all) told
 
-    pub stops_whole : (fault : MergeFault) → StopsMerge (map name_of paths) verbosity (AreTold old new After) (Whole fault)
-    stops_whole fault = record { opened = map name_of paths; stops = inr refl; told = all_told }
+    pub stops_whole : (IsDueTo : List (List ℕ) → NotMerged → Type 0) (fault : MergeFault) → IsDueTo (map name_of paths) (Whole fault) → StopsMerge IsDueTo (map name_of paths) verbosity (AreTold old new After) (Whole fault)
+    stops_whole IsDueTo fault due = record { opened = map name_of paths; due = due; stops = inr refl; told = all_told }
 
   module _ (old mid new : Option (List ℕ)) (Before After : Type 0) (verbosity : Verbosity) where
     -- one more
@@ -49,36 +51,42 @@ module _ {P : Type 0} (name_of : P → List ℕ) (paths : List P) where
         subst (λ (l : List ℕ). AreTold old new After l) (sym (lines_more verbosity i d less)) (both_told old mid new Before After _ _ first then kept)
 
     -- one that isn't added
-    pub stops_merge : (i : ℕ) (d : P) (not_merged : NotMerged) → i < length paths → AreTold old mid Before (files_opened_lines verbosity (first_names i))
-        → IsNotAdded verbosity (i + 1) (name_of (get_or paths i d)) (AreTold mid new After) not_merged → (Before → After) → StopsMerge (map name_of paths) verbosity (AreTold old new After) not_merged
-    stops_merge i d (NotOpened path reason) less first not_added kept =
-        record {
-          opened = first_names i;
-          stops = (map name_of (drop (suc i) paths), rw not_added.0 (map-at name_of paths i d less));
-          told = subst (λ (l : List ℕ). AreTold old new After l) (append-nil _) (both_told old mid new Before After _ _ first not_added.1 kept);
-        }
-    stops_merge i d (File number path fault) less first not_added kept =
-        record {
-          opened = first_names (i + 1);
-          stops = (
-            first_names i,
-            map name_of (drop (i + 1) paths),
-            rw not_added.1 (map_more name_of paths i d less),
-            ap (λ (l : List P). map name_of l) (sym (take-append-drop (i + 1) paths)) ∙ map-append name_of (take (i + 1) paths) (drop (i + 1) paths),
-            not_added.0 ∙ sym (names_count (i + 1) (omega (arith, less))),
-          );
-          told = one_file_told i d less first not_added.2 kept;
-        }
-    stops_merge i d (Whole fault) less first not_added kept = absurd not_added
+    module _ (IsDueTo : List (List ℕ) → NotMerged → Type 0) (Refuses : List ℕ → Reason → Type 0) (Fails : MergeFault → Type 0) (i : ℕ) (d : P)
+        (refused : (path : Bor (List ℕ)) (reason : Reason) → Refuses path.now reason → IsDueTo (first_names i) (NotOpened path reason))
+        (failed : (number : ℕ) (path : Bor (List ℕ)) (fault : MergeFault) → Fails fault → IsDueTo (first_names (i + 1)) (File number path fault)) where
+      pub stops_merge : (not_merged : NotMerged) → i < length paths → AreTold old mid Before (files_opened_lines verbosity (first_names i))
+          → IsNotAdded (Refuses (name_of (get_or paths i d))) Fails verbosity (i + 1) (name_of (get_or paths i d)) (AreTold mid new After) not_merged → (Before → After) → StopsMerge IsDueTo (map name_of paths) verbosity (AreTold old new After) not_merged
+      stops_merge (NotOpened path reason) less first not_added kept =
+          record {
+            opened = first_names i;
+            due = refused path reason (rw not_added.0 not_added.1);
+            stops = (map name_of (drop (suc i) paths), rw not_added.0 (map-at name_of paths i d less));
+            told = subst (λ (l : List ℕ). AreTold old new After l) (append-nil _) (both_told old mid new Before After _ _ first not_added.2 kept);
+          }
+      stops_merge (File number path fault) less first not_added kept =
+          record {
+            opened = first_names (i + 1);
+            due = failed number path fault not_added.2;
+            stops = (
+              first_names i,
+              map name_of (drop (i + 1) paths),
+              rw not_added.1 (map_more name_of paths i d less),
+              ap (λ (l : List P). map name_of l) (sym (take-append-drop (i + 1) paths)) ∙ map-append name_of (take (i + 1) paths) (drop (i + 1) paths),
+              not_added.0 ∙ sym (names_count (i + 1) (omega (arith, less))),
+            );
+            told = one_file_told i d less first not_added.3 kept;
+          }
+      stops_merge (Whole fault) less first not_added kept = absurd not_added
 
 -- why they weren't merged, after those that were opened
-pub tells_not_merged : {T E : Type 0} (names : List (List ℕ)) (verbosity : Verbosity) (old mid new : Option (List ℕ)) (Before After : Type 0) (not_merged : NotMerged) (status : Status) (answer : Result T E)
-    → StopsMerge names verbosity (AreTold old mid Before) not_merged → OnOk answer (Appends mid new (not_merged_lines verbosity not_merged)) → OnErr answer After → (Before → After)
-    → status ≡ status_of not_merged → TellsNotMerged names verbosity (AreTold old new After) status
-tells_not_merged names verbosity old mid new Before After not_merged status answer stopped ok err kept is =
+pub tells_not_merged : {T E : Type 0} (IsDueTo : List (List ℕ) → NotMerged → Type 0) (names : List (List ℕ)) (verbosity : Verbosity) (old mid new : Option (List ℕ)) (Before After : Type 0) (not_merged : NotMerged) (status : Status) (answer : Result T E)
+    → StopsMerge IsDueTo names verbosity (AreTold old mid Before) not_merged → OnOk answer (Appends mid new (not_merged_lines verbosity not_merged)) → OnErr answer After → (Before → After)
+    → status ≡ status_of not_merged → TellsNotMerged IsDueTo names verbosity (AreTold old new After) status
+tells_not_merged IsDueTo names verbosity old mid new Before After not_merged status answer stopped ok err kept is =
     record {
       opened = stopped.opened;
       not_merged = not_merged;
+      due = stopped.due;
       stops = stopped.stops;
       told = told_then old mid new Before After answer _ _ stopped.told ok err kept;
       status_is = is;

@@ -1,6 +1,5 @@
 -- Files that are merged one after another.
-use Rattle.std.proofs.Common.{◌≡◌, ℕ, ◌+◌, ◌<◌, ◌≤◌, List, [], ◌∷◌, ◌++◌, length, take, get_or, All, Option, sym, ◌∙◌, subst}
-use Rattle.std.specs.Prelude.{flat_map}
+use Rattle.std.proofs.Common.{◌≡◌, ℕ, ◌+◌, ◌<◌, ◌≤◌, List, [], ◌∷◌, ◌++◌, length, take, get_or, map, All, Option, sym, ◌∙◌, subst}
 use Rattle.std.specs.List.{AllZip}
 use Rattle.std.proofs.lemmas.List.{flat_map_more, take_more, take_all}
 use Rattle.std.proofs.lemmas.List.Elements.{All-nil, All-push}
@@ -10,15 +9,14 @@ use Rattle.flow_table.specs.AddedUp.{rows_in, AreAddedUp}
 use Rattle.flow_table.specs.Plans.{PlanValue}
 use Rattle.flow_table.specs.SameTables.{RowValue}
 use Rattle.flow_table.specs.declared.table.Table.{Table}
-use Rattle.flow_merge.specs.Merging.{AddsExport, GiveExports, GivesExport, StandsFor, merging_plan}
+use Rattle.flow_merge.specs.Merging.{AddsExport, GiveExports, GivesExport, IsDue, StandsFor, merging_plan}
 use Rattle.flow_merge.specs.declared.merging.Merging.{Merging}
 use Rattle.input_sources.specs.Had.{AreOpened, NextOnes, IsOpened, IsUnread}
+use Rattle.flow_merge.specs.declared.merge_fault.MergeFault.{MergeFault}
 use Rattle.command_merge.specs.Merges.{AddsFile, IsMerged}
+use Rattle.command_merge.specs.MergesStopped.{rows_of, FailsFile, LastFails}
 use Rattle.input_sources.proofs.Had.{NextOnes-nil, NextOnes-trans}
 use Rattle.ipfix_session.specs.declared.driver.TheConstants.{READ_LIMIT}
-
-abbrev pub all_rows : List (List RowValue) → List RowValue
-all_rows exports = flat_map (λ rows. rows) exports
 
 module _ {S X : Type 0} (seen : S → SourceView) (opens : X → S → Type 0) (plan : PlanValue) (start : Option (List S)) where
   -- the sources of these paths were opened and read, and it stands for all of their rows
@@ -30,7 +28,7 @@ module _ {S X : Type 0} (seen : S → SourceView) (opens : X → S → Type 0) (
     pub unread : All (IsUnread seen) sources
     pub exports : List (List RowValue)
     pub given : GiveExports seen READ_LIMIT plan sources exports
-    pub stands : StandsFor m (all_rows exports)
+    pub stands : StandsFor m (rows_of exports)
 
   pub none_read : (m : Merging) → merging_plan m ≡ plan → StandsFor m [] → Stands [] start m
   none_read m same stands =
@@ -39,7 +37,7 @@ module _ {S X : Type 0} (seen : S → SourceView) (opens : X → S → Type 0) (
   one_read : (paths : List X) (path : X) (before after : Option (List S)) (opens_now : X → S → Type 0) (old new : Merging) → ((x : X) (s : S) → opens_now x s → opens x s)
       → AddsFile seen (IsOpened (opens_now path) before after) old new → Stands paths before old → Stands (paths ++ path ∷ []) after new
   one_read paths path before after opens_now old new same file so_far =
-      let one = file.adds (all_rows so_far.exports) so_far.stands in
+      let one = file.adds (rows_of so_far.exports) so_far.stands in
       record {
         same_plan = file.same_plan ∙ so_far.same_plan;
         sources = so_far.sources ++ file.before ∷ [];
@@ -52,7 +50,7 @@ module _ {S X : Type 0} (seen : S → SourceView) (opens : X → S → Type 0) (
         stands = subst (StandsFor new) (flat_map_more (λ (rows : List RowValue). rows) [] so_far.exports one.more) one.stands;
       }
 
-  all_read : (paths : List X) (now : Option (List S)) (m : Merging) (table : Table) (so_far : Stands paths now m) → AreAddedUp (all_rows so_far.exports) (rows_in table) → IsMerged seen (AreOpened opens paths start now) plan table
+  all_read : (paths : List X) (now : Option (List S)) (m : Merging) (table : Table) (so_far : Stands paths now m) → AreAddedUp (rows_of so_far.exports) (rows_in table) → IsMerged seen (AreOpened opens paths start now) plan table
   all_read paths now m table so_far added =
       record {
         sources = so_far.sources;
@@ -69,10 +67,41 @@ module _ {S X : Type 0} (seen : S → SourceView) (opens : X → S → Type 0) (
 
   -- all of them
   pub all_paths : (paths : List X) (i : ℕ) (now : Option (List S)) (m : Merging) (table : Table) → length paths ≤ i → (so_far : Stands (take i paths) now m)
-      → AreAddedUp (all_rows so_far.exports) (rows_in table) → IsMerged seen (AreOpened opens paths start now) plan table
+      → AreAddedUp (rows_of so_far.exports) (rows_in table) → IsMerged seen (AreOpened opens paths start now) plan table
   all_paths paths i now m table all so_far added =
       subst (λ (ps : List X). IsMerged seen (AreOpened opens ps start now) plan table) (take_all i paths all) (all_read (take i paths) now m table so_far added)
 
 pub adds_file : {S : Type 0} (seen : S → SourceView) (IsHad : S → Type 0) (old new : Merging) (before after : S) → IsHad before → IsUnread seen before → merging_plan new ≡ merging_plan old
     → ((rows : List RowValue) → StandsFor old rows → AddsExport seen READ_LIMIT old before after rows new) → AddsFile seen IsHad old new
 adds_file seen IsHad old new before after had unread same adds = record { before = before; after = after; had = had; unread = unread; same_plan = same; adds = adds }
+
+pub fails_file : {S : Type 0} (seen : S → SourceView) (IsHad : S → Type 0) (merging : Merging) (before after : S) (fault : MergeFault) → IsHad before → IsUnread seen before
+    → ((rows : List RowValue) → StandsFor merging rows → IsDue seen READ_LIMIT (merging_plan merging) rows before after fault) → FailsFile seen IsHad merging fault
+fails_file seen IsHad merging before after fault had unread due = record { before = before; after = after; had = had; unread = unread; due = due }
+
+-- the names of paths, for the paths
+zip_names : {P S : Type 0} (opens : List ℕ → S → Type 0) (name_of : P → List ℕ) (paths : List P) (sources : List S) → AllZip (λ path. opens (name_of path)) paths sources → AllZip opens (map name_of paths) sources
+zip_names opens name_of [] [] all = all
+zip_names opens name_of [] (s ∷ sources) all = absurd all
+zip_names opens name_of (p ∷ paths) [] all = absurd all
+zip_names opens name_of (p ∷ paths) (s ∷ sources) all = (all.0, zip_names opens name_of paths sources all.1)
+
+-- the file of one more path has a fault
+pub last_fails : {P S : Type 0} (seen : S → SourceView) (opens : List ℕ → S → Type 0) (name_of : P → List ℕ) (plan : PlanValue) (start : Option (List S)) (paths : List P) (i : ℕ) (d : P) (before after : Option (List S)) (opens_now : List ℕ → S → Type 0)
+    (merging : Merging) (fault : MergeFault) → i < length paths → ((x : List ℕ) (s : S) → opens_now x s → opens x s) → Stands seen (λ path. opens (name_of path)) plan start (take i paths) before merging
+    → FailsFile seen (IsOpened (opens_now (name_of (get_or paths i d))) before after) merging fault → LastFails seen opens start after plan (map name_of (take (i + 1) paths)) fault
+last_fails {P} seen opens name_of plan start paths i d before after opens_now merging fault less same so_far fails =
+    let opened = all_zipped_more (λ path. opens (name_of path)) (take i paths) so_far.sources (get_or paths i d) fails.before so_far.opened (same _ fails.before fails.had.asked) in
+    record {
+      sources = so_far.sources;
+      last = fails.before;
+      left = fails.after;
+      opened = record {
+        one_each = zip_names opens name_of (take (i + 1) paths) (so_far.sources ++ fails.before ∷ []) (subst (λ (ps : List P). AllZip (λ path. opens (name_of path)) ps (so_far.sources ++ fails.before ∷ [])) (sym (take_more paths i d less)) opened);
+        came = NextOnes-trans start before after so_far.sources (fails.before ∷ []) so_far.came fails.had.came;
+      };
+      unread = All-push (IsUnread seen) so_far.sources fails.before so_far.unread fails.unread;
+      exports = so_far.exports;
+      given = so_far.given;
+      due = subst (λ (p : PlanValue). IsDue seen READ_LIMIT p (rows_of so_far.exports) fails.before fails.after fault) so_far.same_plan (fails.due (rows_of so_far.exports) so_far.stands);
+    }

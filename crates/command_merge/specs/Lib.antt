@@ -2,3 +2,4 @@
 pub mod Merges
 pub mod MergeLines
 pub mod MergesTold
+pub mod MergesStopped

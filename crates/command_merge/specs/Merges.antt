@@ -9,8 +9,10 @@ use Rattle.flow_table.specs.Plans.{PlanValue}
 use Rattle.flow_table.specs.SameTables.{RowValue}
 use Rattle.flow_table.specs.declared.table.Table.{Table}
 use Rattle.flow_merge.specs.Merging.{merging_plan, AddsAllUp, AddsExport, StandsFor}
+use Rattle.flow_merge.specs.declared.merge_fault.MergeFault.{MergeFault}
 use Rattle.flow_merge.specs.declared.merging.Merging.{Merging}
-use Rattle.input_sources.specs.Had.{AreOpened, IsUnread}
+use Rattle.input_sources.specs.Had.{IsUnread}
+use Rattle.report_writing.specs.declared.reason.Reason.{Reason}
 use Rattle.output_tables.specs.TableTexts.{Writes}
 use Rattle.ipfix_session.specs.declared.driver.TheConstants.{READ_LIMIT}
 use Rattle.report_writing.specs.OpeningLines.{if_verbose}
@@ -24,10 +26,6 @@ use Rattle.command_merge.specs.declared.not_merged.NotMerged.TheVariants.{NotOpe
 -- the names of the files that paths name
 abbrev pub names_of : List (Bor (List ℕ)) → List (List ℕ)
 names_of paths = map (λ (path : Bor (List ℕ)). path.now) paths
-
--- the source of each path, in their order, was opened once, and no others
-abbrev pub PathsAreOpened : {S O : Type 0} → (O → List ℕ → S → Type 0) → (O → Option (List S)) → O → O → List (Bor (List ℕ)) → List S → Type 0
-PathsAreOpened opens coming before after paths sources = AreOpened (λ (path : Bor (List ℕ)). opens before path.now) paths (coming before) (coming after) sources
 
 module _ {S : Type 0} (seen : S → SourceView) where
   -- sources were had as the first fact says it, none of which was read before; each gave an export, and the rows of all of
@@ -46,15 +44,15 @@ module _ {S : Type 0} (seen : S → SourceView) where
     pub told : IsTold table
 
   -- what the status of a merge of the files of these names says
-  pub record RunsMerge {W : Type 0} (AreHad : List S → Type 0) (job : MergeJob) (names : List (List ℕ)) (contents : W → Option (List ℕ)) (old new : W) (AreTold : List ℕ → Type 0) (status : Status) : Type 0 where
+  pub record RunsMerge {W : Type 0} (AreHad : List S → Type 0) (IsDueTo : List (List ℕ) → NotMerged → Type 0) (job : MergeJob) (names : List (List ℕ)) (contents : W → Option (List ℕ)) (old new : W) (AreTold : List ℕ → Type 0) (status : Status) : Type 0 where
     pub statuses : (status ≡ Well) ⊎ (status ≡ ends.NotOpened) ⊎ (status ≡ Failed)
     -- their rows were written, by the names that elements have under files; and how many files and rows there are was told, and
     -- nothing else
     pub table : status ≡ Well → EndsMerged AreHad job.plan.now (Writes job.elements.now job.plan.now job.output (contents old) (contents new)) (λ table. AreTold (merge_lines job.verbosity names table))
     -- nothing was written unless all were opened, and the one that can't be was told;
-    pub not_opened : status ≡ ends.NotOpened → (new ≡ old) × TellsNotMerged names job.verbosity AreTold status
-    -- nor unless all were merged, and the fault was told; else the table was had, and the fault of the export told
-    pub failed : status ≡ Failed → ((new ≡ old) × TellsNotMerged names job.verbosity AreTold status) ⊎ (((table : Table) × IsMerged AreHad job.plan.now table) × TellsNotExported names job.verbosity AreTold)
+    pub not_opened : status ≡ ends.NotOpened → (new ≡ old) × TellsNotMerged IsDueTo names job.verbosity AreTold status
+    -- nor unless all were merged, and the fault was told; else the table was had, and why it wasn't written was told
+    pub failed : status ≡ Failed → ((new ≡ old) × TellsNotMerged IsDueTo names job.verbosity AreTold status) ⊎ ((table : Table) × IsMerged AreHad job.plan.now table × TellsNotExported job.output names job.verbosity (new ≡ old) AreTold table)
 
   -- the export of a source that was had as the first fact says it, and not read before, is added
   pub record AddsFile (IsHad : S → Type 0) (old new : Merging) : Type 0 where
@@ -66,13 +64,14 @@ module _ {S : Type 0} (seen : S → SourceView) where
     pub adds : (rows : List RowValue) → StandsFor old rows → AddsExport seen READ_LIMIT old before after rows new
 
 -- why the file of this name and number was not added, and what was told by then
-abbrev pub IsNotAdded : Verbosity → ℕ → List ℕ → (List ℕ → Type 0) → NotMerged → Type 0
-IsNotAdded verbosity file name AreTold (NotOpened path reason) = (path.now ≡ name) × AreTold []
-IsNotAdded verbosity file name AreTold (File number path fault) = (number ≡ file) × (path.now ≡ name) × AreTold (if_verbose verbosity (file_opened_line file name))
-IsNotAdded verbosity file name AreTold (Whole fault) = ⊥
+abbrev pub IsNotAdded : (Reason → Type 0) → (MergeFault → Type 0) → Verbosity → ℕ → List ℕ → (List ℕ → Type 0) → NotMerged → Type 0
+IsNotAdded Refuses Fails verbosity file name AreTold (NotOpened path reason) = (path.now ≡ name) × Refuses reason × AreTold []
+IsNotAdded Refuses Fails verbosity file name AreTold (File number path fault) = (number ≡ file) × (path.now ≡ name) × Fails fault × AreTold (if_verbose verbosity (file_opened_line file name))
+IsNotAdded Refuses Fails verbosity file name AreTold (Whole fault) = ⊥
 
 -- why files were not merged, and which of them were told as opened by then
-pub record StopsMerge (names : List (List ℕ)) (verbosity : Verbosity) (AreTold : List ℕ → Type 0) (not_merged : NotMerged) : Type 0 where
+pub record StopsMerge (IsDueTo : List (List ℕ) → NotMerged → Type 0) (names : List (List ℕ)) (verbosity : Verbosity) (AreTold : List ℕ → Type 0) (not_merged : NotMerged) : Type 0 where
   pub opened : List (List ℕ)
+  pub due : IsDueTo opened not_merged
   pub stops : StopsBehind names opened not_merged
   pub told : AreTold (files_opened_lines verbosity opened)

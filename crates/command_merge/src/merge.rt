@@ -5,8 +5,10 @@ ghost use Rattle.flow_table.specs.Fitting.{FitsPlan};
 ghost use Rattle.report_writing.specs.OpeningLines.{if_verbose};
 ghost use Rattle.report_writing.specs.Told.{AreToldTo};
 ghost use Rattle.command_merge.specs.MergeLines.{file_opened_line, files_opened_lines};
-ghost use Rattle.command_merge.specs.Merges.{AddsFile, IsMerged, IsNotAdded, PathsAreOpened, RunsMerge, StopsMerge, names_of};
-ghost use Rattle.input_sources.specs.Had.{IsOpened};
+ghost use Rattle.report_writing.specs.declared.reason.Reason.{Reason as ReasonValue};
+ghost use Rattle.command_merge.specs.Merges.{AddsFile, IsMerged, IsNotAdded, RunsMerge, StopsMerge, names_of};
+ghost use Rattle.command_merge.specs.MergesStopped.{FailsFile, IsDueTo};
+ghost use Rattle.input_sources.specs.Had.{IsOpened, PathsAreOpened};
 
 use crate::job::MergeJob;
 use crate::not_merged::NotMerged;
@@ -41,8 +43,10 @@ pub fn run_merge_with<S: Source + Drop, O: OpenSource<S>, W: Write, E: WriteLine
     // The source of each path, in their order, each opened once, gave an export; the rows of all of them,
     // added up, were written, and nothing else; or what kept them from it was told.
     ensures runs { RunsMerge S.seen
-        (PathsAreOpened O.opens O.coming files.old files.new paths.now) job.now (names_of paths.now)
-        W.contents out.old out.new (AreToldTo E.contents E.failed err.old err.new) result }
+        (PathsAreOpened O.opens O.coming files.old files.new paths.now)
+        (IsDueTo S.seen (O.opens files.old) (O.coming files.old) (O.coming files.new)
+        job.now.plan.now (O.refuses files.old)) job.now (names_of paths.now) W.contents
+        out.old out.new (AreToldTo E.contents E.failed err.old err.new) result }
     ensures kept { E.failed err.old → E.failed err.new }
 {
     let table = match merge_files(files, alloc, paths, job, err) {
@@ -73,8 +77,9 @@ fn merge_files<'a, S: Source + Drop, O: OpenSource<S>, E: WriteLines>(
     ensures fits { IfOk result (FitsPlan job.now.plan.now) }
     ensures told { OnOk result (AreToldTo E.contents E.failed err.old err.new
         (files_opened_lines job.now.verbosity (names_of paths.now))) }
-    ensures stops { IfErr result (StopsMerge (names_of paths.now) job.now.verbosity
-        (AreToldTo E.contents E.failed err.old err.new)) }
+    ensures stops { IfErr result (StopsMerge (IsDueTo S.seen (O.opens files.old)
+        (O.coming files.old) (O.coming files.new) job.now.plan.now (O.refuses files.old))
+        (names_of paths.now) job.now.verbosity (AreToldTo E.contents E.failed err.old err.new)) }
     ensures kept { E.failed err.old → E.failed err.new }
 {
     let mut merging = match Merging::new(alloc, job.plan) {
@@ -103,10 +108,13 @@ fn add_file<'a, S: Source + Drop, O: OpenSource<S>, E: WriteLines>(
         (IsOpened (O.opens files.old path.now) (O.coming files.old) (O.coming files.new)) merging) }
     ensures same { (name : List ℕ) (source : S)
         → O.opens files.new name source → O.opens files.old name source }
+    ensures same_reason { (name : List ℕ) (why : ReasonValue)
+        → O.refuses files.new name why → O.refuses files.old name why }
     ensures told { OnOk result (AreToldTo E.contents E.failed err.old err.new
         (if_verbose verbosity (file_opened_line number path.now))) }
-    ensures stops { IfErr result (IsNotAdded verbosity number path.now
-        (AreToldTo E.contents E.failed err.old err.new)) }
+    ensures stops { IfErr result (IsNotAdded (O.refuses files.old path.now) (FailsFile S.seen
+        (IsOpened (O.opens files.old path.now) (O.coming files.old) (O.coming files.new)) merging)
+        verbosity number path.now (AreToldTo E.contents E.failed err.old err.new)) }
     ensures kept { E.failed err.old → E.failed err.new }
 {
     let mut source = match files.open_source(path) {

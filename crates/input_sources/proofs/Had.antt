@@ -40,3 +40,8 @@ one_longer old new x n is count = let both = length-append old (x ∷ []) in rw 
 
 pub one_more : {X : Type 0} (P : X → Type 0) (old new : List X) (x : X) → new ≡ old ++ x ∷ [] → All P old → P x → All P new
 one_more P old new x is all one = rw is (All-push P old x all one)
+
+-- and their peers
+pub one_peer : {S X : Type 0} (P : S → X → Type 0) (sources more : List S) (origins all : List X) (source : S) (origin : X) → more ≡ sources ++ source ∷ [] → all ≡ origins ++ origin ∷ [] → AllZip P sources origins → P source origin
+    → AllZip P more all
+one_peer P sources more origins all source origin is_more is_all first one = rw (is_more, is_all) (all_zipped_more P sources origins source origin first one)

@@ -8,6 +8,7 @@ use Rattle.std.proofs.lemmas.List.{map-append}
 use Rattle.report_writing.specs.OpeningLines.{if_verbose, opened_line}
 use Rattle.report_writing.specs.Told.{AreTold}
 use Rattle.report_writing.specs.declared.origin.Origin.{Origin}
+use Rattle.report_writing.specs.declared.origin.Origin.TheVariants.{File, Peer, Unknown}
 use Rattle.report_writing.specs.declared.verbosity.Verbosity.{Verbosity}
 use Rattle.report_writing.proofs.LinesTold.{none_told, told_then}
 use Rattle.report_writing.proofs.Numbering.{numbered-last}
@@ -35,11 +36,12 @@ opened_told old mid new Before After verbosity origins all origin n answer is co
 
 -- ---- where it stops
 
-zip_names : {P : Type 0} (name_of : P → List ℕ) (paths : List P) (origins : List Origin) → AllZip (λ path. IsFileNamed (name_of path)) paths origins → AllZip IsFileNamed (map name_of paths) origins
-zip_names name_of [] [] all = all
-zip_names name_of [] (o ∷ origins) all = absurd all
-zip_names name_of (p ∷ paths) [] all = absurd all
-zip_names name_of (p ∷ paths) (o ∷ origins) all = (all.0, zip_names name_of paths origins all.1)
+zip_names : {P : Type 0} (HasSize : List ℕ → Option ℕ → Type 0) (name_of : P → List ℕ) (paths : List P) (origins : List Origin)
+    → AllZip (λ path. IsFileNamed (HasSize (name_of path)) (name_of path)) paths origins → AllZip (λ path. IsFileNamed (HasSize path) path) (map name_of paths) origins
+zip_names HasSize name_of [] [] all = all
+zip_names HasSize name_of [] (o ∷ origins) all = absurd all
+zip_names HasSize name_of (p ∷ paths) [] all = absurd all
+zip_names HasSize name_of (p ∷ paths) (o ∷ origins) all = (all.0, zip_names HasSize name_of paths origins all.1)
 
 -- a list by its item at a place
 pub map-at : {P X : Type 0} (f : P → X) (xs : List P) (i : ℕ) (d : P) → i < length xs → map f xs ≡ map f (take i xs) ++ f (get_or xs i d) ∷ map f (drop (suc i) xs)
@@ -47,17 +49,23 @@ map-at {P} f xs i d less =
     let place : xs ≡ take i xs ++ (get_or xs i d ∷ drop (suc i) xs) = sym (take-append-drop i xs) ∙ ap (λ (l : List P). take i xs ++ l) (drop-cons xs i d less) in
     ap (map f) place ∙ map-append f (take i xs) (get_or xs i d ∷ drop (suc i) xs)
 
-pub stops_at : {P : Type 0} (name_of : P → List ℕ) (paths : List P) (verbosity : Verbosity) (Told : List ℕ → Type 0) (i : ℕ) (d : P) (stopped : List ℕ) (origins : List Origin) → i < length paths → stopped ≡ name_of (get_or paths i d)
-    → AllZip (λ p. IsFileNamed (name_of p)) (take i paths) origins → Told (opened_lines verbosity origins) → StopsAt (map name_of paths) verbosity Told stopped
-stops_at name_of paths verbosity Told i d stopped origins less same named told =
+pub stops_at : {P : Type 0} (HasSize : List ℕ → Option ℕ → Type 0) (name_of : P → List ℕ) (paths : List P) (verbosity : Verbosity) (Told : List ℕ → Type 0) (i : ℕ) (d : P) (stopped : List ℕ) (origins : List Origin) → i < length paths
+    → stopped ≡ name_of (get_or paths i d) → AllZip (λ p. IsFileNamed (HasSize (name_of p)) (name_of p)) (take i paths) origins → Told (opened_lines verbosity origins) → StopsAt HasSize (map name_of paths) verbosity Told stopped
+stops_at HasSize name_of paths verbosity Told i d stopped origins less same named told =
     record {
       before = map name_of (take i paths);
       later = map name_of (drop (suc i) paths);
       place = rw same (map-at name_of paths i d less);
       origins = origins;
-      named = zip_names name_of (take i paths) origins named;
+      named = zip_names HasSize name_of (take i paths) origins named;
       told = told;
     }
+
+-- the name of a file and its size, as its origin tells them
+pub file_named : (Has Had : Option ℕ → Type 0) (path : List ℕ) (origin : Origin) → ((size : Option ℕ) → Has size → Had size) → IsFileNamed Has path origin → IsFileNamed Had path origin
+file_named Has Had path (File name size) had named = (named.0, had size named.1)
+file_named Has Had path (Peer address) had named = absurd named
+file_named Has Had path Unknown had named = absurd named
 
 -- what holds of each value holds of the one that is there
 pub always : {X : Type 0} (o : Option X) {P : X → Type 0} → ((x : X) → P x) → IfSome o P

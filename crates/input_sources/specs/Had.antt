@@ -1,7 +1,10 @@
 -- Which sources were had, of those that were still to come.
-use Rattle.std.specs.Prelude.{◌≡◌, ℕ, false, List, [], ◌∷◌, ◌++◌, length, All, Option, None, Some}
+use Rattle.std.specs.Prelude.{◌≡◌, ◌⊎◌, ℕ, false, List, [], ◌∷◌, ◌++◌, length, All, Option, None, Some}
+use Rattle.std.specs.Borrow.{Bor}
 use Rattle.std.specs.List.{AllZip}
 use Rattle.ipfix_session.specs.Sources.{SourceView}
+use Rattle.report_writing.specs.declared.reason.Reason.{Reason}
+use Rattle.report_writing.specs.declared.reason.Reason.TheVariants.{OutOfMemory}
 
 -- nothing was read from it yet
 pub record IsUnread {S : Type 0} (seen : S → SourceView) (source : S) : Type 0 where
@@ -24,6 +27,14 @@ pub record IsOpened {S : Type 0} (IsAsked : S → Type 0) (before after : Option
 pub record AreOpened {P S : Type 0} (opens : P → S → Type 0) (paths : List P) (before after : Option (List S)) (sources : List S) : Type 0 where
   pub one_each : AllZip opens paths sources
   pub came : NextOnes before after sources
+
+-- the same of paths, by what they open
+abbrev pub PathsAreOpened : {S O : Type 0} → (O → List ℕ → S → Type 0) → (O → Option (List S)) → O → O → List (Bor (List ℕ)) → List S → Type 0
+PathsAreOpened opens coming before after paths sources = AreOpened (λ (path : Bor (List ℕ)). opens before path.now) paths (coming before) (coming after) sources
+
+-- why a source was not had: for such a reason, or there was no memory to keep it
+abbrev pub IsReasonOf : (Reason → Type 0) → Reason → Type 0
+IsReasonOf Refuses reason = Refuses reason ⊎ (reason ≡ OutOfMemory)
 
 -- so many connections were accepted, in this order, each of them as it was asked for, and exactly these came
 pub record AreAccepted {S : Type 0} (IsAsked : S → Type 0) (count : ℕ) (before after : Option (List S)) (sources : List S) : Type 0 where

@@ -6,3 +6,4 @@ pub mod PlaceLines
 pub mod PlansTold
 pub mod Progressing
 pub mod ProgressLines
+pub mod NotedPeers

@@ -1,10 +1,10 @@
 //! Accepting connections, one after another.
 
-ghost use Rattle.std.specs.Prelude.{◌≡◌, ◌<◌, IfOk, IfSome, IsErr, OnErr};
+ghost use Rattle.std.specs.Prelude.{◌≡◌, ◌<◌, IfErr, IfOk, IfSome, IsErr, OnErr};
 ghost use Rattle.std.specs.Duration.{as_nanos};
 ghost use Rattle.report_writing.specs.Told.{AreToldTo};
 ghost use Rattle.input_sources.specs.Origins.{ArePeers};
-ghost use Rattle.input_sources.specs.Had.{AreAccepted};
+ghost use Rattle.input_sources.specs.Had.{AreAccepted, IsReasonOf};
 ghost use Rattle.input_sources.specs.InputsTold.{opened_lines, TellsPeers};
 
 use crate::unread_sources::UnreadSources;
@@ -27,13 +27,21 @@ pub struct Accepted<S> {
 
 /// What gives one connection after another.
 pub trait Listener<S: Source> {
-    ghost use Rattle.std.specs.Prelude.{◌≡◌, List, [], ◌∷◌, Option, IfOk, IfSome, IsErr, OnErr};
+    ghost use Rattle.std.specs.Prelude.{◌≡◌, List, [], ◌∷◌, Option, IfErr, IfOk, IfSome, IsErr, OnErr};
+    ghost use Rattle.std.specs.declared.net.socket_addr.SocketAddr.{SocketAddr};
     ghost use Rattle.std.specs.declared.time.Duration.{Duration};
+    ghost use Rattle.report_writing.specs.declared.reason.Reason.{Reason};
     ghost use Rattle.input_sources.specs.Had.{IsUnread};
     ghost use Rattle.input_sources.specs.Had.{NextOnes};
 
     /// Whether a source is a connection with this limit of a read's time, as it is before it is read.
     ghost gives: { Self → Option Duration → S → Type 0 };
+
+    /// Whether a source is the connection of the peer with this address, as it is before it is read.
+    ghost is_of: { Self → S → SocketAddr → Type 0 };
+
+    /// Whether no connection can be had for this reason.
+    ghost refuses: { Self → Reason → Type 0 };
 
     /// The connections that are still to come, in their order, if it shows them.
     ghost coming: { Self → Option (List S) };
@@ -46,6 +54,8 @@ pub trait Listener<S: Source> {
     /// is no connection, or if it can't have that limit, or if the listener is closed.
     fn next_source(&mut self, idle: Option<Duration>) -> Result<Accepted<S>, Reason>
         ensures given { IfOk result (λ accepted. gives self.old idle accepted.source) }
+        ensures peer { IfOk result (λ accepted. is_of self.old accepted.source accepted.peer) }
+        ensures refused { IfErr result (refuses self.old) }
         ensures unread { IfOk result (λ accepted. IsUnread S.seen accepted.source) }
         // It is the next one that was to come.
         ensures came { IfOk result
@@ -55,7 +65,11 @@ pub trait Listener<S: Source> {
         ensures closed { is_closed self.old → IsErr result }
         // No other connection has a limit than before.
         ensures same { (limit : Option Duration) (source : S)
-            → gives self.new limit source → gives self.old limit source };
+            → gives self.new limit source → gives self.old limit source }
+        // Nor another peer, nor is there none for another reason.
+        ensures same_peer { (source : S) (address : SocketAddr)
+            → is_of self.new source address → is_of self.old source address }
+        ensures same_reason { (reason : Reason) → refuses self.new reason → refuses self.old reason };
 
     /// Closes it. A peer that comes later is refused.
     fn close(&mut self)
@@ -96,11 +110,14 @@ pub fn accept_all<
     // None of them is read by then.
     ensures closed { L.is_closed listener.new }
     ensures no_time { IfSome idle (λ limit. as_nanos limit ≡ 0 → 0 < count → IsErr result) }
-    ensures peers { IfOk result (λ all. ArePeers count all.origins.items) }
+    // The peer that is told of each is its own.
+    ensures peers { IfOk result
+        (λ all. ArePeers (L.is_of listener.old) all.sources all.origins.items) }
     ensures told { IfOk result (λ all. AreToldTo E.contents E.failed err.old err.new
         (opened_lines verbosity all.origins.items)) }
-    ensures stopped { OnErr result (TellsPeers verbosity
+    ensures stopped { OnErr result (TellsPeers (L.is_of listener.old) verbosity
         (AreToldTo E.contents E.failed err.old err.new)) }
+    ensures reason { IfErr result (IsReasonOf (L.refuses listener.old)) }
     ensures kept { E.failed err.old → E.failed err.new }
 {
     let accepted = accept_each(rt, alloc, listener, count, idle, progress, verbosity, err);
@@ -129,11 +146,13 @@ fn accept_each<
     ensures accepted { IfOk result (λ all. AreAccepted (L.gives listener.old idle) count
         (L.coming listener.old) (L.coming listener.new) all.sources) }
     ensures no_time { IfSome idle (λ limit. as_nanos limit ≡ 0 → 0 < count → IsErr result) }
-    ensures peers { IfOk result (λ all. ArePeers count all.origins.items) }
+    ensures peers { IfOk result
+        (λ all. ArePeers (L.is_of listener.old) all.sources all.origins.items) }
     ensures told { IfOk result (λ all. AreToldTo E.contents E.failed err.old err.new
         (opened_lines verbosity all.origins.items)) }
-    ensures stopped { OnErr result (TellsPeers verbosity
+    ensures stopped { OnErr result (TellsPeers (L.is_of listener.old) verbosity
         (AreToldTo E.contents E.failed err.old err.new)) }
+    ensures reason { IfErr result (IsReasonOf (L.refuses listener.old)) }
     ensures kept { E.failed err.old → E.failed err.new }
 {
     let mut sources = UnreadSources::new(alloc);

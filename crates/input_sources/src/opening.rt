@@ -25,12 +25,20 @@ pub struct Opened<S> {
 
 /// Opens sources by their paths.
 pub trait OpenSource<S: Source> {
-    ghost use Rattle.std.specs.Prelude.{◌≡◌, ℕ, List, [], ◌∷◌, Option, IfOk, OnErr};
+    ghost use Rattle.std.specs.Prelude.{◌≡◌, ℕ, List, [], ◌∷◌, Option, IfErr, IfOk, OnErr, option_map};
+    ghost use Rattle.std.specs.Int.NonZero.{non_zero_u64_get};
     ghost use Rattle.input_sources.specs.Had.{IsUnread};
     ghost use Rattle.input_sources.specs.Had.{NextOnes};
+    ghost use Rattle.report_writing.specs.declared.reason.Reason.{Reason};
 
     /// Whether a source is the one that a path opens, as it is before it is read.
     ghost opens: { Self → List ℕ → S → Type 0 };
+
+    /// Whether what a path opens has so many octets, or it is not known how many.
+    ghost sizes: { Self → List ℕ → Option ℕ → Type 0 };
+
+    /// Whether a path can't be opened for this reason.
+    ghost refuses: { Self → List ℕ → Reason → Type 0 };
 
     /// The sources that are still to come, in their order, if it shows them.
     ghost coming: { Self → Option (List S) };
@@ -38,6 +46,9 @@ pub trait OpenSource<S: Source> {
     /// The source of a path, of which nothing was read; or why it can't be opened.
     fn open_source(&mut self, path: &str) -> Result<Opened<S>, Reason>
         ensures named { IfOk result (λ opened. opens self.old path.now opened.source) }
+        ensures sized { IfOk result (λ opened.
+            sizes self.old path.now (option_map non_zero_u64_get opened.size)) }
+        ensures refused { IfErr result (refuses self.old path.now) }
         ensures unread { IfOk result (λ opened. IsUnread S.seen opened.source) }
         // It is the next one that was to come.
         ensures came { IfOk result
@@ -45,7 +56,12 @@ pub trait OpenSource<S: Source> {
         ensures none_came { OnErr result (coming self.new ≡ coming self.old) }
         // No path has another source than before.
         ensures same { (name : List ℕ) (source : S)
-            → opens self.new name source → opens self.old name source };
+            → opens self.new name source → opens self.old name source }
+        // Nor another size, nor is it refused for another reason.
+        ensures same_size { (name : List ℕ) (size : Option ℕ)
+            → sizes self.new name size → sizes self.old name size }
+        ensures same_reason { (name : List ℕ) (reason : Reason)
+            → refuses self.new name reason → refuses self.old name reason };
 }
 
 /// The files of the system. The path `-` is standard input. It keeps why octets could not be read on.
@@ -84,6 +100,10 @@ impl<'r, R> SystemFiles<'r, R> {
 impl<'r, F: Read + OpenFile + Drop, R: Files<File = F>> OpenSource<FromReader<Noted<F>>>
     for SystemFiles<'r, R> {
     ghost opens = { λ _ _ _. ⊤ };
+
+    ghost sizes = { λ _ _ _. ⊤ };
+
+    ghost refuses = { λ _ _ _. ⊤ };
 
     ghost coming = { λ _. None };
 

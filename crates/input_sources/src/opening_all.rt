@@ -1,9 +1,9 @@
 //! Opening files, one after another.
 
-ghost use Rattle.std.specs.Prelude.{◌≡◌, ℕ, List, [], ◌∷◌, map, IfErr, IfOk};
-ghost use Rattle.std.specs.List.{AllZip};
-ghost use Rattle.input_sources.specs.Had.{IsUnread, AreOpened, NextOnes};
-ghost use Rattle.input_sources.specs.Origins.{IsFileNamed};
+ghost use Rattle.std.specs.Prelude.{◌≡◌, ℕ, List, [], ◌∷◌, map, IfErr, IfOk, Option};
+ghost use Rattle.input_sources.specs.Had.{IsReasonOf, IsUnread, NextOnes, PathsAreOpened};
+ghost use Rattle.input_sources.specs.Origins.{AreFiles, IsFileNamed};
+ghost use Rattle.report_writing.specs.declared.reason.Reason.{Reason as ReasonValue};
 ghost use Rattle.input_sources.specs.InputsTold.{opened_lines, StopsAt};
 ghost use Rattle.report_writing.specs.Told.{AreToldTo};
 
@@ -50,15 +50,18 @@ pub fn open_all<
     err: &mut E,
 ) -> Result<OpenedAll<'a, WithProgress<'r, S, R, P>>, NotOpened<'a>>
     // Each path was opened once, and nothing else.
-    ensures opened { IfOk result (λ all. AreOpened (λ path. O.opens files.old path.now) paths.now
-        (O.coming files.old) (O.coming files.new) all.sources) }
+    ensures opened { IfOk result (λ all. PathsAreOpened O.opens O.coming files.old files.new
+        paths.now all.sources) }
+    // What is told of each is its path and its size.
     ensures named { IfOk result
-        (λ all. AllZip (λ path. IsFileNamed path.now) paths.now all.origins.items) }
+        (λ all. AreFiles (O.sizes files.old) paths.now all.origins.items) }
     ensures told { IfOk result (λ all. AreToldTo E.contents E.failed err.old err.new
         (opened_lines verbosity all.origins.items)) }
     ensures stops { IfErr result
-        (λ stopped. StopsAt (map (λ path. path.now) paths.now) verbosity
+        (λ stopped. StopsAt (O.sizes files.old) (map (λ path. path.now) paths.now) verbosity
         (AreToldTo E.contents E.failed err.old err.new) stopped.path.now) }
+    ensures reason { IfErr result
+        (λ stopped. IsReasonOf (O.refuses files.old stopped.path.now) stopped.reason) }
     ensures kept { E.failed err.old → E.failed err.new }
 {
     let mut sources = UnreadSources::new(alloc);
@@ -78,7 +81,8 @@ pub fn open_all<
 }
 
 fn without_memory<'a>(path: &'a str) -> NotOpened<'a>
-    ensures { result.path.now ≡ path.now }
+    ensures path { result.path.now ≡ path.now }
+    ensures reason { result.reason ≡ Reason.OutOfMemory }
 {
     NotOpened {
         path,
@@ -100,9 +104,14 @@ fn open_watched<'r, 'a, S: Source + Drop, O: OpenSource<S>, P: Write + Copy + Dr
         (λ had. NextOnes (O.coming files.old) (O.coming files.new) (had.0 ∷ [])) }
     ensures same { (name : List ℕ) (source : S)
         → O.opens files.new name source → O.opens files.old name source }
+    ensures same_size { (name : List ℕ) (size : Option ℕ)
+        → O.sizes files.new name size → O.sizes files.old name size }
+    ensures same_reason { (name : List ℕ) (why : ReasonValue)
+        → O.refuses files.new name why → O.refuses files.old name why }
     ensures stopped { IfErr result (λ stopped. stopped.path.now ≡ path.now) }
+    ensures reason { IfErr result (λ stopped. O.refuses files.old path.now stopped.reason) }
     ensures unread { IfOk result (λ had. IsUnread S.seen had.0) }
-    ensures named { IfOk result (λ had. IsFileNamed path.now had.1) }
+    ensures named { IfOk result (λ had. IsFileNamed (O.sizes files.old path.now) path.now had.1) }
 {
     match files.open_source(path) {
         Ok(Opened { source, size }) => {

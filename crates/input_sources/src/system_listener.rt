@@ -1,7 +1,8 @@
 //! The system's listener.
 
-ghost use Rattle.std.specs.Prelude.{◌≡◌, ⊤, IfOk, None, Some};
+ghost use Rattle.std.specs.Prelude.{◌≡◌, ⊤, IfOk, None, OnOk, Some};
 ghost use Rattle.input_sources.specs.Had.{IsUnread};
+ghost use Rattle.input_sources.specs.NotedPeers.{NotesPeer};
 
 use crate::accepting::{Accepted, Listener};
 use crate::noted::{Note, Noted};
@@ -50,6 +51,7 @@ impl SystemListener {
         address: SocketAddr,
     ) -> Result<FromReader<Noted<TcpStream>>, AllocError>
         ensures same { self.new.listener ≡ self.old.listener }
+        ensures kept { OnOk result (NotesPeer address self.old.peers.items self.new.peers.items) }
         ensures unread { IfOk result (IsUnread ⟦<FromReader<Noted<TcpStream>> as Source>⟧.seen) }
     {
         let noted = Noted::new(self.alloc, stream)?;
@@ -61,6 +63,10 @@ impl SystemListener {
 
 impl Listener<FromReader<Noted<TcpStream>>> for SystemListener {
     ghost gives = { λ _ _ _. ⊤ };
+
+    ghost is_of = { λ _ _ _. ⊤ };
+
+    ghost refuses = { λ _ _. ⊤ };
 
     ghost coming = { λ _. None };
 

@@ -75,6 +75,10 @@ fn joined(
 impl OpenSource<ScriptSource> for Inputs {
     ghost opens = { λ _ _ _. ⊤ };
 
+    ghost sizes = { λ _ _ _. ⊤ };
+
+    ghost refuses = { λ _ _ _. ⊤ };
+
     ghost coming = { λ _. None };
 
     fn open_source(&mut self, path: &str) -> Result<Opened<ScriptSource>, Reason> {
@@ -88,6 +92,10 @@ impl OpenSource<ScriptSource> for Inputs {
 // Each connection is a session of two flows.
 impl Listener<ScriptSource> for Inputs {
     ghost gives = { λ _ _ _. ⊤ };
+
+    ghost is_of = { λ _ _ _. ⊤ };
+
+    ghost refuses = { λ _ _. ⊤ };
 
     ghost coming = { λ _. None };
 

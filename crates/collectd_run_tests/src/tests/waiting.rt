@@ -51,6 +51,10 @@ impl Waiting {
 impl OpenSource<ScriptSource> for Waiting {
     ghost opens = { λ _ _ _. ⊤ };
 
+    ghost sizes = { λ _ _ _. ⊤ };
+
+    ghost refuses = { λ _ _ _. ⊤ };
+
     ghost coming = { λ w. Some w.sources.items };
 
     fn open_source(&mut self, path: &str) -> Result<Opened<ScriptSource>, Reason> {
@@ -63,6 +67,10 @@ impl OpenSource<ScriptSource> for Waiting {
 
 impl Listener<ScriptSource> for Waiting {
     ghost gives = { λ _ _ _. ⊤ };
+
+    ghost is_of = { λ _ _ _. ⊤ };
+
+    ghost refuses = { λ _ _. ⊤ };
 
     ghost coming = { λ w. Some w.sources.items };
 

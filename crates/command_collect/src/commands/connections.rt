@@ -34,8 +34,8 @@ pub fn run_connections<
     out: &mut W,
     err: &mut E,
 ) -> Status
-    ensures collects { CollectsConnections S.seen L.gives L.coming listener.old listener.new
-        connections.now W.contents out.old out.new (AreToldTo E.contents E.failed err.old err.new)
+    ensures collects { CollectsConnections S.seen L.gives L.is_of L.refuses L.coming listener.old
+        listener.new connections.now W.contents out.old out.new (AreToldTo E.contents E.failed err.old err.new)
         (number_of result) job.now }
     ensures closed { L.is_closed listener.new }
     ensures no_time { IfNoTime connections.now (result ≡ Status.NotOpened) }

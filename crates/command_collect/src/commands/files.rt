@@ -45,8 +45,8 @@ pub fn run_files<
 ) -> u8
     // The sources of the paths, in their order, each opened once, were run, as `run` says it, and no others;
     // or each file that was had was told, and then the path that can't be opened.
-    ensures collects { CollectsFilesPlainly S.seen O.opens O.coming files.old files.new paths.now
-        W.contents out.old out.new (AreToldTo E.contents E.failed err.old err.new) result
+    ensures collects { CollectsFilesPlainly S.seen O.opens O.sizes O.refuses O.coming files.old files.new
+        paths.now W.contents out.old out.new (AreToldTo E.contents E.failed err.old err.new) result
         plan.now pool output }
     ensures kept { E.failed err.old → E.failed err.new }
 {
@@ -76,9 +76,9 @@ pub fn run_files_with<
 ) -> Status
     // The sources of the paths, in their order, each opened once, were run, as `run_with` says it, and no
     // others; or each file that was had was told, and then the path that can't be opened.
-    ensures collects { CollectsFiles S.seen O.opens O.coming files.old files.new paths.now
-        W.contents out.old out.new (AreToldTo E.contents E.failed err.old err.new) (number_of result)
-        job.now }
+    ensures collects { CollectsFiles S.seen O.opens O.sizes O.refuses O.coming files.old files.new
+        paths.now W.contents out.old out.new (AreToldTo E.contents E.failed err.old err.new)
+        (number_of result) job.now }
     ensures kept { E.failed err.old → E.failed err.new }
 {
     match open_all(rt, alloc, files, paths, progress, job.verbosity, err) {

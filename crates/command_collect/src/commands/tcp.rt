@@ -58,9 +58,9 @@ pub fn run_tcp<
 ) -> u8
     // So many connections with this limit were accepted and run, as `run` says it, and no others; or each that
     // was had was told, and then the address that gives none.
-    ensures collects { CollectsConnectionsPlainly S.seen L.gives L.coming listener.old listener.new idle
-        count addr.now W.contents out.old out.new (AreToldTo E.contents E.failed err.old err.new) result
-        plan.now pool output }
+    ensures collects { CollectsConnectionsPlainly S.seen L.gives L.is_of L.refuses L.coming listener.old
+        listener.new idle count addr.now W.contents out.old out.new
+        (AreToldTo E.contents E.failed err.old err.new) result plan.now pool output }
     ensures closed { L.is_closed listener.new }
     // No connection can have a limit of no time.
     ensures no_time { IfSome idle
@@ -102,8 +102,8 @@ pub fn run_tcp_with<
     // So many connections with this limit were accepted and run, as `run_with` says it, and no others; or
     // each that was had was told, and then the address that gives none.
     ensures collects { IfNone (fault_of_pool job.now.pool)
-        (CollectsConnections S.seen L.gives L.coming listener.old listener.new connections.now
-        W.contents out.old out.new (AreToldTo E.contents E.failed err.old err.new)
+        (CollectsConnections S.seen L.gives L.is_of L.refuses L.coming listener.old listener.new
+        connections.now W.contents out.old out.new (AreToldTo E.contents E.failed err.old err.new)
         (number_of result) job.now) }
     ensures closed { L.is_closed listener.new }
     // No connection can have a limit of no time.

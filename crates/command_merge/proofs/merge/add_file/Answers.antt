@@ -1,6 +1,16 @@
-use Rattle.command_merge.proofs.Merged.{adds_file}
+use Rattle.std.proofs.Common.{refl, rules}
+use Rattle.command_merge.proofs.Merged.{adds_file, fails_file}
+use Rattle.report_writing.proofs.LinesTold.{is_told}
 use Rattle.command_merge.proofs.merge.add_file.Goals as goal
 
 pub returns-in-Ok-read-clause-added : goal.returns-in-Ok-read-clause-added
 returns-in-Ok-read-clause-added g c =
     adds_file _ _ _ _ c.in-Ok.opened.source c.read.new.source (record { asked = c.in-Ok.ensures.named; came = c.in-Ok.ensures.came }) c.in-Ok.ensures.unread c.in-Ok-read.ensures.plan c.in-Ok-read.ensures.ok
+
+pub returns-clause-stops : goal.returns-clause-stops
+returns-clause-stops g c = (
+  refl,
+  refl,
+  fails_file _ _ _ c.in-Ok.opened.source c.read.new.source c.in-Err-read.fault (record { asked = c.in-Ok.ensures.named; came = c.in-Ok.ensures.came }) c.in-Ok.ensures.unread c.in-Err-read.ensures.fault,
+  is_told _ _ _ c.write_file_opened.result _ c.write_file_opened.ensures.told c.write_file_opened.ensures.failed,
+)

@@ -2,7 +2,9 @@ use Rattle.std.proofs.Common.{◌≡◌, length, All, Option, IfSome}
 use Rattle.std.specs.Duration.{as_nanos}
 use Rattle.std.specs.declared.time.Duration.{Duration}
 use Rattle.report_writing.specs.Told.{AreTold}
-use Rattle.input_sources.specs.Origins.{IsPeer}
+use Rattle.std.specs.declared.net.socket_addr.SocketAddr.{SocketAddr}
+use Rattle.report_writing.specs.declared.reason.Reason.{Reason}
+use Rattle.input_sources.specs.Origins.{ArePeers}
 use Rattle.input_sources.specs.Had.{NextOnes}
 use Rattle.input_sources.specs.InputsTold.{opened_lines}
 use Rattle.input_sources.proofs.accepting.accept_each.Given as goal
@@ -16,7 +18,9 @@ invariant-loop-number g l = record {
   same : (limit : Option Duration) (source : _) → g.L.Listener.gives l.listener limit source → g.L.Listener.gives l.fn.listener limit source;
   in_time : IfSome l.fn.idle (λ limit. as_nanos limit ≡ 0 → l.number ≡ 0);
   count : length l.origins.items ≡ l.number;
-  peers : All IsPeer l.origins.items;
+  peers : ArePeers (g.L.Listener.is_of l.fn.listener) l.sources l.origins.items;
+  same_peer : (source : _) (address : SocketAddr) → g.L.Listener.is_of l.listener source address → g.L.Listener.is_of l.fn.listener source address;
+  same_reason : (reason : Reason) → g.L.Listener.refuses l.listener reason → g.L.Listener.refuses l.fn.listener reason;
   told : AreTold (g.E.WriteLines.contents l.fn.err) (g.E.WriteLines.contents l.err) (g.E.WriteLines.failed l.err) (opened_lines l.fn.verbosity l.origins.items);
   kept : g.E.WriteLines.failed l.fn.err → g.E.WriteLines.failed l.err;
 }

@@ -1,7 +1,8 @@
-use Rattle.std.proofs.Common.{◌≡◌, ℕ, List, length, take}
+use Rattle.std.proofs.Common.{◌≡◌, ℕ, List, Option, length, take}
 use Rattle.std.specs.List.{AllZip}
 use Rattle.report_writing.specs.Told.{AreTold}
-use Rattle.input_sources.specs.Origins.{IsFileNamed}
+use Rattle.report_writing.specs.declared.reason.Reason.{Reason}
+use Rattle.input_sources.specs.Origins.{AreFiles}
 use Rattle.input_sources.specs.Had.{NextOnes}
 use Rattle.input_sources.specs.InputsTold.{opened_lines}
 use Rattle.input_sources.proofs.opening_all.open_all.Given as goal
@@ -12,7 +13,9 @@ invariant-loop-index g l = record {
   opened : AllZip (λ path. g.O.OpenSource.opens l.fn.files path.now) (take l.index l.fn.paths) l.sources;
   came : NextOnes (g.O.OpenSource.coming l.fn.files) (g.O.OpenSource.coming l.files) l.sources;
   same : (name : List ℕ) (source : _) → g.O.OpenSource.opens l.files name source → g.O.OpenSource.opens l.fn.files name source;
-  named : AllZip (λ path. IsFileNamed path.now) (take l.index l.fn.paths) l.origins.items;
+  same_size : (name : List ℕ) (size : Option ℕ) → g.O.OpenSource.sizes l.files name size → g.O.OpenSource.sizes l.fn.files name size;
+  same_reason : (name : List ℕ) (reason : Reason) → g.O.OpenSource.refuses l.files name reason → g.O.OpenSource.refuses l.fn.files name reason;
+  named : AreFiles (g.O.OpenSource.sizes l.fn.files) (take l.index l.fn.paths) l.origins.items;
   count : length l.origins.items ≡ l.index;
   told : AreTold (g.E.WriteLines.contents l.fn.err) (g.E.WriteLines.contents l.err) (g.E.WriteLines.failed l.err) (opened_lines l.fn.verbosity l.origins.items);
   kept : g.E.WriteLines.failed l.fn.err → g.E.WriteLines.failed l.err;

@@ -22,5 +22,6 @@ returns-in-Err-clause-collects g c =
     let first = is_told _ _ _ c.write_listening.result _ c.write_listening.ensures.told c.write_listening.ensures.failed in
     not_collected _ _ _ _ refl (search rules) (record {
       reason = c.in-Err.reason;
-      stops = peers_then _ _ _ _ _ _ _ _ _ _ c.write_not_had_because.result first c.in-Err.ensures.stopped c.write_not_had_because.ensures.told c.write_not_had_because.ensures.failed c.accept_all.ensures.kept c.write_not_had_because.ensures.kept;
+      refused = c.in-Err.ensures.reason;
+      stops = peers_then _ _ _ _ _ _ _ _ _ _ _ c.write_not_had_because.result first c.in-Err.ensures.stopped c.write_not_had_because.ensures.told c.write_not_had_because.ensures.failed c.accept_all.ensures.kept c.write_not_had_because.ensures.kept;
     })

@@ -16,5 +16,6 @@ returns-in-Err-clause-collects g c =
     not_collected _ _ _ _ refl (search rules) (record {
       name = c.in-Err.field-0.path.now;
       reason = c.in-Err.field-0.reason;
-      stops = stops_then _ _ _ _ _ _ _ _ _ c.write_not_had_because.result c.in-Err.ensures.stops c.write_not_had_because.ensures.told c.write_not_had_because.ensures.failed c.write_not_had_because.ensures.kept;
+      refused = c.in-Err.ensures.reason;
+      stops = stops_then _ _ _ _ _ _ _ _ _ _ c.write_not_had_because.result c.in-Err.ensures.stops c.write_not_had_because.ensures.told c.write_not_had_because.ensures.failed c.write_not_had_because.ensures.kept;
     })
