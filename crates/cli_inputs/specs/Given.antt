@@ -9,13 +9,14 @@ use Rattle.cli_words.specs.declared.chosen.Chosen.{Chosen}
 use Rattle.cli_words.specs.declared.subcommands.Subcommand.TheVariants as command
 use Rattle.cli_inputs.specs.Formats.{form_word, format_word}
 use Rattle.cli_inputs.specs.declared.arguments.Arguments.{Arguments}
-use Rattle.cli_inputs.specs.declared.arguments.Arguments.TheVariants.{Dump, Files, Tcp, Record, Merge, Elements, Explain}
+use Rattle.cli_inputs.specs.declared.arguments.Arguments.TheVariants.{Dump, Files, Tcp, Record, Finish, Merge, Elements, Explain}
 use Rattle.cli_inputs.specs.declared.arguments.DumpArguments.{DumpArguments}
 use Rattle.cli_inputs.specs.declared.arguments.TableArguments.{TableArguments}
 use Rattle.cli_inputs.specs.declared.arguments.CollectArguments.{CollectArguments}
 use Rattle.cli_inputs.specs.declared.arguments.FilesArguments.{FilesArguments}
 use Rattle.cli_inputs.specs.declared.arguments.TcpArguments.{TcpArguments}
 use Rattle.cli_inputs.specs.declared.arguments.RecordArguments.{RecordArguments}
+use Rattle.cli_inputs.specs.declared.arguments.FinishArguments.{FinishArguments}
 use Rattle.cli_inputs.specs.declared.arguments.MergeArguments.{MergeArguments}
 use Rattle.cli_inputs.specs.declared.arguments.ElementsArguments.{ElementsArguments}
 use Rattle.cli_inputs.specs.declared.arguments.ExplainArguments.{ExplainArguments}
@@ -75,6 +76,9 @@ module _ (chosen : Chosen) where
     pub prefixes : map (λ prefix. prefix.now) told.prefixes.now ≡ texts_given chosen (codes "from")
     pub idle : IsDurationGiven (codes "idle") told.idle
 
+  pub record IsFinish (told : FinishArguments) : Type 0 where
+    pub folder : text_given chosen (codes "folder") ≡ Some told.folder.now
+
   pub record IsMerge (told : MergeArguments) : Type 0 where
     pub table : IsTable told.table
     pub files : map (λ path. path.now) told.paths.now ≡ texts_given chosen (codes "file")
@@ -92,6 +96,7 @@ module _ (chosen : Chosen) where
   IsGiven (Files told) = (chosen.command ≡ command.Files) × IsFiles told
   IsGiven (Tcp told) = (chosen.command ≡ command.Tcp) × IsTcp told
   IsGiven (Record told) = (chosen.command ≡ command.Record) × IsRecord told
+  IsGiven (Finish told) = (chosen.command ≡ command.Finish) × IsFinish told
   IsGiven (Merge told) = (chosen.command ≡ command.Merge) × IsMerge told
   IsGiven (Elements told) = (chosen.command ≡ command.Elements) × IsElements told
   IsGiven (Explain told) = (chosen.command ≡ command.Explain) × IsExplain told

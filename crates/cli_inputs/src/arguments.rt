@@ -1,12 +1,12 @@
 //! What the words of each command say.
 
 ghost use Rattle.std.specs.Prelude.{◌≡◌, IfSome, IsSome};
-ghost use Rattle.cli_inputs.specs.Given.{IsCollect, IsDump, IsFiles, IsGiven, IsMerge, IsRecord, IsTable, IsTcp, IsDurationGiven, IsVerbosity};
+ghost use Rattle.cli_inputs.specs.Given.{IsCollect, IsDump, IsFiles, IsFinish, IsGiven, IsMerge, IsRecord, IsTable, IsTcp, IsDurationGiven, IsVerbosity};
 ghost use Rattle.cli_words.specs.Arguments.{OneNumber, reading_of};
 
 use crate::formats::{dump_form, table_format};
 use cli_words::{
-    Argument, Chosen, DUMP_FORMAT, ELEMENTS, EVERY, FAULT, FLOW_FILES, FROM, IDLE, INTO, LISTEN,
+    Argument, Chosen, DUMP_FORMAT, ELEMENTS, EVERY, FAULT, FLOW_FILES, FOLDER, FROM, IDLE, INTO, LISTEN,
     PEERS, PLAN, PROGRESS, RECORD_IDLE, RECORD_LISTEN, RECORD_SESSIONS, RING, SESSIONS, STRICT,
     Subcommand, TABLE_FILES, TABLE_FORMAT, TIME, UDP, VERBOSE, WORD, WORKERS,
 };
@@ -24,6 +24,7 @@ pub enum Arguments<'m, 'w> {
     Files(FilesArguments<'m, 'w>),
     Tcp(TcpArguments<'m, 'w>),
     Record(RecordArguments<'m, 'w>),
+    Finish(FinishArguments<'w>),
     Merge(MergeArguments<'m, 'w>),
     Elements(ElementsArguments<'m, 'w>),
     Explain(ExplainArguments<'w>),
@@ -102,6 +103,13 @@ pub struct RecordArguments<'m, 'w> {
     pub idle: Option<Duration>,
 }
 
+/// What `finish` is told.
+#[derive(Clone, Copy)]
+pub struct FinishArguments<'w> {
+    /// The folder.
+    pub folder: &'w str,
+}
+
 /// What `merge` is told.
 #[derive(Clone, Copy)]
 pub struct MergeArguments<'m, 'w> {
@@ -134,6 +142,7 @@ pub fn read_arguments<'m, 'w>(chosen: Chosen<'m, 'w>) -> Option<Arguments<'m, 'w
         Subcommand::Files => Some(Arguments::Files(read_files(chosen)?)),
         Subcommand::Tcp => Some(Arguments::Tcp(read_tcp(chosen)?)),
         Subcommand::Record => Some(Arguments::Record(read_record(chosen)?)),
+        Subcommand::Finish => Some(Arguments::Finish(read_finish(chosen)?)),
         Subcommand::Merge => Some(Arguments::Merge(read_merge(chosen)?)),
         Subcommand::Elements => Some(Arguments::Elements(ElementsArguments {
             element_files: chosen.texts(ELEMENTS),
@@ -238,6 +247,15 @@ fn read_record<'m, 'w>(chosen: Chosen<'m, 'w>) -> Option<RecordArguments<'m, 'w>
         peers: NonZeroUsize::new(peers as usize)?,
         prefixes: chosen.texts(FROM),
         idle: read_duration(chosen, RECORD_IDLE),
+    })
+}
+
+fn read_finish<'m, 'w>(chosen: Chosen<'m, 'w>) -> Option<FinishArguments<'w>>
+    ensures told { IfSome result (IsFinish chosen.entry) }
+    ensures each { (told : FinishArguments) → IsFinish chosen.entry told → IsSome result }
+{
+    Some(FinishArguments {
+        folder: chosen.text(FOLDER)?,
     })
 }
 

@@ -11,7 +11,7 @@ mod timers;
 
 pub use arguments::{
     Arguments, CollectArguments, DumpArguments, ElementsArguments, ExplainArguments,
-    FilesArguments, MergeArguments, RecordArguments, ShowProgress, TableArguments, TcpArguments,
+    FilesArguments, FinishArguments, MergeArguments, RecordArguments, ShowProgress, TableArguments, TcpArguments,
     read_arguments,
 };
 pub use inputs::{

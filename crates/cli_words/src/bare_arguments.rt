@@ -18,6 +18,14 @@ pub const TABLE_FILES: Argument = Argument {
     help: "A table that was written as IPFIX under the same plan; '-' is standard input",
 };
 
+/// What `finish` finishes.
+pub const FOLDER: Argument = Argument {
+    word: "folder",
+    takes: Takes::Bare("FOLDER"),
+    due: Due::Always,
+    help: "A folder of recordings, which is not made if it isn't there",
+};
+
 /// What `elements` looks for.
 pub const WORD: Argument = Argument {
     word: "word",

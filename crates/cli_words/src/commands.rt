@@ -1,7 +1,7 @@
 //! What the parser is told of each command.
 
 use crate::arguments::Argument;
-use crate::bare_arguments::{FAULT, FLOW_FILES, TABLE_FILES, WORD};
+use crate::bare_arguments::{FAULT, FLOW_FILES, FOLDER, TABLE_FILES, WORD};
 use crate::listen_options::{
     EVERY, FROM, IDLE, INTO, LISTEN, PEERS, RECORD_IDLE, RECORD_LISTEN, RECORD_SESSIONS, SESSIONS,
     UDP,
@@ -76,6 +76,15 @@ pub const RECORD: CommandWords = CommandWords {
         FROM,
         RECORD_IDLE,
     ],
+};
+
+pub const FINISH: CommandWords = CommandWords {
+    about: "Finishes the files that a stopped run of record left unfinished in its folder",
+    example: "Each file gets its final name and a line on standard error, as at the next start of record. While a run\n\
+        records into the folder, nothing is done.\n\n\
+        Example:\n  collectd finish recordings",
+    shared: &[],
+    own: &[FOLDER],
 };
 
 pub const MERGE: CommandWords = CommandWords {

@@ -13,7 +13,7 @@ mod subcommands;
 mod words;
 
 pub use arguments::Argument;
-pub use bare_arguments::{FAULT, FLOW_FILES, TABLE_FILES, WORD};
+pub use bare_arguments::{FAULT, FLOW_FILES, FOLDER, TABLE_FILES, WORD};
 pub use chosen::Chosen;
 pub use format_words::{DUMP_FORMATS, TABLE_FORMATS};
 pub use listen_options::{

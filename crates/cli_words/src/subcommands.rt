@@ -10,6 +10,7 @@ pub enum Subcommand {
     Files,
     Tcp,
     Record,
+    Finish,
     Merge,
     Elements,
     Explain,
@@ -17,11 +18,12 @@ pub enum Subcommand {
 
 impl Subcommand {
     /// All of them, in the order of the help.
-    pub const ALL: [Subcommand; 7] = [
+    pub const ALL: [Subcommand; 8] = [
         Subcommand::Dump,
         Subcommand::Files,
         Subcommand::Tcp,
         Subcommand::Record,
+        Subcommand::Finish,
         Subcommand::Merge,
         Subcommand::Elements,
         Subcommand::Explain,
@@ -36,6 +38,7 @@ impl Subcommand {
             Subcommand::Files => "files",
             Subcommand::Tcp => "tcp",
             Subcommand::Record => "record",
+            Subcommand::Finish => "finish",
             Subcommand::Merge => "merge",
             Subcommand::Elements => "elements",
             Subcommand::Explain => "explain",
@@ -52,6 +55,7 @@ impl Subcommand {
             "files" => Some(Subcommand::Files),
             "tcp" => Some(Subcommand::Tcp),
             "record" => Some(Subcommand::Record),
+            "finish" => Some(Subcommand::Finish),
             "merge" => Some(Subcommand::Merge),
             "elements" => Some(Subcommand::Elements),
             "explain" => Some(Subcommand::Explain),

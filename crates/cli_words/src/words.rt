@@ -1,7 +1,9 @@
 //! The words that the program takes.
 
 use crate::arguments::Argument;
-use crate::commands::{CommandWords, DUMP, EXPLAIN, FILES, LIST_ELEMENTS, MERGE, RECORD, TCP};
+use crate::commands::{
+    CommandWords, DUMP, EXPLAIN, FILES, FINISH, LIST_ELEMENTS, MERGE, RECORD, TCP,
+};
 use crate::subcommands::Subcommand;
 use clap::{ArgMatches, Command, Error};
 use std::alloc::{AllocError, Global};
@@ -53,6 +55,7 @@ fn words_of(named: Subcommand) -> CommandWords {
         Subcommand::Files => FILES,
         Subcommand::Tcp => TCP,
         Subcommand::Record => RECORD,
+        Subcommand::Finish => FINISH,
         Subcommand::Merge => MERGE,
         Subcommand::Elements => LIST_ELEMENTS,
         Subcommand::Explain => EXPLAIN,

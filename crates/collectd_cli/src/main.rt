@@ -7,7 +7,7 @@ mod guides;
 use clap::ArgMatches;
 use cli_inputs::{Arguments, read_arguments};
 use cli_words::{Chosen, matches_of, show};
-use command_record::record;
+use command_record::{finish, record};
 use report_writing::Status;
 use std::process::ExitCode;
 use std::rt::Clock;
@@ -62,6 +62,7 @@ fn run_command<R: Clock + Threads + Wait + Sync>(
         Some(Arguments::Files(arguments)) => commands::files(threads, rt, &arguments),
         Some(Arguments::Tcp(arguments)) => commands::tcp(threads, rt, &arguments),
         Some(Arguments::Record(arguments)) => record(threads, rt, &arguments),
+        Some(Arguments::Finish(arguments)) => finish(rt, &arguments),
         Some(Arguments::Merge(arguments)) => commands::merge(rt, &arguments),
         Some(Arguments::Elements(arguments)) => guides::elements(rt, &arguments),
         Some(Arguments::Explain(arguments)) => Ok(guides::explain(rt, &arguments)),

@@ -1,9 +1,12 @@
-//! The command `collectd record`: the words that it is told, and the threads that record connections and datagrams side
-//! by side.
+//! The commands `collectd record` and `collectd finish`: the words that they are told, and the threads that record
+//! connections and datagrams side by side.
 #![tactic(auto)]
 
+mod finishing;
+mod folder_line;
 mod recording;
 mod system;
 
+pub use finishing::finish;
 pub use recording::record;
 pub use system::{Sockets, run_recorder};

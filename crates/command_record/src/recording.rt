@@ -1,11 +1,12 @@
 //! Recording as the words say it.
 
+use crate::folder_line::tell_folder;
 use crate::system::{Sockets, run_recorder};
 use cli_inputs::{RecordArguments, WITH_REASONS, listen_on};
 use network_prefixes::{PeerFilter, Prefix};
-use recording_connections::{FolderFault, RecordOrder, open_recordings};
+use recording_connections::{RecordOrder, open_recordings};
 use recording_datagrams::{PeerLimits, SystemSocket};
-use report_writing::{Reason, Status, write_not_had, write_not_had_because};
+use report_writing::{Reason, Status, write_not_had_because};
 use std::io::{Stderr, Write};
 use std::net::TcpListener;
 use std::rt::Clock;
@@ -85,16 +86,6 @@ fn limits_of(arguments: &RecordArguments) -> PeerLimits {
             None => IDLE,
         },
     }
-}
-
-// The line of a folder that can't be had.
-fn tell_folder(path: &str, fault: &FolderFault, err: &mut Stderr) {
-    let _ = match fault {
-        FolderFault::InUse => write_not_had("folder in use", path, err),
-        FolderFault::NotHad(error) => {
-            write_not_had_because(WITH_REASONS, "folder", path, Reason::of(error), err)
-        }
-    };
 }
 
 // What is recorded, and how.

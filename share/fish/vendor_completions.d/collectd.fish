@@ -1,17 +1,18 @@
 # Completions of collectd for fish.
-set -l commands dump files tcp record merge elements explain help
+set -l commands dump files tcp record finish merge elements explain help
 complete -c collectd -f
 complete -c collectd -n "not __fish_seen_subcommand_from $commands" -a dump -d 'Write a line for each data record'
 complete -c collectd -n "not __fish_seen_subcommand_from $commands" -a files -d 'Write the table of files'
 complete -c collectd -n "not __fish_seen_subcommand_from $commands" -a tcp -d 'Write the table of connections'
 complete -c collectd -n "not __fish_seen_subcommand_from $commands" -a record -d 'Record what exporters send in files'
+complete -c collectd -n "not __fish_seen_subcommand_from $commands" -a finish -d 'Finish what a stopped run left'
 complete -c collectd -n "not __fish_seen_subcommand_from $commands" -a merge -d 'Write the table of tables'
 complete -c collectd -n "not __fish_seen_subcommand_from $commands" -a elements -d 'List the elements that are known'
 complete -c collectd -n "not __fish_seen_subcommand_from $commands" -a explain -d 'Explain a fault'
 complete -c collectd -n "not __fish_seen_subcommand_from $commands" -a help -d 'Print help'
 complete -c collectd -n "not __fish_seen_subcommand_from $commands" -l version -d 'Print the version'
 complete -c collectd -l help -d 'Print help'
-complete -c collectd -n '__fish_seen_subcommand_from help' -a 'dump files tcp record merge elements explain'
+complete -c collectd -n '__fish_seen_subcommand_from help' -a 'dump files tcp record finish merge elements explain'
 # (the names of the faults, as the program lists them)
 complete -c collectd -n '__fish_seen_subcommand_from explain' -a "(command -q collectd; and collectd explain 2> /dev/null | string replace -r '^(?:\d+ )?(\w+):? ' '\$1\t')"
 complete -c collectd -n '__fish_seen_subcommand_from dump files tcp merge elements' -l elements -r -F -d 'A file of elements'
@@ -33,3 +34,4 @@ complete -c collectd -n '__fish_seen_subcommand_from record' -l udp -x -d 'The a
 complete -c collectd -n '__fish_seen_subcommand_from record' -l peers -x -d 'How many peers that send datagrams are kept'
 complete -c collectd -n '__fish_seen_subcommand_from record' -l every -x -d 'How many seconds a period has'
 complete -c collectd -n '__fish_seen_subcommand_from record' -l from -x -d 'A prefix of peers that may send'
+complete -c collectd -n '__fish_seen_subcommand_from finish' -x -a '(__fish_complete_directories)' -d 'A folder of recordings'

@@ -1,0 +1,2 @@
+-- What inner functions cite.
+pub mod Finishing
