@@ -13,7 +13,7 @@ use Rattle.flow_table.specs.SameTables.{RowValue}
 use Rattle.flow_table.specs.Tables.{tally_of, IsTable}
 use Rattle.flow_table.specs.declared.table.Table.{Table}
 use Rattle.flow_export.specs.IpfixText.{ipfix_text}
-use Rattle.flow_merge.specs.Merging.{GiveExports, IsDue}
+use Rattle.flow_merge.specs.Merging.{all_of, GiveExports, IsDue}
 use Rattle.flow_merge.specs.declared.merge_fault.MergeFault.{MergeFault}
 use Rattle.flow_merge.specs.declared.merge_fault.MergeFault.TheVariants.{OutOfMemory, SumTooLarge, Session}
 
@@ -35,14 +35,19 @@ pub record HoldsExport (plan : PlanValue) (source : SourceView) (rs : List DataR
   pub table : Table
   pub export : IsExportOf plan rs table text
 
--- a source holds the export of the table of some records
-pub record SomeExport (plan : PlanValue) (source : SourceView) : Type 0 where
+-- a source holds the export of a table with these rows, that of some records
+pub record HoldsRows (plan : PlanValue) (source : SourceView) (rows : List RowValue) : Type 0 where
   pub records : List DataRecord
   pub holds : HoldsExport plan source records
+  pub rows_are : rows ≡ rows_in holds.table
 
 -- each source holds the export of the table of one of the lists, in their order
 abbrev pub AreExportsOf : {S : Type 0} → (S → SourceView) → PlanValue → List S → List (List DataRecord) → Type 0
 AreExportsOf seen plan sources lists = AllZip (λ source rs. HoldsExport plan (seen source) rs) sources lists
+
+-- if the sources hold the exports of the tables of lists of records, one each, this is so of all these records
+abbrev pub IfExportsOf : {S : Type 0} → (S → SourceView) → PlanValue → List S → (List DataRecord → Type 0) → Type 0
+IfExportsOf seen plan sources P = (lists : List (List DataRecord)) → AreExportsOf seen plan sources lists → P (all_of lists)
 
 -- the faults of an export: memory ran out, a read failed, more reads would have been needed, or sums are too large
 abbrev pub IsExportFault : Type 0 → MergeFault → Type 0

@@ -10,14 +10,14 @@ ghost use Rattle.flow_table.specs.SameTables.{RowValue};
 ghost use Rattle.flow_table.specs.declared.table.Table.{Table};
 ghost use Rattle.flow_export.specs.IpfixText.{ipfix_text};
 ghost use Rattle.laws_export.specs.ReadBack.{row_record};
-ghost use Rattle.flow_merge.specs.Merging.{all_of, merging_plan, AddsAllUp, AddsExport, HasRowsOf, IsDue, IsExport, StandsFor};
+ghost use Rattle.flow_merge.specs.Merging.{merging_plan, AddsAllUp, AddsExport, HasRowsOf, IsDue, IsExport, StandsFor};
 ghost use Rattle.flow_merge.specs.RowFaults.{IsRowFault};
 ghost use Rattle.flow_merge.specs.RowRecords.{IsRowOf, IsRowRecord};
 ghost use Rattle.flow_merge.specs.declared.merge_fault.MergeFault.{MergeFault};
 ghost use Rattle.flow_merge.specs.declared.merging.Merging.{Merging};
 ghost use Rattle.flow_merge.specs.declared.row_fault.RowFault.{RowFault};
 ghost use Rattle.flow_merge.specs.declared.row_fault.RowFault.TheVariants.{OutOfMemory};
-ghost use Rattle.laws_merge.specs.Exports.{AreExportsOf, IsExportable, IsExportFault, IsExportOf, SomeExport, with_counts};
+ghost use Rattle.laws_merge.specs.Exports.{HoldsRows, IfExportsOf, IsExportable, IsExportFault, IsExportOf, with_counts};
 ghost use Rattle.laws_merge.specs.RowSums.{rows_at, AreSumsOf};
 
 use ipfix_session::Source;
@@ -51,23 +51,22 @@ pub fn exports_have_their_rows()
 /// What [`Merging::read`](flow_merge::Merging::read) answers of the export of a table: its rows were
 /// added, or else the fault is none of its own, but that sums are too large.
 pub fn exports_are_added_whole<S: Source>()
-    ensures added { (limit : ℕ) (before after : S) (old new : Merging) (rows : List RowValue)
-        (held : SomeExport (merging_plan old) (S.seen before))
-        → AddsExport S.seen limit old before after rows new
-        → StandsFor new (rows ++ rows_in held.holds.table) }
-    ensures fault { (limit : ℕ) (before after : S) (plan : PlanValue) (rows : List RowValue)
-        (held : SomeExport plan (S.seen before)) (fault : MergeFault)
-        → IsDue S.seen limit plan rows before after fault
-        → IsExportFault (AddUpTooLarge (rows ++ rows_in held.holds.table)) fault }
+    ensures added { (limit : ℕ) (before after : S) (old new : Merging) (rows own : List RowValue)
+        → HoldsRows (merging_plan old) (S.seen before) own
+        → AddsExport S.seen limit old before after rows new → StandsFor new (rows ++ own) }
+    ensures fault { (limit : ℕ) (old new : S) (plan : PlanValue) (rows own : List RowValue)
+        (fault : MergeFault) → HoldsRows plan (S.seen old) own
+        → IsDue S.seen limit plan rows old new fault
+        → IsExportFault (AddUpTooLarge (rows ++ own)) fault }
 {}
 
 /// What `collectd merge` promises of its table, that the rows of the sources' exports are added up in it,
 /// makes it the theorem's: if the sources hold the exports of the tables of lists of records, one each,
 /// the rows are those of the table of all these records (RFC 7015, section 5).
 pub fn exports_add_up_to_all_records<S: Source>()
-    ensures { (limit : ℕ) (plan : PlanValue) (sources : List S) (lists : List (List DataRecord))
-        (table : Table) → AreExportsOf S.seen plan sources lists
-        → AddsAllUp S.seen limit plan sources table → HasRowsOf plan (all_of lists) table }
+    ensures { (limit : ℕ) (plan : PlanValue) (sources : List S) (table : Table)
+        → AddsAllUp S.seen limit plan sources table
+        → IfExportsOf S.seen plan sources (λ records. HasRowsOf plan records table) }
 {}
 
 /// What is exported of merged rows is the export of the table of all their records. So merged exports

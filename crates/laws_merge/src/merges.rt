@@ -1,13 +1,11 @@
 //! Many exports merged.
 
-ghost use Rattle.std.specs.Prelude.{◌≡◌, ◌⊎◌, List, IfErr, IfOk, OnOk};
-ghost use Rattle.std.specs.List.{AllZip};
-ghost use Rattle.ipfix_message.specs.declared.record.DataRecord.{DataRecord};
+ghost use Rattle.std.specs.Prelude.{◌≡◌, ◌⊎◌, IfErr, IfOk, OnOk};
 ghost use Rattle.flow_table.specs.AddedUp.{HasTooLargeRow};
 ghost use Rattle.flow_table.specs.Fitting.{FitsPlan};
-ghost use Rattle.flow_merge.specs.Merging.{all_of, AddsAllUp, HasRowsOf, no_records, none_missing};
+ghost use Rattle.flow_merge.specs.Merging.{AddsAllUp, HasRowsOf, no_records, none_missing};
 ghost use Rattle.flow_merge.specs.declared.merge_fault.MergeFault.TheVariants.{OutOfMemory};
-ghost use Rattle.laws_merge.specs.Exports.{AreExportsOf, IsExportFault, StopsAt};
+ghost use Rattle.laws_merge.specs.Exports.{IfExportsOf, IsExportFault, StopsAt};
 
 use flow_merge::{MergeFault, Merging};
 use flow_table::{FlatTable, Plan};
@@ -33,16 +31,13 @@ pub fn merge<S: Source + Drop>(
     ensures stops { IfErr result (λ e. (e ≡ OutOfMemory)
         ⊎ StopsAt S.seen limit plan.now sources.items e) }
     // Of exports of tables these are the rows of the table of all their records.
-    ensures rows { (lists : List (List DataRecord))
-        → AreExportsOf S.seen plan.now sources.items lists
-        → IfOk result (HasRowsOf plan.now (all_of lists)) }
+    ensures rows { IfExportsOf S.seen plan.now sources.items
+        (λ records. IfOk result (HasRowsOf plan.now records)) }
     // `Ok` only if no sum and no number of flows of that table is too large, `SumTooLarge` only if one is.
-    ensures small { (lists : List (List DataRecord))
-        → AreExportsOf S.seen plan.now sources.items lists
-        → OnOk result (HasTooLargeRow plan.now (all_of lists) → ⊥) }
-    ensures fault { (lists : List (List DataRecord))
-        → AreExportsOf S.seen plan.now sources.items lists
-        → IfErr result (IsExportFault (HasTooLargeRow plan.now (all_of lists))) }
+    ensures small { IfExportsOf S.seen plan.now sources.items
+        (λ records. OnOk result (HasTooLargeRow plan.now records → ⊥)) }
+    ensures fault { IfExportsOf S.seen plan.now sources.items
+        (λ records. IfErr result (IsExportFault (HasTooLargeRow plan.now records))) }
     // The table fits the plan, as an export asks.
     ensures fits { IfOk result (FitsPlan plan.now) }
     ensures tally { IfOk result (λ table. table.tally ≡ no_records) }
