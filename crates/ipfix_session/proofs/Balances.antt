@@ -3,8 +3,8 @@ use Rattle.std.proofs.Common.{◌≡◌, ℕ, ◌+◌, ◌<◌, Bool, true, fals
 use Rattle.std.specs.Prelude.{◌-◌, ◌%◌, ◌^◌, sum_by}
 use Rattle.std.proofs.lemmas.List.Sums.{sum_by-cons}
 use Rattle.ipfix_message.specs.Domains.{Message}
-use Rattle.ipfix_session.specs.Ledger.{capped, count_in, sequence_behind, gap, lost_at, backward_at, lost_between, backward_between, sum_neighbours, messages_of, domain_report}
-use Rattle.ipfix_session.specs.Balances.{unaccounted_between, late_between, domain_balance, sequence_at_end}
+use Rattle.ipfix_session.specs.Ledger.{capped, count_in, sequence_behind, gap, lost_at, backward_at, lost_between, backward_between, sum_neighbours, messages_of}
+use Rattle.ipfix_session.specs.Balances.{unaccounted_between, late_between, accounted_for, sequence_at_end, AdvanceBy, KeepsCount}
 
 -- up to a number that is ahead of a sequence, modulo 2^32, are as many as the gap says
 over_gap : (s k n : ℕ) → (s + k + gap ((s + k) % 2 ^ 32) n) % 2 ^ 32 ≡ n % 2 ^ 32
@@ -54,20 +54,19 @@ uncapped n small = omega (arith, small)
 none_is : (n : ℕ) → capped n ≡ 0 → n ≡ 0
 none_is n none = omega (arith, none)
 
-same_sum : (s a b c d e f end : ℕ) → a ≡ d → b ≡ e → c ≡ f → (s + d + e + f) % 2 ^ 32 ≡ end → (s + a + b + c) % 2 ^ 32 ≡ end
-same_sum s a b c d e f end h i j is = rw (h, i, j) is
+same_sum : (s a b c d e f end : ℕ) → a ≡ d → b ≡ e → c ≡ f → (s + d + e + f) % 2 ^ 32 ≡ end → (s + (a + b + c)) % 2 ^ 32 ≡ end
+same_sum s a b c d e f end h i j is = omega (arith, h, i, j, is)
 
-of_own : (own : List Message) (first : Message) (more : List Message) → own ≡ first ∷ more → capped (sum_neighbours backward_between own) ≡ 0 → capped (sum_neighbours late_between own) ≡ 0
+of_own : (own : List Message) → capped (sum_neighbours backward_between own) ≡ 0 → capped (sum_neighbours late_between own) ≡ 0
     → capped (sum_by count_in own) < 2 ^ 64 - 1
     → capped (sum_neighbours lost_between own) < 2 ^ 64 - 1 → capped (sum_neighbours unaccounted_between own) < 2 ^ 64 - 1
-    → (first.header.sequence + capped (sum_by count_in own) + capped (sum_neighbours lost_between own) + capped (sum_neighbours unaccounted_between own)) % 2 ^ 32 ≡ sequence_at_end first more
-of_own own first more are none late count lost unaccounted =
+    → AdvanceBy (capped (sum_by count_in own) + capped (sum_neighbours lost_between own) + capped (sum_neighbours unaccounted_between own)) own
+of_own [] none late count lost unaccounted = tt
+of_own (first ∷ more) none late count lost unaccounted =
+    let own = first ∷ more in
     same_sum first.header.sequence _ _ _ (sum_by count_in own) (sum_neighbours lost_between own) (sum_neighbours unaccounted_between own) _
     (uncapped (sum_by count_in own) count) (uncapped (sum_neighbours lost_between own) lost) (uncapped (sum_neighbours unaccounted_between own) unaccounted)
-    (rw are (advances first more (subst (λ (ms : List Message). sum_neighbours backward_between ms ≡ 0) are (none_is (sum_neighbours backward_between own) none))
-    (subst (λ (ms : List Message). sum_neighbours late_between ms ≡ 0) are (none_is (sum_neighbours late_between own) late))))
+    (advances first more (none_is (sum_neighbours backward_between own) none) (none_is (sum_neighbours late_between own) late))
 
-pub balances : (ms : List Message) (domain : ℕ) (first : Message) (more : List Message) → messages_of domain ms ≡ first ∷ more → (domain_report ms domain).backward ≡ 0 → (domain_balance ms domain).late ≡ 0
-    → (domain_report ms domain).count < 2 ^ 64 - 1 → (domain_report ms domain).lost < 2 ^ 64 - 1 → (domain_balance ms domain).unaccounted < 2 ^ 64 - 1
-    → (first.header.sequence + (domain_report ms domain).count + (domain_report ms domain).lost + (domain_balance ms domain).unaccounted) % 2 ^ 32 ≡ sequence_at_end first more
-balances ms domain first more are none late count lost unaccounted = of_own (messages_of domain ms) first more are none late count lost unaccounted
+pub balances : (ms : List Message) (domain : ℕ) → KeepsCount ms domain → AdvanceBy (accounted_for ms domain) (messages_of domain ms)
+balances ms domain keeps = of_own (messages_of domain ms) keeps.none_backward keeps.none_late keeps.count keeps.lost keeps.unaccounted

@@ -8,9 +8,8 @@ use Rattle.ipfix_message.specs.declared.fault.MessageFault.TheVariants.{OutOfMem
 use Rattle.ipfix_message.specs.declared.record.DataRecord.{DataRecord}
 use Rattle.ipfix_session.specs.declared.fault.SessionFault.{SessionFault}
 use Rattle.ipfix_session.specs.declared.fault.SessionFault.TheVariants as faults
-use Rattle.ipfix_session.specs.declared.stop.Stop.TheVariants.{Clean}
 use Rattle.ipfix_session.specs.declared.report.SessionReport.{SessionReport}
-use Rattle.ipfix_session.specs.Given.{gives, records_in, records_of, stop_of, IsPrefix}
+use Rattle.ipfix_session.specs.Given.{gives, records_in, records_of, stop_of, AreAllOf, IsPrefix}
 use Rattle.ipfix_session.specs.Sources.{SourceView}
 use Rattle.ipfix_session.specs.Sinks.{SinkView, Takes}
 use Rattle.ipfix_session.specs.Feeding.{PutsWhole}
@@ -86,7 +85,7 @@ consumed_all before (Some left) whole gave is some end =
 
 pub given_all_of : {S : Type 0} (seen : S → SourceView) (limit : ℕ) (before after : S) (r : SessionReport) (records : List DataRecord) (whole : List ℕ)
     → ((seen after).ended ≡ true → ForSome (seen after).text (λ xs. xs ≡ []))
-    → IsGiven seen limit before after r records → r.fault ≡ None → (seen before).text ≡ Some whole → (stop_of whole ≡ Clean) × (records ≡ records_of whole)
+    → IsGiven seen limit before after r records → r.fault ≡ None → (seen before).text ≡ Some whole → AreAllOf whole records
 given_all_of seen limit before after r records whole at_end g none is =
     let due : IsDue None limit g.gave (seen before) (seen after) = subst (λ (o : Option SessionFault). IsDue o limit g.gave (seen before) (seen after)) none g.given.fault_is_due in
     let all : g.gave ≡ whole = consumed_all (seen before).text (seen after).text whole g.gave is g.given.octets (at_end due.1) in

@@ -18,7 +18,7 @@ use Rattle.ipfix_session.specs.declared.source.ReadError.TheVariants.{Interrupte
 use Rattle.ipfix_session.specs.Given.{Given, gives, records_in, records_of, stop_of, IsOpen}
 use Rattle.ipfix_session.specs.Sources.{SourceView, IsRead, one_more, tells_end}
 use Rattle.ipfix_session.specs.Sinks.{SinkView, Takes}
-use Rattle.ipfix_session.specs.Feeding.{State, Tells, fault_at, StandsForText, PutsWhole, PutsAll, RunsOut, Feeds}
+use Rattle.ipfix_session.specs.Feeding.{State, Tells, AreToldAs, fault_at, StandsForText, PutsWhole, PutsAll, RunsOut, Feeds}
 use Rattle.ipfix_session.specs.declared.driver.TheConstants.{READ_SIZE}
 use Rattle.ipfix_session.specs.Drives.{IsDue, StopsAtFault, PutsUpTo, DrivesTo}
 use Rattle.ipfix_session.proofs.Reaching.{takes-append, takes-none, gives_first, may_go_on}
@@ -200,7 +200,7 @@ refused_by view last more s gave piece faults.TooManyReads fed = absurd fed
 
 pub drives_fault : {S K : Type 0} (seen : S → SourceView) (view : SinkView K) (limit n count : ℕ) (before now after : S) (first last more : K) (s t : State) (buffer : List ℕ) (o : Option SessionFault) (told : List Message → ℕ → Type 0) (f : SessionFault)
     → (d : Driving view n (seen before) (seen now) first last s) → n < limit → length buffer ≤ READ_SIZE → IsRead (seen now) (Ok count) (seen after) buffer → Feeds view (Err f) d.gave (take count buffer) last more t
-    → ((ms : List Message) (delivered : ℕ) → ends_open (Some f) ≡ false → Tells t.counts ms delivered → told ms delivered) → o ≡ Some f
+    → (ends_open (Some f) ≡ false → AreToldAs t.counts told) → o ≡ Some f
     → DrivesTo seen view limit before after first more o told
 unfolding stops_at
 drives_fault seen view limit n count before now after first last more s t buffer o told f d less room read fed tell fault =
@@ -216,7 +216,7 @@ drives_fault seen view limit n count before now after first last more s t buffer
       middle = last;
       earlier = d.takes;
       puts = subst (λ (f : Option SessionFault). PutsUpTo view f (gives d.gave).messages (gives (d.gave ++ piece)).messages last more told) (sym fault)
-          (put_by view last more t d.gave piece told f (λ ms delivered. tell ms delivered (refused_by view last more t d.gave piece f fed)) fed);
+          (put_by view last more t d.gave piece told f (tell (refused_by view last more t d.gave piece f fed)) fed);
     }
 
 -- ---- the last read gave nothing
@@ -303,7 +303,7 @@ drives_limit seen view limit n before now first last s o told d all tells fault 
 -- ---- no memory for a buffer
 
 pub drives_nowhere : {S K : Type 0} (seen : S → SourceView) (view : SinkView K) (limit : ℕ) (source : S) (sink : K) (s : State) (o : Option SessionFault) (told : List Message → ℕ → Type 0) → StandsForText s []
-    → ((ms : List Message) (delivered : ℕ) → Tells s.counts ms delivered → told ms delivered) → o ≡ Some (faults.Message OutOfMemory)
+    → AreToldAs s.counts told → o ≡ Some (faults.Message OutOfMemory)
     → DrivesTo seen view limit source source sink sink o told
 unfolding driving_first
 drives_nowhere seen view limit source sink s o told stands tell fault =

@@ -41,6 +41,10 @@ pub record Tells (c : Counts) (ms : List Message) (delivered : ℕ) : Type 0 whe
   pub passed_over : c.passed_over ≡ passed_over_in ms
   pub accounts : c.accounts ≡ accounts_of ms
 
+-- whatever messages counts are of, and whatever number of records that were taken, this is told of them
+abbrev pub AreToldAs : Counts → (List Message → ℕ → Type 0) → Type 0
+AreToldAs c told = (ms : List Message) (delivered : ℕ) → Tells c ms delivered → told ms delivered
+
 -- the fault that a text ends its session with, however it goes on
 abbrev pub fault_at : Stop → Option SessionFault
 fault_at Clean = None
@@ -108,3 +112,10 @@ module _ {K : Type 0} (view : SinkView K) where
   Feeds (Err faults.Truncated) text piece before after s = ⊥
   Feeds (Err faults.ReadFailed) text piece before after s = ⊥
   Feeds (Err faults.TooManyReads) text piece before after s = ⊥
+
+  -- after a text a piece was fed without a fault, and then one more, with this answer
+  pub record FeedsInTurn (text piece more : List ℕ) (answer : Result (Unit {0}) SessionFault) (before after : K) (s : State) : Type 0 where
+    pub middle : K
+    pub between : State
+    pub piece_fed : Feeds (Ok tt) text piece before middle between
+    pub more_fed : Feeds answer (text ++ piece) more middle after s

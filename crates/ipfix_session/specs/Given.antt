@@ -75,3 +75,7 @@ records_of text = records_in (gives text).messages
 
 abbrev pub stop_of : List ℕ → Stop
 stop_of text = (gives text).stop
+
+-- a text is whole messages without a fault, and these are all their records (RFC 7011, sections 3 and 3.4.3)
+abbrev pub AreAllOf : List ℕ → List DataRecord → Type 0
+AreAllOf text records = (stop_of text ≡ Clean) × (records ≡ records_of text)

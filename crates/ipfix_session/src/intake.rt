@@ -1,9 +1,9 @@
 //! Taking the messages of a session: each is decoded, its records are put, and then it is counted.
 
-ghost use Rattle.std.specs.Prelude.{◌≡◌, [], ℕ, List, Some, None, false, if◌then◌else◌};
-ghost use Rattle.ipfix_message.specs.Domains.{Message, StandsFor};
+ghost use Rattle.std.specs.Prelude.{◌≡◌, [], Some, None, false, if◌then◌else◌};
+ghost use Rattle.ipfix_message.specs.Domains.{StandsFor};
 ghost use Rattle.ipfix_session.specs.Faults.{ends_open as is_end_open};
-ghost use Rattle.ipfix_session.specs.Feeding.{Tells};
+ghost use Rattle.ipfix_session.specs.Feeding.{AreToldAs, Tells};
 ghost use Rattle.ipfix_session.specs.Intake.{counts_of};
 ghost use Rattle.ipfix_session.specs.Places.{CountsInFull};
 ghost use Rattle.ipfix_session.specs.Puts.{Puts};
@@ -54,8 +54,7 @@ impl Intake {
 
     /// The full report of a session that ended so. This takes no memory.
     pub fn into_report(self, fault: Option<SessionFault>) -> FullReport
-        ensures counts { (ms : List Message) (delivered : ℕ)
-            → Tells (counts_of self.tally) ms delivered → CountsInFull result ms delivered }
+        ensures counts { AreToldAs (counts_of self.tally) (CountsInFull result) }
         ensures fault { result.report.fault ≡ fault }
         ensures domains { result.domains
             ≡ (if is_end_open fault then Some self.domains else None) }

@@ -1,7 +1,7 @@
 //! Laws of the definitions. Each is a function that does nothing, and its contract is the theorem: a
 //! call brings that to the proof of its caller.
 
-ghost use Rattle.std.specs.Prelude.{◌≡◌, ◌≢◌, ◌+◌, ◌-◌, ◌%◌, ◌^◌, ◌<◌, ◌++◌, ◌∷◌, [], ℕ, List, length, drop, sum_by, take, Some, None, Result, Ok, Err};
+ghost use Rattle.std.specs.Prelude.{◌≡◌, ◌≢◌, ◌++◌, [], ℕ, List, length, drop, sum_by, take, Some, None, Result, Err};
 ghost use Rattle.ipfix_wire.specs.Numbers.{IsOctets};
 ghost use Rattle.ipfix_wire.specs.InTurn.{IsLongest};
 ghost use Rattle.ipfix_message.specs.declared.fault.MessageFault.{MessageFault};
@@ -9,13 +9,13 @@ ghost use Rattle.ipfix_message.specs.Domains.{Message};
 ghost use Rattle.ipfix_message.specs.declared.record.DataRecord.{DataRecord};
 ghost use Rattle.ipfix_session.specs.MessageStream.{SpellsMessage, cut};
 ghost use Rattle.ipfix_session.specs.WholeMessages.{whole_octets};
-ghost use Rattle.ipfix_session.specs.Ledger.{domain_report, messages_of};
-ghost use Rattle.ipfix_session.specs.Balances.{domain_balance, sequence_at_end};
+ghost use Rattle.ipfix_session.specs.Ledger.{messages_of};
+ghost use Rattle.ipfix_session.specs.Balances.{accounted_for, AdvanceBy, KeepsCount};
 ghost use Rattle.ipfix_session.specs.Places.{messages_before_fault, place_after, place_of_fault};
-ghost use Rattle.ipfix_session.specs.Given.{gives, gives_after, behind, known_after, octets_of, records_of, stop_of, IsOpen, IsPrefix};
-ghost use Rattle.ipfix_session.specs.Feeding.{State, Feeds};
+ghost use Rattle.ipfix_session.specs.Given.{gives, gives_after, behind, known_after, octets_of, records_of, stop_of, AreAllOf, IsOpen, IsPrefix};
+ghost use Rattle.ipfix_session.specs.Feeding.{State, Feeds, FeedsInTurn};
 ghost use Rattle.ipfix_session.specs.Drives.{Drives, IsGiven, TakesGiven};
-ghost use Rattle.ipfix_session.specs.declared.stop.Stop.TheVariants.{Clean, Fault};
+ghost use Rattle.ipfix_session.specs.declared.stop.Stop.TheVariants.{Fault};
 ghost use Rattle.ipfix_session.specs.declared.fault.SessionFault.{SessionFault};
 ghost use Rattle.ipfix_session.specs.declared.fault.SessionFault.TheVariants.{SinkClosed};
 ghost use Rattle.ipfix_session.specs.declared.report.SessionReport.{SessionReport};
@@ -58,10 +58,8 @@ pub fn goes_on()
 /// It doesn't matter how a text is cut into pieces: two that are fed in turn do what they do as one, and
 /// those after a fault change nothing.
 pub fn pieces_are_one<K: Sink>()
-    ensures both { (text piece more : List ℕ) (first last : State) (before middle after : K)
-        (r : Result (Unit {0}) SessionFault)
-        → Feeds K.seen (Ok tt) text piece before middle first
-        → Feeds K.seen r (text ++ piece) more middle after last
+    ensures both { (text piece more : List ℕ) (r : Result (Unit {0}) SessionFault)
+        (before after : K) (last : State) → FeedsInTurn K.seen text piece more r before after last
         → Feeds K.seen r text (piece ++ more) before after last }
     ensures fault { (text piece more : List ℕ) (last : State) (before after : K) (f : SessionFault)
         → Feeds K.seen (Err f) text piece before after last
@@ -85,8 +83,7 @@ pub fn no_fault_is_all<S: Source>()
     ensures { (limit : ℕ) (before after : S) (r : SessionReport) (records : List DataRecord)
         (text : List ℕ)
         → IsGiven S.seen limit before after r records → r.fault ≡ None
-        → (S.seen before).text ≡ Some text
-        → (stop_of text ≡ Clean) × (records ≡ records_of text) }
+        → (S.seen before).text ≡ Some text → AreAllOf text records }
 {}
 
 /// The ledger of a domain balances: from before its first message to after its last, the exporter's
@@ -99,14 +96,8 @@ pub fn no_fault_is_all<S: Source>()
 /// first message, or after the last, no sequence number shows; nor do those of an unknown set in the
 /// last message. A loss of 2^31 records or more at once looks like a step backward, one of 2^32 like none.
 pub fn ledger_balances()
-    ensures { (ms : List Message) (domain : ℕ) (first : Message) (more : List Message)
-        → messages_of domain ms ≡ first ∷ more
-        → (domain_report ms domain).backward ≡ 0 → (domain_balance ms domain).late ≡ 0
-        → (domain_report ms domain).count < 2 ^ 64 - 1
-        → (domain_report ms domain).lost < 2 ^ 64 - 1
-        → (domain_balance ms domain).unaccounted < 2 ^ 64 - 1
-        → (first.header.sequence + (domain_report ms domain).count + (domain_report ms domain).lost
-        + (domain_balance ms domain).unaccounted) % 2 ^ 32 ≡ sequence_at_end first more }
+    ensures { (ms : List Message) (domain : ℕ) → KeepsCount ms domain
+        → AdvanceBy (accounted_for ms domain) (messages_of domain ms) }
 {}
 
 /// The place after the messages that count is that of the first message with a fault, by the cutting of

@@ -1,9 +1,9 @@
 //! A transport session that is fed its octets in pieces (RFC 7011, section 3.1).
 
 ghost use Rattle.std.specs.Prelude.{◌≡◌, ◌≤◌, [], ℕ, length, List, Some, None, Err, IfErr, OnOk, false};
-ghost use Rattle.ipfix_message.specs.Domains.{Message};
+ghost use Rattle.std.specs.Option.{ForSome};
 ghost use Rattle.ipfix_session.specs.declared.message_stream.TheConstants.{LONGEST_MESSAGE};
-ghost use Rattle.ipfix_session.specs.Feeding.{Tells, StandsForText, Feeds};
+ghost use Rattle.ipfix_session.specs.Feeding.{AreToldAs, Feeds, StandsForText};
 ghost use Rattle.ipfix_session.specs.Faults.{ends_open};
 ghost use Rattle.ipfix_session.specs.Given.{gives, records_of};
 ghost use Rattle.ipfix_session.specs.Reports.{IsReport, Reports, ended_by};
@@ -87,10 +87,8 @@ impl Session {
     /// within a message. This takes no memory.
     pub fn finish(self) -> SessionReport
         ensures text { (text : List ℕ) → StandsForText self text → IsReport result text }
-        ensures so_far { (ms : List Message) (delivered : ℕ) → Tells self.counts ms delivered
-            → Reports result ms delivered }
-        ensures fault { (fault : SessionFault) → self.fault ≡ Some fault
-            → result.fault ≡ Some fault }
+        ensures so_far { AreToldAs self.counts (Reports result) }
+        ensures fault { ForSome self.fault (λ fault. result.fault ≡ Some fault) }
     {
         self.finish_in_full().report
     }
@@ -99,13 +97,11 @@ impl Session {
     /// and the templates that are in force at its end. This takes no memory.
     pub fn finish_in_full(self) -> FullReport
         ensures text { (text : List ℕ) → StandsForText self text → IsFullReport result text }
-        ensures so_far { (ms : List Message) (delivered : ℕ) → Tells self.counts ms delivered
-            → CountsInFull result ms delivered }
+        ensures so_far { AreToldAs self.counts (CountsInFull result) }
         // After a fault with which it could not have gone on.
-        ensures refused { (ms : List Message) (delivered : ℕ) → ends_open self.fault ≡ false
-            → Tells self.counts ms delivered → ReportsInFull result ms delivered }
-        ensures fault { (fault : SessionFault) → self.fault ≡ Some fault
-            → result.report.fault ≡ Some fault }
+        ensures refused { ends_open self.fault ≡ false
+            → AreToldAs self.counts (ReportsInFull result) }
+        ensures fault { ForSome self.fault (λ fault. result.report.fault ≡ Some fault) }
     {
         let Session {
             intake,
@@ -120,8 +116,8 @@ impl Session {
     pub(crate) fn finish_after(self, fault: SessionFault) -> FullReport
         ensures text { (text : List ℕ) → StandsForText self text → self.fault ≡ None
             → ReportsInFull result (gives text).messages (length (records_of text)) }
-        ensures so_far { (ms : List Message) (delivered : ℕ) → ends_open (Some fault) ≡ false
-            → Tells self.counts ms delivered → ReportsInFull result ms delivered }
+        ensures so_far { ends_open (Some fault) ≡ false
+            → AreToldAs self.counts (ReportsInFull result) }
         ensures fault { result.report.fault ≡ Some fault }
     {
         let Session {

@@ -5,4 +5,4 @@ use Rattle.ipfix_session.proofs.driver.drive_in_full.Goals as goal
 pub returns-in-Err : goal.returns-in-Err
 returns-in-Err g c =
     drives_nowhere g.S.Source.seen g.K.Sink.seen c.args.limit c.args.source.now c.args.sink.now c.new.result c.finish_after.result.report.fault _
-    c.new.ensures (λ ms delivered. c.finish_after.ensures.so_far ms delivered refl) c.finish_after.ensures.fault
+    c.new.ensures (c.finish_after.ensures.so_far refl) c.finish_after.ensures.fault

@@ -12,6 +12,6 @@ returns-clause-text c = λ text stands none.
     (λ goes_on. domains_of_open _ text inside is_open)
 
 pub returns-clause-so_far : goal.returns-clause-so_far
-returns-clause-so_far c = λ ms delivered refused tells.
+returns-clause-so_far c = λ refused ms delivered tells.
     let inside = subst (λ (s : State). Tells s.counts ms delivered) (sym c.self.view_is) tells in
     in_full_refused c.into_report.result ms delivered c.self.inside.intake.domains (Some c.args.fault) c.into_report.ensures.fault (c.into_report.ensures.counts ms delivered inside) c.into_report.ensures.domains refused

@@ -22,7 +22,7 @@ returns-clause-text c = λ text stands.
     }
 
 pub returns-clause-refused : goal.returns-clause-refused
-returns-clause-refused c = λ ms delivered refused tells.
+returns-clause-refused c = λ refused ms delivered tells.
     let inside = subst (λ (s : State). Tells s.counts ms delivered) (sym c.self.view_is) tells in
     let closed = subst (λ (s : State). ends_open s.fault ≡ false) (sym c.self.view_is) refused in
     let ends = c.fault_at_end.ensures ∙ ap (ended_by c.self.inside.fault) c.deref.ensures.value in
