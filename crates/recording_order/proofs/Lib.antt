@@ -1,4 +1,5 @@
 mod DataSets
+mod Apart
 mod Bags
 mod Ends
 mod InOrder

@@ -1,10 +1,11 @@
 //! Laws of the definitions. Each is a function that does nothing, and its contract is the theorem: a
 //! call brings that to the proof of its caller.
 
-ghost use Rattle.std.specs.Prelude.{◌≡◌, ◌+◌, ℕ, List, [], sum_by};
+ghost use Rattle.std.specs.Prelude.{◌≡◌, ◌≢◌, ◌+◌, ℕ, List, [], sum_by};
 ghost use Rattle.recording_order.specs.Arrivals.{Arrival};
+ghost use Rattle.recording_order.specs.Domains.{LeavesDomain};
 ghost use Rattle.recording_order.specs.InOrder.{AreNext};
-ghost use Rattle.recording_order.specs.Releases.{Event, Says, came, finish, released, run, start};
+ghost use Rattle.recording_order.specs.Releases.{Event, Came, Run, Says, came, finish, released, run, start, step};
 
 /// Every datagram that came was written, waits, or was doubled, and each once: whatever weights are given
 /// to datagrams, those of the three add up to those of all that came.
@@ -34,4 +35,11 @@ pub fn in_order_nothing_changes()
 /// With no seconds all are released as they came.
 pub fn with_no_seconds_nothing_changes()
     ensures { (says : Says) (es : List Event) → released says 0 es ≡ came es }
+{}
+
+/// A datagram of one domain changes nothing of another: neither what was written of it, nor what waits, nor
+/// its numbers. Only the room, and with it the last datagrams, are of the peer.
+pub fn domains_stay_apart()
+    ensures { (says : Says) (r : Run) (a : Arrival) (domain : ℕ) → domain ≢ a.header.domain
+        → LeavesDomain domain r (step says r (Came a)) }
 {}
