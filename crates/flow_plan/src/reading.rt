@@ -35,7 +35,8 @@ use toml::Table;
 pub fn read_plan(alloc: Global, text: &str) -> Result<Plan, PlanTextFault>
     ensures ok { IfOk result (λ plan. plan_of_text [] text.now ≡ Ok plan) }
     ensures fault { IfErr result (λ fault. Fails fault (plan_of_text [] text.now)) }
-    // No fault fits a plan that was read.
+    // Its numbers are in their ranges, its keys can be compared and its keys and counters are no times of flows, and
+    // no element stands twice.
     ensures sound { IfOk result IsPlan }
 {
     let elements = Elements::built_in(alloc);
@@ -59,7 +60,8 @@ pub fn read_plan_with(
 ) -> Result<Plan, PlanTextError>
     ensures ok { IfOk result (IsPlanOf elements.now octets.now) }
     ensures err { IfErr result (IsPlanError elements.now octets.now) }
-    // No fault fits a plan that was read.
+    // Its numbers are in their ranges, its keys can be compared and its keys and counters are no times of flows, and
+    // no element stands twice.
     ensures sound { IfOk result IsPlan }
 {
     match str::from_utf8(octets) {

@@ -39,7 +39,8 @@ pub fn load_plan<T: ReadText, E: WriteLines>(
     ensures text { ForSome result (λ loaded. (octets : List ℕ)
         × T.has files.now path.now octets × IsPlanOf elements octets loaded.plan) }
     ensures names { ForSome result (λ loaded. loaded.elements ≡ elements) }
-    // No fault fits a plan that was read.
+    // Its numbers are in their ranges, its keys can be compared and its keys and counters are no times of flows, and
+    // no element stands twice.
     ensures sound { ForSome result (λ loaded. IsPlan loaded.plan) }
     // Nothing is told if a plan was read.
     ensures silent { IfSome result (λ _. err.new ≡ err.old) }
