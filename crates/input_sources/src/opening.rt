@@ -1,6 +1,7 @@
 //! What opens sources.
 
-ghost use Rattle.std.specs.Prelude.{⊤, IfOk, None};
+ghost use Rattle.std.specs.Prelude.{◌≡◌, ◌++◌, ◌∷◌, [], ⊤, IfOk, None, OnOk};
+ghost use Rattle.input_sources.specs.declared.noted.Note.{Note as NoteValue};
 ghost use Rattle.input_sources.specs.Had.{IsUnread};
 
 use crate::noted::{Note, Noted};
@@ -83,13 +84,17 @@ impl<'r, R> SystemFiles<'r, R> {
     }
 
     /// The notes of the files that were opened, in their order.
-    pub fn notes(&self) -> &[Note] {
+    pub fn notes(&self) -> &[Note]
+        ensures { result.now ≡ self.now.notes.items }
+    {
         &self.notes
     }
 
     // The source of a file of which nothing was read; its note is kept.
     fn noted<F: Read + Drop>(&mut self, file: F) -> Result<FromReader<Noted<F>>, AllocError>
-        ensures { IfOk result (IsUnread ⟦<FromReader<Noted<F>> as Source>⟧.seen) }
+        ensures kept { OnOk result ((note : NoteValue)
+            × (self.new.notes.items ≡ self.old.notes.items ++ note ∷ [])) }
+        ensures unread { IfOk result (IsUnread ⟦<FromReader<Noted<F>> as Source>⟧.seen) }
     {
         let noted = Noted::new(self.alloc, file)?;
         self.notes.push(noted.note().clone()?)?;

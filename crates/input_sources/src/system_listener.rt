@@ -1,6 +1,7 @@
 //! The system's listener.
 
-ghost use Rattle.std.specs.Prelude.{◌≡◌, ⊤, IfOk, None, OnOk, Some};
+ghost use Rattle.std.specs.Prelude.{◌≡◌, ⊤, IfOk, IfSome, IsErr, None, OnOk, Some};
+ghost use Rattle.std.specs.Duration.{as_nanos};
 ghost use Rattle.input_sources.specs.Had.{IsUnread};
 ghost use Rattle.input_sources.specs.NotedPeers.{NotesPeer};
 
@@ -40,7 +41,9 @@ impl SystemListener {
     }
 
     /// The peers that it has accepted, in their order.
-    pub fn peers(&self) -> &[NotedPeer] {
+    pub fn peers(&self) -> &[NotedPeer]
+        ensures { result.now ≡ self.now.peers.items }
+    {
         &self.peers
     }
 
@@ -59,6 +62,35 @@ impl SystemListener {
         self.peers.push(NotedPeer { address, note })?;
         Ok(FromReader::new(noted))
     }
+
+    // The next connection, whose peer is the last that is kept.
+    fn accept_next(
+        &mut self,
+        idle: Option<Duration>,
+    ) -> Result<Accepted<FromReader<Noted<TcpStream>>>, Reason>
+        ensures same { self.new.listener ≡ self.old.listener }
+        ensures closed { self.old.listener ≡ None → IsErr result }
+        ensures no_time { IfSome idle (λ limit. as_nanos limit ≡ 0 → IsErr result) }
+        ensures kept { IfOk result (λ accepted.
+            NotesPeer accepted.peer self.old.peers.items self.new.peers.items) }
+        ensures unread { IfOk result
+            (λ accepted. IsUnread ⟦<FromReader<Noted<TcpStream>> as Source>⟧.seen accepted.source) }
+    {
+        let Some(listener) = &self.listener else {
+            return Err(Reason::Other);
+        };
+        let (stream, peer) = match listener.accept() {
+            Ok(connection) => connection,
+            Err(error) => return Err(Reason::of(&error)),
+        };
+        if let Err(error) = stream.set_read_timeout(idle) {
+            return Err(Reason::of(&error));
+        }
+        match self.noted(stream, peer) {
+            Ok(source) => Ok(Accepted { source, peer }),
+            Err(_) => Err(Reason::OutOfMemory),
+        }
+    }
 }
 
 impl Listener<FromReader<Noted<TcpStream>>> for SystemListener {
@@ -76,20 +108,7 @@ impl Listener<FromReader<Noted<TcpStream>>> for SystemListener {
         &mut self,
         idle: Option<Duration>,
     ) -> Result<Accepted<FromReader<Noted<TcpStream>>>, Reason> {
-        let Some(listener) = &self.listener else {
-            return Err(Reason::Other);
-        };
-        let (stream, peer) = match listener.accept() {
-            Ok(connection) => connection,
-            Err(error) => return Err(Reason::of(&error)),
-        };
-        if let Err(error) = stream.set_read_timeout(idle) {
-            return Err(Reason::of(&error));
-        }
-        match self.noted(stream, peer) {
-            Ok(source) => Ok(Accepted { source, peer }),
-            Err(_) => Err(Reason::OutOfMemory),
-        }
+        self.accept_next(idle)
     }
 
     fn close(&mut self) {
