@@ -9,7 +9,7 @@ use Rattle.ipfix_message.specs.declared.fault.MessageFault.TheVariants.{OutOfMem
 use Rattle.ipfix_session.specs.declared.fault.SessionFault.{SessionFault}
 use Rattle.ipfix_session.specs.declared.fault.SessionFault.TheVariants as faults
 use Rattle.ipfix_session.specs.Given.{known_after, octets_of}
-use Rattle.ipfix_session.specs.MessageSinks.{HasTaken, TakesOne, TookFirst, Reads}
+use Rattle.ipfix_session.specs.MessageSinks.{known_behind, HasTaken, TakesOne, TookFirst, Reads}
 use Rattle.ipfix_session.proofs.Chains.{known-append}
 use Rattle.ipfix_session.proofs.MessagesTaken.{octets-append, octets-push, took_first}
 use Rattle.recording_files.specs.declared.gathering.Gathering.{Gathering}
@@ -23,10 +23,7 @@ use Rattle.recording_files.proofs.Counts.{counts-push, no_counts}
 -- ---- a message is gathered
 
 -- what is known after messages of earlier files and of this one
-abbrev known : BeforeRead → List Message → History
-known b given = known_after (known_after [] (b.before ++ b.here)) given
-
-known_is : (b : BeforeRead) (given : List Message) → known_after [] (b.before ++ (b.here ++ given)) ≡ known b given
+known_is : (b : BeforeRead) (given : List Message) → known_after [] (b.before ++ (b.here ++ given)) ≡ known_behind gathering_view b given
 known_is b given = ap (known_after []) (sym (append_assoc b.before b.here given)) ∙ known-append [] (b.before ++ b.here) given
 
 -- nothing of a read yet
@@ -48,7 +45,7 @@ waits_still b g h messages given w out waiting told = record {
 }
 
 -- it can't be read
-pub takes_none : (b : BeforeRead) (given : List Message) (octets : List ℕ) (e : MessageFault) → Fails e (message_gives (known_after [] (b.before ++ (b.here ++ given))) octets) → Fails e (message_gives (known b given) octets)
+pub takes_none : (b : BeforeRead) (given : List Message) (octets : List ℕ) (e : MessageFault) → Fails e (message_gives (known_after [] (b.before ++ (b.here ++ given))) octets) → Fails e (message_gives (known_behind gathering_view b given) octets)
 takes_none b given octets e fails = subst (λ (ds : History). Fails e (message_gives ds octets)) (known_is b given) fails
 
 -- it was read, and what a file has of it waits

@@ -72,40 +72,38 @@ pub stands_first : (o : Option Contents) → IsEmpty o → Stands o o [] empty_p
 stands_first None none = tt
 stands_first (Some c) none = (sym (append-nil c.finished), sym (append-nil c.reports), none)
 
+-- what stands there after a change of it
+stands_changed : (change : Contents → Contents) (first v after : Option Contents) (finished fs : List Part) (last next : Part) (octets : List ℕ)
+    → ((f c : Contents) → Stands (Some f) (Some c) finished last [] → Stands (Some f) (Some (change c)) fs next octets) → after ≡ option_map change v → Stands first v finished last [] → Stands first after fs next octets
+stands_changed change first v after finished fs last next octets goes is stands = subst (λ (o : Option Contents). Stands first o fs next octets) (sym is) (by_cases first v stands)
+  where
+    by_cases : (f o : Option Contents) → Stands f o finished last [] → Stands f (option_map change o) fs next octets
+    by_cases None None h = tt
+    by_cases None (Some c) h = absurd h
+    by_cases (Some f) None h = absurd h
+    by_cases (Some f) (Some c) h = goes f c h
+
 pub stands_more : (first v after : Option Contents) (finished : List Part) (last next : Part) (octets : List ℕ) → after ≡ option_map (grown octets) v → file_octets next ≡ file_octets last ++ octets → Stands first v finished last []
     → Stands first after finished next []
-stands_more first v after finished last next octets is longer stands = subst (λ (o : Option Contents). Stands first o finished next []) (sym is) (by_cases first v stands)
-  where
-    by_cases : (f o : Option Contents) → Stands f o finished last [] → Stands f (option_map (grown octets) o) finished next []
-    by_cases None None h = tt
-    by_cases None (Some c) h = absurd h
-    by_cases (Some f) None h = absurd h
-    by_cases (Some f) (Some c) h = (h.0, h.1, ap (λ (w : List ℕ). w ++ octets) (h.2 ∙ append-nil (file_octets last)) ∙ sym longer ∙ sym (append-nil (file_octets next)))
+stands_more first v after finished last next octets is longer stands =
+    stands_changed (grown octets) first v after finished finished last next []
+    (λ f c h. (h.0, h.1, ap (λ (w : List ℕ). w ++ octets) (h.2 ∙ append-nil (file_octets last)) ∙ sym longer ∙ sym (append-nil (file_octets next)))) is stands
 
 pub stands_cut : (first v after : Option Contents) (finished : List Part) (last : Part) (octets : List ℕ) → after ≡ option_map (grown octets) v → Stands first v finished last [] → Stands first after finished last octets
-stands_cut first v after finished last octets is stands = subst (λ (o : Option Contents). Stands first o finished last octets) (sym is) (by_cases first v stands)
-  where
-    by_cases : (f o : Option Contents) → Stands f o finished last [] → Stands f (option_map (grown octets) o) finished last octets
-    by_cases None None h = tt
-    by_cases None (Some c) h = absurd h
-    by_cases (Some f) None h = absurd h
-    by_cases (Some f) (Some c) h = (h.0, h.1, ap (λ (w : List ℕ). w ++ octets) (h.2 ∙ append-nil (file_octets last)))
+stands_cut first v after finished last octets is stands =
+    stands_changed (grown octets) first v after finished finished last last octets (λ f c h. (h.0, h.1, ap (λ (w : List ℕ). w ++ octets) (h.2 ∙ append-nil (file_octets last)))) is stands
 
 pub stands_turned : (first v after : Option Contents) (finished : List Part) (last : Part) (report : FileReport) → after ≡ option_map (turned report) v → report ≡ file_report (all_given finished) last.given → Stands first v finished last []
     → Stands first after (parts finished last) empty_part []
-stands_turned first v after finished last report is reported stands = subst (λ (o : Option Contents). Stands first o (parts finished last) empty_part []) (sym is) (by_cases first v stands)
-  where
-    by_cases : (f o : Option Contents) → Stands f o finished last [] → Stands f (option_map (turned report) o) (parts finished last) empty_part []
-    by_cases None None h = tt
-    by_cases None (Some c) h = absurd h
-    by_cases (Some f) None h = absurd h
-    by_cases (Some f) (Some c) h = (
+stands_turned first v after finished last report is reported stands =
+    stands_changed (turned report) first v after finished (parts finished last) last empty_part []
+    (λ f c h. (
       ap (λ (fs : List (List ℕ)). fs ++ c.unfinished ∷ []) h.0 ∙ ap (λ (w : List ℕ). (f.finished ++ map file_octets finished) ++ w ∷ []) (h.2 ∙ append-nil (file_octets last))
           ∙ append_assoc f.finished (map file_octets finished) (file_octets last ∷ []) ∙ ap (λ (fs : List (List ℕ)). f.finished ++ fs) (sym (map-append file_octets finished (last ∷ []))),
       ap₂ (λ (rs : List FileReport) (r : FileReport). rs ++ r ∷ []) h.1 reported ∙ append_assoc f.reports (file_reports [] finished) (file_report (all_given finished) last.given ∷ [])
           ∙ ap (λ (rs : List FileReport). f.reports ++ rs) (sym (reports-push [] finished last)),
       refl,
-    )
+    )) is stands
 
 -- ---- between two reads
 

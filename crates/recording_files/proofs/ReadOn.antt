@@ -1,6 +1,6 @@
 -- Recording a session, read by read.
 use Rattle.std.proofs.Common.{◌≡◌, ℕ, ◌+◌, ◌<◌, ◌≤◌, eqb, List, [], ◌∷◌, ◌++◌, length, Result, Ok, Err, refl, sym, ap, subst, ◌∙◌, arith, inl, inr}
-use Rattle.std.specs.Prelude.{◌⊎◌, ◌-◌, ◌^◌, ◌||◌, Bool, true, take, MatchResult}
+use Rattle.std.specs.Prelude.{◌⊎◌, ◌-◌, ◌^◌, ◌||◌, Bool, true, take, OnOk, IfErr}
 use Rattle.std.specs.Io.KnownBytes.{Consumes}
 use Rattle.std.proofs.KnownBytes.{Consumes-nil, Consumes-trans, Consumes-kept}
 use Rattle.std.proofs.Math.Bool.{or-false}
@@ -185,20 +185,20 @@ module _ {S F C : Type 0} (seen : S → SourceView) (view : F → FilesView) (as
 
     -- the end of the source
     pub records_ended : (count : ℕ) (buffer : List ℕ) (answer : Result (Unit {0}) RecordFault) → n < limit → IsRead (seen now) (Ok count) (seen after) buffer → count ≡ 0 → 0 < length buffer
-        → MatchResult answer (λ _. left ≡ []) (λ fault. (fault ≡ Truncated) × (0 < length left)) → RecordsTo seen view asked limit before after first last start clock answer (Counted g.counts.told)
-    records_ended count buffer answer less read none room is =
+        → OnOk answer (left ≡ []) → IfErr answer (λ fault. (fault ≡ Truncated) × (0 < length left)) → RecordsTo seen view asked limit before after first last start clock answer (Counted g.counts.told)
+    records_ended count buffer answer less read none room whole cut =
         let gave = octets_read d.reads in
         let same : List ℕ → Type 0 = λ x. Consumes (seen before).text (seen after).text x in
         let moved = subst (λ k. Consumes (seen now).text (seen after).text (take k buffer)) none read.moved in
         let octets = subst same (append-nil gave) (Consumes-trans (seen before).text (seen now).text (seen after).text gave [] d.octets moved) in
         let stop = stop_is d.recorded ∙ sym (next_stop left d.recorded.is_rest.stop d.recorded.is_rest.none) in
-        by_answer answer octets stop (told_end (seen now).ended (seen after).ended count buffer read.end none room) (read.failures ∙ d.none_failed) is
+        by_answer answer octets stop (told_end (seen now).ended (seen after).ended count buffer read.end none room) (read.failures ∙ d.none_failed) whole cut
       where
         by_answer : (r : Result (Unit {0}) RecordFault) → Consumes (seen before).text (seen after).text (octets_read d.reads) → stop_of (octets_read d.reads) ≡ rest_stop left → (seen after).ended ≡ true
-            → (seen after).failed ≡ (seen before).failed → MatchResult r (λ _. left ≡ []) (λ fault. (fault ≡ Truncated) × (0 < length left)) → RecordsTo seen view asked limit before after first last start clock r (Counted g.counts.told)
-        by_answer (Ok x) octets stop ended failed none_left =
+            → (seen after).failed ≡ (seen before).failed → OnOk r (left ≡ []) → IfErr r (λ fault. (fault ≡ Truncated) × (0 < length left)) → RecordsTo seen view asked limit before after first last start clock r (Counted g.counts.told)
+        by_answer (Ok x) octets stop ended failed none_left cut =
             records_still (Ok x) octets (omega (arith, d.within, read.counted, less)) (omega (arith, read.counted)) (stop ∙ ap rest_stop none_left, ended, failed) (all_held d.recorded)
-        by_answer (Err f) octets stop ended failed both =
+        by_answer (Err f) octets stop ended failed whole both =
             let rest = d.recorded.is_rest in
             let short = short_is left rest.stop both.1 (next_stop left rest.stop rest.none) rest.is_open in
             subst (λ (e : RecordFault). RecordsTo seen view asked limit before after first last start clock (Err e) (Counted g.counts.told)) (sym both.0)

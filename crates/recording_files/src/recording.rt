@@ -1,6 +1,6 @@
 //! Recording a session: a source is read piece by piece, and its messages go to files.
 
-ghost use Rattle.std.specs.Prelude.{◌≡◌, ◌<◌, ◌≤◌, [], ℕ, length, MatchResult};
+ghost use Rattle.std.specs.Prelude.{◌≡◌, ◌<◌, ◌≤◌, [], ℕ, length, OnOk, IfErr};
 ghost use Rattle.ipfix_session.specs.declared.driver.TheConstants.{READ_SIZE};
 ghost use Rattle.recording_files.specs.Recorders.{Counted};
 ghost use Rattle.recording_files.specs.Gathering.{IsFresh};
@@ -19,9 +19,8 @@ use std::alloc::Global;
 
 // The answer at the end of the source.
 fn answer_at_end(buffer: &[u8]) -> Result<(), RecordFault>
-    ensures { MatchResult result
-        (λ _. buffer.now ≡ [])
-        (λ fault. (fault ≡ RecordFault.Truncated) × (0 < length buffer.now)) }
+    ensures whole { OnOk result (buffer.now ≡ []) }
+    ensures cut { IfErr result (λ fault. (fault ≡ RecordFault.Truncated) × (0 < length buffer.now)) }
 {
     if buffer.is_empty() {
         Ok(())

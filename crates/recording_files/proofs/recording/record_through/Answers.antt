@@ -12,7 +12,7 @@ loop-init g c = λ keeps fresh.
 pub returns-in-Ok-eq0 : goal.returns-in-Ok-eq0
 returns-in-Ok-eq0 g c = λ room keeps fresh.
     records_ended g.S.Source.seen g.F.FileSeries.seen g.C.PeriodClock.asked c.args.limit c.args.files.now c.loop.files (c.loop.invariant keeps fresh) c.read.new.self c.in-Ok-eq0.field-0 c.read.new.buffer c.answer_at_end.result
-    c.loop-test.true c.in-Ok-eq0.ensures c.in-Ok-eq0.field-0-test (omega (arith, c.read.auto.buffer, c.loop.auto.buffer, c.requires)) (rw c.deref.ensures.value at c.answer_at_end.ensures)
+    c.loop-test.true c.in-Ok-eq0.ensures c.in-Ok-eq0.field-0-test (omega (arith, c.read.auto.buffer, c.loop.auto.buffer, c.requires)) (rw c.deref.ensures.value at c.answer_at_end.ensures.whole) (rw c.deref.ensures.value at c.answer_at_end.ensures.cut)
 
 pub returns-in-Err : goal.returns-in-Err
 returns-in-Err g c = λ room keeps fresh.
