@@ -1,5 +1,10 @@
 //! What the parser is told of arguments.
 
+ghost use Rattle.std.specs.Prelude.{◌≡◌, [], false, None, IfOk};
+ghost use Rattle.clap.specs.Words.{rule_of};
+ghost use Rattle.cli_words.specs.Steps.{SameButDue, SameButValues};
+ghost use Rattle.cli_words.specs.Told.{IsTold, action_of, defaults_of, is_always, long_word};
+
 use clap::builder::ValueParser;
 use clap::{Arg, ArgAction};
 use std::alloc::{AllocError, Global};
@@ -51,24 +56,33 @@ pub enum Due {
 
 impl Argument {
     /// What the parser is told of it.
-    pub fn told<'a>(self, alloc: Global) -> Result<Arg<'a>, AllocError> {
+    pub fn told<'a>(self, alloc: Global) -> Result<Arg<'a>, AllocError>
+        ensures { IfOk result (λ arg. IsTold self (rule_of arg)) }
+    {
         let arg = Arg::new(alloc, self.word).help(self.help);
-        let arg = match self.takes {
-            Takes::Bare(value) => arg.value_name(value),
-            Takes::Bares(value) => arg.value_name(value).num_args(1..),
-            takes => behind_word(arg.long(self.word), takes),
-        };
-        match self.due {
-            Due::Never => Ok(arg),
-            Due::Always => Ok(arg.required(true)),
-            Due::Without(other) => arg.required_unless_present(other),
-            Due::Default(text) => Ok(arg.default_value(text)),
-        }
+        with_due(with_values(arg, self.word, self.takes), self.due)
+    }
+}
+
+// The same, with what an argument takes. It has a word unless it stands bare.
+fn with_values<'a>(arg: Arg<'a>, word: &'static str, takes: Takes) -> Arg<'a>
+    ensures kept { SameButValues (rule_of arg.entry) (rule_of result) }
+    ensures long { (rule_of arg.entry).long ≡ None → (rule_of result).long ≡ long_word takes word.now }
+    ensures action { (rule_of arg.entry).action ≡ None → (rule_of result).action ≡ action_of takes }
+{
+    match takes {
+        Takes::Bare(value) => arg.value_name(value),
+        Takes::Bares(value) => arg.value_name(value).num_args(1..),
+        takes => after_word(arg.long(word), takes),
     }
 }
 
 // What an argument takes after its word.
-fn behind_word<'a>(arg: Arg<'a>, takes: Takes) -> Arg<'a> {
+fn after_word<'a>(arg: Arg<'a>, takes: Takes) -> Arg<'a>
+    ensures kept { SameButValues (rule_of arg.entry) (rule_of result) }
+    ensures long { (rule_of result).long ≡ (rule_of arg.entry).long }
+    ensures action { (rule_of arg.entry).action ≡ None → (rule_of result).action ≡ action_of takes }
+{
     match takes {
         Takes::Nothing(None) => arg.action(ArgAction::SetTrue),
         Takes::Nothing(Some(letter)) => arg.action(ArgAction::SetTrue).short(letter),
@@ -79,5 +93,21 @@ fn behind_word<'a>(arg: Arg<'a>, takes: Takes) -> Arg<'a> {
         Takes::Number(value, least, most) => arg
             .value_name(value)
             .value_parser(ValueParser::Signed(least, most)),
+    }
+}
+
+// The same, with whether it has to be given.
+fn with_due<'a>(arg: Arg<'a>, due: Due) -> Result<Arg<'a>, AllocError>
+    ensures kept { IfOk result (λ told. SameButDue (rule_of arg.entry) (rule_of told)) }
+    ensures required { (rule_of arg.entry).required ≡ false
+        → IfOk result (λ told. (rule_of told).required ≡ is_always due) }
+    ensures defaults { (rule_of arg.entry).defaults ≡ []
+        → IfOk result (λ told. (rule_of told).defaults ≡ defaults_of due) }
+{
+    match due {
+        Due::Never => Ok(arg),
+        Due::Always => Ok(arg.required(true)),
+        Due::Without(other) => arg.required_unless_present(other),
+        Due::Default(text) => Ok(arg.default_value(text)),
     }
 }

@@ -1,5 +1,8 @@
 //! Recording as the words say it.
 
+ghost use Rattle.std.specs.Prelude.{◌≡◌, ◌/◌, IfOk, MatchOption};
+ghost use Rattle.std.specs.Duration.{as_nanos};
+
 use crate::folder_line::tell_folder;
 use crate::system::{Sockets, run_recorder};
 use cli_inputs::{RecordArguments, WITH_REASONS, listen_on};
@@ -78,7 +81,11 @@ fn open_socket(
 }
 
 // How many peers that send datagrams are kept, and how long each may be silent.
-fn limits_of(arguments: &RecordArguments) -> PeerLimits {
+fn limits_of(arguments: &RecordArguments) -> PeerLimits
+    ensures most { result.most ≡ arguments.now.peers }
+    ensures idle { MatchOption arguments.now.idle (result.idle ≡ IDLE)
+        (λ limit. result.idle ≡ as_nanos limit / 1000000000) }
+{
     PeerLimits {
         most: arguments.peers,
         idle: match arguments.idle {
@@ -93,7 +100,11 @@ fn order_of(
     rt: &HostRuntime,
     arguments: &RecordArguments,
     err: &mut Stderr,
-) -> Result<RecordOrder, Status> {
+) -> Result<RecordOrder, Status>
+    ensures every { IfOk result (λ order. order.every ≡ arguments.now.every) }
+    ensures sessions { IfOk result (λ order. order.sessions ≡ arguments.now.sessions) }
+    ensures idle { IfOk result (λ order. order.idle ≡ arguments.now.idle) }
+{
     Ok(RecordOrder {
         every: arguments.every,
         sessions: arguments.sessions,
