@@ -1,6 +1,7 @@
 mod DataSets
 mod Apart
 mod Bags
+mod Bounds
 mod Ends
 mod InOrder
 mod Keeping

@@ -8,3 +8,4 @@ pub mod Releases
 pub mod Counts
 pub mod InOrder
 pub mod Domains
+pub mod Bounds

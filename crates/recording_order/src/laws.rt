@@ -3,9 +3,12 @@
 
 ghost use Rattle.std.specs.Prelude.{◌≡◌, ◌≢◌, ◌+◌, ℕ, List, [], sum_by};
 ghost use Rattle.recording_order.specs.Arrivals.{Arrival};
+ghost use Rattle.recording_order.specs.Bounds.{IsBounded};
 ghost use Rattle.recording_order.specs.Domains.{LeavesDomain};
 ghost use Rattle.recording_order.specs.InOrder.{AreNext};
 ghost use Rattle.recording_order.specs.Releases.{Event, Came, Run, Says, came, finish, released, run, start, step};
+ghost use Rattle.recording_order.specs.declared.limits.TheConstants.{MOST_LAST, MOST_WAITING, ROOM};
+ghost use Rattle.recording_order.specs.declared.numbering.TheConstants.{FARTHEST};
 
 /// Every datagram that came was written, waits, or was doubled, and each once: whatever weights are given
 /// to datagrams, those of the three add up to those of all that came.
@@ -42,4 +45,19 @@ pub fn with_no_seconds_nothing_changes()
 pub fn domains_stay_apart()
     ensures { (says : Says) (r : Run) (a : Arrival) (domain : ℕ) → domain ≢ a.header.domain
         → LeavesDomain domain r (step says r (Came a)) }
+{}
+
+/// Those that wait and the last ones take at most 65,536 octets together, and of a domain at most 32 wait.
+pub fn much_is_never_kept()
+    ensures { (says : Says) (seconds : ℕ) (es : List Event)
+        → IsBounded (run says seconds es).window }
+{}
+
+/// The limits: 32 datagrams of a domain wait, 32 of it are the last ones, and all take 65,536 octets; a number
+/// over 65,536 away begins anew.
+pub fn limits()
+    ensures waiting { MOST_WAITING ≡ 32 }
+    ensures last { MOST_LAST ≡ 32 }
+    ensures room { ROOM ≡ 65536 }
+    ensures farthest { FARTHEST ≡ 65536 }
 {}

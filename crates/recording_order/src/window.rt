@@ -11,8 +11,10 @@ use indexmap::IndexMap;
 use std::alloc::Global;
 use std::marker::Model;
 
-/// The datagrams of a peer that wait, and the last ones that were written. They take at most [`crate::ROOM`]
-/// octets.
+/// The datagrams of a peer that wait, and the last ones that were written at the number that was due. All
+/// of them take at most [`crate::ROOM`] octets; none has fewer than 16, so they are at most 4,096. With each
+/// go some 100 octets of memory, and so it does with each domain of which a datagram was written. So a peer
+/// takes less than 1 MB beside its domains.
 #[derive(Drop)]
 pub struct Window {
     pub(crate) seconds: u64,

@@ -37,8 +37,8 @@ impl Window {
     }
 
     /// Notes that a datagram, which came at this second, was written, and what the recorder says of it. One
-    /// that the recorder refuses isn't noted. An `Err` leaves what waits as it was, and of no use what is
-    /// known of the domain's numbers.
+    /// that the recorder refuses isn't noted. After an `Err` what waits is as it was, but the number may be
+    /// noted, and not the datagram.
     pub fn note(
         &mut self,
         alloc: Global,
