@@ -5,10 +5,8 @@ ghost use Rattle.recording_order.specs.Windows as specs;
 
 use crate::datagram::Datagram;
 use crate::least::Least;
+use crate::numbering::MIDDLE;
 use crate::window::Window;
-
-// The number that is due stands here.
-const MIDDLE: u32 = 1 << 31;
 
 impl Window {
     // Whether a number is due in a domain.

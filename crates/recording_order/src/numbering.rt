@@ -5,8 +5,8 @@ ghost use Rattle.recording_order.specs.Numbers as specs;
 
 use crate::datagram_counts::DatagramCounts;
 
-// The number that is due stands here.
-const MIDDLE: u32 = 1 << 31;
+/// The number that is due stands here.
+pub(crate) const MIDDLE: u32 = 1 << 31;
 
 /// A number that is further away from the one that is due, either way, begins anew.
 pub const FARTHEST: u32 = 65_536;

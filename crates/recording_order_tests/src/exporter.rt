@@ -60,12 +60,17 @@ pub const fn large(sequence: u32) -> Sent {
 }
 
 impl Sent {
-    /// What its header says.
-    pub fn header(&self) -> Header
-        requires { self.now.body ≤ 40000 }
+    // The octets of its set, without the set header.
+    fn body(&self) -> u16
+        ensures { result ≤ 40000 }
     {
+        self.body.min(40_000)
+    }
+
+    /// What its header says.
+    pub fn header(&self) -> Header {
         Header {
-            length: 20 + self.body,
+            length: 20 + self.body(),
             export_time: 1_700_000_000,
             sequence: self.sequence,
             domain: self.domain,
@@ -73,13 +78,11 @@ impl Sent {
     }
 
     /// Its octets.
-    pub fn octets(&self, alloc: Global) -> Result<Vec<u8>, AllocError>
-        requires { self.now.body ≤ 40000 }
-    {
+    pub fn octets(&self, alloc: Global) -> Result<Vec<u8>, AllocError> {
         let mut octets = Vec::new(alloc);
         write_header(&self.header(), &mut octets)?;
-        write_set(self.set_id, self.body, &mut octets)?;
-        for _ in 0..self.body {
+        write_set(self.set_id, self.body(), &mut octets)?;
+        for _ in 0..self.body() {
             octets.push(0)?;
         }
         Ok(octets)

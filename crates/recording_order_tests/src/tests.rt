@@ -1,8 +1,6 @@
 //! What is written, and in which order (RFC 7011, section 3.1: a sequence number is the count of all data
 //! records before its message, modulo 2^32). The orders that are expected were made by hand.
 
-ghost use Rattle.std.specs.Prelude.{◌≤◌, All};
-
 use crate::exporter::{Sent, large, of_domain, templates, ten, unknown};
 use crate::recorder::Peer;
 use recording_order::OrderCounts;
@@ -19,9 +17,7 @@ fn assert_written(rt: &impl Abort, peer: &Peer, expected: &[u32]) {
 }
 
 // A peer whose datagrams wait for three seconds, and that took these at second 100.
-fn after(alloc: Global, all: &[Sent]) -> Result<Peer, Fail>
-    requires { All (λ sent. sent.body ≤ 40000) all.now }
-{
+fn after(alloc: Global, all: &[Sent]) -> Result<Peer, Fail> {
     let mut peer = Peer::new(alloc, 3);
     peer.take_all(alloc, all, 100)?;
     Ok(peer)
