@@ -22,7 +22,7 @@ use Rattle.recording_order.specs.declared.numbering.Standing.TheVariants.{AtOnce
 use Rattle.recording_order.specs.declared.offer.Offer.{Offer}
 use Rattle.recording_order.specs.declared.offer.Offer.TheVariants.{Write, Waits, Doubled, First, Anew}
 use Rattle.recording_order.specs.Windows.{WindowView, Offered, numbering, renumbered, due_number, counted, with_doubled, with_reordered, one_doubled, one_reordered, passing, least, without, leaving, ripe, is_ripe, if_ripe, next_of, least_in, with_last, held, has_room, is_doubled, now, first_or, offered_full, offered_as, offered, noted, after_writing}
-use Rattle.recording_order.specs.Releases.{Event, Came, Run, Says, write, go_on, empty_with, empty, begin_anew, take_offered, take_with, take_run, settle_with, settle, step}
+use Rattle.recording_order.specs.Releases.{Event, Came, Run, Says, answered, hand_on, go_on, empty_with, empty, begin_anew, take_offered, take_with, take_run, settle_with, settle, step}
 
 -- ---- one of another domain
 
@@ -82,6 +82,10 @@ writing-keeps e d w a c apart here =
     let renumbers : KeepsDomain e w after = record { numbers = lookup-other e a.header.domain (numbers_after n a.header.sequence c) w.numbers own; waiting = refl } in
     let notes : KeepsDomain e w (noted w a n c) = keeps-either e w (is_at_due n a.header.sequence && has_data a.octets) (with_last after a) after (record { numbers = renumbers.numbers; waiting = refl }) renumbers in
     keeps-either e w (eqb w.seconds 0) w (noted w a n c) (keeps-all e w) notes
+
+answered-keeps : (e d : ℕ) (w : WindowView) (a : Arrival) (o : Option DatagramCounts) → e ≢ d → is_in d a ≡ true → KeepsDomain e w (answered w a o)
+answered-keeps e d w a None apart here = keeps-all e w
+answered-keeps e d w a (Some c) apart here = writing-keeps e d w a c apart here
 
 -- ---- the least of a domain is in it
 
@@ -190,21 +194,21 @@ offered-offers e w a apart =
 -- ---- a run
 
 leaves-none : (e : ℕ) (r : Run) → LeavesDomain e r r
-leaves-none e r = record { window = keeps-all e r.window; written = refl }
+leaves-none e r = record { window = keeps-all e r.window; handed_on = refl }
 
 leaves-both : (e : ℕ) (r s t : Run) → LeavesDomain e r s → LeavesDomain e s t → LeavesDomain e r t
-leaves-both e r s t p q = record { window = keeps-both e r.window s.window t.window p.window q.window; written = q.written ∙ p.written }
+leaves-both e r s t p q = record { window = keeps-both e r.window s.window t.window p.window q.window; handed_on = q.handed_on ∙ p.handed_on }
 
-write-leaves : (e d : ℕ) (says : Says) (a : Arrival) (w : WindowView) (r : Run) → e ≢ d → is_in d a ≡ true → KeepsDomain e r.window w → LeavesDomain e r (write says a w r)
-write-leaves e d says a w r apart here keeps =
-    let c = says (length r.written) in
-    record { window = keeps-both e r.window w (after_writing w a c) keeps (writing-keeps e d w a c apart here); written = filter-push (is_in e) r.written a (other e d a apart here) }
+hand_on-leaves : (e d : ℕ) (says : Says) (a : Arrival) (w : WindowView) (r : Run) → e ≢ d → is_in d a ≡ true → KeepsDomain e r.window w → LeavesDomain e r (hand_on says a w r)
+hand_on-leaves e d says a w r apart here keeps =
+    let c = says (length r.handed_on) in
+    record { window = keeps-both e r.window w (answered w a c) keeps (answered-keeps e d w a c apart here); handed_on = filter-push (is_in e) r.handed_on a (other e d a apart here) }
 
 go_on-leaves : (e d : ℕ) (says : Says) (again : Run → Run) (r : Run) (o : Option (Arrival × WindowView)) → e ≢ d → Goes e d r.window o → ((s : Run) → LeavesDomain e s (again s)) → LeavesDomain e r (go_on again says r o)
 go_on-leaves e d says again r None apart goes more = leaves-none e r
 go_on-leaves e d says again r (Some x) apart goes more =
-    let s = write says x.0 x.1 r in
-    leaves-both e r s (again s) (write-leaves e d says x.0 x.1 r apart goes.0 goes.1) (more s)
+    let s = hand_on says x.0 x.1 r in
+    leaves-both e r s (again s) (hand_on-leaves e d says x.0 x.1 r apart goes.0 goes.1) (more s)
 
 empty_with-leaves : (e d : ℕ) (says : Says) (fuel : ℕ) (r : Run) → e ≢ d → LeavesDomain e r (empty_with says d fuel r)
 empty_with-leaves e d says zero r apart = leaves-none e r
@@ -223,22 +227,22 @@ anew-leaves : (e : ℕ) (says : Says) (a : Arrival) (r : Run) → e ≢ a.header
 anew-leaves e says a r apart =
     let d = a.header.domain in
     let s = empty says d r in
-    leaves-both e r s (write says a s.window s) (empty_with-leaves e d says (length r.window.waiting) r apart) (write-leaves e d says a s.window s apart (itself a) (keeps-all e s.window))
+    leaves-both e r s (hand_on says a s.window s) (empty_with-leaves e d says (length r.window.waiting) r apart) (hand_on-leaves e d says a s.window s apart (itself a) (keeps-all e s.window))
 
 take_offered-leaves : (e : ℕ) (says : Says) (a : Arrival) (again : Run → Run) (r : Run) (o : Offer) (w : WindowView) → e ≢ a.header.domain → Offers e a.header.domain r.window (o, w)
     → ((s : Run) → LeavesDomain e s (again s)) → LeavesDomain e r (take_offered says a again r (o, w))
-take_offered-leaves e says a again r Write w apart offers more = write-leaves e a.header.domain says a w r apart (itself a) offers
-take_offered-leaves e says a again r Waits w apart offers more = record { window = offers; written = refl }
-take_offered-leaves e says a again r Doubled w apart offers more = record { window = offers; written = refl }
+take_offered-leaves e says a again r Write w apart offers more = hand_on-leaves e a.header.domain says a w r apart (itself a) offers
+take_offered-leaves e says a again r Waits w apart offers more = record { window = offers; handed_on = refl }
+take_offered-leaves e says a again r Doubled w apart offers more = record { window = offers; handed_on = refl }
 take_offered-leaves e says a again r (First b) w apart offers more =
-    let s = write says b w r in
-    leaves-both e r s (again s) (write-leaves e a.header.domain says b w r apart offers.0 offers.1) (more s)
+    let s = hand_on says b w r in
+    leaves-both e r s (again s) (hand_on-leaves e a.header.domain says b w r apart offers.0 offers.1) (more s)
 take_offered-leaves e says a again r Anew w apart offers more =
     let s : Run = record r { window = w } in
-    leaves-both e r s (begin_anew says a s) (record { window = offers; written = refl }) (anew-leaves e says a s apart)
+    leaves-both e r s (begin_anew says a s) (record { window = offers; handed_on = refl }) (anew-leaves e says a s apart)
 
 take_with-leaves : (e : ℕ) (says : Says) (a : Arrival) (fuel : ℕ) (r : Run) → e ≢ a.header.domain → LeavesDomain e r (take_with says a fuel r)
-take_with-leaves e says a zero r apart = write-leaves e a.header.domain says a r.window r apart (itself a) (keeps-all e r.window)
+take_with-leaves e says a zero r apart = hand_on-leaves e a.header.domain says a r.window r apart (itself a) (keeps-all e r.window)
 take_with-leaves e says a (suc fuel) r apart =
     let o = offered r.window a in
     take_offered-leaves e says a (take_with says a fuel) r o.0 o.1 apart (offered-offers e r.window a apart) (λ s. take_with-leaves e says a fuel s apart)

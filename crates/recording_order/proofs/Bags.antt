@@ -1,4 +1,4 @@
--- Every datagram that came was written, waits or was doubled, once.
+-- Every datagram that came was handed on, waits or was doubled, once.
 use Rattle.std.proofs.Common.{◌≡◌, ℕ, zero, suc, ◌+◌, ◌<◌, Bool, true, false, eqb, leb, ltb, cond, Option, Some, None, List, [], ◌∷◌, ◌++◌, length, take, get_or, ◌≤◌, refl, sym, ap, ◌∙◌, arith, inl, inr}
 use Rattle.std.specs.Prelude.{◌⊎◌, ◌&&◌, sum_by, slice_get, remove, option_map}
 use Rattle.std.specs.List.{list_any}
@@ -15,7 +15,7 @@ use Rattle.recording_order.specs.declared.numbering.Standing.TheVariants.{AtOnce
 use Rattle.recording_order.specs.declared.offer.Offer.{Offer}
 use Rattle.recording_order.specs.declared.offer.Offer.TheVariants.{Write, Waits, Doubled, First, Anew}
 use Rattle.recording_order.specs.Windows.{WindowView, Offered, counted, renumbered, passing, with_reordered, with_doubled, one_reordered, one_doubled, numbering, due_number, after_writing, noted, with_last, least, leaving, ripe, next_of, late_domain, least_in, last_of, now, first_or, held, has_room, is_doubled, offered_full, offered_as, offered}
-use Rattle.recording_order.specs.Releases.{Event, Came, Tick, came_in, came, Run, Says, write, take_offered, take_with, take_run, go_on, empty_with, empty, begin_anew, settle_with, settle, settle_late, tick_with, tick, finish_with, finish, step, run_from, start, run}
+use Rattle.recording_order.specs.Releases.{Event, Came, Tick, came_in, came, Run, Says, answered, hand_on, take_offered, take_with, take_run, go_on, empty_with, empty, begin_anew, settle_with, settle, settle_late, tick_with, tick, finish_with, finish, step, run_from, start, run}
 
 -- ---- what waits
 
@@ -33,7 +33,7 @@ passing-waiting w d xs = by_test (list_any (is_in d) xs)
     by_test true = counted-waiting w d (option_map one_reordered (numbering w d))
     by_test false = refl
 
-pub writing-waiting : (w : WindowView) (a : Arrival) (c : DatagramCounts) → (after_writing w a c).waiting ≡ w.waiting
+writing-waiting : (w : WindowView) (a : Arrival) (c : DatagramCounts) → (after_writing w a c).waiting ≡ w.waiting
 writing-waiting w a c = by_test (eqb w.seconds 0)
   where
     by_due : (after : WindowView) (b : Bool) → (cond b (with_last after a) after).waiting ≡ after.waiting
@@ -45,6 +45,10 @@ writing-waiting w a c = by_test (eqb w.seconds 0)
     by_test false =
         let n = numbering w a.header.domain in
         by_due (renumbered w a.header.domain (numbers_after n a.header.sequence c)) (is_at_due n a.header.sequence && has_data a.octets)
+
+pub answered-waiting : (w : WindowView) (a : Arrival) (o : Option DatagramCounts) → (answered w a o).waiting ≡ w.waiting
+answered-waiting w a None = refl
+answered-waiting w a (Some c) = writing-waiting w a c
 
 -- one that leaves no longer waits
 abbrev pub Left : Weight → WindowView → Option (Arrival × WindowView) → Type 0
@@ -109,19 +113,19 @@ offered-offers weight w a =
 -- ---- a run
 
 abbrev pub bag : Weight → Run → ℕ
-bag weight r = sum_by weight r.written + (sum_by weight r.window.waiting + sum_by weight r.doubled)
+bag weight r = sum_by weight r.handed_on + (sum_by weight r.window.waiting + sum_by weight r.doubled)
 
-pub write-bag : (weight : Weight) (says : Says) (a : Arrival) (w : WindowView) (r : Run) → bag weight (write says a w r) ≡ sum_by weight r.written + weight a + (sum_by weight w.waiting + sum_by weight r.doubled)
-write-bag weight says a w r =
-    let written = sum_by_push weight r.written a in
-    let waits = ap (sum_by weight) (writing-waiting w a (says (length r.written))) in
-    rw (written, waits) refl
+pub hand_on-bag : (weight : Weight) (says : Says) (a : Arrival) (w : WindowView) (r : Run) → bag weight (hand_on says a w r) ≡ sum_by weight r.handed_on + weight a + (sum_by weight w.waiting + sum_by weight r.doubled)
+hand_on-bag weight says a w r =
+    let handed_on = sum_by_push weight r.handed_on a in
+    let waits = ap (sum_by weight) (answered-waiting w a (says (length r.handed_on))) in
+    rw (handed_on, waits) refl
 
 go_on-bag : (weight : Weight) (says : Says) (again : Run → Run) (r : Run) (o : Option (Arrival × WindowView)) → Left weight r.window o → ((s : Run) → bag weight (again s) ≡ bag weight s) → bag weight (go_on again says r o) ≡ bag weight r
 go_on-bag weight says again r None left goes = refl
 go_on-bag weight says again r (Some x) left goes =
-    let here = write-bag weight says x.0 x.1 r in
-    let then_ = goes (write says x.0 x.1 r) in
+    let here = hand_on-bag weight says x.0 x.1 r in
+    let then_ = goes (hand_on says x.0 x.1 r) in
     omega arith
 
 empty_with-bag : (weight : Weight) (says : Says) (domain fuel : ℕ) (r : Run) → bag weight (empty_with says domain fuel r) ≡ bag weight r
@@ -132,25 +136,25 @@ empty_with-bag weight says domain (suc fuel) r =
 begin_anew-bag : (weight : Weight) (says : Says) (a : Arrival) (r : Run) → bag weight (begin_anew says a r) ≡ bag weight r + weight a
 begin_anew-bag weight says a r =
     let s = empty says a.header.domain r in
-    let here = write-bag weight says a s.window s in
+    let here = hand_on-bag weight says a s.window s in
     let same = empty_with-bag weight says a.header.domain (length r.window.waiting) r in
     omega arith
 
 take_offered-bag : (weight : Weight) (says : Says) (a : Arrival) (again : Run → Run) (r : Run) (o : Offer) (w : WindowView) → Offers weight r.window a (o, w)
     → ((s : Run) → bag weight (again s) ≡ bag weight s + weight a) → bag weight (take_offered says a again r (o, w)) ≡ bag weight r + weight a
-take_offered-bag weight says a again r Write w offers goes = let here = write-bag weight says a w r in omega arith
+take_offered-bag weight says a again r Write w offers goes = let here = hand_on-bag weight says a w r in omega arith
 take_offered-bag weight says a again r Waits w offers goes = omega arith
 take_offered-bag weight says a again r Doubled w offers goes = let here = sum_by_push weight r.doubled a in omega arith
 take_offered-bag weight says a again r (First b) w offers goes =
-    let here = write-bag weight says b w r in
-    let then_ = goes (write says b w r) in
+    let here = hand_on-bag weight says b w r in
+    let then_ = goes (hand_on says b w r) in
     omega arith
 take_offered-bag weight says a again r Anew w offers goes =
     let here = begin_anew-bag weight says a (record r { window = w }) in
     omega arith
 
 take_with-bag : (weight : Weight) (says : Says) (a : Arrival) (fuel : ℕ) (r : Run) → bag weight (take_with says a fuel r) ≡ bag weight r + weight a
-take_with-bag weight says a zero r = let here = write-bag weight says a r.window r in omega arith
+take_with-bag weight says a zero r = let here = hand_on-bag weight says a r.window r in omega arith
 take_with-bag weight says a (suc fuel) r =
     let o = offered r.window a in
     take_offered-bag weight says a (take_with says a fuel) r o.0 o.1 (offered-offers weight r.window a) (take_with-bag weight says a fuel)

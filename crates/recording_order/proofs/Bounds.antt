@@ -16,7 +16,7 @@ use Rattle.recording_order.specs.declared.numbering.Standing.TheVariants.{AtOnce
 use Rattle.recording_order.specs.declared.offer.Offer.{Offer}
 use Rattle.recording_order.specs.declared.offer.Offer.TheVariants.{Write, Waits, Doubled, First, Anew}
 use Rattle.recording_order.specs.Windows.{WindowView, Offered, numbering, renumbered, due_number, counted, with_doubled, with_reordered, one_doubled, one_reordered, passing, least, without, leaving, ripe, next_of, late_domain, least_in, last_of, fitting, at_most, with_last, held, has_room, is_doubled, now, first_or, offered_full, offered_as, offered, noted, after_writing}
-use Rattle.recording_order.specs.Releases.{Event, Came, Tick, Run, Says, write, go_on, empty_with, empty, begin_anew, take_offered, take_with, take_run, settle_with, settle, settle_late, tick_with, finish_with, finish, step, run_from, start, run}
+use Rattle.recording_order.specs.Releases.{Event, Came, Tick, Run, Says, answered, hand_on, go_on, empty_with, empty, begin_anew, take_offered, take_with, take_run, settle_with, settle, settle_late, tick_with, finish_with, finish, step, run_from, start, run}
 use Rattle.recording_order.proofs.Bags.{Left, leaving-left, passing-waiting}
 
 -- ---- the room
@@ -57,6 +57,10 @@ writing-bounded w a c bounded =
     let renumbers : IsBounded after = bounded-same after w refl refl bounded in
     bounded-either (eqb w.seconds 0) w (noted w a n c) bounded
     (bounded-either (is_at_due n a.header.sequence && has_data a.octets) (with_last after a) after (with_last-bounded after a renumbers) renumbers)
+
+answered-bounded : (w : WindowView) (a : Arrival) (o : Option DatagramCounts) → IsBounded w → IsBounded (answered w a o)
+answered-bounded w a None bounded = bounded
+answered-bounded w a (Some c) bounded = writing-bounded w a c bounded
 
 -- ---- one that leaves
 
@@ -170,12 +174,12 @@ offered-bounded w a bounded =
 abbrev Keeps : (Run → Run) → Type 0
 Keeps f = (r : Run) → IsBounded r.window → IsBounded (f r).window
 
-write-bounded : (says : Says) (a : Arrival) (w : WindowView) (r : Run) → IsBounded w → IsBounded (write says a w r).window
-write-bounded says a w r bounded = writing-bounded w a (says (length r.written)) bounded
+hand_on-bounded : (says : Says) (a : Arrival) (w : WindowView) (r : Run) → IsBounded w → IsBounded (hand_on says a w r).window
+hand_on-bounded says a w r bounded = answered-bounded w a (says (length r.handed_on)) bounded
 
 go_on-bounded : (says : Says) (again : Run → Run) (r : Run) (o : Option (Arrival × WindowView)) → IsBounded r.window → Goes o → Keeps again → IsBounded (go_on again says r o).window
 go_on-bounded says again r None bounded goes more = bounded
-go_on-bounded says again r (Some x) bounded goes more = more (write says x.0 x.1 r) (write-bounded says x.0 x.1 r goes)
+go_on-bounded says again r (Some x) bounded goes more = more (hand_on says x.0 x.1 r) (hand_on-bounded says x.0 x.1 r goes)
 
 empty_with-bounded : (says : Says) (d fuel : ℕ) → Keeps (empty_with says d fuel)
 empty_with-bounded says d zero r bounded = bounded
@@ -188,17 +192,17 @@ settle_with-bounded says d second (suc fuel) r bounded =
     go_on-bounded says (settle_with says d second fuel) r (next_of r.window d second) bounded (leaving-bounded r.window (ripe r.window d second) bounded) (settle_with-bounded says d second fuel)
 
 take_offered-bounded : (says : Says) (a : Arrival) (again : Run → Run) (r : Run) (o : Offer) (w : WindowView) → IsBounded w → Keeps again → IsBounded (take_offered says a again r (o, w)).window
-take_offered-bounded says a again r Write w bounded more = write-bounded says a w r bounded
+take_offered-bounded says a again r Write w bounded more = hand_on-bounded says a w r bounded
 take_offered-bounded says a again r Waits w bounded more = bounded
 take_offered-bounded says a again r Doubled w bounded more = bounded
-take_offered-bounded says a again r (First b) w bounded more = more (write says b w r) (write-bounded says b w r bounded)
+take_offered-bounded says a again r (First b) w bounded more = more (hand_on says b w r) (hand_on-bounded says b w r bounded)
 take_offered-bounded says a again r Anew w bounded more =
     let s : Run = record r { window = w } in
     let emptied = empty says a.header.domain s in
-    write-bounded says a emptied.window emptied (empty_with-bounded says a.header.domain (length w.waiting) s bounded)
+    hand_on-bounded says a emptied.window emptied (empty_with-bounded says a.header.domain (length w.waiting) s bounded)
 
 take_with-bounded : (says : Says) (a : Arrival) (fuel : ℕ) → Keeps (take_with says a fuel)
-take_with-bounded says a zero r bounded = write-bounded says a r.window r bounded
+take_with-bounded says a zero r bounded = hand_on-bounded says a r.window r bounded
 take_with-bounded says a (suc fuel) r bounded =
     let o = offered r.window a in
     take_offered-bounded says a (take_with says a fuel) r o.0 o.1 (offered-bounded r.window a bounded) (take_with-bounded says a fuel)

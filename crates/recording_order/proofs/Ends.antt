@@ -10,8 +10,8 @@ use Rattle.recording_order.specs.Numbers.{place}
 use Rattle.recording_order.specs.Leasts.{lesser, found_at, one_more, least_from, least_of}
 use Rattle.recording_order.specs.declared.least.Least.{Least}
 use Rattle.recording_order.specs.Windows.{WindowView, due_number, least, without, leaving, last_of}
-use Rattle.recording_order.specs.Releases.{Run, Says, Event, write, go_on, finish_with, finish, run, came, released}
-use Rattle.recording_order.proofs.Bags.{passing-waiting, writing-waiting, all_that_came, finish-bag}
+use Rattle.recording_order.specs.Releases.{Run, Says, Event, hand_on, go_on, finish_with, finish, run, came, released}
+use Rattle.recording_order.proofs.Bags.{passing-waiting, answered-waiting, all_that_came, finish-bag}
 
 -- ---- where one of a domain waits, there is a least one
 
@@ -102,8 +102,8 @@ goes_on-none : (says : Says) (fuel : ℕ) (again : Run → Run) (r : Run) (xs : 
 goes_on-none says fuel again r [] is few ends = is
 goes_on-none says fuel again r (a ∷ xs) is few ends =
     let goes = last_of-goes r.window a xs is in
-    let same : length (write says goes.left.0 goes.left.1 r).window.waiting ≡ length goes.left.1.waiting = ap length (writing-waiting goes.left.1 goes.left.0 (says (length r.written))) in
-    rw goes.is (ends (write says goes.left.0 goes.left.1 r) (omega (arith, same, goes.fewer)))
+    let same : length (hand_on says goes.left.0 goes.left.1 r).window.waiting ≡ length goes.left.1.waiting = ap length (answered-waiting goes.left.1 goes.left.0 (says (length r.handed_on))) in
+    rw goes.is (ends (hand_on says goes.left.0 goes.left.1 r) (omega (arith, same, goes.fewer)))
 
 finish_with-none : (says : Says) (fuel : ℕ) (r : Run) → length r.window.waiting ≤ fuel → (finish_with says fuel r).window.waiting ≡ []
 finish_with-none says zero r few = nil_from_length r.window.waiting (omega arith)
@@ -114,7 +114,7 @@ finish-none says r = finish_with-none says (length r.window.waiting) r (omega ar
 
 go_on-doubled : (says : Says) (again : Run → Run) (r : Run) (o : Option (Arrival × WindowView)) → ((s : Run) → (again s).doubled ≡ s.doubled) → (go_on again says r o).doubled ≡ r.doubled
 go_on-doubled says again r None goes = refl
-go_on-doubled says again r (Some x) goes = goes (write says x.0 x.1 r)
+go_on-doubled says again r (Some x) goes = goes (hand_on says x.0 x.1 r)
 
 finish_with-doubled : (says : Says) (fuel : ℕ) (r : Run) → (finish_with says fuel r).doubled ≡ r.doubled
 finish_with-doubled says zero r = refl

@@ -1,4 +1,4 @@
--- What is written of a peer's datagrams, over a whole run.
+-- In which order a peer's datagrams are handed on to the recorder, over a whole run.
 use Rattle.std.specs.Prelude.{◌≡◌, ℕ, zero, suc, ◌+◌, Option, Some, None, List, [], ◌∷◌, ◌++◌, length, flat_map}
 use Rattle.recording_order.specs.Arrivals.{Arrival}
 use Rattle.recording_order.specs.Windows.{WindowView, Offered, offered, after_writing, next_of, late_domain, least_in, last_of}
@@ -19,28 +19,33 @@ came_in (Tick second) = []
 abbrev pub came : List Event → List Arrival
 came es = flat_map came_in es
 
--- what the recorder says of each datagram that it writes, by how many it wrote before
+-- what the recorder says of each datagram that is handed on to it, by how many were before: none where it refuses it
 abbrev pub Says : Type 0
-Says = ℕ → DatagramCounts
+Says = ℕ → Option DatagramCounts
 
--- what is kept, and the datagrams that were written and those that were doubled, each in turn
+-- what is kept, and the datagrams that were handed on and those that were doubled, each in turn
 pub record Run : Type 0 where
   pub window : WindowView
-  pub written : List Arrival
+  pub handed_on : List Arrival
   pub doubled : List Arrival
 
--- this one is written, where this is kept
-abbrev pub write : Says → Arrival → WindowView → Run → Run
-write says a w r = record { window = after_writing w a (says (length r.written)); written = r.written ++ a ∷ []; doubled = r.doubled }
+-- what is kept once the recorder has answered: one that it refuses isn't noted
+abbrev pub answered : WindowView → Arrival → Option DatagramCounts → WindowView
+answered w a None = w
+answered w a (Some c) = after_writing w a c
 
--- one that waited is written, if there is one, and then others
+-- this one is handed on, where this is kept
+abbrev pub hand_on : Says → Arrival → WindowView → Run → Run
+hand_on says a w r = record { window = answered w a (says (length r.handed_on)); handed_on = r.handed_on ++ a ∷ []; doubled = r.doubled }
+
+-- one that waited is handed on, if there is one, and then others
 abbrev pub go_on : (Run → Run) → Says → Run → Option (Arrival × WindowView) → Run
 go_on again says r None = r
-go_on again says r (Some x) = again (write says x.0 x.1 r)
+go_on again says r (Some x) = again (hand_on says x.0 x.1 r)
 
 -- ---- a datagram that comes
 
--- all that wait of a domain are written, the least first
+-- all that wait of a domain are handed on, the least first
 abbrev pub empty_with : Says → ℕ → ℕ → Run → Run
 empty_with says domain zero r = r
 empty_with says domain (suc fuel) r = go_on (empty_with says domain fuel) says r (least_in r.window domain)
@@ -48,23 +53,23 @@ empty_with says domain (suc fuel) r = go_on (empty_with says domain fuel) says r
 abbrev pub empty : Says → ℕ → Run → Run
 empty says domain r = empty_with says domain (length r.window.waiting) r
 
--- it is written after those of its domain that wait
+-- it is handed on after those of its domain that wait
 abbrev pub begin_anew : Says → Arrival → Run → Run
-begin_anew says a r = let s = empty says a.header.domain r in write says a s.window s
+begin_anew says a r = let s = empty says a.header.domain r in hand_on says a s.window s
 
--- it is offered; where another is first, it is offered again once that was written
+-- it is offered; where another is first, it is offered again after that
 abbrev pub take_offered : Says → Arrival → (Run → Run) → Run → Offered → Run
 take_offered says a again r o = elim o.0 [
-  | Write ↦ write says a o.1 r
+  | Write ↦ hand_on says a o.1 r
   | Waits ↦ record r { window = o.1 }
   | Doubled ↦ record r { window = o.1; doubled = r.doubled ++ a ∷ [] }
-  | First b ↦ again (write says b o.1 r)
+  | First b ↦ again (hand_on says b o.1 r)
   | Anew ↦ begin_anew says a (record r { window = o.1 })
 ]
 
 -- at most so many are first
 abbrev pub take_with : Says → Arrival → ℕ → Run → Run
-take_with says a zero r = write says a r.window r
+take_with says a zero r = hand_on says a r.window r
 take_with says a (suc fuel) r = take_offered says a (take_with says a fuel) r (offered r.window a)
 
 -- those that wait are at most first
@@ -73,7 +78,7 @@ take_run says a r = take_with says a (suc (length r.window.waiting)) r
 
 -- ---- those that waited
 
--- the next ones of a domain are written, at most so many
+-- the next ones of a domain are handed on, at most so many
 abbrev pub settle_with : Says → ℕ → ℕ → ℕ → Run → Run
 settle_with says domain second zero r = r
 settle_with says domain second (suc fuel) r = go_on (settle_with says domain second fuel) says r (next_of r.window domain second)
@@ -112,11 +117,11 @@ run_from says r [] = r
 run_from says r (e ∷ es) = run_from says (step says r e) es
 
 abbrev pub start : ℕ → Run
-start seconds = record { window = record { seconds = seconds; numbers = []; waiting = []; last = [] }; written = []; doubled = [] }
+start seconds = record { window = record { seconds = seconds; numbers = []; waiting = []; last = [] }; handed_on = []; doubled = [] }
 
 abbrev pub run : Says → ℕ → List Event → Run
 run says seconds es = run_from says (start seconds) es
 
--- what is written of all that came, where the peer ended after it
+-- what is handed on of all that came, where the peer ended after it
 abbrev pub released : Says → ℕ → List Event → List Arrival
-released says seconds es = (finish says (run says seconds es)).written
+released says seconds es = (finish says (run says seconds es)).handed_on

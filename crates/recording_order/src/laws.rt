@@ -10,11 +10,11 @@ ghost use Rattle.recording_order.specs.Releases.{Event, Came, Run, Says, came, f
 ghost use Rattle.recording_order.specs.declared.limits.TheConstants.{MOST_LAST, MOST_WAITING, ROOM};
 ghost use Rattle.recording_order.specs.declared.numbering.TheConstants.{FARTHEST};
 
-/// Every datagram that came was written, waits, or was doubled, and each once: whatever weights are given
+/// Every datagram that came was handed on, waits, or was doubled, and each once: whatever weights are given
 /// to datagrams, those of the three add up to those of all that came.
 pub fn each_once()
     ensures { (weight : Arrival → ℕ) (says : Says) (seconds : ℕ) (es : List Event)
-        → sum_by weight (run says seconds es).written
+        → sum_by weight (run says seconds es).handed_on
         + sum_by weight (run says seconds es).window.waiting
         + sum_by weight (run says seconds es).doubled ≡ sum_by weight (came es) }
 {}
@@ -40,7 +40,7 @@ pub fn with_no_seconds_nothing_changes()
     ensures { (says : Says) (es : List Event) → released says 0 es ≡ came es }
 {}
 
-/// A datagram of one domain changes nothing of another: neither what was written of it, nor what waits, nor
+/// A datagram of one domain changes nothing of another: neither what was handed on of it, nor what waits, nor
 /// its numbers. Only the room, and with it the last datagrams, are of the peer.
 pub fn domains_stay_apart()
     ensures { (says : Says) (r : Run) (a : Arrival) (domain : ℕ) → domain ≢ a.header.domain
