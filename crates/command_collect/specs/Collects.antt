@@ -1,5 +1,5 @@
 -- How a command ended that collects from files or from connections.
-use Rattle.std.specs.Prelude.{◌≡◌, ◌≢◌, ◌⊎◌, ◌<◌, ℕ, List, [], IfSome, Option, map}
+use Rattle.std.specs.Prelude.{◌≡◌, ◌≢◌, ◌⊎◌, ◌<◌, ℕ, List, [], IfNone, IfSome, Option, map}
 use Rattle.std.specs.Borrow.{Bor}
 use Rattle.std.specs.Duration.{as_nanos}
 use Rattle.std.specs.declared.net.socket_addr.SocketAddr.{SocketAddr}
@@ -7,6 +7,7 @@ use Rattle.std.specs.declared.time.Duration.{Duration}
 use Rattle.ipfix_session.specs.Sources.{SourceView}
 use Rattle.report_writing.specs.OpeningLines.{if_verbose, listening_line}
 use Rattle.report_writing.specs.Statuses.{number_of}
+use Rattle.report_writing.specs.declared.status.Status.{Status}
 use Rattle.report_writing.specs.declared.status.Status.TheVariants.{Well, SessionFault, NotOpened, Failed}
 use Rattle.report_writing.specs.declared.verbosity.TheConstants.{NOTHING_MORE}
 use Rattle.report_writing.specs.declared.verbosity.Verbosity.{Verbosity}
@@ -56,20 +57,20 @@ module _ {S W : Type 0} (seen : S → SourceView) (AreHad : List S → Type 0) (
 
 -- from the files of these paths: each that was had is told, and then the path that can't be opened
 module _ {S O W : Type 0} (seen : S → SourceView) (opens : O → List ℕ → S → Type 0) (sizes : O → List ℕ → Option ℕ → Type 0) (refuses : O → List ℕ → Reason → Type 0) (coming : O → Option (List S)) (before after : O) (paths : List (Bor (List ℕ)))
-    (contents : W → Option (List ℕ)) (old new : W) (AreTold : List ℕ → Type 0) (status : ℕ) where
+    (contents : W → Option (List ℕ)) (old new : W) (AreTold : List ℕ → Type 0) where
   abbrev WereOpened : List S → Type 0
   WereOpened sources = PathsAreOpened opens coming before after paths sources
 
   abbrev TellsPath : Verbosity → Type 0
   TellsPath verbosity = TellsNotOpened (sizes before) (refuses before) (map (λ (path : Bor (List ℕ)). path.now) paths) verbosity AreTold
 
-  abbrev pub CollectsFilesPlainly : PlanValue → Pool → Output → Type 0
-  CollectsFilesPlainly plan pool output =
+  abbrev pub CollectsFilesPlainly : ℕ → PlanValue → Pool → Output → Type 0
+  CollectsFilesPlainly status plan pool output =
       CollectsPlainly seen WereOpened (TellsPath NOTHING_MORE) contents old new AreTold status plan pool output
 
-  abbrev pub CollectsFiles : CollectJob → Type 0
-  CollectsFiles job =
-      CollectsJob seen WereOpened (TellsPath job.verbosity) contents old new AreTold status job (λ sources. AreFiles (sizes before) paths) []
+  abbrev pub CollectsFiles : Status → CollectJob → Type 0
+  CollectsFiles status job =
+      CollectsJob seen WereOpened (TellsPath job.verbosity) contents old new AreTold (number_of status) job (λ sources. AreFiles (sizes before) paths) []
 
 -- from so many connections with this limit, at an address: each that was had is told, with its peer, and then the address that
 -- gives none
@@ -81,11 +82,15 @@ module _ {S L : Type 0} (seen : S → SourceView) (gives : L → Option Duration
   CollectsConnectionsPlainly idle count address contents old new AreTold status plan pool output =
       CollectsPlainly seen (AreConnections idle count) (TellsNotAccepted (is_of before) (refuses before) NOTHING_MORE [] address AreTold) contents old new AreTold status plan pool output
 
-  abbrev pub CollectsConnections : {W : Type 0} → Connections → (W → Option (List ℕ)) → W → W → (List ℕ → Type 0) → ℕ → CollectJob → Type 0
+  abbrev pub CollectsConnections : {W : Type 0} → Connections → (W → Option (List ℕ)) → W → W → (List ℕ → Type 0) → Status → CollectJob → Type 0
   CollectsConnections to contents old new AreTold status job =
       let first = if_verbose job.verbosity (listening_line to.address.now to.count) in
       let TellsNone = TellsNotAccepted (is_of before) (refuses before) job.verbosity first to.address.now AreTold in
-      CollectsJob seen (AreConnections to.idle to.count) TellsNone contents old new AreTold status job (ArePeers (is_of before)) first
+      CollectsJob seen (AreConnections to.idle to.count) TellsNone contents old new AreTold (number_of status) job (ArePeers (is_of before)) first
+
+-- a fact that holds if a pool has no fault
+abbrev pub IfPoolFits : Pool → Type 0 → Type 0
+IfPoolFits pool P = IfNone (fault_of_pool pool) P
 
 -- a fact that holds if there is to be a connection that has a limit of no time
 abbrev pub IfNoTime : Connections → Type 0 → Type 0

@@ -11,13 +11,14 @@ use Rattle.flow_table.specs.declared.table.Table.{Table}
 use Rattle.flow_merge.specs.Merging.{merging_plan, AddsAllUp, AddsExport, StandsFor}
 use Rattle.flow_merge.specs.declared.merge_fault.MergeFault.{MergeFault}
 use Rattle.flow_merge.specs.declared.merging.Merging.{Merging}
-use Rattle.input_sources.specs.Had.{IsUnread}
+use Rattle.input_sources.specs.Had.{IsOpened, IsUnread, PathsAreOpened}
 use Rattle.report_writing.specs.declared.reason.Reason.{Reason}
 use Rattle.output_tables.specs.TableTexts.{Writes}
 use Rattle.ipfix_session.specs.declared.driver.TheConstants.{READ_LIMIT}
 use Rattle.report_writing.specs.OpeningLines.{if_verbose}
 use Rattle.report_writing.specs.declared.verbosity.Verbosity.{Verbosity}
 use Rattle.command_merge.specs.MergeLines.{file_opened_line, files_opened_lines}
+use Rattle.command_merge.specs.MergesStopped.{FailsFile, IsDueTo}
 use Rattle.command_merge.specs.MergesTold.{merge_lines, StopsBehind, TellsNotExported, TellsNotMerged}
 use Rattle.command_merge.specs.declared.job.MergeJob.{MergeJob}
 use Rattle.command_merge.specs.declared.not_merged.NotMerged.{NotMerged}
@@ -64,10 +65,25 @@ module _ {S : Type 0} (seen : S → SourceView) where
     pub adds : (rows : List RowValue) → StandsFor old rows → AddsExport seen READ_LIMIT old before after rows new
 
 -- why the file of this name and number was not added, and what was told by then
-abbrev pub IsNotAdded : (Reason → Type 0) → (MergeFault → Type 0) → Verbosity → ℕ → List ℕ → (List ℕ → Type 0) → NotMerged → Type 0
-IsNotAdded Refuses Fails verbosity file name AreTold (NotOpened path reason) = (path.now ≡ name) × Refuses reason × AreTold []
-IsNotAdded Refuses Fails verbosity file name AreTold (File number path fault) = (number ≡ file) × (path.now ≡ name) × Fails fault × AreTold (if_verbose verbosity (file_opened_line file name))
-IsNotAdded Refuses Fails verbosity file name AreTold (Whole fault) = ⊥
+abbrev pub IsNotAddedFor : (Reason → Type 0) → (MergeFault → Type 0) → Verbosity → ℕ → List ℕ → (List ℕ → Type 0) → NotMerged → Type 0
+IsNotAddedFor Refuses Fails verbosity file name AreTold (NotOpened path reason) = (path.now ≡ name) × Refuses reason × AreTold []
+IsNotAddedFor Refuses Fails verbosity file name AreTold (File number path fault) = (number ≡ file) × (path.now ≡ name) × Fails fault × AreTold (if_verbose verbosity (file_opened_line file name))
+IsNotAddedFor Refuses Fails verbosity file name AreTold (Whole fault) = ⊥
+
+module _ {S O : Type 0} (seen : S → SourceView) (opens : O → List ℕ → S → Type 0) (refuses : O → List ℕ → Reason → Type 0) (coming : O → Option (List S)) (before after : O) where
+  -- the same of a file that is opened by its name
+  abbrev pub IsNotAdded : Merging → Verbosity → ℕ → List ℕ → (List ℕ → Type 0) → NotMerged → Type 0
+  IsNotAdded merging verbosity file name AreTold not_merged =
+      IsNotAddedFor (refuses before name) (FailsFile seen (IsOpened (opens before name) (coming before) (coming after)) merging) verbosity file name AreTold not_merged
+
+  -- what keeps files from being merged that are opened by their names
+  abbrev pub IsDueOpened : PlanValue → List (List ℕ) → NotMerged → Type 0
+  IsDueOpened plan names not_merged = IsDueTo seen (opens before) (coming before) (coming after) plan (refuses before) names not_merged
+
+  -- what the status of a merge of the files of these paths says
+  abbrev pub MergesFiles : {W : Type 0} → List (Bor (List ℕ)) → MergeJob → (W → Option (List ℕ)) → W → W → (List ℕ → Type 0) → Status → Type 0
+  MergesFiles paths job contents old new AreTold status =
+      RunsMerge seen (PathsAreOpened opens coming before after paths) (IsDueOpened job.plan.now) job (names_of paths) contents old new AreTold status
 
 -- why files were not merged, and which of them were told as opened by then
 pub record StopsMerge (IsDueTo : List (List ℕ) → NotMerged → Type 0) (names : List (List ℕ)) (verbosity : Verbosity) (AreTold : List ℕ → Type 0) (not_merged : NotMerged) : Type 0 where

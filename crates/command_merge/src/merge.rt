@@ -6,8 +6,7 @@ ghost use Rattle.report_writing.specs.OpeningLines.{if_verbose};
 ghost use Rattle.report_writing.specs.Told.{AreToldTo};
 ghost use Rattle.command_merge.specs.MergeLines.{file_opened_line, files_opened_lines};
 ghost use Rattle.report_writing.specs.declared.reason.Reason.{Reason as ReasonValue};
-ghost use Rattle.command_merge.specs.Merges.{AddsFile, IsMerged, IsNotAdded, RunsMerge, StopsMerge, names_of};
-ghost use Rattle.command_merge.specs.MergesStopped.{FailsFile, IsDueTo};
+ghost use Rattle.command_merge.specs.Merges.{AddsFile, IsDueOpened, IsMerged, IsNotAdded, MergesFiles, StopsMerge, names_of};
 ghost use Rattle.input_sources.specs.Had.{IsOpened, PathsAreOpened};
 
 use crate::job::MergeJob;
@@ -42,11 +41,8 @@ pub fn run_merge_with<S: Source + Drop, O: OpenSource<S>, W: Write, E: WriteLine
 ) -> Status
     // The source of each path, in their order, each opened once, gave an export; the rows of all of them,
     // added up, were written, and nothing else; or what kept them from it was told.
-    ensures runs { RunsMerge S.seen
-        (PathsAreOpened O.opens O.coming files.old files.new paths.now)
-        (IsDueTo S.seen (O.opens files.old) (O.coming files.old) (O.coming files.new)
-        job.now.plan.now (O.refuses files.old)) job.now (names_of paths.now) W.contents
-        out.old out.new (AreToldTo E.contents E.failed err.old err.new) result }
+    ensures runs { MergesFiles S.seen O.opens O.refuses O.coming files.old files.new paths.now
+        job.now W.contents out.old out.new (AreToldTo E.contents E.failed err.old err.new) result }
     ensures kept { E.failed err.old → E.failed err.new }
 {
     let table = match merge_files(files, alloc, paths, job, err) {
@@ -77,9 +73,9 @@ fn merge_files<'a, S: Source + Drop, O: OpenSource<S>, E: WriteLines>(
     ensures fits { IfOk result (FitsPlan job.now.plan.now) }
     ensures told { OnOk result (AreToldTo E.contents E.failed err.old err.new
         (files_opened_lines job.now.verbosity (names_of paths.now))) }
-    ensures stops { IfErr result (StopsMerge (IsDueTo S.seen (O.opens files.old)
-        (O.coming files.old) (O.coming files.new) job.now.plan.now (O.refuses files.old))
-        (names_of paths.now) job.now.verbosity (AreToldTo E.contents E.failed err.old err.new)) }
+    ensures stops { IfErr result (StopsMerge (IsDueOpened S.seen O.opens O.refuses O.coming
+        files.old files.new job.now.plan.now) (names_of paths.now) job.now.verbosity
+        (AreToldTo E.contents E.failed err.old err.new)) }
     ensures kept { E.failed err.old → E.failed err.new }
 {
     let mut merging = match Merging::new(alloc, job.plan) {
@@ -112,9 +108,8 @@ fn add_file<'a, S: Source + Drop, O: OpenSource<S>, E: WriteLines>(
         → O.refuses files.new name why → O.refuses files.old name why }
     ensures told { OnOk result (AreToldTo E.contents E.failed err.old err.new
         (if_verbose verbosity (file_opened_line number path.now))) }
-    ensures stops { IfErr result (IsNotAdded (O.refuses files.old path.now) (FailsFile S.seen
-        (IsOpened (O.opens files.old path.now) (O.coming files.old) (O.coming files.new)) merging)
-        verbosity number path.now (AreToldTo E.contents E.failed err.old err.new)) }
+    ensures stops { IfErr result (IsNotAdded S.seen O.opens O.refuses O.coming files.old files.new
+        merging verbosity number path.now (AreToldTo E.contents E.failed err.old err.new)) }
     ensures kept { E.failed err.old → E.failed err.new }
 {
     let mut source = match files.open_source(path) {

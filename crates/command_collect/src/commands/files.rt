@@ -1,6 +1,5 @@
 //! Collecting from files.
 
-ghost use Rattle.report_writing.specs.Statuses.{number_of};
 ghost use Rattle.report_writing.specs.Told.{AreToldTo};
 ghost use Rattle.command_collect.specs.Collects.{CollectsFiles, CollectsFilesPlainly};
 
@@ -78,7 +77,7 @@ pub fn run_files_with<
     // others; or each file that was had was told, and then the path that can't be opened.
     ensures collects { CollectsFiles S.seen O.opens O.sizes O.refuses O.coming files.old files.new
         paths.now W.contents out.old out.new (AreToldTo E.contents E.failed err.old err.new)
-        (number_of result) job.now }
+        result job.now }
     ensures kept { E.failed err.old → E.failed err.new }
 {
     match open_all(rt, alloc, files, paths, progress, job.verbosity, err) {

@@ -1,11 +1,11 @@
 //! Collecting from connections.
 
-ghost use Rattle.std.specs.Prelude.{◌≡◌, ◌<◌, IfNone, IfSome};
+ghost use Rattle.std.specs.Prelude.{◌≡◌, ◌<◌, IfSome};
 ghost use Rattle.std.specs.Duration.{as_nanos};
 ghost use Rattle.report_writing.specs.Statuses.{number_of};
 ghost use Rattle.report_writing.specs.Told.{AreToldTo};
 ghost use Rattle.command_collect.specs.Runs.{fault_of_pool};
-ghost use Rattle.command_collect.specs.Collects.{CollectsConnections, CollectsConnectionsPlainly, IfNoTime, RefusesPool};
+ghost use Rattle.command_collect.specs.Collects.{CollectsConnections, CollectsConnectionsPlainly, IfNoTime, IfPoolFits, RefusesPool};
 
 use super::connections::run_connections;
 use crate::collect_fault::write_collect_fault;
@@ -101,13 +101,13 @@ pub fn run_tcp_with<
 ) -> Status
     // So many connections with this limit were accepted and run, as `run_with` says it, and no others; or
     // each that was had was told, and then the address that gives none.
-    ensures collects { IfNone (fault_of_pool job.now.pool)
+    ensures collects { IfPoolFits job.now.pool
         (CollectsConnections S.seen L.gives L.is_of L.refuses L.coming listener.old listener.new
         connections.now W.contents out.old out.new (AreToldTo E.contents E.failed err.old err.new)
-        (number_of result) job.now) }
+        result job.now) }
     ensures closed { L.is_closed listener.new }
     // No connection can have a limit of no time.
-    ensures no_time { IfNone (fault_of_pool job.now.pool)
+    ensures no_time { IfPoolFits job.now.pool
         (IfNoTime connections.now (result ≡ Status.NotOpened)) }
     // A pool that has a fault is refused, and the fault that it has is told.
     ensures pool { RefusesPool job.now.pool connections.now.count (number_of result) (out.new ≡ out.old)
