@@ -1,18 +1,16 @@
 //! Reading a file of elements.
 
-ghost use Rattle.std.specs.Prelude.{◌≡◌, map, is_some};
-ghost use Rattle.std.specs.List.{list_any};
+ghost use Rattle.std.specs.Prelude.{◌≡◌};
 ghost use Rattle.csv.specs.Records.{fields_of};
 ghost use Rattle.element_registry.specs.Faults.{Gives};
-ghost use Rattle.element_registry.specs.Files.{GivesAt, IsOfBody, IsOfRows, IsOfText, with_row, with_rows};
-ghost use Rattle.element_registry.specs.Rows.{has_unknown_type as is_unknown};
+ghost use Rattle.element_registry.specs.Files.{GivesAt, IsOfBody, IsOfRows, IsOfText, fault_line, unknown_line, with_row, with_rows};
 
 use crate::added::Added;
 use crate::columns::{Columns, read_heading};
 use crate::elements::Elements;
 use crate::fault::{ElementsError, ElementsFault, Heading};
 use crate::row::{has_unknown_type, read_entry};
-use crate::rows::{line_of, read_rows};
+use crate::rows::{Row, line_at, read_rows};
 use csv::ByteRecord;
 use std::alloc::Global;
 
@@ -31,19 +29,19 @@ pub fn add_file(alloc: Global, elements: Elements, text: &[u8]) -> Result<Added,
     }
 }
 
-#[tactic(auto, using(crate::proofs::Steps::fails_then, crate::proofs::Steps::goes_on))]
+#[tactic(auto, using(crate::proofs::Steps::heading_fails, crate::proofs::Steps::of_body))]
 fn add_read(
     alloc: Global,
     elements: Elements,
     text: &[u8],
-    rows: &[ByteRecord],
+    rows: &[Row],
 ) -> Result<Added, ElementsError>
-    ensures { IsOfRows elements (map fields_of rows.now) result }
+    ensures { IsOfRows text.now elements rows.now result }
 {
     let [heading, rows @ ..] = rows else {
         return Err(ElementsError::at(1, ElementsFault::Column(Heading::Number)));
     };
-    match read_heading(heading) {
+    match read_heading(&heading.record) {
         Ok(columns) => add_rows(alloc, elements, text, &columns, rows),
         Err(fault) => Err(ElementsError::at(1, fault)),
     }
@@ -54,9 +52,9 @@ fn add_rows(
     elements: Elements,
     text: &[u8],
     columns: &Columns,
-    rows: &[ByteRecord],
+    rows: &[Row],
 ) -> Result<Added, ElementsError>
-    ensures { IsOfBody columns.now elements (map fields_of rows.now) result }
+    ensures { IsOfBody text.now columns.now elements rows.now result }
 {
     let unknown_type = first_unknown(text, columns, rows);
     let elements = with_all(alloc, elements, text, columns, rows)?;
@@ -66,19 +64,19 @@ fn add_rows(
     })
 }
 
-#[tactic(auto, using(crate::proofs::Steps::row_fails, crate::proofs::Steps::row_given))]
 fn with_all(
     alloc: Global,
     mut elements: Elements,
     text: &[u8],
     columns: &Columns,
-    mut rows: &[ByteRecord],
+    mut rows: &[Row],
 ) -> Result<Elements, ElementsError>
-    ensures { GivesAt result (with_rows columns.now elements (map fields_of rows.entry.now)) }
+    ensures { GivesAt result (with_rows columns.now elements rows.entry.now)
+        (fault_line text.now columns.now elements rows.entry.now) }
 {
     while let [row, rest @ ..] = rows {
-        if let Err(fault) = add_row(alloc, &mut elements, columns, row) {
-            return Err(ElementsError::at(line_of(text, row), fault));
+        if let Err(fault) = add_row(alloc, &mut elements, columns, &row.record) {
+            return Err(ElementsError::at(line_at(text, row.place), fault));
         }
         rows = rest;
     }
@@ -102,12 +100,12 @@ fn add_row(
 }
 
 // The line of the first row with a type that is not known.
-fn first_unknown(text: &[u8], columns: &Columns, mut rows: &[ByteRecord]) -> Option<u64>
-    ensures { is_some result ≡ list_any (is_unknown columns.now) (map fields_of rows.entry.now) }
+fn first_unknown(text: &[u8], columns: &Columns, mut rows: &[Row]) -> Option<u64>
+    ensures { result ≡ unknown_line text.now columns.now rows.entry.now }
 {
     while let [row, rest @ ..] = rows {
-        if has_unknown_type(columns, row) {
-            return Some(line_of(text, row));
+        if has_unknown_type(columns, &row.record) {
+            return Some(line_at(text, row.place));
         }
         rows = rest;
     }
