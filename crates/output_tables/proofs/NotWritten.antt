@@ -1,5 +1,5 @@
 -- Why a table was not written, from what the export says of its answer.
-use Rattle.std.proofs.Common.{◌≡◌, ℕ, Err, ap}
+use Rattle.std.proofs.Common.{ℕ, Err, ap}
 use Rattle.std.specs.Prelude.{◌↔◌, IsErrOf}
 use Rattle.flow_export.specs.declared.fault.ExportFault.{ExportFault}
 use Rattle.flow_export.specs.declared.fault.ExportFault.TheVariants.{TooManyRows}

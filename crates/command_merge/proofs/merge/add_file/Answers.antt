@@ -1,4 +1,4 @@
-use Rattle.std.proofs.Common.{refl, rules}
+use Rattle.std.proofs.Common.{refl}
 use Rattle.command_merge.proofs.Merged.{adds_file, fails_file}
 use Rattle.report_writing.proofs.LinesTold.{is_told}
 use Rattle.command_merge.proofs.merge.add_file.Goals as goal

@@ -1,4 +1,4 @@
-use Rattle.std.proofs.Common.{inl, inr, refl, rules}
+use Rattle.std.proofs.Common.{inl, inr, rules}
 use Rattle.input_sources.proofs.Had.{all_opened, NextOnes-nil, one_came, one_longer, one_opened}
 use Rattle.input_sources.proofs.InputsTold.{file_named, nothing_opened, opened_told, passed_on, stops_at}
 use Rattle.input_sources.proofs.opening_all.open_all.Goals as goal
