@@ -14,7 +14,6 @@ use Rattle.report_writing.specs.declared.verbosity.Verbosity.{Verbosity}
 use Rattle.flow_table.specs.Plans.{PlanValue}
 use Rattle.flow_collect.specs.Refusals.{fault_of_arguments}
 use Rattle.flow_collect.specs.declared.collected.Pool.{Pool}
-use Rattle.flow_collect.specs.declared.fault.CollectFault.{CollectFault}
 use Rattle.report_writing.specs.declared.origin.Origin.{Origin}
 use Rattle.report_writing.specs.declared.reason.Reason.{Reason}
 use Rattle.input_sources.specs.Had.{AreAccepted, PathsAreOpened}
