@@ -175,7 +175,7 @@ tick_with-bag : (weight : Weight) (says : Says) (second fuel : ℕ) (r : Run) �
 tick_with-bag weight says second zero r = refl
 tick_with-bag weight says second (suc fuel) r = settle_late-bag weight says second (tick_with says second fuel) r (late_domain r.window second) (tick_with-bag weight says second fuel)
 
-last_of-left : (weight : Weight) (w : WindowView) (xs : List Arrival) → Left weight w (last_of w xs)
+pub last_of-left : (weight : Weight) (w : WindowView) (xs : List Arrival) → Left weight w (last_of w xs)
 last_of-left weight w [] = tt
 last_of-left weight w (a ∷ xs) = leaving-left weight w (least w a.header.domain)
 

@@ -5,3 +5,4 @@ mod Bounds
 mod Ends
 mod InOrder
 mod Keeping
+mod Steps

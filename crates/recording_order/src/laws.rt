@@ -1,12 +1,14 @@
 //! Laws of the definitions. Each is a function that does nothing, and its contract is the theorem: a
 //! call brings that to the proof of its caller.
 
-ghost use Rattle.std.specs.Prelude.{◌≡◌, ◌≢◌, ◌+◌, ℕ, List, [], sum_by};
+ghost use Rattle.std.specs.Prelude.{◌≡◌, ◌≢◌, ◌+◌, ℕ, List, [], Some, None, sum_by};
 ghost use Rattle.recording_order.specs.Arrivals.{Arrival};
 ghost use Rattle.recording_order.specs.Bounds.{IsBounded};
 ghost use Rattle.recording_order.specs.Domains.{LeavesDomain};
 ghost use Rattle.recording_order.specs.InOrder.{AreNext};
-ghost use Rattle.recording_order.specs.Releases.{Event, Came, Run, Says, came, finish, released, run, start, step};
+ghost use Rattle.recording_order.specs.Releases.{Event, Came, Run, Says, came, empty, finish, hand_on, released, run, settle, start, step, take_run};
+ghost use Rattle.recording_order.specs.Windows.{WindowView, last_of, least_in, next_of, offered};
+ghost use Rattle.recording_order.specs.declared.offer.Offer.TheVariants.{First};
 ghost use Rattle.recording_order.specs.declared.limits.TheConstants.{MOST_LAST, MOST_WAITING, ROOM};
 ghost use Rattle.recording_order.specs.declared.numbering.TheConstants.{FARTHEST};
 
@@ -60,4 +62,27 @@ pub fn limits()
     ensures last { MOST_LAST ≡ 32 }
     ensures room { ROOM ≡ 65536 }
     ensures farthest { FARTHEST ≡ 65536 }
+{}
+
+/// A run goes on one datagram after another: where one leaves, the rest is as from the run after it was
+/// handed on, and where none does, all is done; so calls in a loop make the run.
+pub fn runs_go_one_by_one()
+    ensures first { (says : Says) (a : Arrival) (r : Run) (b : Arrival) (w : WindowView)
+        → offered r.window a ≡ (First b, w)
+        → take_run says a r ≡ take_run says a (hand_on says b w r) }
+    ensures next { (says : Says) (domain second : ℕ) (r : Run) (x : Arrival × WindowView)
+        → next_of r.window domain second ≡ Some x
+        → settle says domain second r ≡ settle says domain second (hand_on says x.0 x.1 r) }
+    ensures settled { (says : Says) (domain second : ℕ) (r : Run)
+        → next_of r.window domain second ≡ None → settle says domain second r ≡ r }
+    ensures least { (says : Says) (domain : ℕ) (r : Run) (x : Arrival × WindowView)
+        → least_in r.window domain ≡ Some x
+        → empty says domain r ≡ empty says domain (hand_on says x.0 x.1 r) }
+    ensures emptied { (says : Says) (domain : ℕ) (r : Run)
+        → least_in r.window domain ≡ None → empty says domain r ≡ r }
+    ensures last { (says : Says) (r : Run) (x : Arrival × WindowView)
+        → last_of r.window r.window.waiting ≡ Some x
+        → finish says r ≡ finish says (hand_on says x.0 x.1 r) }
+    ensures finished { (says : Says) (r : Run)
+        → last_of r.window r.window.waiting ≡ None → finish says r ≡ r }
 {}

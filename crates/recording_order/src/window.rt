@@ -50,6 +50,13 @@ impl Window {
         }
     }
 
+    /// How many datagrams wait.
+    pub fn waiting_count(&self) -> usize
+        ensures { result ≡ length self.now.waiting }
+    {
+        self.waiting.len()
+    }
+
     /// The numbers of a domain, of which a datagram was written.
     pub(crate) fn numbering(&self, domain: u32) -> Option<Numbering>
         ensures { result ≡ specs.numbering self.now domain }
