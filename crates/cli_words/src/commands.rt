@@ -7,7 +7,8 @@ use crate::listen_options::{
     UDP,
 };
 use crate::options::{
-    DUMP_FORMAT, ELEMENTS, PLAN, PROGRESS, RING, STRICT, TABLE_FORMAT, TIME, VERBOSE, WORKERS,
+    DUMP_FORMAT, ELEMENTS, MERGE_STRICT, PLAN, PROGRESS, RING, STRICT, TABLE_FORMAT, TIME, VERBOSE,
+    WORKERS,
 };
 
 /// A command.
@@ -60,9 +61,9 @@ pub const TCP: CommandWords = CommandWords {
 };
 
 pub const RECORD: CommandWords = CommandWords {
-    about: "Records what exporters send in files, one a session and period, and never ends",
+    about: "Records what exporters send, in a file for each session and period, until it is stopped",
     example: "A finished file is FOLDER/YYYY-MM-DD/HHMMSS/NAME, the beginning of its period in UTC, and can be\n\
-        read by itself. Whatever stops the program, nothing is lost that was written: the next start\n\
+        read by itself. Nothing that was written is lost, whatever stops the program: the next start\n\
         finishes what this one left.\n\n\
         Example:\n  collectd record --into recordings --listen 0.0.0.0:4739 --udp 0.0.0.0:4739",
     shared: &[],
@@ -97,7 +98,7 @@ pub const MERGE: CommandWords = CommandWords {
         TABLE_FORMAT,
         TIME,
         VERBOSE,
-        STRICT,
+        MERGE_STRICT,
         TABLE_FILES,
     ],
 };

@@ -12,7 +12,7 @@ pub const LISTEN: Argument = Argument {
     word: LISTEN_WORD,
     takes: Takes::Text("ADDR"),
     due: Due::Always,
-    help: "The address and port to listen on",
+    help: "The TCP address and port to listen on",
 };
 
 /// How many `tcp` accepts.
@@ -28,7 +28,7 @@ pub const IDLE: Argument = Argument {
     word: "idle",
     takes: Takes::Number("SECONDS", 1, LARGEST),
     due: Due::Never,
-    help: "How long a connection may send nothing, from 1; then its session ends with fault 15",
+    help: "How many seconds a connection may send nothing, from 1; then its session ends with fault 15",
 };
 
 /// Where `record` records.
@@ -36,7 +36,7 @@ pub const INTO: Argument = Argument {
     word: "into",
     takes: Takes::Text("FOLDER"),
     due: Due::Always,
-    help: "The folder of the files, which is made if it isn't there",
+    help: "The folder of the recordings, created if it does not exist",
 };
 
 /// Where `record` accepts connections.
@@ -44,7 +44,7 @@ pub const RECORD_LISTEN: Argument = Argument {
     word: LISTEN_WORD,
     takes: Takes::Text("ADDR"),
     due: Due::Without(UDP_WORD),
-    help: "The address and port to listen on for connections",
+    help: "The TCP address and port to listen on",
 };
 
 /// Where `record` takes datagrams.
@@ -52,14 +52,14 @@ pub const UDP: Argument = Argument {
     word: UDP_WORD,
     takes: Takes::Text("ADDR"),
     due: Due::Without(LISTEN_WORD),
-    help: "The address and port to take datagrams at, beside connections or alone",
+    help: "The UDP address and port to receive datagrams on, with --listen or without it",
 };
 
 pub const EVERY: Argument = Argument {
     word: "every",
     takes: Takes::Number("SECONDS", 1, LARGEST),
     due: Due::Default("300"),
-    help: "How long a file's period is, from 1",
+    help: "The length of a period in seconds, from 1",
 };
 
 /// How many connections `record` has at once.
@@ -67,21 +67,21 @@ pub const RECORD_SESSIONS: Argument = Argument {
     word: "sessions",
     takes: Takes::Number("N", 1, 64),
     due: Due::Default("64"),
-    help: "How many connections are recorded at once, 1 to 64; more wait",
+    help: "How many connections are recorded at once, 1 to 64; more wait until one ends",
 };
 
 pub const PEERS: Argument = Argument {
     word: "peers",
     takes: Takes::Number("N", 1, 65536),
     due: Due::Default("1024"),
-    help: "How many peers that send datagrams are kept at once, 1 to 65536; for one more the longest silent ends",
+    help: "How many peers that send datagrams are kept at once, 1 to 65536; when one more appears, the one silent longest is dropped",
 };
 
 pub const FROM: Argument = Argument {
     word: "from",
     takes: Takes::Texts("PREFIX"),
     due: Due::Never,
-    help: "An address or a prefix, as 192.0.2.0/24, of peers that may send; given several times, of all of them",
+    help: "Which peers may send: an address or a prefix, as 192.0.2.0/24; may be repeated; by default all",
 };
 
 /// For how long a peer of `record` may be silent.
@@ -89,5 +89,5 @@ pub const RECORD_IDLE: Argument = Argument {
     word: "idle",
     takes: Takes::Number("SECONDS", 1, LARGEST),
     due: Due::Never,
-    help: "How long a peer may send nothing, from 1; by default 1800 over UDP, and no limit over a connection",
+    help: "How many seconds a peer may send nothing, from 1; by default 1800 over UDP, and no limit over a connection",
 };

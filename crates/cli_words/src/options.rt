@@ -14,7 +14,7 @@ pub const ELEMENTS: Argument = Argument {
     word: "elements",
     takes: Takes::Texts("FILE"),
     due: Due::Never,
-    help: "A file of elements, with the columns of IANA's list; given several times, of all of them",
+    help: "A file with more elements, in the form of IANA's list; may be repeated",
 };
 
 pub const WORKERS: Argument = Argument {
@@ -28,7 +28,7 @@ pub const RING: Argument = Argument {
     word: "ring",
     takes: Takes::Number("C", 0, LARGEST),
     due: Due::Default("64"),
-    help: "How many records may wait between a session and its worker, 1 to 65536; 1024 is faster, 64 takes least memory",
+    help: "How many records may wait between a session and its worker, 1 to 65536; 1024 is faster, 64 takes the least memory",
 };
 
 /// How a data record is written.
@@ -65,12 +65,23 @@ pub const VERBOSE: Argument = Argument {
     word: "verbose",
     takes: Takes::Nothing(Some('v')),
     due: Due::Never,
-    help: "Say more on standard error: what was opened, what was not counted, where faults are, and why",
+    help: "Print more on standard error: what was opened, what was not counted, where faults are, and why",
 };
 
+// The word of an option that changes nothing for `merge`.
+const STRICT_WORD: &str = "strict";
+
 pub const STRICT: Argument = Argument {
-    word: "strict",
+    word: STRICT_WORD,
     takes: Takes::Nothing(None),
     due: Due::Never,
-    help: "End with status 1 also if anything was lost or not counted, and say what",
+    help: "End with status 1 also if anything was lost or not counted, and print what",
+};
+
+/// The same of `merge`.
+pub const MERGE_STRICT: Argument = Argument {
+    word: STRICT_WORD,
+    takes: Takes::Nothing(None),
+    due: Due::Never,
+    help: "Changes nothing: a file with anything missing is refused in any case",
 };

@@ -31,7 +31,7 @@ impl Explanation {
                 found: "a file of the recorded session could not be written, or not be finished",
                 rule: "none of RFC 7011",
                 advice: "Look for a full disk, or for a folder without permission. The messages that were written\n\
-                    stand whole in the session's files. Let the exporter connect again.",
+                    are whole in the session's files. Let the exporter connect again.",
             },
             EndingFault::Withdrawal => Explanation {
                 found: "a datagram withdraws a template, and defines none for its id",
@@ -54,7 +54,8 @@ fn explanation_of_session(fault: SessionFault) -> Explanation
             found: "the input ended inside a message",
             rule: "RFC 7011, section 3.1",
             advice: "The file was cut, or the exporter was stopped while it sent. A tunnel that is killed\n\
-                    ends a session in the same way (seen with stunnel). Copy the file again, or find out why.",
+                    ends a session in the same way (seen with stunnel). Copy the file again, or find out\n\
+                    why the exporter stopped.",
         },
         SessionFault::ReadFailed => Explanation {
             found: "the input could not be read on, or sent nothing for as long as --idle says",
@@ -103,7 +104,7 @@ pub fn explanation_of_message(fault: MessageFault) -> Explanation
         MessageFault::SetLength => Explanation {
             found: "a set's length is below 4, or past the end of the message",
             rule: "RFC 7011, section 3.3",
-            advice: "The lengths that the exporter writes contradict each other: report it to the vendor.\n\
+            advice: "The lengths that the exporter writes contradict each other. Report it to the vendor.\n\
                 If a file holds several sessions and one of them was cut, separate them where each\n\
                 begins (docs/RECIPES.md, Several sessions).",
         },
@@ -122,7 +123,7 @@ pub fn explanation_of_message(fault: MessageFault) -> Explanation
             found: "a scope field count of 0, or above the field count",
             rule: "RFC 7011, section 3.4.2",
             advice: "The options template does not say what its options are about. Report it to the vendor,\n\
-                and turn the exporter's options off until it is mended, if you can.",
+                and turn the exporter's options off until it is fixed, if you can.",
         },
         MessageFault::ZeroLength => Explanation {
             found: "a template whose records would have no octets",
@@ -151,7 +152,7 @@ pub fn explanation_of_message(fault: MessageFault) -> Explanation
                 use fewer domains, or more sessions.",
         },
         MessageFault::OutOfMemory => Explanation {
-            found: "memory was refused; may stand in place of any other answer",
+            found: "memory was refused; may come in place of any other answer",
             rule: "none of RFC 7011",
             advice: "Give the program more memory, or fewer sessions at once, or shorter rings (--ring); or\n\
                 make the table smaller: longer intervals, fewer keys, a smaller max_spread.",

@@ -34,9 +34,9 @@ impl RunFault {
             Plan(PlanFault::KeyCount) => "more than 8 keys",
             Plan(PlanFault::KeyKind) => "a key is no number and no address",
             Plan(PlanFault::Prefix) | Row(RowFault::Prefix) =>
-                "a key with a prefix that it can't have, or an address with bits behind its prefix",
+                "a key with a prefix that it can't have, or an address with bits after its prefix",
             Plan(PlanFault::CounterCount) => "no counter, or more than 4",
-            Plan(PlanFault::CounterKind) => "a counter that is not added up",
+            Plan(PlanFault::CounterKind) => "an element that can't be a counter",
             Plan(PlanFault::Repeated) => "an element twice among keys and counters",
             Elements(ElementsFault::NotCsv) => "a row has more or fewer fields than the first line",
             Elements(ElementsFault::Column(_)) => "the first line lacks a column",
@@ -44,7 +44,7 @@ impl RunFault {
             Elements(ElementsFault::Enterprise) =>
                 "the enterprise is not decimal, or above 4294967295",
             Elements(ElementsFault::Name) =>
-                "the name is not a letter and then letters, digits, _ and -, 64 in all",
+                "the name is not a letter and then letters, digits, _ and -, at most 64 in all",
             Elements(ElementsFault::NumberTwice) => "an earlier row has the element",
             Elements(ElementsFault::NameTwice) => "another element has the name",
             Elements(ElementsFault::TooMany) => "there are more elements than 16384",
@@ -99,19 +99,21 @@ impl RunFault {
             Plan(PlanFault::Spread) => "Take a number of that range, or leave max_spread out.",
             Plan(PlanFault::KeyCount) => "Leave some of them out.",
             Plan(PlanFault::KeyKind) =>
-                "`collectd elements` marks those that can, with --elements also those that files name.\n\
-                Times and octets can't be keys, nor can elements that have no type. Leave it out.",
+                "`collectd elements` marks the elements that can be keys; with --elements also those of\n\
+                files. Times, octets and elements without a type can't. Leave it out.",
             Plan(PlanFault::Prefix) | Row(RowFault::Prefix) =>
                 "A prefix is 0 to 32 bits of an IPv4 address. Merge tables that have the same prefixes.",
             Plan(PlanFault::CounterCount) => "Name 1 to 4 counters. Make a second table for more.",
             Plan(PlanFault::CounterKind) =>
                 "Counters are octetDeltaCount, packetDeltaCount, deltaFlowCount, postOctetDeltaCount,\n\
                 postPacketDeltaCount, droppedOctetDeltaCount and droppedPacketDeltaCount; with --elements\n\
-                also the delta counters of files. Totals are none: flows would be counted twice.",
+                also the delta counters of files. Totals are no counters: flows would be counted again\n\
+                and again.",
             Plan(PlanFault::Repeated) =>
-                "Leave one of them out. An address with a prefix counts as the element of prefixes, too.",
+                "Leave one of them out. A key with a prefix also counts as sourceIPv4Prefix or\n\
+                destinationIPv4Prefix.",
             Elements(ElementsFault::NotCsv) =>
-                "The next line on standard error says in which line of the file the row begins.",
+                "The same line says in which line of the file the row begins.",
             Elements(ElementsFault::Column(_)) =>
                 "The first line has ElementID, Name and Abstract Data Type, as that of IANA's file.",
             Elements(ElementsFault::Number) =>
@@ -121,7 +123,7 @@ impl RunFault {
             Elements(ElementsFault::Name) =>
                 "Give the element another name; start, end and flows are taken, too.",
             Elements(ElementsFault::NumberTwice) =>
-                "Leave one of the two rows out, also where they stand in two files.",
+                "Leave one of the two rows out, also if they are in two files.",
             Elements(ElementsFault::NameTwice) =>
                 "Give one of the two another name; those that are built in are taken, too.",
             Elements(ElementsFault::TooMany) => "Leave out those that no exporter sends.",
