@@ -47,7 +47,10 @@ fn check_left(
     lent(&trial.tree)?.make_file(path.as_str(), octets.as_slice())?;
     check(trial.recover()? == 0, "recovery", "a file stays")?;
     trial.check_lines(&[line])?;
-    trial.check_file(FINAL, &octets[..length])
+    match octets.as_slice().get(..length) {
+        Some(kept) => trial.check_file(FINAL, kept),
+        None => Err(Fail::new("the file is shorter")),
+    }
 }
 
 #[test]
