@@ -1,5 +1,5 @@
 -- A datagram of one domain changes nothing of another.
-use Rattle.std.proofs.Common.{◌≡◌, ℕ, zero, suc, ◌+◌, Bool, true, false, eqb, leb, cond, Option, Some, None, List, [], ◌∷◌, ◌++◌, length, take, drop, filter, refl, sym, ap, subst, ◌∙◌, append_assoc, arith, inl, inr}
+use Rattle.std.proofs.Common.{◌≡◌, ℕ, zero, suc, ◌+◌, Bool, true, false, eqb, leb, cond, Option, Some, None, List, [], ◌∷◌, ◌++◌, length, take, filter, refl, sym, ap, ◌∙◌, append_assoc, arith, inl, inr}
 use Rattle.std.specs.Prelude.{◌≢◌, ◌&&◌, slice_get, remove, option_map}
 use Rattle.std.specs.List.{list_any}
 use Rattle.std.specs.Map.{lookup}
@@ -7,12 +7,11 @@ use Rattle.std.proofs.lemmas.Bool.{eqb-true, eq-eqb, ne_eqb}
 use Rattle.std.proofs.lemmas.Bool.Decides.{eqb_tells}
 use Rattle.std.proofs.lemmas.List.{append-nil, length-append}
 use Rattle.std.proofs.lemmas.List.Elements.{filter-append}
-use Rattle.std.proofs.lemmas.Option.{slice_get_cases}
 use Rattle.indexmap.specs.IndexMap.{insert_entry}
 use Rattle.recording_order.specs.Arrivals.{Arrival, is_in}
 use Rattle.recording_order.specs.DataSets.{has_data}
 use Rattle.recording_order.specs.Domains.{KeepsDomain, LeavesDomain}
-use Rattle.recording_order.specs.Leasts.{lesser, found_at, one_more, least_from, least_of}
+use Rattle.recording_order.specs.Leasts.{lesser, found_at, one_more, least_from}
 use Rattle.recording_order.specs.Numbers.{standing_of, is_at_due, numbers_after, place}
 use Rattle.recording_order.specs.declared.datagram_counts.DatagramCounts.{DatagramCounts}
 use Rattle.recording_order.specs.declared.least.Least.{Least}
@@ -22,7 +21,7 @@ use Rattle.recording_order.specs.declared.numbering.Standing.TheVariants.{AtOnce
 use Rattle.recording_order.specs.declared.offer.Offer.{Offer}
 use Rattle.recording_order.specs.declared.offer.Offer.TheVariants.{Write, Waits, Doubled, First, Anew}
 use Rattle.recording_order.specs.Windows.{WindowView, Offered, numbering, renumbered, due_number, counted, with_doubled, with_reordered, one_doubled, one_reordered, passing, least, without, leaving, ripe, is_ripe, if_ripe, next_of, least_in, with_last, held, has_room, is_doubled, now, first_or, offered_full, offered_as, offered, noted, after_writing}
-use Rattle.recording_order.specs.Releases.{Event, Came, Run, Says, answered, hand_on, go_on, empty_with, empty, begin_anew, take_offered, take_with, take_run, settle_with, settle, step}
+use Rattle.recording_order.specs.Releases.{Came, Run, Says, answered, hand_on, go_on, empty_with, empty, begin_anew, take_offered, take_with, take_run, settle_with, settle, step}
 
 -- ---- one of another domain
 

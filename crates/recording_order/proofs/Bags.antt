@@ -1,10 +1,10 @@
 -- Every datagram that came was handed on, waits or was doubled, once.
-use Rattle.std.proofs.Common.{◌≡◌, ℕ, zero, suc, ◌+◌, ◌<◌, Bool, true, false, eqb, leb, ltb, cond, Option, Some, None, List, [], ◌∷◌, ◌++◌, length, take, get_or, ◌≤◌, refl, sym, ap, ◌∙◌, arith, inl, inr}
+use Rattle.std.proofs.Common.{◌≡◌, ℕ, zero, suc, ◌+◌, ◌<◌, Bool, true, false, eqb, leb, cond, Option, Some, None, List, [], ◌∷◌, length, take, get_or, ◌≤◌, refl, ap, ◌∙◌, arith, inl, inr}
 use Rattle.std.specs.Prelude.{◌⊎◌, ◌&&◌, sum_by, slice_get, remove, option_map}
 use Rattle.std.specs.List.{list_any}
 use Rattle.std.proofs.lemmas.List.Sums.{sum_by_push, sum_by-remove, sum_by-append}
 use Rattle.std.proofs.lemmas.Option.{slice_get_cases}
-use Rattle.recording_order.specs.Arrivals.{Arrival, is_in, room_beside, octets_of}
+use Rattle.recording_order.specs.Arrivals.{Arrival, is_in}
 use Rattle.recording_order.specs.Numbers.{standing_of, is_at_due, numbers_after, place}
 use Rattle.recording_order.specs.DataSets.{has_data}
 use Rattle.recording_order.specs.declared.datagram_counts.DatagramCounts.{DatagramCounts}
@@ -15,7 +15,7 @@ use Rattle.recording_order.specs.declared.numbering.Standing.TheVariants.{AtOnce
 use Rattle.recording_order.specs.declared.offer.Offer.{Offer}
 use Rattle.recording_order.specs.declared.offer.Offer.TheVariants.{Write, Waits, Doubled, First, Anew}
 use Rattle.recording_order.specs.Windows.{WindowView, Offered, counted, renumbered, passing, with_reordered, with_doubled, one_reordered, one_doubled, numbering, due_number, after_writing, noted, with_last, least, leaving, ripe, next_of, late_domain, least_in, last_of, now, first_or, held, has_room, is_doubled, offered_full, offered_as, offered}
-use Rattle.recording_order.specs.Releases.{Event, Came, Tick, came_in, came, Run, Says, answered, hand_on, take_offered, take_with, take_run, go_on, empty_with, empty, begin_anew, settle_with, settle, settle_late, tick_with, tick, finish_with, finish, step, run_from, start, run}
+use Rattle.recording_order.specs.Releases.{Event, Came, Tick, came_in, came, Run, Says, answered, hand_on, take_offered, take_with, take_run, go_on, empty_with, empty, begin_anew, settle_with, settle, settle_late, tick_with, finish_with, finish, step, run_from, start, run}
 
 -- ---- what waits
 

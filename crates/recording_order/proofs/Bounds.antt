@@ -1,6 +1,6 @@
 -- What is kept of a peer is bounded.
-use Rattle.std.proofs.Common.{◌≡◌, ℕ, zero, suc, ◌+◌, ◌-◌, ◌<◌, ◌≤◌, Bool, true, false, eqb, leb, ltb, cond, Option, Some, None, List, [], ◌∷◌, ◌++◌, length, take, refl, sym, ap, subst, ◌∙◌, arith}
-use Rattle.std.specs.Prelude.{◌&&◌, sum_by, slice_get, remove, option_map}
+use Rattle.std.proofs.Common.{◌≡◌, ℕ, zero, suc, ◌+◌, ◌-◌, ◌<◌, ◌≤◌, Bool, true, false, eqb, leb, ltb, cond, Option, Some, None, List, [], ◌∷◌, ◌++◌, length, take, refl, ap, subst, arith}
+use Rattle.std.specs.Prelude.{◌&&◌, slice_get, remove, option_map}
 use Rattle.std.specs.List.{list_any}
 use Rattle.std.proofs.lemmas.Bool.{leb-true, ltb-true, eqb-true}
 use Rattle.std.proofs.lemmas.List.Sums.{sum_by_push}
@@ -15,9 +15,9 @@ use Rattle.recording_order.specs.declared.numbering.Standing.{Standing}
 use Rattle.recording_order.specs.declared.numbering.Standing.TheVariants.{AtOnce, Ahead, Afar}
 use Rattle.recording_order.specs.declared.offer.Offer.{Offer}
 use Rattle.recording_order.specs.declared.offer.Offer.TheVariants.{Write, Waits, Doubled, First, Anew}
-use Rattle.recording_order.specs.Windows.{WindowView, Offered, numbering, renumbered, due_number, counted, with_doubled, with_reordered, one_doubled, one_reordered, passing, least, without, leaving, ripe, next_of, late_domain, least_in, last_of, fitting, at_most, with_last, held, has_room, is_doubled, now, first_or, offered_full, offered_as, offered, noted, after_writing}
-use Rattle.recording_order.specs.Releases.{Event, Came, Tick, Run, Says, answered, hand_on, go_on, empty_with, empty, begin_anew, take_offered, take_with, take_run, settle_with, settle, settle_late, tick_with, finish_with, finish, step, run_from, start, run}
-use Rattle.recording_order.proofs.Bags.{Left, leaving-left, passing-waiting}
+use Rattle.recording_order.specs.Windows.{WindowView, Offered, numbering, renumbered, due_number, counted, with_doubled, with_reordered, one_doubled, one_reordered, passing, least, without, leaving, ripe, next_of, late_domain, least_in, fitting, at_most, with_last, held, has_room, is_doubled, now, first_or, offered_full, offered_as, offered, noted, after_writing}
+use Rattle.recording_order.specs.Releases.{Event, Came, Tick, Run, Says, answered, hand_on, go_on, empty_with, empty, take_offered, take_with, take_run, settle_with, settle, settle_late, tick_with, step, run_from, start, run}
+use Rattle.recording_order.proofs.Bags.{Left, leaving-left}
 
 -- ---- the room
 

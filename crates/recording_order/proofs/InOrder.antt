@@ -1,14 +1,13 @@
 -- Datagrams that come in their order are handed on as they came.
-use Rattle.std.proofs.Common.{◌≡◌, ℕ, zero, suc, ◌+◌, Bool, true, false, eqb, cond, Option, Some, None, List, [], ◌∷◌, ◌++◌, length, refl, sym, ap, subst, ◌∙◌, append_assoc}
+use Rattle.std.proofs.Common.{◌≡◌, ℕ, ◌+◌, Bool, true, false, eqb, cond, Option, Some, None, List, [], ◌∷◌, ◌++◌, length, refl, sym, ap, subst, ◌∙◌, append_assoc}
 use Rattle.std.proofs.lemmas.List.{append-nil}
 use Rattle.recording_order.specs.Arrivals.{Arrival}
 use Rattle.recording_order.specs.Numbers.{standing_of}
 use Rattle.recording_order.specs.declared.datagram_counts.DatagramCounts.{DatagramCounts}
 use Rattle.recording_order.specs.declared.numbering.Standing.{Standing}
 use Rattle.recording_order.specs.declared.numbering.Standing.TheVariants.{AtOnce}
-use Rattle.recording_order.specs.declared.offer.Offer.{Offer}
 use Rattle.recording_order.specs.declared.offer.Offer.TheVariants.{Write, Doubled}
-use Rattle.recording_order.specs.Windows.{WindowView, Offered, numbering, is_doubled, with_doubled, now, passing, offered, offered_as}
+use Rattle.recording_order.specs.Windows.{WindowView, numbering, is_doubled, with_doubled, now, passing, offered, offered_as}
 use Rattle.recording_order.specs.Releases.{Event, Came, Tick, Run, Says, came, answered, hand_on, take_offered, take_with, take_run, settle_with, settle, tick, tick_with, finish, finish_with, step, run_from, start, run, released}
 use Rattle.recording_order.specs.InOrder.{IsNext, AreNext}
 use Rattle.recording_order.proofs.Bags.{answered-waiting}

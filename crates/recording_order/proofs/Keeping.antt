@@ -1,11 +1,10 @@
 -- What is kept, and what a datagram is offered as.
-use Rattle.std.proofs.Common.{◌≡◌, ℕ, ◌<◌, Bool, true, false, eqb, leb, List, [], ◌∷◌, ◌++◌, refl, sym, ap, ◌∙◌, arith}
+use Rattle.std.proofs.Common.{◌≡◌, ℕ, true, false, eqb, leb, List, [], ◌∷◌, ◌++◌, refl, sym}
 use Rattle.recording_order.specs.Arrivals.{Arrival, octets_of, room_beside}
 use Rattle.recording_order.specs.Numbers.{standing_of}
 use Rattle.recording_order.specs.declared.numbering.Standing.{Standing}
-use Rattle.recording_order.specs.declared.offer.Offer.{Offer}
 use Rattle.recording_order.specs.declared.offer.Offer.TheVariants.{Doubled}
-use Rattle.recording_order.specs.Windows.{WindowView, Offered, fitting, at_most, with_last, with_doubled, is_doubled, numbering, offered, offered_as}
+use Rattle.recording_order.specs.Windows.{WindowView, fitting, at_most, with_last, with_doubled, is_doubled, numbering, offered, offered_as}
 
 -- those that fit stay
 pub fitting-fits : (room : ℕ) (xs : List Arrival) → true ≡ leb (octets_of xs) room → fitting room xs ≡ xs

@@ -3,9 +3,8 @@ use Rattle.std.proofs.Common.{◌≡◌, ℕ, zero, suc, ◌+◌, Option, Some, 
 use Rattle.std.specs.Prelude.{sum_by}
 use Rattle.std.proofs.lemmas.List.Sums.{sum_by-cons}
 use Rattle.recording_order.specs.Arrivals.{Arrival}
-use Rattle.recording_order.specs.declared.offer.Offer.{Offer}
 use Rattle.recording_order.specs.declared.offer.Offer.TheVariants.{First}
-use Rattle.recording_order.specs.Windows.{WindowView, Offered, leaving, least, ripe, next_of, least_in, last_of, offered}
+use Rattle.recording_order.specs.Windows.{WindowView, least, ripe, next_of, least_in, last_of, offered}
 use Rattle.recording_order.specs.Releases.{Run, Says, hand_on, go_on, empty_with, empty, take_offered, take_with, take_run, settle_with, settle, finish_with, finish}
 use Rattle.recording_order.proofs.Bags.{Left, leaving-left, last_of-left, Offers, offered-offers, answered-waiting}
 

@@ -1,4 +1,4 @@
-use Rattle.std.proofs.Common.{◌≡◌, ℕ, length, drop, sym, arith}
+use Rattle.std.proofs.Common.{◌≡◌, length, drop, sym, arith}
 use Rattle.std.proofs.lemmas.List.{length-drop}
 use Rattle.recording_order.proofs.DataSets.{have_data-nil}
 use Rattle.recording_order.proofs.data_sets.has_data.Goals as goal

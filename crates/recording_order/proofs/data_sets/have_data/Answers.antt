@@ -1,4 +1,4 @@
-use Rattle.std.proofs.Common.{◌≡◌, ◌∙◌, ℕ, length, sym, rules}
+use Rattle.std.proofs.Common.{◌≡◌, ◌∙◌, length, sym, rules}
 use Rattle.recording_order.proofs.DataSets.{have_data-here, have_data-behind, have_data-none, have_data-nil}
 use Rattle.recording_order.proofs.data_sets.have_data.Goals as goal
 

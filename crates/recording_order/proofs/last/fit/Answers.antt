@@ -1,4 +1,4 @@
-use Rattle.std.proofs.Common.{◌≡◌, ◌∙◌, Bool, true, leb, sym, rules}
+use Rattle.std.proofs.Common.{◌≡◌, ◌∙◌, true, leb, sym, rules}
 use Rattle.recording_order.specs.Arrivals.{octets_of}
 use Rattle.recording_order.proofs.Keeping.{fitting-fits}
 use Rattle.recording_order.proofs.last.fit.Goals as goal

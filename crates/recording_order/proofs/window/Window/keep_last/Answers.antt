@@ -1,5 +1,5 @@
-use Rattle.std.proofs.Common.{◌≡◌, ◌∙◌, ◌++◌, ◌∷◌, [], ℕ, List, ap, rules}
-use Rattle.recording_order.specs.Arrivals.{Arrival, room_beside}
+use Rattle.std.proofs.Common.{◌≡◌, ◌∙◌, ◌++◌, ◌∷◌, [], ap, rules}
+use Rattle.recording_order.specs.Arrivals.{room_beside}
 use Rattle.recording_order.specs.Windows.{WindowView, with_last}
 use Rattle.recording_order.proofs.Keeping.{kept}
 use Rattle.recording_order.proofs.window.Window.keep_last.Goals as goal

@@ -1,4 +1,4 @@
-use Rattle.std.proofs.Common.{◌≡◌, ◌∙◌, ℕ, Bool, true, false, eqb, ap, sym}
+use Rattle.std.proofs.Common.{◌≡◌, ◌∙◌, true, false, eqb, ap, sym}
 use Rattle.std.proofs.lemmas.Bool.{ne_eqb}
 use Rattle.recording_order.specs.Arrivals.{Arrival}
 use Rattle.recording_order.specs.Windows.{WindowView, is_doubled}
