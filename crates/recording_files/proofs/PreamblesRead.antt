@@ -186,7 +186,7 @@ sets_read h (t ∷ ts) d full are stand below =
 
 -- ---- a message of a preamble
 
-header_is : (s : Stamp) (ts : List Template) → IsStamp s → 16 + length (sets_octets ts) < 2 ^ 16 → message_header (templates_message s ts) ≡ Ok (stamped s (length (sets_octets ts)))
+pub header_is : (s : Stamp) (ts : List Template) → IsStamp s → 16 + length (sets_octets ts) < 2 ^ 16 → message_header (templates_message s ts) ≡ Ok (stamped s (length (sets_octets ts)))
 unfolding message_header
 header_is s ts is fits =
     let m = templates_message s ts in

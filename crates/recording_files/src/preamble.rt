@@ -27,8 +27,9 @@ fn set_id(template: &Template) -> u16
     }
 }
 
-// Appends a message of one template. What stood in `body` before is gone.
-fn append_template_message(
+/// Appends a message of one template. What stood in `body` before is gone. Out of memory, the first octets
+/// may have been appended.
+pub fn append_template_message(
     stamp: Stamp,
     template: &Template,
     body: &mut Vec<u8>,
