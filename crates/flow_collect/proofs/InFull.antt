@@ -1,17 +1,17 @@
 -- Sessions that report in full.
-use Rattle.std.proofs.Common.{◌≡◌, ℕ, List, [], ◌∷◌, Option, None, Some, length, refl, sym, ◌∙◌, subst, map, append-nil}
-use Rattle.std.specs.Prelude.{◌≢◌}
+use Rattle.std.proofs.Common.{◌≡◌, ℕ, ◌+◌, ◌%◌, ◌<◌, List, [], ◌∷◌, Option, None, Some, length, refl, sym, ap, ◌∙◌, subst, map, append-nil, arith}
+use Rattle.std.specs.Prelude.{◌≢◌, ◌-◌, ◌^◌}
 use Rattle.std.specs.List.{AllZip}
 use Rattle.std.specs.declared.vec.Vec.{Vec}
 use Rattle.std.proofs.lemmas.List.{length-map}
 use Rattle.ipfix_message.specs.Domains.{Message}
 use Rattle.ipfix_message.specs.declared.fault.MessageFault.TheVariants.{OutOfMemory}
 use Rattle.ipfix_message.specs.declared.record.DataRecord.{DataRecord}
-use Rattle.ipfix_session.specs.Balances.{domain_balance}
+use Rattle.ipfix_session.specs.Balances.{domain_balance, sequence_at_end, accounted_for, AdvanceBy, KeepsCount}
 use Rattle.ipfix_session.specs.Drives.{PutsUpTo, DrivesInFull}
 use Rattle.ipfix_session.specs.Feeding.{PutsWhole}
 use Rattle.ipfix_session.specs.Given.{gives, records_in, records_of, IsPrefix}
-use Rattle.ipfix_session.specs.Ledger.{domains_of, domain_report}
+use Rattle.ipfix_session.specs.Ledger.{domains_of, domain_report, messages_of}
 use Rattle.ipfix_session.specs.Places.{ReportsInFull, IsFullReport}
 use Rattle.ipfix_session.specs.Sinks.{SinkView, Takes}
 use Rattle.ipfix_session.specs.Sources.{SourceView}
@@ -87,9 +87,21 @@ module _ {S K : Type 0} (seen : S → SourceView) (view : SinkView K) (before af
 
 -- ---- the ledgers
 
+balances_at : (ms : List Message) (domain : ℕ) (first : Message) (more : List Message) → messages_of domain ms ≡ first ∷ more
+    → (domain_report ms domain).backward ≡ 0 → (domain_balance ms domain).late ≡ 0
+    → (domain_report ms domain).count < 2 ^ 64 - 1 → (domain_report ms domain).lost < 2 ^ 64 - 1 → (domain_balance ms domain).unaccounted < 2 ^ 64 - 1
+    → (first.header.sequence + (domain_report ms domain).count + (domain_report ms domain).lost + (domain_balance ms domain).unaccounted) % 2 ^ 32 ≡ sequence_at_end first more
+balances_at ms domain first more is backward late count lost unaccounted =
+    let report = domain_report ms domain in
+    let balance = domain_balance ms domain in
+    let keeps : KeepsCount ms domain = record { none_backward = backward; none_late = late; count = count; lost = lost; unaccounted = unaccounted } in
+    let advance : AdvanceBy (accounted_for ms domain) (first ∷ more) = subst (AdvanceBy (accounted_for ms domain)) is (balances ms domain keeps) in
+    let sum : first.header.sequence + report.count + report.lost + balance.unaccounted ≡ first.header.sequence + accounted_for ms domain = omega arith in
+    ap (λ (n : ℕ). n % 2 ^ 32) sum ∙ advance
+
 balanced_in : (ms : List Message) (domains : List ℕ) → AllZip (IsBalanced ms) (map (domain_report ms) domains) (map (domain_balance ms) domains)
 balanced_in ms [] = tt
-balanced_in ms (domain ∷ domains) = (record { domain_is = refl; balances = balances ms domain }, balanced_in ms domains)
+balanced_in ms (domain ∷ domains) = (record { domain_is = refl; balances = balances_at ms domain }, balanced_in ms domains)
 
 balanced_of : (ms : List Message) (reports : List DomainReport) (of_domains : List DomainBalance) → reports ≡ map (domain_report ms) (domains_of ms) → of_domains ≡ map (domain_balance ms) (domains_of ms)
     → AllZip (IsBalanced ms) reports of_domains

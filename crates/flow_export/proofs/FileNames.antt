@@ -8,7 +8,7 @@ use Rattle.std.proofs.lemmas.Bool.{cases_Bool, and_parts, and_from, lt-ltb}
 use Rattle.std.proofs.lemmas.List.Folds.{list_all-append}
 use Rattle.ipfix_elements.specs.Elements.{entry_of}
 use Rattle.element_registry.specs.Faults.{Read}
-use Rattle.element_registry.specs.Files.{with_entry_if, with_row, with_rows, with_file, most}
+use Rattle.element_registry.specs.Files.{fields_in, with_entry_if, with_row, with_rows, with_file, most}
 use Rattle.element_registry.specs.Registries.{Known, is_of, element_by_name}
 use Rattle.element_registry.specs.Rows.{and_then, begins_with_letter, columns_in, element_in, entry, entry_in, entry_of_element, field, full_name, is_name, is_name_octet, is_reserved}
 use Rattle.element_registry.specs.declared.columns.Columns.{Columns}
@@ -108,18 +108,18 @@ with_one known all None plain each h =
 with_one known all (Some k) plain each h =
     one_more (is_some (find (is_of k.element) known)) (is_some (element_by_name known k.name)) (nat_lt (length known) most) known all k plain (each k refl) h
 
-rows_plain : (at : Columns) (known all : List Known) (rows : List (List (List ℕ))) → have_plain_names known ≡ true → with_rows at known rows ≡ Ok all → have_plain_names all ≡ true
+rows_plain : (at : Columns) (known all : List Known) (rows : List _) → have_plain_names known ≡ true → with_rows at known rows ≡ Ok all → have_plain_names all ≡ true
 rows_plain at known all [] plain h =
     let are : known ≡ all = cc in
     subst (λ (ks : List Known). have_plain_names ks ≡ true) are plain
 rows_plain at known all (row ∷ rows) plain h =
-    let first = bound (with_row at known row) (λ more. with_rows at more rows) all h in
-    let said = bound (entry_in at row) (with_entry_if known) first.0 first.1 in
-    let more = with_one known first.0 said.0 plain (λ k is. row_plain_name at row k (said.1 ∙ ap (λ (o : Option Known). Ok o) is)) said.2 in
+    let first = bound (with_row at known (fields_in row)) (λ more. with_rows at more rows) all h in
+    let said = bound (entry_in at (fields_in row)) (with_entry_if known) first.0 first.1 in
+    let more = with_one known first.0 said.0 plain (λ k is. row_plain_name at (fields_in row) k (said.1 ∙ ap (λ (o : Option Known). Ok o) is)) said.2 in
     rows_plain at first.0 all rows more first.2
 
-pub file_plain : (known all : List Known) (rows : List (List (List ℕ))) → have_plain_names known ≡ true → with_file known rows ≡ Ok all → have_plain_names all ≡ true
+pub file_plain : (known all : List Known) (rows : List _) → have_plain_names known ≡ true → with_file known rows ≡ Ok all → have_plain_names all ≡ true
 file_plain known all [] plain h = absurd cc
 file_plain known all (heading ∷ rows) plain h =
-    let at = bound (columns_in heading) (λ at. with_rows at known rows) all h in
+    let at = bound (columns_in (fields_in heading)) (λ at. with_rows at known rows) all h in
     rows_plain at.0 known all rows plain at.2

@@ -26,7 +26,7 @@ pub fn nothing_is_quoted()
 /// What files name needs no quotes in CSV (RFC 4180, section 2) and no escape in JSON (RFC 8259,
 /// section 7): its names are letters, digits, `_`, `-` and dots.
 pub fn file_names_are_plain()
-    ensures { (known all : List Known) (rows : List (List (List ℕ)))
+    ensures { (known all : List Known) (rows : List _)
         → have_plain_names known ≡ true → with_file known rows ≡ Ok all
         → have_plain_names all ≡ true }
 {}
