@@ -3,7 +3,12 @@ pub mod Withdrawn
 pub mod WithdrawnDomains
 pub mod Readings
 pub mod Replacing
-pub mod Answered
+pub mod Defined
+pub mod DefinedAgain
+pub mod DataSets
+pub mod WithdrawnKept
 pub mod Attempted
+pub mod Answered
+pub mod Kept
 pub mod Reaches
 pub mod Streams

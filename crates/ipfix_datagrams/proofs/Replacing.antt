@@ -1,10 +1,10 @@
 -- The templates that a datagram has by itself, and those that they replace.
-use Rattle.std.proofs.Common.{◌≡◌, ℕ, ◌≤◌, Bool, true, false, cond, List, [], ◌∷◌, ◌++◌, append_assoc, map, Option, Some, None, Ok, refl, sym, ap, ap₂, subst, ◌∙◌, rules}
+use Rattle.std.proofs.Common.{◌≡◌, ℕ, Bool, true, false, cond, List, [], ◌∷◌, ◌++◌, append_assoc, map, Option, Some, None, Ok, refl, sym, ap, ap₂, subst, ◌∙◌}
 use Rattle.std.specs.Prelude.{All, flat_map, not, ◌==◌}
 use Rattle.std.specs.Bool.{Decides}
 use Rattle.std.specs.List.Sorted.{IsStrictlySortedBy}
 use Rattle.std.specs.Ordering.{nat_cmp}
-use Rattle.std.specs.BTreeMap.{BTreeMap, get, keys, values, IsOrdered}
+use Rattle.std.specs.BTreeMap.{BTreeMap, get, values, IsOrdered}
 use Rattle.std.proofs.lemmas.List.{append-nil}
 use Rattle.std.proofs.lemmas.Cmp.{nat_cmp_total}
 use Rattle.std.proofs.lemmas.Map.Views.{All-found}
@@ -29,11 +29,11 @@ behind : (m : List ℕ) (h : Header) (y : Message) (id : ℕ) → message_header
 behind m h y id good read = ap (λ (k : Header). template_for y.domains k.domain id) (sym (header_same [] m h y good read)) ∙ template_behind [] m y id read
 
 -- the ids of a map's templates are its keys
-ids_are : (es : List (ℕ × Template)) → All (λ e. e.1.id ≡ e.0) es → map (λ (t : Template). t.id) (map (λ (e : ℕ × Template). e.1) es) ≡ map (λ (e : ℕ × Template). e.0) es
+pub ids_are : (es : List (ℕ × Template)) → All (λ e. e.1.id ≡ e.0) es → map (λ (t : Template). t.id) (map (λ (e : ℕ × Template). e.1) es) ≡ map (λ (e : ℕ × Template). e.0) es
 ids_are [] all = refl
 ids_are (e ∷ es) all = ap₂ (λ (i : ℕ) (is : List ℕ). i ∷ is) (All-head (λ f. f.1.id ≡ f.0) e es all) (ids_are es (All-tail (λ f. f.1.id ≡ f.0) e es all))
 
-each_id : (m : BTreeMap ℕ Template) (f : ℕ → Option Template) (es : List (ℕ × Template)) → ((id : ℕ) (t : Template) → f id ≡ Some t → t.id ≡ id) → ((id : ℕ) → get nat_cmp m id ≡ f id)
+pub each_id : (m : BTreeMap ℕ Template) (f : ℕ → Option Template) (es : List (ℕ × Template)) → ((id : ℕ) (t : Template) → f id ≡ Some t → t.id ≡ id) → ((id : ℕ) → get nat_cmp m id ≡ f id)
     → All (λ e. get nat_cmp m e.0 ≡ Some e.1) es → All (λ e. e.1.id ≡ e.0) es
 each_id m f [] of_id same all = All-nil (λ e. e.1.id ≡ e.0)
 each_id m f (e ∷ es) of_id same all =

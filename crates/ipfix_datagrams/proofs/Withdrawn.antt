@@ -1,5 +1,5 @@
 -- A message that withdraws a template is read: it gives no record, and the template is in force no more.
-use Rattle.std.proofs.Common.{◌≡◌, ℕ, ◌+◌, ◌*◌, ◌^◌, ◌<◌, ◌≤◌, Bool, true, false, cond, eqb, ltb, is_some, length-append, Option, Some, None, List, [], ◌∷◌, ◌++◌, length, drop, Result, Ok, Err, refl, sym, ap, ap₂, append_assoc, ◌∙◌, arith}
+use Rattle.std.proofs.Common.{◌≡◌, ℕ, ◌+◌, ◌*◌, ◌^◌, ◌<◌, ◌≤◌, Bool, true, false, eqb, ltb, is_some, length-append, Option, Some, None, List, [], ◌∷◌, ◌++◌, length, drop, Result, Ok, Err, refl, sym, ap, ap₂, append_assoc, ◌∙◌, arith}
 use Rattle.std.specs.Prelude.{All, OnOk}
 use Rattle.std.specs.Map.{lookup}
 use Rattle.std.specs.Option.{unwrap_or}
@@ -9,9 +9,7 @@ use Rattle.std.proofs.lemmas.Map.Steps.{set_value_same}
 use Rattle.std.proofs.lemmas.List.{append-nil, drop_at}
 use Rattle.ipfix_wire.specs.MessageHeader.{header_octets, header_at}
 use Rattle.ipfix_wire.specs.declared.header.Header.{Header}
-use Rattle.ipfix_wire.specs.declared.fault.WireFault.{WireFault}
 use Rattle.ipfix_message.specs.declared.fault.MessageFault.{MessageFault}
-use Rattle.ipfix_message.specs.declared.fault.MessageFault.TheVariants.{MessageLength}
 use Rattle.ipfix_message.specs.declared.template_record.TemplateKind.{TemplateKind}
 use Rattle.ipfix_message.specs.declared.template_record.TemplateKind.TheVariants.{Plain, Options}
 use Rattle.ipfix_message.specs.declared.template_record.Event.{Event}
@@ -21,7 +19,7 @@ use Rattle.ipfix_message.specs.TemplateRecords.{set_id_of, event_at}
 use Rattle.ipfix_message.specs.TemplatesInForce.{is_ignored, event_gives, template_set_gives}
 use Rattle.ipfix_message.specs.Sets.{Set, next_set}
 use Rattle.ipfix_message.specs.Messages.{Decoding, before, more_ignored, templates_in, set_gives, sets_from}
-use Rattle.ipfix_message.specs.Domains.{History, Message, of_wire, admit, events_in, with_events, message_header, message_gives}
+use Rattle.ipfix_message.specs.Domains.{History, Message, admit, events_in, with_events, message_header, message_gives}
 use Rattle.ipfix_message.specs.Alike.{knows}
 use Rattle.ipfix_message.proofs.TemplateRecords.{events_read}
 use Rattle.ipfix_message.proofs.TemplateSets.{plus, count_of, template_set_gives-next, template_set_gives-done}

@@ -23,7 +23,8 @@ fn is_same_list(specs: &[Spec], others: &[Spec]) -> bool
     specs == others
 }
 
-fn is_same(template: &Template, other: &Template) -> bool
+// Whether two templates are the same.
+pub(crate) fn is_same(template: &Template, other: &Template) -> bool
     ensures { Decides result (template.now ≡ other.now) }
 {
     template.id == other.id

@@ -1,11 +1,13 @@
 //! IPFIX over UDP (RFC 7011, sections 8.1, 8.4 and 10.3): what the datagrams of a peer give, where a
-//! definition replaces an older one, and which of them are refused; and how far sequence numbers advanced beside
+//! definition replaces an older one and no withdrawal ends one, and which of them are refused; and how far sequence numbers advanced beside
 //! the data records that came (section 3.1), in whatever order.
 #![tactic(auto)]
 
+mod again;
 mod attempt;
 mod changes;
-mod datagram_fault;
+mod data_sets;
+mod defining;
 mod domain_advance;
 pub mod laws;
 mod reach;
@@ -14,11 +16,12 @@ mod sequence_advances;
 mod withdrawal;
 mod withdrawing;
 mod withdrawn_template;
+mod withdrawn_templates;
 
-pub use datagram_fault::DatagramFault;
 pub use domain_advance::DomainAdvance;
 pub use reach::Reach;
-pub use reading::read_datagram;
+pub use reading::{DatagramReading, read_datagram};
 pub use sequence_advances::SequenceAdvances;
 pub use withdrawal::{MOST_WITHDRAWN, append_withdrawals};
 pub use withdrawn_template::WithdrawnTemplate;
+pub use withdrawn_templates::{WithdrawnTemplates, keep_withdrawn};

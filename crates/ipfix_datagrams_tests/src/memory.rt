@@ -1,8 +1,9 @@
 //! What is answered where memory runs out.
 
 use crate::octets::CHANGES_256;
-use ipfix_datagrams::{DatagramFault, WithdrawnTemplate, read_datagram};
+use ipfix_datagrams::{WithdrawnTemplate, read_datagram};
 use ipfix_message::{Domains, MessageFault, header_of};
+use std::collections::BTreeMap;
 use std::test::*;
 use worked_examples::flows::ONE_FLOW;
 
@@ -12,17 +13,23 @@ fn reading_survives_refused_memory(rt: HostRuntime) -> Result<(), Fail> {
     let mut domains = Domains::new(rt.alloc());
     let _ = domains.decode(rt.alloc(), ONE_FLOW)?;
     let header = header_of(CHANGES_256)?;
-    match read_datagram(rt.alloc(), &domains, &header, CHANGES_256) {
-        Ok(withdrawn) => {
+    match read_datagram(
+        rt.alloc(),
+        &domains,
+        &BTreeMap::new(rt.alloc()),
+        &header,
+        CHANGES_256,
+    ) {
+        Ok(reading) => {
             let expected = WithdrawnTemplate {
                 id: 256,
                 is_options: false,
             };
-            assert_eq!(rt; withdrawn.as_slice(), [expected].as_slice());
+            assert_eq!(rt; reading.withdrawn.as_slice(), [expected].as_slice());
             let _ = eprintln!(rt; "read: right");
         }
         Err(fault) => {
-            assert_eq!(rt; fault, DatagramFault::Message(MessageFault::OutOfMemory));
+            assert_eq!(rt; fault, MessageFault::OutOfMemory);
             let _ = eprintln!(rt; "read: OutOfMemory");
         }
     }

@@ -2,10 +2,14 @@
 //! sections 8, 8.1, 8.4 and 10.3).
 
 use crate::octets::*;
-use ipfix_datagrams::{DatagramFault, WithdrawnTemplate, append_withdrawals, read_datagram};
+use ipfix_datagrams::{
+    DatagramReading, WithdrawnTemplate, WithdrawnTemplates, append_withdrawals, keep_withdrawn,
+    read_datagram,
+};
 use ipfix_message::{Domains, MessageFault, header_of};
 use ipfix_wire::Header;
 use std::alloc::Global;
+use std::collections::BTreeMap;
 use std::process::Abort;
 use std::test::*;
 use worked_examples::faults::VERSION_9;
@@ -25,14 +29,24 @@ const OPTIONS: WithdrawnTemplate = WithdrawnTemplate {
     is_options: true,
 };
 
-// What is answered of a datagram.
+// What is answered of a datagram, where no template was withdrawn.
 fn answer(
     alloc: Global,
     domains: &Domains,
     datagram: &[u8],
-) -> Result<Vec<WithdrawnTemplate>, DatagramFault> {
+) -> Result<DatagramReading, MessageFault> {
+    answer_after(alloc, domains, &BTreeMap::new(alloc), datagram)
+}
+
+// What is answered of a datagram.
+fn answer_after(
+    alloc: Global,
+    domains: &Domains,
+    withdrawn: &WithdrawnTemplates,
+    datagram: &[u8],
+) -> Result<DatagramReading, MessageFault> {
     let header = header_of(datagram)?;
-    read_datagram(alloc, domains, &header, datagram)
+    read_datagram(alloc, domains, withdrawn, &header, datagram)
 }
 
 // The domains after messages.
@@ -53,8 +67,9 @@ fn assert_taken(
     expected: &[WithdrawnTemplate],
 ) -> Result<(), Fail> {
     let domains = domains_after(alloc, messages)?;
-    let withdrawn = answer(alloc, &domains, datagram)?;
-    assert_eq!(rt; withdrawn.as_slice(), expected);
+    let reading = answer(alloc, &domains, datagram)?;
+    assert_eq!(rt; reading.withdrawn.as_slice(), expected);
+    assert!(rt; reading.defined.is_empty());
     Ok(())
 }
 
@@ -64,7 +79,7 @@ fn assert_refused(
     alloc: Global,
     messages: &[&[u8]],
     datagram: &[u8],
-    fault: DatagramFault,
+    fault: MessageFault,
 ) -> Result<(), Fail> {
     let domains = domains_after(alloc, messages)?;
     let refused = answer(alloc, &domains, datagram).err();
@@ -75,13 +90,13 @@ fn assert_refused(
 // A datagram is one message: its length is that of its header, and its version is 10.
 #[test]
 fn a_datagram_is_one_message(rt: HostRuntime) -> Result<(), Fail> {
-    let length = DatagramFault::Message(MessageFault::MessageLength);
+    let length = MessageFault::MessageLength;
     let mut longer = Vec::from_slice(rt.alloc(), ONE_FLOW)?;
     longer.push(0)?;
     assert_refused(&rt, rt.alloc(), &[], &longer, length)?;
     assert_refused(&rt, rt.alloc(), &[], CUT_FLOW, length)?;
     assert_refused(&rt, rt.alloc(), &[], &[], length)?;
-    let version = DatagramFault::Message(MessageFault::Version);
+    let version = MessageFault::Version;
     assert_refused(&rt, rt.alloc(), &[], VERSION_9, version)?;
     assert_taken(&rt, rt.alloc(), &[], ONE_FLOW, &[])
 }
@@ -120,8 +135,8 @@ fn an_options_template_replaces_a_template(rt: HostRuntime) -> Result<(), Fail> 
 fn records_of_unchanged_templates_are_read(rt: HostRuntime) -> Result<(), Fail> {
     let alloc: Global = rt.alloc();
     let mut domains = domains_after(alloc, &[ONE_FLOW, DEFINES_257])?;
-    let withdrawn = answer(alloc, &domains, CHANGES_256_AFTER_RECORDS)?;
-    assert_eq!(rt; withdrawn.as_slice(), [TEMPLATE].as_slice());
+    let reading = answer(alloc, &domains, CHANGES_256_AFTER_RECORDS)?;
+    assert_eq!(rt; reading.withdrawn.as_slice(), [TEMPLATE].as_slice());
     let mut front = Vec::new(alloc);
     append_withdrawals(&header_of(ONE_FLOW)?, &[TEMPLATE], &mut front)?;
     let _ = domains.decode(alloc, &front)?;
@@ -133,22 +148,46 @@ fn records_of_unchanged_templates_are_read(rt: HostRuntime) -> Result<(), Fail> 
 // One that defines an id in two ways is no datagram of one exporter.
 #[test]
 fn a_datagram_that_contradicts_itself_is_refused(rt: HostRuntime) -> Result<(), Fail> {
-    let fault = DatagramFault::Message(MessageFault::TemplateChanged);
+    let fault = MessageFault::TemplateChanged;
     assert_refused(&rt, rt.alloc(), &[], CHANGED_TEMPLATE, fault)?;
     assert_refused(&rt, rt.alloc(), &[ONE_FLOW], CHANGED_TEMPLATE, fault)
 }
 
-// No exporter may withdraw over UDP; where a template would be gone, the datagram is refused. One that
-// withdraws what isn't there, or defines it again, leaves no id without a template.
+// No datagram is refused for a withdrawal.
 #[test]
-fn a_withdrawal_is_refused(rt: HostRuntime) -> Result<(), Fail> {
-    let gone = DatagramFault::Withdrawal;
-    assert_refused(&rt, rt.alloc(), &[ONE_FLOW], WITHDRAWS_256, gone)?;
-    assert_refused(&rt, rt.alloc(), &[ONE_FLOW], WITHDRAWS_ALL, gone)?;
+fn a_withdrawal_is_no_fault(rt: HostRuntime) -> Result<(), Fail> {
+    assert_taken(&rt, rt.alloc(), &[ONE_FLOW], WITHDRAWS_256, &[])?;
+    assert_taken(&rt, rt.alloc(), &[ONE_FLOW], WITHDRAWS_ALL, &[])?;
     assert_taken(&rt, rt.alloc(), &[], WITHDRAWAL_OF_NOTHING, &[])?;
     assert_taken(&rt, rt.alloc(), &[], WITHDRAWS_ALL, &[])?;
     assert_taken(&rt, rt.alloc(), &[], EMPTY_SET_IN_FORCE_ONCE, &[])?;
     assert_taken(&rt, rt.alloc(), &[OPTIONS_TEMPLATE], WITHDRAWS_ALL, &[])
+}
+
+// A template that was withdrawn is known over UDP: it is defined again before a datagram with data sets of it,
+// and before no other.
+#[test]
+fn a_withdrawn_template_is_defined_again(rt: HostRuntime) -> Result<(), Fail> {
+    let alloc: Global = rt.alloc();
+    let before = domains_after(alloc, &[ONE_FLOW])?;
+    let after = domains_after(alloc, &[ONE_FLOW, WITHDRAWS_256])?;
+    let mut kept = BTreeMap::new(alloc);
+    keep_withdrawn(alloc, &mut kept, 1, before.templates(1), after.templates(1))?;
+    let flow = answer_after(alloc, &after, &kept, ONE_FLOW)?;
+    assert_eq!(rt; flow.defined.len(), 1);
+    assert!(rt;
+        answer_after(alloc, &after, &kept, CHANGES_256)?
+            .defined
+            .is_empty()
+    );
+    assert!(rt;
+        answer_after(alloc, &after, &kept, TEMPLATE_256)?
+            .defined
+            .is_empty()
+    );
+    keep_withdrawn(alloc, &mut kept, 1, after.templates(1), before.templates(1))?;
+    assert!(rt; kept.is_empty());
+    Ok(())
 }
 
 // Its data set is passed over as unknown.
@@ -187,7 +226,7 @@ fn one_domain_too_many_is_refused(rt: HostRuntime) -> Result<(), Fail> {
     assert!(rt; answer(alloc, &domains, &header(16, 0, 1023)).is_ok());
     assert_eq!(rt;
         answer(alloc, &domains, &header(16, 0, 1024)).err(),
-        Some(DatagramFault::Message(MessageFault::TooManyDomains))
+        Some(MessageFault::TooManyDomains)
     );
     Ok(())
 }
@@ -195,7 +234,7 @@ fn one_domain_too_many_is_refused(rt: HostRuntime) -> Result<(), Fail> {
 // A malformed datagram has its message's fault.
 #[test]
 fn a_malformed_datagram_is_refused(rt: HostRuntime) -> Result<(), Fail> {
-    let fault = DatagramFault::Message(MessageFault::ZeroLength);
+    let fault = MessageFault::ZeroLength;
     assert_refused(&rt, rt.alloc(), &[ONE_FLOW], ZERO_LENGTH_TEMPLATE, fault)
 }
 
@@ -240,16 +279,5 @@ fn a_message_withdraws_templates(rt: HostRuntime) -> Result<(), Fail> {
         );
         assert!(rt; domains.lookup(1, 256).is_none());
     }
-    Ok(())
-}
-
-#[test]
-fn faults_have_texts(rt: HostRuntime) -> Result<(), Fail> {
-    let alloc: Global = rt.alloc();
-    let withdrawal = format!(in alloc; "{}", DatagramFault::Withdrawal)?;
-    assert_eq!(rt; withdrawal.as_str(), "a template is withdrawn over UDP");
-    let message = format!(in alloc; "{}", DatagramFault::Message(MessageFault::Version))?;
-    let fault = format!(in alloc; "{}", MessageFault::Version)?;
-    assert_eq!(rt; message.as_str(), fault.as_str());
     Ok(())
 }

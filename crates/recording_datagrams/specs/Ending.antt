@@ -13,7 +13,7 @@ use Rattle.recording_peers.specs.declared.refusals.Refusals.{Refusals}
 use Rattle.report_writing.specs.Writing.{Tells}
 use Rattle.recording_lines.specs.RecordLines.{advance_line, peer_ended_line, refused_datagrams_line}
 use Rattle.recording_connections.specs.Serving.{session_lines}
-use Rattle.recording_datagrams.specs.DatagramFaults.{number_of, name_of}
+use Rattle.ipfix_message.specs.Faults.{number_of, name_of}
 use Rattle.recording_datagrams.specs.declared.ending.EndCause.{EndCause}
 use Rattle.recording_datagrams.specs.declared.ending.EndCause.TheVariants.{LongestSilent, Idle}
 

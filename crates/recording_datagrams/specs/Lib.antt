@@ -1,5 +1,4 @@
 -- What public contracts cite.
-pub mod DatagramFaults
 pub mod Ending
 pub mod Taking
 pub mod Turns

@@ -4,7 +4,6 @@ ghost use Rattle.std.specs.Prelude.{◌≡◌, ◌++◌};
 ghost use Rattle.report_writing.specs.Writing.{Tells};
 ghost use Rattle.recording_datagrams.specs.Ending.{advance_lines, cause_lines, ending_lines, Ends, refusal_lines, TellsSome, text_of, told_lines};
 
-use crate::datagram_faults::{fault_name, fault_number};
 use ipfix_datagrams::{DomainAdvance, SequenceAdvances};
 use recording_connections::{RecordingFiles, write_session};
 use recording_files::NotWritten;
@@ -136,7 +135,7 @@ pub fn tell_refusals<W: WriteLines>(
     match refused {
         None => Ok(()),
         Some(Refusals { count, last }) => {
-            write_refused_datagrams(peer, count, fault_number(&last), fault_name(&last), out)
+            write_refused_datagrams(peer, count, last.number(), last.name(), out)
         }
     }
 }

@@ -1,7 +1,6 @@
 //! Recording datagrams of UDP: what is told of the peers that send them, and the thread that takes them.
 #![tactic(auto)]
 
-mod datagram_faults;
 mod datagram_taker;
 mod ending;
 mod finishing;
@@ -14,7 +13,6 @@ mod system_socket;
 mod taking;
 mod ticking;
 
-pub use datagram_faults::{fault_name, fault_number};
 pub use datagram_taker::DatagramTaker;
 pub use ending::{EndCause, end_peer, tell_refusals};
 pub use finishing::{FileQueue, QueueFinisher};

@@ -13,6 +13,7 @@ use Rattle.recording_files.specs.Files.{Contents, FilesView, all_of}
 use Rattle.recording_files.specs.Sessions.{file_octets}
 use Rattle.recording_files.proofs.Together.{is_faithful}
 use Rattle.recording_files.proofs.FilesGive.{all_clean, all_records, contents_are}
+use Rattle.ipfix_datagrams.specs.Datagrams.{none_known}
 use Rattle.recording_peer.specs.Peers.{Taken, AreTaken, HaveFronts, PeerFile, part_of, sent_of, records_over_udp}
 use Rattle.recording_peer.specs.Recording.{FilesHold, last_file, taken_in, all_taken}
 use Rattle.recording_peer.proofs.PeerFiles.{all_with, records_same, recorded_with, octets_same}
@@ -41,7 +42,7 @@ octets_are first after start now finished here h is none there =
     ∙ sym whole
 
 pub files_give : (first after : FilesView) (start now : Contents) (finished : List (List Taken)) (here : List Taken) → FilesHold first after finished here [] → first.contents ≡ Some start → start.finished ≡ [] → after.contents ≡ Some now
-    → AreTaken [] (all_taken finished here) × All (λ file. stop_of file ≡ Clean) (all_of now) × (flat_map records_of (all_of now) ≡ records_over_udp (all_taken finished here))
+    → AreTaken none_known (all_taken finished here) × All (λ file. stop_of file ≡ Clean) (all_of now) × (flat_map records_of (all_of now) ≡ records_over_udp (all_taken finished here))
 files_give first after start now finished here h is none there =
     let ps = parts_of first after finished here [] h in
     let read = (faithful_files first after finished here [] h).files in

@@ -15,6 +15,7 @@ use Rattle.recording_files.specs.Faithful.{IsReadAlone, all_given}
 use Rattle.recording_files.specs.Files.{Contents, FilesView, all_of}
 use Rattle.recording_files.specs.Sessions.{file_octets}
 use Rattle.recording_files.proofs.FilesGive.{kept, all_records, contents_are}
+use Rattle.ipfix_datagrams.specs.Datagrams.{none_known}
 use Rattle.recording_peer.specs.Peers.{Taken, AreTaken, PeerFile, part_of, sent_of, records_over_udp}
 use Rattle.recording_peer.specs.Recording.{FilesHold, IsCutOff, StopsAt, HasStopped, KeepsWhole, PeerTold, last_file, all_finished, all_taken, finished_now}
 use Rattle.recording_peer.proofs.PeerFiles.{recorded_with, octets_same}
@@ -36,7 +37,7 @@ keeps_all first after start now finished here m h is none there =
       read = open_each (all_of now) g.1;
       next = [];
       one = inl refl;
-      taken = subst (AreTaken []) (sym (append-nil (all_taken finished here))) h.taken;
+      taken = subst (AreTaken none_known) (sym (append-nil (all_taken finished here))) h.taken;
       at_least = ([], g.2 ∙ sym (append-nil (records_over_udp (all_taken finished here))));
       at_most = ([], ap records_over_udp (append-nil (all_taken finished here)) ∙ sym g.2 ∙ sym (append-nil (flat_map records_of (all_of now))));
     }
@@ -85,7 +86,7 @@ keeps_cut first after start now finished here m k is none there =
       read = subst (λ (ws : List (List ℕ)). All (λ file. IsOpen (stop_of file)) ws) (sym are) whole.0;
       next = k.next ∷ [];
       one = inr (ap (λ (w : List ℕ). w ∷ []) k.datagram);
-      taken = subst (AreTaken []) behind k.taken;
+      taken = subst (AreTaken none_known) behind k.taken;
       at_least = (more.0, ap (λ (ws : List (List ℕ)). flat_map records_of ws) are ∙ more.1 ∙ ap (λ (rs : List DataRecord). rs ++ more.0) (records_with h.files last read_last ∙ given_last));
       at_most = (whole.1.0, ap records_over_udp (sym behind) ∙ sym given ∙ whole.1.1 ∙ ap (λ (ws : List (List ℕ)). flat_map records_of ws ++ whole.1.0) (sym are));
     }

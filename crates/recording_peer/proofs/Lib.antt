@@ -1,4 +1,5 @@
 pub mod Fronting
+pub mod Listed
 pub mod PeerFiles
 pub mod Taking
 pub mod Stopping

@@ -3,7 +3,7 @@ use Rattle.std.proofs.Common.{◌≡◌, ℕ, List, [], ◌∷◌, ◌++◌, map
 use Rattle.std.specs.Prelude.{◌⊎◌, ◌≢◌}
 use Rattle.ipfix_message.specs.declared.fault.MessageFault.{MessageFault}
 use Rattle.ipfix_message.specs.declared.fault.MessageFault.TheVariants.{OutOfMemory}
-use Rattle.ipfix_session.specs.Given.{known_after, octets_of, IsPrefix}
+use Rattle.ipfix_session.specs.Given.{octets_of, IsPrefix}
 use Rattle.ipfix_session.specs.Sources.{one_more}
 use Rattle.recording_files.specs.declared.record_fault.RecordFault.{RecordFault}
 use Rattle.recording_files.specs.declared.record_fault.RecordFault.TheVariants.{Message as OfMessage, NotWritten}
@@ -14,7 +14,7 @@ use Rattle.recording_files.specs.Recorders.{State}
 use Rattle.recording_files.specs.Sessions.{Stands}
 use Rattle.recording_files.proofs.Going.{stands_cut}
 use Rattle.ipfix_datagrams.specs.Datagrams.{IsTaken}
-use Rattle.recording_peer.specs.Peers.{Taken, givens, all_given, sent_of}
+use Rattle.recording_peer.specs.Peers.{Taken, known_after_all, all_given, sent_of}
 use Rattle.recording_peer.specs.Recording.{PeerTold, PeerView, last_file, all_finished, all_taken, FilesHold, Counts, IsPeer, HasStopped}
 use Rattle.recording_peer.specs.Fronts.{TookDatagram}
 use Rattle.recording_peer.proofs.Taking.{holds_turned, file_with, octets_with, taken_with, fronts_with}
@@ -64,7 +64,7 @@ stops_out fault first v s finished here c m memory p told = record {
 
 -- a call to write failed
 pub stops_cut : (first v after : FilesView) (s : PeerView) (t : State) (finished : List (List Taken)) (here : List Taken) (u : Taken) (octets front : List ℕ) (count : MessageCount) (c : PeerTold) (p : IsPeer first v s finished here)
-    → IsTaken (known_after [] (givens (all_taken finished here))) u.datagram u.withdrawn u.given → (k : TookDatagram (all_given (all_finished finished)) (all_given here) t u octets count)
+    → IsTaken (known_after_all (all_taken finished here)) u.datagram u.preparation u.given → (k : TookDatagram (all_given (all_finished finished)) (all_given here) t u octets count)
     → IsPrefix front octets → after ≡ failing (with_more v front) → c ≡ s.told → HasStopped NotWritten first after c finished here u.datagram
 stops_cut first v after s t finished here u octets front count c p taken k begins is told =
     let h = p.holds in

@@ -3,8 +3,8 @@ use Rattle.std.proofs.Common.{◌≡◌, ℕ, List, [], ◌∷◌, ◌++◌, map
 use Rattle.std.specs.Prelude.{◌≢◌}
 use Rattle.std.proofs.lemmas.List.{map-append}
 use Rattle.std.proofs.lemmas.List.Elements.{All-nil, All-push}
-use Rattle.ipfix_message.specs.Domains.{History, Message}
-use Rattle.ipfix_session.specs.Given.{known_after, octets_of}
+use Rattle.ipfix_message.specs.Domains.{Message}
+use Rattle.ipfix_session.specs.Given.{octets_of}
 use Rattle.ipfix_session.proofs.MessagesTaken.{octets-append}
 use Rattle.recording_files.specs.declared.message_count.MessageCount.{MessageCount}
 use Rattle.recording_files.specs.FileReports.{file_report}
@@ -15,18 +15,18 @@ use Rattle.recording_files.specs.Recorders.{State, Keeps, Counted}
 use Rattle.recording_files.specs.Sessions.{Stands}
 use Rattle.recording_files.proofs.Growing.{writes-append}
 use Rattle.recording_files.proofs.Going.{empty_part, stands_first, stands_more, stands_turned}
-use Rattle.ipfix_datagrams.specs.declared.withdrawn_template.WithdrawnTemplate.{WithdrawnTemplate}
-use Rattle.ipfix_datagrams.specs.Datagrams.{IsTaken}
+use Rattle.ipfix_message.specs.declared.record.Template.{Template}
+use Rattle.ipfix_datagrams.specs.Datagrams.{none_known, known_with, IsTaken}
 use Rattle.ipfix_datagrams.specs.Reaches.{reaches_of}
-use Rattle.recording_peer.specs.Peers.{Taken, AreTaken, HasFront, HaveFronts, PeerFile, givens, messages_with, given_with, all_messages, all_given, sent_of}
-use Rattle.recording_peer.specs.Recording.{PeerTold, PeerView, last_file, all_finished, all_taken, HasDatagram, FilesHold, Counts, IsPeer, finished_now}
+use Rattle.recording_peer.specs.Peers.{Taken, AreTaken, HasFront, HaveFronts, PeerFile, givens, known_after_all, messages_with, given_with, all_messages, all_given, sent_of}
+use Rattle.recording_peer.specs.Recording.{PeerTold, PeerView, last_file, all_finished, all_taken, HasDatagram, FilesHold, Counts, KeepsListed, IsPeer, finished_now}
 use Rattle.recording_peer.specs.Fronts.{TookDatagram}
-use Rattle.recording_peer.proofs.PeerFiles.{givens-append, all_given-append, all_given-push, all_messages-push, taken-push, fronts-push, all_taken-push, all_taken-turned, givens-turned, all_given-turned, known_here, sent_is, recorded_with}
+use Rattle.recording_peer.proofs.PeerFiles.{givens-append, all_given-append, all_given-push, all_messages-push, taken-push, fronts-push, all_taken-push, all_taken-turned, givens-turned, all_given-turned, known-push, sent_is, recorded_with}
 
 -- ---- the first file
 
-pub peer_first : (v : FilesView) (s : PeerView) → IsEmpty v.contents → s.ended ≡ None → Keeps s.recorder [] [] → Counted s.told.counts [] [] → s.told.advances ≡ [] → IsPeer v v s [] []
-peer_first v s empty on keeps counted none = record {
+pub peer_first : (v : FilesView) (s : PeerView) → IsEmpty v.contents → s.ended ≡ None → Keeps s.recorder [] [] → Counted s.told.counts [] [] → s.told.advances ≡ [] → KeepsListed s.withdrawn none_known → IsPeer v v s [] []
+peer_first v s empty on keeps counted none withdrawn = record {
   holds = record {
     taken = tt;
     fronts = tt;
@@ -42,6 +42,7 @@ peer_first v s empty on keeps counted none = record {
   goes_on = on;
   counted = record { counted = counted; noted = none };
   keeps = keeps;
+  withdrawn = withdrawn;
 }
 
 -- ---- the next file
@@ -57,7 +58,7 @@ pub holds_turned : (first v after : FilesView) (finished : List (List Taken)) (h
 holds_turned first v after finished here c h counted some is =
     let last = last_file here h.file in
     record {
-      taken = subst (AreTaken []) (sym (all_taken-turned finished here)) h.taken;
+      taken = subst (AreTaken none_known) (sym (all_taken-turned finished here)) h.taken;
       fronts = subst (HaveFronts []) (sym (all_taken-turned finished here)) h.fronts;
       some = All-push HasDatagram finished here h.some some;
       files = h.files ++ last ∷ [];
@@ -76,21 +77,22 @@ counts_turned c finished here counted noted = record {
 }
 
 turned : (first v after : FilesView) (s t : PeerView) (finished : List (List Taken)) (here : List Taken) (p : IsPeer first v s finished here) → here ≢ [] → after ≡ with_next v s.told.counts.file
-    → Keeps t.recorder (all_given (all_finished finished) ++ all_given here) [] → Counted t.told.counts (givens (all_finished finished) ++ givens here) [] → t.told.advances ≡ s.told.advances → t.ended ≡ None
+    → Keeps t.recorder (all_given (all_finished finished) ++ all_given here) [] → Counted t.told.counts (givens (all_finished finished) ++ givens here) [] → t.told.advances ≡ s.told.advances → t.ended ≡ None → t.withdrawn ≡ s.withdrawn
     → IsPeer first after t (finished ++ here ∷ []) []
-turned first v after s t finished here p some is keeps counted same on = record {
+turned first v after s t finished here p some is keeps counted same on left = record {
   holds = holds_turned first v after finished here s.told p.holds p.counted some (ap (λ (u : FilesView). u.contents) is);
   not_failed = ap (λ (u : FilesView). u.failed) is ∙ p.not_failed;
   goes_on = on;
   counted = counts_turned t.told finished here counted (same ∙ p.counted.noted);
   keeps = subst (λ (ms : List Message). Keeps t.recorder ms []) (sym (all_given-turned finished here)) keeps;
+  withdrawn = subst (λ (ts : List Taken). KeepsListed t.withdrawn (known_after_all ts)) (sym (all_taken-turned finished here)) (subst (λ (w : List (ℕ × List (ℕ × Template))). KeepsListed w (known_after_all (all_taken finished here))) (sym left) p.withdrawn);
 }
 
 pub peer_turned : (first v after : FilesView) (s t : PeerView) (finished : List (List Taken)) (here : List Taken) (p : IsPeer first v s finished here) → here ≢ [] → after ≡ with_next v s.told.counts.file
-    → Keeps t.recorder (all_given (all_finished finished) ++ all_given here) [] → Counted t.told.counts (givens (all_finished finished) ++ givens here) [] → t.told.advances ≡ s.told.advances → t.ended ≡ None
+    → Keeps t.recorder (all_given (all_finished finished) ++ all_given here) [] → Counted t.told.counts (givens (all_finished finished) ++ givens here) [] → t.told.advances ≡ s.told.advances → t.ended ≡ None → t.withdrawn ≡ s.withdrawn
     → IsPeer first after t (finished_now finished here) []
-peer_turned first v after s t finished [] p some is keeps counted same on = absurd (some refl)
-peer_turned first v after s t finished (x ∷ xs) p some is keeps counted same on = turned first v after s t finished (x ∷ xs) p some is keeps counted same on
+peer_turned first v after s t finished [] p some is keeps counted same on left = absurd (some refl)
+peer_turned first v after s t finished (x ∷ xs) p some is keeps counted same on left = turned first v after s t finished (x ∷ xs) p some is keeps counted same on left
 
 -- no message of the file, no datagram
 pub none_given : (ts : List Taken) → all_given ts ≡ [] → ts ≡ []
@@ -117,12 +119,8 @@ all_taken-now finished (x ∷ xs) = all_taken-turned finished (x ∷ xs)
 abbrev before : List (List Taken) → List Message
 before finished = all_given (all_finished finished)
 
--- it was taken after the messages that the recorder has taken
-pub taken_here : (finished : List (List Taken)) (here : List Taken) (m : List ℕ) (ws : List WithdrawnTemplate) (x : Message) → IsTaken (known_after [] (givens (all_taken finished here))) m ws x → IsTaken (known_after [] (before finished ++ all_given here)) m ws x
-taken_here finished here m ws x taken = subst (λ (ds : History). IsTaken ds m ws x) (sym (known_here finished here)) taken
-
-pub taken_with : (finished : List (List Taken)) (here : List Taken) (t : Taken) → AreTaken [] (all_taken finished here) → IsTaken (known_after [] (givens (all_taken finished here))) t.datagram t.withdrawn t.given → AreTaken [] (all_taken finished (here ++ t ∷ []))
-taken_with finished here t are is = subst (AreTaken []) (sym (all_taken-push finished here t)) (taken-push [] (all_taken finished here) t are is)
+pub taken_with : (finished : List (List Taken)) (here : List Taken) (t : Taken) → AreTaken none_known (all_taken finished here) → IsTaken (known_after_all (all_taken finished here)) t.datagram t.preparation t.given → AreTaken none_known (all_taken finished (here ++ t ∷ []))
+taken_with finished here t are is = subst (AreTaken none_known) (sym (all_taken-push finished here t)) (taken-push none_known (all_taken finished here) t are is)
 
 pub fronts_with : (finished : List (List Taken)) (here : List Taken) (t : Taken) → HaveFronts [] (all_taken finished here) → HasFront (before finished ++ all_given here) t → HaveFronts [] (all_taken finished (here ++ t ∷ []))
 fronts_with finished here t have has =
@@ -146,11 +144,11 @@ pub givens_with : (here : List Taken) (t : Taken) → givens (here ++ t ∷ []) 
 givens_with here t = givens-append here (t ∷ [])
 
 pub peer_with : (first v after : FilesView) (s t : PeerView) (finished : List (List Taken)) (here : List Taken) (u : Taken) (octets : List ℕ) (c : MessageCount) (p : IsPeer first v s finished here)
-    → IsTaken (known_after [] (givens (all_taken finished here))) u.datagram u.withdrawn u.given → (k : TookDatagram (before finished) (all_given here) t.recorder u octets c)
+    → IsTaken (known_after_all (all_taken finished here)) u.datagram u.preparation u.given → (k : TookDatagram (before finished) (all_given here) t.recorder u octets c)
     → after ≡ with_more v octets → Counted t.told.counts (givens (all_finished finished)) (givens here ++ u.given ∷ [])
-    → t.told.advances ≡ reaches_of (givens (all_taken finished here) ++ u.given ∷ []) → t.ended ≡ None
+    → t.told.advances ≡ reaches_of (givens (all_taken finished here) ++ u.given ∷ []) → t.ended ≡ None → KeepsListed t.withdrawn (known_with (known_after_all (all_taken finished here)) u.given)
     → IsPeer first after t finished (here ++ u ∷ [])
-peer_with first v after s t finished here u octets c p taken k is counted noted on =
+peer_with first v after s t finished here u octets c p taken k is counted noted on withdrawn =
     let h = p.holds in
     let all : givens (all_taken finished (here ++ u ∷ [])) ≡ givens (all_taken finished here) ++ u.given ∷ [] = ap givens (all_taken-push finished here u) ∙ givens-append (all_taken finished here) (u ∷ []) in
     record {
@@ -172,4 +170,5 @@ peer_with first v after s t finished here u octets c p taken k is counted noted 
         noted = noted ∙ ap reaches_of (sym all);
       };
       keeps = subst (Keeps t.recorder (before finished)) (sym (all_given-push here u)) k.keeps;
+      withdrawn = subst (KeepsListed t.withdrawn) (sym (known-push finished here u)) withdrawn;
     }

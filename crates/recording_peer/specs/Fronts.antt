@@ -1,26 +1,44 @@
 -- What a recorder took for a datagram.
-use Rattle.std.specs.Prelude.{◌≡◌, ℕ, List, [], ◌∷◌, ◌++◌, map, Ok}
+use Rattle.std.specs.Prelude.{◌≡◌, ◌⊎◌, ℕ, true, List, [], ◌∷◌, ◌++◌, map, Ok}
 use Rattle.ipfix_wire.specs.declared.header.Header.{Header}
-use Rattle.ipfix_message.specs.Domains.{Message, message_gives}
+use Rattle.ipfix_message.specs.Alike.{knows}
+use Rattle.ipfix_message.specs.Domains.{History, Message, events_in, message_gives}
+use Rattle.ipfix_message.specs.declared.record.Template.{Template}
 use Rattle.ipfix_session.specs.Given.{known_after, octets_of, records_in}
 use Rattle.recording_files.specs.declared.message_count.MessageCount.{MessageCount}
+use Rattle.recording_files.specs.declared.stamp.Stamp.{Stamp}
+use Rattle.recording_files.specs.Preambles.{templates_message}
 use Rattle.recording_files.specs.Recordings.{Precedes, Writes}
 use Rattle.recording_files.specs.Recorders.{State, Keeps, IsCountOf}
-use Rattle.ipfix_datagrams.specs.Datagrams.{with_withdrawn}
+use Rattle.ipfix_datagrams.specs.Datagrams.{Preparation, prepared, with_withdrawn, with_one_defined}
+use Rattle.ipfix_datagrams.specs.Attempts.{CanDefine}
 use Rattle.ipfix_datagrams.specs.Withdrawals.{withdrawal_message}
 use Rattle.ipfix_datagrams.specs.declared.withdrawn_template.WithdrawnTemplate.{WithdrawnTemplate}
-use Rattle.recording_peer.specs.Peers.{Front, Taken, InParts, HasFront, messages_with, given_with}
+use Rattle.recording_peer.specs.Peers.{Front, Taken, InParts, HasFront, withdrawals, definitions, messages_with, given_with}
 
--- one message that withdraws templates
-pub record TookOne (before here : List Message) (s : State) (h : Header) (ws : List WithdrawnTemplate) (old new : List ℕ) : Type 0 where
+-- a message of the recorder's own, after which these are the domains
+pub record TookOwn (before here : List Message) (s : State) (m : List ℕ) (domains : History) (old new : List ℕ) : Type 0 where
   pub given : Message
-  pub read : message_gives (known_after [] (before ++ here)) (withdrawal_message h ws) ≡ Ok given
-  pub domains : given.domains ≡ with_withdrawn (known_after [] (before ++ here)) h.domain ws
+  pub read : message_gives (known_after [] (before ++ here)) m ≡ Ok given
+  pub domains_are : given.domains ≡ domains
   pub records : given.decoding.records ≡ []
   pub lead : List (List ℕ)
   pub is : Precedes before here given.header lead
-  pub octets : new ≡ old ++ (octets_of lead ++ withdrawal_message h ws)
+  pub octets : new ≡ old ++ (octets_of lead ++ m)
   pub keeps : Keeps s before (here ++ given ∷ [])
+
+-- one that withdraws templates
+abbrev pub TookOne : List Message → List Message → State → Header → List WithdrawnTemplate → List ℕ → List ℕ → Type 0
+TookOne before here s h ws old new =
+    TookOwn before here s (withdrawal_message h ws) (with_withdrawn (known_after [] (before ++ here)) h.domain ws) old new
+
+-- one that defines a template
+abbrev pub stamp_of : Header → Stamp
+stamp_of h = record { export_time = h.export_time; sequence = h.sequence; domain = h.domain }
+
+abbrev pub TookDefinition : List Message → List Message → State → Stamp → Template → List ℕ → List ℕ → Type 0
+TookDefinition before here s stamp t old new =
+    TookOwn before here s (templates_message stamp (t ∷ [])) (with_one_defined (known_after [] (before ++ here)) stamp.domain t) old new
 
 -- messages that withdraw these templates, in parts
 pub record TookParts (before here : List Message) (s : State) (h : Header) (ws : List WithdrawnTemplate) (octets : List ℕ) : Type 0 where
@@ -46,9 +64,33 @@ pub record TookFront (before here : List Message) (s : State) (h : Header) (ws :
   pub took : TookParts before here s h ws octets
   pub are : InParts ws took.parts
 
+-- and messages that define these again
+pub record TookPrepared (before here : List Message) (s : State) (h : Header) (p : Preparation) (octets : List ℕ) : Type 0 where
+  pub front : Front
+  pub parts : List (List WithdrawnTemplate)
+  pub are : InParts p.withdrawn parts
+  pub messages : front.messages ≡ withdrawals h parts ++ definitions (stamp_of h) p.defined
+  pub records : records_in front.given ≡ []
+  pub file : List (List ℕ)
+  pub writes : Writes before here front.messages front.given file
+  pub octets_are : octets ≡ octets_of file
+  pub known : known_after [] (before ++ (here ++ front.given)) ≡ prepared (known_after [] (before ++ here)) h.domain p
+  pub keeps : Keeps s before (here ++ front.given)
+
+-- none are left to define, or they can be
+abbrev pub CanGoOn : History → ℕ → List Template → Type 0
+CanGoOn ds domain rest = (rest ≡ []) ⊎ ((knows ds domain ≡ true) × CanDefine (events_in ds domain) rest)
+
+-- and while the rest of them is still to be defined
+pub record TakesDefinitions (before here : List Message) (s : State) (h : Header) (p : Preparation) (rest : List Template) (octets : List ℕ) : Type 0 where
+  pub done : List Template
+  pub whole : p.defined ≡ done ++ rest
+  pub took : TookPrepared before here s h (record { withdrawn = p.withdrawn; defined = done }) octets
+  pub can : CanGoOn (known_after [] (before ++ (here ++ took.front.given))) h.domain rest
+
 -- a datagram, and what stands in front of it
-abbrev pub taken_as : List ℕ → List WithdrawnTemplate → Front → Message → Taken
-taken_as m ws front x = record { datagram = m; withdrawn = ws; front = front; given = x }
+abbrev pub taken_as : List ℕ → Preparation → Front → Message → Taken
+taken_as m p front x = record { datagram = m; preparation = p; front = front; given = x }
 
 pub record TookDatagram (before here : List Message) (s : State) (next : Taken) (octets : List ℕ) (count : MessageCount) : Type 0 where
   pub has_front : HasFront (before ++ here) next

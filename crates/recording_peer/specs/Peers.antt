@@ -2,12 +2,15 @@
 use Rattle.std.specs.Prelude.{◌≡◌, ◌≢◌, ℕ, List, [], ◌∷◌, ◌++◌, take, drop, map, flat_map}
 use Rattle.std.specs.Option.{unwrap_or}
 use Rattle.ipfix_wire.specs.declared.header.Header.{Header}
-use Rattle.ipfix_message.specs.Domains.{History, Message}
+use Rattle.ipfix_message.specs.Domains.{Message}
 use Rattle.ipfix_message.specs.declared.record.DataRecord.{DataRecord}
+use Rattle.ipfix_message.specs.declared.record.Template.{Template}
 use Rattle.ipfix_session.specs.Given.{records_in}
 use Rattle.ipfix_session.specs.Ledger.{messages_of, due_of}
-use Rattle.recording_files.specs.Recordings.{Part}
-use Rattle.ipfix_datagrams.specs.Datagrams.{IsTaken}
+use Rattle.recording_files.specs.Recordings.{Part, stamp_for}
+use Rattle.recording_files.specs.Preambles.{templates_message}
+use Rattle.recording_files.specs.declared.stamp.Stamp.{Stamp}
+use Rattle.ipfix_datagrams.specs.Datagrams.{Known, none_known, known_with, known_from, Preparation, IsTaken}
 use Rattle.ipfix_datagrams.specs.Withdrawals.{withdrawal_message}
 use Rattle.ipfix_datagrams.specs.declared.withdrawal.TheConstants.{MOST_WITHDRAWN}
 use Rattle.ipfix_datagrams.specs.declared.withdrawn_template.WithdrawnTemplate.{WithdrawnTemplate}
@@ -19,23 +22,28 @@ pub record Front : Type 0 where
   pub messages : List (List ℕ)
   pub given : List Message
 
--- a datagram that was taken, the templates that are withdrawn before it, what stands in front of it, and what it gave
+-- a datagram that was taken, the templates that are withdrawn and defined again before it, what stands in front of it, and what
+-- it gave
 pub record Taken : Type 0 where
   pub datagram : List ℕ
-  pub withdrawn : List WithdrawnTemplate
+  pub preparation : Preparation
   pub front : Front
   pub given : Message
 
--- datagrams one after another, each taken after the domains that those before it leave
-abbrev pub AreTaken : History → List Taken → Type 0
-AreTaken ds [] = Unit {0}
-AreTaken ds (t ∷ ts) = IsTaken ds t.datagram t.withdrawn t.given × AreTaken t.given.domains ts
+-- datagrams one after another, each taken after the templates that those before it leave
+abbrev pub AreTaken : Known → List Taken → Type 0
+AreTaken k [] = Unit {0}
+AreTaken k (t ∷ ts) = IsTaken k t.datagram t.preparation t.given × AreTaken (known_with k t.given) ts
 
 abbrev pub datagrams : List Taken → List (List ℕ)
 datagrams ts = map (λ t. t.datagram) ts
 
 abbrev pub givens : List Taken → List Message
 givens ts = map (λ t. t.given) ts
+
+-- the templates after them
+abbrev pub known_after_all : List Taken → Known
+known_after_all ts = known_from none_known (givens ts)
 
 -- their data records, in order
 abbrev pub records_over_udp : List Taken → List DataRecord
@@ -52,11 +60,20 @@ abbrev pub InParts : List WithdrawnTemplate → List (List WithdrawnTemplate) �
 InParts ws [] = ws ≡ []
 InParts ws (part ∷ parts) = (ws ≢ []) × (part ≡ take MOST_WITHDRAWN ws) × InParts (drop MOST_WITHDRAWN ws) parts
 
--- after these messages of the session, those in front of a datagram withdraw its templates, and give no record
+-- messages that withdraw them
+abbrev pub withdrawals : Header → List (List WithdrawnTemplate) → List (List ℕ)
+withdrawals h parts = map (withdrawal_message h) parts
+
+-- messages that define templates again, each one
+abbrev pub definitions : Stamp → List Template → List (List ℕ)
+definitions s ts = map (λ t. templates_message s (t ∷ [])) ts
+
+-- after these messages of the session, those in front of a datagram withdraw its templates and define its templates again, and
+-- give no record
 pub record HasFront (before : List Message) (t : Taken) : Type 0 where
   pub parts : List (List WithdrawnTemplate)
-  pub are : InParts t.withdrawn parts
-  pub messages : t.front.messages ≡ map (withdrawal_message (front_header before t.given.header)) parts
+  pub are : InParts t.preparation.withdrawn parts
+  pub messages : t.front.messages ≡ withdrawals (front_header before t.given.header) parts ++ definitions (stamp_for before t.given.header) t.preparation.defined
   pub records : records_in t.front.given ≡ []
 
 -- a datagram after what stands in front of it

@@ -1,6 +1,10 @@
 -- What a peer's recorder stands for, and what it answers.
 use Rattle.std.specs.Prelude.{◌≡◌, ◌≢◌, ◌⊎◌, ℕ, List, [], ◌∷◌, ◌++◌, map, flat_map, All, Option, Some, None, Result, Ok, Err}
-use Rattle.ipfix_session.specs.Given.{IsOpen, IsPrefix, known_after, octets_of, records_of, stop_of}
+use Rattle.ipfix_session.specs.Given.{IsOpen, IsPrefix, octets_of, records_of, stop_of}
+use Rattle.std.specs.Map.{lookup}
+use Rattle.std.specs.Option.{option_and_then}
+use Rattle.std.specs.Ordering.{nat_cmp, eq_by_cmp}
+use Rattle.ipfix_message.specs.declared.record.Template.{Template}
 use Rattle.ipfix_message.specs.declared.fault.MessageFault.TheVariants.{OutOfMemory}
 use Rattle.ipfix_session.specs.Sources.{one_more}
 use Rattle.recording_files.specs.declared.record_fault.RecordFault.{RecordFault}
@@ -12,22 +16,34 @@ use Rattle.recording_files.specs.Sessions.{Stands, IsTold}
 use Rattle.ipfix_datagrams.specs.declared.reach.Reach.{Reach}
 use Rattle.ipfix_datagrams.specs.Reaches.{reaches_of, told_of}
 use Rattle.ipfix_datagrams.specs.Advances.{advances_of}
-use Rattle.ipfix_datagrams.specs.Datagrams.{IsRefused}
+use Rattle.ipfix_datagrams.specs.Datagrams.{Known, none_known, withdrawn_in, IsRefused}
+use Rattle.ipfix_datagrams.specs.Attempts.{IsSound}
 use Rattle.recording_peer.specs.declared.peer_answer.PeerAnswer.{PeerAnswer}
 use Rattle.recording_peer.specs.declared.peer_answer.PeerAnswer.TheVariants.{Recorded, Refused}
 use Rattle.recording_peer.specs.declared.peer_session.PeerSession.{PeerSession}
-use Rattle.recording_peer.specs.Peers.{Taken, AreTaken, HaveFronts, PeerFile, part_of, sent_of, datagrams, givens, all_messages, all_given, records_over_udp}
+use Rattle.recording_peer.specs.Peers.{Taken, AreTaken, HaveFronts, PeerFile, part_of, sent_of, datagrams, givens, known_after_all, all_messages, all_given, records_over_udp}
 
 -- the counts, and how far the sequence numbers of each domain reach
 pub record PeerTold : Type 0 where
   pub counts : Told
   pub advances : List (ℕ × Reach)
 
--- what contracts see of a recorder: what it keeps, what it counted, and why it ended, if it has
+-- what contracts see of a recorder: what it keeps, the templates that were withdrawn in the files, what it counted, and why it
+-- ended, if it has
 pub record PeerView : Type 0 where
   pub recorder : State
+  pub withdrawn : List (ℕ × List (ℕ × Template))
   pub told : PeerTold
   pub ended : Option RecordFault
+
+-- the one of a domain for an id
+abbrev pub template_listed : List (ℕ × List (ℕ × Template)) → ℕ → ℕ → Option Template
+template_listed es domain id = option_and_then (λ ts. lookup (eq_by_cmp nat_cmp id) ts) (lookup (eq_by_cmp nat_cmp domain) es)
+
+-- they are exactly those that are known over UDP, and that the files don't have in force
+pub record KeepsListed (es : List (ℕ × List (ℕ × Template))) (k : Known) : Type 0 where
+  pub at : (domain id : ℕ) → template_listed es domain id ≡ withdrawn_in k domain id
+  pub sound : IsSound k
 
 -- ---- the files of a peer
 
@@ -52,7 +68,7 @@ HasDatagram ts = ts ≢ []
 -- these datagrams were taken, and stand in the files that came after the first ones, each after what stands in front of it: those
 -- of each finished file, and those of the file that isn't finished, after which stand these octets
 pub record FilesHold (first after : FilesView) (finished : List (List Taken)) (here : List Taken) (cut_off : List ℕ) : Type 0 where
-  pub taken : AreTaken [] (all_taken finished here)
+  pub taken : AreTaken none_known (all_taken finished here)
   pub fronts : HaveFronts [] (all_taken finished here)
   pub some : All HasDatagram finished
   pub files : List PeerFile
@@ -77,6 +93,7 @@ pub record IsPeer (first after : FilesView) (s : PeerView) (finished : List (Lis
   pub goes_on : s.ended ≡ None
   pub counted : Counts s.told finished here
   pub keeps : Keeps s.recorder (all_given (all_finished finished)) (all_given here)
+  pub withdrawn : KeepsListed s.withdrawn (known_after_all (all_taken finished here))
 
 -- ---- its calls
 
@@ -91,7 +108,7 @@ pub record IsCutOff (first after : FilesView) (finished : List (List Taken)) (he
   pub holds : FilesHold first after finished here cut_off
   pub next : Taken
   pub datagram : next.datagram ≡ m
-  pub taken : AreTaken [] (all_taken finished (here ++ next ∷ []))
+  pub taken : AreTaken none_known (all_taken finished (here ++ next ∷ []))
   pub fronts : HaveFronts [] (all_taken finished (here ++ next ∷ []))
   pub file : List (List ℕ)
   pub whole : Writes (all_given (all_finished finished)) [] (all_messages (here ++ next ∷ [])) (all_given (here ++ next ∷ [])) file
@@ -123,7 +140,7 @@ pub record KeepsWhole (ts : List Taken) (m : List ℕ) (files : List (List ℕ))
   pub read : All (λ file. IsOpen (stop_of file)) files
   pub next : List Taken
   pub one : (next ≡ []) ⊎ (datagrams next ≡ m ∷ [])
-  pub taken : AreTaken [] (ts ++ next)
+  pub taken : AreTaken none_known (ts ++ next)
   pub at_least : IsPrefix (records_over_udp ts) (flat_map records_of files)
   pub at_most : IsPrefix (flat_map records_of files) (records_over_udp (ts ++ next))
 
@@ -132,7 +149,7 @@ abbrev pub Answers : Result PeerAnswer RecordFault → List ℕ → FilesView �
 Answers (Ok Recorded) m first before after s t finished here =
     (x : Taken) × (x.datagram ≡ m) × IsPeer first after t finished (here ++ x ∷ [])
 Answers (Ok (Refused fault)) m first before after s t finished here =
-    IsRefused (known_after [] (givens (all_taken finished here))) m fault × (t ≡ s) × (after ≡ before)
+    IsRefused (known_after_all (all_taken finished here)) m fault × (t ≡ s) × (after ≡ before)
 Answers (Err fault) m first before after s t finished here = (t.ended ≡ Some fault) × HasStopped fault first after t.told finished here m
 
 -- how a peer ended

@@ -2,16 +2,16 @@
 
 ghost use Rattle.std.specs.Prelude.{◌≡◌, ◌++◌, ◌∷◌, [], ℕ, List, Ok, All, MatchResult};
 ghost use Rattle.ipfix_message.specs.Domains.{Message, message_header};
-ghost use Rattle.ipfix_session.specs.Given.{known_after};
 ghost use Rattle.ipfix_datagrams.specs.Datagrams.{IsTaken};
+ghost use Rattle.ipfix_datagrams.specs.Attempts.{Leaves, preparation_of};
 ghost use Rattle.ipfix_datagrams.specs.Withdrawals.{HasTemplateId};
 ghost use Rattle.recording_files.specs.Files.{FilesView};
-ghost use Rattle.recording_peer.specs.Peers.{Taken, givens};
+ghost use Rattle.recording_peer.specs.Peers.{Taken, known_after_all};
 ghost use Rattle.recording_peer.specs.Recording.{IsPeer, HasStopped, all_taken, finished_now};
 
 use crate::fronts::take_datagram;
 use crate::peer_recorder::PeerRecorder;
-use ipfix_datagrams::WithdrawnTemplate;
+use ipfix_datagrams::{DatagramReading, keep_withdrawn};
 use ipfix_wire::Header;
 use recording_files::{FileSeries, RecordFault};
 use std::alloc::Global;
@@ -40,23 +40,23 @@ impl PeerRecorder {
         }
     }
 
-    /// Records a datagram, whose header was read, after these templates are withdrawn, and counts and notes it
-    /// then.
+    /// Records a datagram, whose header was read, as it is to be taken, and counts and notes it then.
     pub(crate) fn record<F: FileSeries>(
         &mut self,
         alloc: Global,
         header: &Header,
-        withdrawn: &[WithdrawnTemplate],
+        reading: &DatagramReading,
         datagram: &[u8],
         files: &mut F,
     ) -> Result<(), RecordFault>
         requires header { message_header datagram.now ≡ Ok header.now }
-        requires ids { All HasTemplateId withdrawn.now }
+        requires ids { All HasTemplateId reading.now.withdrawn.items }
         ensures { (first : FilesView) (finished : List (List Taken)) (here : List Taken)
             (x : Message)
             → IsPeer first (F.seen files.old) self.old finished here
-            → IsTaken (known_after [] (givens (all_taken finished here))) datagram.now
-            withdrawn.now x
+            → IsTaken (known_after_all (all_taken finished here)) datagram.now
+            (preparation_of reading.now) x
+            → Leaves reading.now.after x
             → MatchResult result
             (λ _. (next : Taken) × (next.datagram ≡ datagram.now)
             × IsPeer first (F.seen files.new) self.new finished (here ++ next ∷ []))
@@ -64,11 +64,18 @@ impl PeerRecorder {
             datagram.now) }
     {
         self.counts.clear_waiting();
+        keep_withdrawn(
+            alloc,
+            &mut self.withdrawn,
+            header.domain,
+            self.recorder.domains().templates(header.domain),
+            reading.after.templates(header.domain),
+        )?;
         let count = take_datagram(
             alloc,
             &mut self.recorder,
             header,
-            withdrawn,
+            reading,
             datagram,
             &mut self.out,
         )?;

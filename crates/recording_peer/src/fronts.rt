@@ -1,21 +1,25 @@
 //! The messages of the recorder's own in front of a datagram.
 
-ghost use Rattle.std.specs.Prelude.{◌≡◌, ◌≤◌, ◌⊎◌, ◌++◌, [], List, Ok, true, All, length, MatchResult};
+ghost use Rattle.std.specs.Prelude.{◌≡◌, ◌≤◌, ◌⊎◌, ◌++◌, ◌∷◌, [], List, Ok, true, All, length, MatchResult};
+ghost use Rattle.std.specs.BTreeMap.{values};
 ghost use Rattle.ipfix_message.specs.Alike.{knows};
 ghost use Rattle.ipfix_message.specs.Domains.{Message, message_header};
 ghost use Rattle.ipfix_message.specs.declared.fault.MessageFault.TheVariants.{OutOfMemory};
 ghost use Rattle.ipfix_session.specs.Given.{known_after};
-ghost use Rattle.ipfix_datagrams.specs.Datagrams.{IsTaken};
+ghost use Rattle.ipfix_message.specs.WrittenTemplates.{IsTemplate};
+ghost use Rattle.ipfix_datagrams.specs.Attempts.{IsSound, preparation_of};
+ghost use Rattle.ipfix_datagrams.specs.Datagrams.{Known, IsTaken, with_withdrawn};
 ghost use Rattle.ipfix_datagrams.specs.Withdrawals.{HasTemplateId};
+ghost use Rattle.ipfix_datagrams.specs.declared.withdrawn_template.WithdrawnTemplate.{WithdrawnTemplate as Withdrawn};
 ghost use Rattle.ipfix_datagrams.specs.declared.withdrawal.TheConstants.{MOST_WITHDRAWN};
 ghost use Rattle.recording_files.specs.Recorders.{Keeps};
 ghost use Rattle.recording_peer.specs.Peers.{Front};
-ghost use Rattle.recording_peer.specs.Fronts.{TookOne, TookFront, TookDatagram, taken_as};
+ghost use Rattle.recording_peer.specs.Fronts.{CanGoOn, TookOne, TookDefinition, TookFront, TookPrepared, TookDatagram, taken_as};
 
-use ipfix_datagrams::{MOST_WITHDRAWN, WithdrawnTemplate, append_withdrawals};
-use ipfix_message::{MessageFault, header_of};
+use ipfix_datagrams::{DatagramReading, MOST_WITHDRAWN, WithdrawnTemplate, append_withdrawals};
+use ipfix_message::{MessageFault, Template, Templates, header_of};
 use ipfix_wire::Header;
-use recording_files::{MessageCount, Recorder};
+use recording_files::{MessageCount, Recorder, Stamp, append_template_message};
 use std::alloc::Global;
 
 // Takes a message that withdraws templates, and appends what precedes it and the message.
@@ -46,7 +50,7 @@ fn take_one(
 
 // Takes the messages that withdraw templates in the domain of a header, which has appeared if there are any.
 // What stood in `out` before is gone.
-fn take_front(
+fn take_withdrawals(
     alloc: Global,
     recorder: &mut Recorder,
     header: &Header,
@@ -70,25 +74,82 @@ fn take_front(
     Ok(())
 }
 
-/// Takes a datagram, whose header was read, after messages that withdraw these templates, and makes all that is
-/// to be written for it. What stood in `out` before is gone. It answers what the datagram adds to the counts.
+// Takes a message that defines a template, and appends what precedes it and the message.
+fn take_definition(
+    alloc: Global,
+    recorder: &mut Recorder,
+    stamp: Stamp,
+    template: &Template,
+    out: &mut Vec<u8>,
+) -> Result<(), MessageFault>
+    requires { IsTemplate template.now }
+    ensures { (before here : List Message) → Keeps recorder.old before here
+        → CanGoOn (known_after [] (before ++ here)) stamp.domain (template.now ∷ [])
+        → MatchResult result
+        (λ _. TookDefinition before here recorder.new stamp template.now out.old.items
+        out.new.items)
+        (λ fault. fault ≡ OutOfMemory) }
+{
+    let mut body = Vec::new(alloc);
+    let mut message = Vec::new(alloc);
+    append_template_message(stamp, template, &mut body, &mut message)?;
+    let own = header_of(&message)?;
+    let mut lead = Vec::new(alloc);
+    let _ = recorder.take_message(alloc, &own, &message, &mut lead)?;
+    out.extend_from_slice(&lead)?;
+    out.extend_from_slice(&message)?;
+    Ok(())
+}
+
+// Takes the messages that define templates again, after those that withdraw templates.
+fn take_definitions(
+    alloc: Global,
+    recorder: &mut Recorder,
+    header: &Header,
+    defined: &Templates,
+    out: &mut Vec<u8>,
+) -> Result<(), MessageFault>
+    ensures { (before here : List Message) (withdrawn : List Withdrawn)
+        → TookFront before here recorder.old header.now withdrawn out.old.items
+        → CanGoOn (with_withdrawn (known_after [] (before ++ here)) header.now.domain withdrawn)
+        header.now.domain (values defined.now)
+        → MatchResult result
+        (λ _. TookPrepared before here recorder.new header.now
+        (record { withdrawn = withdrawn; defined = values defined.now }) out.new.items)
+        (λ fault. fault ≡ OutOfMemory) }
+{
+    let stamp = Stamp {
+        export_time: header.export_time,
+        sequence: header.sequence,
+        domain: header.domain,
+    };
+    for known in defined.values() {
+        take_definition(alloc, recorder, stamp, known.to_write(), out)?;
+    }
+    Ok(())
+}
+
+/// Takes a datagram, whose header was read, after messages that withdraw templates and define templates again,
+/// and makes all that is to be written for it. What stood in `out` before is gone. It answers what the datagram
+/// adds to the counts.
 ///
 /// The fault is `OutOfMemory`, and after it the recorder is of no use.
 pub fn take_datagram(
     alloc: Global,
     recorder: &mut Recorder,
     header: &Header,
-    withdrawn: &[WithdrawnTemplate],
+    reading: &DatagramReading,
     datagram: &[u8],
     out: &mut Vec<u8>,
 ) -> Result<MessageCount, MessageFault>
     requires header { message_header datagram.now ≡ Ok header.now }
-    requires ids { All HasTemplateId withdrawn.now }
-    ensures { (before here : List Message) (x : Message) → Keeps recorder.old before here
-        → IsTaken (known_after [] (before ++ here)) datagram.now withdrawn.now x
+    requires ids { All HasTemplateId reading.now.withdrawn.items }
+    ensures { (before here : List Message) (k : Known) (x : Message)
+        → Keeps recorder.old before here → k.files ≡ known_after [] (before ++ here) → IsSound k
+        → IsTaken k datagram.now (preparation_of reading.now) x
         → MatchResult result
         (λ count. (front : Front) × TookDatagram before here recorder.new
-        (taken_as datagram.now withdrawn.now front x) out.new.items count)
+        (taken_as datagram.now (preparation_of reading.now) front x) out.new.items count)
         (λ fault. fault ≡ OutOfMemory) }
 {
     let own = Header {
@@ -97,7 +158,8 @@ pub fn take_datagram(
         sequence: recorder.due(header.domain).unwrap_or(header.sequence),
         domain: header.domain,
     };
-    take_front(alloc, recorder, &own, withdrawn, out)?;
+    take_withdrawals(alloc, recorder, &own, &reading.withdrawn, out)?;
+    take_definitions(alloc, recorder, &own, &reading.defined, out)?;
     let mut lead = Vec::new(alloc);
     let count = recorder.take_message(alloc, header, datagram, &mut lead)?;
     out.extend_from_slice(&lead)?;

@@ -7,6 +7,7 @@ ghost use Rattle.ipfix_session.specs.Given.{octets_of, records_of, stop_of};
 ghost use Rattle.recording_files.specs.declared.record_fault.RecordFault.{RecordFault};
 ghost use Rattle.recording_files.specs.FileReports.{AddUp};
 ghost use Rattle.recording_files.specs.Files.{Contents, FilesView, all_of};
+ghost use Rattle.ipfix_datagrams.specs.Datagrams.{none_known};
 ghost use Rattle.recording_peer.specs.declared.peer_session.PeerSession.{PeerSession};
 ghost use Rattle.recording_peer.specs.Peers.{Taken, AreTaken, records_over_udp};
 ghost use Rattle.recording_peer.specs.Recording.{HasStopped, FilesHold, IsPeerTold, KeepsWhole, PeerTold, Tells, all_taken};
@@ -18,7 +19,7 @@ pub fn files_give_the_records_over_udp()
     ensures { (first after : FilesView) (start now : Contents) (finished : List (List Taken))
         (here : List Taken) → FilesHold first after finished here []
         → first.contents ≡ Some start → start.finished ≡ [] → after.contents ≡ Some now
-        → AreTaken [] (all_taken finished here)
+        → AreTaken none_known (all_taken finished here)
         × All (λ file. stop_of file ≡ Clean) (all_of now)
         × (flat_map records_of (all_of now) ≡ records_over_udp (all_taken finished here)) }
 {}

@@ -1,6 +1,6 @@
 //! What is answered of a datagram.
 
-use ipfix_datagrams::DatagramFault;
+use ipfix_message::MessageFault;
 
 /// What was done with a datagram.
 #[derive(Clone, Copy, Debug, PartialEq, Eq)]
@@ -8,5 +8,5 @@ pub enum PeerAnswer {
     /// It stands in the peer's file.
     Recorded,
     /// It was refused, and changed nothing.
-    Refused(DatagramFault),
+    Refused(MessageFault),
 }

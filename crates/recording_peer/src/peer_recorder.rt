@@ -8,10 +8,11 @@ ghost use Rattle.recording_peer.specs.Recording.{IsPeer, HasStopped, Answers, Te
 
 use crate::peer_answer::PeerAnswer;
 use crate::peer_session::PeerSession;
-use ipfix_datagrams::{DatagramFault, SequenceAdvances, read_datagram};
+use ipfix_datagrams::{SequenceAdvances, WithdrawnTemplates, read_datagram};
 use ipfix_message::header_of;
 use recording_files::{FileSeries, RecordFault, Recorder, SessionCounts};
 use std::alloc::Global;
+use std::collections::BTreeMap;
 use std::marker::Model;
 
 /// A peer that sends over UDP, while its datagrams are recorded: a transport session is its address and
@@ -19,6 +20,7 @@ use std::marker::Model;
 #[derive(Drop)]
 pub struct PeerRecorder {
     pub(crate) recorder: Recorder,
+    pub(crate) withdrawn: WithdrawnTemplates,
     pub(crate) counts: SessionCounts,
     pub(crate) advances: SequenceAdvances,
     pub(crate) ended: Option<RecordFault>,
@@ -26,12 +28,14 @@ pub struct PeerRecorder {
 }
 
 impl Model for PeerRecorder {
+    ghost use Rattle.ipfix_message.specs.Kept.{kept};
     ghost use Rattle.recording_peer.specs.Recording.{PeerView};
 
     ghost Value = { PeerView };
 
     ghost view = { λ r. record {
       recorder = r.recorder;
+      withdrawn = kept r.withdrawn.entries;
       told = record { counts = r.counts.told; advances = r.advances.reaches };
       ended = r.ended;
     } };
@@ -44,6 +48,7 @@ impl PeerRecorder {
     {
         PeerRecorder {
             recorder: Recorder::new(alloc),
+            withdrawn: BTreeMap::new(alloc),
             counts: SessionCounts::new(alloc),
             advances: SequenceAdvances::new(alloc),
             ended: None,
@@ -53,7 +58,8 @@ impl PeerRecorder {
 
     /// Takes a datagram. One that is read after the rules over UDP is recorded as it came, after a preamble
     /// of its domain if the file has none of the domain's messages yet and an earlier file has. If it
-    /// changes templates, a message stands in front of it that withdraws them. Any other datagram is
+    /// changes templates, a message stands in front of it that withdraws them; if it has data sets of
+    /// templates that an earlier one withdrew, messages that define them again. Any other datagram is
     /// refused, and changes nothing.
     ///
     /// The fault is `NotWritten` where a call of the files failed, or `OutOfMemory`: then the peer has ended,
@@ -77,13 +83,14 @@ impl PeerRecorder {
         }
         let header = match header_of(datagram) {
             Ok(header) => header,
-            Err(fault) => return Ok(PeerAnswer::Refused(DatagramFault::Message(fault))),
+            Err(malformed) => return Ok(PeerAnswer::Refused(malformed)),
         };
-        let withdrawn = match read_datagram(alloc, self.recorder.domains(), &header, datagram) {
-            Ok(withdrawn) => withdrawn,
+        let domains = self.recorder.domains();
+        let reading = match read_datagram(alloc, domains, &self.withdrawn, &header, datagram) {
+            Ok(reading) => reading,
             Err(fault) => return Ok(PeerAnswer::Refused(fault)),
         };
-        match self.record(alloc, &header, &withdrawn, datagram, files) {
+        match self.record(alloc, &header, &reading, datagram, files) {
             Ok(()) => Ok(PeerAnswer::Recorded),
             Err(fault) => {
                 self.ended = Some(fault);
@@ -126,6 +133,7 @@ impl PeerRecorder {
     {
         let PeerRecorder {
             recorder: _,
+            withdrawn: _,
             counts,
             advances,
             ended,

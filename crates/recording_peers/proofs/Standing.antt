@@ -4,7 +4,7 @@ use Rattle.std.specs.Prelude.{unwrap_or}
 use Rattle.std.specs.declared.net.socket_addr.SocketAddr.{SocketAddr}
 use Rattle.recording_files.specs.declared.record_fault.RecordFault.{RecordFault}
 use Rattle.recording_files.specs.Files.{FilesView}
-use Rattle.ipfix_datagrams.specs.declared.datagram_fault.DatagramFault.{DatagramFault}
+use Rattle.ipfix_message.specs.declared.fault.MessageFault.{MessageFault}
 use Rattle.recording_peer.specs.declared.peer_answer.PeerAnswer.{PeerAnswer}
 use Rattle.recording_peer.specs.declared.peer_answer.PeerAnswer.TheVariants as answers
 use Rattle.recording_peers.specs.declared.peer_state.PeerState.{PeerState}
@@ -47,7 +47,7 @@ module _ {F : Type 0} (seen : F → FilesView) where
   recorded (Ok answer) new most after cs peer m e b = b
   recorded (Err fault) new most after cs peer m e b = absurd cc
 
-  refused : (answer : Result PeerAnswer RecordFault) (new : PeerState F) (fault : DatagramFault) (most : ℕ) (after : List (SocketAddr × PeerState F)) (cs : PeerDatagrams) (peer : SocketAddr) (m : List ℕ)
+  refused : (answer : Result PeerAnswer RecordFault) (new : PeerState F) (fault : MessageFault) (most : ℕ) (after : List (SocketAddr × PeerState F)) (cs : PeerDatagrams) (peer : SocketAddr) (m : List ℕ)
       → Refused fault ≡ became_by answer new → Behind answer new most after cs peer m → StandFor seen after (with_datagram most cs peer m)
   refused (Ok answer) new fault most after cs peer m e b = b
   refused (Err other) new fault most after cs peer m e b = absurd cc

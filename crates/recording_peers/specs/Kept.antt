@@ -1,14 +1,13 @@
 -- A session of a peer, and the datagrams of the peer that it stands for (RFC 7011, sections 8.4 and 10.3).
 use Rattle.std.specs.Prelude.{◌≡◌, ◌⊎◌, ℕ, Bool, true, false, List, [], ◌∷◌, ◌++◌, Option, Some, None, Result, Ok, Err, MatchResult}
-use Rattle.ipfix_session.specs.Given.{known_after}
 use Rattle.ipfix_session.specs.Sources.{one_more}
 use Rattle.recording_files.specs.declared.record_fault.RecordFault.{RecordFault}
 use Rattle.recording_files.specs.Files.{FilesView, IsEmpty}
-use Rattle.ipfix_datagrams.specs.declared.datagram_fault.DatagramFault.{DatagramFault}
+use Rattle.ipfix_message.specs.declared.fault.MessageFault.{MessageFault}
 use Rattle.ipfix_datagrams.specs.Datagrams.{IsRefused}
 use Rattle.recording_peer.specs.declared.peer_answer.PeerAnswer.{PeerAnswer}
 use Rattle.recording_peer.specs.declared.peer_answer.PeerAnswer.TheVariants.{Recorded, Refused}
-use Rattle.recording_peer.specs.Peers.{Taken, givens}
+use Rattle.recording_peer.specs.Peers.{Taken, known_after_all}
 use Rattle.recording_peer.specs.Recording.{IsPeer, Answers, HasStopped, all_taken, finished_now}
 use Rattle.recording_peers.specs.declared.peer_state.PeerState.{PeerState}
 use Rattle.recording_peers.specs.declared.refusals.Refusals.{Refusals}
@@ -19,7 +18,7 @@ use Rattle.recording_peers.specs.declared.refusals.Refusals.{Refusals}
 abbrev pub Settles : List Taken → List (List ℕ) → List Taken → Type 0
 Settles before [] all = all ≡ before
 Settles before (m ∷ ms) all = ((x : Taken) × (x.datagram ≡ m) × Settles (before ++ x ∷ []) ms all)
-    ⊎ ((fault : DatagramFault) × IsRefused (known_after [] (givens before)) m fault × Settles before ms all)
+    ⊎ ((fault : MessageFault) × IsRefused (known_after_all before) m fault × Settles before ms all)
 
 -- the files and the recorder of a peer stand for the datagrams that came since the session began: each was recorded in the
 -- files, in its order and as it came, or it was refused, and changed nothing
@@ -49,7 +48,7 @@ abbrev pub untold : Option Refusals → ℕ
 untold None = 0
 untold (Some r) = r.count
 
-abbrev pub one_more_refused : Option Refusals → DatagramFault → Refusals
+abbrev pub one_more_refused : Option Refusals → MessageFault → Refusals
 one_more_refused r fault = record { count = one_more (untold r); last = fault }
 
 abbrev pub refused_by : Result PeerAnswer RecordFault → Option Refusals → Option Refusals

@@ -1,7 +1,7 @@
 //! What becomes of a datagram.
 
 use crate::peer_state::PeerState;
-use ipfix_datagrams::DatagramFault;
+use ipfix_message::MessageFault;
 use std::net::SocketAddr;
 
 /// What became of a datagram.
@@ -10,7 +10,7 @@ pub enum Became<F> {
     /// It stands in its peer's file.
     Recorded,
     /// It was refused, counted, and changed nothing.
-    Refused(DatagramFault),
+    Refused(MessageFault),
     /// Its peer's session ended with a fault that its recorder tells. The next datagram begins another.
     Ended(PeerState<F>),
     /// There was no memory to begin a session of its peer, and nothing has changed.

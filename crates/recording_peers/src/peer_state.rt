@@ -6,7 +6,7 @@ ghost use Rattle.recording_peers.specs.Kept.{Takes, TakesTurn, Finishes, IsSessi
 ghost use Rattle.recording_peers.specs.Kept as specs;
 
 use crate::refusals::Refusals;
-use ipfix_datagrams::DatagramFault;
+use ipfix_message::MessageFault;
 use recording_files::{FileSeries, RecordFault};
 use recording_peer::{PeerAnswer, PeerRecorder};
 use std::alloc::Global;
@@ -90,7 +90,7 @@ fn refused_by(
     }
 }
 
-fn one_more(refused: Option<Refusals>, fault: DatagramFault) -> Refusals
+fn one_more(refused: Option<Refusals>, fault: MessageFault) -> Refusals
     ensures { result ≡ one_more_refused refused fault }
 {
     Refusals {

@@ -2,7 +2,6 @@
 
 use super::datagrams::*;
 use super::told::{Told, end, finish, new_peer, take};
-use ipfix_datagrams::DatagramFault;
 use ipfix_message::MessageFault;
 use ipfix_session::SessionFault;
 use recording_files::{MemoryFiles, RecordFault};
@@ -64,7 +63,7 @@ fn recording_survives_refused_memory(rt: HostRuntime) -> Result<(), Fail> {
         match take(rt.alloc(), &mut peer, datagram, &mut files) {
             Ok(PeerAnswer::Recorded) => recorded = recorded.saturating_add(1),
             Ok(PeerAnswer::Refused(fault)) => {
-                assert_eq!(rt; fault, DatagramFault::Message(MessageFault::OutOfMemory));
+                assert_eq!(rt; fault, MessageFault::OutOfMemory);
             }
             // (files in memory are not written if they find none)
             Err(fault) => {

@@ -54,6 +54,26 @@ fn a_changed_template_is_withdrawn(rt: HostRuntime) -> Result<(), Fail> {
     Ok(())
 }
 
+// In front of the next datagram with records of a template that the exporter withdrew a message defines it again,
+// with the sequence number that is due, which is 12.
+#[test]
+fn a_withdrawn_template_is_defined_again(rt: HostRuntime) -> Result<(), Fail> {
+    let datagrams = [FIRST_OF_1, WITHDRAWS_256, SECOND_OF_1, SECOND_OF_1];
+    let files = files_of(&rt, rt.alloc(), &datagrams, NEVER);
+    let text = text_of(
+        rt.alloc(),
+        &[
+            FIRST_OF_1,
+            WITHDRAWS_256,
+            DEFINITION_OF_256,
+            SECOND_OF_1,
+            SECOND_OF_1,
+        ],
+    )?;
+    assert_eq!(rt; files.unfinished.as_slice(), text.as_slice());
+    Ok(())
+}
+
 // Where the datagram is the first of its domain in a file, the message stands after the preamble, which has both
 // templates; before the first datagram of domain 2 stands its own.
 #[test]

@@ -3,7 +3,6 @@
 use super::datagrams::*;
 use super::running::{files_of, told_by};
 use super::told::{end, new_peer, take};
-use ipfix_datagrams::DatagramFault;
 use ipfix_message::MessageFault;
 use recording_files::MemoryFiles;
 use recording_peer::{PeerAnswer, PeerRecorder};
@@ -23,23 +22,18 @@ fn are_refused(alloc: Global, peer: &mut PeerRecorder, files: &mut MemoryFiles) 
         (CHANGED_TEMPLATE, MessageFault::TemplateChanged),
     ] {
         let answer = take(alloc, peer, datagram, files);
-        right = right && answer == Ok(PeerAnswer::Refused(DatagramFault::Message(fault)));
+        right = right && answer == Ok(PeerAnswer::Refused(fault));
     }
     right
 }
 
-// Takes all datagrams, those before each of them, and after it one that withdraws. Answers whether only they were
-// recorded.
+// Takes all datagrams, and those before each of them. Answers whether only they were recorded.
 fn take_among_refused(alloc: Global, peer: &mut PeerRecorder, files: &mut MemoryFiles) -> bool {
     let mut right = true;
     for datagram in DATAGRAMS {
         let refused = are_refused(alloc, peer, files);
         let answer = take(alloc, peer, datagram, files);
-        let behind = take(alloc, peer, WITHDRAWS_256, files);
-        right = right
-            && refused
-            && answer == Ok(PeerAnswer::Recorded)
-            && behind == Ok(PeerAnswer::Refused(DatagramFault::Withdrawal));
+        right = right && refused && answer == Ok(PeerAnswer::Recorded);
     }
     right
 }

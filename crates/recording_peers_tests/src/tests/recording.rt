@@ -1,7 +1,6 @@
 //! What stands in the files of each peer.
 
 use super::running::*;
-use ipfix_datagrams::DatagramFault;
 use ipfix_message::MessageFault;
 use std::test::*;
 use worked_examples::faults::VERSION_9;
@@ -24,7 +23,7 @@ fn each_has_its_own_files(rt: HostRuntime) -> Result<(), Fail> {
 fn refused_is_counted(rt: HostRuntime) -> Result<(), Fail> {
     let alloc = rt.alloc();
     let mut peers = two_peers(&rt)?;
-    let version = DatagramFault::Message(MessageFault::Version);
+    let version = MessageFault::Version;
     let first = record(alloc, &mut peers, 1, FIRST_OF_1, 1000);
     assert_eq!(rt; first, (Answer::Recorded, None));
     let second = record(alloc, &mut peers, 1, VERSION_9, 1000);

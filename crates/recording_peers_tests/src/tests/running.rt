@@ -1,6 +1,6 @@
 //! Peers, a place in memory, and datagrams.
 
-use ipfix_datagrams::DatagramFault;
+use ipfix_message::MessageFault;
 use recording_files::MemoryFiles;
 use recording_peers::{
     Became, Datagram, DatagramSource, Outcome, PeerPlace, PeerState, Peers, ScriptDatagrams,
@@ -53,7 +53,7 @@ pub fn two_peers(rt: &HostRuntime) -> Result<Peers<MemoryFiles>, Fail> {
 #[derive(Clone, Copy, Debug, PartialEq, Eq)]
 pub enum Answer {
     Recorded,
-    Refused(DatagramFault),
+    Refused(MessageFault),
     Ended,
     NoMemory,
 }

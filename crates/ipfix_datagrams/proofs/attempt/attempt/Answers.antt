@@ -1,27 +1,22 @@
+use Rattle.std.proofs.lemmas.Result.{err_from_is_err_and}
+use Rattle.std.specs.BTreeMap.{values}
 use Rattle.ipfix_message.specs.Domains.{alone}
-use Rattle.ipfix_datagrams.specs.Datagrams.{with_withdrawn}
-use Rattle.ipfix_datagrams.proofs.Attempted.{attempt_fails, attempt_reads, attempt_loses}
+use Rattle.ipfix_datagrams.specs.Datagrams.{Preparation, prepared}
+use Rattle.ipfix_datagrams.proofs.Attempted.{attempt_fails, attempt_reads}
 use Rattle.ipfix_datagrams.proofs.attempt.attempt.Goals as goal
 
-pub returns-in-Err-decode_with_header : goal.returns-in-Err-decode_with_header
-returns-in-Err-decode_with_header c = λ ds fresh stands ok known.
+pub returns-in_err-decode_with_header : goal.returns-in_err-decode_with_header
+returns-in_err-decode_with_header c = λ ds fresh stands ok can.
     let h = c.args.header.now in
-    let f = c.in-Ok.ensures ds fresh stands known in
-    attempt_fails ds c.args.datagram.now h c.args.withdrawn.now c.in-Err-decode_with_header.fault c.requires.header ok known
-    (c.in-Err-decode_with_header.ensures.gives f.0 (with_withdrawn (alone ds h.domain) h.domain c.args.withdrawn.now) f.1)
-
-pub returns-then-keeps_all : goal.returns-then-keeps_all
-returns-then-keeps_all c = λ ds fresh stands ok known.
-    let h = c.args.header.now in
-    let f = c.in-Ok.ensures ds fresh stands known in
-    let r = c.in_default.ensures.gives f.0 (with_withdrawn (alone ds h.domain) h.domain c.args.withdrawn.now) f.1 in
-    let keeps = rw c.if-keeps_all.true at (c.keeps_all.ensures ds r.0.domains fresh stands c.in_default.ensures.ok r.3) in
-    attempt_reads ds c.args.datagram.now h c.args.withdrawn.now r.0 c.requires.header ok known r.1 keeps
+    let p : Preparation = record { withdrawn = c.args.withdrawn.now; defined = values c.args.defined.now } in
+    let f = c.in_ok-alone.ensures ds fresh stands can in
+    let e = err_from_is_err_and c.from_residual-in_err-decode_with_header.result c.from_residual-in_err-decode_with_header.ensures.1 in
+    rw (e.1, e.2) (attempt_fails ds c.args.datagram.now h p c.in_err-decode_with_header.field-0.0 c.requires.header ok can (c.in_err-decode_with_header.ensures.gives f.0 (prepared (alone ds h.domain) h.domain p) f.1))
 
 pub returns : goal.returns
-returns c = λ ds fresh stands ok known.
+returns c = λ ds fresh stands ok can.
     let h = c.args.header.now in
-    let f = c.in-Ok.ensures ds fresh stands known in
-    let r = c.in_default.ensures.gives f.0 (with_withdrawn (alone ds h.domain) h.domain c.args.withdrawn.now) f.1 in
-    let lost = rw c.if-keeps_all.false at (c.keeps_all.ensures ds r.0.domains fresh stands c.in_default.ensures.ok r.3) in
-    attempt_loses ds c.args.datagram.now h c.args.withdrawn.now r.0 c.requires.header ok known r.1 lost
+    let p : Preparation = record { withdrawn = c.args.withdrawn.now; defined = values c.args.defined.now } in
+    let f = c.in_ok-alone.ensures ds fresh stands can in
+    let r = c.in_ok-decode_with_header.ensures.gives f.0 (prepared (alone ds h.domain) h.domain p) f.1 in
+    attempt_reads ds c.args.datagram.now h p r.0 c.decode_with_header.new.self c.requires.header ok can r.1 c.in_ok-decode_with_header.ensures.ok r.3

@@ -5,7 +5,6 @@ use Rattle.std.specs.Ordering.{nat_cmp}
 use Rattle.std.proofs.lemmas.List.Elements.{All-cons}
 use Rattle.ipfix_message.specs.declared.record.Template.{Template}
 use Rattle.ipfix_message.specs.WrittenTemplates.{IsTemplate}
-use Rattle.ipfix_datagrams.specs.declared.withdrawn_template.WithdrawnTemplate.{WithdrawnTemplate}
 use Rattle.ipfix_datagrams.specs.Datagrams.{replaced_by}
 use Rattle.ipfix_datagrams.proofs.Replacing.{replaced_more}
 use Rattle.ipfix_datagrams.proofs.changes.all_replaced.Goals as goal

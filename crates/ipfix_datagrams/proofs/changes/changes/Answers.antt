@@ -1,12 +1,11 @@
-use Rattle.std.proofs.Common.{◌≡◌, ◌≤◌, ℕ, List, [], refl, sym, subst, ◌∙◌}
-use Rattle.std.specs.Prelude.{All, flat_map, option_copied, option_and_then}
+use Rattle.std.proofs.Common.{List, [], sym, subst, ◌∙◌}
+use Rattle.std.specs.Prelude.{All, option_copied, option_and_then}
 use Rattle.std.specs.BTreeMap.{get, values}
 use Rattle.std.specs.Ordering.{nat_cmp}
 use Rattle.std.proofs.lemmas.List.Elements.{All-nil}
 use Rattle.ipfix_message.specs.declared.record.Template.{Template}
 use Rattle.ipfix_datagrams.specs.declared.withdrawn_template.WithdrawnTemplate.{WithdrawnTemplate}
 use Rattle.ipfix_datagrams.specs.Withdrawals.{HasTemplateId}
-use Rattle.ipfix_datagrams.specs.Datagrams.{replaced_by}
 use Rattle.ipfix_datagrams.proofs.Replacing.{own_some, own_none, ids_low, replaced_in}
 use Rattle.ipfix_datagrams.proofs.changes.changes.Goals as goal
 

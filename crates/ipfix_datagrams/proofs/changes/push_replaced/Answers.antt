@@ -1,8 +1,7 @@
-use Rattle.std.proofs.Common.{◌≡◌, Option, Some, rules}
+use Rattle.std.proofs.Common.{◌≡◌, Some, rules}
 use Rattle.std.specs.Prelude.{option_copied, option_and_then}
 use Rattle.std.specs.BTreeMap.{get}
 use Rattle.std.specs.Ordering.{nat_cmp}
-use Rattle.ipfix_message.specs.declared.record.Template.{Template}
 use Rattle.ipfix_datagrams.proofs.Replacing.{nothing_replaced, other_replaced}
 use Rattle.ipfix_datagrams.proofs.changes.push_replaced.Goals as goal
 

@@ -1,4 +1,4 @@
-use Rattle.std.proofs.Common.{◌≡◌, ◌+◌, ◌*◌, ◌++◌, ℕ, List, Ok, length, refl, ap, subst, ◌∙◌, arith}
+use Rattle.std.proofs.Common.{◌≡◌, ◌+◌, ◌*◌, ◌++◌, ℕ, Ok, length, refl, ap, subst, ◌∙◌, arith}
 use Rattle.ipfix_wire.specs.declared.header.Header.{Header}
 use Rattle.ipfix_wire.specs.MessageHeader.{header_octets, header_at}
 use Rattle.ipfix_datagrams.specs.Withdrawals.{withdrawal_header, withdrawal_sets}

@@ -1,6 +1,7 @@
 use Rattle.std.proofs.Common.{◌≡◌, [], refl, sym, ap, subst, ◌∙◌}
 use Rattle.std.specs.Prelude.{◌≢◌}
 use Rattle.recording_files.specs.Files.{with_next}
+use Rattle.ipfix_message.specs.Kept.{kept}
 use Rattle.recording_peer.specs.Peers.{givens, all_given}
 use Rattle.recording_peer.specs.Recording.{PeerView, IsPeer, all_finished}
 use Rattle.recording_peer.proofs.Taking.{none_given, peer_turned, peer_unturned}
@@ -10,7 +11,7 @@ use Rattle.recording_peer.proofs.peer_recorder.PeerRecorder.turn.Goals as goal
 pub returns-then-not-has_begun : goal.returns-then-not-has_begun
 returns-then-not-has_begun g c = λ first finished here p.
     let v = g.F.FileSeries.seen c.args.files.now in
-    let inside : PeerView = record { recorder = c.self.inside.recorder; told = record { counts = c.self.inside.counts.told; advances = c.self.inside.advances.reaches }; ended = c.self.inside.ended } in
+    let inside : PeerView = record { recorder = c.self.inside.recorder; withdrawn = kept c.self.inside.withdrawn.entries; told = record { counts = c.self.inside.counts.told; advances = c.self.inside.advances.reaches }; ended = c.self.inside.ended } in
     let now : IsPeer first v inside finished here = subst (λ (s : PeerView). IsPeer first v s finished here) (sym c.self.view_is) p in
     let none : all_given here ≡ [] = rw c.if-not-has_begun.true at (c.has_begun.ensures (all_given (all_finished finished)) (all_given here) now.keeps) in
     peer_unturned first v c.args.self.now finished here p (none_given here none)
@@ -18,18 +19,18 @@ returns-then-not-has_begun g c = λ first finished here p.
 pub returns-in-Ok : goal.returns-in-Ok
 returns-in-Ok g c = λ first finished here p.
     let v = g.F.FileSeries.seen c.args.files.now in
-    let inside : PeerView = record { recorder = c.self.inside.recorder; told = record { counts = c.self.inside.counts.told; advances = c.self.inside.advances.reaches }; ended = c.self.inside.ended } in
+    let inside : PeerView = record { recorder = c.self.inside.recorder; withdrawn = kept c.self.inside.withdrawn.entries; told = record { counts = c.self.inside.counts.told; advances = c.self.inside.advances.reaches }; ended = c.self.inside.ended } in
     let now : IsPeer first v inside finished here = subst (λ (s : PeerView). IsPeer first v s finished here) (sym c.self.view_is) p in
     let before = all_given (all_finished finished) in
     let some : all_given here ≢ [] = rw c.if-not-has_begun.false at (c.has_begun.ensures before (all_given here) now.keeps) in
-    peer_turned first v (g.F.FileSeries.seen c.turn.new.self) inside (record { recorder = c.turn-in-Ok.new.self; told = record { counts = c.turn-in-Ok-2.new.self.told; advances = c.self.inside.advances.reaches }; ended = c.self.inside.ended }) finished here now (λ none. some (ap all_given none))
+    peer_turned first v (g.F.FileSeries.seen c.turn.new.self) inside (record { recorder = c.turn-in-Ok.new.self; withdrawn = kept c.self.inside.withdrawn.entries; told = record { counts = c.turn-in-Ok-2.new.self.told; advances = c.self.inside.advances.reaches }; ended = c.self.inside.ended }) finished here now (λ none. some (ap all_given none))
     (c.in-Ok.ensures ∙ ap (with_next v) c.file_report-report.ensures) (c.turn-in-Ok.ensures before (all_given here) now.keeps)
-    (c.turn-in-Ok-2.ensures.told (givens (all_finished finished)) (givens here) now.counted.counted) refl now.goes_on
+    (c.turn-in-Ok-2.ensures.told (givens (all_finished finished)) (givens here) now.counted.counted) refl now.goes_on refl
 
 pub returns-in-Err : goal.returns-in-Err
 returns-in-Err g c = λ first finished here p.
     let v = g.F.FileSeries.seen c.args.files.now in
-    let inside : PeerView = record { recorder = c.self.inside.recorder; told = record { counts = c.self.inside.counts.told; advances = c.self.inside.advances.reaches }; ended = c.self.inside.ended } in
+    let inside : PeerView = record { recorder = c.self.inside.recorder; withdrawn = kept c.self.inside.withdrawn.entries; told = record { counts = c.self.inside.counts.told; advances = c.self.inside.advances.reaches }; ended = c.self.inside.ended } in
     let now : IsPeer first v inside finished here = subst (λ (s : PeerView). IsPeer first v s finished here) (sym c.self.view_is) p in
     let some : all_given here ≢ [] = rw c.if-not-has_begun.false at (c.has_begun.ensures (all_given (all_finished finished)) (all_given here) now.keeps) in
     stops_turning first v (g.F.FileSeries.seen c.turn.new.self) inside finished here c.file_report-report.result c.args.self.now.told now (λ none. some (ap all_given none)) c.file_report-report.ensures

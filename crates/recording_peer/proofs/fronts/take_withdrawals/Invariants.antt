@@ -6,7 +6,7 @@ use Rattle.ipfix_session.specs.Given.{known_after}
 use Rattle.recording_files.specs.Recorders.{Keeps}
 use Rattle.ipfix_datagrams.specs.Withdrawals.{HasTemplateId}
 use Rattle.recording_peer.specs.Fronts.{TakesParts}
-use Rattle.recording_peer.proofs.fronts.take_front.Given as goal
+use Rattle.recording_peer.proofs.fronts.take_withdrawals.Given as goal
 
 abbrev pub invariant-loop-rest : goal.invariant-loop-rest
 invariant-loop-rest l = record {

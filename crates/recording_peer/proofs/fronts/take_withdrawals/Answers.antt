@@ -4,7 +4,7 @@ use Rattle.std.proofs.lemmas.List.Elements.{All-drop}
 use Rattle.std.proofs.lemmas.Result.{err_from_is_err_and}
 use Rattle.ipfix_datagrams.specs.Withdrawals.{HasTemplateId}
 use Rattle.recording_peer.proofs.Fronting.{none_in, some_in, none_took, still_known, took_more, took_all}
-use Rattle.recording_peer.proofs.fronts.take_front.Goals as goal
+use Rattle.recording_peer.proofs.fronts.take_withdrawals.Goals as goal
 
 pub loop-rest-init : goal.loop-rest-init
 loop-rest-init c = record {

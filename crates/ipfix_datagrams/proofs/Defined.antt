@@ -1,0 +1,170 @@
+-- A message that defines a template is read: it gives no record, and the template is in force.
+use Rattle.std.proofs.Common.{◌≡◌, ℕ, ◌+◌, ◌^◌, ◌<◌, Bool, true, false, List, [], ◌∷◌, length, drop, Option, Some, None, Result, Ok, refl, sym, ap, subst, ◌∙◌, eqb, arith, inl, inr}
+use Rattle.std.specs.Prelude.{◌⊎◌}
+use Rattle.std.specs.Option.{unwrap_or}
+use Rattle.std.specs.Map.{lookup}
+use Rattle.std.proofs.lemmas.List.{append-nil, drop_at}
+use Rattle.std.proofs.lemmas.List.Elements.{All-nil, All-cons}
+use Rattle.std.proofs.lemmas.Bool.{eq-eqb}
+use Rattle.std.proofs.lemmas.Bool.Decides.{eqb_tells}
+use Rattle.ipfix_wire.specs.MessageHeader.{header_octets}
+use Rattle.ipfix_message.specs.declared.fault.MessageFault.{MessageFault}
+use Rattle.ipfix_message.specs.declared.record.Template.{Template}
+use Rattle.ipfix_message.specs.declared.template_record.Event.{Event}
+use Rattle.ipfix_message.specs.declared.template_record.Event.TheVariants.{Define}
+use Rattle.ipfix_message.specs.Outcome.{◌>>=◌}
+use Rattle.ipfix_message.specs.TemplatesInForce.{in_force}
+use Rattle.ipfix_message.specs.Messages.{Decoding, before, sets_from}
+use Rattle.ipfix_message.specs.Domains.{DomainsView, History, Message, StandsFor, events_in, with_events, message_gives}
+use Rattle.ipfix_message.specs.WrittenTemplates.{IsTemplate, template_set}
+use Rattle.ipfix_message.specs.Alike.{knows}
+use Rattle.ipfix_message.proofs.History.{after_sets, put, lookup-set_value}
+use Rattle.ipfix_message.proofs.Reading.{ok_is}
+use Rattle.recording_files.specs.declared.stamp.Stamp.{Stamp}
+use Rattle.recording_files.specs.Preambles.{IsStamp, sets_octets, stamped, templates_message}
+use Rattle.recording_files.proofs.PreamblesRead.{Below, sets_read, header_is}
+use Rattle.ipfix_datagrams.specs.declared.withdrawn_template.WithdrawnTemplate.{WithdrawnTemplate}
+use Rattle.ipfix_datagrams.specs.Datagrams.{Preparation, with_one_withdrawn, with_withdrawn, with_one_defined, with_defined, prepared}
+use Rattle.ipfix_datagrams.specs.Attempts.{CanDefine, Defining}
+use Rattle.ipfix_datagrams.proofs.Events.{knows-events, events_now}
+use Rattle.ipfix_datagrams.proofs.Withdrawn.{given_by, admitted}
+use Rattle.ipfix_datagrams.proofs.WithdrawnDomains.{knows-withdrawn, same_withdrawn}
+
+-- no template is in force for its id, or this one is
+abbrev pub IsFree : List Event → Template → Type 0
+IsFree es t = (in_force es t.id ≡ None) ⊎ (in_force es t.id ≡ Some t)
+
+-- ---- the message
+
+defined_itself : (es : List Event) (t : Template) → in_force (Define t ∷ es) t.id ≡ Some t
+unfolding in_force
+defined_itself es t = let e : eqb t.id t.id ≡ true = eq-eqb t.id t.id refl in rw e refl
+
+below : (es : List Event) (t : Template) → IsFree es t → Below es (Define t ∷ es)
+unfolding in_force
+below es t free = record {
+  at = λ id. elim (eqb_tells id t.id) [
+    | inl here ↦ elim free [
+      | inl none ↦ inl (ap (in_force es) here.1 ∙ none)
+      | inr same ↦ inr (ap (in_force es) here.1 ∙ same ∙ sym (ap (in_force (Define t ∷ es)) here.1 ∙ defined_itself es t))
+    ]
+    | inr other ↦ rw other.0 (inr refl)
+  ];
+}
+
+pub record Defined (ds : History) (s : Stamp) (t : Template) (y : Message) : Type 0 where
+  pub is : message_gives ds (templates_message s (t ∷ [])) ≡ Ok y
+  pub domains : y.domains ≡ with_one_defined ds s.domain t
+  pub records : y.decoding.records ≡ []
+
+pub defines : (ds : History) (s : Stamp) (t : Template) → IsStamp s → IsTemplate t → knows ds s.domain ≡ true → IsFree (events_in ds s.domain) t → (y : Message) × Defined ds s t y
+defines ds s t is fits there free =
+    let ts = t ∷ [] in
+    let k = stamped s (length (sets_octets ts)) in
+    let es = events_in ds s.domain in
+    let full = Define t ∷ es in
+    let d = record (before es) { events = full } in
+    let size : length (sets_octets ts) ≡ length (template_set t) = ap length (append-nil (template_set t)) in
+    let small : 16 + length (sets_octets ts) < 2 ^ 16 = omega (arith, fits.fits, size) in
+    let sets : sets_from k (before es) (drop 16 (templates_message s ts)) ≡ Ok d =
+    ap (sets_from k (before es)) (drop_at (header_octets k) (sets_octets ts) 16 refl)
+    ∙ sets_read k ts (before es) full (All-cons IsTemplate t [] fits (All-nil IsTemplate)) (All-cons (λ u. in_force full u.id ≡ Some u) t [] (defined_itself es t) (All-nil (λ u. in_force full u.id ≡ Some u))) (below es t free) in (
+      record { header = k; decoding = d; domains = with_events ds s.domain d.events },
+      record {
+        is = given_by ds (templates_message s ts) k ds (header_is s ts is small) (admitted ds s.domain there) ∙ ap (λ (r : Result Decoding MessageFault). r >>= λ x. after_sets k ds x) sets;
+        domains = refl;
+        records = refl;
+      },
+    )
+
+-- it was decoded
+pub defined_by : (kept : List (ℕ × List (ℕ × Template))) (ds : History) (s : Stamp) (t : Template) (octets : List ℕ) (m y : Message) → octets ≡ templates_message s (t ∷ []) → message_gives ds octets ≡ Ok m → StandsFor kept m.domains → Defined ds s t y
+    → StandsFor kept (with_one_defined ds s.domain t)
+defined_by kept ds s t octets m y written read stands gives =
+    let same : m.domains ≡ with_one_defined ds s.domain t = ap (λ (k : Message). k.domains) (ok_is m y (sym read ∙ ap (message_gives ds) written ∙ gives.is)) ∙ gives.domains in
+    subst (StandsFor kept) same stands
+
+-- ---- domains in which templates are defined
+
+pub knows-defined : (ds : History) (domain : ℕ) (ts : List Template) (q : ℕ) → knows (with_defined ds domain ts) q ≡ knows ds q
+knows-defined ds domain [] q = refl
+knows-defined ds domain (t ∷ ts) q = knows-defined (with_one_defined ds domain t) domain ts q ∙ knows-events ds domain q (Define t ∷ events_in ds domain)
+
+pub defined_now : (ds : History) (domain : ℕ) (t : Template) → knows ds domain ≡ true → events_in (with_one_defined ds domain t) domain ≡ Define t ∷ events_in ds domain
+defined_now ds domain t there = events_now ds domain (Define t ∷ events_in ds domain) there
+
+pub knows-one_defined : (ds : History) (domain : ℕ) (t : Template) → knows ds domain ≡ true → knows (with_one_defined ds domain t) domain ≡ true
+knows-one_defined ds domain t there = knows-events ds domain domain (Define t ∷ events_in ds domain) ∙ there
+
+-- the events then depend on those before alone
+same_defined : (ds fs : History) (domain : ℕ) (ts : List Template) → knows ds domain ≡ true → knows fs domain ≡ true → events_in fs domain ≡ events_in ds domain
+    → events_in (with_defined fs domain ts) domain ≡ events_in (with_defined ds domain ts) domain
+same_defined ds fs domain [] there here same = same
+same_defined ds fs domain (t ∷ ts) there here same =
+    same_defined (with_one_defined ds domain t) (with_one_defined fs domain t) domain ts (knows-one_defined ds domain t there) (knows-one_defined fs domain t here)
+    (defined_now fs domain t here ∙ ap (λ (es : List Event). Define t ∷ es) same ∙ sym (defined_now ds domain t there))
+
+-- ---- after a preparation
+
+pub knows-prepared : (ds : History) (domain : ℕ) (p : Preparation) (q : ℕ) → knows (prepared ds domain p) q ≡ knows ds q
+knows-prepared ds domain p q = knows-defined (with_withdrawn ds domain p.withdrawn) domain p.defined q ∙ knows-withdrawn ds domain p.withdrawn q
+
+pub same_prepared : (ds fs : History) (domain : ℕ) (p : Preparation) → knows ds domain ≡ true → knows fs domain ≡ true → events_in fs domain ≡ events_in ds domain
+    → events_in (prepared fs domain p) domain ≡ events_in (prepared ds domain p) domain
+same_prepared ds fs domain p there here same =
+    same_defined (with_withdrawn ds domain p.withdrawn) (with_withdrawn fs domain p.withdrawn) domain p.defined (knows-withdrawn ds domain p.withdrawn domain ∙ there) (knows-withdrawn fs domain p.withdrawn domain ∙ here)
+    (same_withdrawn ds fs domain p.withdrawn there here same)
+
+-- other domains stay as they are
+other_events : (ds : History) (domain q : ℕ) (es : List Event) → eqb q domain ≡ false → events_in (with_events ds domain es) q ≡ events_in ds q
+other_events ds domain q es other =
+    ap (λ (o : Option (List Event)). unwrap_or o []) (lookup-set_value q domain ds es) ∙ ap (λ (b : Bool). unwrap_or (put es b (lookup (eqb q) ds)) []) other
+
+others_withdrawn : (ds : History) (domain q : ℕ) (ws : List WithdrawnTemplate) → eqb q domain ≡ false → events_in (with_withdrawn ds domain ws) q ≡ events_in ds q
+others_withdrawn ds domain q [] other = refl
+others_withdrawn ds domain q (w ∷ ws) other = others_withdrawn (with_one_withdrawn ds domain w) domain q ws other ∙ other_withdrawn
+  where
+    other_withdrawn : events_in (with_one_withdrawn ds domain w) q ≡ events_in ds q
+    other_withdrawn = other_events ds domain q _ other
+
+others_defined : (ds : History) (domain q : ℕ) (ts : List Template) → eqb q domain ≡ false → events_in (with_defined ds domain ts) q ≡ events_in ds q
+others_defined ds domain q [] other = refl
+others_defined ds domain q (t ∷ ts) other = others_defined (with_one_defined ds domain t) domain q ts other ∙ other_events ds domain q (Define t ∷ events_in ds domain) other
+
+pub others_prepared : (ds : History) (domain q : ℕ) (p : Preparation) → eqb q domain ≡ false → events_in (prepared ds domain p) q ≡ events_in ds q
+others_prepared ds domain q p other = others_defined (with_withdrawn ds domain p.withdrawn) domain q p.defined other ∙ others_withdrawn ds domain q p.withdrawn other
+
+-- none yet
+pub defining_first : (ds : History) (domain : ℕ) (all rest : List Template) (d : DomainsView) → rest ≡ all → d.spent ≡ false → StandsFor d.domains ds → knows ds domain ≡ true → CanDefine (events_in ds domain) all → Defining ds domain all rest d
+defining_first ds domain all rest d same fresh stands there can = record {
+  fresh = fresh;
+  now = ds;
+  stands = stands;
+  there = there;
+  can = subst (CanDefine (events_in ds domain)) (sym same) can;
+  same = ap (with_defined ds domain) same;
+}
+
+-- one more
+pub defining_more : (ds : History) (domain : ℕ) (all ts rest : List Template) (t u : Template) (old new : DomainsView) (f : Defining ds domain all ts old) → ts ≡ t ∷ rest → u ≡ t
+    → ((in_force (events_in f.now domain) u.id ≡ None) ⊎ (in_force (events_in f.now domain) u.id ≡ Some u) → (new.spent ≡ false) × StandsFor new.domains (with_one_defined f.now domain u)) → Defining ds domain all rest new
+defining_more ds domain all ts rest t u old new f step same one =
+    let can : CanDefine (events_in f.now domain) (t ∷ rest) = subst (CanDefine (events_in f.now domain)) step f.can in
+    let done = one (subst (IsFree (events_in f.now domain)) (sym same) can.0) in
+    record {
+      fresh = done.0;
+      now = with_one_defined f.now domain t;
+      stands = subst (λ (v : Template). StandsFor new.domains (with_one_defined f.now domain v)) same done.1;
+      there = knows-one_defined f.now domain t f.there;
+      can = subst (λ (es : List Event). CanDefine es rest) (sym (defined_now f.now domain t f.there)) can.1;
+      same = sym (ap (with_defined f.now domain) step) ∙ f.same;
+    }
+
+pub defining_free : (ds : History) (domain : ℕ) (all ts rest : List Template) (t u : Template) (d : DomainsView) (f : Defining ds domain all ts d) → ts ≡ t ∷ rest → u ≡ t
+    → (in_force (events_in f.now domain) u.id ≡ None) ⊎ (in_force (events_in f.now domain) u.id ≡ Some u)
+defining_free ds domain all ts rest t u d f step same =
+    let can : CanDefine (events_in f.now domain) (t ∷ rest) = subst (CanDefine (events_in f.now domain)) step f.can in
+    subst (IsFree (events_in f.now domain)) (sym same) can.0
+
+pub defined_whole : (ds : History) (domain : ℕ) (all rest : List Template) (d : DomainsView) → Defining ds domain all rest d → rest ≡ [] → (d.spent ≡ false) × StandsFor d.domains (with_defined ds domain all)
+defined_whole ds domain all rest d f none = (f.fresh, subst (StandsFor d.domains) (sym (ap (with_defined f.now domain) none) ∙ f.same) f.stands)

@@ -1,0 +1,71 @@
+//! Defining templates again: they are in force once more (RFC 7011, section 8).
+
+ghost use Rattle.std.specs.Prelude.{◌≡◌, ◌⊎◌, [], ℕ, true, false, Some, None, MatchResult};
+ghost use Rattle.std.specs.BTreeMap.{values};
+ghost use Rattle.ipfix_message.specs.Alike.{knows};
+ghost use Rattle.ipfix_message.specs.Domains.{History, StandsFor, events_in};
+ghost use Rattle.ipfix_message.specs.TemplatesInForce.{in_force};
+ghost use Rattle.ipfix_message.specs.WrittenTemplates.{IsTemplate};
+ghost use Rattle.ipfix_message.specs.declared.fault.MessageFault.TheVariants.{OutOfMemory};
+ghost use Rattle.ipfix_datagrams.specs.Datagrams.{with_one_defined, with_defined};
+ghost use Rattle.ipfix_datagrams.specs.Attempts.{CanDefine};
+
+use ipfix_message::{Domains, MessageFault, Template, Templates};
+use ipfix_wire::Header;
+use recording_files::{Stamp, append_template_message};
+use std::alloc::Global;
+
+// Defines a template. What stood in `message` before is gone.
+fn define(
+    alloc: Global,
+    domains: &mut Domains,
+    stamp: Stamp,
+    template: &Template,
+    message: &mut Vec<u8>,
+) -> Result<(), MessageFault>
+    requires { IsTemplate template.now }
+    ensures { (ds : History) → domains.old.spent ≡ false → StandsFor domains.old.domains ds
+        → knows ds stamp.domain ≡ true
+        → (in_force (events_in ds stamp.domain) template.now.id ≡ None)
+        ⊎ (in_force (events_in ds stamp.domain) template.now.id ≡ Some template.now)
+        → MatchResult result
+        (λ _. (domains.new.spent ≡ false)
+        × StandsFor domains.new.domains (with_one_defined ds stamp.domain template.now))
+        (λ fault. fault ≡ OutOfMemory) }
+{
+    let mut body = Vec::new(alloc);
+    message.clear();
+    if append_template_message(stamp, template, &mut body, message).is_err() {
+        return Err(MessageFault::OutOfMemory);
+    }
+    let _ = domains.decode(alloc, message)?;
+    Ok(())
+}
+
+/// Defines templates in the domain of a header, which has appeared. The fault is `OutOfMemory`, and after
+/// it the domains are of no use.
+pub fn define_all(
+    alloc: Global,
+    domains: &mut Domains,
+    header: &Header,
+    templates: &Templates,
+) -> Result<(), MessageFault>
+    ensures { (ds : History) → domains.old.spent ≡ false → StandsFor domains.old.domains ds
+        → knows ds header.now.domain ≡ true
+        → CanDefine (events_in ds header.now.domain) (values templates.now)
+        → MatchResult result
+        (λ _. (domains.new.spent ≡ false) × StandsFor domains.new.domains
+        (with_defined ds header.now.domain (values templates.now)))
+        (λ fault. fault ≡ OutOfMemory) }
+{
+    let stamp = Stamp {
+        export_time: header.export_time,
+        sequence: header.sequence,
+        domain: header.domain,
+    };
+    let mut message = Vec::new(alloc);
+    for known in templates.values() {
+        define(alloc, domains, stamp, known.to_write(), &mut message)?;
+    }
+    Ok(())
+}
