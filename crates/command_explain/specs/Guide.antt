@@ -5,7 +5,7 @@ use Rattle.ipfix_message.specs.declared.fault.MessageFault.TheVariants.{Version,
 use Rattle.ipfix_session.specs.declared.fault.SessionFault.{SessionFault}
 use Rattle.ipfix_session.specs.declared.fault.SessionFault.TheVariants.{Message, Truncated, ReadFailed, TooManyReads, SinkClosed}
 use Rattle.command_explain.specs.declared.ending_fault.EndingFault.{EndingFault}
-use Rattle.command_explain.specs.declared.ending_fault.EndingFault.TheVariants.{Session, NotWritten, Withdrawal}
+use Rattle.command_explain.specs.declared.ending_fault.EndingFault.TheVariants.{Session, NotWritten}
 
 -- what was found, by which rule it is a fault, and what an operator does about it
 pub record Texts : Type 0 where
@@ -59,5 +59,3 @@ abbrev pub texts_of : EndingFault → Texts
 texts_of (Session fault) = texts_of_session fault
 texts_of NotWritten = texts (codes "a file of the recorded session could not be written, or not be finished") (codes "none of RFC 7011")
     (codes "Look for a full disk, or for a folder without permission. The messages that were written\nare whole in the session's files. Let the exporter connect again.")
-texts_of Withdrawal = texts (codes "a datagram withdraws a template, and defines none for its id") (codes "RFC 7011, section 8.4")
-    (codes "No exporter may withdraw a template over UDP: report it to the vendor. This datagram\nalone is left out, and the peer's session goes on.")

@@ -13,8 +13,6 @@ pub enum EndingFault {
     Session(SessionFault),
     /// A file of a recorded session could not be written, or not be finished.
     NotWritten,
-    /// A datagram withdraws a template over UDP; it alone is refused.
-    Withdrawal,
 }
 
 impl EndingFault {
@@ -25,7 +23,6 @@ impl EndingFault {
         match self {
             EndingFault::Session(fault) => fault.number(),
             EndingFault::NotWritten => RecordFault::NotWritten.number(),
-            EndingFault::Withdrawal => 20,
         }
     }
 
@@ -36,7 +33,6 @@ impl EndingFault {
         match self {
             EndingFault::Session(fault) => fault.name(),
             EndingFault::NotWritten => RecordFault::NotWritten.name(),
-            EndingFault::Withdrawal => "Withdrawal",
         }
     }
 }

@@ -33,12 +33,6 @@ impl Explanation {
                 advice: "Look for a full disk, or for a folder without permission. The messages that were written\n\
                     are whole in the session's files. Let the exporter connect again.",
             },
-            EndingFault::Withdrawal => Explanation {
-                found: "a datagram withdraws a template, and defines none for its id",
-                rule: "RFC 7011, section 8.4",
-                advice: "No exporter may withdraw a template over UDP: report it to the vendor. This datagram\n\
-                    alone is left out, and the peer's session goes on.",
-            },
         }
     }
 }
