@@ -6,9 +6,9 @@ ghost use Rattle.cli_words.specs.Arguments.{OneNumber, reading_of};
 
 use crate::formats::{dump_form, table_format};
 use cli_words::{
-    Argument, Chosen, DUMP_FORMAT, ELEMENTS, EVERY, FAULT, FLOW_FILES, FOLDER, FROM, IDLE, INTO, LISTEN,
-    PEERS, PLAN, PROGRESS, RECORD_IDLE, RECORD_LISTEN, RECORD_SESSIONS, RING, SESSIONS, STRICT,
-    Subcommand, TABLE_FILES, TABLE_FORMAT, TIME, UDP, VERBOSE, WORD, WORKERS,
+    Argument, Chosen, DUMP_FORMAT, ELEMENTS, EVERY, FAULT, FLOW_FILES, FOLDER, FROM, IDLE, INTO,
+    LISTEN, PEERS, PLAN, PROGRESS, RECORD_IDLE, RECORD_LISTEN, RECORD_SESSIONS, RING, SESSIONS,
+    STRICT, Subcommand, TABLE_FILES, TABLE_FORMAT, TIME, UDP, VERBOSE, WORD, WORKERS,
 };
 use flow_collect::Pool;
 use ipfix_dump::Form;

@@ -11,8 +11,8 @@ mod timers;
 
 pub use arguments::{
     Arguments, CollectArguments, DumpArguments, ElementsArguments, ExplainArguments,
-    FilesArguments, FinishArguments, MergeArguments, RecordArguments, ShowProgress, TableArguments, TcpArguments,
-    read_arguments,
+    FilesArguments, FinishArguments, MergeArguments, RecordArguments, ShowProgress, TableArguments,
+    TcpArguments, read_arguments,
 };
 pub use inputs::{
     Collecting, buffered_output, check_paths, load_table_plan, prepare_collecting, progress_writer,
