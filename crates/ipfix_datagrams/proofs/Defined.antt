@@ -20,9 +20,9 @@ use Rattle.ipfix_message.specs.WrittenTemplates.{IsTemplate, template_set}
 use Rattle.ipfix_message.specs.Alike.{knows}
 use Rattle.ipfix_message.proofs.History.{after_sets, put, lookup-set_value}
 use Rattle.ipfix_message.proofs.Reading.{ok_is}
-use Rattle.recording_files.specs.declared.stamp.Stamp.{Stamp}
-use Rattle.recording_files.specs.Preambles.{IsStamp, sets_octets, stamped, templates_message}
-use Rattle.recording_files.proofs.PreamblesRead.{Below, sets_read, header_is}
+use Rattle.ipfix_message.specs.declared.stamp.Stamp.{Stamp}
+use Rattle.ipfix_message.specs.TemplateMessages.{IsStamp, sets_octets, stamped, templates_message}
+use Rattle.ipfix_message.proofs.TemplateMessages.{Below, sets_read, header_is}
 use Rattle.ipfix_datagrams.specs.declared.withdrawn_template.WithdrawnTemplate.{WithdrawnTemplate}
 use Rattle.ipfix_datagrams.specs.Datagrams.{Preparation, with_one_withdrawn, with_withdrawn, with_one_defined, with_defined, prepared}
 use Rattle.ipfix_datagrams.specs.Attempts.{CanDefine, Defining}

@@ -10,9 +10,8 @@ ghost use Rattle.ipfix_message.specs.declared.fault.MessageFault.TheVariants.{Ou
 ghost use Rattle.ipfix_datagrams.specs.Datagrams.{with_one_defined, with_defined};
 ghost use Rattle.ipfix_datagrams.specs.Attempts.{CanDefine};
 
-use ipfix_message::{Domains, MessageFault, Template, Templates};
+use ipfix_message::{Domains, MessageFault, Stamp, Template, Templates, append_template_message};
 use ipfix_wire::Header;
-use recording_files::{Stamp, append_template_message};
 use std::alloc::Global;
 
 // Defines a template. What stood in `message` before is gone.

@@ -18,3 +18,4 @@ pub mod LayingOut
 pub mod Layouts
 pub mod Alikes
 pub mod PartsOf
+pub mod TemplateMessages

@@ -6,6 +6,7 @@ pub mod SpelledFields
 pub mod FieldViews
 pub mod DataRecords
 pub mod WrittenTemplates
+pub mod TemplateMessages
 pub mod TemplateRecords
 pub mod TemplatesInForce
 pub mod Sets

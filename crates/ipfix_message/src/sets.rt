@@ -19,9 +19,10 @@ use ipfix_wire::{
 };
 use std::alloc::Global;
 
-// The id and the body of the next set, and what follows it.
+/// The id and the body of the next set, and what follows the set (RFC 7011, section 3.3.2). The fault is
+/// that of its header.
 #[tactic(auto, unfolding(crate::specs::Sets::next_set))]
-fn next_set(rest: &[u8]) -> Result<((u16, &[u8]), &[u8]), MessageFault>
+pub fn next_set(rest: &[u8]) -> Result<((u16, &[u8]), &[u8]), MessageFault>
     requires { 0 < length rest.now }
     ensures exact { Gives (λ x. (record { id = x.0.0; body = x.0.1.now }, x.1.now)) result
         (Sets.next_set rest.now) }

@@ -166,7 +166,8 @@ fn is_same_list(specs: &[Spec], others: &[Spec]) -> bool
     specs == others
 }
 
-fn is_same_template(template: &Template, other: &Template) -> bool
+/// Whether two templates are the same: their id, scope field count and field specifiers.
+pub fn is_same_template(template: &Template, other: &Template) -> bool
     ensures { IsTrue result ↔ (template.now ≡ other.now) }
 {
     template.id == other.id

@@ -18,22 +18,24 @@ use ipfix_wire::{
 };
 use std::alloc::Global;
 
-// Octets of the id and the field count, with which each template record begins (RFC 7011, section
-// 3.4.1).
-const TEMPLATE_HEADER_LENGTH: usize = 4;
+/// Octets of the id and the field count, with which each template record begins (RFC 7011, section
+/// 3.4.1).
+pub const TEMPLATE_HEADER_LENGTH: usize = 4;
 
 /// The most octets of a set's body: a message has at most 65,535, of which 16 are its header and 4 the
 /// set's.
 pub const LONGEST_BODY: usize = 65515;
 
-/// The two kinds of template.
+/// The two kinds of template: plain ones, and options templates, which have scope fields (RFC 7011, section
+/// 3.4.2).
 #[derive(Clone, Copy, Debug, PartialEq, Eq)]
 pub enum TemplateKind {
     Plain,
     Options,
 }
 
-/// What a template record does.
+/// What a template record does (RFC 7011, section 8.1): it defines a template, withdraws one, or withdraws
+/// all of a kind.
 #[derive(Drop)]
 pub enum Event {
     Define(Definition),
@@ -168,7 +170,8 @@ fn record_of(
     Ok((Event::Define(Definition::new(template, least)), rest))
 }
 
-/// The template record that `octets` begins with, and what follows it.
+/// The template record that `octets` begins with in a set of this kind, and what follows it (RFC 7011,
+/// sections 3.4.1 and 3.4.2). The fault is the first one of the record, or `OutOfMemory`.
 pub fn event_of(
     alloc: Global,
     kind: TemplateKind,

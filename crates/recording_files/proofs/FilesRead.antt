@@ -11,12 +11,13 @@ use Rattle.ipfix_message.specs.Domains.{History, Message, events_in}
 use Rattle.ipfix_message.proofs.History.{none_is}
 use Rattle.ipfix_session.specs.Given.{known_after}
 use Rattle.ipfix_message.specs.Alike.{SameMessage, knows, IsPartOf}
-use Rattle.recording_files.specs.declared.stamp.Stamp.{Stamp}
+use Rattle.ipfix_message.specs.declared.stamp.Stamp.{Stamp}
 use Rattle.recording_files.specs.Preambles.{IsStamp}
 use Rattle.recording_files.specs.Recordings.{has, begins_again, stamp_for, Leads, Precedes, Writes, Part, Recorded}
 use Rattle.ipfix_message.proofs.PartsOf.{HasRoom, was_read, part_leads, part_reads, room_left, itself_part}
 use Rattle.ipfix_session.proofs.Chains.{GivesAll, gives-append, known-append}
-use Rattle.recording_files.proofs.PreamblesRead.{IsLead, Below, led}
+use Rattle.ipfix_message.proofs.TemplateMessages.{Below}
+use Rattle.recording_files.proofs.PreamblesRead.{IsLead, led}
 
 -- ---- which domains messages have
 

@@ -15,7 +15,7 @@ use Rattle.ipfix_message.specs.TemplatesInForce.{in_force}
 use Rattle.ipfix_message.specs.Domains.{History, Message, events_in, template_for}
 use Rattle.ipfix_session.specs.Given.{known_after, octets_of}
 use Rattle.ipfix_session.specs.Ledger.{messages_of, due_of}
-use Rattle.recording_files.specs.declared.stamp.Stamp.{Stamp}
+use Rattle.ipfix_message.specs.declared.stamp.Stamp.{Stamp}
 use Rattle.recording_files.specs.Preambles.{IsStamp, IsTemplate, IsPreamble, templates_message, preamble}
 use Rattle.ipfix_session.specs.TemplateLists.{AreInForce}
 use Rattle.recording_files.specs.Recordings.{has, begins_again, stamp_for, Leads}

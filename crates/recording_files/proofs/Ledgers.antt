@@ -14,7 +14,7 @@ use Rattle.ipfix_message.specs.declared.passed_over.PassedOver.{PassedOver}
 use Rattle.ipfix_session.specs.Given.{Given}
 use Rattle.ipfix_session.specs.Ledger.{count_in, due_after, sum_neighbours, messages_of, due_of}
 use Rattle.ipfix_message.specs.Alike.{SameMessage}
-use Rattle.recording_files.specs.declared.stamp.Stamp.{Stamp}
+use Rattle.ipfix_message.specs.declared.stamp.Stamp.{Stamp}
 use Rattle.recording_files.specs.Recordings.{has, begins_again, stamp_for, Part}
 use Rattle.recording_files.specs.Faithful.{in_file, in_files, all_given}
 use Rattle.ipfix_session.proofs.Accounts.{of_last-push}

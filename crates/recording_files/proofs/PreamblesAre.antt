@@ -5,7 +5,7 @@ use Rattle.std.specs.List.{flat_map}
 use Rattle.std.proofs.lemmas.List.{append-nil}
 use Rattle.std.proofs.lemmas.List.Elements.{All-nil, All-cons, All-head, All-tail}
 use Rattle.ipfix_message.specs.declared.record.Template.{Template}
-use Rattle.recording_files.specs.declared.stamp.Stamp.{Stamp}
+use Rattle.ipfix_message.specs.declared.stamp.Stamp.{Stamp}
 use Rattle.recording_files.specs.Preambles.{template_set, IsTemplate, sets_octets, templates_message, IsPreamble, preamble}
 use Rattle.ipfix_session.specs.Given.{octets_of}
 

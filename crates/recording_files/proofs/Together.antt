@@ -11,12 +11,13 @@ use Rattle.ipfix_session.specs.Given.{Given, known_after, records_in}
 use Rattle.ipfix_session.specs.Ledger.{lost_between, lost_at, backward_between, backward_at}
 use Rattle.ipfix_session.proofs.Giving.{records_in-append}
 use Rattle.ipfix_message.specs.Alike.{SameInForce, SameMessage, knows, IsPartOf}
-use Rattle.recording_files.specs.declared.stamp.Stamp.{Stamp}
+use Rattle.ipfix_message.specs.declared.stamp.Stamp.{Stamp}
 use Rattle.recording_files.specs.Recordings.{has, begins_again, stamp_for, Leads, Precedes, Writes, Part, Recorded}
 use Rattle.recording_files.specs.Faithful.{all_messages, all_given, all_files, IsReadAlone, IsFaithful}
 use Rattle.ipfix_message.proofs.PartsOf.{was_read, part_leads, part_reads, itself_part, or_left}
 use Rattle.ipfix_session.proofs.Chains.{GivesAll, gives-append, known-append}
-use Rattle.recording_files.proofs.PreamblesRead.{IsLead, Below, led}
+use Rattle.ipfix_message.proofs.TemplateMessages.{Below}
+use Rattle.recording_files.proofs.PreamblesRead.{IsLead, led}
 use Rattle.recording_files.proofs.FilesRead.{LedBy, Tracks, ReadAlone, IsSession, has-append, has-push, writes_session, none_yet, files_read}
 use Rattle.ipfix_session.proofs.Ledgers.{lost_adds, backward_adds}
 use Rattle.recording_files.proofs.Ledgers.{adds_up}

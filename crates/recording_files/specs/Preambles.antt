@@ -1,29 +1,15 @@
 -- Templates written again at the head of a file, as messages without records (RFC 7011, section 8; RFC 5655, section 6).
 unfoldable pub use Rattle.ipfix_message.specs.WrittenTemplates.{template_octets}
 pub use Rattle.ipfix_message.specs.WrittenTemplates.{kind_of, template_set, IsSpec, IsTemplate}
+pub use Rattle.ipfix_message.specs.TemplateMessages.{IsStamp, sets_octets, stamped, templates_message}
 use Rattle.std.specs.Prelude.{◌≡◌, ◌+◌, ◌^◌, ◌<◌, ℕ, List, [], ◌∷◌, ◌++◌, length, map, flat_map, All}
 use Rattle.ipfix_wire.specs.MessageHeader.{header_octets}
 use Rattle.ipfix_wire.specs.declared.header.Header.{Header}
 use Rattle.ipfix_wire.specs.declared.header.TheConstants.{HEADER_LENGTH}
 use Rattle.ipfix_message.specs.declared.record.Template.{Template}
-use Rattle.recording_files.specs.declared.stamp.Stamp.{Stamp}
+use Rattle.ipfix_message.specs.declared.stamp.Stamp.{Stamp}
 
 -- ---- a preamble
-
-pub record IsStamp (s : Stamp) : Type 0 where
-  pub export_time : s.export_time < 2 ^ 32
-  pub sequence : s.sequence < 2 ^ 32
-  pub domain : s.domain < 2 ^ 32
-
-abbrev pub sets_octets : List Template → List ℕ
-sets_octets ts = flat_map template_set ts
-
-abbrev pub stamped : Stamp → ℕ → Header
-stamped s n = record { length = HEADER_LENGTH + n; export_time = s.export_time; sequence = s.sequence; domain = s.domain }
-
--- a message of templates, each in a set of its own
-abbrev pub templates_message : Stamp → List Template → List ℕ
-templates_message s ts = header_octets (stamped s (length (sets_octets ts))) ++ sets_octets ts
 
 -- one message or more, in which these templates stand in turn
 pub record IsPreamble (s : Stamp) (ts : List Template) (ms : List (List ℕ)) : Type 0 where

@@ -7,7 +7,7 @@ use Rattle.ipfix_message.specs.Domains.{Message, events_in, message_gives}
 use Rattle.ipfix_message.specs.declared.record.Template.{Template}
 use Rattle.ipfix_session.specs.Given.{known_after}
 use Rattle.ipfix_session.specs.Ledger.{messages_of, due_of}
-use Rattle.recording_files.specs.declared.stamp.Stamp.{Stamp}
+use Rattle.ipfix_message.specs.declared.stamp.Stamp.{Stamp}
 use Rattle.recording_files.specs.Preambles.{IsStamp, IsTemplate, IsPreamble}
 use Rattle.ipfix_session.specs.TemplateLists.{AreInForce}
 

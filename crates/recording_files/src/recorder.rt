@@ -10,9 +10,8 @@ ghost use Rattle.recording_files.specs.Recorders.{Keeps, Leading, Records, due_f
 
 use crate::message_count::MessageCount;
 use crate::preamble::{append_bare_message, append_preamble};
-use crate::stamp::Stamp;
 use indexmap::IndexMap;
-use ipfix_message::{Domains, MessageFault};
+use ipfix_message::{Domains, MessageFault, Stamp};
 use ipfix_wire::Header;
 use std::alloc::{AllocError, Global};
 use std::marker::Model;

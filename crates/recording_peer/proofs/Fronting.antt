@@ -19,9 +19,9 @@ use Rattle.ipfix_session.proofs.Chains.{known_after-push}
 use Rattle.ipfix_session.proofs.Giving.{records_in-append}
 use Rattle.ipfix_session.proofs.MessagesTaken.{octets-append, octets-push}
 use Rattle.recording_files.specs.declared.message_count.MessageCount.{MessageCount}
-use Rattle.recording_files.specs.declared.stamp.Stamp.{Stamp}
-use Rattle.recording_files.specs.Preambles.{IsStamp, sets_octets, stamped, templates_message}
-use Rattle.recording_files.proofs.PreamblesRead.{header_is}
+use Rattle.ipfix_message.specs.declared.stamp.Stamp.{Stamp}
+use Rattle.ipfix_message.specs.TemplateMessages.{IsStamp, sets_octets, stamped, templates_message}
+use Rattle.ipfix_message.proofs.TemplateMessages.{header_is}
 use Rattle.recording_files.specs.Recordings.{Writes}
 use Rattle.recording_files.specs.Recorders.{State, Keeps, Records, IsCountOf}
 use Rattle.recording_files.proofs.Growing.{writes_more}

@@ -6,7 +6,7 @@ use Rattle.ipfix_message.specs.Domains.{History, Message, events_in, message_giv
 use Rattle.ipfix_message.specs.declared.record.Template.{Template}
 use Rattle.ipfix_session.specs.Given.{known_after, octets_of, records_in}
 use Rattle.recording_files.specs.declared.message_count.MessageCount.{MessageCount}
-use Rattle.recording_files.specs.declared.stamp.Stamp.{Stamp}
+use Rattle.ipfix_message.specs.declared.stamp.Stamp.{Stamp}
 use Rattle.recording_files.specs.Preambles.{templates_message}
 use Rattle.recording_files.specs.Recordings.{Precedes, Writes}
 use Rattle.recording_files.specs.Recorders.{State, Keeps, IsCountOf}

@@ -9,7 +9,7 @@ use Rattle.ipfix_session.specs.Given.{records_in}
 use Rattle.ipfix_session.specs.Ledger.{messages_of, due_of}
 use Rattle.recording_files.specs.Recordings.{Part, stamp_for}
 use Rattle.recording_files.specs.Preambles.{templates_message}
-use Rattle.recording_files.specs.declared.stamp.Stamp.{Stamp}
+use Rattle.ipfix_message.specs.declared.stamp.Stamp.{Stamp}
 use Rattle.ipfix_datagrams.specs.Datagrams.{Known, none_known, known_with, known_from, Preparation, IsTaken}
 use Rattle.ipfix_datagrams.specs.Withdrawals.{withdrawal_message}
 use Rattle.ipfix_datagrams.specs.declared.withdrawal.TheConstants.{MOST_WITHDRAWN}

@@ -17,9 +17,9 @@ ghost use Rattle.recording_peer.specs.Peers.{Front};
 ghost use Rattle.recording_peer.specs.Fronts.{CanGoOn, TookOne, TookDefinition, TookFront, TookPrepared, TookDatagram, taken_as};
 
 use ipfix_datagrams::{DatagramReading, MOST_WITHDRAWN, WithdrawnTemplate, append_withdrawals};
-use ipfix_message::{MessageFault, Template, Templates, header_of};
+use ipfix_message::{MessageFault, Stamp, Template, Templates, append_template_message, header_of};
 use ipfix_wire::Header;
-use recording_files::{MessageCount, Recorder, Stamp, append_template_message};
+use recording_files::{MessageCount, Recorder};
 use std::alloc::Global;
 
 // Takes a message that withdraws templates, and appends what precedes it and the message.

@@ -1,7 +1,7 @@
 use Rattle.std.proofs.Common.{◌≡◌, [], ◌∷◌, ap, arith, ◌∙◌, rules}
 use Rattle.std.proofs.lemmas.Result.{err_from_is_err_and}
 use Rattle.ipfix_message.specs.Domains.{message_gives}
-use Rattle.recording_files.specs.Preambles.{IsStamp, templates_message}
+use Rattle.ipfix_message.specs.TemplateMessages.{IsStamp, templates_message}
 use Rattle.ipfix_datagrams.proofs.Defined.{defines, defined_by}
 use Rattle.ipfix_datagrams.proofs.Readings.{only_memory}
 use Rattle.ipfix_datagrams.proofs.defining.define.Goals as goal
