@@ -9,6 +9,7 @@ use Rattle.std.specs.Str.Parse.{digits_value}
 use Rattle.csv.specs.Records.{field_at}
 use Rattle.ipfix_wire.specs.declared.specifier.ElementId.{ElementId}
 use Rattle.ipfix_elements.specs.declared.kind.Kind.TheVariants as kinds
+use Rattle.ipfix_elements.specs.declared.kind.Width.TheVariants.{Eight}
 use Rattle.ipfix_elements.specs.Elements.{entry_of}
 use Rattle.element_registry.specs.declared.kind.ElementKind.{ElementKind}
 use Rattle.element_registry.specs.declared.kind.ElementKind.TheVariants.{Plain}
@@ -89,11 +90,25 @@ is_name text = begins_with_letter text && list_all is_name_octet text && nat_le 
 abbrev pub full_name : ℕ → List ℕ → List ℕ
 full_name pen name = if pen == 0 then name else codes "e" ++ (decimal pen ++ (codes "." ++ name))
 
--- ---- types
+-- ---- types and semantics
 
 -- fields of a type that is not known are octets
 abbrev pub kind_of_type : List ℕ → ElementKind
 kind_of_type text = unwrap_or (kind_named text) (Plain kinds.Octets)
+
+-- the semantics of a counter that is reset to 0 each time it is exported (RFC 7012, section 3.2.3)
+abbrev pub is_delta_counter : List ℕ → Bool
+is_delta_counter semantics = bytes_eq semantics (codes "deltaCounter")
+
+-- a delta counter of an unsigned type is an unsigned64: a sum of its values may need 8 octets, and any value may be sent in
+-- fewer (RFC 7011, section 6.2)
+abbrev pub counter_kind : ElementKind → ElementKind
+counter_kind (Plain (kinds.Unsigned width)) = Plain (kinds.Unsigned Eight)
+counter_kind kind = kind
+
+-- the kind of a type, as a delta counter or not
+abbrev pub kind_by : List ℕ → Bool → ElementKind
+kind_by text is_delta = if is_delta then counter_kind (kind_of_type text) else kind_of_type text
 
 -- ---- rows
 
@@ -102,8 +117,8 @@ entry at fields e =
     record {
       element = e;
       name = full_name e.pen (field fields at.name);
-      kind = kind_of_type (field fields at.kind);
-      is_delta = bytes_eq (optional_field fields at.semantics) (codes "deltaCounter");
+      kind = kind_by (field fields at.kind) (is_delta_counter (optional_field fields at.semantics));
+      is_delta = is_delta_counter (optional_field fields at.semantics);
     }
 
 -- a row of a built-in element is passed over, whatever it says

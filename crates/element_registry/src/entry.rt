@@ -15,6 +15,8 @@ pub struct Entry {
     pub element: ElementId,
     /// As it is written: with its enterprise, if that isn't IANA's.
     pub name: String,
+    /// How its fields are read. A file's delta counter of an unsigned type is an unsigned64, since sums
+    /// of its values may need 8 octets (RFC 7011, section 6.2).
     pub kind: ElementKind,
     /// Whether its values may be added up (RFC 7012, section 3.2.3).
     pub is_delta: bool,

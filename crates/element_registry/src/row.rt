@@ -12,7 +12,7 @@ use crate::entry::Entry;
 use crate::fault::ElementsFault;
 use crate::names::{full_name, read_name};
 use crate::numbers::{read_element_number, read_enterprise};
-use crate::types::{kind_named, kind_of_type};
+use crate::types::{kind_by, kind_named};
 use csv::ByteRecord;
 use ipfix_elements::name_of;
 use ipfix_wire::ElementId;
@@ -66,11 +66,12 @@ fn read_entry_of(
     let Some(name) = read_name(field(row, columns.name)) else {
         return Err(ElementsFault::Name);
     };
+    let is_delta = optional_field(row, columns.semantics) == b"deltaCounter".as_slice();
     Ok(Some(Entry {
         element,
         name: full_name(alloc, element.pen, name)?,
-        kind: kind_of_type(field(row, columns.kind)),
-        is_delta: optional_field(row, columns.semantics) == b"deltaCounter".as_slice(),
+        kind: kind_by(field(row, columns.kind), is_delta),
+        is_delta,
     }))
 }
 

@@ -1,7 +1,7 @@
 //! The names of types.
 
 ghost use Rattle.std.specs.Prelude.{◌≡◌, map};
-ghost use Rattle.element_registry.specs.Rows.{kind_of_type as kind_of};
+ghost use Rattle.element_registry.specs.Rows.{counter_kind as counter_kind_of, kind_by as kind_of_both, kind_of_type as kind_of};
 ghost use Rattle.element_registry.specs.Types.{kind_among, kind_named as kind_in, shown_type};
 
 use crate::kind::ElementKind;
@@ -54,8 +54,26 @@ static TYPES: [DataType; 23] = types![
     ("float64", OCTETS),
 ];
 
-/// The kind of a type: octets, if it is not known.
-pub fn kind_of_type(name: &[u8]) -> ElementKind
+/// The kind of a type, as a delta counter or not.
+pub fn kind_by(name: &[u8], is_delta: bool) -> ElementKind
+    ensures { result ≡ kind_of_both name.now is_delta }
+{
+    let kind = kind_of_type(name);
+    if is_delta { counter_kind(kind) } else { kind }
+}
+
+// The kind of a delta counter: that of unsigned64 for each unsigned type.
+fn counter_kind(kind: ElementKind) -> ElementKind
+    ensures { result ≡ counter_kind_of kind }
+{
+    match kind {
+        ElementKind::Plain(Kind::Unsigned(_)) => ElementKind::Plain(Kind::Unsigned(Width::Eight)),
+        _ => kind,
+    }
+}
+
+// The kind of a type: octets, if it is not known.
+fn kind_of_type(name: &[u8]) -> ElementKind
     ensures { result ≡ kind_of name.now }
 {
     kind_named(name).unwrap_or(OCTETS)

@@ -58,7 +58,8 @@ pub const OF_IANA: [(u16, &str, ElementKind, bool); 14] = [
     (154, "flowStartMicroseconds", ElementKind::Micros, false),
     (156, "flowStartNanoseconds", ElementKind::Nanos, false),
     (276, "dataRecordsReliability", ElementKind::Boolean, false),
-    (278, "newConnectionDeltaCount", U32, true),
+    // unsigned32 in the file: a delta counter is an unsigned64.
+    (278, "newConnectionDeltaCount", U64, true),
     (291, "basicList", OCTETS, false),
     (311, "samplingProbability", OCTETS, false),
     (
@@ -223,6 +224,73 @@ fn unknown_types_are_octets(rt: HostRuntime) -> Result<(), Fail> {
         number: 1,
     };
     assert!(rt; is_known(&elements, element, "e32473.aNumber", OCTETS));
+    Ok(())
+}
+
+/// A row of each width with each semantics that may make a difference, and delta counters of other types.
+const COUNTERS: &str = "Enterprise,ElementID,Name,Abstract Data Type,Data Type Semantics
+32473,1,deltas8,unsigned8,deltaCounter
+32473,2,deltas16,unsigned16,deltaCounter
+32473,3,deltas32,unsigned32,deltaCounter
+32473,4,deltas64,unsigned64,deltaCounter
+32473,5,quantity,unsigned32,quantity
+32473,6,total,unsigned32,totalCounter
+32473,7,identifier,unsigned16,identifier
+32473,8,plain,unsigned32,
+32473,9,lowerCase,unsigned32,deltacounter
+32473,10,signedDeltas,signed32,deltaCounter
+32473,11,floats,float64,deltaCounter
+32473,12,flag,boolean,deltaCounter
+32473,13,address,ipv4Address,deltaCounter
+32473,14,seconds,dateTimeSeconds,deltaCounter
+32473,15,unknown,unsigned256,deltaCounter
+";
+
+const KINDS_OF_COUNTERS: [(ElementKind, bool); 15] = [
+    (U64, true),
+    (U64, true),
+    (U64, true),
+    (U64, true),
+    (U32, false),
+    (U32, false),
+    (ElementKind::Plain(Kind::Unsigned(Width::Two)), false),
+    (U32, false),
+    (U32, false),
+    (ElementKind::Signed(Width::Four), true),
+    (OCTETS, true),
+    (ElementKind::Boolean, true),
+    (ElementKind::Plain(Kind::Ipv4), true),
+    (ElementKind::Plain(Kind::Seconds), true),
+    (OCTETS, true),
+];
+
+#[test]
+fn delta_counters_of_unsigned_types_are_unsigned64(rt: HostRuntime) -> Result<(), Fail> {
+    let elements = read(rt.alloc(), COUNTERS)?;
+    assert_eq!(rt; elements.entries().len(), KINDS_OF_COUNTERS.len());
+    for (entry, (kind, is_delta)) in elements.entries().iter().zip(KINDS_OF_COUNTERS) {
+        assert_eq!(rt;
+            (entry.kind, entry.is_delta),
+            (kind, is_delta),
+            "{}",
+            entry.name
+        );
+        assert_eq!(rt; elements.kind_of(entry.element), kind, "{}", entry.name);
+    }
+    Ok(())
+}
+
+#[test]
+fn without_semantics_no_type_is_widened(rt: HostRuntime) -> Result<(), Fail> {
+    let elements = read(
+        rt.alloc(),
+        "Enterprise,ElementID,Name,Abstract Data Type\n32473,1,aNumber,unsigned32\n",
+    )?;
+    let element = ElementId {
+        pen: 32473,
+        number: 1,
+    };
+    assert!(rt; is_known(&elements, element, "e32473.aNumber", U32));
     Ok(())
 }
 
