@@ -31,3 +31,4 @@ pub mod RowsAdded
 pub mod Holding
 pub mod TablesAdded
 pub mod Counting
+pub mod CounterKinds

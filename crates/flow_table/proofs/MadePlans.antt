@@ -16,12 +16,12 @@ use Rattle.flow_table.specs.declared.key.Side.TheVariants.{Read, Exported}
 use Rattle.flow_table.specs.declared.method.Method.{Method}
 use Rattle.flow_table.specs.declared.plan_fault.PlanFault.{PlanFault}
 use Rattle.flow_table.specs.declared.plan_fault.PlanFault.TheVariants.{KeyCount, KeyKind, Prefix, CounterCount, CounterKind}
-use Rattle.flow_table.specs.Plans.{IsPlan, plan_value, plan_with, field_kind, key_kind, kinds_of, is_between, is_element, is_time, is_value, is_key, is_key_kind, is_built_in_counter, is_counter, is_delta_of, is_prefix_of, has_twice, elements_in, or_else, fault_unless, length_fault, spread_fault, repeat_fault, first_fault}
+use Rattle.flow_table.specs.Plans.{PlanValue, IsPlan, first_fault_of, plan_value, plan_with, field_kind, key_kind, kinds_of, is_between, is_element, is_time, is_value, is_key, is_key_kind, is_built_in_counter, is_counter, is_delta_of, is_prefix_of, has_twice, elements_in, or_else, fault_unless, length_fault, spread_fault, repeat_fault, first_fault}
 
 -- ---- lists
 
 -- what holds of each of some numbers
-abbrev Each : (ℕ → Type 0) → List ℕ → Type 0
+abbrev pub Each : (ℕ → Type 0) → List ℕ → Type 0
 Each P [] = Unit {0}
 Each P (n ∷ ns) = P n × Each P ns
 
@@ -47,7 +47,7 @@ all_mapped f g p same (x ∷ xs) all =
 -- ---- built-in elements
 
 -- one of the numbers, of IANA's registry
-has_number : (P : ElementId → Type 0) (ns : List ℕ) (e : ElementId) → Each (λ n. P (iana n)) ns → (eqb e.pen 0 && list_any (λ n. eqb n e.number) ns) ≡ true → P e
+pub has_number : (P : ElementId → Type 0) (ns : List ℕ) (e : ElementId) → Each (λ n. P (iana n)) ns → (eqb e.pen 0 && list_any (λ n. eqb n e.number) ns) ≡ true → P e
 has_number P ns e each any =
     let both = and_parts (eqb e.pen 0) (list_any (λ n. eqb n e.number) ns) any in
     let same : iana e.number ≡ e = rw (eqb-true e.pen 0 both.0) refl in
@@ -191,6 +191,9 @@ passed_tests known len keys counters max_spread h =
       counted = passed_test _ _ in_counters.1;
       apart = passed_test _ _ last.1;
     }
+
+pub counters_counted : (known : List Known) (plan : PlanValue) → first_fault_of known plan ≡ None → list_all (is_counter known) plan.counters ≡ true
+counters_counted known plan none = (passed_tests known plan.length plan.keys plan.counters plan.max_spread none).counted
 
 -- ---- plans
 

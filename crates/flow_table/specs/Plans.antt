@@ -8,7 +8,7 @@ use Rattle.ipfix_elements.specs.declared.iana.TheConstants.{OCTET_DELTA_COUNT, P
 use Rattle.ipfix_elements.specs.Elements.{entry_of}
 use Rattle.ipfix_elements.specs.declared.kind.Kind.{Kind}
 use Rattle.ipfix_elements.specs.declared.kind.Kind.TheVariants as kinds
-use Rattle.ipfix_elements.specs.declared.kind.Width.TheVariants.{One}
+use Rattle.ipfix_elements.specs.declared.kind.Width.TheVariants.{One, Eight}
 use Rattle.element_registry.specs.Registries.{Known, element_kind, is_of}
 use Rattle.element_registry.specs.declared.kind.ElementKind.{ElementKind}
 use Rattle.element_registry.specs.declared.kind.ElementKind.TheVariants.{Plain, Boolean, Signed, Micros, Nanos, Text}
@@ -100,13 +100,14 @@ is_built_in_counter e =
     is_of_iana (OCTET_DELTA_COUNT ∷ PACKET_DELTA_COUNT ∷ DELTA_FLOW_COUNT ∷ POST_OCTET_DELTA_COUNT ∷ POST_PACKET_DELTA_COUNT
     ∷ DROPPED_OCTET_DELTA_COUNT ∷ DROPPED_PACKET_DELTA_COUNT ∷ []) e
 
-abbrev pub is_unsigned : ElementKind → Bool
-is_unsigned (Plain (kinds.Unsigned width)) = true
-is_unsigned kind = false
+abbrev pub is_unsigned64 : ElementKind → Bool
+is_unsigned64 (Plain (kinds.Unsigned Eight)) = true
+is_unsigned64 kind = false
 
--- what a file says of an element makes it a counter: a number whose values may be added up, not a total (RFC 7012, section 3.2)
+-- what a file says of an element makes it a counter: an unsigned64, as each delta counter of an unsigned type is, and not a
+-- total (RFC 7012, section 3.2)
 abbrev pub is_delta_of : ElementId → Known → Bool
-is_delta_of e k = is_of e k && (k.is_delta && is_unsigned k.kind)
+is_delta_of e k = is_of e k && (k.is_delta && is_unsigned64 k.kind)
 
 -- a built-in counter, or one of a file
 abbrev pub is_counter : List Known → ElementId → Bool

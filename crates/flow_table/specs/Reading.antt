@@ -27,7 +27,7 @@ use Rattle.flow_table.specs.Plans.{PlanValue}
 abbrev pub number_as : Kind → ElementId → DataRecord → Option ℕ
 number_as kind element r = option_and_then (number_in kind) (octets_of element r.fields)
 
--- a counter is an unsigned number of up to 8 octets
+-- a counter is an unsigned64, in up to 8 octets (RFC 7011, section 6.2)
 abbrev pub number_of : ElementId → DataRecord → Option ℕ
 number_of element r = number_as (Unsigned Eight) element r
 

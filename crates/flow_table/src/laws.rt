@@ -10,7 +10,10 @@ ghost use Rattle.flow_table.specs.Bags.{IsSameBag, IsInterleaving};
 ghost use Rattle.flow_table.specs.Fitting.{FitsPlan};
 ghost use Rattle.flow_table.specs.Intervals.{covered_by, share};
 ghost use Rattle.flow_table.specs.Missing.{missing_of};
-ghost use Rattle.element_registry.specs.Registries.{Known};
+ghost use Rattle.ipfix_elements.specs.declared.kind.Kind.TheVariants.{Unsigned};
+ghost use Rattle.ipfix_elements.specs.declared.kind.Width.TheVariants.{Eight};
+ghost use Rattle.element_registry.specs.Registries.{Known, IsRegistry, element_kind};
+ghost use Rattle.element_registry.specs.declared.kind.ElementKind.TheVariants.{Plain};
 ghost use Rattle.flow_table.specs.Plans.{PlanValue, IsPlan, first_fault_of, kinds_of};
 ghost use Rattle.flow_table.specs.SameTables.{IsSameTable};
 ghost use Rattle.flow_table.specs.Tables.{IsTable, IsTooLarge, tally_of};
@@ -37,6 +40,14 @@ pub fn built_in_plans_stay()
 pub fn faultless_plans()
     ensures { (known : List Known) (plan : PlanValue) → plan.kinds ≡ kinds_of known plan.keys
         → first_fault_of known plan ≡ None → IsPlan plan }
+{}
+
+/// Each counter of a plan is an unsigned64, and so has the kind by which all counters are read, whatever
+/// files say.
+pub fn counters_have_one_kind()
+    ensures { (known : List Known) (plan : PlanValue) → IsRegistry known
+        → first_fault_of known plan ≡ None
+        → All (λ c. element_kind known c ≡ Plain (Unsigned Eight)) plan.counters }
 {}
 
 /// By every method the shares of the intervals that a flow covers add up to its counter (RFC 7015,

@@ -16,7 +16,7 @@ use ipfix_message::DataRecord;
 use ipfix_wire::ElementId;
 use std::alloc::AllocError;
 
-/// The kind that all counters are read by: numbers of up to 8 octets (RFC 7011, section 6.2).
+/// The kind of all counters, whatever files say: numbers of up to 8 octets (RFC 7011, section 6.2).
 const COUNTER_KIND: Kind = Kind::Unsigned(Width::Eight);
 
 /// A data record as a plan sees it.

@@ -96,10 +96,10 @@ fn is_built_in_counter(element: ElementId) -> bool
     element.pen == 0 && COUNTERS.contains(&element.number)
 }
 
-fn is_unsigned(kind: ElementKind) -> bool
-    ensures { result ≡ plans.is_unsigned kind }
+fn is_unsigned64(kind: ElementKind) -> bool
+    ensures { result ≡ plans.is_unsigned64 kind }
 {
-    matches!(kind, ElementKind::Plain(Kind::Unsigned(_)))
+    matches!(kind, ElementKind::Plain(Kind::Unsigned(Width::Eight)))
 }
 
 // Whether what a file says makes the element a counter.
@@ -108,13 +108,13 @@ fn is_delta(elements: &Elements, element: ElementId) -> bool
     ensures { result ≡ list_any (plans.is_delta_of element) elements.now }
 {
     match elements.find_entry(element) {
-        Some(entry) => entry.is_delta && is_unsigned(entry.kind),
+        Some(entry) => entry.is_delta && is_unsigned64(entry.kind),
         None => false,
     }
 }
 
 /// Whether an element may be a counter of a plan: a delta counter of octets, packets or flows that is
-/// built in, or an unsigned number that a file names as a delta counter (RFC 7012, section 3.2.3).
+/// built in, or of an unsigned type by a file (RFC 7012, section 3.2.3). Each has the kind of unsigned64.
 pub fn is_counter(elements: &Elements, element: ElementId) -> bool
     ensures { result ≡ plans.is_counter elements.now element }
 {

@@ -1,8 +1,10 @@
 //! Plans whose elements a file names: those of IANA's registry, and of RFC 5103 for a flow's way back.
 
-use element_registry::{Elements, ElementsFault, add_file};
+ghost use Rattle.std.specs.Prelude.{◌<◌, ◌^◌, length};
+
+use element_registry::{ElementKind, Elements, ElementsFault, Entry, add_file};
 use flow_table::{Key, Method, Partial, Plan, PlanFault, Row};
-use ipfix_elements::{Cell, Kind, Width};
+use ipfix_elements::{Cell, Kind, Width, name_of};
 use ipfix_message::{DataRecord, Fields};
 use ipfix_wire::ElementId;
 use std::alloc::{AllocError, Global};
@@ -125,6 +127,8 @@ fn a_plan_has_the_kinds_of_its_keys(rt: HostRuntime) -> Result<(), Fail> {
     let port = Kind::Unsigned(Width::Two);
     for (key, want) in [
         (RELIABLE, octet),
+        // A delta counter, of type unsigned32 in the file.
+        (CONNECTIONS, Kind::Unsigned(Width::Eight)),
         (reverse(7), port),
         (reverse(8), Kind::Ipv4),
     ] {
@@ -135,13 +139,15 @@ fn a_plan_has_the_kinds_of_its_keys(rt: HostRuntime) -> Result<(), Fail> {
     Ok(())
 }
 
-// A flow of the first minute with a truth value, and connections in four octets.
-fn flow(alloc: Global, reliable: u8, connections: u32) -> Result<DataRecord, AllocError> {
+// A flow of the first minute with a truth value, and a number of connections.
+fn flow(alloc: Global, reliable: u8, connections: &[u8]) -> Result<DataRecord, AllocError>
+    requires { length connections.now < 2 ^ 16 }
+{
     let mut fields = Fields::new(alloc);
     fields.push(ElementId::iana(152), &1000u64.to_be_bytes())?;
     fields.push(ElementId::iana(153), &2000u64.to_be_bytes())?;
     fields.push(RELIABLE, &[reliable])?;
-    fields.push(CONNECTIONS, &connections.to_be_bytes())?;
+    fields.push(CONNECTIONS, connections)?;
     Ok(DataRecord {
         domain: 1,
         export_time: 1_700_000_000,
@@ -164,8 +170,8 @@ fn truth_values_are_told_apart_and_deltas_added_up(rt: HostRuntime) -> Result<()
     let elements = known(rt.alloc())?;
     let plan = plan_of(rt.alloc(), &elements, RELIABLE, None, CONNECTIONS)?;
     let mut partial = Partial::new(rt.alloc(), &plan)?;
-    for (reliable, connections) in [(1, 10), (2, 5), (1, 7)] {
-        partial.add(&flow(rt.alloc(), reliable, connections)?)?;
+    for (reliable, connections) in [(1, 10u32), (2, 5), (1, 7)] {
+        partial.add(&flow(rt.alloc(), reliable, &connections.to_be_bytes())?)?;
     }
     let table = partial.finish()?;
     assert_eq!(rt; table.rows.len(), 2);
@@ -175,6 +181,67 @@ fn truth_values_are_told_apart_and_deltas_added_up(rt: HostRuntime) -> Result<()
     ];
     for (row, parts) in table.rows.iter().zip(want) {
         assert_eq!(rt; parts_of(row), parts);
+    }
+    Ok(())
+}
+
+/// What octets are as the counter of a flow: its number, unless they are none.
+const COUNTED: [(&[u8], u64, u64); 6] = [
+    (&[7], 7, 0),
+    (&[0, 0, 1, 0], 256, 0),
+    // 5,000,000,000 in five octets, and in eight.
+    (&[1, 0x2a, 5, 0xf2, 0], 5_000_000_000, 0),
+    (&[0, 0, 0, 1, 0x2a, 5, 0xf2, 0], 5_000_000_000, 0),
+    (&[0, 0, 0, 0, 0, 0, 0, 0, 7], 0, 1),
+    (&[], 0, 1),
+];
+
+#[test]
+fn a_counter_of_a_file_has_up_to_eight_octets(rt: HostRuntime) -> Result<(), Fail> {
+    let elements = known(rt.alloc())?;
+    let plan = plan_of(rt.alloc(), &elements, RELIABLE, None, CONNECTIONS)?;
+    for (octets, sum, absent) in COUNTED {
+        assert!(rt; octets.len() < 1 << 16);
+        let mut partial = Partial::new(rt.alloc(), &plan)?;
+        partial.add(&flow(rt.alloc(), 1, octets)?)?;
+        let table = partial.finish()?;
+        let row = table.rows.first().map(parts_of);
+        assert_eq!(rt; row, Some((Some(Cell::Number(1)), Some(sum), 1)));
+        assert_eq!(rt; table.missing.counters.first(), Some(&absent));
+    }
+    Ok(())
+}
+
+// What a caller says of an element, and no file: a delta counter of a kind.
+fn with_delta(alloc: Global, kind: ElementKind) -> Result<Elements, ElementsFault> {
+    let mut elements = Elements::built_in(alloc);
+    if name_of(CONNECTIONS).is_some() {
+        return Ok(elements);
+    }
+    elements.add(Entry {
+        element: CONNECTIONS,
+        name: String::from_str(alloc, "connections")?,
+        kind,
+        is_delta: true,
+    })?;
+    Ok(elements)
+}
+
+#[test]
+fn counters_are_unsigned_numbers_of_64_bits(rt: HostRuntime) -> Result<(), Fail> {
+    let protocol = ElementId::iana(4);
+    for (kind, want) in [
+        (ElementKind::Plain(Kind::Unsigned(Width::Eight)), "none"),
+        (
+            ElementKind::Plain(Kind::Unsigned(Width::Four)),
+            "CounterKind",
+        ),
+        (ElementKind::Signed(Width::Eight), "CounterKind"),
+        (ElementKind::Plain(Kind::Octets), "CounterKind"),
+    ] {
+        let elements = with_delta(rt.alloc(), kind)?;
+        let fault = fault_of(rt.alloc(), &elements, protocol, None, CONNECTIONS);
+        assert_eq!(rt; fault, want);
     }
     Ok(())
 }
