@@ -9,3 +9,4 @@ mod LinesRead
 mod Names
 mod Told
 mod Columns
+mod ReadAlike

@@ -4,4 +4,5 @@ pub mod Lines
 pub mod Objects
 pub mod RowObjects
 pub mod Told
+pub mod Counters
 pub mod Examples
