@@ -15,8 +15,8 @@ use Rattle.ipfix_elements.specs.declared.kind.Width.TheVariants.{Eight}
 use Rattle.element_registry.specs.Registries.{Known, element_kind}
 use Rattle.element_registry.specs.declared.kind.ElementKind.TheVariants.{Plain}
 use Rattle.element_registry.specs.declared.kind.ElementKind.{ElementKind}
-use Rattle.element_values.specs.FieldTexts.{element_json, element_text}
-use Rattle.laws_json.specs.Counters.{has_mark, IsReadAlike, marked, SaysWhatCounts}
+use Rattle.element_values.specs.FieldTexts.{element_json, element_text, misfit_text}
+use Rattle.laws_json.specs.Counters.{has_mark, IsReadAlike, SaysWhatCounts}
 use Rattle.laws_json.proofs.Tests.{decimal_passes}
 
 none_passes : (test : ℕ → Bool) (xs : List ℕ) → list_all (λ x. not (test x)) xs ≡ true → list_any test xs ≡ false
@@ -25,18 +25,18 @@ none_passes test (x ∷ xs) none =
     let both = and_parts (not (test x)) (list_all (λ x. not (test x)) xs) none in
     or_from (test x) (list_any test xs) (not-true (test x) both.0) (none_passes test xs both.1)
 
-text_of : (counted : Option ℕ) (octets : List ℕ) → option_map_or cell_text (option_map (λ n. Number n) counted) (marked octets) ≡ option_map_or decimal counted (marked octets)
+text_of : (counted : Option ℕ) (octets : List ℕ) → option_map_or cell_text (option_map (λ n. Number n) counted) (misfit_text octets) ≡ option_map_or decimal counted (misfit_text octets)
 unfolding cell_text
 text_of None octets = refl
 text_of (Some n) octets = refl
 
 json_of : (counted : Option ℕ) (octets : List ℕ)
-    → option_map_or json_cell (option_map (λ n. Number n) counted) (in_quotes (option_map_or cell_text (option_map (λ n. Number n) counted) (marked octets)))
-    ≡ option_map_or json_number counted (in_quotes (marked octets))
+    → option_map_or json_cell (option_map (λ n. Number n) counted) (in_quotes (option_map_or cell_text (option_map (λ n. Number n) counted) (misfit_text octets)))
+    ≡ option_map_or json_number counted (in_quotes (misfit_text octets))
 json_of None octets = refl
 json_of (Some n) octets = refl
 
-mark_of : (counted : Option ℕ) (octets : List ℕ) → has_mark (option_map_or decimal counted (marked octets)) ≡ is_none counted
+mark_of : (counted : Option ℕ) (octets : List ℕ) → has_mark (option_map_or decimal counted (misfit_text octets)) ≡ is_none counted
 mark_of None octets = refl
 mark_of (Some n) octets = none_passes (λ b. eqb b 63) (decimal n) (decimal_passes (λ b. not (eqb b 63)) refl n)
 

@@ -7,7 +7,7 @@ ghost use Rattle.laws_json.specs.Counters.{IsReadAlike};
 
 /// A counter of a plan is read by one rule, whatever elements files name. Of the field that a table reads, a dump
 /// writes a number if and only if the field has a value in the table, and it is that number. What the dump
-/// writes with `?` counts as absent (RFC 7011, section 6.2).
+/// writes with `?` counts as absent.
 pub fn counters_are_read_alike()
     ensures { (known : List Known) (plan : PlanValue) → IsRegistry known
         → first_fault_of known plan ≡ None → All (IsReadAlike known) plan.counters }
