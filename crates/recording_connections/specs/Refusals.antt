@@ -1,8 +1,13 @@
--- Peers that were refused, and are not reported yet.
-use Rattle.std.specs.Prelude.{ℕ, Option, Some, None}
+-- Which peers have a session, and the peers that were refused and are not reported yet.
+use Rattle.std.specs.Prelude.{◌≡◌, ℕ, Option, Some, None}
+use Rattle.std.specs.Net.Socket.{socket_ip}
 use Rattle.std.specs.declared.net.socket_addr.SocketAddr.{SocketAddr}
 use Rattle.ipfix_session.specs.Sources.{one_more}
+use Rattle.network_prefixes.specs.Peers.{LetsIn}
+use Rattle.network_prefixes.specs.declared.peer_filter.PeerFilter.{PeerFilter}
 use Rattle.recording_connections.specs.declared.shared_counts.RefusedPeers.{RefusedPeers}
+use Rattle.recording_connections.specs.declared.shared_counts.SessionNumber.{SessionNumber}
+use Rattle.recording_connections.specs.declared.shared_counts.SharedCounts.{SharedCounts}
 
 abbrev pub refused_count : Option RefusedPeers → ℕ
 refused_count None = 0
@@ -11,3 +16,18 @@ refused_count (Some refused) = refused.count
 -- one more, which is the last; the count stops at the greatest number of 64 bits
 abbrev pub one_more_refused : Option RefusedPeers → SocketAddr → RefusedPeers
 one_more_refused refused peer = record { count = one_more (refused_count refused); last = peer }
+
+-- the filter lets the peer in
+abbrev pub MaySend : PeerFilter → SocketAddr → Type 0
+MaySend filter peer = LetsIn filter (socket_ip peer)
+
+-- a session has begun: its number is one more than the last, and nothing else is counted
+abbrev pub IsAdmitted : SharedCounts → Option SessionNumber → SharedCounts → Type 0
+IsAdmitted before (Some session) after =
+    (session.number ≡ one_more before.sessions) × (after ≡ record before { sessions = one_more before.sessions })
+IsAdmitted before None after = ⊥
+
+-- a peer was refused: it has no number, is counted, and nothing else is
+abbrev pub IsTurnedAway : SharedCounts → SocketAddr → Option SessionNumber → SharedCounts → Type 0
+IsTurnedAway before peer number after =
+    (number ≡ None) × (after ≡ record before { refused = Some (one_more_refused before.refused peer) })

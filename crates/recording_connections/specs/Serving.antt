@@ -1,8 +1,9 @@
 -- A session that was recorded: its last file is finished, and its lines are written.
-use Rattle.std.specs.Prelude.{◌⊎◌, ℕ, List, [], ◌++◌, Result, Ok, Err}
+use Rattle.std.specs.Prelude.{◌≡◌, ◌⊎◌, ℕ, List, [], ◌++◌, Result, Ok, Err}
+use Rattle.std.specs.declared.alloc.AllocError.{AllocError}
 use Rattle.std.specs.declared.net.socket_addr.SocketAddr.{SocketAddr}
 use Rattle.ipfix_message.specs.declared.fault.MessageFault.TheVariants.{OutOfMemory}
-use Rattle.ipfix_session.specs.Sources.{SourceView}
+use Rattle.ipfix_session.specs.Sources.{SourceView, one_more}
 use Rattle.ipfix_session.specs.declared.driver.TheConstants.{READ_LIMIT}
 use Rattle.recording_files.specs.Faults.{number_of, name_of}
 use Rattle.recording_files.specs.Files.{FilesView}
@@ -16,6 +17,7 @@ use Rattle.recording_files.specs.declared.recorded_session.RecordedSession.{Reco
 use Rattle.recording_lines.specs.RecordLines.{peer_fault_line, peer_loss_lines}
 use Rattle.recording_connections.specs.declared.connection.Connection.{Connection}
 use Rattle.recording_connections.specs.declared.place.Recording.{Recording}
+use Rattle.recording_connections.specs.declared.shared_counts.SharedCounts.{SharedCounts}
 
 abbrev pub fault_line : SocketAddr → RecordFault → List ℕ
 fault_line peer fault = peer_fault_line peer (number_of fault) (name_of fault)
@@ -52,11 +54,17 @@ pub record IsRecorded {S F C : Type 0} (seen : S → SourceView) (view : F → F
   pub is_finished : finishes written session.last finished
   pub told : tells (session_lines peer session finished)
 
--- the same of a connection, in the files that a place made for a session of this number; without memory for them that is its fault,
--- and nothing of it is recorded
+-- the same of a connection, in the files that a place made for a session of this number; or the place refused them: then that is
+-- its fault, and nothing of the connection was read
 abbrev pub IsServed : {S F C : Type 0} → (S → SourceView) → (F → FilesView) → (C → ClockView) → (F → FileReport → Result (Unit {0}) NotWritten → Type 0)
-    → (SocketAddr → ℕ → F → C → Type 0) → Connection S → ℕ → (List ℕ → Type 0) → Type 0
-IsServed {S} {F} {C} seen view asked finishes makes connection number tells =
-    ((recording : Recording F C) × (after : S) × makes connection.peer number recording.files recording.clock
-    × IsRecorded seen view asked finishes connection.source after recording connection.peer tells)
-    ⊎ tells (fault_line connection.peer (faults.Message OutOfMemory))
+    → (SocketAddr → ℕ → Result (Recording F C) AllocError → Type 0) → Connection S → Connection S → ℕ → (List ℕ → Type 0) → Type 0
+IsServed {S} {F} {C} seen view asked finishes makes before after number tells =
+    ((recording : Recording F C) × makes before.peer number (Ok recording)
+    × IsRecorded seen view asked finishes before.source after.source recording before.peer tells)
+    ⊎ ((lack : AllocError) × makes before.peer number (Err lack) × (after ≡ before) × tells (fault_line before.peer (faults.Message OutOfMemory)))
+
+-- the session has the number after the last one that the shared counts had
+abbrev pub IsServedNext : {S F C : Type 0} → (S → SourceView) → (F → FilesView) → (C → ClockView) → (F → FileReport → Result (Unit {0}) NotWritten → Type 0)
+    → (SocketAddr → ℕ → Result (Recording F C) AllocError → Type 0) → Connection S → Connection S → (List ℕ → Type 0) → Type 0
+IsServedNext seen view asked finishes makes before after tells =
+    (counts : SharedCounts) × IsServed seen view asked finishes makes before after (one_more counts.sessions) tells

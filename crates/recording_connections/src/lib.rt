@@ -17,5 +17,5 @@ pub use recorder_run::{RecordOrder, RecorderRun};
 pub use recording_folder::FolderFault;
 pub use running::{ConnectionRecorder, record_connections};
 pub use serving::{record_connection, write_session};
-pub use shared_counts::{RefusedPeers, SharedCounts};
+pub use shared_counts::{RefusedPeers, SessionNumber, SharedCounts};
 pub use system::{ConnectionFolder, finish_recordings, open_recordings, run_record};

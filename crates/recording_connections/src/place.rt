@@ -27,21 +27,23 @@ pub struct Recording<F, C> {
 
 /// Makes the files and the clock of each session, for several threads.
 pub trait SessionPlace<F: RecordingFiles, C: PeriodClock> {
-    ghost use Rattle.std.specs.Prelude.{ℕ, IfOk};
+    ghost use Rattle.std.specs.Prelude.{ℕ, IfOk, Result};
+    ghost use Rattle.std.specs.declared.alloc.AllocError.{AllocError};
     ghost use Rattle.std.specs.declared.net.socket_addr.SocketAddr.{SocketAddr};
     ghost use Rattle.recording_files.specs.Files.{IsEmpty};
+    ghost use Rattle.recording_connections.specs.declared.place.Recording.{Recording};
 
-    /// Whether these are the files and the clock of the session of this peer and this number.
-    ghost makes: { Self → SocketAddr → ℕ → F → C → Type 0 };
+    /// Whether it may answer so for the session of this peer and this number.
+    ghost makes: { Self → SocketAddr → ℕ → Result (Recording F C) AllocError → Type 0 };
 
-    /// Those of the session of this peer and this number, in which nothing stands. Only memory can be
-    /// refused.
+    /// The files and the clock of the session of this peer and this number; nothing stands in the files. Only memory
+    /// can be refused.
     fn session(
         &self,
         alloc: Global,
         peer: SocketAddr,
         number: u64,
     ) -> Result<Recording<F, C>, AllocError>
-        ensures made { IfOk result (λ r. makes self.now peer number r.files r.clock) }
+        ensures made { makes self.now peer number result }
         ensures empty { IfOk result (λ r. IsEmpty (F.seen r.files).contents) };
 }

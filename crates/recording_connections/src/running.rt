@@ -1,10 +1,9 @@
 //! Threads that record one session after another.
 
-ghost use Rattle.std.specs.Prelude.{◌≡◌, ℕ};
-ghost use Rattle.std.specs.Net.Socket.{socket_ip};
-ghost use Rattle.network_prefixes.specs.Peers.{LetsIn};
+ghost use Rattle.std.specs.Prelude.{◌≡◌};
 ghost use Rattle.report_writing.specs.Writing.{Tells};
-ghost use Rattle.recording_connections.specs.Serving.{IsServed};
+ghost use Rattle.recording_connections.specs.Refusals.{MaySend};
+ghost use Rattle.recording_connections.specs.Serving.{IsServedNext};
 
 use crate::connection::{Connection, ConnectionSource};
 use crate::place::{RecordingFiles, SessionPlace};
@@ -116,9 +115,10 @@ fn accept_forever<
     let mut out = WholeLines::new(err);
     for _ in rt.forever() {
         match recorder.listener.next_connection() {
-            Ok(connection) => {
+            // At the end the connection is closed.
+            Ok(mut connection) => {
                 // (a line that can't be written stops nothing)
-                let _ = serve(rt, recorder, connection, &mut out);
+                let _ = serve(rt, recorder, &mut connection, &mut out);
             }
             // No descriptor is free, or the connection has gone: wait, and go on.
             Err(_) => {
@@ -129,9 +129,9 @@ fn accept_forever<
     }
 }
 
-// Records the session of a connection, if its peer may send. At the end the connection is closed.
+// Records the session of a connection, if its peer may send; of any other nothing is read and nothing written here.
 fn serve<
-    S: Source + Drop,
+    S: Source,
     F: RecordingFiles,
     C: PeriodClock + Drop,
     L,
@@ -141,22 +141,26 @@ fn serve<
 >(
     rt: &R,
     recorder: &ConnectionRecorder<L, P>,
-    connection: Connection<S>,
+    connection: &mut Connection<S>,
     out: &mut W,
 ) -> io::Result<()>
-    // A peer that may not send is counted, and nothing of it is read or told here.
-    ensures refused { ¬ LetsIn recorder.now.filter.now (socket_ip connection.peer)
-        → out.new ≡ out.old }
-    ensures served { LetsIn recorder.now.filter.now (socket_ip connection.peer)
-        → (number : ℕ) × IsServed S.seen F.seen C.asked F.finishes (P.makes recorder.now.place)
-        connection number (Tells W.contents W.failed out.old out.new result) }
+    ensures unread { ¬ MaySend recorder.now.filter.now connection.old.peer
+        → connection.new ≡ connection.old }
+    ensures untold { ¬ MaySend recorder.now.filter.now connection.old.peer → out.new ≡ out.old }
+    ensures served { MaySend recorder.now.filter.now connection.old.peer
+        → IsServedNext S.seen F.seen C.asked F.finishes (P.makes recorder.now.place)
+        connection.old connection.new (Tells W.contents W.failed out.old out.new result) }
 {
-    if !recorder.filter.lets_in(connection.peer.ip()) {
-        recorder.shared.lock(rt).refuse(connection.peer);
-        return Ok(());
+    let admitted = recorder
+        .shared
+        .lock(rt)
+        .admit(recorder.filter, connection.peer);
+    match admitted {
+        Some(number) => {
+            record_connection(recorder.alloc, connection, number, &recorder.place, out)
+        }
+        None => Ok(()),
     }
-    let number = recorder.shared.lock(rt).next_session();
-    record_connection(recorder.alloc, connection, number, &recorder.place, out)
 }
 
 // Tells once a second which peers were refused, and how often none could be accepted, if that was so.

@@ -6,6 +6,7 @@ ghost use Rattle.recording_connections.specs.Serving.{end_lines, fault_line, fin
 
 use crate::connection::Connection;
 use crate::place::{Recording, RecordingFiles, SessionPlace};
+use crate::shared_counts::SessionNumber;
 use ipfix_message::MessageFault;
 use ipfix_session::{READ_LIMIT, Source};
 use recording_files::{NotWritten, PeriodClock, RecordFault, RecordedSession, record};
@@ -16,20 +17,27 @@ use std::io;
 use std::net::SocketAddr;
 
 /// Records the session of a connection, whose number is this, to its end or first fault, finishes its last
-/// file, and writes its lines. If there is no memory for its files, that is its fault.
+/// file, and writes its lines. If there is no memory for its files, that is its fault, and nothing of it is read.
 pub fn record_connection<
-    S: Source + Drop,
+    S: Source,
     F: RecordingFiles,
     C: PeriodClock + Drop,
     P: SessionPlace<F, C>,
     W: WriteLines,
->(alloc: Global, connection: Connection<S>, number: u64, place: &P, out: &mut W) -> io::Result<()>
-    ensures { IsServed S.seen F.seen C.asked F.finishes (P.makes place.now) connection number
+>(
+    alloc: Global,
+    connection: &mut Connection<S>,
+    number: SessionNumber,
+    place: &P,
+    out: &mut W,
+) -> io::Result<()>
+    ensures { IsServed S.seen F.seen C.asked F.finishes (P.makes place.now)
+        connection.old connection.new number.number
         (Tells W.contents W.failed out.old out.new result) }
 {
-    let Connection { mut source, peer } = connection;
-    match place.session(alloc, peer, number) {
-        Ok(recording) => record_source(alloc, &mut source, recording, peer, out),
+    let peer = connection.peer;
+    match place.session(alloc, peer, number.get()) {
+        Ok(recording) => record_source(alloc, &mut connection.source, recording, peer, out),
         Err(_) => {
             let fault = RecordFault::Message(MessageFault::OutOfMemory);
             write_fault(peer, fault, out)

@@ -2,8 +2,9 @@
 
 ghost use Rattle.std.specs.Prelude.{◌≡◌, Some, None};
 ghost use Rattle.ipfix_session.specs.Sources.{one_more};
-ghost use Rattle.recording_connections.specs.Refusals.{one_more_refused, refused_count};
+ghost use Rattle.recording_connections.specs.Refusals.{IsAdmitted, IsTurnedAway, MaySend, one_more_refused, refused_count};
 
+use network_prefixes::PeerFilter;
 use std::mem;
 use std::net::SocketAddr;
 
@@ -13,6 +14,21 @@ pub struct RefusedPeers {
     /// How many, up to `u64::MAX`.
     pub count: u64,
     pub last: SocketAddr,
+}
+
+/// The number of a session. Only the shared counts give one, one more than the last, to one session each.
+#[derive(Debug, PartialEq, Eq, Drop)]
+pub struct SessionNumber {
+    number: u64,
+}
+
+impl SessionNumber {
+    /// The number, counted from 1.
+    pub fn get(&self) -> u64
+        ensures { result ≡ self.now.number }
+    {
+        self.number
+    }
 }
 
 /// What the threads share: the number of the last session, and what is to be told of peers that have none.
@@ -40,14 +56,29 @@ impl SharedCounts {
     }
 
     /// The number of the session that begins now.
-    pub fn next_session(&mut self) -> u64
-        ensures number { result ≡ one_more self.old.sessions }
-        ensures counted { self.new.sessions ≡ result }
+    pub fn next_session(&mut self) -> SessionNumber
+        ensures number { result.number ≡ one_more self.old.sessions }
+        ensures counted { self.new.sessions ≡ result.number }
         ensures refused { self.new.refused ≡ self.old.refused }
         ensures not_accepted { self.new.not_accepted ≡ self.old.not_accepted }
     {
         self.sessions = self.sessions.saturating_add(1);
-        self.sessions
+        SessionNumber {
+            number: self.sessions,
+        }
+    }
+
+    /// Admits a peer to a session, which has the next number; one that may not send is counted as refused.
+    pub fn admit(&mut self, filter: &PeerFilter, peer: SocketAddr) -> Option<SessionNumber>
+        ensures admitted { MaySend filter.now peer → IsAdmitted self.old result self.new }
+        ensures refused { ¬ MaySend filter.now peer → IsTurnedAway self.old peer result self.new }
+    {
+        if filter.lets_in(peer.ip()) {
+            Some(self.next_session())
+        } else {
+            self.refuse(peer);
+            None
+        }
     }
 
     /// Counts a peer that was refused.

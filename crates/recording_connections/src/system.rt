@@ -1,7 +1,10 @@
 //! Recording in a folder of the system.
 
-ghost use Rattle.std.specs.Prelude.{◌≡◌, ⊤};
+ghost use Rattle.std.specs.Prelude.{◌≡◌, IfOk};
+ghost use Rattle.std.specs.Arc.{arc_value};
 ghost use Rattle.std.specs.Int.NonZero.{non_zero_u64_get};
+ghost use Rattle.recording_folder.specs.EndedFiles.{EndsLast};
+ghost use Rattle.recording_folder.specs.SessionNames.{IsNamed};
 
 use crate::connection::PatientListener;
 use crate::place::{Recording, RecordingFiles, SessionPlace};
@@ -23,7 +26,8 @@ use std::sync::Wait;
 use std::thread::Threads;
 
 impl<'a, R: Files, K: FileFinisher<R::File>> RecordingFiles for SessionFiles<'a, R, K> {
-    ghost finishes = { λ _ _ _. ⊤ };
+    ghost finishes = { λ files last result.
+        EndsLast K.finishes files.unfinished last result files.finisher };
 
     fn finish(self, last: &FileReport) -> Result<(), NotWritten> {
         self.finish(last)
@@ -44,7 +48,9 @@ impl<'a, R: Files + Clock, E: Write + Copy + Drop> SessionPlace<
     ConnectionFiles<'a, R, E>,
     SystemPeriods<'a, R>,
 > for ConnectionFolder<'a, R, E> {
-    ghost makes = { λ _ _ _ _ _. ⊤ };
+    // (the name of its files is that of this session)
+    ghost makes = { λ _ peer number made. IfOk made (λ recording.
+        IsNamed (arc_value recording.files.session) peer number) };
 
     fn session(
         &self,
@@ -77,7 +83,7 @@ pub fn open_recordings<E: Write + Drop, H: Files<File = File> + Alloc<A = Global
 }
 
 /// Finishes what a stopped run left in a folder of recordings, with a line in `err` for each file, and answers how
-/// many files stay. The folder is not made where it isn't there.
+/// many files stay. Nothing is made but the file of the lock: a folder that isn't there is an `Err`.
 pub fn finish_recordings<E: Write + Drop, H: Files<File = File> + Alloc<A = Global> + Clone + Drop>(
     rt: &H,
     alloc: Global,

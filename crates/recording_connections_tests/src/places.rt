@@ -60,7 +60,7 @@ pub struct SmallPlace {
 impl SessionPlace<SmallFiles, ScriptClock> for SmallPlace {
     ghost use Rattle.std.specs.Prelude.{⊤};
 
-    ghost makes = { λ _ _ _ _ _. ⊤ };
+    ghost makes = { λ _ _ _ _. ⊤ };
 
     fn session(
         &self,

@@ -35,12 +35,13 @@ fn told_of(
     fail_at: Option<usize>,
 ) -> Result<Vec<u8>, Fail> {
     let text = Vec::from_slice(alloc, octets)?;
-    let connection = Connection {
+    let mut connection = Connection {
         source: ScriptSource::new(text, 50, None, fail_at),
         peer: SocketAddr::new(IpAddr::V4(Ipv4Addr::new(192, 0, 2, 1)), 4739),
     };
     let mut out = FailingWriter::new(alloc, 1000, 1000);
-    record_connection(alloc, connection, 1, &place, &mut out)?;
+    let number = SharedCounts::new().next_session();
+    record_connection(alloc, &mut connection, number, &place, &mut out)?;
     Ok(out.taken)
 }
 

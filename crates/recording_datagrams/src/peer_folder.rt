@@ -50,7 +50,7 @@ impl<'a, R: Files + Clock, W: Wait, E: Write + Copy + Drop> PeerPlace<PeerFiles<
             waiting: self.waiting,
         };
         self.place
-            .files(alloc, peer, number, &self.periods, finisher)
+            .files(alloc, peer, number.get(), &self.periods, finisher)
     }
 }
 

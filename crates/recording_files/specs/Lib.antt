@@ -3,6 +3,7 @@ pub mod Faults
 pub mod Preambles
 pub mod Recordings
 pub mod FileReports
+pub mod Notices
 pub mod Faithful
 pub mod Recorders
 pub mod Files

@@ -3,5 +3,8 @@ pub mod PeriodNames
 pub mod SessionNames
 pub mod UnfinishedNames
 pub mod FileContents
+pub mod EndedFiles
+pub mod FolderFaults
+pub mod Recoveries
 -- What only inner functions and proofs need.
 pub mod FileReadings

@@ -1,5 +1,5 @@
 -- The names of sessions.
-use Rattle.std.specs.Prelude.{ℕ, false, if◌then◌else◌, List, [], ◌∷◌, ◌++◌, codes, decimal, take, drop, bytes_eq}
+use Rattle.std.specs.Prelude.{◌≡◌, ℕ, false, if◌then◌else◌, List, [], ◌∷◌, ◌++◌, codes, decimal, take, drop, bytes_eq}
 use Rattle.std.specs.List.{flat_map}
 use Rattle.std.specs.Fmt.{digits}
 use Rattle.std.specs.declared.net.ip_addr.IpAddr.{IpAddr}
@@ -8,6 +8,8 @@ use Rattle.std.specs.declared.net.socket_addr.SocketAddr.{SocketAddr}
 use Rattle.std.specs.Net.Addr.{ipv4_octets, ipv6_segments, octets_of}
 use Rattle.std.specs.Net.Socket.{socket_ip, socket_port}
 use Rattle.std.specs.Net.Text.{ipv4_text}
+use Rattle.std.specs.String.{string_bytes}
+use Rattle.recording_folder.specs.declared.filed_session.FiledSession.{FiledSession}
 
 -- two texts with a hyphen between them
 abbrev pub hyphened : List ℕ → List ℕ → List ℕ
@@ -33,3 +35,7 @@ address_name (V6 a) =
 -- the name of a session: its peer's address and port, and its number
 abbrev pub name_of_session : SocketAddr → ℕ → List ℕ
 name_of_session peer number = hyphened (address_name (socket_ip peer)) (hyphened (decimal (socket_port peer)) (decimal number))
+
+-- the files of a session have its name
+abbrev pub IsNamed : FiledSession → SocketAddr → ℕ → Type 0
+IsNamed session peer number = string_bytes session.name ≡ name_of_session peer number

@@ -1,5 +1,8 @@
 //! Files that have ended, and who finishes them.
 
+ghost use Rattle.std.specs.Prelude.{◌≡◌, ◌≢◌, IfOk, MatchOption, OnErr, OnOk};
+ghost use Rattle.recording_folder.specs.EndedFiles.{IsFinished, IsFinishedApart, IsFinishedOrBack};
+
 use crate::folder::Folder;
 use crate::lack::lacks_descriptors;
 use crate::placing::place_file;
@@ -27,12 +30,20 @@ pub struct EndedFile<F> {
 
 /// Finishes the files of sessions.
 pub trait FileFinisher<F>: Drop {
+    ghost use Rattle.std.specs.Prelude.{Result};
+    ghost use Rattle.recording_folder.specs.declared.ended_file.EndedFile.{EndedFile};
+
+    /// Whether finishing a file, or having it finished, may answer so, and what this is after that.
+    ghost finishes: { Self → EndedFile F → Result (Unit {0}) (EndedFile F) → Self → Type 0 };
+
     /// Finishes a file before it returns; if it is empty it goes away. An `Err` gives the file back, which stays
     /// among those that aren't finished.
-    fn finish(&mut self, ended: EndedFile<F>) -> Result<(), EndedFile<F>>;
+    fn finish(&mut self, ended: EndedFile<F>) -> Result<(), EndedFile<F>>
+        ensures { finishes self.old ended result self.new };
 
     /// Does the same, or has it done. Where that fails later, the session of the file fails at its next call.
-    fn finish_or_queue(&mut self, ended: EndedFile<F>) -> Result<(), EndedFile<F>>;
+    fn finish_or_queue(&mut self, ended: EndedFile<F>) -> Result<(), EndedFile<F>>
+        ensures { finishes self.old ended result self.new };
 
     /// Finishes one of the files that wait for it, and answers whether there was one.
     fn finish_queued(&mut self) -> bool;
@@ -59,15 +70,27 @@ impl<'a, R: Files, L: FinishedFiles> FolderFinisher<'a, R, L> {
     }
 
     // Finishes a file, and tells it unless it was empty.
-    fn try_to_finish(&mut self, ended: &mut EndedFile<R::File>) -> io::Result<()> {
+    fn try_to_finish(&mut self, ended: &mut EndedFile<R::File>) -> io::Result<()>
+        ensures finished { OnOk result (IsFinished L.tells ended.old self.old.log self.new.log) }
+        ensures err { OnErr result (self.new.log ≡ self.old.log) }
+        ensures report { ended.new.report ≡ ended.old.report }
+        ensures length { ended.new.unfinished.length ≡ ended.old.unfinished.length }
+        ensures path { ended.new.unfinished.path ≡ ended.old.unfinished.path }
+    {
         if let Some(path) = self.settle(&mut ended.unfinished)? {
-            self.log.finished(path.as_str(), &ended.report);
+            // (a line that can't be written stops nothing)
+            let _ = self.log.finished(path.as_str(), &ended.report);
         }
         Ok(())
     }
 
     // Brings a file to the disk under its final name, and answers its path; an empty one goes away.
-    fn settle(&self, unfinished: &mut UnfinishedFile<R::File>) -> io::Result<Option<String>> {
+    fn settle(&self, unfinished: &mut UnfinishedFile<R::File>) -> io::Result<Option<String>>
+        ensures empty { IfOk result (λ path. MatchOption path (unfinished.old.length ≡ 0)
+            (λ _. unfinished.old.length ≢ 0)) }
+        ensures length { unfinished.new.length ≡ unfinished.old.length }
+        ensures path { unfinished.new.path ≡ unfinished.old.path }
+    {
         if unfinished.is_empty() {
             fs::remove_file(self.rt, unfinished.path.as_str())?;
             return Ok(None);
@@ -88,7 +111,9 @@ impl<'a, R: Files, L: FinishedFiles> FolderFinisher<'a, R, L> {
 impl<'a, R: Files + Clock, L: FinishedFiles> FolderFinisher<'a, R, L> {
     /// Finishes a file apart from its session. Where that fails the file stays among those that aren't finished,
     /// which is told, and its session fails at its next call.
-    pub fn finish_apart(&mut self, ended: EndedFile<R::File>) {
+    pub fn finish_apart(&mut self, ended: EndedFile<R::File>)
+        ensures { IsFinishedApart L.tells ended self.old.log self.new.log }
+    {
         let mut ended = ended;
         for _ in 0..TRIES {
             match self.try_to_finish(&mut ended) {
@@ -100,12 +125,17 @@ impl<'a, R: Files + Clock, L: FinishedFiles> FolderFinisher<'a, R, L> {
             }
         }
         ended.unfinished.session.fail();
-        self.log.not_finished(ended.unfinished.path.as_str());
+        let _ = self.log.not_finished(ended.unfinished.path.as_str());
     }
 }
 
 impl<'a, R: Files, L: FinishedFiles> FileFinisher<R::File> for FolderFinisher<'a, R, L> {
-    fn finish(&mut self, ended: EndedFile<R::File>) -> Result<(), EndedFile<R::File>> {
+    ghost finishes = { λ before ended result after.
+        IsFinishedOrBack L.tells ended result before.log after.log };
+
+    fn finish(&mut self, ended: EndedFile<R::File>) -> Result<(), EndedFile<R::File>>
+        ensures { IsFinishedOrBack L.tells ended result self.old.log self.new.log }
+    {
         let mut ended = ended;
         match self.try_to_finish(&mut ended) {
             Ok(()) => Ok(()),
@@ -113,7 +143,9 @@ impl<'a, R: Files, L: FinishedFiles> FileFinisher<R::File> for FolderFinisher<'a
         }
     }
 
-    fn finish_or_queue(&mut self, ended: EndedFile<R::File>) -> Result<(), EndedFile<R::File>> {
+    fn finish_or_queue(&mut self, ended: EndedFile<R::File>) -> Result<(), EndedFile<R::File>>
+        ensures { IsFinishedOrBack L.tells ended result self.old.log self.new.log }
+    {
         self.finish(ended)
     }
 

@@ -14,7 +14,8 @@ use std::io::{self, ErrorKind, Read};
 pub struct FileContents {
     /// How many of its octets are whole messages, one after another from its front.
     pub whole: u64,
-    /// What its messages give, up to the first that has a fault. Preambles are counted, too.
+    /// What its messages give, up to the first that has a fault. The recorder's own are counted, too: preambles, withdrawals,
+    /// and templates that are defined again.
     pub report: FileReport,
 }
 

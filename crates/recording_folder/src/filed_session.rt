@@ -1,5 +1,8 @@
 //! What is known of a session wherever its files are.
 
+ghost use Rattle.std.specs.Prelude.{◌≡◌};
+ghost use Rattle.std.specs.String.{string_bytes};
+
 use std::sync::atomic::AtomicBool;
 use std::sync::atomic::Ordering::SeqCst;
 
@@ -12,14 +15,18 @@ pub(crate) struct FiledSession {
 }
 
 impl FiledSession {
-    pub(crate) fn new(name: String) -> Self {
+    pub(crate) fn new(name: String) -> Self
+        ensures { result.name ≡ name }
+    {
         FiledSession {
             name,
             has_failed: AtomicBool::new(false),
         }
     }
 
-    pub(crate) fn name(&self) -> &str {
+    pub(crate) fn name(&self) -> &str
+        ensures { result.now ≡ string_bytes self.now.name }
+    {
         self.name.as_str()
     }
 

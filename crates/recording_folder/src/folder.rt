@@ -1,5 +1,8 @@
 //! The folder of a run, and the lock on it.
 
+ghost use Rattle.std.specs.Prelude.{◌≡◌};
+ghost use Rattle.recording_folder.specs.FolderFaults.{fault_of_lock};
+
 use std::alloc::Global;
 use std::fs::{self, File, Files, OpenOptions, TryLockError};
 use std::io::{self, ErrorKind};
@@ -22,9 +25,15 @@ pub enum FolderFault {
     NotHad(io::Error),
 }
 
+/// The reason is that error.
 impl From<io::Error> for FolderFault {
+    ghost use Rattle.std.specs.Prelude.{◌≡◌};
+    ghost use Rattle.recording_folder.specs.declared.folder.FolderFault.TheVariants.{NotHad};
+
+    ghost from_gives = { λ error fault. fault ≡ NotHad error };
+
     fn from(error: io::Error) -> Self {
-        FolderFault::NotHad(error)
+        Self::NotHad(error)
     }
 }
 
@@ -60,8 +69,8 @@ pub fn open_folder<R: Files<File = File>>(
     lock_folder(rt, alloc, path, unfinished)
 }
 
-/// Opens a folder of recordings that an earlier run made, and locks it. What isn't there is not made: without a folder of
-/// what isn't finished it is no folder of recordings.
+/// Opens a folder of recordings that an earlier run made, and locks it. Nothing is made but the file of the lock: without
+/// a folder of what isn't finished it is no folder of recordings, which is an `Err`.
 pub fn reopen_folder<R: Files<File = File>>(
     rt: &R,
     alloc: Global,
@@ -100,8 +109,17 @@ fn lock_folder<R: Files<File = File>>(
             unfinished,
             _lock: lock,
         }),
-        Err(TryLockError::WouldBlock) => Err(FolderFault::InUse),
-        Err(TryLockError::Error(error)) => Err(FolderFault::NotHad(error)),
+        Err(error) => Err(lock_fault(error)),
+    }
+}
+
+// Why a folder that is there could not be locked.
+fn lock_fault(error: TryLockError) -> FolderFault
+    ensures { result ≡ fault_of_lock error }
+{
+    match error {
+        TryLockError::WouldBlock => FolderFault::InUse,
+        TryLockError::Error(error) => FolderFault::NotHad(error),
     }
 }
 

@@ -1,10 +1,14 @@
 //! What an earlier run left.
 
+ghost use Rattle.std.specs.Prelude.{◌≡◌, if◌then◌else◌, IfOk, OnErr};
+ghost use Rattle.ipfix_session.specs.Sources.{one_more};
+ghost use Rattle.recording_folder.specs.Recoveries.{AllAreLookedAfter, EndsAfter, HasOwnReport, IsLookedAfter, SomeIsLookedAfter};
+
 use crate::file_contents::{FileContents, read_contents};
 use crate::folder::{Folder, path_in};
 use crate::placing::place_file;
 use crate::unfinished_names::{UnfinishedName, read_unfinished_name};
-use recording_files::{FileEnd, FinishedFiles, Recovered};
+use recording_files::{FileEnd, FileReport, FinishedFiles, Recovered};
 use std::alloc::Global;
 use std::fs::{self, Files, OpenFile, OpenOptions};
 use std::io::{self, ErrorKind};
@@ -17,18 +21,44 @@ pub fn recover<R: Files + Alloc<A = Global> + Clone + Drop, L: FinishedFiles>(
     rt: &R,
     folder: &Folder,
     log: &mut L,
-) -> io::Result<u64> {
+) -> io::Result<u64>
+    ensures { AllAreLookedAfter R.File.remaining L.tells log.old log.new result }
+{
     let mut stayed = 0u64;
     for entry in fs::read_dir(rt, folder.unfinished())? {
         let entry = entry?;
-        if let Some(name) = read_unfinished_name(entry.file_name()) {
-            let path = path_in(rt.alloc(), folder.unfinished(), entry.file_name())?;
-            if recover_file(rt, folder, path.as_str(), &name, log) {
-                stayed = stayed.saturating_add(1);
-            }
-        }
+        let stays = recover_entry(rt, folder, entry.file_name(), log)?;
+        stayed = one_more_if(stays, stayed);
     }
     Ok(stayed)
+}
+
+// Counts up to `u64::MAX`.
+fn one_more_if(is_one: bool, count: u64) -> u64
+    ensures { result ≡ (if is_one then one_more count else count) }
+{
+    if is_one {
+        count.saturating_add(1)
+    } else {
+        count
+    }
+}
+
+// Does that with what has this name, if it is the name of an unfinished file, and answers whether it is one that stays.
+fn recover_entry<R: Files + Alloc<A = Global>, L: FinishedFiles>(
+    rt: &R,
+    folder: &Folder,
+    name: &str,
+    log: &mut L,
+) -> io::Result<bool>
+    ensures ok { IfOk result (SomeIsLookedAfter R.File.remaining L.tells log.old log.new) }
+    ensures err { OnErr result (log.new ≡ log.old) }
+{
+    let Some(told) = read_unfinished_name(name) else {
+        return Ok(false);
+    };
+    let path = path_in(rt.alloc(), folder.unfinished(), name)?;
+    Ok(recover_file(rt, folder, path.as_str(), &told, log))
 }
 
 // Gives a file its final name, tells what became of it, and answers whether it stays among those that aren't finished.
@@ -38,23 +68,36 @@ fn recover_file<R: Files + Alloc<A = Global>, L: FinishedFiles>(
     path: &str,
     name: &UnfinishedName<'_>,
     log: &mut L,
-) -> bool {
-    let settled = settle(rt, folder, path, name);
-    let stays = settled.is_err();
-    match settled {
-        Ok(Settled::Placed(path, outcome)) => log.recovered(path.as_str(), outcome),
-        Ok(Settled::Removed(0)) => {}
-        Ok(Settled::Removed(octets)) => log.recovered(path, Recovered::Removed(octets)),
-        Err(_) => log.recovered(path, Recovered::Stayed),
+) -> bool
+    ensures { IsLookedAfter R.File.remaining L.tells path.now log.old result log.new }
+{
+    // (a line that can't be written stops nothing)
+    match settle(rt, folder, path, name) {
+        Ok(Settled::Placed { path, report, end }) => {
+            let _ = log.recovered(path.as_str(), Recovered::Placed { report, end });
+            false
+        }
+        Ok(Settled::Removed(0)) => false,
+        Ok(Settled::Removed(octets)) => {
+            let _ = log.recovered(path, Recovered::Removed(octets));
+            false
+        }
+        Err(_) => {
+            let _ = log.recovered(path, Recovered::Stayed);
+            true
+        }
     }
-    stays
 }
 
 /// What was done with a file.
 #[derive(Drop)]
 enum Settled {
     /// It has this path now.
-    Placed(String, Recovered),
+    Placed {
+        path: String,
+        report: FileReport,
+        end: FileEnd,
+    },
     /// It is gone, with so many octets.
     Removed(u64),
 }
@@ -66,7 +109,9 @@ fn settle<R: Files + Alloc<A = Global>>(
     folder: &Folder,
     path: &str,
     name: &UnfinishedName<'_>,
-) -> io::Result<Settled> {
+) -> io::Result<Settled>
+    ensures { IfOk result (HasOwnReport R.File.remaining) }
+{
     if !fs::symlink_metadata(rt, path)?.is_file() {
         return Err(io::Error::from(ErrorKind::InvalidInput));
     }
@@ -80,11 +125,13 @@ fn settle<R: Files + Alloc<A = Global>>(
     let end = cut_off(&file, whole, more);
     file.sync_all()?;
     let path = place_file(rt, rt.alloc(), folder, path, name.period, name.session)?;
-    Ok(Settled::Placed(path, Recovered::Placed { report, end }))
+    Ok(Settled::Placed { path, report, end })
 }
 
 // Cuts the octets after its whole messages off a file, if that can be done.
-fn cut_off<F: OpenFile>(file: &F, whole: u64, more: u64) -> FileEnd {
+fn cut_off<F: OpenFile>(file: &F, whole: u64, more: u64) -> FileEnd
+    ensures { EndsAfter more result }
+{
     if more == 0 {
         return FileEnd::Whole;
     }

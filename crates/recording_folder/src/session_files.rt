@@ -1,7 +1,8 @@
 //! The files of a session in a folder of recordings.
 
-ghost use Rattle.std.specs.Prelude.{◌≡◌, None};
-ghost use Rattle.recording_files.specs.Files.{FilesView};
+ghost use Rattle.std.specs.Prelude.{◌≡◌};
+ghost use Rattle.recording_files.specs.Files.{FilesView, Turns};
+ghost use Rattle.recording_folder.specs.EndedFiles.{EndsFile, EndsLast, TurnsFile, hidden};
 
 use crate::ended_file::{EndedFile, FileFinisher};
 use crate::filed_session::FiledSession;
@@ -39,8 +40,8 @@ impl<'a, R: Files, K: FileFinisher<R::File>> SessionFiles<'a, R, K> {
         period: Arc<ToldPeriod>,
         finisher: K,
     ) -> Self
-        ensures { ⟦<SessionFiles<'a, R, K> as FileSeries>⟧.seen result
-            ≡ record { contents = None; failed = 0 } }
+        ensures session { result.session ≡ session }
+        ensures failed { result.failed ≡ 0 }
     {
         SessionFiles {
             rt,
@@ -56,7 +57,9 @@ impl<'a, R: Files, K: FileFinisher<R::File>> SessionFiles<'a, R, K> {
 
     /// Finishes the last file, if there is one, or has it finished; if it is empty it goes away. After an `Err`
     /// it, or an earlier one, stays among those that aren't finished.
-    pub fn finish(mut self, last: &FileReport) -> Result<(), NotWritten> {
+    pub fn finish(mut self, last: &FileReport) -> Result<(), NotWritten>
+        ensures { EndsLast K.finishes self.entry.unfinished last.now result self.entry.finisher }
+    {
         let ended = self.end_file(last, false);
         if self.session.has_failed() {
             return Err(NotWritten);
@@ -107,10 +110,12 @@ impl<'a, R: Files, K: FileFinisher<R::File>> SessionFiles<'a, R, K> {
         Ok(UnfinishedFile::new(file, path, period, session))
     }
 
-    // Finishes the file that isn't finished yet, if there is one, or has it finished unless the next one will
-    // have its name. If that fails it stays.
+    // Ends the file that isn't finished yet, if there is one, which has this report. If it can't be finished it
+    // stays.
     fn end_file(&mut self, report: &FileReport, has_next: bool) -> Result<(), NotWritten>
-        ensures { self.new.failed ≡ self.old.failed }
+        ensures failed { self.new.failed ≡ self.old.failed }
+        ensures ends { EndsFile K.finishes self.old.unfinished report.now result
+            self.old.finisher self.new.finisher }
     {
         let Some(unfinished) = self.unfinished.take() else {
             return Ok(());
@@ -120,11 +125,7 @@ impl<'a, R: Files, K: FileFinisher<R::File>> SessionFiles<'a, R, K> {
             unfinished,
             report: *report,
         };
-        let finished = if gives_name {
-            self.finisher.finish(ended)
-        } else {
-            self.finisher.finish_or_queue(ended)
-        };
+        let finished = self.finish_or_queue(ended, gives_name);
         match finished {
             Ok(()) => Ok(()),
             Err(ended) => {
@@ -133,10 +134,38 @@ impl<'a, R: Files, K: FileFinisher<R::File>> SessionFiles<'a, R, K> {
             }
         }
     }
+
+    // Does the same where another file follows, unless an earlier one could not be finished.
+    fn try_to_turn(&mut self, report: &FileReport) -> Result<(), NotWritten>
+        ensures failed { self.new.failed ≡ self.old.failed }
+        ensures ends { TurnsFile K.finishes self.old.unfinished report.now result
+            self.old.finisher self.new.finisher }
+    {
+        if self.session.has_failed() {
+            return Err(NotWritten);
+        }
+        self.end_file(report, true)
+    }
+
+    // Finishes a file, or has it finished unless the next one will have its name.
+    fn finish_or_queue(
+        &mut self,
+        ended: EndedFile<R::File>,
+        gives_name: bool,
+    ) -> Result<(), EndedFile<R::File>>
+        ensures failed { self.new.failed ≡ self.old.failed }
+        ensures finishes { K.finishes self.old.finisher ended result self.new.finisher }
+    {
+        if gives_name {
+            self.finisher.finish(ended)
+        } else {
+            self.finisher.finish_or_queue(ended)
+        }
+    }
 }
 
 impl<'a, R: Files, K: FileFinisher<R::File>> FileSeries for SessionFiles<'a, R, K> {
-    ghost seen = { λ f. record { contents = None; failed = f.failed } };
+    ghost seen = { λ f. hidden f.failed };
 
     fn append(&mut self, octets: &[u8]) -> Result<(), NotWritten> {
         if self.session.has_failed() || self.write(octets).is_err() {
@@ -146,11 +175,15 @@ impl<'a, R: Files, K: FileFinisher<R::File>> FileSeries for SessionFiles<'a, R, 
         Ok(())
     }
 
-    fn turn(&mut self, report: &FileReport) -> Result<(), NotWritten> {
-        if self.session.has_failed() || self.end_file(report, true).is_err() {
+    fn turn(&mut self, report: &FileReport) -> Result<(), NotWritten>
+        ensures turns { Turns result report.now (hidden self.old.failed) (hidden self.new.failed) }
+        ensures ends { TurnsFile K.finishes self.old.unfinished report.now result
+            self.old.finisher self.new.finisher }
+    {
+        let turned = self.try_to_turn(report);
+        if turned.is_err() {
             self.failed = self.failed.saturating_add(1);
-            return Err(NotWritten);
         }
-        Ok(())
+        turned
     }
 }

@@ -49,8 +49,7 @@ impl<'a, R: Clock> SystemPeriods<'a, R> {
     // A clock whose period is the one that it told to the files.
     pub(crate) fn new(rt: &'a R, every: u64, told: Arc<ToldPeriod>) -> Self
         requires { 0 < every }
-        ensures { ⟦<SystemPeriods<'a, R> as PeriodClock>⟧.asked result
-            ≡ record { asked = 0; over = 0 } }
+        ensures { (result.asked ≡ 0) × (result.over ≡ 0) }
     {
         let latest = LatestPeriod { period: told.get() };
         SystemPeriods {

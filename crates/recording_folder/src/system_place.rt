@@ -1,6 +1,8 @@
 //! What a session needs of the system to be recorded.
 
-ghost use Rattle.std.specs.Prelude.{◌≡◌, ◌<◌, None, IfOk};
+ghost use Rattle.std.specs.Prelude.{◌≡◌, ◌<◌, IfOk};
+ghost use Rattle.std.specs.Arc.{arc_value};
+ghost use Rattle.recording_folder.specs.SessionNames.{IsNamed};
 
 use crate::ended_file::{FileFinisher, FolderFinisher};
 use crate::filed_session::FiledSession;
@@ -9,7 +11,7 @@ use crate::session_files::SessionFiles;
 use crate::session_names::session_name;
 use crate::system_periods::{SystemPeriods, period_now};
 use crate::told_period::ToldPeriod;
-use recording_files::{FileSeries, FinishedFiles, PeriodClock};
+use recording_files::FinishedFiles;
 use std::alloc::{AllocError, Global};
 use std::fs::Files;
 use std::net::SocketAddr;
@@ -56,12 +58,9 @@ impl<'a, R: Files + Clock> SystemPlace<'a, R> {
         number: u64,
         log: L,
     ) -> Result<SystemSession<'a, R, FolderFinisher<'a, R, L>>, AllocError>
-        ensures files { IfOk result (λ session.
-            ⟦<SessionFiles<'a, R, FolderFinisher<'a, R, L>> as FileSeries>⟧.seen session.files
-            ≡ record { contents = None; failed = 0 }) }
-        ensures periods { IfOk result (λ session.
-            ⟦<SystemPeriods<'a, R> as PeriodClock>⟧.asked session.periods
-            ≡ record { asked = 0; over = 0 }) }
+        ensures session { IfOk result (λ s. IsNamed (arc_value s.files.session) peer number) }
+        ensures failed { IfOk result (λ s. s.files.failed ≡ 0) }
+        ensures periods { IfOk result (λ s. (s.periods.asked ≡ 0) × (s.periods.over ≡ 0)) }
     {
         let periods = self.periods(alloc)?;
         let finisher = self.finisher(alloc, log);
@@ -71,9 +70,7 @@ impl<'a, R: Files + Clock> SystemPlace<'a, R> {
 
     /// A clock whose period begins now.
     pub fn periods(&self, alloc: Global) -> Result<SystemPeriods<'a, R>, AllocError>
-        ensures { IfOk result (λ periods.
-            ⟦<SystemPeriods<'a, R> as PeriodClock>⟧.asked periods
-            ≡ record { asked = 0; over = 0 }) }
+        ensures { IfOk result (λ periods. (periods.asked ≡ 0) × (periods.over ≡ 0)) }
     {
         let told = Arc::new(alloc, ToldPeriod::new(period_now(self.rt, self.every)))?;
         Ok(SystemPeriods::new(self.rt, self.every, told))
@@ -89,9 +86,8 @@ impl<'a, R: Files + Clock> SystemPlace<'a, R> {
         periods: &SystemPeriods<'a, R>,
         finisher: K,
     ) -> Result<SessionFiles<'a, R, K>, AllocError>
-        ensures { IfOk result (λ files.
-            ⟦<SessionFiles<'a, R, K> as FileSeries>⟧.seen files
-            ≡ record { contents = None; failed = 0 }) }
+        ensures session { IfOk result (λ files. IsNamed (arc_value files.session) peer number) }
+        ensures failed { IfOk result (λ files. files.failed ≡ 0) }
     {
         let name = session_name(alloc, peer, number)?;
         let session = Arc::new(alloc, FiledSession::new(name))?;

@@ -1,5 +1,8 @@
 //! A file that isn't finished.
 
+ghost use Rattle.std.specs.Prelude.{◌≡◌, ◌↔◌, ◌+◌, length, IsTrue, OnErr, OnOk};
+ghost use Rattle.ipfix_session.specs.Ledger.{capped};
+
 use crate::filed_session::FiledSession;
 use crate::period::Period;
 use std::fs::OpenFile;
@@ -34,12 +37,17 @@ impl<F: Write + OpenFile + Drop> UnfinishedFile<F> {
     }
 
     // Whether nothing was written.
-    pub(crate) fn is_empty(&self) -> bool {
+    pub(crate) fn is_empty(&self) -> bool
+        ensures { IsTrue result ↔ (self.now.length ≡ 0) }
+    {
         self.length == 0
     }
 
     // Writes octets at its end. Where not all are written, it is cut back if it can be.
-    pub(crate) fn append(&mut self, octets: &[u8]) -> io::Result<()> {
+    pub(crate) fn append(&mut self, octets: &[u8]) -> io::Result<()>
+        ensures ok { OnOk result (self.new.length ≡ capped (self.old.length + length octets.now)) }
+        ensures err { OnErr result (self.new.length ≡ self.old.length) }
+    {
         self.mend()?;
         let Some(file) = &mut self.file else {
             return Err(io::Error::from(ErrorKind::InvalidInput));
@@ -55,7 +63,10 @@ impl<F: Write + OpenFile + Drop> UnfinishedFile<F> {
     }
 
     // Brings its octets to the disk, and no others, and closes it.
-    pub(crate) fn close(&mut self) -> io::Result<()> {
+    pub(crate) fn close(&mut self) -> io::Result<()>
+        ensures length { self.new.length ≡ self.old.length }
+        ensures path { self.new.path ≡ self.old.path }
+    {
         self.mend()?;
         if let Some(file) = &self.file {
             file.sync_all()?;
@@ -65,7 +76,10 @@ impl<F: Write + OpenFile + Drop> UnfinishedFile<F> {
     }
 
     // Cuts off what a write that failed may have left.
-    fn mend(&mut self) -> io::Result<()> {
+    fn mend(&mut self) -> io::Result<()>
+        ensures length { self.new.length ≡ self.old.length }
+        ensures path { self.new.path ≡ self.old.path }
+    {
         match &self.file {
             Some(file) if self.is_torn => {
                 file.set_len(self.length)?;

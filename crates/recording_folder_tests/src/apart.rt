@@ -1,5 +1,7 @@
 //! Files that wait to be finished apart from their session.
 
+ghost use Rattle.std.specs.Prelude.{⊤};
+
 use super::kept_files::KeptFiles;
 use super::refusals::{NO_DESCRIPTOR, NO_SPACE, Reach, Refusal};
 use super::script_disk::Disk;
@@ -34,14 +36,20 @@ fn take_waiting<'a>(queue: &Queue<'a>) -> Option<EndedFile<DiskFile<'a>>> {
 }
 
 impl<'q, 'a> FileFinisher<DiskFile<'a>> for QueueFinisher<'q, 'a> {
-    fn finish(&mut self, ended: EndedFile<DiskFile<'a>>) -> Result<(), EndedFile<DiskFile<'a>>> {
+    ghost finishes = { λ _ _ _ _. ⊤ };
+
+    fn finish(&mut self, ended: EndedFile<DiskFile<'a>>) -> Result<(), EndedFile<DiskFile<'a>>>
+        ensures { ⊤ }
+    {
         self.at_once.finish(ended)
     }
 
     fn finish_or_queue(
         &mut self,
         ended: EndedFile<DiskFile<'a>>,
-    ) -> Result<(), EndedFile<DiskFile<'a>>> {
+    ) -> Result<(), EndedFile<DiskFile<'a>>>
+        ensures { ⊤ }
+    {
         let Ok(mut queue) = self.queue.try_borrow_mut() else {
             return Err(ended);
         };

@@ -6,7 +6,7 @@ use super::refusals::{NO_ENTRY, NO_SPACE, NOT_PERMITTED, Reach, Refusal};
 use super::script_file::lent;
 use super::script_tree::{Entry, NamesLeft};
 use super::sessions::{FIRST, FIRST_TWO, FOURTH, SECOND, THIRD};
-use super::trial::{MANY_CALLS, Trial};
+use super::trial::{MANY_CALLS, Trial, cut_at_each_call};
 use recording_folder::{Folder, open_folder, recover};
 use std::io::{self, ErrorKind};
 use std::test::*;
@@ -191,24 +191,10 @@ fn whole_messages_of_an_earlier_run_stay_wherever_the_next_is_killed(
     Ok(())
 }
 
-// Cuts the power at each call in turn, until a run comes to its end: whether one did.
-fn try_each_call(rt: &HostRuntime, folder: &Folder, left: NamesLeft) -> Result<bool, Fail> {
-    for first in 0..MANY_CALLS {
-        if !try_power_cut(rt, folder, first, left)? {
-            return Ok(true);
-        }
-    }
-    Ok(false)
-}
-
 #[test]
 fn whole_messages_of_an_earlier_run_outlive_a_power_cut(rt: HostRuntime) -> Result<(), Fail> {
     let folder = open_folder(&rt, rt.alloc(), "recordings")?;
-    for left in NamesLeft::EACH {
-        let has_ended = try_each_call(&rt, &folder, left)?;
-        assert!(rt; has_ended);
-    }
-    Ok(())
+    cut_at_each_call(|first, left| try_power_cut(&rt, &folder, first, left))
 }
 
 #[test]

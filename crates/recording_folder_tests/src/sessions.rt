@@ -7,7 +7,7 @@ use super::script_disk::Disk;
 use super::script_file::lent;
 use super::script_tree::NamesLeft;
 use super::standing::{Notes, check};
-use super::trial::{MANY_CALLS, NEXT_PERIOD, Trial};
+use super::trial::{MANY_CALLS, NEXT_PERIOD, Trial, cut_at_each_call};
 use recording_files::{FileReport, NotWritten, PeriodClock};
 use recording_folder::{
     Folder, FolderFinisher, SessionFiles, SystemPeriods, SystemPlace, SystemSession, open_folder,
@@ -198,22 +198,8 @@ fn a_file_stands_whole_where_a_disk_has_no_hard_links(rt: HostRuntime) -> Result
     Ok(())
 }
 
-// Cuts the power at each call in turn, until a run comes to its end: whether one did.
-fn try_each_call(rt: &HostRuntime, folder: &Folder, left: NamesLeft) -> Result<bool, Fail> {
-    for first in 0..MANY_CALLS {
-        if !try_power_cut(rt, folder, first, left)? {
-            return Ok(true);
-        }
-    }
-    Ok(false)
-}
-
 #[test]
 fn a_file_that_was_said_to_be_finished_outlives_a_power_cut(rt: HostRuntime) -> Result<(), Fail> {
     let folder = open_folder(&rt, rt.alloc(), "recordings")?;
-    for left in NamesLeft::EACH {
-        let has_ended = try_each_call(&rt, &folder, left)?;
-        assert!(rt; has_ended);
-    }
-    Ok(())
+    cut_at_each_call(|first, left| try_power_cut(&rt, &folder, first, left))
 }

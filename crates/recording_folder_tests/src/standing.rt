@@ -4,6 +4,7 @@ use super::script_tree::{Entry, Name, Tree};
 use recording_files::{FileReport, FinishedFiles, Recovered};
 use std::alloc::{AllocError, Global};
 use std::cell::RefCell;
+use std::io;
 use std::test::Fail;
 
 /// Notes what is said of files, a line each: of one that was recovered how it ends, its messages, their records, and how
@@ -26,15 +27,21 @@ impl<'a> Notes<'a> {
 }
 
 impl<'a> FinishedFiles for Notes<'a> {
-    fn finished(&mut self, path: &str, _report: &FileReport) {
+    ghost use Rattle.std.specs.Prelude.{⊤};
+
+    ghost tells = { λ _ _ _ _. ⊤ };
+
+    fn finished(&mut self, path: &str, _report: &FileReport) -> io::Result<()> {
         self.note(format!(in self.alloc; "finished {path}"));
+        Ok(())
     }
 
-    fn not_finished(&mut self, path: &str) {
+    fn not_finished(&mut self, path: &str) -> io::Result<()> {
         self.note(format!(in self.alloc; "not finished {path}"));
+        Ok(())
     }
 
-    fn recovered(&mut self, path: &str, outcome: Recovered) {
+    fn recovered(&mut self, path: &str, outcome: Recovered) -> io::Result<()> {
         let line = match outcome {
             Recovered::Placed { report, end } => {
                 let FileReport {
@@ -48,6 +55,7 @@ impl<'a> FinishedFiles for Notes<'a> {
             outcome => format!(in self.alloc; "{outcome:?} {path}"),
         };
         self.note(line);
+        Ok(())
     }
 }
 

@@ -172,3 +172,29 @@ impl<'a> Trial<'a> {
         check_settled(&tree, &outlive.files, case)
     }
 }
+
+/// Cuts the power at each call in turn, until a run comes to its end, whatever names are left. `cut_at` makes a run whose
+/// power is cut at a call, and answers whether it came to that call.
+pub fn cut_at_each_call<F: Fn(u64, NamesLeft) -> Result<bool, Fail>>(cut_at: F) -> Result<(), Fail>
+    requires { F.IsAlwaysCallable cut_at }
+{
+    for left in NamesLeft::EACH {
+        cut_until_the_end(&cut_at, left)?;
+    }
+    Ok(())
+}
+
+// The same where these names are left.
+fn cut_until_the_end<F: Fn(u64, NamesLeft) -> Result<bool, Fail>>(
+    cut_at: &F,
+    left: NamesLeft,
+) -> Result<(), Fail>
+    requires { F.IsAlwaysCallable cut_at.now }
+{
+    for first in 0..MANY_CALLS {
+        if !cut_at(first, left)? {
+            return Ok(());
+        }
+    }
+    Err(Fail::new("no run came to its end"))
+}

@@ -4,6 +4,7 @@ use Rattle.std.specs.List.{flat_map}
 use Rattle.std.specs.Net.Text.{socket_text}
 use Rattle.std.specs.declared.net.socket_addr.SocketAddr.{SocketAddr}
 use Rattle.ipfix_session.specs.declared.report.DomainReport.{DomainReport}
+use Rattle.recording_files.specs.Notices.{FileNotice, Finished, LookedAfter, NotFinished}
 use Rattle.recording_files.specs.declared.file_report.FileReport.{FileReport}
 use Rattle.recording_files.specs.declared.finished_files.FileEnd.{FileEnd}
 use Rattle.recording_files.specs.declared.finished_files.FileEnd.TheVariants.{Whole, CutOff, Truncated}
@@ -119,6 +120,13 @@ abbrev pub outcome_line : List ℕ → Recovered → List ℕ
 outcome_line path (Placed r end) = recovered_line path r end
 outcome_line path (Removed octets) = removed_line path octets
 outcome_line path Stayed = stayed_line path
+
+-- ---- what is told of files
+
+abbrev pub notice_line : FileNotice → List ℕ
+notice_line (Finished path report) = finished_line path report
+notice_line (NotFinished path) = not_finished_line path
+notice_line (LookedAfter path outcome) = outcome_line path outcome
 
 -- ---- threads that could not be started
 

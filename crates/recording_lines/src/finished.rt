@@ -1,22 +1,29 @@
 //! Files that are finished have a line each.
 
+ghost use Rattle.recording_lines.specs.RecordLines.{notice_line};
+ghost use Rattle.report_writing.specs.Writing.{Tells};
+
 use crate::file_lines::{write_finished, write_not_finished};
 use crate::recovered_lines::write_outcome;
 use crate::whole_lines::WholeLines;
 use recording_files::{FileReport, FinishedFiles, Recovered};
-use std::io::Write;
+use report_writing::WriteLines;
+use std::io::{self, Write};
 
 impl<E: Write + Drop> FinishedFiles for WholeLines<E> {
-    fn finished(&mut self, path: &str, report: &FileReport) {
-        // (a line that can't be written stops nothing)
-        let _ = write_finished(path, report, self);
+    ghost tells = { λ before notice told after.
+        Tells ⟦<WholeLines<E> as WriteLines>⟧.contents ⟦<WholeLines<E> as WriteLines>⟧.failed
+        before after told (notice_line notice) };
+
+    fn finished(&mut self, path: &str, report: &FileReport) -> io::Result<()> {
+        write_finished(path, report, self)
     }
 
-    fn not_finished(&mut self, path: &str) {
-        let _ = write_not_finished(path, self);
+    fn not_finished(&mut self, path: &str) -> io::Result<()> {
+        write_not_finished(path, self)
     }
 
-    fn recovered(&mut self, path: &str, outcome: Recovered) {
-        let _ = write_outcome(path, outcome, self);
+    fn recovered(&mut self, path: &str, outcome: Recovered) -> io::Result<()> {
+        write_outcome(path, outcome, self)
     }
 }

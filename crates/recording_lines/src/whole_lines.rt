@@ -9,8 +9,8 @@ use report_writing::WriteLines;
 use std::fmt::Display;
 use std::io::{self, Write};
 
-/// How many octets a line has at most. A path that the system takes has 4,095, one that it lists in such a
-/// folder 256 more, and what stands beside a path has 260.
+/// How many octets a line has at most. A path that the system takes has 4,095, and at most 259 stand beside it. A path
+/// that it lists in such a folder has 256 more, and at most 81 stand beside that.
 const LINE_ROOM: usize = 4608;
 
 /// Writes each line to a writer in one piece, by one call, so that the lines of several threads stay whole. No line

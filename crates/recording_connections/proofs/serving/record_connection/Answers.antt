@@ -1,8 +1,7 @@
-use Rattle.std.proofs.Common.{inl, inr}
+use Rattle.std.proofs.Common.{ℕ, Ok, inl, subst}
 use Rattle.recording_connections.proofs.serving.record_connection.Goals as goal
 
 pub returns-in-Ok : goal.returns-in-Ok
-returns-in-Ok g c = inl (c.in-Ok.recording, c.record_source.new.source, c.in-Ok.ensures.made, c.record_source.ensures)
-
-pub returns : goal.returns
-returns g c = inr c.write_fault.ensures
+returns-in-Ok g c =
+    let Makes = λ (number : ℕ). g.P.SessionPlace.makes c.args.place.now c.args.connection.now.peer number (Ok c.in-Ok.recording) in
+    inl (c.in-Ok.recording, subst Makes c.get.ensures c.in-Ok.ensures.made, c.record_source.ensures)
