@@ -16,7 +16,7 @@ use Rattle.recording_order.proofs.Bags.{passing-waiting, answered-waiting, all_t
 -- ---- where one of a domain waits, there is a least one
 
 -- it stands below an index
-abbrev Below : ℕ → Option Least → Type 0
+abbrev pub Below : ℕ → Option Least → Type 0
 Below n None = Unit {0}
 Below n (Some l) = l.index < n
 
@@ -42,7 +42,7 @@ below-one_more domain due index o a below = by_test (is_in domain a)
     by_test true = below-lesser (index + 1) o (found_at index due a) more (omega arith)
     by_test false = more
 
-below-least : (domain due index : ℕ) (o : Option Least) (xs : List Arrival) → Below index o → Below (index + length xs) (least_from domain due index o xs)
+pub below-least : (domain due index : ℕ) (o : Option Least) (xs : List Arrival) → Below index o → Below (index + length xs) (least_from domain due index o xs)
 below-least domain due index o [] below = below-more index (index + 0) o (omega arith) below
 below-least domain due index o (a ∷ xs) below =
     below-more ((index + 1) + length xs) (index + suc (length xs)) (least_from domain due (index + 1) (one_more domain due index o a) xs) (omega arith)
@@ -78,7 +78,7 @@ pub record Goes (w : WindowView) (o : Option (Arrival × WindowView)) : Type 0 w
   pub is : o ≡ Some left
   pub fewer : length left.1.waiting + 1 ≡ length w.waiting
 
-goes-least : (w : WindowView) (l : Least) (o : Option Least) → o ≡ Some l → l.index < length w.waiting → Goes w (leaving w o)
+pub goes-least : (w : WindowView) (l : Least) (o : Option Least) → o ≡ Some l → l.index < length w.waiting → Goes w (leaving w o)
 goes-least w l o is below =
     elim (slice_get_cases w.waiting l.index).1 [
       | inl found ↦

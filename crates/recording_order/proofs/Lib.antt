@@ -1,8 +1,11 @@
+mod Counting
 mod DataSets
 mod Apart
+mod Asked
 mod Bags
 mod Bounds
 mod Ends
 mod InOrder
 mod Keeping
 mod Steps
+mod Ticks

@@ -9,15 +9,15 @@ use Rattle.recording_order.specs.Releases.{Run, Says, hand_on, go_on, empty_with
 use Rattle.recording_order.proofs.Bags.{Left, leaving-left, last_of-left, Offers, offered-offers, answered-waiting}
 
 -- each counts one
-abbrev ones : Arrival → ℕ
+abbrev pub ones : Arrival → ℕ
 ones a = 1
 
-sum-ones : (xs : List Arrival) → sum_by ones xs ≡ length xs
+pub sum-ones : (xs : List Arrival) → sum_by ones xs ≡ length xs
 sum-ones [] = refl
 sum-ones (x ∷ xs) = let more = sum-ones xs in omega (arith, sum_by-cons ones x xs, more)
 
 -- one fewer waits once one is handed on
-handed : (says : Says) (x : Arrival × WindowView) (r : Run) → sum_by ones x.1.waiting + 1 ≡ sum_by ones r.window.waiting → suc (length (hand_on says x.0 x.1 r).window.waiting) ≡ length r.window.waiting
+pub handed : (says : Says) (x : Arrival × WindowView) (r : Run) → sum_by ones x.1.waiting + 1 ≡ sum_by ones r.window.waiting → suc (length (hand_on says x.0 x.1 r).window.waiting) ≡ length r.window.waiting
 handed says x r left =
     let same = ap length (answered-waiting x.1 x.0 (says (length r.handed_on))) in
     omega (arith, left, same, sum-ones x.1.waiting, sum-ones r.window.waiting)

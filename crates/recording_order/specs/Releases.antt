@@ -1,5 +1,5 @@
 -- In which order a peer's datagrams are handed on to the recorder, over a whole run.
-use Rattle.std.specs.Prelude.{ℕ, zero, suc, ◌+◌, Option, Some, None, List, [], ◌∷◌, ◌++◌, length, flat_map}
+use Rattle.std.specs.Prelude.{◌≡◌, ◌<◌, ◌≤◌, ℕ, zero, suc, ◌+◌, Option, Some, None, List, [], ◌∷◌, ◌++◌, length, flat_map}
 use Rattle.recording_order.specs.Arrivals.{Arrival}
 use Rattle.recording_order.specs.Windows.{WindowView, Offered, offered, after_writing, next_of, late_domain, least_in, last_of}
 use Rattle.recording_order.specs.declared.datagram_counts.DatagramCounts.{DatagramCounts}
@@ -21,6 +21,10 @@ came es = flat_map came_in es
 -- what the recorder says of each datagram that is handed on to it, by how many were before: none where it refuses it
 abbrev pub Says : Type 0
 Says = ℕ → Option DatagramCounts
+
+-- two recorders say the same of the datagrams from one number up to below another
+abbrev pub Agree : Says → Says → ℕ → ℕ → Type 0
+Agree says tells from to = (n : ℕ) → from ≤ n → n < to → says n ≡ tells n
 
 -- what is kept, and the datagrams that were handed on and those that were doubled, each in turn
 pub record Run : Type 0 where

@@ -19,7 +19,7 @@ use Rattle.recording_order.specs.declared.numbering.Standing.TheVariants.{AtOnce
 use Rattle.recording_order.specs.declared.offer.Offer.{Offer}
 use Rattle.recording_order.specs.declared.offer.Offer.TheVariants.{Write, Waits, Doubled, First, Anew}
 
--- for how many seconds a datagram waits; the numbers of each domain; the datagrams that wait, in the order in which they came; and
+-- for how many seconds a datagram waits at least; the numbers of each domain; the datagrams that wait, in the order in which they came; and
 -- the last ones that were written at the due number
 pub record WindowView : Type 0 where
   pub seconds : ℕ
@@ -80,7 +80,7 @@ leaving w (Some l) = option_map (λ a. (a, without w l.index a)) (slice_get w.wa
 
 -- the least of a domain is to be written at this second: it is at the due number or before that, or none is due, or its time is over
 abbrev pub is_ripe : WindowView → ℕ → ℕ → Least → Bool
-is_ripe w domain second l = not (is_due w domain) || (nat_le l.place (2 ^ 31) || nat_le w.seconds (second - l.second))
+is_ripe w domain second l = not (is_due w domain) || (nat_le l.place (2 ^ 31) || nat_lt w.seconds (second - l.second))
 
 abbrev pub if_ripe : WindowView → ℕ → ℕ → Option Least → Option Least
 if_ripe w domain second None = None
@@ -94,7 +94,7 @@ next_of w domain second = leaving w (ripe w domain second)
 
 -- the domain of the first whose time is over, where the least of its domain is to be written
 abbrev pub is_late : WindowView → ℕ → Arrival → Bool
-is_late w second a = nat_le w.seconds (second - a.second) && is_some (ripe w a.header.domain second)
+is_late w second a = nat_lt w.seconds (second - a.second) && is_some (ripe w a.header.domain second)
 
 abbrev pub late_domain : WindowView → ℕ → Option ℕ
 late_domain w second = option_map (λ a. a.header.domain) (find (is_late w second) w.waiting)

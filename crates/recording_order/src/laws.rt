@@ -1,13 +1,13 @@
 //! Laws of the definitions. Each is a function that does nothing, and its contract is the theorem: a
 //! call brings that to the proof of its caller.
 
-ghost use Rattle.std.specs.Prelude.{◌≡◌, ◌≢◌, ◌+◌, ℕ, List, [], Some, None, sum_by};
+ghost use Rattle.std.specs.Prelude.{◌≡◌, ◌≢◌, ◌+◌, ◌++◌, ◌<◌, ℕ, List, [], Some, None, length, sum_by};
 ghost use Rattle.recording_order.specs.Arrivals.{Arrival};
 ghost use Rattle.recording_order.specs.Bounds.{IsBounded};
 ghost use Rattle.recording_order.specs.Domains.{LeavesDomain};
 ghost use Rattle.recording_order.specs.InOrder.{AreNext};
-ghost use Rattle.recording_order.specs.Releases.{Event, Came, Run, Says, came, empty, finish, hand_on, released, run, settle, start, step, take_run};
-ghost use Rattle.recording_order.specs.Windows.{WindowView, last_of, least_in, next_of, offered};
+ghost use Rattle.recording_order.specs.Releases.{Agree, Event, Came, Run, Says, came, empty, finish, hand_on, released, run, settle, start, step, take_run, tick};
+ghost use Rattle.recording_order.specs.Windows.{WindowView, last_of, late_domain, least_in, next_of, offered};
 ghost use Rattle.recording_order.specs.declared.offer.Offer.TheVariants.{First};
 ghost use Rattle.recording_order.specs.declared.limits.TheConstants.{MOST_LAST, MOST_WAITING, ROOM};
 ghost use Rattle.recording_order.specs.declared.numbering.TheConstants.{FARTHEST};
@@ -64,6 +64,24 @@ pub fn limits()
     ensures farthest { FARTHEST ≡ 65536 }
 {}
 
+/// A run depends only on what is said of the datagrams that were handed on in it, and what was handed on
+/// stays.
+pub fn only_what_was_handed_on_is_asked()
+    ensures run { (says tells : Says) (seconds : ℕ) (es : List Event)
+        → Agree says tells 0 (length (run says seconds es).handed_on)
+        → run says seconds es ≡ run tells seconds es }
+    ensures step { (says tells : Says) (r : Run) (e : Event)
+        → Agree says tells (length r.handed_on) (length (step says r e).handed_on)
+        → step says r e ≡ step tells r e }
+    ensures finish { (says tells : Says) (r : Run)
+        → Agree says tells (length r.handed_on) (length (finish says r).handed_on)
+        → finish says r ≡ finish tells r }
+    ensures stepped { (says : Says) (r : Run) (e : Event)
+        → (more : List Arrival) × ((step says r e).handed_on ≡ r.handed_on ++ more) }
+    ensures finished { (says : Says) (r : Run)
+        → (more : List Arrival) × ((finish says r).handed_on ≡ r.handed_on ++ more) }
+{}
+
 /// A run goes on one datagram after another: where one leaves, the rest is as from the run after it was
 /// handed on, and where none does, all is done; so calls in a loop make the run.
 pub fn runs_go_one_by_one()
@@ -85,4 +103,32 @@ pub fn runs_go_one_by_one()
         → finish says r ≡ finish says (hand_on says x.0 x.1 r) }
     ensures finished { (says : Says) (r : Run)
         → last_of r.window r.window.waiting ≡ None → finish says r ≡ r }
+    ensures late { (says : Says) (second domain : ℕ) (r : Run)
+        → late_domain r.window second ≡ Some domain
+        → tick says second r ≡ tick says second (settle says domain second r) }
+    ensures ticked { (says : Says) (second : ℕ) (r : Run)
+        → late_domain r.window second ≡ None → tick says second r ≡ r }
+{}
+
+/// Where a datagram leaves, one fewer waits; handing one on changes nothing of that. Where a domain is late,
+/// fewer wait once it is settled, so a tick has at most as many rounds as datagrams wait. Where none waits,
+/// no domain is late, and none leaves.
+pub fn fewer_wait()
+    ensures first { (w v : WindowView) (a b : Arrival) → offered w a ≡ (First b, v)
+        → length v.waiting + 1 ≡ length w.waiting }
+    ensures next { (w : WindowView) (domain second : ℕ) (x : Arrival × WindowView)
+        → next_of w domain second ≡ Some x → length x.1.waiting + 1 ≡ length w.waiting }
+    ensures least { (w : WindowView) (domain : ℕ) (x : Arrival × WindowView)
+        → least_in w domain ≡ Some x → length x.1.waiting + 1 ≡ length w.waiting }
+    ensures last { (w : WindowView) (x : Arrival × WindowView)
+        → last_of w w.waiting ≡ Some x → length x.1.waiting + 1 ≡ length w.waiting }
+    ensures handed_on { (says : Says) (a : Arrival) (w : WindowView) (r : Run)
+        → (hand_on says a w r).window.waiting ≡ w.waiting }
+    ensures late { (says : Says) (second domain : ℕ) (r : Run)
+        → late_domain r.window second ≡ Some domain
+        → length (settle says domain second r).window.waiting < length r.window.waiting }
+    ensures none_late { (w : WindowView) (second : ℕ) → w.waiting ≡ [] → late_domain w second ≡ None }
+    ensures none_next { (w : WindowView) (domain second : ℕ)
+        → w.waiting ≡ [] → next_of w domain second ≡ None }
+    ensures none_least { (w : WindowView) (domain : ℕ) → w.waiting ≡ [] → least_in w domain ≡ None }
 {}

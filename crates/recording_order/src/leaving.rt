@@ -25,7 +25,7 @@ impl Window {
     {
         !self.is_due(domain)
             || least.place <= MIDDLE
-            || self.seconds <= second.saturating_sub(least.second)
+            || self.seconds < second.saturating_sub(least.second)
     }
 
     // The least of a domain, if it is to be written at a second.
@@ -43,12 +43,14 @@ impl Window {
     fn is_late(&self, second: u64, datagram: &Datagram) -> bool
         ensures { result ≡ specs.is_late self.now second datagram.now }
     {
-        self.seconds <= second.saturating_sub(datagram.second())
+        self.seconds < second.saturating_sub(datagram.second())
             && self.ripe(datagram.header().domain, second).is_some()
     }
 
     /// The next datagram of a domain that waited and is to be written at this second, if there is one: the
-    /// least, where it is due now, or its time is over. Then ask again, once it was written.
+    /// least, where it is due now, or its time is over. Then ask again, once it was written. Seconds are
+    /// whole, so the time of one is over once more than the seconds of the window lie between the second at
+    /// which it came and this one: it waits for at least that long, and for less than a second more.
     pub fn next(&mut self, domain: u32, second: u64) -> Option<Datagram>
         ensures { specs.Leaves (specs.next_of self.old domain second) self.old result self.new }
     {

@@ -37,8 +37,8 @@ impl Model for Window {
 }
 
 impl Window {
-    /// That of a peer of which nothing has come. A datagram waits for so many seconds; with 0 each is written
-    /// at once, and none is doubled.
+    /// That of a peer of which nothing has come. A datagram waits for at least so many seconds; with 0 each
+    /// is written at once, and none is doubled.
     pub fn new(alloc: Global, seconds: u64) -> Self
         ensures { result ≡ record { seconds = seconds; numbers = []; waiting = []; last = [] } }
     {

@@ -23,59 +23,61 @@ fn after(alloc: Global, all: &[Sent]) -> Result<Peer, Fail> {
     Ok(peer)
 }
 
-// The counts of the first domain.
-fn counts(peer: &Peer) -> Option<OrderCounts> {
-    if peer.window.domain_count() == 0 {
-        None
-    } else {
-        Some(peer.window.counts_at(0))
-    }
+// Asserts which counts a peer gives, and that they begin anew then.
+fn assert_counts(
+    rt: &impl Abort,
+    alloc: Global,
+    peer: &mut Peer,
+    expected: &[OrderCounts],
+) -> Result<(), Fail> {
+    let counts = peer.window.take_counts(alloc)?;
+    assert_eq!(rt; counts.as_slice(), expected);
+    assert_eq!(rt; peer.window.take_counts(alloc)?.len(), 0);
+    Ok(())
 }
 
-fn expected_counts(doubled: u64, reordered: u64) -> Option<OrderCounts> {
-    Some(OrderCounts {
-        domain: 1,
+const fn counts(domain: u32, doubled: u64, reordered: u64) -> OrderCounts {
+    OrderCounts {
+        domain,
         doubled,
         reordered,
-    })
+    }
 }
 
 #[test]
 fn what_comes_due_is_written_at_once(rt: HostRuntime) -> Result<(), Fail> {
-    let peer = after(rt.alloc(), &[ten(4_294_967_290), ten(4), ten(14)])?;
+    let mut peer = after(rt.alloc(), &[ten(4_294_967_290), ten(4), ten(14)])?;
     assert_written(&rt, &peer, &[4_294_967_290, 4, 14]);
-    assert_eq!(rt; counts(&peer), expected_counts(0, 0));
-    Ok(())
+    assert_counts(&rt, rt.alloc(), &mut peer, &[])
 }
 
 #[test]
 fn what_is_ahead_waits_for_what_is_due(rt: HostRuntime) -> Result<(), Fail> {
-    let peer = after(rt.alloc(), &[ten(0), ten(30), ten(20), ten(10), ten(40)])?;
+    let mut peer = after(rt.alloc(), &[ten(0), ten(30), ten(20), ten(10), ten(40)])?;
     assert_written(&rt, &peer, &[0, 10, 20, 30, 40]);
-    assert_eq!(rt; counts(&peer), expected_counts(0, 2));
-    Ok(())
+    assert_counts(&rt, rt.alloc(), &mut peer, &[counts(1, 0, 2)])
 }
 
 #[test]
 fn what_waits_goes_when_its_time_is_over(rt: HostRuntime) -> Result<(), Fail> {
     let alloc = rt.alloc();
     let mut peer = after(alloc, &[ten(0), ten(20), ten(30)])?;
-    peer.tick(alloc, 102)?;
-    assert_written(&rt, &peer, &[0]);
+    // It may have come at the end of second 100: at the beginning of 103 it hasn't waited for three seconds.
     peer.tick(alloc, 103)?;
+    assert_written(&rt, &peer, &[0]);
+    peer.tick(alloc, 104)?;
     assert_written(&rt, &peer, &[0, 20, 30]);
     // One that comes late is written at once.
-    peer.take(alloc, ten(10), 104)?;
+    peer.take(alloc, ten(10), 105)?;
     assert_written(&rt, &peer, &[0, 20, 30, 10]);
     Ok(())
 }
 
 #[test]
 fn one_that_came_already_is_dropped(rt: HostRuntime) -> Result<(), Fail> {
-    let peer = after(rt.alloc(), &[ten(0), ten(10), ten(10), ten(30), ten(30)])?;
+    let mut peer = after(rt.alloc(), &[ten(0), ten(10), ten(10), ten(30), ten(30)])?;
     assert_written(&rt, &peer, &[0, 10]);
-    assert_eq!(rt; counts(&peer), expected_counts(2, 0));
-    Ok(())
+    assert_counts(&rt, rt.alloc(), &mut peer, &[counts(1, 2, 0)])
 }
 
 #[test]
@@ -119,8 +121,8 @@ fn a_spoofed_number_delays_only_itself(rt: HostRuntime) -> Result<(), Fail> {
     let alloc = rt.alloc();
     let mut peer = after(alloc, &[ten(0), ten(50_000), ten(10), ten(30), ten(20)])?;
     assert_written(&rt, &peer, &[0, 10, 20, 30]);
-    peer.tick(alloc, 103)?;
-    peer.take_all(alloc, &[ten(40), ten(50)], 103)?;
+    peer.tick(alloc, 104)?;
+    peer.take_all(alloc, &[ten(40), ten(50)], 104)?;
     assert_written(&rt, &peer, &[0, 10, 20, 30, 50_000, 40, 50]);
     Ok(())
 }
@@ -128,16 +130,15 @@ fn a_spoofed_number_delays_only_itself(rt: HostRuntime) -> Result<(), Fail> {
 // Numbers of messages in place of records, and always 0.
 #[test]
 fn numbers_that_mean_little_keep_their_order(rt: HostRuntime) -> Result<(), Fail> {
-    let messages = after(
+    let mut messages = after(
         rt.alloc(),
         &[ten(0), ten(1), ten(2), ten(3), ten(4), ten(5)],
     )?;
     assert_written(&rt, &messages, &[0, 1, 2, 3, 4, 5]);
-    assert_eq!(rt; counts(&messages), expected_counts(0, 0));
-    let zeros = after(rt.alloc(), &[ten(0), ten(0), ten(0), ten(0)])?;
+    assert_counts(&rt, rt.alloc(), &mut messages, &[])?;
+    let mut zeros = after(rt.alloc(), &[ten(0), ten(0), ten(0), ten(0)])?;
     assert_written(&rt, &zeros, &[0, 0, 0, 0]);
-    assert_eq!(rt; counts(&zeros), expected_counts(0, 0));
-    Ok(())
+    assert_counts(&rt, rt.alloc(), &mut zeros, &[])
 }
 
 #[test]
@@ -197,10 +198,19 @@ fn with_no_seconds_each_is_written_as_it_comes(rt: HostRuntime) -> Result<(), Fa
     Ok(())
 }
 
+// Domain 2 is the first to have a datagram doubled, and domain 1 the first that appeared.
 #[test]
-fn the_counts_begin_anew(rt: HostRuntime) -> Result<(), Fail> {
-    let mut peer = after(rt.alloc(), &[ten(0), ten(10), ten(10)])?;
-    peer.window.begin_counts(1);
-    assert_eq!(rt; counts(&peer), expected_counts(0, 0));
-    Ok(())
+fn counts_are_of_domains_that_have_some(rt: HostRuntime) -> Result<(), Fail> {
+    let all = [
+        of_domain(1, 0),
+        of_domain(3, 0),
+        of_domain(2, 0),
+        of_domain(2, 10),
+        of_domain(2, 10),
+        of_domain(1, 20),
+        of_domain(1, 10),
+    ];
+    let mut peer = after(rt.alloc(), &all)?;
+    let expected = [counts(1, 0, 1), counts(2, 1, 0)];
+    assert_counts(&rt, rt.alloc(), &mut peer, &expected)
 }

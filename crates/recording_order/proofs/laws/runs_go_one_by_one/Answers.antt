@@ -1,4 +1,5 @@
 use Rattle.recording_order.proofs.Steps.{take-first, settle-next, settle-done, empty-next, empty-done, finish-next, finish-done}
+use Rattle.recording_order.proofs.Ticks.{tick-late, tick-done}
 use Rattle.recording_order.proofs.laws.runs_go_one_by_one.Goals as goal
 
 pub returns-clause-first : goal.returns-clause-first
@@ -21,3 +22,9 @@ returns-clause-last c = finish-next
 
 pub returns-clause-finished : goal.returns-clause-finished
 returns-clause-finished c = finish-done
+
+pub returns-clause-late : goal.returns-clause-late
+returns-clause-late c = tick-late
+
+pub returns-clause-ticked : goal.returns-clause-ticked
+returns-clause-ticked c = tick-done
