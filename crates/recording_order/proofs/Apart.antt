@@ -193,15 +193,15 @@ offered-offers e w a apart =
 -- ---- a run
 
 leaves-none : (e : ℕ) (r : Run) → LeavesDomain e r r
-leaves-none e r = record { window = keeps-all e r.window; handed_on = refl }
+leaves-none e r = record { window = keeps-all e r.window; handed_on = refl; doubled = refl }
 
 leaves-both : (e : ℕ) (r s t : Run) → LeavesDomain e r s → LeavesDomain e s t → LeavesDomain e r t
-leaves-both e r s t p q = record { window = keeps-both e r.window s.window t.window p.window q.window; handed_on = q.handed_on ∙ p.handed_on }
+leaves-both e r s t p q = record { window = keeps-both e r.window s.window t.window p.window q.window; handed_on = q.handed_on ∙ p.handed_on; doubled = q.doubled ∙ p.doubled }
 
 hand_on-leaves : (e d : ℕ) (says : Says) (a : Arrival) (w : WindowView) (r : Run) → e ≢ d → is_in d a ≡ true → KeepsDomain e r.window w → LeavesDomain e r (hand_on says a w r)
 hand_on-leaves e d says a w r apart here keeps =
     let c = says (length r.handed_on) in
-    record { window = keeps-both e r.window w (answered w a c) keeps (answered-keeps e d w a c apart here); handed_on = filter-push (is_in e) r.handed_on a (other e d a apart here) }
+    record { window = keeps-both e r.window w (answered w a c) keeps (answered-keeps e d w a c apart here); handed_on = filter-push (is_in e) r.handed_on a (other e d a apart here); doubled = refl }
 
 go_on-leaves : (e d : ℕ) (says : Says) (again : Run → Run) (r : Run) (o : Option (Arrival × WindowView)) → e ≢ d → Goes e d r.window o → ((s : Run) → LeavesDomain e s (again s)) → LeavesDomain e r (go_on again says r o)
 go_on-leaves e d says again r None apart goes more = leaves-none e r
@@ -231,14 +231,15 @@ anew-leaves e says a r apart =
 take_offered-leaves : (e : ℕ) (says : Says) (a : Arrival) (again : Run → Run) (r : Run) (o : Offer) (w : WindowView) → e ≢ a.header.domain → Offers e a.header.domain r.window (o, w)
     → ((s : Run) → LeavesDomain e s (again s)) → LeavesDomain e r (take_offered says a again r (o, w))
 take_offered-leaves e says a again r Write w apart offers more = hand_on-leaves e a.header.domain says a w r apart (itself a) offers
-take_offered-leaves e says a again r Waits w apart offers more = record { window = offers; handed_on = refl }
-take_offered-leaves e says a again r Doubled w apart offers more = record { window = offers; handed_on = refl }
+take_offered-leaves e says a again r Waits w apart offers more = record { window = offers; handed_on = refl; doubled = refl }
+take_offered-leaves e says a again r Doubled w apart offers more =
+    record { window = offers; handed_on = refl; doubled = filter-push (is_in e) r.doubled a (other e a.header.domain a apart (itself a)) }
 take_offered-leaves e says a again r (First b) w apart offers more =
     let s = hand_on says b w r in
     leaves-both e r s (again s) (hand_on-leaves e a.header.domain says b w r apart offers.0 offers.1) (more s)
 take_offered-leaves e says a again r Anew w apart offers more =
     let s : Run = record r { window = w } in
-    leaves-both e r s (begin_anew says a s) (record { window = offers; handed_on = refl }) (anew-leaves e says a s apart)
+    leaves-both e r s (begin_anew says a s) (record { window = offers; handed_on = refl; doubled = refl }) (anew-leaves e says a s apart)
 
 take_with-leaves : (e : ℕ) (says : Says) (a : Arrival) (fuel : ℕ) (r : Run) → e ≢ a.header.domain → LeavesDomain e r (take_with says a fuel r)
 take_with-leaves e says a zero r apart = hand_on-leaves e a.header.domain says a r.window r apart (itself a) (keeps-all e r.window)

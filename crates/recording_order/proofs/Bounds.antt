@@ -1,9 +1,9 @@
 -- What is kept of a peer is bounded.
-use Rattle.std.proofs.Common.{◌≡◌, ℕ, zero, suc, ◌+◌, ◌-◌, ◌<◌, ◌≤◌, Bool, true, false, eqb, leb, ltb, cond, Option, Some, None, List, [], ◌∷◌, ◌++◌, length, take, refl, ap, subst, arith}
-use Rattle.std.specs.Prelude.{◌&&◌, slice_get, remove, option_map}
-use Rattle.std.specs.List.{list_any}
+use Rattle.std.proofs.Common.{◌≡◌, ℕ, zero, suc, ◌+◌, ◌<◌, ◌≤◌, Bool, true, false, eqb, leb, ltb, cond, Option, Some, None, List, [], ◌∷◌, ◌++◌, length, take, get_or, refl, sym, ap, subst, ◌∙◌, arith}
+use Rattle.std.specs.Prelude.{◌&&◌, slice_get, remove, option_map, sum_by}
+use Rattle.std.specs.List.{list_any, position_from}
 use Rattle.std.proofs.lemmas.Bool.{leb-true, ltb-true, eqb-true}
-use Rattle.std.proofs.lemmas.List.Sums.{sum_by_push}
+use Rattle.std.proofs.lemmas.List.Sums.{sum_by_push, sum_by-cons, sum_by-remove}
 use Rattle.recording_order.specs.Arrivals.{Arrival, is_in, count_in, octets_of, room_beside}
 use Rattle.recording_order.specs.Bounds.{IsBounded}
 use Rattle.recording_order.specs.DataSets.{has_data}
@@ -15,9 +15,23 @@ use Rattle.recording_order.specs.declared.numbering.Standing.{Standing}
 use Rattle.recording_order.specs.declared.numbering.Standing.TheVariants.{AtOnce, Ahead, Afar}
 use Rattle.recording_order.specs.declared.offer.Offer.{Offer}
 use Rattle.recording_order.specs.declared.offer.Offer.TheVariants.{Write, Waits, Doubled, First, Anew}
-use Rattle.recording_order.specs.Windows.{WindowView, Offered, numbering, renumbered, due_number, counted, with_doubled, with_reordered, one_doubled, one_reordered, passing, least, without, leaving, ripe, next_of, late_domain, least_in, fitting, at_most, with_last, held, has_room, is_doubled, now, first_or, offered_full, offered_as, offered, noted, after_writing}
+use Rattle.recording_order.specs.Windows.{WindowView, Offered, numbering, renumbered, due_number, counted, with_doubled, with_reordered, one_doubled, one_reordered, passing, least, without, leaving, ripe, next_of, late_domain, least_in, fitting, at_most, without_first, with_last, held, has_room, is_doubled, now, first_or, offered_full, offered_as, offered, noted, after_writing}
 use Rattle.recording_order.specs.Releases.{Event, Came, Tick, Run, Says, answered, hand_on, go_on, empty_with, empty, take_offered, take_with, take_run, settle_with, settle, settle_late, tick_with, step, run_from, start, run}
 use Rattle.recording_order.proofs.Bags.{Left, leaving-left}
+
+-- ---- one is counted as one
+
+abbrev one_if : Bool → ℕ
+one_if true = 1
+one_if false = 0
+
+one_if-is : (b : Bool) → one_if b ≡ cond b 1 0
+one_if-is true = refl
+one_if-is false = refl
+
+one_if-most : (b : Bool) → one_if b ≤ 1
+one_if-most true = omega arith
+one_if-most false = omega arith
 
 -- ---- the room
 
@@ -29,9 +43,101 @@ fitting-room room (a ∷ xs) = by_test (leb (octets_of (a ∷ xs)) room) refl (f
     by_test true fits rest = leb-true (octets_of (a ∷ xs)) room fits
     by_test false fits rest = rest
 
+-- the oldest go, so no sum becomes greater
+fitting-less : (weight : Arrival → ℕ) (room : ℕ) (xs : List Arrival) → sum_by weight (fitting room xs) ≤ sum_by weight xs
+fitting-less weight room [] = omega arith
+fitting-less weight room (a ∷ xs) = by_test (leb (octets_of (a ∷ xs)) room) (fitting-less weight room xs)
+  where
+    by_test : (b : Bool) → sum_by weight (fitting room xs) ≤ sum_by weight xs → sum_by weight (cond b (a ∷ xs) (fitting room xs)) ≤ sum_by weight (a ∷ xs)
+    by_test true rest = omega arith
+    by_test false rest = omega (arith, rest, sum_by-cons weight a xs)
+
+-- ---- the last ones of a domain
+
+-- where the first one is
+record IsFirstAt (p : Arrival → Bool) (from at : ℕ) (xs : List Arrival) : Type 0 where
+  index : ℕ
+  is : at ≡ from + index
+  below : index < length xs
+  passes : (a : Arrival) → p (get_or xs index a) ≡ true
+
+first-at : (p : Arrival → Bool) (from at : ℕ) (xs : List Arrival) → position_from p from xs ≡ Some at → IsFirstAt p from at xs
+first-at p from at [] is = absurd cc
+first-at p from at (x ∷ xs) is = by_test (first-at p (from + 1) at xs) (p x) refl is
+  where
+    by_test : (position_from p (from + 1) xs ≡ Some at → IsFirstAt p (from + 1) at xs) → (b : Bool) → p x ≡ b → cond b (Some from) (position_from p (from + 1) xs) ≡ Some at → IsFirstAt p from at (x ∷ xs)
+    by_test more true here same =
+        let own : from ≡ at = cc in
+        record { index = 0; is = omega (arith, own); below = omega arith; passes = λ a. here }
+    by_test more false here same =
+        let rest = more same in
+        record { index = suc rest.index; is = omega (arith, rest.is); below = omega (arith, rest.below); passes = rest.passes }
+
+first-none : (p : Arrival → Bool) (from : ℕ) (xs : List Arrival) → position_from p from xs ≡ None → sum_by (λ x. cond (p x) 1 0) xs ≡ 0
+first-none p from [] is = refl
+first-none p from (x ∷ xs) is = by_test (first-none p (from + 1) xs) (p x) refl is
+  where
+    by_test : (position_from p (from + 1) xs ≡ None → sum_by (λ y. cond (p y) 1 0) xs ≡ 0) → (b : Bool) → p x ≡ b → cond b (Some from) (position_from p (from + 1) xs) ≡ None → sum_by (λ y. cond (p y) 1 0) (x ∷ xs) ≡ 0
+    by_test more true here same = absurd cc
+    by_test more false here same =
+        let none : one_if (p x) ≡ 0 = ap one_if here in
+        omega (arith, sum_by-cons (λ y. cond (p y) 1 0) x xs, none, one_if-is (p x), more same)
+
+without_first-less : (weight : Arrival → ℕ) (d : ℕ) (a : Arrival) (xs : List Arrival) (o : Option ℕ) → position_from (is_in d) 0 xs ≡ o → sum_by weight (without_first xs o) ≤ sum_by weight xs
+without_first-less weight d a xs None is = omega arith
+without_first-less weight d a xs (Some at) is =
+    let first = first-at (is_in d) 0 at xs is in
+    omega (arith, sum_by-remove weight xs at a (omega (arith, first.is, first.below)))
+
+at_most-less : (weight : Arrival → ℕ) (d : ℕ) (a : Arrival) (xs : List Arrival) → sum_by weight (at_most d xs) ≤ sum_by weight xs
+at_most-less weight d a xs = by_test (leb (count_in d xs) 32)
+  where
+    by_test : (b : Bool) → sum_by weight (cond b xs (without_first xs (position_from (is_in d) 0 xs))) ≤ sum_by weight xs
+    by_test true = omega arith
+    by_test false = without_first-less weight d a xs (position_from (is_in d) 0 xs) refl
+
+without_first-fewer : (d : ℕ) (a : Arrival) (xs : List Arrival) (o : Option ℕ) → position_from (is_in d) 0 xs ≡ o → count_in d xs ≤ 33 → count_in d (without_first xs o) ≤ 32
+without_first-fewer d a xs None is few = omega (arith, first-none (is_in d) 0 xs is)
+without_first-fewer d a xs (Some at) is few =
+    let first = first-at (is_in d) 0 at xs is in
+    let same : at ≡ first.index = omega (arith, first.is) in
+    let goes : is_in d (get_or xs at a) ≡ true = rw same (first.passes a) in
+    let one : one_if (is_in d (get_or xs at a)) ≡ 1 = ap one_if goes in
+    omega (arith, sum_by-remove (λ x. cond (is_in d x) 1 0) xs at a (omega (arith, same, first.below)), one, one_if-is (is_in d (get_or xs at a)), few)
+
+at_most-few : (d : ℕ) (a : Arrival) (xs : List Arrival) → count_in d xs ≤ 33 → count_in d (at_most d xs) ≤ 32
+at_most-few d a xs few = by_test (leb (count_in d xs) 32) refl
+  where
+    by_test : (b : Bool) → leb (count_in d xs) 32 ≡ b → count_in d (cond b xs (without_first xs (position_from (is_in d) 0 xs))) ≤ 32
+    by_test true within = leb-true (count_in d xs) 32 within
+    by_test false within = without_first-fewer d a xs (position_from (is_in d) 0 xs) refl few
+
+last-few : (d own room : ℕ) (a : Arrival) (xs : List Arrival) → a.header.domain ≡ own → count_in own xs ≤ 32 → count_in d xs ≤ 32 → count_in d (fitting room (at_most own (xs ++ a ∷ []))) ≤ 32
+last-few d own room a xs is few_own few = by_domain (is_in d a) refl
+  where
+    whole : List Arrival
+    whole = xs ++ a ∷ []
+
+    fits : count_in d (fitting room (at_most own whole)) ≤ count_in d (at_most own whole)
+    fits = fitting-less (λ x. cond (is_in d x) 1 0) room (at_most own whole)
+
+    pushed : (e : ℕ) → count_in e whole ≡ count_in e xs + one_if (is_in e a)
+    pushed e = omega (arith, sum_by_push (λ x. cond (is_in e x) 1 0) xs a, one_if-is (is_in e a))
+
+    at-own : count_in own (at_most own whole) ≤ 32
+    at-own = at_most-few own a whole (omega (arith, pushed own, few_own, one_if-most (is_in own a)))
+
+    by_domain : (b : Bool) → is_in d a ≡ b → count_in d (fitting room (at_most own whole)) ≤ 32
+    by_domain true here =
+        let same : own ≡ d = sym is ∙ eqb-true a.header.domain d here in
+        omega (arith, fits, subst (λ (e : ℕ). count_in e (at_most own whole) ≤ 32) same at-own)
+    by_domain false here =
+        let none : one_if (is_in d a) ≡ 0 = ap one_if here in
+        omega (arith, fits, at_most-less (λ x. cond (is_in d x) 1 0) own a whole, pushed d, none, few)
+
 bounded-same : (v w : WindowView) → v.waiting ≡ w.waiting → v.last ≡ w.last → IsBounded w → IsBounded v
 bounded-same v w waiting last bounded =
-    record { octets = rw (waiting, last) bounded.octets; waiting = λ d. rw waiting (bounded.waiting d) }
+    record { octets = rw (waiting, last) bounded.octets; waiting = λ d. rw waiting (bounded.waiting d); last = λ d. rw last (bounded.last d) }
 
 bounded-either : (b : Bool) (v w : WindowView) → IsBounded v → IsBounded w → IsBounded (cond b v w)
 bounded-either true v w p q = p
@@ -48,7 +154,12 @@ passing-bounded w d xs bounded =
 with_last-bounded : (w : WindowView) (a : Arrival) → IsBounded w → IsBounded (with_last w a)
 with_last-bounded w a bounded =
     let room = fitting-room (room_beside 65536 w.waiting) (at_most a.header.domain (w.last ++ a ∷ [])) in
-    record { octets = omega (arith, room, bounded.octets); waiting = bounded.waiting }
+    let own = a.header.domain in
+    record {
+      octets = omega (arith, room, bounded.octets);
+      waiting = bounded.waiting;
+      last = λ d. last-few d own (room_beside 65536 w.waiting) a w.last refl (bounded.last own) (bounded.last d);
+    }
 
 writing-bounded : (w : WindowView) (a : Arrival) (c : DatagramCounts) → IsBounded w → IsBounded (after_writing w a c)
 writing-bounded w a c bounded =
@@ -68,22 +179,22 @@ abbrev Goes : Option (Arrival × WindowView) → Type 0
 Goes None = Unit {0}
 Goes (Some x) = IsBounded x.1
 
-counted-last : (w : WindowView) (d : ℕ) (o : Option Numbering) → (counted w d o).last ≡ w.last
+pub counted-last : (w : WindowView) (d : ℕ) (o : Option Numbering) → (counted w d o).last ≡ w.last
 counted-last w d None = refl
 counted-last w d (Some n) = refl
 
-passing-last : (w : WindowView) (d : ℕ) (xs : List Arrival) → (passing w d xs).last ≡ w.last
+pub passing-last : (w : WindowView) (d : ℕ) (xs : List Arrival) → (passing w d xs).last ≡ w.last
 passing-last w d xs = by_test (list_any (is_in d) xs)
   where
     by_test : (b : Bool) → (cond b (with_reordered w d) w).last ≡ w.last
     by_test true = counted-last w d (option_map one_reordered (numbering w d))
     by_test false = refl
 
-abbrev LastSame : WindowView → Option (Arrival × WindowView) → Type 0
+abbrev pub LastSame : WindowView → Option (Arrival × WindowView) → Type 0
 LastSame w None = Unit {0}
 LastSame w (Some x) = x.1.last ≡ w.last
 
-leaving-last : (w : WindowView) (o : Option Least) → LastSame w (leaving w o)
+pub leaving-last : (w : WindowView) (o : Option Least) → LastSame w (leaving w o)
 leaving-last w None = tt
 leaving-last w (Some l) = by_get (slice_get w.waiting l.index)
   where
@@ -98,6 +209,7 @@ fewer w (Some x) left last bounded =
     record {
       octets = rw last (omega (arith, octets, bounded.octets));
       waiting = λ d. let counts = left (λ a. cond (is_in d a) 1 0) in omega (arith, counts, bounded.waiting d);
+      last = λ d. rw last (bounded.last d);
     }
 
 leaving-bounded : (w : WindowView) (o : Option Least) → IsBounded w → Goes (leaving w o)
@@ -105,29 +217,26 @@ leaving-bounded w o bounded = fewer w (leaving w o) (λ weight. leaving-left wei
 
 -- ---- one that comes
 
-and_first : (b c : Bool) → (b && c) ≡ true → b ≡ true
+pub and_first : (b c : Bool) → (b && c) ≡ true → b ≡ true
 and_first true c h = refl
 and_first false c h = absurd cc
 
-and_second : (b c : Bool) → (b && c) ≡ true → c ≡ true
+pub and_second : (b c : Bool) → (b && c) ≡ true → c ≡ true
 and_second true c h = h
 and_second false c h = absurd cc
-
-abbrev one_if : Bool → ℕ
-one_if true = 1
-one_if false = 0
-
-one_if-is : (b : Bool) → one_if b ≡ cond b 1 0
-one_if-is true = refl
-one_if-is false = refl
 
 held-bounded : (w : WindowView) (a : Arrival) → has_room w a.header.domain (length a.octets) ≡ true → IsBounded w → IsBounded (held w a)
 held-bounded w a room bounded =
     let few = ltb-true (count_in a.header.domain w.waiting) 32 (and_first (ltb (count_in a.header.domain w.waiting) 32) (leb (length a.octets) (room_beside 65536 w.waiting)) room) in
     let fits = leb-true (length a.octets) (room_beside 65536 w.waiting) (and_second (ltb (count_in a.header.domain w.waiting) 32) (leb (length a.octets) (room_beside 65536 w.waiting)) room) in
     let octets = sum_by_push (λ x. length x.octets) w.waiting a in
-    let last = fitting-room (room_beside 65536 (w.waiting ++ a ∷ [])) w.last in
-    record { octets = omega (arith, fits, octets, last, bounded.octets); waiting = λ d. by_domain d few (is_in d a) refl }
+    let room = room_beside 65536 (w.waiting ++ a ∷ []) in
+    let last = fitting-room room w.last in
+    record {
+      octets = omega (arith, fits, octets, last, bounded.octets);
+      waiting = λ d. by_domain d few (is_in d a) refl;
+      last = λ d. omega (arith, fitting-less (λ x. cond (is_in d x) 1 0) room w.last, bounded.last d);
+    }
   where
     by_domain : (d : ℕ) → count_in a.header.domain w.waiting < 32 → (b : Bool) → is_in d a ≡ b → count_in d (w.waiting ++ a ∷ []) ≤ 32
     by_domain d few true here =
@@ -226,4 +335,4 @@ run_from-bounded says [] r bounded = bounded
 run_from-bounded says (e ∷ es) r bounded = run_from-bounded says es (step says r e) (step-bounded says e r bounded)
 
 pub run-bounded : (says : Says) (seconds : ℕ) (es : List Event) → IsBounded (run says seconds es).window
-run-bounded says seconds es = run_from-bounded says es (start seconds) (record { octets = omega arith; waiting = λ d. omega arith })
+run-bounded says seconds es = run_from-bounded says es (start seconds) (record { octets = omega arith; waiting = λ d. omega arith; last = λ d. omega arith })

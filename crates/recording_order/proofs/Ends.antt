@@ -6,7 +6,6 @@ use Rattle.std.proofs.lemmas.List.{nil_from_length}
 use Rattle.std.proofs.lemmas.List.Edits.{length-remove}
 use Rattle.std.proofs.lemmas.Option.{slice_get_cases}
 use Rattle.recording_order.specs.Arrivals.{Arrival, is_in}
-use Rattle.recording_order.specs.Numbers.{place}
 use Rattle.recording_order.specs.Leasts.{lesser, found_at, one_more, least_from, least_of}
 use Rattle.recording_order.specs.declared.least.Least.{Least}
 use Rattle.recording_order.specs.Windows.{WindowView, due_number, least, without, leaving, last_of}

@@ -9,3 +9,4 @@ mod InOrder
 mod Keeping
 mod Steps
 mod Ticks
+mod Doubles

@@ -1,13 +1,14 @@
 -- A tick, one domain after another, and how many wait then.
 use Rattle.std.proofs.Common.{◌≡◌, ℕ, zero, suc, ◌+◌, ◌-◌, ◌<◌, ◌≤◌, Bool, true, false, ltb, cond, Option, Some, None, List, [], ◌∷◌, length, refl, sym, ap, subst, ◌∙◌, arith}
-use Rattle.std.specs.Prelude.{◌&&◌, is_some, option_map, find}
+use Rattle.std.specs.Prelude.{is_some, option_map, find}
 use Rattle.std.proofs.lemmas.List.{nil_from_length}
 use Rattle.recording_order.specs.Arrivals.{Arrival}
 use Rattle.recording_order.specs.declared.least.Least.{Least}
 use Rattle.recording_order.specs.declared.offer.Offer.TheVariants.{First}
-use Rattle.recording_order.specs.Windows.{WindowView, is_late, is_ripe, if_ripe, ripe, least, leaving, next_of, least_in, last_of, late_domain, due_number, offered}
+use Rattle.recording_order.specs.Windows.{WindowView, is_late, is_ripe, if_ripe, ripe, least, next_of, least_in, last_of, late_domain, due_number, offered}
 use Rattle.recording_order.specs.Releases.{Run, Says, hand_on, go_on, settle_with, settle, settle_late, tick_with, tick}
 use Rattle.recording_order.proofs.Bags.{Offers, offered-offers, leaving-left, last_of-left, Left, answered-waiting}
+use Rattle.recording_order.proofs.Bounds.{and_second}
 use Rattle.recording_order.proofs.Ends.{Goes, goes-least, Below, below-least}
 use Rattle.recording_order.proofs.Steps.{ones, sum-ones, handed, settle-next}
 
@@ -49,10 +50,6 @@ ripe-below w domain second l is = by_least (least w domain) (below-least domain 
 goes-ripe : (w : WindowView) (domain second : ℕ) (o : Option Least) → ripe w domain second ≡ o → is_some o ≡ true → Goes w (next_of w domain second)
 goes-ripe w domain second None is some = absurd cc
 goes-ripe w domain second (Some l) is some = goes-least w l (ripe w domain second) is (ripe-below w domain second l is)
-
-and_second : (b c : Bool) → (b && c) ≡ true → c ≡ true
-and_second true c h = h
-and_second false c h = absurd cc
 
 -- the domain of the first that is late
 late-ready : (w : WindowView) (second domain : ℕ) (xs : List Arrival) → option_map (λ (a : Arrival). a.header.domain) (find (is_late w second) xs) ≡ Some domain → is_some (ripe w domain second) ≡ true

@@ -9,7 +9,8 @@ pub record KeepsDomain (domain : ℕ) (before after : WindowView) : Type 0 where
   pub numbers : numbering after domain ≡ numbering before domain
   pub waiting : filter (is_in domain) after.waiting ≡ filter (is_in domain) before.waiting
 
--- and so is what was handed on of it
+-- and so is what was handed on of it, and what was doubled
 pub record LeavesDomain (domain : ℕ) (before after : Run) : Type 0 where
   pub window : KeepsDomain domain before.window after.window
   pub handed_on : filter (is_in domain) after.handed_on ≡ filter (is_in domain) before.handed_on
+  pub doubled : filter (is_in domain) after.doubled ≡ filter (is_in domain) before.doubled

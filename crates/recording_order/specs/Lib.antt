@@ -9,3 +9,4 @@ pub mod Counts
 pub mod InOrder
 pub mod Domains
 pub mod Bounds
+pub mod Doubles

@@ -1,5 +1,5 @@
 -- In which order a peer's datagrams are handed on to the recorder, over a whole run.
-use Rattle.std.specs.Prelude.{◌≡◌, ◌<◌, ◌≤◌, ℕ, zero, suc, ◌+◌, Option, Some, None, List, [], ◌∷◌, ◌++◌, length, flat_map}
+use Rattle.std.specs.Prelude.{◌≡◌, ◌<◌, ◌≤◌, ℕ, zero, suc, ◌+◌, Option, Some, None, List, [], ◌∷◌, ◌++◌, length, sum_by, flat_map}
 use Rattle.recording_order.specs.Arrivals.{Arrival}
 use Rattle.recording_order.specs.Windows.{WindowView, Offered, offered, after_writing, next_of, late_domain, least_in, last_of}
 use Rattle.recording_order.specs.declared.datagram_counts.DatagramCounts.{DatagramCounts}
@@ -128,3 +128,7 @@ run says seconds es = run_from says (start seconds) es
 -- what is handed on of all that came, where the peer ended after it
 abbrev pub released : Says → ℕ → List Event → List Arrival
 released says seconds es = (finish says (run says seconds es)).handed_on
+
+-- the weights of all that were handed on, wait or were doubled
+abbrev pub weight_of : (Arrival → ℕ) → Run → ℕ
+weight_of weight r = sum_by weight r.handed_on + sum_by weight r.window.waiting + sum_by weight r.doubled

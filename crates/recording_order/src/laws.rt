@@ -1,13 +1,15 @@
 //! Laws of the definitions. Each is a function that does nothing, and its contract is the theorem: a
 //! call brings that to the proof of its caller.
 
-ghost use Rattle.std.specs.Prelude.{◌≡◌, ◌≢◌, ◌+◌, ◌++◌, ◌<◌, ℕ, List, [], Some, None, length, sum_by};
+ghost use Rattle.std.specs.Prelude.{◌≡◌, ◌≢◌, ◌+◌, ◌++◌, ◌<◌, ℕ, true, List, [], Some, None, Contains, length, sum_by};
 ghost use Rattle.recording_order.specs.Arrivals.{Arrival};
 ghost use Rattle.recording_order.specs.Bounds.{IsBounded};
+ghost use Rattle.recording_order.specs.DataSets.{has_data};
 ghost use Rattle.recording_order.specs.Domains.{LeavesDomain};
+ghost use Rattle.recording_order.specs.Doubles.{IsSameAsOne};
 ghost use Rattle.recording_order.specs.InOrder.{AreNext};
-ghost use Rattle.recording_order.specs.Releases.{Agree, Event, Came, Run, Says, came, empty, finish, hand_on, released, run, settle, start, step, take_run, tick};
-ghost use Rattle.recording_order.specs.Windows.{WindowView, last_of, late_domain, least_in, next_of, offered};
+ghost use Rattle.recording_order.specs.Releases.{Agree, Event, Came, Run, Says, came, empty, finish, hand_on, released, run, settle, start, step, take_run, tick, weight_of};
+ghost use Rattle.recording_order.specs.Windows.{WindowView, is_doubled, last_of, late_domain, least_in, next_of, offered};
 ghost use Rattle.recording_order.specs.declared.offer.Offer.TheVariants.{First};
 ghost use Rattle.recording_order.specs.declared.limits.TheConstants.{MOST_LAST, MOST_WAITING, ROOM};
 ghost use Rattle.recording_order.specs.declared.numbering.TheConstants.{FARTHEST};
@@ -16,9 +18,7 @@ ghost use Rattle.recording_order.specs.declared.numbering.TheConstants.{FARTHEST
 /// to datagrams, those of the three add up to those of all that came.
 pub fn each_once()
     ensures { (weight : Arrival → ℕ) (says : Says) (seconds : ℕ) (es : List Event)
-        → sum_by weight (run says seconds es).handed_on
-        + sum_by weight (run says seconds es).window.waiting
-        + sum_by weight (run says seconds es).doubled ≡ sum_by weight (came es) }
+        → weight_of weight (run says seconds es) ≡ sum_by weight (came es) }
 {}
 
 /// At the peer's end nothing waits: what was released, and what was doubled, is all that came, each once.
@@ -28,6 +28,17 @@ pub fn nothing_waits_at_the_end()
     ensures each_once { (weight : Arrival → ℕ) (says : Says) (seconds : ℕ) (es : List Event)
         → sum_by weight (released says seconds es) + sum_by weight (run says seconds es).doubled
         ≡ sum_by weight (came es) }
+{}
+
+/// A datagram is doubled only if it has a data set, and is the same, octet for octet, as one of its domain that
+/// waits or is one of the last ones; and each of the last ones was handed on.
+pub fn doubled_ones_came_already()
+    ensures data { (w : WindowView) (domain : ℕ) (octets : List ℕ)
+        → is_doubled w domain octets ≡ true → has_data octets ≡ true }
+    ensures same { (w : WindowView) (domain : ℕ) (octets : List ℕ)
+        → is_doubled w domain octets ≡ true → IsSameAsOne domain octets (w.waiting ++ w.last) }
+    ensures last { (says : Says) (seconds : ℕ) (es : List Event) (a : Arrival)
+        → Contains (run says seconds es).window.last a → Contains (run says seconds es).handed_on a }
 {}
 
 /// Where each comes at the number that is due or before that, or where none is due, and none came already,
@@ -43,13 +54,14 @@ pub fn with_no_seconds_nothing_changes()
 {}
 
 /// A datagram of one domain changes nothing of another: neither what was handed on of it, nor what waits, nor
-/// its numbers. Only the room, and with it the last datagrams, are of the peer.
+/// what was doubled, nor its numbers. Only the room, and with it the last datagrams, are of the peer.
 pub fn domains_stay_apart()
     ensures { (says : Says) (r : Run) (a : Arrival) (domain : ℕ) → domain ≢ a.header.domain
         → LeavesDomain domain r (step says r (Came a)) }
 {}
 
-/// Those that wait and the last ones take at most 65,536 octets together, and of a domain at most 32 wait.
+/// Those that wait and the last ones take at most 65,536 octets together; of a domain at most 32 wait, and at
+/// most 32 are among the last ones.
 pub fn much_is_never_kept()
     ensures { (says : Says) (seconds : ℕ) (es : List Event)
         → IsBounded (run says seconds es).window }

@@ -1,6 +1,6 @@
 //! What is known after a datagram was written.
 
-ghost use Rattle.std.specs.Prelude.{◌≡◌, OnOk, OnErr};
+ghost use Rattle.std.specs.Prelude.{◌≡◌, None, OnOk, OnErr};
 ghost use Rattle.recording_order.specs.Windows as specs;
 
 use crate::data_sets::has_data;
@@ -15,10 +15,11 @@ use ipfix_wire::Header;
 use std::alloc::{AllocError, Global};
 
 impl Window {
-    // The numbers of a domain are these now.
+    // The numbers of a domain are these now. There is always memory for those of a domain that has some.
     fn renumber(&mut self, domain: u32, numbering: Numbering) -> Result<(), AllocError>
         ensures ok { OnOk result (self.new ≡ specs.renumbered self.old domain numbering) }
         ensures err { OnErr result (self.new ≡ self.old) }
+        ensures absent { OnErr result (specs.numbering self.old domain ≡ None) }
     {
         let _ = self.numbers.insert(domain, numbering)?;
         Ok(())
@@ -37,8 +38,7 @@ impl Window {
     }
 
     /// Notes that a datagram, which came at this second, was written, and what the recorder says of it. One
-    /// that the recorder refuses isn't noted. After an `Err` what waits is as it was, but the number may be
-    /// noted, and not the datagram.
+    /// that the recorder refuses isn't noted. An `Err` changes nothing.
     pub fn note(
         &mut self,
         alloc: Global,
@@ -49,17 +49,16 @@ impl Window {
     ) -> Result<(), AllocError>
         ensures ok { OnOk result (self.new ≡ specs.after_writing self.old
             (record { header = header.now; second = second; octets = datagram.now }) counts) }
-        ensures err { OnErr result (self.new.waiting ≡ self.old.waiting) }
+        ensures err { OnErr result (self.new ≡ self.old) }
     {
         if self.seconds == 0 {
             return Ok(());
         }
         let numbering = self.numbering(header.domain);
-        let after = numbers_after(numbering, header.sequence, counts);
-        self.renumber(header.domain, after)?;
         if is_at_due(numbering, header.sequence) && has_data(datagram) {
             self.keep_last(Datagram::copy_of(alloc, header, second, datagram)?)?;
         }
-        Ok(())
+        let after = numbers_after(numbering, header.sequence, counts);
+        self.renumber(header.domain, after)
     }
 }

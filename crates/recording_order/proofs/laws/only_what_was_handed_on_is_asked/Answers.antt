@@ -1,4 +1,3 @@
-use Rattle.recording_order.specs.Releases.{Event, Run, Says}
 use Rattle.recording_order.proofs.Asked.{run-asks, step-asks, finish-asks}
 use Rattle.recording_order.proofs.laws.only_what_was_handed_on_is_asked.Goals as goal
 

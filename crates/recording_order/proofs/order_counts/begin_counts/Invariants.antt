@@ -1,4 +1,4 @@
-use Rattle.std.proofs.Common.{◌≡◌, length}
+use Rattle.std.proofs.Common.{◌≡◌}
 use Rattle.recording_order.proofs.Counting.{begun}
 use Rattle.recording_order.proofs.order_counts.begin_counts.Given as goal
 

@@ -1,0 +1,11 @@
+use Rattle.recording_order.proofs.Doubles.{doubled-data, doubled-same, run-known}
+use Rattle.recording_order.proofs.laws.doubled_ones_came_already.Goals as goal
+
+pub returns-clause-data : goal.returns-clause-data
+returns-clause-data c = doubled-data
+
+pub returns-clause-same : goal.returns-clause-same
+returns-clause-same c = doubled-same
+
+pub returns-clause-last : goal.returns-clause-last
+returns-clause-last c = run-known
