@@ -1,8 +1,8 @@
 -- What is answered of a datagram.
-use Rattle.std.proofs.Common.{◌≡◌, ℕ, Bool, true, false, cond, ltb, eqb, ◌≤◌, List, [], ◌∷◌, map, length, Option, Result, Ok, Err, refl, sym, ap, ap₂, subst, ◌∙◌, arith, inl, inr}
-use Rattle.std.specs.Prelude.{◌≢◌, ◌⊎◌, IsOk}
-use Rattle.std.specs.BTreeMap.{BTreeMap, values}
-use Rattle.std.proofs.lemmas.Bool.{ltb-false}
+use Rattle.std.proofs.Common.{◌≡◌, ℕ, Bool, true, false, cond, ltb, eqb, ◌++◌, List, [], ◌∷◌, map, length, drop, Option, Result, Ok, Err, refl, sym, ap, ap₂, subst, ◌∙◌, inl, inr}
+use Rattle.std.specs.Prelude.{◌≢◌, ◌⊎◌, IsOk, reverse, flat_map}
+use Rattle.std.specs.Ordering.{nat_cmp}
+use Rattle.std.specs.BTreeMap.{BTreeMap, get, values, IsOrdered}
 use Rattle.std.specs.Map.{lookup}
 use Rattle.std.specs.Option.{unwrap_or}
 use Rattle.ipfix_wire.specs.declared.header.Header.{Header}
@@ -14,19 +14,21 @@ use Rattle.ipfix_message.specs.declared.fault.MessageFault.TheVariants.{Template
 use Rattle.ipfix_message.specs.declared.template_record.Event.{Event}
 use Rattle.ipfix_message.specs.Faults.{fault_of}
 use Rattle.ipfix_message.specs.Outcome.{Read, ◌>>=◌, Fails}
-use Rattle.ipfix_message.specs.Domains.{DomainsView, History, Message, admit, events_in, of_wire, message_header, message_gives}
+use Rattle.ipfix_message.specs.Domains.{DomainsView, History, Message, admit, events_in, template_for, of_wire, message_header, message_gives}
 use Rattle.ipfix_message.specs.Alike.{knows}
 use Rattle.ipfix_message.proofs.Reading.{not_both, fault_is}
 use Rattle.ipfix_message.proofs.History.{bad_header, none_is}
-use Rattle.ipfix_message.proofs.PartsOf.{HasRoom, was_read}
 use Rattle.ipfix_message.specs.declared.record.Template.{Template}
 use Rattle.ipfix_datagrams.specs.declared.withdrawn_template.WithdrawnTemplate.{WithdrawnTemplate}
+use Rattle.ipfix_datagrams.specs.declared.definitions.Definitions.{Definitions}
 use Rattle.ipfix_datagrams.specs.declared.reading.DatagramReading.{DatagramReading}
-use Rattle.ipfix_datagrams.specs.Datagrams.{Known, Preparation, with_withdrawn, replaced, prepared, HasOwn, MayChange, Changes, AreAgain, IsPrepared, IsTaken, IsRefused}
-use Rattle.ipfix_datagrams.specs.Attempts.{nothing, CanDefine, CanPrepare, IsSound, Leaves, Reads, FirstReads, preparation_of}
+use Rattle.ipfix_datagrams.specs.Datagrams.{AreTemplatesOf, Preparation, with_withdrawn, replaced, replaced_by, given_after, MayChange, Changes, again, definition_of, events_of_message, first_definition, last_definition, IsPrepared, IsTaken, IsRefused, IsReadingOf, preparation_of}
+use Rattle.ipfix_datagrams.specs.Attempts.{nothing, CanDefine, CanPrepare, Defines, HasFirst, Reads, FirstReads}
 use Rattle.ipfix_datagrams.proofs.DefinedAgain.{again_knows, can_define}
+use Rattle.ipfix_datagrams.proofs.FirstAndLast.{defined_id, events_in_sets}
+use Rattle.ipfix_datagrams.proofs.Replacing.{are_templates, replaced_in}
 use Rattle.ipfix_datagrams.proofs.Withdrawn.{admitted}
-use Rattle.ipfix_datagrams.proofs.Readings.{fails_or, room_or, same_reading, alike_fault, header_same}
+use Rattle.ipfix_datagrams.proofs.Readings.{fails_or, header_same, none_in}
 
 abbrev pub prepared_as : List WithdrawnTemplate → List Template → Preparation
 prepared_as ws ts = record { withdrawn = ws; defined = ts }
@@ -58,10 +60,10 @@ header_not_changed m h = by_test (ltb (length m) 16) h
     by_test true e = length_not_changed (fault_is {A = Header} MessageLength TemplateChanged e)
     by_test false e = by_wire (header_at m) e
 
-pub bad_header_refused : (k : Known) (m : List ℕ) (f : MessageFault) → Fails f (message_header m) → IsRefused k m f
-bad_header_refused k m f fails = elim (fails_or f (message_header m) fails) [
+pub bad_header_refused : (ds : History) (m : List ℕ) (f : MessageFault) → Fails f (message_header m) → IsRefused ds m f
+bad_header_refused ds m f fails = elim (fails_or f (message_header m) fails) [
   | inl e ↦ inl e
-  | inr e ↦ elim (fails_or f (message_gives k.files m) (bad_header f k.files m fails)) [
+  | inr e ↦ elim (fails_or f (message_gives ds m) (bad_header f ds m fails)) [
     | inl e ↦ inl e
     | inr g ↦ inr (inl (g, λ same. header_not_changed m (e ∙ ap (λ (g : MessageFault). Err g) same)))
   ]
@@ -72,31 +74,27 @@ bad_header_refused k m f fails = elim (fails_or f (message_header m) fails) [
 room_not_changed : TooManyDomains ≡ TemplateChanged → ⊥
 room_not_changed h = cc
 
-room_is_changed : (read : Read Message) → read ≡ Err TooManyDomains → read ≡ Err TemplateChanged → ⊥
-room_is_changed read a b = room_not_changed (fault_is {A = Message} TooManyDomains TemplateChanged (sym a ∙ b))
-
 no_room_gives : (ds : History) (m : List ℕ) (h : Header) → message_header m ≡ Ok h → admit ds h.domain ≡ Err TooManyDomains → message_gives ds m ≡ Err TooManyDomains
 unfolding message_gives
 no_room_gives ds m h good full = rw (good, full) refl
 
-pub no_room_refused : (k : Known) (m : List ℕ) (h : Header) → message_header m ≡ Ok h → admit k.files h.domain ≡ Err TooManyDomains → IsRefused k m TooManyDomains
-no_room_refused k m h good full = inr (inl (no_room_gives k.files m h good full, room_not_changed))
+pub no_room_refused : (ds : History) (m : List ℕ) (h : Header) → message_header m ≡ Ok h → admit ds h.domain ≡ Err TooManyDomains → IsRefused ds m TooManyDomains
+no_room_refused ds m h good full = inr (inl (no_room_gives ds m h good full, room_not_changed))
 
 -- ---- as it is
 
--- nothing was withdrawn or defined
-pub first_plainly : (k : Known) (m : List ℕ) (domain : ℕ) (r : DatagramReading) → r.withdrawn.items ≡ [] → values r.defined ≡ [] → Reads k.files domain nothing m r.after → FirstReads k domain m r
-first_plainly k m domain r none nor reads = record {
+-- nothing was withdrawn
+pub first_plainly : (ds : History) (m : List ℕ) (domain : ℕ) (ws : List WithdrawnTemplate) (after : DomainsView) → ws ≡ [] → Reads ds domain nothing m after → FirstReads ds domain m ws after
+first_plainly ds m domain ws after none reads = record {
   given = reads.given;
   domain_is = reads.domain_is;
   changes = inl none;
-  read = ap (λ (ws : List WithdrawnTemplate). message_gives (with_withdrawn k.files domain ws) m) none ∙ reads.read;
-  none = nor;
+  read = ap (λ (ws : List WithdrawnTemplate). message_gives (with_withdrawn ds domain ws) m) none ∙ reads.read;
   leaves = reads.leaves;
 }
 
-pub refused_plainly : (k : Known) (m : List ℕ) (f : MessageFault) → f ≢ TemplateChanged → Fails f (message_gives k.files m) → IsRefused k m f
-refused_plainly k m f other fails = elim (fails_or f (message_gives k.files m) fails) [ inl e ↦ inl e | inr e ↦ inr (inl (e, other)) ]
+pub refused_plainly : (ds : History) (m : List ℕ) (f : MessageFault) → f ≢ TemplateChanged → Fails f (message_gives ds m) → IsRefused ds m f
+refused_plainly ds m f other fails = elim (fails_or f (message_gives ds m) fails) [ inl e ↦ inl e | inr e ↦ inr (inl (e, other)) ]
 
 -- ---- after the templates that it replaces are withdrawn
 
@@ -106,142 +104,157 @@ changed_is read f is fails = by_fault (subst (λ (g : MessageFault). Fails g rea
     by_fault : Fails TemplateChanged read → read ≡ Err TemplateChanged
     by_fault h = h
 
-pub itself_refused : (k : Known) (m : List ℕ) (f : MessageFault) → message_gives k.files m ≡ Err TemplateChanged → Fails f (message_gives [] m) → IsRefused k m f
-itself_refused k m f changed fails = elim (fails_or f (message_gives [] m) fails) [ inl e ↦ inl e | inr e ↦ inr (inr (inl (changed, e))) ]
+-- where no template is in force none is replaced
+replaced_none : (ts : List Template) → replaced [] ts ≡ []
+replaced_none [] = refl
+replaced_none (t ∷ ts) = ap₂ (λ (v w : List WithdrawnTemplate). v ++ w) (ap (replaced_by t) (none_in t.id)) (replaced_none ts)
 
--- what its own templates replace
-pub changes_are : (ds : History) (m : List ℕ) (domain : ℕ) (ws : List WithdrawnTemplate) → message_gives ds m ≡ Err TemplateChanged → (own : List Template) × HasOwn m domain own × (ws ≡ replaced (events_in ds domain) own) → Changes ds m domain ws
-changes_are ds m domain ws changed own = record { changed = changed; templates = own.0; has_own = own.1; are = own.2 }
+-- a domain whose templates are replaced is known
+pub changes_knows : (ds : History) (m : List ℕ) (domain : ℕ) (ws : List WithdrawnTemplate) → Changes ds m domain ws → (ws ≡ []) ⊎ (knows ds domain ≡ true)
+changes_knows ds m domain ws c = by_cases (knows ds domain) refl
+  where
+    by_cases : (b : Bool) → knows ds domain ≡ b → (ws ≡ []) ⊎ (knows ds domain ≡ true)
+    by_cases true e = inr e
+    by_cases false e =
+        let none : events_in ds domain ≡ [] = ap (λ (o : Option (List Event)). unwrap_or o []) (none_is (lookup (eqb domain) ds) e) in
+        inl (c.are ∙ ap (λ (es : List Event). replaced es c.templates) none ∙ replaced_none c.templates)
 
--- a domain whose templates are changed is known
-pub changed_knows : (ds : History) (m : List ℕ) (h : Header) (ws : List WithdrawnTemplate) → message_header m ≡ Ok h → HasRoom ds h.domain → Changes ds m h.domain ws → knows ds h.domain ≡ true
-changed_knows ds m h ws good room c = elim room [
-  | inl there ↦ there
-  | inr new ↦
-      let none : events_in ds h.domain ≡ [] = ap (λ (o : Option (List Event)). unwrap_or o []) (none_is (lookup (eqb h.domain) ds) new.0) in
-      let alike = same_reading ds [] m h good (inr new) (inr (refl, omega arith)) none in
-      absurd (not_both c.has_own.own TemplateChanged (sym c.has_own.is ∙ alike_fault (message_gives ds m) (message_gives [] m) TemplateChanged alike c.changed))
+-- what the first definitions replace
+pub are_changes : (ds : History) (m : List ℕ) (domain : ℕ) (ws : List WithdrawnTemplate) (first : BTreeMap ℕ Template) (f : ℕ → Option Template) → message_gives ds m ≡ Err TemplateChanged → HasFirst first m → IsOrdered nat_cmp first → ((id : ℕ) → f id ≡ template_for ds domain id)
+    → ws ≡ flat_map (λ t. replaced_by t (f t.id)) (values first) → Changes ds m domain ws
+are_changes ds m domain ws first f changed has ordered same are = record {
+  changed = changed;
+  templates = values first;
+  are_first = are_templates (first_definition m) first (defined_id (events_of_message m)) ordered has.at;
+  are = are ∙ replaced_in (λ (t : Template). f t.id) ds domain (values first) (λ t. same t.id);
+}
+
+pub changes_can : (ds : History) (m : List ℕ) (domain : ℕ) (ws : List WithdrawnTemplate) → Changes ds m domain ws → CanPrepare ds domain (prepared_as ws [])
+changes_can ds m domain ws c = elim (changes_knows ds m domain ws c) [
+  | inl none ↦ inl (ap (λ (vs : List WithdrawnTemplate). prepared_as vs []) none)
+  | inr there ↦ inr (there, tt)
 ]
 
-pub changes_knows : (ds : History) (m : List ℕ) (h : Header) (ws : List WithdrawnTemplate) → message_header m ≡ Ok h → Changes ds m h.domain ws → knows ds h.domain ≡ true
-changes_knows ds m h ws good c = elim (room_or ds h.domain) [
-  | inl room ↦ changed_knows ds m h ws good room c
-  | inr full ↦ absurd (room_is_changed (message_gives ds m) (no_room_gives ds m h good full) c.changed)
-]
-
-pub first_changed : (k : Known) (m : List ℕ) (domain : ℕ) (ws : List WithdrawnTemplate) (r : DatagramReading) → r.withdrawn.items ≡ ws → values r.defined ≡ [] → Changes k.files m domain ws
-    → Reads k.files domain (record { withdrawn = ws; defined = [] }) m r.after → FirstReads k domain m r
-first_changed k m domain ws r are nor c reads = record {
+pub first_changed : (ds : History) (m : List ℕ) (domain : ℕ) (ws : List WithdrawnTemplate) (after : DomainsView) → Changes ds m domain ws → Reads ds domain (prepared_as ws []) m after → FirstReads ds domain m ws after
+first_changed ds m domain ws after c reads = record {
   given = reads.given;
   domain_is = reads.domain_is;
-  changes = inr (subst (Changes k.files m domain) (sym are) c);
-  read = ap (λ (vs : List WithdrawnTemplate). message_gives (with_withdrawn k.files domain vs) m) are ∙ reads.read;
-  none = nor;
+  changes = inr c;
+  read = reads.read;
   leaves = reads.leaves;
 }
 
-pub refused_changed : (k : Known) (m : List ℕ) (domain : ℕ) (ws : List WithdrawnTemplate) (f : MessageFault) → Changes k.files m domain ws → Fails f (message_gives (with_withdrawn k.files domain ws) m) → IsRefused k m f
-refused_changed k m domain ws f c fails = elim (fails_or f (message_gives (with_withdrawn k.files domain ws) m) fails) [
+pub refused_changed : (ds : History) (m : List ℕ) (h : Header) (ws : List WithdrawnTemplate) (f : MessageFault) → message_header m ≡ Ok h → Changes ds m h.domain ws → Fails f (message_gives (with_withdrawn ds h.domain ws) m) → IsRefused ds m f
+refused_changed ds m h ws f good c fails = elim (fails_or f (message_gives (with_withdrawn ds h.domain ws) m) fails) [
   | inl e ↦ inl e
-  | inr e ↦ inr (inr (inr (inl (record { domain = domain; withdrawn = ws; changes = c; fault = e }))))
+  | inr e ↦ inr (inr (inl (record { header = h; is_header = good; withdrawn = ws; changes = c; fault = e })))
 ]
+
+-- ---- what a datagram defines
+
+pub has_first : (d : Definitions) (w m : List ℕ) → Defines d (events_in_sets w) → w ≡ drop 16 m → HasFirst d.first m
+has_first d w m defines is = record { at = subst (λ (v : List ℕ). (id : ℕ) → get nat_cmp d.first id ≡ definition_of (events_in_sets v) id) is defines.first }
+
+pub has_last : (d : Definitions) (w m : List ℕ) → Defines d (events_in_sets w) → w ≡ drop 16 m → (id : ℕ) → get nat_cmp d.last id ≡ last_definition m id
+has_last d w m defines is = subst (λ (v : List ℕ). (id : ℕ) → get nat_cmp d.last id ≡ definition_of (reverse (events_in_sets v)) id) is defines.last
 
 -- ---- after templates are defined again
 
-pub is_prepared : (k : Known) (m : List ℕ) (domain : ℕ) (r : DatagramReading) (f : FirstReads k domain m r) (ts : List Template) → AreAgain k m f.given ts → IsPrepared k m (record { withdrawn = r.withdrawn.items; defined = ts }) f.given
-is_prepared k m domain r f ts are = record {
-  changes = subst (λ (d : ℕ). MayChange k.files m d r.withdrawn.items) (sym f.domain_is) f.changes;
-  read = subst (λ (d : ℕ). message_gives (with_withdrawn k.files d r.withdrawn.items) m ≡ Ok f.given) (sym f.domain_is) f.read;
-  again = are;
+is_prepared : (ds : History) (m : List ℕ) (domain : ℕ) (ws : List WithdrawnTemplate) (after : DomainsView) (f : FirstReads ds domain m ws after) (ts : List Template) → AreTemplatesOf (again ds m domain) ts → IsPrepared ds m (prepared_as ws ts) f.given
+is_prepared ds m domain ws after f ts are = record {
+  changes = subst (λ (d : ℕ). MayChange ds m d ws) (sym f.domain_is) f.changes;
+  read = subst (λ (d : ℕ). message_gives (with_withdrawn ds d ws) m ≡ Ok f.given) (sym f.domain_is) f.read;
+  again = subst (λ (d : ℕ). AreTemplatesOf (again ds m d) ts) (sym f.domain_is) are;
 }
 
 -- none
-pub taken_first : (k : Known) (m : List ℕ) (domain : ℕ) (r : DatagramReading) (f : FirstReads k domain m r) → AreAgain k m f.given [] → (x : Message) × IsTaken k m (preparation_of r) x × Leaves r.after x
-taken_first k m domain r f are =
-    let p = is_prepared k m domain r f [] are in (
+pub taken_first : (ds : History) (m : List ℕ) (domain : ℕ) (r : DatagramReading) → FirstReads ds domain m r.withdrawn.items r.after → AreTemplatesOf (again ds m domain) (values r.defined) → values r.defined ≡ []
+    → ((id : ℕ) → get nat_cmp r.definitions id ≡ last_definition m id) → (x : Message) × IsReadingOf ds m r x
+taken_first ds m domain r f are none defines =
+    let d = f.given.header.domain in
+    let p = is_prepared ds m domain r.withdrawn.items r.after f (values r.defined) are in (
       f.given,
-      subst (λ (ts : List Template). IsTaken k m (record { withdrawn = r.withdrawn.items; defined = ts }) f.given) (sym f.none) (record { first = f.given; is_prepared = p; read = p.read }),
-      f.leaves,
+      record {
+        taken = record { first = f.given; is_prepared = p; read = ap (λ (ts : List Template). given_after ds d (prepared_as r.withdrawn.items ts) m) none ∙ p.read };
+        leaves = f.leaves;
+        defines = defines;
+      },
     )
 
 -- some
-pub can_prepare : (k : Known) (m : List ℕ) (domain : ℕ) (r : DatagramReading) (f : FirstReads k domain m r) (ts : List Template) → ts ≢ [] → IsSound k → AreAgain k m f.given ts
-    → (knows k.files domain ≡ true) × CanDefine (events_in (with_withdrawn k.files domain r.withdrawn.items) domain) ts
-can_prepare k m domain r f ts some sound are = elim (again_knows k m f.given ts sound are) [
+pub can_prepare : (ds : History) (m : List ℕ) (domain : ℕ) (ws : List WithdrawnTemplate) (ts : List Template) → ts ≢ [] → AreTemplatesOf (again ds m domain) ts → (knows ds domain ≡ true) × CanDefine (events_in (with_withdrawn ds domain ws) domain) ts
+can_prepare ds m domain ws ts some are = elim (again_knows ds m domain ts are) [
   | inl none ↦ absurd (some none)
-  | inr there ↦ (
-    subst (λ (d : ℕ). knows k.files d ≡ true) f.domain_is there,
-    subst (λ (d : ℕ). CanDefine (events_in (with_withdrawn k.files d r.withdrawn.items) d) ts) f.domain_is (can_define k m f.given r.withdrawn.items ts sound are),
-  )
+  | inr there ↦ (there, can_define ds m domain ws ts are)
 ]
 
-pub taken_again : (k : Known) (m : List ℕ) (domain : ℕ) (r : DatagramReading) (f : FirstReads k domain m r) (ts : List Template) (after : DomainsView) → AreAgain k m f.given ts → Reads k.files domain (record { withdrawn = r.withdrawn.items; defined = ts }) m after
-    → (x : Message) × IsTaken k m (record { withdrawn = r.withdrawn.items; defined = ts }) x × Leaves after x
-taken_again k m domain r f ts after are reads = (
+pub taken_again : (ds : History) (m : List ℕ) (domain : ℕ) (r : DatagramReading) (after : DomainsView) → FirstReads ds domain m r.withdrawn.items after → AreTemplatesOf (again ds m domain) (values r.defined) → Reads ds domain (preparation_of r) m r.after
+    → ((id : ℕ) → get nat_cmp r.definitions id ≡ last_definition m id) → (x : Message) × IsReadingOf ds m r x
+taken_again ds m domain r after f are reads defines = (
   reads.given,
   record {
-    first = f.given;
-    is_prepared = is_prepared k m domain r f ts are;
-    read = subst (λ (d : ℕ). message_gives (prepared k.files d (record { withdrawn = r.withdrawn.items; defined = ts })) m ≡ Ok reads.given) (sym f.domain_is) reads.read;
+    taken = record {
+      first = f.given;
+      is_prepared = is_prepared ds m domain r.withdrawn.items after f (values r.defined) are;
+      read = subst (λ (d : ℕ). given_after ds d (preparation_of r) m ≡ Ok reads.given) (sym f.domain_is) reads.read;
+    };
+    leaves = reads.leaves;
+    defines = defines;
   },
-  reads.leaves,
 )
 
-pub refused_again : (k : Known) (m : List ℕ) (domain : ℕ) (r : DatagramReading) (f : FirstReads k domain m r) (ts : List Template) (fault : MessageFault) → AreAgain k m f.given ts
-    → Fails fault (message_gives (prepared k.files domain (record { withdrawn = r.withdrawn.items; defined = ts })) m) → IsRefused k m fault
-refused_again k m domain r f ts fault are fails = elim (fails_or fault (message_gives (prepared k.files domain (record { withdrawn = r.withdrawn.items; defined = ts })) m) fails) [
+pub refused_again : (ds : History) (m : List ℕ) (domain : ℕ) (ws : List WithdrawnTemplate) (after : DomainsView) (ts : List Template) (fault : MessageFault) → FirstReads ds domain m ws after → AreTemplatesOf (again ds m domain) ts
+    → Fails fault (given_after ds domain (prepared_as ws ts) m) → IsRefused ds m fault
+refused_again ds m domain ws after ts fault f are fails = elim (fails_or fault (given_after ds domain (prepared_as ws ts) m) fails) [
   | inl e ↦ inl e
-  | inr e ↦ inr (inr (inr (inr (record {
-    preparation = record { withdrawn = r.withdrawn.items; defined = ts };
+  | inr e ↦ inr (inr (inr (record {
+    preparation = prepared_as ws ts;
     first = f.given;
-    is_prepared = is_prepared k m domain r f ts are;
-    fault = subst (λ (d : ℕ). message_gives (prepared k.files d (record { withdrawn = r.withdrawn.items; defined = ts })) m ≡ Err fault) (sym f.domain_is) e;
-  }))))
+    is_prepared = is_prepared ds m domain ws after f ts are;
+    fault = subst (λ (d : ℕ). given_after ds d (prepared_as ws ts) m ≡ Err fault) (sym f.domain_is) e;
+  })))
 ]
 
 -- what a datagram that is taken is prepared by can be done
-pub taken_prepares : (k : Known) (m : List ℕ) (h : Header) (p : Preparation) (x : Message) → message_header m ≡ Ok h → IsSound k → IsTaken k m p x → CanPrepare k.files h.domain p
-taken_prepares k m h p x good sound taken =
+pub taken_prepares : (ds : History) (m : List ℕ) (h : Header) (p : Preparation) (x : Message) → message_header m ≡ Ok h → IsTaken ds m p x → CanPrepare ds h.domain p
+taken_prepares ds m h p x good taken =
     let q = taken.is_prepared in
-    let same : taken.first.header ≡ h = header_same (with_withdrawn k.files taken.first.header.domain p.withdrawn) m h taken.first good q.read in
-    subst (λ (g : Header). CanPrepare k.files g.domain p) same (by_cases (again_knows k m taken.first p.defined sound q.again) q.changes)
+    let same : taken.first.header ≡ h = header_same (with_withdrawn ds taken.first.header.domain p.withdrawn) m h taken.first good q.read in
+    subst (λ (g : Header). CanPrepare ds g.domain p) same (by_cases (again_knows ds m d p.defined q.again) q.changes)
   where
     d : ℕ
     d = taken.first.header.domain
 
-    can : CanDefine (events_in (with_withdrawn k.files d p.withdrawn) d) p.defined
-    can = can_define k m taken.first p.withdrawn p.defined sound taken.is_prepared.again
+    can : CanDefine (events_in (with_withdrawn ds d p.withdrawn) d) p.defined
+    can = can_define ds m d p.withdrawn p.defined taken.is_prepared.again
 
-    good_first : message_header m ≡ Ok taken.first.header
-    good_first = (was_read (with_withdrawn k.files d p.withdrawn) m taken.first taken.is_prepared.read).header
+    none_of : p.withdrawn ≡ [] → p.defined ≡ [] → CanPrepare ds d p
+    none_of none nor = inl (ap₂ (λ (ws : List WithdrawnTemplate) (ts : List Template). prepared_as ws ts) none nor)
 
-    by_cases : (p.defined ≡ []) ⊎ (knows k.files d ≡ true) → MayChange k.files m d p.withdrawn → CanPrepare k.files d p
+    by_changes : p.defined ≡ [] → (p.withdrawn ≡ []) ⊎ (knows ds d ≡ true) → CanPrepare ds d p
+    by_changes nor (inl none) = none_of none nor
+    by_changes nor (inr there) = inr (there, can)
+
+    by_cases : (p.defined ≡ []) ⊎ (knows ds d ≡ true) → MayChange ds m d p.withdrawn → CanPrepare ds d p
     by_cases (inr there) changes = inr (there, can)
-    by_cases (inl none) (inr c) = inr (changes_knows k.files m taken.first.header p.withdrawn good_first c, can)
-    by_cases (inl none) (inl nor) = inl (ap₂ (λ (ws : List WithdrawnTemplate) (ts : List Template). prepared_as ws ts) nor none)
+    by_cases (inl nor) (inr c) = by_changes nor (changes_knows ds m d p.withdrawn c)
+    by_cases (inl nor) (inl none) = none_of none nor
 
 pub admit_ok : (ds : History) (domain : ℕ) → knows ds domain ≡ true → IsOk (admit ds domain)
 admit_ok ds domain there = rw (admitted ds domain there) refl
 
--- ---- the octets of a message
+-- ---- templates by id, or none
 
-pub long_enough : (m : List ℕ) (h : Header) → message_header m ≡ Ok h → 16 ≤ length m
-unfolding message_header
-long_enough m h good = by_test (ltb (length m) 16) refl good
+pub no_values : (ts : BTreeMap ℕ Template) → length ts.entries ≡ 0 → values ts ≡ []
+no_values ts none = by_entries ts.entries none
   where
-    by_test : (b : Bool) → ltb (length m) 16 ≡ b → cond b (Err MessageLength) (of_wire (header_at m) >>= λ k. cond (eqb k.length (length m)) (Ok k) (Err MessageLength)) ≡ Ok h → 16 ≤ length m
-    by_test true is e = absurd (not_both h MessageLength (sym e))
-    by_test false is e = ltb-false (length m) 16 is
+    by_entries : (es : List (ℕ × Template)) → length es ≡ 0 → map (λ (e : ℕ × Template). e.1) es ≡ []
+    by_entries [] e = refl
+    by_entries (x ∷ xs) e = absurd cc
 
-pub no_values : (ts : BTreeMap ℕ Template) → ts.entries ≡ [] → values ts ≡ []
-no_values ts none = ap (λ (es : List (ℕ × Template)). map (λ (e : ℕ × Template). e.1) es) none
-
-abbrev empty : List WithdrawnTemplate
-empty = []
-
-pub some_values : (ts : BTreeMap ℕ Template) → (empty ≡ [] → ts.entries ≡ [] → ⊥) → values ts ≢ []
-some_values ts some = λ none. some refl (no_entries ts.entries none)
+pub some_values : (ts : BTreeMap ℕ Template) → (length ts.entries ≡ 0 → ⊥) → values ts ≢ []
+some_values ts some = λ none. some (no_entries ts.entries none)
   where
-    no_entries : (es : List (ℕ × Template)) → map (λ (e : ℕ × Template). e.1) es ≡ [] → es ≡ []
+    no_entries : (es : List (ℕ × Template)) → map (λ (e : ℕ × Template). e.1) es ≡ [] → length es ≡ 0
     no_entries [] e = refl
     no_entries (x ∷ xs) e = absurd cc

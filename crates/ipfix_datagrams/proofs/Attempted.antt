@@ -11,10 +11,10 @@ use Rattle.ipfix_message.specs.declared.fault.MessageFault.{MessageFault}
 use Rattle.ipfix_message.specs.TemplatesInForce.{in_force}
 use Rattle.ipfix_message.specs.Outcome.{Fails}
 use Rattle.ipfix_message.specs.Messages.{Decoding}
-use Rattle.ipfix_message.specs.Domains.{DomainsView, History, Message, StandsFor, admit, alone, events_in, template_for, message_header, message_gives}
+use Rattle.ipfix_message.specs.Domains.{DomainsView, History, Message, admit, alone, events_in, template_for, message_header, message_gives}
 use Rattle.ipfix_message.specs.Alike.{Alike, knows}
 use Rattle.ipfix_message.proofs.PartsOf.{HasRoom}
-use Rattle.ipfix_datagrams.specs.Datagrams.{Preparation, prepared, with_withdrawn}
+use Rattle.ipfix_datagrams.specs.Datagrams.{Preparation, Represents, prepared, with_withdrawn}
 use Rattle.ipfix_datagrams.specs.Attempts.{IsSomething, CanDefine, CanPrepare, Reads}
 use Rattle.ipfix_datagrams.proofs.WithdrawnDomains.{alone_none, same_withdrawn, alone_events, alone_knows}
 use Rattle.ipfix_datagrams.proofs.Defined.{knows-prepared, same_prepared}
@@ -86,8 +86,8 @@ behind fs ds m h x y id good read same =
     ap (λ (k : Header). template_for x.domains k.domain id) (sym (header_same fs m h x good read)) ∙ template_behind fs m x id read ∙ ap (λ (d : Decoding). in_force d.events id) same.1
 
 pub attempt_reads : (ds : History) (m : List ℕ) (h : Header) (p : Preparation) (x : Message) (after : DomainsView) → message_header m ≡ Ok h → IsOk (admit ds h.domain) → CanPrepare ds h.domain p
-    → message_gives (copy ds h.domain p) m ≡ Ok x → after.spent ≡ false → StandsFor after.domains x.domains → Reads ds h.domain p m after
-attempt_reads ds m h p x after good ok can read fresh stands =
+    → message_gives (copy ds h.domain p) m ≡ Ok x → Represents after x.domains → Reads ds h.domain p m after
+attempt_reads ds m h p x after good ok can read represents =
     let y = alike_given (message_gives (copy ds h.domain p) m) (message_gives (prepared ds h.domain p) m) x (copy_reads ds m h p good ok can) read in
     let same : y.0.header ≡ h = header_same (prepared ds h.domain p) m h y.0 good y.1 in
     record {
@@ -95,9 +95,8 @@ attempt_reads ds m h p x after good ok can read fresh stands =
       domain_is = ap (λ (k : Header). k.domain) same;
       read = y.1;
       leaves = record {
-        fresh = fresh;
         history = x.domains;
-        stands = stands;
+        represents = represents;
         same = λ id. ap (λ (k : Header). template_for x.domains k.domain id) same ∙ behind (copy ds h.domain p) ds m h x y.0 id good read y.2;
       };
     }

@@ -1,6 +1,5 @@
 -- A message that defines a template is read: it gives no record, and the template is in force.
-use Rattle.std.proofs.Common.{◌≡◌, ℕ, ◌+◌, ◌^◌, ◌<◌, Bool, true, false, List, [], ◌∷◌, length, drop, Option, Some, None, Result, Ok, refl, sym, ap, subst, ◌∙◌, eqb, arith, inl, inr}
-use Rattle.std.specs.Prelude.{◌⊎◌}
+use Rattle.std.proofs.Common.{◌≡◌, ℕ, ◌+◌, ◌^◌, ◌<◌, Bool, true, false, List, [], ◌∷◌, length, drop, Option, Some, Result, Ok, refl, sym, ap, subst, ◌∙◌, eqb, arith, inl, inr}
 use Rattle.std.specs.Option.{unwrap_or}
 use Rattle.std.specs.Map.{lookup}
 use Rattle.std.proofs.lemmas.List.{append-nil, drop_at}
@@ -24,15 +23,11 @@ use Rattle.ipfix_message.specs.declared.stamp.Stamp.{Stamp}
 use Rattle.ipfix_message.specs.TemplateMessages.{IsStamp, sets_octets, stamped, templates_message}
 use Rattle.ipfix_message.proofs.TemplateMessages.{Below, sets_read, header_is}
 use Rattle.ipfix_datagrams.specs.declared.withdrawn_template.WithdrawnTemplate.{WithdrawnTemplate}
-use Rattle.ipfix_datagrams.specs.Datagrams.{Preparation, with_one_withdrawn, with_withdrawn, with_one_defined, with_defined, prepared}
-use Rattle.ipfix_datagrams.specs.Attempts.{CanDefine, Defining}
+use Rattle.ipfix_datagrams.specs.Datagrams.{Preparation, Represents, with_one_withdrawn, with_withdrawn, with_one_defined, with_defined, prepared}
+use Rattle.ipfix_datagrams.specs.Attempts.{IsFree, CanDefine, Defining}
 use Rattle.ipfix_datagrams.proofs.Events.{knows-events, events_now}
 use Rattle.ipfix_datagrams.proofs.Withdrawn.{given_by, admitted}
 use Rattle.ipfix_datagrams.proofs.WithdrawnDomains.{knows-withdrawn, same_withdrawn}
-
--- no template is in force for its id, or this one is
-abbrev pub IsFree : List Event → Template → Type 0
-IsFree es t = (in_force es t.id ≡ None) ⊎ (in_force es t.id ≡ Some t)
 
 -- ---- the message
 
@@ -135,11 +130,10 @@ pub others_prepared : (ds : History) (domain q : ℕ) (p : Preparation) → eqb 
 others_prepared ds domain q p other = others_defined (with_withdrawn ds domain p.withdrawn) domain q p.defined other ∙ others_withdrawn ds domain q p.withdrawn other
 
 -- none yet
-pub defining_first : (ds : History) (domain : ℕ) (all rest : List Template) (d : DomainsView) → rest ≡ all → d.spent ≡ false → StandsFor d.domains ds → knows ds domain ≡ true → CanDefine (events_in ds domain) all → Defining ds domain all rest d
-defining_first ds domain all rest d same fresh stands there can = record {
-  fresh = fresh;
+pub defining_first : (ds : History) (domain : ℕ) (all rest : List Template) (d : DomainsView) → rest ≡ all → Represents d ds → knows ds domain ≡ true → CanDefine (events_in ds domain) all → Defining ds domain all rest d
+defining_first ds domain all rest d same represents there can = record {
   now = ds;
-  stands = stands;
+  represents = represents;
   there = there;
   can = subst (CanDefine (events_in ds domain)) (sym same) can;
   same = ap (with_defined ds domain) same;
@@ -147,24 +141,23 @@ defining_first ds domain all rest d same fresh stands there can = record {
 
 -- one more
 pub defining_more : (ds : History) (domain : ℕ) (all ts rest : List Template) (t u : Template) (old new : DomainsView) (f : Defining ds domain all ts old) → ts ≡ t ∷ rest → u ≡ t
-    → ((in_force (events_in f.now domain) u.id ≡ None) ⊎ (in_force (events_in f.now domain) u.id ≡ Some u) → (new.spent ≡ false) × StandsFor new.domains (with_one_defined f.now domain u)) → Defining ds domain all rest new
+    → (IsFree (events_in f.now domain) u → Represents new (with_one_defined f.now domain u)) → Defining ds domain all rest new
 defining_more ds domain all ts rest t u old new f step same one =
     let can : CanDefine (events_in f.now domain) (t ∷ rest) = subst (CanDefine (events_in f.now domain)) step f.can in
     let done = one (subst (IsFree (events_in f.now domain)) (sym same) can.0) in
     record {
-      fresh = done.0;
       now = with_one_defined f.now domain t;
-      stands = subst (λ (v : Template). StandsFor new.domains (with_one_defined f.now domain v)) same done.1;
+      represents = subst (λ (v : Template). Represents new (with_one_defined f.now domain v)) same done;
       there = knows-one_defined f.now domain t f.there;
       can = subst (λ (es : List Event). CanDefine es rest) (sym (defined_now f.now domain t f.there)) can.1;
       same = sym (ap (with_defined f.now domain) step) ∙ f.same;
     }
 
 pub defining_free : (ds : History) (domain : ℕ) (all ts rest : List Template) (t u : Template) (d : DomainsView) (f : Defining ds domain all ts d) → ts ≡ t ∷ rest → u ≡ t
-    → (in_force (events_in f.now domain) u.id ≡ None) ⊎ (in_force (events_in f.now domain) u.id ≡ Some u)
+    → IsFree (events_in f.now domain) u
 defining_free ds domain all ts rest t u d f step same =
     let can : CanDefine (events_in f.now domain) (t ∷ rest) = subst (CanDefine (events_in f.now domain)) step f.can in
     subst (IsFree (events_in f.now domain)) (sym same) can.0
 
-pub defined_whole : (ds : History) (domain : ℕ) (all rest : List Template) (d : DomainsView) → Defining ds domain all rest d → rest ≡ [] → (d.spent ≡ false) × StandsFor d.domains (with_defined ds domain all)
-defined_whole ds domain all rest d f none = (f.fresh, subst (StandsFor d.domains) (sym (ap (with_defined f.now domain) none) ∙ f.same) f.stands)
+pub defined_whole : (ds : History) (domain : ℕ) (all rest : List Template) (d : DomainsView) → Defining ds domain all rest d → rest ≡ [] → Represents d (with_defined ds domain all)
+defined_whole ds domain all rest d f none = subst (Represents d) (sym (ap (with_defined f.now domain) none) ∙ f.same) f.represents

@@ -1,4 +1,6 @@
 pub mod Events
+pub mod FirstAndLast
+pub mod Given
 pub mod Withdrawn
 pub mod WithdrawnDomains
 pub mod Readings

@@ -97,7 +97,7 @@ only_memory fault read x fails is = elim (fails_or fault read fails) [ inl e ↦
 
 -- ---- the templates of a domain
 
-none_in : (id : ℕ) → in_force [] id ≡ None
+pub none_in : (id : ℕ) → in_force [] id ≡ None
 unfolding in_force
 none_in id = refl
 

@@ -1,71 +1,49 @@
--- The templates that a datagram has by itself, and those that they replace.
-use Rattle.std.proofs.Common.{◌≡◌, ℕ, Bool, true, false, cond, List, [], ◌∷◌, ◌++◌, append_assoc, map, Option, Some, None, Ok, refl, sym, ap, ap₂, subst, ◌∙◌}
-use Rattle.std.specs.Prelude.{All, flat_map, not, ◌==◌}
+-- Templates by their ids, and those that they replace.
+use Rattle.std.proofs.Common.{◌≡◌, ℕ, Bool, true, false, cond, List, [], ◌∷◌, ◌++◌, append_assoc, map, length, Option, Some, None, refl, sym, ap, ap₂, subst, ◌∙◌, arith}
+use Rattle.std.specs.Prelude.{All, Contains, flat_map, not, ◌==◌}
 use Rattle.std.specs.Bool.{Decides}
 use Rattle.std.specs.List.Sorted.{IsStrictlySortedBy}
 use Rattle.std.specs.Ordering.{nat_cmp}
 use Rattle.std.specs.BTreeMap.{BTreeMap, get, values, IsOrdered}
-use Rattle.std.proofs.lemmas.List.{append-nil}
+use Rattle.std.proofs.lemmas.List.{append-nil, length-map, get_or-map}
 use Rattle.std.proofs.lemmas.Cmp.{nat_cmp_total}
-use Rattle.std.proofs.lemmas.Map.Views.{All-found}
-use Rattle.std.proofs.lemmas.List.Elements.{All-nil, All-cons, All-head, All-tail, All-append}
-use Rattle.ipfix_wire.specs.declared.header.Header.{Header}
+use Rattle.std.proofs.lemmas.Map.Lookups.{exact_unsigned}
+use Rattle.std.proofs.lemmas.Map.Views.{All-found, btree_map_get_iff}
+use Rattle.std.proofs.lemmas.List.Elements.{All-nil, All-cons, All-head, All-tail, All-append, All-map, All-weaker}
 use Rattle.ipfix_message.specs.declared.record.Template.{Template}
-use Rattle.ipfix_message.specs.TemplatesInForce.{in_force, same_template}
+use Rattle.ipfix_message.specs.TemplatesInForce.{same_template}
 use Rattle.ipfix_message.specs.WrittenTemplates.{IsTemplate}
-use Rattle.ipfix_message.specs.Domains.{History, Message, events_in, template_for, message_header, message_gives}
-use Rattle.ipfix_message.proofs.LastDefinition.{in_force-found}
+use Rattle.ipfix_message.specs.Domains.{History, events_in, template_for}
 use Rattle.ipfix_message.proofs.Same.{is_same_template}
-use Rattle.ipfix_session.proofs.TemplateLists.{map_in_force}
 use Rattle.ipfix_datagrams.specs.declared.withdrawn_template.WithdrawnTemplate.{WithdrawnTemplate}
 use Rattle.ipfix_datagrams.specs.Withdrawals.{HasTemplateId}
-use Rattle.ipfix_datagrams.specs.Datagrams.{HasOwn, replaced, replaced_by}
-use Rattle.ipfix_datagrams.proofs.Readings.{header_same, template_behind, template_is}
+use Rattle.ipfix_datagrams.specs.Datagrams.{AreTemplatesOf, replaced, replaced_by}
+use Rattle.ipfix_datagrams.proofs.Readings.{template_is}
 
--- ---- its own
-
--- the templates of its domain after a message, where that is the domain of this header
-behind : (m : List ℕ) (h : Header) (y : Message) (id : ℕ) → message_header m ≡ Ok h → message_gives [] m ≡ Ok y → template_for y.domains h.domain id ≡ in_force y.decoding.events id
-behind m h y id good read = ap (λ (k : Header). template_for y.domains k.domain id) (sym (header_same [] m h y good read)) ∙ template_behind [] m y id read
+-- ---- by their ids
 
 -- the ids of a map's templates are its keys
-pub ids_are : (es : List (ℕ × Template)) → All (λ e. e.1.id ≡ e.0) es → map (λ (t : Template). t.id) (map (λ (e : ℕ × Template). e.1) es) ≡ map (λ (e : ℕ × Template). e.0) es
+ids_are : (es : List (ℕ × Template)) → All (λ e. e.1.id ≡ e.0) es → map (λ (t : Template). t.id) (map (λ (e : ℕ × Template). e.1) es) ≡ map (λ (e : ℕ × Template). e.0) es
 ids_are [] all = refl
 ids_are (e ∷ es) all = ap₂ (λ (i : ℕ) (is : List ℕ). i ∷ is) (All-head (λ f. f.1.id ≡ f.0) e es all) (ids_are es (All-tail (λ f. f.1.id ≡ f.0) e es all))
 
-pub each_id : (m : BTreeMap ℕ Template) (f : ℕ → Option Template) (es : List (ℕ × Template)) → ((id : ℕ) (t : Template) → f id ≡ Some t → t.id ≡ id) → ((id : ℕ) → get nat_cmp m id ≡ f id)
+each_id : (m : BTreeMap ℕ Template) (f : ℕ → Option Template) (es : List (ℕ × Template)) → ((id : ℕ) (t : Template) → f id ≡ Some t → t.id ≡ id) → ((id : ℕ) → get nat_cmp m id ≡ f id)
     → All (λ e. get nat_cmp m e.0 ≡ Some e.1) es → All (λ e. e.1.id ≡ e.0) es
 each_id m f [] of_id same all = All-nil (λ e. e.1.id ≡ e.0)
 each_id m f (e ∷ es) of_id same all =
     All-cons (λ g. g.1.id ≡ g.0) e es (of_id e.0 e.1 (sym (same e.0) ∙ All-head (λ g. get nat_cmp m g.0 ≡ Some g.1) e es all)) (each_id m f es of_id same (All-tail (λ g. get nat_cmp m g.0 ≡ Some g.1) e es all))
 
-pub own_some : (m : List ℕ) (h : Header) (y : Message) (t : BTreeMap ℕ Template) → message_header m ≡ Ok h → message_gives [] m ≡ Ok y → IsOrdered nat_cmp t
-    → ((id : ℕ) → get nat_cmp t id ≡ template_for y.domains h.domain id) → HasOwn m h.domain (values t)
-own_some m h y t good read ordered same =
-    let in_events : (id : ℕ) → get nat_cmp t id ≡ in_force y.decoding.events id = λ id. same id ∙ behind m h y id good read in
-    let ids = each_id t (in_force y.decoding.events) t.entries (λ id u there. (in_force-found y.decoding.events id u there).0) in_events (All-found nat_cmp_total t ordered) in
-    record {
-      own = y;
-      is = read;
-      domain_is = ap (λ (k : Header). k.domain) (header_same [] m h y good read);
-      are = map_in_force t y.decoding.events ordered in_events;
-      ascending = subst (IsStrictlySortedBy nat_cmp) (sym (ids_are t.entries ids)) ordered;
-    }
+contains_map : {X Y : Type 0} (f : X → Y) (xs : List X) (x : X) → Contains xs x → Contains (map f xs) (f x)
+contains_map f xs x c = let size : length (map f xs) ≡ length xs = length-map _ _ in (c.0, omega (arith, c.1, size), get_or-map f xs c.0 x (f x) c.1 ∙ ap f c.2)
 
-some_none : {X : Type 0} (o : Option X) (x : X) → o ≡ Some x → o ≡ None → ⊥
-some_none o x some none = cc
-
-pub own_none : (m : List ℕ) (h : Header) (y : Message) → message_header m ≡ Ok h → message_gives [] m ≡ Ok y → ((id : ℕ) → None ≡ template_for y.domains h.domain id) → HasOwn m h.domain []
-unfolding IsStrictlySortedBy
-own_none m h y good read none = record {
-  own = y;
-  is = read;
-  domain_is = ap (λ (k : Header). k.domain) (header_same [] m h y good read);
-  are = record {
-    each = All-nil _;
-    all = λ t there. absurd (some_none (in_force y.decoding.events t.id) t there (sym (none t.id ∙ behind m h y t.id good read)));
-  };
-  ascending = tt;
+-- the templates of a map that has at each id what f has
+pub are_templates : (f : ℕ → Option Template) (ts : BTreeMap ℕ Template) → ((id : ℕ) (t : Template) → f id ≡ Some t → t.id ≡ id) → IsOrdered nat_cmp ts → ((id : ℕ) → get nat_cmp ts id ≡ f id) → AreTemplatesOf f (values ts)
+are_templates f ts of_id ordered same = record {
+  each = All-map (λ t. f t.id ≡ Some t) (λ (e : ℕ × Template). e.1) ts.entries (All-weaker (λ e. get nat_cmp ts e.0 ≡ Some e.1) (λ e. f e.1.id ≡ Some e.1) (λ e found.
+      let there : f e.0 ≡ Some e.1 = sym (same e.0) ∙ found in
+      ap f (of_id e.0 e.1 there) ∙ there) ts.entries (All-found nat_cmp_total ts ordered));
+  all = λ t there. contains_map (λ (e : ℕ × Template). e.1) ts.entries (t.id, t) ((btree_map_get_iff nat_cmp_total exact_unsigned ts ordered t.id t).0 (same t.id ∙ there));
+  ascending = subst (IsStrictlySortedBy nat_cmp) (sym (ids_are ts.entries (each_id ts f ts.entries of_id same (All-found nat_cmp_total ts ordered)))) ordered;
 }
 
 -- ---- what they replace

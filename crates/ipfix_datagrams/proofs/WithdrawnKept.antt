@@ -11,20 +11,17 @@ use Rattle.std.proofs.lemmas.Cmp.{nat_cmp_total}
 use Rattle.std.proofs.lemmas.Map.Lookups.{exact_unsigned}
 use Rattle.std.proofs.lemmas.Map.Views.{btree_map_contains_key_iff, list_any-from_Contains}
 use Rattle.ipfix_message.specs.declared.record.Template.{Template}
-
--- what is at an id when a loop has gone over all of them
-abbrev pub ended_at : Option Template → Option Template → Option Template → Option Template
-ended_at after before old = cond (is_some after) old (option_or before old)
+use Rattle.ipfix_datagrams.specs.Attempts.{with_ended}
 
 -- at an id it is so already, or the id is still to come
 abbrev pub Ending : (ℕ → Option Template) → (ℕ → Option Template) → (ℕ → Option Template) → (ℕ → Option Template) → List ℕ → Type 0
-Ending after before old now rest = (q : ℕ) → (now q ≡ ended_at (after q) (before q) (old q)) ⊎ ((list_any (eqb q) rest ≡ true) × (now q ≡ old q))
+Ending after before old now rest = (q : ℕ) → (now q ≡ with_ended (after q) (before q) (old q)) ⊎ ((list_any (eqb q) rest ≡ true) × (now q ≡ old q))
 
 or_twice : (a b : Option Template) → option_or a (option_or a b) ≡ option_or a b
 or_twice None b = refl
 or_twice (Some t) b = refl
 
-nothing_ended : (after old : Option Template) → ended_at after None old ≡ old
+nothing_ended : (after old : Option Template) → with_ended after None old ≡ old
 nothing_ended None old = refl
 nothing_ended (Some t) old = refl
 
@@ -38,7 +35,7 @@ ending_known after before old now k ks known so_far q = elim (so_far q) [
   ]
 ]
   where
-    at_known : (a b o : Option Template) → is_some a ≡ true → o ≡ ended_at a b o
+    at_known : (a b o : Option Template) → is_some a ≡ true → o ≡ with_ended a b o
     at_known (Some t) b o e = refl
     at_known None b o e = absurd cc
 
@@ -60,11 +57,11 @@ ending_more after before old now new k ks ended so_far is q = elim (eqb_tells q 
       ]
 ]
   where
-    at_ended : (a b o : Option Template) → is_some a ≡ false → option_or b (ended_at a b o) ≡ ended_at a b o
+    at_ended : (a b o : Option Template) → is_some a ≡ false → option_or b (with_ended a b o) ≡ with_ended a b o
     at_ended None b o e = or_twice b o
     at_ended (Some t) b o e = absurd cc
 
-    first_ended : (a b o : Option Template) → is_some a ≡ false → option_or b o ≡ ended_at a b o
+    first_ended : (a b o : Option Template) → is_some a ≡ false → option_or b o ≡ with_ended a b o
     first_ended None b o e = refl
     first_ended (Some t) b o e = absurd cc
 
@@ -72,12 +69,12 @@ ending_more after before old now new k ks ended so_far is q = elim (eqb_tells q 
 pub ending_first : (after : ℕ → Option Template) (m : BTreeMap ℕ Template) (old : ℕ → Option Template) → Ending after (get nat_cmp m) old old (keys m)
 ending_first after m old q = by_cases (get nat_cmp m q) refl
   where
-    by_cases : (o : Option Template) → get nat_cmp m q ≡ o → (old q ≡ ended_at (after q) (get nat_cmp m q) (old q)) ⊎ ((list_any (eqb q) (keys m) ≡ true) × (old q ≡ old q))
-    by_cases None e = inl (sym (ap (λ (b : Option Template). ended_at (after q) b (old q)) e ∙ nothing_ended (after q) (old q)))
+    by_cases : (o : Option Template) → get nat_cmp m q ≡ o → (old q ≡ with_ended (after q) (get nat_cmp m q) (old q)) ⊎ ((list_any (eqb q) (keys m) ≡ true) × (old q ≡ old q))
+    by_cases None e = inl (sym (ap (λ (b : Option Template). with_ended (after q) b (old q)) e ∙ nothing_ended (after q) (old q)))
     by_cases (Some t) e = inr (list_any-from_Contains nat_eq_equiv q (keys m) ((btree_map_contains_key_iff nat_cmp_total exact_unsigned m q).0 (ap is_some e)), refl)
 
 -- at the end
-pub all_ended : (after before old now : ℕ → Option Template) (rest : List ℕ) → Ending after before old now rest → rest ≡ [] → (q : ℕ) → now q ≡ ended_at (after q) (before q) (old q)
+pub all_ended : (after before old now : ℕ → Option Template) (rest : List ℕ) → Ending after before old now rest → rest ≡ [] → (q : ℕ) → now q ≡ with_ended (after q) (before q) (old q)
 all_ended after before old now rest so_far none q = elim (so_far q) [
   | inl done ↦ done
   | inr more ↦ let no : false ≡ true = sym (ap (list_any (eqb q)) none) ∙ more.0 in absurd cc

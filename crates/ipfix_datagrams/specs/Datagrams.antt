@@ -1,46 +1,70 @@
 -- What the datagrams of a peer give (RFC 7011, sections 8.1 and 8.4). Over UDP a definition replaces an older one of its id, and a
 -- withdrawal is ignored. In the files, which are read by the rules of a connection, a withdrawal ends its template.
-use Rattle.std.specs.Prelude.{◌≡◌, ◌≢◌, ◌⊎◌, ◌==◌, ℕ, Bool, is_some, List, [], ◌∷◌, map, drop, flat_map, if◌then◌else◌, Option, Some, None, Ok, Err, All, Contains}
-use Rattle.std.specs.Option.{option_or}
+use Rattle.std.specs.Prelude.{◌≡◌, ◌≢◌, ◌⊎◌, ◌==◌, ℕ, Bool, false, is_some, List, [], ◌∷◌, map, reverse, drop, flat_map, if◌then◌else◌, Option, Some, None, Ok, Err, All, Contains}
+use Rattle.std.specs.Option.{option_and_then}
 use Rattle.std.specs.List.{list_any}
 use Rattle.std.specs.List.Sorted.{IsStrictlySortedBy}
 use Rattle.std.specs.Ordering.{nat_cmp}
+use Rattle.std.specs.BTreeMap.{BTreeMap, get, values}
+use Rattle.ipfix_wire.specs.declared.header.Header.{Header}
 use Rattle.ipfix_wire.specs.declared.header.TheConstants.{HEADER_LENGTH}
+use Rattle.ipfix_wire.specs.declared.set.TheConstants.{TEMPLATE_SET_ID, OPTIONS_TEMPLATE_SET_ID}
 use Rattle.ipfix_message.specs.declared.fault.MessageFault.{MessageFault}
 use Rattle.ipfix_message.specs.declared.fault.MessageFault.TheVariants.{TemplateChanged, OutOfMemory}
 use Rattle.ipfix_message.specs.declared.record.Template.{Template}
-use Rattle.ipfix_message.specs.declared.template_record.TemplateKind.TheVariants.{Options}
+use Rattle.ipfix_message.specs.declared.template_record.TemplateKind.TheVariants.{Plain, Options}
 use Rattle.ipfix_message.specs.declared.template_record.Event.{Event}
-use Rattle.ipfix_message.specs.declared.template_record.Event.TheVariants.{Define, Withdraw}
+use Rattle.ipfix_message.specs.declared.template_record.Event.TheVariants.{Define, Withdraw, WithdrawAll}
+use Rattle.ipfix_message.specs.Outcome.{Read}
+use Rattle.ipfix_message.specs.TemplateRecords.{events_of}
 use Rattle.ipfix_message.specs.TemplatesInForce.{in_force, is_of, is_other, same_template}
-use Rattle.ipfix_message.specs.Sets.{sets_of}
-use Rattle.ipfix_message.specs.Domains.{History, Message, events_in, with_events, template_for, message_gives}
-use Rattle.ipfix_session.specs.TemplateLists.{AreInForce}
+use Rattle.ipfix_message.specs.Sets.{Set, sets_of}
+use Rattle.ipfix_message.specs.Domains.{DomainsView, History, Message, StandsFor, events_in, with_events, template_for, message_header, message_gives}
 use Rattle.ipfix_datagrams.specs.Withdrawals.{kind_withdrawn}
 use Rattle.ipfix_datagrams.specs.declared.withdrawn_template.WithdrawnTemplate.{WithdrawnTemplate}
+use Rattle.ipfix_datagrams.specs.declared.reading.DatagramReading.{DatagramReading}
 
--- ---- the templates of a peer
+-- ---- definitions
 
--- the domains as its files leave them, and for a domain and an id the template that is known over UDP
-pub record Known : Type 0 where
-  pub files : History
-  pub over_udp : ℕ → ℕ → Option Template
+-- the first definition of an id in events, where withdrawals are skipped
+unfoldable pub definition_of : List Event → ℕ → Option Template
+definition_of [] id = None
+definition_of (Define t ∷ es) id = if id == t.id then Some t else definition_of es id
+definition_of (Withdraw kind i ∷ es) id = definition_of es id
+definition_of (WithdrawAll kind ∷ es) id = definition_of es id
 
-abbrev pub none_known : Known
-none_known = record { files = []; over_udp = λ domain id. None }
-
--- after a datagram is known over UDP what it leaves in force, and where it leaves none what was known before it
-abbrev pub known_with : Known → Message → Known
-known_with k x = record { files = x.domains; over_udp = λ domain id. option_or (template_for x.domains domain id) (k.over_udp domain id) }
-
--- and after datagrams in turn
-abbrev pub known_from : Known → List Message → Known
-known_from k [] = k
-known_from k (x ∷ xs) = known_from (known_with k x) xs
+-- the template that is known over UDP for an id in a domain: its last definition in the files. The newest event of a domain stands
+-- first
+abbrev pub known_in : History → ℕ → ℕ → Option Template
+known_in ds domain id = definition_of (events_in ds domain) id
 
 -- a template that is known over UDP, and that a withdrawal ended in the files
-abbrev pub withdrawn_in : Known → ℕ → ℕ → Option Template
-withdrawn_in k domain id = if is_some (template_for k.files domain id) then None else k.over_udp domain id
+abbrev pub withdrawn_in : History → ℕ → ℕ → Option Template
+withdrawn_in ds domain id = if is_some (template_for ds domain id) then None else known_in ds domain id
+
+-- the events of a set: those of its template records
+abbrev pub events_of_set : Set → List Event
+events_of_set s =
+    if s.id == TEMPLATE_SET_ID then (events_of Plain s.body).items
+    else if s.id == OPTIONS_TEMPLATE_SET_ID then (events_of Options s.body).items
+    else []
+
+-- the events of a datagram, in the order of its octets
+abbrev pub events_of_message : List ℕ → List Event
+events_of_message m = flat_map events_of_set (sets_of (drop HEADER_LENGTH m)).items
+
+-- its first definition of an id, and its last
+abbrev pub first_definition : List ℕ → ℕ → Option Template
+first_definition m id = definition_of (events_of_message m) id
+
+abbrev pub last_definition : List ℕ → ℕ → Option Template
+last_definition m id = definition_of (reverse (events_of_message m)) id
+
+-- these are the templates that f has at their ids, and no others, in the order of the ids
+pub record AreTemplatesOf (f : ℕ → Option Template) (ts : List Template) : Type 0 where
+  pub each : All (λ t. f t.id ≡ Some t) ts
+  pub all : (t : Template) → f t.id ≡ Some t → Contains ts t
+  pub ascending : IsStrictlySortedBy nat_cmp (map (λ t. t.id) ts)
 
 -- ---- templates that are replaced
 
@@ -53,14 +77,6 @@ abbrev pub with_withdrawn : History → ℕ → List WithdrawnTemplate → Histo
 with_withdrawn ds domain [] = ds
 with_withdrawn ds domain (w ∷ ws) = with_withdrawn (with_one_withdrawn ds domain w) domain ws
 
--- the templates that a datagram by itself leaves, without what came before it, in the order of their ids
-pub record HasOwn (m : List ℕ) (domain : ℕ) (templates : List Template) : Type 0 where
-  pub own : Message
-  pub is : message_gives [] m ≡ Ok own
-  pub domain_is : own.header.domain ≡ domain
-  pub are : AreInForce templates own.decoding.events
-  pub ascending : IsStrictlySortedBy nat_cmp (map (λ t. t.id) templates)
-
 -- what a template replaces: the one in force for its id, if that is another
 abbrev pub replaced_by : Template → Option Template → List WithdrawnTemplate
 replaced_by t None = []
@@ -69,11 +85,12 @@ replaced_by t (Some u) = if same_template t u then [] else record { id = t.id; i
 abbrev pub replaced : List Event → List Template → List WithdrawnTemplate
 replaced es ts = flat_map (λ t. replaced_by t (in_force es t.id)) ts
 
--- a datagram defines a template otherwise than it is in force; those that its own templates replace are withdrawn, and no others
+-- a datagram defines a template otherwise than it is in force; those in force are withdrawn that its first definitions replace, and
+-- no others
 pub record Changes (ds : History) (m : List ℕ) (domain : ℕ) (ws : List WithdrawnTemplate) : Type 0 where
   pub changed : message_gives ds m ≡ Err TemplateChanged
   pub templates : List Template
-  pub has_own : HasOwn m domain templates
+  pub are_first : AreTemplatesOf (first_definition m) templates
   pub are : ws ≡ replaced (events_in ds domain) templates
 
 -- and before any other none is
@@ -95,21 +112,15 @@ with_defined ds domain (t ∷ ts) = with_defined (with_one_defined ds domain t) 
 abbrev pub has_data_set : List ℕ → ℕ → Bool
 has_data_set m id = list_any (λ s. id == s.id) (sets_of (drop HEADER_LENGTH m)).items
 
--- a template, unless another is in force
+-- a template, unless another is defined
 abbrev pub unless_other : Option Template → Option Template → Option Template
 unless_other None o = None
 unless_other (Some t) o = if is_other t o then None else Some t
 
--- what is defined again for an id before a datagram that gives this otherwise: the template that was withdrawn in the files, if
--- the datagram has data sets of the id, and leaves no other template there
-abbrev pub again : Known → List ℕ → Message → ℕ → Option Template
-again k m first id = if has_data_set m id then unless_other (withdrawn_in k first.header.domain id) (in_force first.decoding.events id) else None
-
--- all of them, in the order of their ids
-pub record AreAgain (k : Known) (m : List ℕ) (first : Message) (ts : List Template) : Type 0 where
-  pub each : All (λ t. again k m first t.id ≡ Some t) ts
-  pub all : (t : Template) → again k m first t.id ≡ Some t → Contains ts t
-  pub ascending : IsStrictlySortedBy nat_cmp (map (λ t. t.id) ts)
+-- what is defined again for an id before a datagram: the template that was withdrawn in the files, if the datagram has data sets of
+-- the id, and doesn't define it otherwise
+abbrev pub again : History → List ℕ → ℕ → ℕ → Option Template
+again ds m domain id = if has_data_set m id then unless_other (withdrawn_in ds domain id) (first_definition m id) else None
 
 -- ---- a datagram
 
@@ -118,41 +129,82 @@ pub record Preparation : Type 0 where
   pub withdrawn : List WithdrawnTemplate
   pub defined : List Template
 
+abbrev pub preparation_by : List WithdrawnTemplate → BTreeMap ℕ Template → Preparation
+preparation_by ws ts = record { withdrawn = ws; defined = values ts }
+
+-- the domains after it
 abbrev pub prepared : History → ℕ → Preparation → History
 prepared ds domain p = with_defined (with_withdrawn ds domain p.withdrawn) domain p.defined
 
--- before a datagram those are withdrawn that it replaces; it gives this then, by which others are defined again
-pub record IsPrepared (k : Known) (m : List ℕ) (p : Preparation) (first : Message) : Type 0 where
-  pub changes : MayChange k.files m first.header.domain p.withdrawn
-  pub read : message_gives (with_withdrawn k.files first.header.domain p.withdrawn) m ≡ Ok first
-  pub again : AreAgain k m first p.defined
+-- and what a datagram gives then
+abbrev pub given_after : History → ℕ → Preparation → List ℕ → Read Message
+given_after ds domain p m = message_gives (prepared ds domain p) m
+
+-- before a datagram those are withdrawn that it replaces, after which it is read; and others are defined again
+pub record IsPrepared (ds : History) (m : List ℕ) (p : Preparation) (first : Message) : Type 0 where
+  pub changes : MayChange ds m first.header.domain p.withdrawn
+  pub read : message_gives (with_withdrawn ds first.header.domain p.withdrawn) m ≡ Ok first
+  pub again : AreTemplatesOf (again ds m first.header.domain) p.defined
 
 -- a datagram is taken: it is read after that
-pub record IsTaken (k : Known) (m : List ℕ) (p : Preparation) (x : Message) : Type 0 where
+pub record IsTaken (ds : History) (m : List ℕ) (p : Preparation) (x : Message) : Type 0 where
   pub first : Message
-  pub is_prepared : IsPrepared k m p first
-  pub read : message_gives (prepared k.files first.header.domain p) m ≡ Ok x
+  pub is_prepared : IsPrepared ds m p first
+  pub read : given_after ds first.header.domain p m ≡ Ok x
 
--- why it is refused: the fault of its message; where that is a changed template, the fault that it has by itself, or after those
--- that it replaces are withdrawn
-pub record FailsChanged (ds : History) (m : List ℕ) (f : MessageFault) : Type 0 where
-  pub domain : ℕ
-  pub withdrawn : List WithdrawnTemplate
-  pub changes : Changes ds m domain withdrawn
-  pub fault : message_gives (with_withdrawn ds domain withdrawn) m ≡ Err f
-
-abbrev pub FailsItself : History → List ℕ → MessageFault → Type 0
-FailsItself ds m f = (message_gives ds m ≡ Err TemplateChanged) × (message_gives [] m ≡ Err f)
-
+-- why it is refused: the fault of its message; where that is a changed template, the fault that it has after those that it replaces
+-- are withdrawn
 abbrev pub FailsPlainly : History → List ℕ → MessageFault → Type 0
 FailsPlainly ds m f = (message_gives ds m ≡ Err f) × (f ≢ TemplateChanged)
 
+pub record FailsChanged (ds : History) (m : List ℕ) (f : MessageFault) : Type 0 where
+  pub header : Header
+  pub is_header : message_header m ≡ Ok header
+  pub withdrawn : List WithdrawnTemplate
+  pub changes : Changes ds m header.domain withdrawn
+  pub fault : message_gives (with_withdrawn ds header.domain withdrawn) m ≡ Err f
+
 -- or the fault that it has after templates are defined again
-pub record FailsAgain (k : Known) (m : List ℕ) (f : MessageFault) : Type 0 where
+pub record FailsAgain (ds : History) (m : List ℕ) (f : MessageFault) : Type 0 where
   pub preparation : Preparation
   pub first : Message
-  pub is_prepared : IsPrepared k m preparation first
-  pub fault : message_gives (prepared k.files first.header.domain preparation) m ≡ Err f
+  pub is_prepared : IsPrepared ds m preparation first
+  pub fault : given_after ds first.header.domain preparation m ≡ Err f
 
-abbrev pub IsRefused : Known → List ℕ → MessageFault → Type 0
-IsRefused k m f = (f ≡ OutOfMemory) ⊎ (FailsPlainly k.files m f ⊎ (FailsItself k.files m f ⊎ (FailsChanged k.files m f ⊎ FailsAgain k m f)))
+abbrev pub IsRefused : History → List ℕ → MessageFault → Type 0
+IsRefused ds m f = (f ≡ OutOfMemory) ⊎ (FailsPlainly ds m f ⊎ (FailsChanged ds m f ⊎ FailsAgain ds m f))
+
+-- ---- what is answered and kept
+
+-- the domains are of use, and stand for a history
+pub record Represents (d : DomainsView) (ds : History) : Type 0 where
+  pub fresh : d.spent ≡ false
+  pub stands : StandsFor d.domains ds
+
+-- these domains have the templates that a message leaves
+pub record Leaves (d : DomainsView) (x : Message) : Type 0 where
+  pub history : History
+  pub represents : Represents d history
+  pub same : (id : ℕ) → template_for history x.header.domain id ≡ in_force x.decoding.events id
+
+-- what an answer says of the preparation
+abbrev pub preparation_of : DatagramReading → Preparation
+preparation_of r = preparation_by r.withdrawn.items r.defined
+
+-- an answer says how a datagram is taken, what it leaves, and what it defines last for each id
+pub record IsReadingOf (ds : History) (m : List ℕ) (r : DatagramReading) (x : Message) : Type 0 where
+  pub taken : IsTaken ds m (preparation_of r) x
+  pub leaves : Leaves r.after x
+  pub defines : (id : ℕ) → get nat_cmp r.definitions id ≡ last_definition m id
+
+-- the template for an id in a domain's templates, if the domain has any
+abbrev pub template_in : Option (BTreeMap ℕ Template) → ℕ → Option Template
+template_in templates id = option_and_then (λ t. get nat_cmp t id) templates
+
+-- the one that is kept of a domain for an id
+abbrev pub template_at : BTreeMap ℕ (BTreeMap ℕ Template) → ℕ → ℕ → Option Template
+template_at kept domain id = template_in (get nat_cmp kept domain) id
+
+-- those are kept that are known over UDP, and that the files don't have in force
+pub record KeepsWithdrawn (kept : BTreeMap ℕ (BTreeMap ℕ Template)) (ds : History) : Type 0 where
+  pub at : (domain id : ℕ) → template_at kept domain id ≡ withdrawn_in ds domain id

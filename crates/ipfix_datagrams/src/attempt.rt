@@ -1,12 +1,11 @@
 //! One attempt to read a datagram.
 
-ghost use Rattle.std.specs.Prelude.{◌≡◌, ◌≤◌, [], false, All, Ok, IsOk, MatchBool, MatchResult};
-ghost use Rattle.std.specs.BTreeMap.{values};
-ghost use Rattle.ipfix_message.specs.Domains.{History, StandsFor, admit, alone, message_header, message_gives};
+ghost use Rattle.std.specs.Prelude.{◌≡◌, ◌≤◌, [], All, Ok, MatchBool, MatchResult};
+ghost use Rattle.ipfix_message.specs.Domains.{History, alone, message_header};
 ghost use Rattle.ipfix_message.specs.Outcome.{Fails};
 ghost use Rattle.ipfix_message.specs.declared.fault.MessageFault.TheVariants.{OutOfMemory};
-ghost use Rattle.ipfix_datagrams.specs.Attempts.{CanPrepare, IsSomething, Reads};
-ghost use Rattle.ipfix_datagrams.specs.Datagrams.{prepared};
+ghost use Rattle.ipfix_datagrams.specs.Attempts.{CanAttempt, IsSomething, Reads};
+ghost use Rattle.ipfix_datagrams.specs.Datagrams.{Represents, given_after, preparation_by, prepared};
 ghost use Rattle.ipfix_datagrams.specs.Withdrawals.{HasTemplateId};
 
 use crate::defining::define_all;
@@ -16,8 +15,8 @@ use ipfix_message::{Domains, MessageFault, Templates};
 use ipfix_wire::Header;
 use std::alloc::Global;
 
-/// Whether there are no templates to withdraw, and none to define.
-pub fn is_nothing(withdrawn: &[WithdrawnTemplate], defined: &Templates) -> bool
+// Whether there are no templates to withdraw, and none to define.
+fn is_nothing(withdrawn: &[WithdrawnTemplate], defined: &Templates) -> bool
     ensures { MatchBool result ((withdrawn.now ≡ []) × (defined.now.entries ≡ []))
         (IsSomething withdrawn.now defined.now.entries) }
 {
@@ -33,14 +32,10 @@ fn alone_after(
     defined: &Templates,
 ) -> Result<Domains, MessageFault>
     requires { All HasTemplateId withdrawn.now }
-    ensures { (ds : History) → domains.now.spent ≡ false → StandsFor domains.now.domains ds
-        → CanPrepare ds header.now.domain
-        (record { withdrawn = withdrawn.now; defined = values defined.now })
-        → MatchResult result
-        (λ d. (d.spent ≡ false) × StandsFor d.domains
-        (prepared (alone ds header.now.domain) header.now.domain
-        (record { withdrawn = withdrawn.now; defined = values defined.now })))
-        (λ fault. fault ≡ OutOfMemory) }
+    ensures { let domain = header.now.domain in
+        let p = preparation_by withdrawn.now defined.now in
+        (ds : History) → CanAttempt domains.now ds domain p → MatchResult result
+        (λ d. Represents d (prepared (alone ds domain) domain p)) (λ fault. fault ≡ OutOfMemory) }
 {
     let mut alone = match domains.alone(alloc, header.domain) {
         Ok(alone) => alone,
@@ -66,15 +61,11 @@ pub fn attempt(
 ) -> Result<Domains, MessageFault>
     requires header { message_header datagram.now ≡ Ok header.now }
     requires ids { All HasTemplateId withdrawn.now }
-    ensures { (ds : History) → domains.now.spent ≡ false → StandsFor domains.now.domains ds
-        → IsOk (admit ds header.now.domain)
-        → CanPrepare ds header.now.domain
-        (record { withdrawn = withdrawn.now; defined = values defined.now })
-        → MatchResult result
-        (λ d. Reads ds header.now.domain
-        (record { withdrawn = withdrawn.now; defined = values defined.now }) datagram.now d)
-        (λ fault. Fails fault (message_gives (prepared ds header.now.domain
-        (record { withdrawn = withdrawn.now; defined = values defined.now })) datagram.now)) }
+    ensures { let domain = header.now.domain in
+        let p = preparation_by withdrawn.now defined.now in
+        (ds : History) → CanAttempt domains.now ds domain p → MatchResult result
+        (λ d. Reads ds domain p datagram.now d)
+        (λ fault. Fails fault (given_after ds domain p datagram.now)) }
 {
     let mut alone = alone_after(alloc, domains, header, withdrawn, defined)?;
     let _ = alone.decode_with_header(alloc, header, datagram)?;

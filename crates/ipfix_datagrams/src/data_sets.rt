@@ -1,39 +1,44 @@
-//! The ids of the sets of a datagram (RFC 7011, section 3.3).
+//! The sets of a datagram, and their ids (RFC 7011, section 3.3).
 
-ghost use Rattle.std.specs.Prelude.{◌≡◌, ◌<◌, List, ℕ, Ok, Err, IfOk, MatchOption, length, map};
+ghost use Rattle.std.specs.Prelude.{◌≡◌, ◌<◌, ◌≤◌, ◌+◌, ℕ, Ok, Err, IfOk, OnSome, MatchOption, MatchResult, length, map};
 ghost use Rattle.ipfix_message.specs.Sets;
 ghost use Rattle.ipfix_message.specs.Sets.{sets_of};
 ghost use Rattle.ipfix_message.specs.declared.fault.MessageFault.{MessageFault};
+ghost use Rattle.ipfix_message.specs.declared.fault.MessageFault.TheVariants.{OutOfMemory};
+ghost use Rattle.ipfix_wire.specs.declared.set.TheConstants.{SET_HEADER_LENGTH};
 
-use ipfix_wire::{SET_HEADER_LENGTH, read_set};
-use std::alloc::{AllocError, Global};
+use ipfix_message::{MessageFault, next_set};
+use std::alloc::Global;
 
-// The id of the next set, and what follows the set.
-#[tactic(auto, unfolding(ipfix_message::specs::Sets::next_set))]
-fn next_set(rest: &[u8]) -> Option<(u16, &[u8])>
+/// The id and the body of the next set and what follows the set, if one stands there. The fault is
+/// `OutOfMemory`.
+pub fn set_at(rest: &[u8]) -> Result<Option<((u16, &[u8]), &[u8])>, MessageFault>
     requires { 0 < length rest.now }
-    ensures { MatchOption result
+    ensures { MatchResult result
+        (λ next. MatchOption next
         ((fault : MessageFault) × (Sets.next_set rest.now ≡ Err fault))
-        (λ x. (body : List ℕ)
-        × (Sets.next_set rest.now ≡ Ok (record { id = x.0; body = body }, x.1.now))) }
+        (λ x. Sets.next_set rest.now
+        ≡ Ok (record { id = x.0.0; body = x.0.1.now }, x.1.now)))
+        (λ fault. fault ≡ OutOfMemory) }
 {
-    let span = match read_set(rest) {
-        Ok(span) => span,
-        Err(_) => return None,
-    };
-    let (_, rest) = rest.split_at(SET_HEADER_LENGTH);
-    let (_, rest) = rest.split_at(span.body);
-    Some((span.id, rest))
+    match next_set(rest) {
+        Ok(next) => Ok(Some(next)),
+        Err(MessageFault::OutOfMemory) => Err(MessageFault::OutOfMemory),
+        Err(_) => Ok(None),
+    }
 }
 
-/// The ids of the sets in what follows a message's header, in the order of its octets.
-pub fn set_ids(alloc: Global, octets: &[u8]) -> Result<Vec<u16>, AllocError>
-    ensures { IfOk result (λ ids. ids.items ≡ map (λ s. s.id) (sets_of octets.now).items) }
+/// The ids of the sets in what follows a message's header, in the order of its octets. The fault is
+/// `OutOfMemory`.
+pub fn set_ids(alloc: Global, octets: &[u8]) -> Result<Vec<u16>, MessageFault>
+    ensures { MatchResult result
+        (λ ids. ids.items ≡ map (λ s. s.id) (sets_of octets.now).items)
+        (λ fault. fault ≡ OutOfMemory) }
 {
     let mut ids = Vec::new(alloc);
     let mut rest = octets;
     while !rest.is_empty() {
-        let Some((id, after)) = next_set(rest) else {
+        let Some(((id, _), after)) = set_at(rest)? else {
             return Ok(ids);
         };
         ids.push(id)?;

@@ -1,14 +1,13 @@
 //! Defining templates again: they are in force once more (RFC 7011, section 8).
 
-ghost use Rattle.std.specs.Prelude.{◌≡◌, ◌⊎◌, [], ℕ, true, false, Some, None, MatchResult};
+ghost use Rattle.std.specs.Prelude.{◌≡◌, ℕ, true, MatchResult};
 ghost use Rattle.std.specs.BTreeMap.{values};
 ghost use Rattle.ipfix_message.specs.Alike.{knows};
-ghost use Rattle.ipfix_message.specs.Domains.{History, StandsFor, events_in};
-ghost use Rattle.ipfix_message.specs.TemplatesInForce.{in_force};
+ghost use Rattle.ipfix_message.specs.Domains.{History, events_in};
 ghost use Rattle.ipfix_message.specs.WrittenTemplates.{IsTemplate};
 ghost use Rattle.ipfix_message.specs.declared.fault.MessageFault.TheVariants.{OutOfMemory};
-ghost use Rattle.ipfix_datagrams.specs.Datagrams.{with_one_defined, with_defined};
-ghost use Rattle.ipfix_datagrams.specs.Attempts.{CanDefine};
+ghost use Rattle.ipfix_datagrams.specs.Datagrams.{Represents, with_one_defined, with_defined};
+ghost use Rattle.ipfix_datagrams.specs.Attempts.{CanDefine, IsFree};
 
 use ipfix_message::{Domains, MessageFault, Stamp, Template, Templates, append_template_message};
 use ipfix_wire::Header;
@@ -23,13 +22,10 @@ fn define(
     message: &mut Vec<u8>,
 ) -> Result<(), MessageFault>
     requires { IsTemplate template.now }
-    ensures { (ds : History) → domains.old.spent ≡ false → StandsFor domains.old.domains ds
-        → knows ds stamp.domain ≡ true
-        → (in_force (events_in ds stamp.domain) template.now.id ≡ None)
-        ⊎ (in_force (events_in ds stamp.domain) template.now.id ≡ Some template.now)
+    ensures { (ds : History) → Represents domains.old ds → knows ds stamp.domain ≡ true
+        → IsFree (events_in ds stamp.domain) template.now
         → MatchResult result
-        (λ _. (domains.new.spent ≡ false)
-        × StandsFor domains.new.domains (with_one_defined ds stamp.domain template.now))
+        (λ _. Represents domains.new (with_one_defined ds stamp.domain template.now))
         (λ fault. fault ≡ OutOfMemory) }
 {
     let mut body = Vec::new(alloc);
@@ -49,12 +45,10 @@ pub fn define_all(
     header: &Header,
     templates: &Templates,
 ) -> Result<(), MessageFault>
-    ensures { (ds : History) → domains.old.spent ≡ false → StandsFor domains.old.domains ds
-        → knows ds header.now.domain ≡ true
+    ensures { (ds : History) → Represents domains.old ds → knows ds header.now.domain ≡ true
         → CanDefine (events_in ds header.now.domain) (values templates.now)
         → MatchResult result
-        (λ _. (domains.new.spent ≡ false) × StandsFor domains.new.domains
-        (with_defined ds header.now.domain (values templates.now)))
+        (λ _. Represents domains.new (with_defined ds header.now.domain (values templates.now)))
         (λ fault. fault ≡ OutOfMemory) }
 {
     let stamp = Stamp {

@@ -1,6 +1,7 @@
-//! IPFIX over UDP (RFC 7011, sections 8.1, 8.4 and 10.3): what the datagrams of a peer give, where a
-//! definition replaces an older one and no withdrawal ends one, and which of them are refused; and how far sequence numbers advanced beside
-//! the data records that came (section 3.1), in whatever order.
+//! IPFIX over UDP (RFC 7011, sections 8.1, 8.4 and 10.3): what the datagrams of a peer give, where the last
+//! definition of a template counts and withdrawals are ignored, what is done in the peer's files before a datagram,
+//! and which datagrams are refused; and how far sequence numbers advanced beside the data records that came
+//! (section 3.1), in whatever order.
 #![tactic(auto)]
 
 mod again;
@@ -8,6 +9,7 @@ mod attempt;
 mod changes;
 mod data_sets;
 mod defining;
+mod definitions;
 mod domain_advance;
 pub mod laws;
 mod reach;

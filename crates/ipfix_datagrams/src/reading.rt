@@ -1,37 +1,50 @@
 //! Whether a datagram is taken.
 
-ghost use Rattle.std.specs.Prelude.{◌≡◌, ◌≢◌, ◌≤◌, ℕ, false, length, All, Ok, IfOk, MatchBool, MatchResult};
+ghost use Rattle.std.specs.Prelude.{◌≡◌, ◌≢◌, ◌≤◌, ◌+◌, ℕ, List, length, drop, All, Ok, IfOk, MatchBool, MatchResult};
 ghost use Rattle.std.specs.BTreeMap.{get, IsOrdered};
 ghost use Rattle.std.specs.Ordering.{nat_cmp};
-ghost use Rattle.ipfix_message.specs.Domains.{History, Message, StandsFor, message_header};
-ghost use Rattle.ipfix_message.specs.declared.fault.MessageFault.TheVariants.{TemplateChanged};
-ghost use Rattle.ipfix_datagrams.specs.Attempts.{FirstReads, KeepsWithdrawn, Leaves, preparation_of};
+ghost use Rattle.ipfix_wire.specs.declared.set.TheConstants.{SET_HEADER_LENGTH};
+ghost use Rattle.ipfix_message.specs.Domains.{History, Message, message_header};
+ghost use Rattle.ipfix_message.specs.declared.fault.MessageFault.TheVariants.{OutOfMemory, TemplateChanged};
+ghost use Rattle.ipfix_message.specs.declared.template_record.TheConstants.{LONGEST_BODY};
+ghost use Rattle.ipfix_datagrams.specs.Attempts.{FirstReads, HasFirst};
 ghost use Rattle.ipfix_datagrams.specs.Datagrams as specs;
-ghost use Rattle.ipfix_datagrams.specs.Datagrams.{Known, IsTaken, IsRefused};
+ghost use Rattle.ipfix_datagrams.specs.Datagrams.{IsReadingOf, IsRefused, KeepsWithdrawn, Represents};
 ghost use Rattle.ipfix_datagrams.specs.Withdrawals.{HasTemplateId};
 
 use crate::again::defined_again;
-use crate::attempt::{attempt, is_nothing};
+use crate::attempt::attempt;
 use crate::changes::changes;
 use crate::data_sets::set_ids;
+use crate::definitions::{Definitions, definitions_of};
 use crate::withdrawn_template::WithdrawnTemplate;
 use crate::withdrawn_templates::WithdrawnTemplates;
 use ipfix_message::{Domains, MessageFault, Templates};
 use ipfix_wire::{HEADER_LENGTH, Header};
-use std::alloc::{AllocError, Global};
+use std::alloc::Global;
 use std::collections::BTreeMap;
 
 /// How a datagram is to be taken.
 #[derive(Drop)]
 pub struct DatagramReading {
     /// The templates that are to be withdrawn before it, in the order of their ids: those in force for which
-    /// it leaves others.
+    /// its first definition is another.
     pub withdrawn: Vec<WithdrawnTemplate>,
     /// Those that are to be defined again then, by id: withdrawals ended them in the files, and the datagram
-    /// has data sets of them.
+    /// has data sets of them, and does not define them otherwise.
     pub defined: Templates,
+    /// What it defines last for each id.
+    pub definitions: Templates,
     /// Its domain alone, after it.
     pub after: Domains,
+}
+
+// A datagram that was read after templates were withdrawn, and none defined: those templates, and its domain
+// alone after it.
+#[derive(Drop)]
+struct FirstReading {
+    withdrawn: Vec<WithdrawnTemplate>,
+    after: Domains,
 }
 
 // Whether a datagram was refused since it changes a template.
@@ -44,19 +57,20 @@ fn is_change(fault: &MessageFault) -> bool
     }
 }
 
-// Reads a datagram after the templates are withdrawn that it replaces, and no others defined.
+// Reads a datagram after the templates are withdrawn that its first definitions replace, and no others defined.
 fn read_first(
     alloc: Global,
     domains: &Domains,
     header: &Header,
+    first: &Templates,
     datagram: &[u8],
-) -> Result<DatagramReading, MessageFault>
-    requires { message_header datagram.now ≡ Ok header.now }
+) -> Result<FirstReading, MessageFault>
+    requires header { message_header datagram.now ≡ Ok header.now }
+    requires first { HasFirst first.now datagram.now }
     ensures ids { IfOk result (λ r. All HasTemplateId r.withdrawn.items) }
-    ensures reads { (k : Known) → domains.now.spent ≡ false → StandsFor domains.now.domains k.files
-        → MatchResult result
-        (λ r. FirstReads k header.now.domain datagram.now r)
-        (λ fault. IsRefused k datagram.now fault) }
+    ensures reads { (ds : History) → Represents domains.now ds → MatchResult result
+        (λ r. FirstReads ds header.now.domain datagram.now r.withdrawn.items r.after)
+        (λ fault. IsRefused ds datagram.now fault) }
 {
     if !domains.has_room(header.domain) {
         return Err(MessageFault::TooManyDomains);
@@ -64,9 +78,8 @@ fn read_first(
     let none = BTreeMap::new(alloc);
     match attempt(alloc, domains, header, &[], &none, datagram) {
         Ok(after) => {
-            return Ok(DatagramReading {
+            return Ok(FirstReading {
                 withdrawn: Vec::new(alloc),
-                defined: none,
                 after,
             });
         }
@@ -76,48 +89,53 @@ fn read_first(
             }
         }
     }
-    let withdrawn = match changes(alloc, domains, header, datagram) {
-        Ok(withdrawn) => withdrawn,
-        Err(fault) => return Err(fault),
-    };
+    let withdrawn = changes(alloc, first, domains.templates(header.domain))?;
     match attempt(alloc, domains, header, &withdrawn, &none, datagram) {
-        Ok(after) => Ok(DatagramReading {
-            withdrawn,
-            defined: none,
-            after,
-        }),
+        Ok(after) => Ok(FirstReading { withdrawn, after }),
         Err(fault) => Err(fault),
     }
 }
 
-// Those that are defined again before a datagram: of the templates that were withdrawn in its domain.
+// What follows a datagram's header, which gives its length in 16 bits.
+#[tactic(auto, using(ipfix_message::proofs::History::header_is_whole, ipfix_message::proofs::History::header_has_length))]
+fn after_header<'a>(header: &Header, datagram: &'a [u8]) -> &'a [u8]
+    requires { message_header datagram.now ≡ Ok header.now }
+    ensures octets { result.now ≡ drop HEADER_LENGTH datagram.now }
+    ensures room { length result.now ≤ SET_HEADER_LENGTH + LONGEST_BODY }
+{
+    let length = usize::from(header.length);
+    &datagram[HEADER_LENGTH..length]
+}
+
+// Those that are defined again before a datagram with these sets and these first definitions: of the templates
+// that were withdrawn in its domain. The fault is `OutOfMemory`.
 fn again(
     alloc: Global,
     withdrawn: &WithdrawnTemplates,
-    first: &Domains,
+    first: &Templates,
     domain: u32,
-    datagram: &[u8],
-) -> Result<Templates, AllocError>
-    requires { HEADER_LENGTH ≤ length datagram.now }
+    sets: &[u8],
+) -> Result<Templates, MessageFault>
     ensures ordered { IfOk result (IsOrdered nat_cmp) }
-    ensures again { (k : Known) (x : Message) → KeepsWithdrawn withdrawn.now k → Leaves first.now x
-        → x.header.domain ≡ domain → IfOk result (λ t. (id : ℕ) → get nat_cmp t id
-        ≡ specs.again k datagram.now x id) }
+    ensures again { (ds : History) (m : List ℕ) → KeepsWithdrawn withdrawn.now ds
+        → HasFirst first.now m → sets.now ≡ drop HEADER_LENGTH m → MatchResult result
+        (λ defined. (id : ℕ) → get nat_cmp defined id ≡ specs.again ds m domain id)
+        (λ fault. fault ≡ OutOfMemory) }
 {
     let Some(templates) = withdrawn.get(&domain) else {
         return Ok(BTreeMap::new(alloc));
     };
-    let (_, octets) = datagram.split_at(HEADER_LENGTH);
-    let ids = set_ids(alloc, octets)?;
-    defined_again(alloc, templates, first.templates(domain), &ids)
+    let ids = set_ids(alloc, sets)?;
+    let defined = defined_again(alloc, templates, first, &ids)?;
+    Ok(defined)
 }
 
 /// Reads a datagram after the domains of its peer and the templates that were withdrawn there, which stay as
 /// they are. It answers how the datagram is to be taken.
 ///
 /// The fault is the first of these: `TooManyDomains`, and the faults of its sets in the order of its octets.
-/// `TemplateChanged` comes only where a datagram contradicts itself. `OutOfMemory` may come in place of any
-/// other answer.
+/// `TemplateChanged` comes only where a datagram, without a withdrawal between, defines an id otherwise than it
+/// did itself before. `OutOfMemory` may come in place of any other answer.
 pub fn read_datagram(
     alloc: Global,
     domains: &Domains,
@@ -127,26 +145,29 @@ pub fn read_datagram(
 ) -> Result<DatagramReading, MessageFault>
     requires { message_header datagram.now ≡ Ok header.now }
     ensures ids { IfOk result (λ r. All HasTemplateId r.withdrawn.items) }
-    ensures reads { (k : Known) → domains.now.spent ≡ false → StandsFor domains.now.domains k.files
-        → KeepsWithdrawn withdrawn.now k
+    ensures reads { (ds : History) → Represents domains.now ds → KeepsWithdrawn withdrawn.now ds
         → MatchResult result
-        (λ r. (x : Message) × IsTaken k datagram.now (preparation_of r) x × Leaves r.after x)
-        (λ fault. IsRefused k datagram.now fault) }
+        (λ r. (x : Message) × IsReadingOf ds datagram.now r x)
+        (λ fault. IsRefused ds datagram.now fault) }
 {
-    let reading = read_first(alloc, domains, header, datagram)?;
-    let defined = again(alloc, withdrawn, &reading.after, header.domain, datagram)?;
-    if is_nothing(&[], &defined) {
-        return Ok(reading);
+    let sets = after_header(header, datagram);
+    let Definitions { first, last } = definitions_of(alloc, sets)?;
+    let reading = read_first(alloc, domains, header, &first, datagram)?;
+    let defined = again(alloc, withdrawn, &first, header.domain, sets)?;
+    let FirstReading { withdrawn, after } = reading;
+    if defined.is_empty() {
+        return Ok(DatagramReading {
+            withdrawn,
+            defined,
+            definitions: last,
+            after,
+        });
     }
-    let DatagramReading {
-        withdrawn,
-        defined: _,
-        after: _,
-    } = reading;
     let after = attempt(alloc, domains, header, &withdrawn, &defined, datagram)?;
     Ok(DatagramReading {
         withdrawn,
         defined,
+        definitions: last,
         after,
     })
 }

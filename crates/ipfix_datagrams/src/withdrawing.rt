@@ -1,10 +1,10 @@
 //! Withdrawing templates: they are in force no more (RFC 7011, section 8.1).
 
-ghost use Rattle.std.specs.Prelude.{◌≡◌, ℕ, true, false, All, MatchResult};
+ghost use Rattle.std.specs.Prelude.{◌≡◌, ℕ, true, All, MatchResult};
 ghost use Rattle.ipfix_message.specs.Alike.{knows};
-ghost use Rattle.ipfix_message.specs.Domains.{History, StandsFor};
+ghost use Rattle.ipfix_message.specs.Domains.{History};
 ghost use Rattle.ipfix_message.specs.declared.fault.MessageFault.TheVariants.{OutOfMemory};
-ghost use Rattle.ipfix_datagrams.specs.Datagrams.{with_withdrawn, with_one_withdrawn};
+ghost use Rattle.ipfix_datagrams.specs.Datagrams.{Represents, with_withdrawn, with_one_withdrawn};
 ghost use Rattle.ipfix_datagrams.specs.Withdrawals.{HasTemplateId};
 
 use crate::withdrawal::append_withdrawals;
@@ -22,11 +22,9 @@ fn withdraw(
     message: &mut Vec<u8>,
 ) -> Result<(), MessageFault>
     requires { HasTemplateId template }
-    ensures { (ds : History) → domains.old.spent ≡ false → StandsFor domains.old.domains ds
-        → knows ds header.now.domain ≡ true
+    ensures { (ds : History) → Represents domains.old ds → knows ds header.now.domain ≡ true
         → MatchResult result
-        (λ _. (domains.new.spent ≡ false)
-        × StandsFor domains.new.domains (with_one_withdrawn ds header.now.domain template))
+        (λ _. Represents domains.new (with_one_withdrawn ds header.now.domain template))
         (λ fault. fault ≡ OutOfMemory) }
 {
     message.clear();
@@ -46,11 +44,9 @@ pub fn withdraw_all(
     templates: &[WithdrawnTemplate],
 ) -> Result<(), MessageFault>
     requires { All HasTemplateId templates.now }
-    ensures { (ds : History) → domains.old.spent ≡ false → StandsFor domains.old.domains ds
-        → knows ds header.now.domain ≡ true
+    ensures { (ds : History) → Represents domains.old ds → knows ds header.now.domain ≡ true
         → MatchResult result
-        (λ _. (domains.new.spent ≡ false)
-        × StandsFor domains.new.domains (with_withdrawn ds header.now.domain templates.now))
+        (λ _. Represents domains.new (with_withdrawn ds header.now.domain templates.now))
         (λ fault. fault ≡ OutOfMemory) }
 {
     let mut message = Vec::new(alloc);

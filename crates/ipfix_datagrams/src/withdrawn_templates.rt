@@ -1,12 +1,15 @@
 //! The templates of a peer that were withdrawn in its files, and that are known over UDP.
 
-ghost use Rattle.std.specs.Prelude.{◌≡◌, ◌==◌, ℕ, OnOk, if◌then◌else◌, is_some, None, option_copied, option_and_then};
+ghost use Rattle.std.specs.Prelude.{◌≡◌, ◌==◌, ℕ, List, OnOk, if◌then◌else◌, is_some, None, option_copied};
 ghost use Rattle.std.specs.Option.{option_or};
 ghost use Rattle.std.specs.BTreeMap.{get};
 ghost use Rattle.std.specs.Ordering.{nat_cmp};
-ghost use Rattle.ipfix_datagrams.specs.Attempts.{kept_after, template_at};
+ghost use Rattle.ipfix_message.specs.Domains.{History, Message};
+ghost use Rattle.ipfix_datagrams.specs.Attempts.{with_ended};
+ghost use Rattle.ipfix_datagrams.specs.Datagrams.{IsReadingOf, KeepsWithdrawn, Represents, template_at, template_in};
 
-use ipfix_message::Templates;
+use crate::reading::DatagramReading;
+use ipfix_message::{Domains, Templates};
 use std::alloc::{AllocError, Global};
 use std::collections::BTreeMap;
 
@@ -16,7 +19,7 @@ pub type WithdrawnTemplates = BTreeMap<u32, Templates>;
 
 // Whether an id has a template.
 fn has_id(templates: Option<&Templates>, id: u16) -> bool
-    ensures { result ≡ is_some (option_and_then (λ t. get nat_cmp t id) (option_copied templates.entry)) }
+    ensures { result ≡ is_some (template_in (option_copied templates.entry) id) }
 {
     match templates {
         Some(templates) => templates.contains_key(&id),
@@ -24,43 +27,58 @@ fn has_id(templates: Option<&Templates>, id: u16) -> bool
     }
 }
 
-// Puts the templates before a datagram that are not in force after it among others.
+// Puts those templates that are not in force after a datagram among others.
 fn put_ended(
-    before: &Templates,
+    ended: &Templates,
     after: Option<&Templates>,
     kept: &mut Templates,
 ) -> Result<(), AllocError>
-    ensures { OnOk result ((q : ℕ) → get nat_cmp kept.new q
-        ≡ (if is_some (option_and_then (λ t. get nat_cmp t q) (option_copied after.entry))
-        then get nat_cmp kept.old q
-        else option_or (get nat_cmp before.now q) (get nat_cmp kept.old q))) }
+    ensures { OnOk result ((q : ℕ) → get nat_cmp kept.new q ≡ with_ended
+        (template_in (option_copied after.entry) q) (get nat_cmp ended.now q)
+        (get nat_cmp kept.old q)) }
 {
-    for id in before.keys() {
+    for id in ended.keys() {
         if !has_id(after, *id) {
-            put_one(before, *id, kept)?;
+            put_one(ended, *id, kept)?;
         }
     }
     Ok(())
 }
 
 // Puts a template among others.
-fn put_one(before: &Templates, id: u16, kept: &mut Templates) -> Result<(), AllocError>
+fn put_one(ended: &Templates, id: u16, kept: &mut Templates) -> Result<(), AllocError>
     ensures { OnOk result ((q : ℕ) → get nat_cmp kept.new q
-        ≡ (if q == id then option_or (get nat_cmp before.now q) (get nat_cmp kept.old q)
+        ≡ (if q == id then option_or (get nat_cmp ended.now q) (get nat_cmp kept.old q)
         else get nat_cmp kept.old q)) }
 {
-    let Some(known) = before.get(&id) else {
+    let Some(known) = ended.get(&id) else {
         return Ok(());
     };
     kept.insert(id, known.clone()?)?;
     Ok(())
 }
 
+// Puts those among others that were in force before a datagram, if any were, and are not after it.
+fn put_before(
+    before: Option<&Templates>,
+    after: Option<&Templates>,
+    kept: &mut Templates,
+) -> Result<(), AllocError>
+    ensures { OnOk result ((q : ℕ) → get nat_cmp kept.new q ≡ with_ended
+        (template_in (option_copied after.entry) q) (template_in (option_copied before.entry) q)
+        (get nat_cmp kept.old q)) }
+{
+    match before {
+        Some(before) => put_ended(before, after, kept),
+        None => Ok(()),
+    }
+}
+
 // Leaves only those that are not in force.
 fn drop_known(after: Option<&Templates>, kept: &mut Templates)
     ensures { (q : ℕ) → get nat_cmp kept.new q
-        ≡ (if is_some (option_and_then (λ t. get nat_cmp t q) (option_copied after.entry))
-        then None else get nat_cmp kept.old q) }
+        ≡ (if is_some (template_in (option_copied after.entry) q) then None
+        else get nat_cmp kept.old q) }
 {
     kept.retain(|id, _| !has_id(after, *id));
 }
@@ -94,25 +112,24 @@ fn put_back(
     Ok(())
 }
 
-/// Keeps the templates of a domain that a datagram ends: those that were in force before and are not after
-/// it. Those that are in force then are kept no longer. Out of memory, they are of no use.
+/// Keeps, where a datagram is taken as its reading says, the templates that are withdrawn in the files after
+/// it, and that are known over UDP. `domains` are those of the files before it, and `domain` is that of the
+/// datagram. Out of memory, what is kept is of no use.
 pub fn keep_withdrawn(
     alloc: Global,
     withdrawn: &mut WithdrawnTemplates,
+    domains: &Domains,
     domain: u32,
-    before: Option<&Templates>,
-    after: Option<&Templates>,
+    reading: &DatagramReading,
 ) -> Result<(), AllocError>
-    ensures { OnOk result ((q id : ℕ) → template_at withdrawn.new q id ≡ (if q == domain
-        then kept_after (option_and_then (λ t. get nat_cmp t id) (option_copied after.entry))
-        (option_and_then (λ t. get nat_cmp t id) (option_copied before.entry))
-        (template_at withdrawn.old q id)
-        else template_at withdrawn.old q id)) }
+    ensures { (ds : History) (m : List ℕ) (x : Message) → Represents domains.now ds
+        → KeepsWithdrawn withdrawn.old ds → IsReadingOf ds m reading.now x
+        → x.header.domain ≡ domain → OnOk result (KeepsWithdrawn withdrawn.new x.domains) }
 {
+    let after = reading.after.templates(domain);
     let mut kept = take_out(alloc, withdrawn, domain);
-    if let Some(before) = before {
-        put_ended(before, after, &mut kept)?;
-    }
+    put_before(domains.templates(domain), after, &mut kept)?;
+    put_ended(&reading.definitions, after, &mut kept)?;
     drop_known(after, &mut kept);
     put_back(kept, withdrawn, domain)
 }

@@ -1,5 +1,4 @@
 use Rattle.std.proofs.Common.{◌≡◌, ◌==◌, ℕ, None, take, if◌then◌else◌}
-use Rattle.std.specs.Prelude.{option_copied, option_and_then}
 use Rattle.std.specs.List.{list_any}
 use Rattle.std.specs.BTreeMap.{get}
 use Rattle.std.specs.Ordering.{nat_cmp}
@@ -8,4 +7,4 @@ use Rattle.ipfix_datagrams.proofs.again.defined_again.Given as goal
 
 abbrev pub invariant-loop-id : goal.invariant-loop-id
 invariant-loop-id l = (q : ℕ) → get nat_cmp l.defined q
-    ≡ (if list_any (λ id. q == id) (take l.id-index l.ids) then unless_other (get nat_cmp l.withdrawn q) (option_and_then (λ t. get nat_cmp t q) (option_copied l.first)) else None)
+    ≡ (if list_any (λ id. q == id) (take l.id-index l.ids) then unless_other (get nat_cmp l.withdrawn q) (get nat_cmp l.first q) else None)

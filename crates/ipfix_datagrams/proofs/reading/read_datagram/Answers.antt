@@ -1,47 +1,70 @@
-use Rattle.std.proofs.Common.{◌≡◌, List, ap, sym, subst, inr}
+use Rattle.std.proofs.Common.{◌≡◌, List, refl, ap, sym, subst, inl, inr}
 use Rattle.std.specs.BTreeMap.{values}
+use Rattle.std.proofs.lemmas.Bool.{false≢true}
 use Rattle.std.proofs.lemmas.Result.{err_from_is_err_and}
-use Rattle.ipfix_message.specs.Domains.{message_gives}
 use Rattle.ipfix_message.specs.Outcome.{Fails}
 use Rattle.ipfix_datagrams.specs.declared.withdrawn_template.WithdrawnTemplate.{WithdrawnTemplate}
-use Rattle.ipfix_datagrams.specs.Datagrams.{Preparation, prepared, AreAgain}
-use Rattle.ipfix_datagrams.specs.Attempts.{CanPrepare, Reads}
+use Rattle.ipfix_datagrams.specs.declared.reading.DatagramReading.{DatagramReading}
+use Rattle.ipfix_datagrams.specs.Datagrams.{Preparation, given_after}
+use Rattle.ipfix_datagrams.specs.Attempts.{CanAttempt, CanPrepare, Reads}
 use Rattle.ipfix_datagrams.proofs.DefinedAgain.{are_again}
-use Rattle.ipfix_datagrams.proofs.Answered.{prepared_as, long_enough, no_values, some_values, admit_ok, can_prepare, taken_first, taken_again, refused_again}
+use Rattle.ipfix_datagrams.proofs.Answered.{prepared_as, no_values, some_values, admit_ok, can_prepare, has_first, has_last, taken_first, taken_again, refused_again}
 use Rattle.ipfix_datagrams.proofs.reading.read_datagram.Goals as goal
 
-pub again-requires : goal.again-requires
-again-requires c = long_enough c.args.datagram.now c.args.header.now c.requires
-
-pub returns-then-is_nothing-clause-reads : goal.returns-then-is_nothing-clause-reads
-returns-then-is_nothing-clause-reads c = λ k fresh stands keeps.
+pub returns-in_err-defined-clause-reads : goal.returns-in_err-defined-clause-reads
+returns-in_err-defined-clause-reads c = λ ds represents keeps.
     let m = c.args.datagram.now in
     let d = c.args.header.now.domain in
-    let f = c.in_ok-reading.ensures.reads k fresh stands in
-    let are = are_again k m f.given c.in_ok-defined.defined keeps.sound c.in_ok-defined.ensures.ordered (c.in_ok-defined.ensures.again k f.given keeps f.leaves f.domain_is) in
-    taken_first k m d c.in_ok-reading.reading f (subst (AreAgain k m f.given) (no_values c.in_ok-defined.defined c.if-is_nothing.ensures.1) are)
+    let r = c.in_ok-reading.reading in
+    let octets = c.after_header-sets.ensures.octets in
+    let first = has_first c.in_ok-first.field-0 c.after_header-sets.result.now m c.in_ok-first.ensures octets in
+    let e = err_from_is_err_and c.from_residual-in_err-defined.result c.from_residual-in_err-defined.ensures.1 in
+    rw (e.1, e.2) (inl (c.in_err-defined.ensures.again ds m keeps first octets))
+
+pub returns-then-is_empty-clause-reads : goal.returns-then-is_empty-clause-reads
+returns-then-is_empty-clause-reads c = λ ds represents keeps.
+    let m = c.args.datagram.now in
+    let d = c.args.header.now.domain in
+    let r = c.in_ok-reading.reading in
+    let octets = c.after_header-sets.ensures.octets in
+    let first = has_first c.in_ok-first.field-0 c.after_header-sets.result.now m c.in_ok-first.ensures octets in
+    let last = has_last c.in_ok-first.field-0 c.after_header-sets.result.now m c.in_ok-first.ensures octets in
+    let f = c.in_ok-reading.ensures.reads ds represents in
+    let are = are_again ds m d c.in_ok-defined.defined c.in_ok-defined.ensures.ordered (c.in_ok-defined.ensures.again ds m keeps first octets) in
+    let answer : DatagramReading = record { withdrawn = r.withdrawn; defined = c.in_ok-defined.defined; definitions = c.in_ok-first.field-0.last; after = r.after } in
+    taken_first ds m d answer f are (no_values c.in_ok-defined.defined (c.if-is_empty.ensures.0 refl)) last
 
 pub returns-in_err-after-clause-reads : goal.returns-in_err-after-clause-reads
-returns-in_err-after-clause-reads c = λ k fresh stands keeps.
+returns-in_err-after-clause-reads c = λ ds represents keeps.
     let m = c.args.datagram.now in
     let d = c.args.header.now.domain in
     let r = c.in_ok-reading.reading in
+    let octets = c.after_header-sets.ensures.octets in
+    let first = has_first c.in_ok-first.field-0 c.after_header-sets.result.now m c.in_ok-first.ensures octets in
+    let f = c.in_ok-reading.ensures.reads ds represents in
+    let are = are_again ds m d c.in_ok-defined.defined c.in_ok-defined.ensures.ordered (c.in_ok-defined.ensures.again ds m keeps first octets) in
     let ts = values c.in_ok-defined.defined in
-    let f = c.in_ok-reading.ensures.reads k fresh stands in
-    let are = are_again k m f.given c.in_ok-defined.defined keeps.sound c.in_ok-defined.ensures.ordered (c.in_ok-defined.ensures.again k f.given keeps f.leaves f.domain_is) in
-    let can = can_prepare k m d r f ts (some_values c.in_ok-defined.defined c.if-is_nothing.ensures) keeps.sound are in
-    let same : prepared_as c.deref.result.now ts ≡ prepared_as r.withdrawn.items ts = ap (λ (ws : List WithdrawnTemplate). prepared_as ws ts) c.deref.ensures.value in
+    let ws = r.withdrawn.items in
+    let can = can_prepare ds m d ws ts (some_values c.in_ok-defined.defined (λ none. false≢true (c.if-is_empty.ensures.1 none))) are in
+    let same : prepared_as c.deref.result.now ts ≡ prepared_as ws ts = ap (λ (vs : List WithdrawnTemplate). prepared_as vs ts) c.deref.ensures.value in
+    let ready : CanAttempt c.args.domains.now ds d (prepared_as c.deref.result.now ts) = record { represents = represents; room = admit_ok ds d can.0; can = subst (CanPrepare ds d) (sym same) (inr can) } in
     let e = err_from_is_err_and c.from_residual-in_err-after.result c.from_residual-in_err-after.ensures.1 in
-    rw (e.1, e.2) (refused_again k m d r f ts c.in_err-after.field-0.0 are (subst (λ (p : Preparation). Fails c.in_err-after.field-0.0 (message_gives (prepared k.files d p) m)) same (c.in_err-after.ensures k.files fresh stands (admit_ok k.files d can.0) (subst (CanPrepare k.files d) (sym same) (inr can)))))
+    rw (e.1, e.2) (refused_again ds m d ws r.after ts c.in_err-after.field-0.0 f are (subst (λ (p : Preparation). Fails c.in_err-after.field-0.0 (given_after ds d p m)) same (c.in_err-after.ensures ds ready)))
 
 pub returns-clause-reads : goal.returns-clause-reads
-returns-clause-reads c = λ k fresh stands keeps.
+returns-clause-reads c = λ ds represents keeps.
     let m = c.args.datagram.now in
     let d = c.args.header.now.domain in
     let r = c.in_ok-reading.reading in
+    let octets = c.after_header-sets.ensures.octets in
+    let first = has_first c.in_ok-first.field-0 c.after_header-sets.result.now m c.in_ok-first.ensures octets in
+    let last = has_last c.in_ok-first.field-0 c.after_header-sets.result.now m c.in_ok-first.ensures octets in
+    let f = c.in_ok-reading.ensures.reads ds represents in
+    let are = are_again ds m d c.in_ok-defined.defined c.in_ok-defined.ensures.ordered (c.in_ok-defined.ensures.again ds m keeps first octets) in
     let ts = values c.in_ok-defined.defined in
-    let f = c.in_ok-reading.ensures.reads k fresh stands in
-    let are = are_again k m f.given c.in_ok-defined.defined keeps.sound c.in_ok-defined.ensures.ordered (c.in_ok-defined.ensures.again k f.given keeps f.leaves f.domain_is) in
-    let can = can_prepare k m d r f ts (some_values c.in_ok-defined.defined c.if-is_nothing.ensures) keeps.sound are in
-    let same : prepared_as c.deref.result.now ts ≡ prepared_as r.withdrawn.items ts = ap (λ (ws : List WithdrawnTemplate). prepared_as ws ts) c.deref.ensures.value in
-    taken_again k m d r f ts c.in_ok-after.after are (subst (λ (p : Preparation). Reads k.files d p m c.in_ok-after.after) same (c.in_ok-after.ensures k.files fresh stands (admit_ok k.files d can.0) (subst (CanPrepare k.files d) (sym same) (inr can))))
+    let ws = r.withdrawn.items in
+    let can = can_prepare ds m d ws ts (some_values c.in_ok-defined.defined (λ none. false≢true (c.if-is_empty.ensures.1 none))) are in
+    let same : prepared_as c.deref.result.now ts ≡ prepared_as ws ts = ap (λ (vs : List WithdrawnTemplate). prepared_as vs ts) c.deref.ensures.value in
+    let ready : CanAttempt c.args.domains.now ds d (prepared_as c.deref.result.now ts) = record { represents = represents; room = admit_ok ds d can.0; can = subst (CanPrepare ds d) (sym same) (inr can) } in
+    let answer : DatagramReading = record { withdrawn = r.withdrawn; defined = c.in_ok-defined.defined; definitions = c.in_ok-first.field-0.last; after = c.in_ok-after.after } in
+    taken_again ds m d answer r.after f are (subst (λ (p : Preparation). Reads ds d p m c.in_ok-after.after) same (c.in_ok-after.ensures ds ready)) last

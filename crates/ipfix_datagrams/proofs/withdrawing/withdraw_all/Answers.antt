@@ -1,9 +1,8 @@
 use Rattle.std.proofs.Common.{false, List, get_or, take, sym, subst, ◌∙◌}
 use Rattle.std.proofs.lemmas.List.{take_more}
 use Rattle.std.proofs.lemmas.Result.{err_from_is_err_and}
-use Rattle.ipfix_message.specs.Domains.{StandsFor}
 use Rattle.ipfix_datagrams.specs.declared.withdrawn_template.WithdrawnTemplate.{WithdrawnTemplate}
-use Rattle.ipfix_datagrams.specs.Datagrams.{with_withdrawn}
+use Rattle.ipfix_datagrams.specs.Datagrams.{Represents, with_withdrawn}
 use Rattle.ipfix_datagrams.proofs.WithdrawnDomains.{withdrawn-push, knows-withdrawn}
 use Rattle.ipfix_datagrams.proofs.withdrawing.withdraw_all.Goals as goal
 
@@ -11,19 +10,19 @@ abbrev no_template : WithdrawnTemplate
 no_template = record { id = 0; is_options = false }
 
 pub returns-in_err-withdraw : goal.returns-in_err-withdraw
-returns-in_err-withdraw c = λ ds fresh stands there.
+returns-in_err-withdraw c = λ ds represents there.
     let d = c.args.header.now.domain in
     let ws = take c.loop-template.template-index c.args.templates.now in
-    let was = c.loop-template.invariant ds fresh stands there in
+    let was = c.loop-template.invariant ds represents there in
     let p = err_from_is_err_and c.from_residual.result c.from_residual.ensures.1 in
-    rw (p.1, p.2) (c.in_err-withdraw.ensures (with_withdrawn ds d ws) was.0 was.1 (knows-withdrawn ds d ws d ∙ there))
+    rw (p.1, p.2) (c.in_err-withdraw.ensures (with_withdrawn ds d ws) was (knows-withdrawn ds d ws d ∙ there))
 
 pub loop-template-preserved : goal.loop-template-preserved
-loop-template-preserved c = λ ds fresh stands there.
+loop-template-preserved c = λ ds represents there.
     let d = c.args.header.now.domain in
     let i = c.loop-template.template-index in
     let ws = take i c.args.templates.now in
-    let was = c.loop-template.invariant ds fresh stands there in
-    let step = c.in_ok-withdraw.ensures (with_withdrawn ds d ws) was.0 was.1 (knows-withdrawn ds d ws d ∙ there) in
+    let was = c.loop-template.invariant ds represents there in
+    let step = c.in_ok-withdraw.ensures (with_withdrawn ds d ws) was (knows-withdrawn ds d ws d ∙ there) in
     let more = withdrawn-push ds d ws (get_or c.args.templates.now i no_template) in
-    (step.0, subst (λ (xs : List WithdrawnTemplate). StandsFor c.withdraw.new.domains.domains (with_withdrawn ds d xs)) (sym (take_more c.args.templates.now i no_template c.loop-template-test.true)) (rw more step.1))
+    subst (λ (xs : List WithdrawnTemplate). Represents c.withdraw.new.domains (with_withdrawn ds d xs)) (sym (take_more c.args.templates.now i no_template c.loop-template-test.true)) (rw more step)

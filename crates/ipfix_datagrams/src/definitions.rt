@@ -1,0 +1,162 @@
+//! The templates that a datagram defines (RFC 7011, sections 3.4 and 8.4).
+
+ghost use Rattle.std.specs.Prelude.{◌≡◌, ◌==◌, ◌∷◌, ◌++◌, [], ℕ, List, Some, None, if◌then◌else◌, flat_map, length, ◌≤◌, ◌+◌, OnOk, MatchOption, MatchResult, Ok, Err};
+ghost use Rattle.std.specs.Option.{option_or};
+ghost use Rattle.std.specs.BTreeMap.{get};
+ghost use Rattle.std.specs.Ordering.{nat_cmp};
+ghost use Rattle.ipfix_message.specs.Sets.{sets_of};
+ghost use Rattle.ipfix_message.specs.TemplateRecords;
+ghost use Rattle.ipfix_message.specs.TemplateRecords.{event_at};
+ghost use Rattle.ipfix_message.specs.declared.fault.MessageFault.{MessageFault};
+ghost use Rattle.ipfix_message.specs.declared.fault.MessageFault.TheVariants.{OutOfMemory};
+ghost use Rattle.ipfix_message.specs.declared.template_record.Event.{Event};
+ghost use Rattle.ipfix_message.specs.declared.template_record.Event.TheVariants.{Define};
+ghost use Rattle.ipfix_message.specs.declared.template_record.TheConstants.{LONGEST_BODY};
+ghost use Rattle.ipfix_wire.specs.declared.set.TheConstants.{SET_HEADER_LENGTH};
+ghost use Rattle.ipfix_datagrams.specs.Attempts.{Defines};
+ghost use Rattle.ipfix_datagrams.specs.Datagrams.{events_of_set};
+
+use crate::data_sets::set_at;
+use ipfix_message::{
+    Definition, Event, MessageFault, TEMPLATE_HEADER_LENGTH, TemplateInForce, TemplateKind,
+    Templates, event_of,
+};
+use ipfix_wire::{OPTIONS_TEMPLATE_SET_ID, TEMPLATE_SET_ID};
+use std::alloc::{AllocError, Global};
+use std::collections::BTreeMap;
+
+/// The templates that a datagram defines, by id: the first definition of each, and the last.
+#[derive(Drop)]
+pub struct Definitions {
+    pub first: Templates,
+    pub last: Templates,
+}
+
+// Puts a definition among the first ones, unless its id has one.
+fn put_first(definition: &TemplateInForce, first: &mut Templates) -> Result<(), AllocError>
+    ensures { OnOk result ((q : ℕ) → get nat_cmp first.new q ≡ option_or (get nat_cmp first.old q)
+        (if q == definition.now.id then Some definition.now else None)) }
+{
+    let id = definition.template().id;
+    if first.contains_key(&id) {
+        return Ok(());
+    }
+    first.insert(id, definition.clone()?)?;
+    Ok(())
+}
+
+// Takes a definition. The layout of its records is found.
+fn take_definition(
+    alloc: Global,
+    definition: Definition,
+    definitions: &mut Definitions,
+) -> Result<(), AllocError>
+    ensures { (es : List Event) → Defines definitions.old es
+        → OnOk result (Defines definitions.new (es ++ Define definition ∷ [])) }
+{
+    let id = definition.id();
+    let template = TemplateInForce::new(alloc, definition)?;
+    put_first(&template, &mut definitions.first)?;
+    definitions.last.insert(id, template)?;
+    Ok(())
+}
+
+// Takes a template record. A withdrawal is skipped.
+fn take_event(alloc: Global, event: Event, definitions: &mut Definitions) -> Result<(), AllocError>
+    ensures { (es : List Event) → Defines definitions.old es
+        → OnOk result (Defines definitions.new (es ++ event ∷ [])) }
+{
+    match event {
+        Event::Define(definition) => take_definition(alloc, definition, definitions),
+        Event::Withdraw(_, _) => Ok(()),
+        Event::WithdrawAll(_) => Ok(()),
+    }
+}
+
+// The next template record and what follows it, if one stands there. The fault is `OutOfMemory`.
+fn next_event(
+    alloc: Global,
+    kind: TemplateKind,
+    octets: &[u8],
+) -> Result<Option<(Event, &[u8])>, MessageFault>
+    requires long { TEMPLATE_HEADER_LENGTH ≤ length octets.now }
+    requires room { length octets.now ≤ LONGEST_BODY }
+    ensures { MatchResult result
+        (λ next. MatchOption next
+        ((fault : MessageFault) × (event_at kind octets.now ≡ Err fault))
+        (λ x. event_at kind octets.now ≡ Ok (x.0, x.1.now)))
+        (λ fault. fault ≡ OutOfMemory) }
+{
+    match event_of(alloc, kind, octets) {
+        Ok(next) => Ok(Some(next)),
+        Err(MessageFault::OutOfMemory) => Err(MessageFault::OutOfMemory),
+        Err(_) => Ok(None),
+    }
+}
+
+// Takes the template records in the body of a template set. The fault is `OutOfMemory`.
+fn take_events(
+    alloc: Global,
+    kind: TemplateKind,
+    body: &[u8],
+    definitions: &mut Definitions,
+) -> Result<(), MessageFault>
+    requires { length body.now ≤ LONGEST_BODY }
+    ensures { (es : List Event) → Defines definitions.old es → MatchResult result
+        (λ _. Defines definitions.new (es ++ (TemplateRecords.events_of kind body.now).items))
+        (λ fault. fault ≡ OutOfMemory) }
+{
+    let mut rest = body;
+    while TEMPLATE_HEADER_LENGTH <= rest.len() {
+        let Some((event, after)) = next_event(alloc, kind, rest)? else {
+            return Ok(());
+        };
+        take_event(alloc, event, definitions)?;
+        rest = after;
+    }
+    Ok(())
+}
+
+// Takes a set. The fault is `OutOfMemory`.
+fn take_set(
+    alloc: Global,
+    id: u16,
+    body: &[u8],
+    definitions: &mut Definitions,
+) -> Result<(), MessageFault>
+    requires { length body.now ≤ LONGEST_BODY }
+    ensures { (es : List Event) → Defines definitions.old es → MatchResult result
+        (λ _. Defines definitions.new (es ++ events_of_set (record { id = id; body = body.now })))
+        (λ fault. fault ≡ OutOfMemory) }
+{
+    if id == TEMPLATE_SET_ID {
+        take_events(alloc, TemplateKind::Plain, body, definitions)
+    } else if id == OPTIONS_TEMPLATE_SET_ID {
+        take_events(alloc, TemplateKind::Options, body, definitions)
+    } else {
+        Ok(())
+    }
+}
+
+/// The templates that the sets in what follows a message's header define. Without a template set this takes
+/// no memory. The fault is `OutOfMemory`.
+pub fn definitions_of(alloc: Global, octets: &[u8]) -> Result<Definitions, MessageFault>
+    requires { length octets.now ≤ SET_HEADER_LENGTH + LONGEST_BODY }
+    ensures { MatchResult result
+        (λ definitions. Defines definitions (flat_map events_of_set (sets_of octets.now).items))
+        (λ fault. fault ≡ OutOfMemory) }
+{
+    let mut definitions = Definitions {
+        first: BTreeMap::new(alloc),
+        last: BTreeMap::new(alloc),
+    };
+    let mut rest = octets;
+    while !rest.is_empty() {
+        let Some(((id, body), after)) = set_at(rest)? else {
+            return Ok(definitions);
+        };
+        take_set(alloc, id, body, &mut definitions)?;
+        rest = after;
+    }
+    Ok(definitions)
+}
