@@ -1,5 +1,5 @@
 -- The advance over messages whose numbers are right.
-use Rattle.std.proofs.Common.{◌≡◌, ℕ, ◌+◌, ◌%◌, ◌^◌, ◌<◌, ◌≤◌, Bool, true, false, cond, ltb, List, [], ◌∷◌, ◌++◌, refl, sym, ap, ◌∙◌, arith, inl, inr}
+use Rattle.std.proofs.Common.{◌≡◌, ℕ, ◌+◌, ◌%◌, ◌^◌, ◌<◌, ◌≤◌, Bool, true, false, cond, ltb, List, [], ◌∷◌, ◌++◌, refl, sym, ap, subst, ◌∙◌, arith, inl, inr}
 use Rattle.std.specs.Prelude.{◌-◌, ◌⊎◌, max, sum_by}
 use Rattle.std.proofs.lemmas.List.Sums.{sum_by-cons, sum_by-append}
 use Rattle.std.proofs.lemmas.List.{map-append}
@@ -7,7 +7,7 @@ use Rattle.std.proofs.lemmas.Bool.{le-ltb, lt-ltb, ltb-true, ltb-false}
 use Rattle.ipfix_message.specs.Domains.{Message}
 use Rattle.ipfix_session.specs.Ledger.{count_in, gap, sequence_behind}
 use Rattle.ipfix_datagrams.specs.Advances.{forward, further, advance_from, advance_of, came_of, missing_of}
-use Rattle.ipfix_datagrams.specs.Streams.{Placed, Sent, messages, place_behind, furthest_place, AreNear, AreWithin, AreNumbered, AreFew, sent, came, not_come}
+use Rattle.ipfix_datagrams.specs.Streams.{Placed, Sent, messages, place_behind, furthest_place, AreNear, AreWithin, AreNumbered, AreFew, HaveEnds, IsDoubled, IsSwapped, sent, came, not_come}
 
 -- ---- one message
 
@@ -119,10 +119,10 @@ came-cons p ps = sum_by-cons count_in p.message (messages ps)
 came-append : (ps qs : List Placed) → came_of (messages (ps ++ qs)) ≡ came_of (messages ps) + came_of (messages qs)
 came-append ps qs = ap came_of (map-append (λ (p : Placed). p.message) ps qs) ∙ sum_by-append count_in (messages ps) (messages qs)
 
-pub in_any_order : (low : ℕ) (p x y : Placed) (before behind : List Placed) → AreWithin low (p ∷ (before ++ x ∷ (y ∷ behind)))
+in_this_order : (low : ℕ) (p x y : Placed) (before behind : List Placed) → AreWithin low (p ∷ (before ++ x ∷ (y ∷ behind)))
     → (advance_of (messages (p ∷ (before ++ x ∷ (y ∷ behind)))) ≡ advance_of (messages (p ∷ (before ++ y ∷ (x ∷ behind)))))
     × (came_of (messages (p ∷ (before ++ x ∷ (y ∷ behind)))) ≡ came_of (messages (p ∷ (before ++ y ∷ (x ∷ behind)))))
-in_any_order low p x y before behind within =
+in_this_order low p x y before behind within =
     let n = max p.place (place_behind p) in
     let last = within_last low before (x ∷ (y ∷ behind)) within.3 in
     let other : AreWithin low (p ∷ (before ++ y ∷ (x ∷ behind))) = (
@@ -149,7 +149,7 @@ in_any_order low p x y before behind within =
       ),
     )
 
-pub doubled : (low : ℕ) (p x : Placed) (before between behind : List Placed) → AreWithin low (p ∷ (before ++ x ∷ (between ++ x ∷ behind)))
+doubled : (low : ℕ) (p x : Placed) (before between behind : List Placed) → AreWithin low (p ∷ (before ++ x ∷ (between ++ x ∷ behind)))
     → (advance_of (messages (p ∷ (before ++ x ∷ (between ++ x ∷ behind)))) ≡ advance_of (messages (p ∷ (before ++ x ∷ (between ++ behind)))))
     × (came_of (messages (p ∷ (before ++ x ∷ (between ++ x ∷ behind)))) ≡ came_of (messages (p ∷ (before ++ x ∷ (between ++ behind)))) + count_in x.message)
 doubled low p x before between behind within =
@@ -231,11 +231,50 @@ parted [] last = omega arith
 parted ((m, true) ∷ es) last = omega (arith, sum_by-cons count_in m (sent es ++ last ∷ []), sum_by-cons count_in m (came es ++ last ∷ []), parted es last)
 parted ((m, false) ∷ es) last = omega (arith, sum_by-cons count_in m (sent es ++ last ∷ []), sum_by-cons count_in m (not_come es), parted es last)
 
-pub the_gaps : (n : ℕ) (first last : Message) (between : Sent) → AreNumbered n (first ∷ (sent between ++ last ∷ [])) → sum_by count_in (first ∷ (sent between ++ last ∷ [])) < 2 ^ 31
+gaps_between : (n : ℕ) (first last : Message) (between : Sent) → AreNumbered n (first ∷ (sent between ++ last ∷ [])) → sum_by count_in (first ∷ (sent between ++ last ∷ [])) < 2 ^ 31
     → (advance_of (first ∷ (came between ++ last ∷ [])) ≡ sum_by count_in (first ∷ (sent between ++ last ∷ []))) × (missing_of (first ∷ (came between ++ last ∷ [])) ≡ sum_by count_in (not_come between))
-the_gaps n first last between are few =
+gaps_between n first last between are few =
     let es = (first, true) ∷ between in
     let all = gaps_from n n es last (omega arith) are (omega (arith, few)) in
     let start = ap (λ (i : ℕ). advance_from i (first ∷ (came between ++ last ∷ []))) are.0 in
     let advance : advance_of (first ∷ (came between ++ last ∷ [])) ≡ sum_by count_in (first ∷ (sent between ++ last ∷ [])) = omega (arith, all, start) in
     (advance, omega (arith, advance, parted es last))
+
+-- ---- as the laws say it
+
+pub in_any_order : (low : ℕ) (ps qs : List Placed) → AreWithin low ps → IsSwapped ps qs → (advance_of (messages ps) ≡ advance_of (messages qs)) × (came_of (messages ps) ≡ came_of (messages qs))
+in_any_order low ps qs within s =
+    let here : (advance_of (messages ps) ≡ advance_of (messages (s.first ∷ (s.before ++ s.other ∷ (s.one ∷ s.rest))))) × (came_of (messages ps) ≡ came_of (messages (s.first ∷ (s.before ++ s.other ∷ (s.one ∷ s.rest))))) =
+    subst (λ (xs : List Placed). (advance_of (messages xs) ≡ advance_of (messages (s.first ∷ (s.before ++ s.other ∷ (s.one ∷ s.rest))))) × (came_of (messages xs) ≡ came_of (messages (s.first ∷ (s.before ++ s.other ∷ (s.one ∷ s.rest)))))) (sym s.here)
+    (in_this_order low s.first s.one s.other s.before s.rest (subst (AreWithin low) s.here within)) in
+    subst (λ (xs : List Placed). (advance_of (messages ps) ≡ advance_of (messages xs)) × (came_of (messages ps) ≡ came_of (messages xs))) (sym s.there) here
+
+pub one_twice : (low : ℕ) (x : Placed) (twice once : List Placed) → AreWithin low twice → IsDoubled x twice once → (advance_of (messages twice) ≡ advance_of (messages once)) × (came_of (messages twice) ≡ came_of (messages once) + count_in x.message)
+one_twice low x twice once within d =
+    let here : (advance_of (messages twice) ≡ advance_of (messages (d.first ∷ (d.before ++ x ∷ (d.between ++ d.rest))))) × (came_of (messages twice) ≡ came_of (messages (d.first ∷ (d.before ++ x ∷ (d.between ++ d.rest)))) + count_in x.message) =
+    subst (λ (xs : List Placed). (advance_of (messages xs) ≡ advance_of (messages (d.first ∷ (d.before ++ x ∷ (d.between ++ d.rest))))) × (came_of (messages xs) ≡ came_of (messages (d.first ∷ (d.before ++ x ∷ (d.between ++ d.rest)))) + count_in x.message)) (sym d.here)
+    (doubled low d.first x d.before d.between d.rest (subst (AreWithin low) d.here within)) in
+    subst (λ (xs : List Placed). (advance_of (messages twice) ≡ advance_of (messages xs)) × (came_of (messages twice) ≡ came_of (messages xs) + count_in x.message)) (sym d.there) here
+
+-- the last one of those that were sent
+sent_last : (es : Sent) (last : Message) → sent (es ++ (last, true) ∷ []) ≡ sent es ++ last ∷ []
+sent_last [] last = refl
+sent_last (e ∷ es) last = ap (λ (ms : List Message). e.0 ∷ ms) (sent_last es last)
+
+came_last : (es : Sent) (last : Message) → came (es ++ (last, true) ∷ []) ≡ came es ++ last ∷ []
+came_last [] last = refl
+came_last ((m, true) ∷ es) last = ap (λ (ms : List Message). m ∷ ms) (came_last es last)
+came_last ((m, false) ∷ es) last = came_last es last
+
+not_come_last : (es : Sent) (last : Message) → not_come (es ++ (last, true) ∷ []) ≡ not_come es
+not_come_last [] last = refl
+not_come_last ((m, true) ∷ es) last = not_come_last es last
+not_come_last ((m, false) ∷ es) last = ap (λ (ms : List Message). m ∷ ms) (not_come_last es last)
+
+pub the_gaps : (n : ℕ) (es : Sent) → HaveEnds es → AreNumbered n (sent es) → sum_by count_in (sent es) < 2 ^ 31 → (advance_of (came es) ≡ sum_by count_in (sent es)) × (missing_of (came es) ≡ sum_by count_in (not_come es))
+the_gaps n es ends are few =
+    let all : sent es ≡ ends.first ∷ (sent ends.between ++ ends.last ∷ []) = ap sent ends.are ∙ ap (λ (ms : List Message). ends.first ∷ ms) (sent_last ends.between ends.last) in
+    let some : came es ≡ ends.first ∷ (came ends.between ++ ends.last ∷ []) = ap came ends.are ∙ ap (λ (ms : List Message). ends.first ∷ ms) (came_last ends.between ends.last) in
+    let others : not_come es ≡ not_come ends.between = ap not_come ends.are ∙ not_come_last ends.between ends.last in
+    let gaps = gaps_between n ends.first ends.last ends.between (subst (AreNumbered n) all are) (subst (λ (ms : List Message). sum_by count_in ms < 2 ^ 31) all few) in
+    (ap advance_of some ∙ gaps.0 ∙ ap (sum_by count_in) (sym all), ap missing_of some ∙ gaps.1 ∙ ap (sum_by count_in) (sym others))

@@ -1,8 +1,10 @@
 -- One attempt to read a datagram, after templates are withdrawn and defined or none, and what is kept of those that were withdrawn.
-use Rattle.std.specs.Prelude.{◌≡◌, ◌⊎◌, ℕ, true, if◌then◌else◌, is_some, List, [], ◌∷◌, reverse, Option, Some, None, Ok, IsOk}
+use Rattle.std.specs.Prelude.{◌≡◌, ◌⊎◌, ℕ, true, if◌then◌else◌, is_some, List, [], ◌∷◌, reverse, Option, Some, None, Ok, IsOk, Result, MatchResult}
 use Rattle.std.specs.Option.{option_or}
 use Rattle.std.specs.Ordering.{nat_cmp}
 use Rattle.std.specs.BTreeMap.{BTreeMap, get}
+use Rattle.ipfix_message.specs.declared.fault.MessageFault.{MessageFault}
+use Rattle.ipfix_message.specs.declared.fault.MessageFault.TheVariants.{OutOfMemory}
 use Rattle.ipfix_message.specs.declared.record.Template.{Template}
 use Rattle.ipfix_message.specs.declared.template_record.Event.{Event}
 use Rattle.ipfix_message.specs.declared.template_record.Event.TheVariants.{Define}
@@ -12,6 +14,10 @@ use Rattle.ipfix_message.specs.Domains.{DomainsView, History, Message, admit, ev
 use Rattle.ipfix_datagrams.specs.Datagrams.{MayChange, Preparation, Represents, Leaves, definition_of, first_definition, given_after, with_defined, with_withdrawn}
 use Rattle.ipfix_datagrams.specs.declared.definitions.Definitions.{Definitions}
 use Rattle.ipfix_datagrams.specs.declared.withdrawn_template.WithdrawnTemplate.{WithdrawnTemplate}
+
+-- the function answered a value of which P holds, or memory ran out
+abbrev pub OrOutOfMemory : {X : Type 0} → Result X MessageFault → (X → Type 0) → Type 0
+OrOutOfMemory result P = MatchResult result P (λ fault. fault ≡ OutOfMemory)
 
 -- ---- what a datagram defines
 

@@ -1,5 +1,5 @@
 -- The messages of a stream, as the exporter sent them, and those that came (RFC 7011, section 3.1).
-use Rattle.std.specs.Prelude.{◌≡◌, ℕ, ◌+◌, ◌%◌, ◌^◌, ◌<◌, ◌≤◌, Bool, max, not, List, [], ◌∷◌, map, filter}
+use Rattle.std.specs.Prelude.{◌≡◌, ℕ, ◌+◌, ◌%◌, ◌^◌, ◌<◌, ◌≤◌, Bool, true, max, not, List, [], ◌∷◌, ◌++◌, map, filter}
 use Rattle.ipfix_message.specs.Domains.{Message}
 use Rattle.ipfix_session.specs.Ledger.{count_in}
 
@@ -36,6 +36,25 @@ abbrev pub AreWithin : ℕ → List Placed → Type 0
 AreWithin low [] = Unit {0}
 AreWithin low (p ∷ ps) = IsNumbered p × (low ≤ p.place) × (place_behind p < low + 2 ^ 31) × AreWithin low ps
 
+-- the same messages, of which two, one next to the other after the first, stand the other way round
+pub record IsSwapped (ps qs : List Placed) : Type 0 where
+  pub first : Placed
+  pub before : List Placed
+  pub one : Placed
+  pub other : Placed
+  pub rest : List Placed
+  pub here : ps ≡ first ∷ (before ++ one ∷ (other ∷ rest))
+  pub there : qs ≡ first ∷ (before ++ other ∷ (one ∷ rest))
+
+-- the same messages, of which one after the first comes twice
+pub record IsDoubled (double : Placed) (twice once : List Placed) : Type 0 where
+  pub first : Placed
+  pub before : List Placed
+  pub between : List Placed
+  pub rest : List Placed
+  pub here : twice ≡ first ∷ (before ++ double ∷ (between ++ double ∷ rest))
+  pub there : once ≡ first ∷ (before ++ double ∷ (between ++ rest))
+
 -- ---- messages that were sent
 
 -- each has the number of data records before it, where so many were sent before the first
@@ -60,3 +79,10 @@ came es = map (λ e. e.0) (filter (λ e. e.1) es)
 
 abbrev pub not_come : Sent → List Message
 not_come es = map (λ e. e.0) (filter (λ e. not e.1) es)
+
+-- the first came, and the last
+pub record HaveEnds (es : Sent) : Type 0 where
+  pub first : Message
+  pub between : Sent
+  pub last : Message
+  pub are : es ≡ (first, true) ∷ (between ++ (last, true) ∷ [])

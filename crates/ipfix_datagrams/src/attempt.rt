@@ -1,10 +1,9 @@
 //! One attempt to read a datagram.
 
-ghost use Rattle.std.specs.Prelude.{◌≡◌, ◌≤◌, [], All, Ok, MatchBool, MatchResult};
+ghost use Rattle.std.specs.Prelude.{◌≡◌, [], All, Ok, MatchBool, MatchResult};
 ghost use Rattle.ipfix_message.specs.Domains.{History, alone, message_header};
 ghost use Rattle.ipfix_message.specs.Outcome.{Fails};
-ghost use Rattle.ipfix_message.specs.declared.fault.MessageFault.TheVariants.{OutOfMemory};
-ghost use Rattle.ipfix_datagrams.specs.Attempts.{CanAttempt, IsSomething, Reads};
+ghost use Rattle.ipfix_datagrams.specs.Attempts.{CanAttempt, IsSomething, OrOutOfMemory, Reads};
 ghost use Rattle.ipfix_datagrams.specs.Datagrams.{Represents, given_after, preparation_by, prepared};
 ghost use Rattle.ipfix_datagrams.specs.Withdrawals.{HasTemplateId};
 
@@ -34,8 +33,8 @@ fn alone_after(
     requires { All HasTemplateId withdrawn.now }
     ensures { let domain = header.now.domain in
         let p = preparation_by withdrawn.now defined.now in
-        (ds : History) → CanAttempt domains.now ds domain p → MatchResult result
-        (λ d. Represents d (prepared (alone ds domain) domain p)) (λ fault. fault ≡ OutOfMemory) }
+        (ds : History) → CanAttempt domains.now ds domain p → OrOutOfMemory result
+        (λ d. Represents d (prepared (alone ds domain) domain p)) }
 {
     let mut alone = match domains.alone(alloc, header.domain) {
         Ok(alone) => alone,
@@ -61,11 +60,10 @@ pub fn attempt(
 ) -> Result<Domains, MessageFault>
     requires header { message_header datagram.now ≡ Ok header.now }
     requires ids { All HasTemplateId withdrawn.now }
-    ensures { let domain = header.now.domain in
-        let p = preparation_by withdrawn.now defined.now in
-        (ds : History) → CanAttempt domains.now ds domain p → MatchResult result
-        (λ d. Reads ds domain p datagram.now d)
-        (λ fault. Fails fault (given_after ds domain p datagram.now)) }
+    ensures { let d = header.now.domain in let p = preparation_by withdrawn.now defined.now in
+        (ds : History) → CanAttempt domains.now ds d p → MatchResult result
+        (Reads ds d p datagram.now)
+        (λ fault. Fails fault (given_after ds d p datagram.now)) }
 {
     let mut alone = alone_after(alloc, domains, header, withdrawn, defined)?;
     let _ = alone.decode_with_header(alloc, header, datagram)?;

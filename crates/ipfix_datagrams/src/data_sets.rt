@@ -1,11 +1,11 @@
 //! The sets of a datagram, and their ids (RFC 7011, section 3.3).
 
-ghost use Rattle.std.specs.Prelude.{◌≡◌, ◌<◌, ◌≤◌, ◌+◌, ℕ, Ok, Err, IfOk, OnSome, MatchOption, MatchResult, length, map};
+ghost use Rattle.std.specs.Prelude.{◌≡◌, ◌<◌, ◌≤◌, ◌+◌, ℕ, Ok, Err, IfOk, OnSome, MatchOption, length, map};
 ghost use Rattle.ipfix_message.specs.Sets;
 ghost use Rattle.ipfix_message.specs.Sets.{sets_of};
 ghost use Rattle.ipfix_message.specs.declared.fault.MessageFault.{MessageFault};
-ghost use Rattle.ipfix_message.specs.declared.fault.MessageFault.TheVariants.{OutOfMemory};
 ghost use Rattle.ipfix_wire.specs.declared.set.TheConstants.{SET_HEADER_LENGTH};
+ghost use Rattle.ipfix_datagrams.specs.Attempts.{OrOutOfMemory};
 
 use ipfix_message::{MessageFault, next_set};
 use std::alloc::Global;
@@ -14,12 +14,11 @@ use std::alloc::Global;
 /// `OutOfMemory`.
 pub fn set_at(rest: &[u8]) -> Result<Option<((u16, &[u8]), &[u8])>, MessageFault>
     requires { 0 < length rest.now }
-    ensures { MatchResult result
+    ensures { OrOutOfMemory result
         (λ next. MatchOption next
         ((fault : MessageFault) × (Sets.next_set rest.now ≡ Err fault))
         (λ x. Sets.next_set rest.now
-        ≡ Ok (record { id = x.0.0; body = x.0.1.now }, x.1.now)))
-        (λ fault. fault ≡ OutOfMemory) }
+        ≡ Ok (record { id = x.0.0; body = x.0.1.now }, x.1.now))) }
 {
     match next_set(rest) {
         Ok(next) => Ok(Some(next)),
@@ -31,9 +30,8 @@ pub fn set_at(rest: &[u8]) -> Result<Option<((u16, &[u8]), &[u8])>, MessageFault
 /// The ids of the sets in what follows a message's header, in the order of its octets. The fault is
 /// `OutOfMemory`.
 pub fn set_ids(alloc: Global, octets: &[u8]) -> Result<Vec<u16>, MessageFault>
-    ensures { MatchResult result
-        (λ ids. ids.items ≡ map (λ s. s.id) (sets_of octets.now).items)
-        (λ fault. fault ≡ OutOfMemory) }
+    ensures { OrOutOfMemory result
+        (λ ids. ids.items ≡ map (λ s. s.id) (sets_of octets.now).items) }
 {
     let mut ids = Vec::new(alloc);
     let mut rest = octets;

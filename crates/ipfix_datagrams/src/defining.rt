@@ -1,13 +1,12 @@
 //! Defining templates again: they are in force once more (RFC 7011, section 8).
 
-ghost use Rattle.std.specs.Prelude.{◌≡◌, ℕ, true, MatchResult};
+ghost use Rattle.std.specs.Prelude.{◌≡◌, ℕ, true};
 ghost use Rattle.std.specs.BTreeMap.{values};
 ghost use Rattle.ipfix_message.specs.Alike.{knows};
 ghost use Rattle.ipfix_message.specs.Domains.{History, events_in};
 ghost use Rattle.ipfix_message.specs.WrittenTemplates.{IsTemplate};
-ghost use Rattle.ipfix_message.specs.declared.fault.MessageFault.TheVariants.{OutOfMemory};
 ghost use Rattle.ipfix_datagrams.specs.Datagrams.{Represents, with_one_defined, with_defined};
-ghost use Rattle.ipfix_datagrams.specs.Attempts.{CanDefine, IsFree};
+ghost use Rattle.ipfix_datagrams.specs.Attempts.{CanDefine, IsFree, OrOutOfMemory};
 
 use ipfix_message::{Domains, MessageFault, Stamp, Template, Templates, append_template_message};
 use ipfix_wire::Header;
@@ -24,9 +23,8 @@ fn define(
     requires { IsTemplate template.now }
     ensures { (ds : History) → Represents domains.old ds → knows ds stamp.domain ≡ true
         → IsFree (events_in ds stamp.domain) template.now
-        → MatchResult result
-        (λ _. Represents domains.new (with_one_defined ds stamp.domain template.now))
-        (λ fault. fault ≡ OutOfMemory) }
+        → OrOutOfMemory result
+        (λ _. Represents domains.new (with_one_defined ds stamp.domain template.now)) }
 {
     let mut body = Vec::new(alloc);
     message.clear();
@@ -45,11 +43,10 @@ pub fn define_all(
     header: &Header,
     templates: &Templates,
 ) -> Result<(), MessageFault>
-    ensures { (ds : History) → Represents domains.old ds → knows ds header.now.domain ≡ true
-        → CanDefine (events_in ds header.now.domain) (values templates.now)
-        → MatchResult result
-        (λ _. Represents domains.new (with_defined ds header.now.domain (values templates.now)))
-        (λ fault. fault ≡ OutOfMemory) }
+    ensures { let d = header.now.domain in let ts = values templates.now in
+        (ds : History) → Represents domains.old ds → knows ds d ≡ true
+        → CanDefine (events_in ds d) ts
+        → OrOutOfMemory result (λ _. Represents domains.new (with_defined ds d ts)) }
 {
     let stamp = Stamp {
         export_time: header.export_time,

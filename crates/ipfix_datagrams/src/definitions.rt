@@ -1,6 +1,6 @@
 //! The templates that a datagram defines (RFC 7011, sections 3.4 and 8.4).
 
-ghost use Rattle.std.specs.Prelude.{◌≡◌, ◌==◌, ◌∷◌, ◌++◌, [], ℕ, List, Some, None, if◌then◌else◌, flat_map, length, ◌≤◌, ◌+◌, OnOk, MatchOption, MatchResult, Ok, Err};
+ghost use Rattle.std.specs.Prelude.{◌≡◌, ◌==◌, ◌∷◌, ◌++◌, [], ℕ, List, Some, None, if◌then◌else◌, flat_map, length, ◌≤◌, ◌+◌, OnOk, MatchOption, Ok, Err};
 ghost use Rattle.std.specs.Option.{option_or};
 ghost use Rattle.std.specs.BTreeMap.{get};
 ghost use Rattle.std.specs.Ordering.{nat_cmp};
@@ -8,12 +8,11 @@ ghost use Rattle.ipfix_message.specs.Sets.{sets_of};
 ghost use Rattle.ipfix_message.specs.TemplateRecords;
 ghost use Rattle.ipfix_message.specs.TemplateRecords.{event_at};
 ghost use Rattle.ipfix_message.specs.declared.fault.MessageFault.{MessageFault};
-ghost use Rattle.ipfix_message.specs.declared.fault.MessageFault.TheVariants.{OutOfMemory};
 ghost use Rattle.ipfix_message.specs.declared.template_record.Event.{Event};
 ghost use Rattle.ipfix_message.specs.declared.template_record.Event.TheVariants.{Define};
 ghost use Rattle.ipfix_message.specs.declared.template_record.TheConstants.{LONGEST_BODY};
 ghost use Rattle.ipfix_wire.specs.declared.set.TheConstants.{SET_HEADER_LENGTH};
-ghost use Rattle.ipfix_datagrams.specs.Attempts.{Defines};
+ghost use Rattle.ipfix_datagrams.specs.Attempts.{Defines, OrOutOfMemory};
 ghost use Rattle.ipfix_datagrams.specs.Datagrams.{events_of_set};
 
 use crate::data_sets::set_at;
@@ -81,11 +80,10 @@ fn next_event(
 ) -> Result<Option<(Event, &[u8])>, MessageFault>
     requires long { TEMPLATE_HEADER_LENGTH ≤ length octets.now }
     requires room { length octets.now ≤ LONGEST_BODY }
-    ensures { MatchResult result
+    ensures { OrOutOfMemory result
         (λ next. MatchOption next
         ((fault : MessageFault) × (event_at kind octets.now ≡ Err fault))
-        (λ x. event_at kind octets.now ≡ Ok (x.0, x.1.now)))
-        (λ fault. fault ≡ OutOfMemory) }
+        (λ x. event_at kind octets.now ≡ Ok (x.0, x.1.now))) }
 {
     match event_of(alloc, kind, octets) {
         Ok(next) => Ok(Some(next)),
@@ -102,9 +100,8 @@ fn take_events(
     definitions: &mut Definitions,
 ) -> Result<(), MessageFault>
     requires { length body.now ≤ LONGEST_BODY }
-    ensures { (es : List Event) → Defines definitions.old es → MatchResult result
-        (λ _. Defines definitions.new (es ++ (TemplateRecords.events_of kind body.now).items))
-        (λ fault. fault ≡ OutOfMemory) }
+    ensures { (es : List Event) → Defines definitions.old es → OrOutOfMemory result
+        (λ _. Defines definitions.new (es ++ (TemplateRecords.events_of kind body.now).items)) }
 {
     let mut rest = body;
     while TEMPLATE_HEADER_LENGTH <= rest.len() {
@@ -125,9 +122,8 @@ fn take_set(
     definitions: &mut Definitions,
 ) -> Result<(), MessageFault>
     requires { length body.now ≤ LONGEST_BODY }
-    ensures { (es : List Event) → Defines definitions.old es → MatchResult result
-        (λ _. Defines definitions.new (es ++ events_of_set (record { id = id; body = body.now })))
-        (λ fault. fault ≡ OutOfMemory) }
+    ensures { (es : List Event) → Defines definitions.old es → OrOutOfMemory result
+        (λ _. Defines definitions.new (es ++ events_of_set (record { id = id; body = body.now }))) }
 {
     if id == TEMPLATE_SET_ID {
         take_events(alloc, TemplateKind::Plain, body, definitions)
@@ -142,9 +138,8 @@ fn take_set(
 /// no memory. The fault is `OutOfMemory`.
 pub fn definitions_of(alloc: Global, octets: &[u8]) -> Result<Definitions, MessageFault>
     requires { length octets.now ≤ SET_HEADER_LENGTH + LONGEST_BODY }
-    ensures { MatchResult result
-        (λ definitions. Defines definitions (flat_map events_of_set (sets_of octets.now).items))
-        (λ fault. fault ≡ OutOfMemory) }
+    ensures { OrOutOfMemory result
+        (λ definitions. Defines definitions (flat_map events_of_set (sets_of octets.now).items)) }
 {
     let mut definitions = Definitions {
         first: BTreeMap::new(alloc),

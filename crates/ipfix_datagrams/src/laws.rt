@@ -1,11 +1,11 @@
 //! Laws of the definitions. Each is a function that does nothing, and its contract is the theorem: a
 //! call brings that to the proof of its caller.
 
-ghost use Rattle.std.specs.Prelude.{◌≡◌, ◌+◌, ◌-◌, ◌^◌, ◌<◌, ◌++◌, ◌∷◌, [], ℕ, List, sum_by};
+ghost use Rattle.std.specs.Prelude.{◌≡◌, ◌+◌, ◌-◌, ◌^◌, ◌<◌, ◌∷◌, ℕ, List, sum_by};
 ghost use Rattle.ipfix_message.specs.Domains.{Message};
 ghost use Rattle.ipfix_session.specs.Ledger.{count_in};
 ghost use Rattle.ipfix_datagrams.specs.Advances.{advance_of, came_of, missing_of};
-ghost use Rattle.ipfix_datagrams.specs.Streams.{Placed, Sent, AreFew, AreNear, AreNumbered, AreWithin, came, furthest_place, messages, not_come, sent};
+ghost use Rattle.ipfix_datagrams.specs.Streams.{Placed, Sent, AreFew, AreNear, AreNumbered, AreWithin, HaveEnds, IsDoubled, IsSwapped, came, furthest_place, messages, not_come, sent};
 
 /// Where the exporter's numbers are right, the advance is from the place of the first message that came to
 /// the furthest place after any, if each came less than half of all sequence numbers off: late ones
@@ -25,31 +25,23 @@ pub fn all_came()
 /// were sent, and those of the messages that didn't come are missing; if all are less than half of all
 /// sequence numbers.
 pub fn missing_is_the_gaps()
-    ensures { (n : ℕ) (first last : Message) (between : Sent)
-        → AreNumbered n (first ∷ (sent between ++ last ∷ []))
-        → sum_by count_in (first ∷ (sent between ++ last ∷ [])) < 2 ^ 31
-        → (advance_of (first ∷ (came between ++ last ∷ []))
-        ≡ sum_by count_in (first ∷ (sent between ++ last ∷ [])))
-        × (missing_of (first ∷ (came between ++ last ∷ []))
-        ≡ sum_by count_in (not_come between)) }
+    ensures { (n : ℕ) (es : Sent) → HaveEnds es → AreNumbered n (sent es)
+        → sum_by count_in (sent es) < 2 ^ 31
+        → (advance_of (came es) ≡ sum_by count_in (sent es))
+        × (missing_of (came es) ≡ sum_by count_in (not_come es)) }
 {}
 
 /// It doesn't matter in which order those after the first came.
 pub fn order_does_not_matter()
-    ensures { (low : ℕ) (p x y : Placed) (before behind : List Placed)
-        → AreWithin low (p ∷ (before ++ x ∷ (y ∷ behind)))
-        → (advance_of (messages (p ∷ (before ++ x ∷ (y ∷ behind))))
-        ≡ advance_of (messages (p ∷ (before ++ y ∷ (x ∷ behind)))))
-        × (came_of (messages (p ∷ (before ++ x ∷ (y ∷ behind))))
-        ≡ came_of (messages (p ∷ (before ++ y ∷ (x ∷ behind))))) }
+    ensures { (low : ℕ) (ps qs : List Placed) → AreWithin low ps → IsSwapped ps qs
+        → (advance_of (messages ps) ≡ advance_of (messages qs))
+        × (came_of (messages ps) ≡ came_of (messages qs)) }
 {}
 
 /// One that came twice counts twice among the records that came, and changes no advance.
 pub fn doubles_are_counted()
-    ensures { (low : ℕ) (p x : Placed) (before between behind : List Placed)
-        → AreWithin low (p ∷ (before ++ x ∷ (between ++ x ∷ behind)))
-        → (advance_of (messages (p ∷ (before ++ x ∷ (between ++ x ∷ behind))))
-        ≡ advance_of (messages (p ∷ (before ++ x ∷ (between ++ behind)))))
-        × (came_of (messages (p ∷ (before ++ x ∷ (between ++ x ∷ behind))))
-        ≡ came_of (messages (p ∷ (before ++ x ∷ (between ++ behind)))) + count_in x.message) }
+    ensures { (low : ℕ) (x : Placed) (twice once : List Placed) → AreWithin low twice
+        → IsDoubled x twice once
+        → (advance_of (messages twice) ≡ advance_of (messages once))
+        × (came_of (messages twice) ≡ came_of (messages once) + count_in x.message) }
 {}

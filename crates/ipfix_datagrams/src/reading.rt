@@ -5,9 +5,9 @@ ghost use Rattle.std.specs.BTreeMap.{get, IsOrdered};
 ghost use Rattle.std.specs.Ordering.{nat_cmp};
 ghost use Rattle.ipfix_wire.specs.declared.set.TheConstants.{SET_HEADER_LENGTH};
 ghost use Rattle.ipfix_message.specs.Domains.{History, Message, message_header};
-ghost use Rattle.ipfix_message.specs.declared.fault.MessageFault.TheVariants.{OutOfMemory, TemplateChanged};
+ghost use Rattle.ipfix_message.specs.declared.fault.MessageFault.TheVariants.{TemplateChanged};
 ghost use Rattle.ipfix_message.specs.declared.template_record.TheConstants.{LONGEST_BODY};
-ghost use Rattle.ipfix_datagrams.specs.Attempts.{FirstReads, HasFirst};
+ghost use Rattle.ipfix_datagrams.specs.Attempts.{FirstReads, HasFirst, OrOutOfMemory};
 ghost use Rattle.ipfix_datagrams.specs.Datagrams as specs;
 ghost use Rattle.ipfix_datagrams.specs.Datagrams.{IsReadingOf, IsRefused, KeepsWithdrawn, Represents};
 ghost use Rattle.ipfix_datagrams.specs.Withdrawals.{HasTemplateId};
@@ -118,9 +118,8 @@ fn again(
 ) -> Result<Templates, MessageFault>
     ensures ordered { IfOk result (IsOrdered nat_cmp) }
     ensures again { (ds : History) (m : List ℕ) → KeepsWithdrawn withdrawn.now ds
-        → HasFirst first.now m → sets.now ≡ drop HEADER_LENGTH m → MatchResult result
-        (λ defined. (id : ℕ) → get nat_cmp defined id ≡ specs.again ds m domain id)
-        (λ fault. fault ≡ OutOfMemory) }
+        → HasFirst first.now m → sets.now ≡ drop HEADER_LENGTH m → OrOutOfMemory result
+        (λ defined. (id : ℕ) → get nat_cmp defined id ≡ specs.again ds m domain id) }
 {
     let Some(templates) = withdrawn.get(&domain) else {
         return Ok(BTreeMap::new(alloc));

@@ -1,11 +1,11 @@
 //! Withdrawing templates: they are in force no more (RFC 7011, section 8.1).
 
-ghost use Rattle.std.specs.Prelude.{◌≡◌, ℕ, true, All, MatchResult};
+ghost use Rattle.std.specs.Prelude.{◌≡◌, ℕ, true, All};
 ghost use Rattle.ipfix_message.specs.Alike.{knows};
 ghost use Rattle.ipfix_message.specs.Domains.{History};
-ghost use Rattle.ipfix_message.specs.declared.fault.MessageFault.TheVariants.{OutOfMemory};
 ghost use Rattle.ipfix_datagrams.specs.Datagrams.{Represents, with_withdrawn, with_one_withdrawn};
 ghost use Rattle.ipfix_datagrams.specs.Withdrawals.{HasTemplateId};
+ghost use Rattle.ipfix_datagrams.specs.Attempts.{OrOutOfMemory};
 
 use crate::withdrawal::append_withdrawals;
 use crate::withdrawn_template::WithdrawnTemplate;
@@ -23,9 +23,8 @@ fn withdraw(
 ) -> Result<(), MessageFault>
     requires { HasTemplateId template }
     ensures { (ds : History) → Represents domains.old ds → knows ds header.now.domain ≡ true
-        → MatchResult result
-        (λ _. Represents domains.new (with_one_withdrawn ds header.now.domain template))
-        (λ fault. fault ≡ OutOfMemory) }
+        → OrOutOfMemory result
+        (λ _. Represents domains.new (with_one_withdrawn ds header.now.domain template)) }
 {
     message.clear();
     if append_withdrawals(header, &[template], message).is_err() {
@@ -45,9 +44,8 @@ pub fn withdraw_all(
 ) -> Result<(), MessageFault>
     requires { All HasTemplateId templates.now }
     ensures { (ds : History) → Represents domains.old ds → knows ds header.now.domain ≡ true
-        → MatchResult result
-        (λ _. Represents domains.new (with_withdrawn ds header.now.domain templates.now))
-        (λ fault. fault ≡ OutOfMemory) }
+        → OrOutOfMemory result
+        (λ _. Represents domains.new (with_withdrawn ds header.now.domain templates.now)) }
 {
     let mut message = Vec::new(alloc);
     for template in templates {

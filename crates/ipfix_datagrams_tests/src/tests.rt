@@ -6,7 +6,7 @@ use ipfix_datagrams::{
     DatagramReading, WithdrawnTemplate, WithdrawnTemplates, append_withdrawals, keep_withdrawn,
     read_datagram,
 };
-use ipfix_message::{Domains, MessageFault, header_of};
+use ipfix_message::{Decoded, Domains, MessageFault, Stamp, append_template_message, header_of};
 use ipfix_wire::Header;
 use std::alloc::Global;
 use std::collections::BTreeMap;
@@ -164,30 +164,92 @@ fn a_withdrawal_is_no_fault(rt: HostRuntime) -> Result<(), Fail> {
     assert_taken(&rt, rt.alloc(), &[OPTIONS_TEMPLATE], WITHDRAWS_ALL, &[])
 }
 
+// Takes a datagram as its reading says: the templates that it replaces are withdrawn, others are defined again,
+// and it is decoded.
+fn take(
+    alloc: Global,
+    domains: &mut Domains,
+    kept: &mut WithdrawnTemplates,
+    datagram: &[u8],
+) -> Result<Decoded, Fail> {
+    let header = header_of(datagram)?;
+    let reading = read_datagram(alloc, domains, kept, &header, datagram)?;
+    keep_withdrawn(alloc, kept, domains, header.domain, &reading)?;
+    let mut message = Vec::new(alloc);
+    for template in reading.withdrawn.as_slice() {
+        message.clear();
+        append_withdrawals(&header, &[*template], &mut message)?;
+        let _ = domains.decode(alloc, &message)?;
+    }
+    let stamp = Stamp {
+        export_time: header.export_time,
+        sequence: header.sequence,
+        domain: header.domain,
+    };
+    let mut body = Vec::new(alloc);
+    for known in reading.defined.values() {
+        message.clear();
+        append_template_message(stamp, known.to_write(), &mut body, &mut message)?;
+        let _ = domains.decode(alloc, &message)?;
+    }
+    Ok(domains.decode(alloc, datagram)?)
+}
+
+// Asserts that datagrams, taken in turn after one flow, give so many records each.
+fn assert_records(
+    rt: &impl Abort,
+    alloc: Global,
+    datagrams: &[(&[u8], usize)],
+) -> Result<(), Fail> {
+    let mut domains = domains_after(alloc, &[ONE_FLOW])?;
+    let mut kept = BTreeMap::new(alloc);
+    for (datagram, records) in datagrams {
+        let decoded = take(alloc, &mut domains, &mut kept, datagram)?;
+        assert_eq!(rt; decoded.records.len(), *records);
+    }
+    Ok(())
+}
+
 // A template that was withdrawn is known over UDP: it is defined again before a datagram with data sets of it,
 // and before no other.
 #[test]
 fn a_withdrawn_template_is_defined_again(rt: HostRuntime) -> Result<(), Fail> {
     let alloc: Global = rt.alloc();
-    let before = domains_after(alloc, &[ONE_FLOW])?;
-    let after = domains_after(alloc, &[ONE_FLOW, WITHDRAWS_256])?;
+    let mut domains = domains_after(alloc, &[ONE_FLOW])?;
     let mut kept = BTreeMap::new(alloc);
-    keep_withdrawn(alloc, &mut kept, 1, before.templates(1), after.templates(1))?;
-    let flow = answer_after(alloc, &after, &kept, ONE_FLOW)?;
+    let _ = take(alloc, &mut domains, &mut kept, WITHDRAWS_256)?;
+    let flow = answer_after(alloc, &domains, &kept, NEXT_FLOW)?;
     assert_eq!(rt; flow.defined.len(), 1);
-    assert!(rt;
-        answer_after(alloc, &after, &kept, CHANGES_256)?
-            .defined
-            .is_empty()
-    );
-    assert!(rt;
-        answer_after(alloc, &after, &kept, TEMPLATE_256)?
-            .defined
-            .is_empty()
-    );
-    keep_withdrawn(alloc, &mut kept, 1, after.templates(1), before.templates(1))?;
+    let changed = answer_after(alloc, &domains, &kept, CHANGES_256)?;
+    assert!(rt; changed.defined.is_empty());
+    let template = answer_after(alloc, &domains, &kept, TEMPLATE_256)?;
+    assert!(rt; template.defined.is_empty());
+    let decoded = take(alloc, &mut domains, &mut kept, NEXT_FLOW)?;
+    assert_eq!(rt; decoded.records.len(), 1);
     assert!(rt; kept.is_empty());
     Ok(())
+}
+
+// What a datagram defines is known after it, though it withdraws it itself, and whether or not it withdraws the
+// older one first.
+#[test]
+fn what_a_datagram_defines_is_known(rt: HostRuntime) -> Result<(), Fail> {
+    let ended = [(WITHDRAWS_AND_CHANGES_256, 1), (COUNT_OF_256, 1)];
+    assert_records(&rt, rt.alloc(), &ended)?;
+    let replaced = [(CHANGES_AND_WITHDRAWS_256, 1), (COUNT_OF_256, 1)];
+    assert_records(&rt, rt.alloc(), &replaced)
+}
+
+// The first definition of an id is what replaces another, and the last is what is known.
+#[test]
+fn the_last_definition_is_known(rt: HostRuntime) -> Result<(), Fail> {
+    let alloc: Global = rt.alloc();
+    let domains = domains_after(alloc, &[CHANGES_256])?;
+    let reading = answer(alloc, &domains, CHANGES_256_TWICE)?;
+    assert!(rt; reading.withdrawn.is_empty());
+    let last = reading.definitions.get(&256).ok_or("not defined")?;
+    assert_eq!(rt; last.least(), 2);
+    assert_taken(&rt, alloc, &[ONE_FLOW], CHANGES_256_TWICE, &[TEMPLATE])
 }
 
 // Its data set is passed over as unknown.
