@@ -5,7 +5,7 @@ use crate::progress_output::{ProgressOutput, open_terminal};
 use crate::timers::ask_for_short_sleeps;
 use flow_export::ExportFault;
 use input_files::load_elements;
-use input_sources::{LoadedPlan, Noted, load_plan};
+use input_sources::{LoadedPlan, WithReason, load_plan};
 use output_tables::write_export_fault;
 use report_writing::{CheckedWriter, Status};
 use std::fs::File;
@@ -15,16 +15,16 @@ use std::io::{BufWriter, Stderr, Stdout, Write};
 const OUTPUT_BUFFER: usize = 1 << 16;
 
 /// Standard output through a buffer. Only memory can be refused here.
-pub fn buffered_output(rt: &HostRuntime) -> Option<BufWriter<Noted<Stdout>>> {
-    let noted = Noted::new(rt.alloc(), rt.stdout()).ok()?;
-    BufWriter::with_capacity(rt.alloc(), OUTPUT_BUFFER, noted).ok()
+pub fn buffered_output(rt: &HostRuntime) -> Option<BufWriter<WithReason<Stdout>>> {
+    let output = WithReason::new(rt.stdout());
+    BufWriter::with_capacity(rt.alloc(), OUTPUT_BUFFER, output).ok()
 }
 
 /// The same for a table. If there is none, `err` has a line.
 pub fn table_output(
     rt: &HostRuntime,
     err: &mut Stderr,
-) -> Result<BufWriter<Noted<Stdout>>, Status> {
+) -> Result<BufWriter<WithReason<Stdout>>, Status> {
     let Some(out) = buffered_output(rt) else {
         let _ = write_export_fault(ExportFault::OutOfMemory, err);
         return Err(Status::Failed);
@@ -54,7 +54,7 @@ pub fn load_table_plan(rt: &HostRuntime, arguments: &TableArguments) -> Option<L
 pub struct Collecting {
     /// The plan, with the elements by which it names its keys and counters, and texts name them again.
     pub loaded: LoadedPlan,
-    pub out: BufWriter<Noted<Stdout>>,
+    pub out: BufWriter<WithReason<Stdout>>,
     /// The terminal, if progress is shown there and there is one.
     pub terminal: Option<File>,
 }

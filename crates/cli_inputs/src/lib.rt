@@ -20,7 +20,4 @@ pub use inputs::{
 };
 pub use listening::listen_on;
 pub use progress_output::ProgressOutput;
-pub use refused::{
-    WITH_REASONS, write_refused, write_refused_exports, write_refused_files, write_refused_output,
-    write_refused_peers,
-};
+pub use refused::{WITH_REASONS, write_refused_output};

@@ -5,14 +5,13 @@ ghost use Rattle.std.specs.Prelude.{◌≡◌};
 use cli_inputs::{
     CollectArguments, Collecting, DumpArguments, FilesArguments, MergeArguments, TableArguments,
     TcpArguments, buffered_output, check_paths, listen_on, load_table_plan, prepare_collecting,
-    progress_writer, table_output, write_refused, write_refused_exports, write_refused_files,
-    write_refused_output, write_refused_peers,
+    progress_writer, table_output, write_refused_output,
 };
 use command_collect::{CollectJob, Connections, run_files_with, run_tcp_with, write_limit};
 use command_dump::{DumpJob, run_dump_with, write_dump_fault};
 use command_merge::{MergeJob, run_merge_with};
 use flow_collect::Pool;
-use input_sources::{LoadedPlan, Noted, SystemFiles, SystemListener};
+use input_sources::{LoadedPlan, SystemFiles, SystemListener};
 use ipfix_dump::DumpFault;
 use ipfix_session::FromReader;
 use report_writing::{CheckedWriter, Origin, Status, Verbosity};
@@ -24,8 +23,7 @@ use std::thread::Threads;
 /// `collectd dump`: standard input to standard output.
 pub fn dump(rt: &HostRuntime, arguments: &DumpArguments) -> Result<Status, Status> {
     let mut err = CheckedWriter::new(rt.stderr());
-    let input = Noted::new(rt.alloc(), rt.stdin());
-    let (Some(mut out), Ok(mut input)) = (buffered_output(rt), input) else {
+    let Some(mut out) = buffered_output(rt) else {
         let _ = write_dump_fault(DumpFault::OutOfMemory, &mut err);
         return Err(Status::Failed);
     };
@@ -44,16 +42,9 @@ pub fn dump(rt: &HostRuntime, arguments: &DumpArguments) -> Result<Status, Statu
         rt,
         rt.alloc(),
         &job,
-        &mut FromReader::new(&mut input),
+        &mut FromReader::new(rt.stdin()),
         &mut out,
         &mut err,
-    );
-    write_refused(
-        verbosity,
-        "read",
-        "standard input",
-        input.note(),
-        &mut rt.stderr(),
     );
     write_refused_output(verbosity, &out, &mut rt.stderr());
     Ok(status)
@@ -73,7 +64,7 @@ pub fn files<R: Clock + Threads + Wait + Sync>(
         mut out,
         terminal,
     } = prepare_collecting(rt, &collect, &mut err)?;
-    let mut files = SystemFiles::new(rt, rt.alloc());
+    let mut files = SystemFiles::new(rt);
     let status = run_files_with(
         threads,
         rt.alloc(),
@@ -87,7 +78,6 @@ pub fn files<R: Clock + Threads + Wait + Sync>(
     let verbosity = collect.table.verbosity;
     write_refused_output(verbosity, &out, &mut err);
     write_refused_pool(status, verbosity, collect.pool, paths.len(), &mut err);
-    write_refused_files(status, verbosity, paths, files.notes(), &mut err);
     Ok(status)
 }
 
@@ -111,7 +101,7 @@ pub fn tcp<R: Clock + Threads + Wait + Sync>(
     } = prepare_collecting(rt, &collect, &mut err)?;
     let verbosity = collect.table.verbosity;
     let listener = listen_on(rt, addr, verbosity, &mut err)?;
-    let mut listening = SystemListener::new(rt.alloc(), listener);
+    let mut listening = SystemListener::new(listener);
     let connections = Connections {
         address: addr,
         count: sessions,
@@ -129,7 +119,6 @@ pub fn tcp<R: Clock + Threads + Wait + Sync>(
     );
     write_refused_output(verbosity, &out, &mut err);
     write_refused_pool(status, verbosity, collect.pool, sessions, &mut err);
-    write_refused_peers(status, verbosity, listening.peers(), &mut err);
     Ok(status)
 }
 
@@ -140,7 +129,7 @@ pub fn merge(rt: &HostRuntime, arguments: &MergeArguments) -> Result<Status, Sta
     check_paths(paths, &mut err)?;
     let loaded = load_table_plan(rt, &table).ok_or(Status::NotOpened)?;
     let mut out = table_output(rt, &mut err)?;
-    let mut files = SystemFiles::new(rt, rt.alloc());
+    let mut files = SystemFiles::new(rt);
     let status = run_merge_with(
         &mut files,
         rt.alloc(),
@@ -150,7 +139,6 @@ pub fn merge(rt: &HostRuntime, arguments: &MergeArguments) -> Result<Status, Sta
         &mut CheckedWriter::new(rt.stderr()),
     );
     write_refused_output(table.verbosity, &out, &mut err);
-    write_refused_exports(table.verbosity, paths, files.notes(), &mut err);
     Ok(status)
 }
 

@@ -1,6 +1,7 @@
 -- How a command ended that collects, by how its sources were had and run.
 use Rattle.std.proofs.Common.{◌≡◌, ℕ, List, [], ◌++◌, All, Option, inl, inr, length, subst}
 use Rattle.std.proofs.lemmas.Option.{IfSome_then}
+use Rattle.std.specs.declared.io.ErrorKind.{ErrorKind}
 use Rattle.ipfix_session.specs.Sources.{SourceView}
 use Rattle.flow_collect.specs.Refusals.{fault_of_arguments}
 use Rattle.report_writing.specs.declared.origin.Origin.{Origin}
@@ -20,27 +21,27 @@ pub not_collected : (status : ℕ) (IsUntouched Ran TellsNotHad : Type 0) → st
 not_collected status IsUntouched Ran TellsNotHad two untouched told =
     record { statuses = inr (inr (inl two)); ran = λ ran. absurd (ran two); not_had = λ is. untouched; stopped = λ is. told }
 
-module _ {S W : Type 0} (seen : S → SourceView) (contents : W → Option (List ℕ)) (old new : W) (job : CollectJob) (status : ℕ) where
+module _ {S W : Type 0} (seen : S → SourceView) (failure : S → Option ErrorKind) (contents : W → Option (List ℕ)) (old new : W) (job : CollectJob) (status : ℕ) where
   -- a run that told its lines, said otherwise
   pub retold : (Told AreTold : List ℕ → Type 0) (sources : List S) (origins : List Origin) → ((lines : List ℕ) → Told lines → AreTold lines)
-      → RunsJob contents old new Told seen sources job origins status → RunsJob contents old new AreTold seen sources job origins status
+      → RunsJob contents old new Told seen failure sources job origins status → RunsJob contents old new AreTold seen failure sources job origins status
   retold Told AreTold sources origins otherwise r =
       record {
         statuses = r.statuses;
-        table = λ ran. ends_so seen job.verbosity.strict job.plan.now job.pool status _ _ sources (λ fulls table ends. (ends.0, otherwise _ ends.1)) (r.table ran);
+        table = λ ran. ends_so seen job.verbosity.strict job.plan.now job.pool status _ _ sources (λ c ends. (ends.0, record { ended = ends.1.ended; are_ended = ends.1.are_ended; told = otherwise _ ends.1.told })) (r.table ran);
         failed = λ three. fault_told (new ≡ old) _ _ _ _ Told AreTold (λ fault is. is) (λ fault is. is) otherwise (r.failed three);
         refused = IfSome_then (fault_of_arguments job.pool (length sources)) r.refused (λ fault refused. (refused.0, refused.1, otherwise _ refused.2));
       }
 
   -- a run that has no options
-  pub runs_plainly : (AreTold : List ℕ → Type 0) (sources : List S) (origins : List Origin) → job.elements.now ≡ [] → job.verbosity ≡ NOTHING_MORE → RunsJob contents old new AreTold seen sources job origins status
+  pub runs_plainly : (AreTold : List ℕ → Type 0) (sources : List S) (origins : List Origin) → job.elements.now ≡ [] → job.verbosity ≡ NOTHING_MORE → RunsJob contents old new AreTold seen failure sources job origins status
       → RunsPlainly contents old new AreTold seen sources job.plan.now job.pool job.output status
   runs_plainly AreTold sources origins no_files plain r =
       record {
         statuses = r.statuses;
         table = λ ran.
             table_short seen job.verbosity.strict job.plan.now job.pool status _ _ (is_strict job plain)
-            (λ fulls table ends. (written_built_in job.elements.now job.plan.now job.output _ _ table no_files ends.0, subst AreTold (plain_lines job plain origins fulls table) ends.1)) sources (r.table ran);
+            (λ c ends. (written_built_in job.elements.now job.plan.now job.output _ _ c.table no_files ends.0, subst AreTold (plain_lines job plain origins c.sessions.items c.table ends.1.ended ends.1.are_ended.reports) ends.1.told)) sources (r.table ran);
         failed = λ three.
             fault_told (new ≡ old) _ _ _ _ AreTold AreTold (λ fault is. is) (not_exported_short seen job.verbosity.strict job.plan.now job.pool status job.output (new ≡ old) sources) (λ lines told. told) (r.failed three);
         refused = r.refused;
@@ -48,11 +49,11 @@ module _ {S W : Type 0} (seen : S → SourceView) (contents : W → Option (List
 
   module _ (AreTold : List ℕ → Type 0) (AreHad : List S → Type 0) (TellsNotHad : Type 0) (AreOrigins : List S → List Origin → Type 0) (first : List ℕ) where
     abbrev pub EndsJob : Type 0
-    EndsJob = CollectsJob seen AreHad TellsNotHad contents old new AreTold status job AreOrigins first
+    EndsJob = CollectsJob seen AreHad TellsNotHad contents old new AreTold status failure job AreOrigins first
 
     -- sources were had, and run; what the run told follows what was told of them
     pub collected : (Told : List ℕ → Type 0) (sources had : List S) (origins shown : List Origin) → sources ≡ had → AreHad had → All (IsUnread seen) had → AreOrigins had origins → shown ≡ origins
-        → ((lines : List ℕ) → Told lines → AreTold (first ++ (opened_lines job.verbosity origins ++ lines))) → RunsJob contents old new Told seen sources job shown status → EndsJob
+        → ((lines : List ℕ) → Told lines → AreTold (first ++ (opened_lines job.verbosity origins ++ lines))) → RunsJob contents old new Told seen failure sources job shown status → EndsJob
     collected Told sources had origins shown same are_had unread are_origins same_origins behind r =
         record {
           statuses = one_of_four status r.statuses;
@@ -64,7 +65,7 @@ module _ {S W : Type 0} (seen : S → SourceView) (contents : W → Option (List
               origins = origins;
               are_origins = rw same are_origins;
               told = retold Told (λ lines. AreTold (first ++ (opened_lines job.verbosity origins ++ lines))) sources origins behind
-                  (subst (λ (os : List Origin). RunsJob contents old new Told seen sources job os status) same_origins r);
+                  (subst (λ (os : List Origin). RunsJob contents old new Told seen failure sources job os status) same_origins r);
             };
           };
           not_had = never_two status r.statuses;

@@ -1,5 +1,5 @@
 -- Lines that were told one after another.
-use Rattle.std.proofs.Common.{◌≡◌, ℕ, ◌+◌, List, [], ◌∷◌, ◌++◌, Option, Result, Ok, Err, refl, ap, ap₂, ◌∙◌, subst, inl, inr, append-nil, false}
+use Rattle.std.proofs.Common.{◌≡◌, ℕ, ◌+◌, List, [], ◌∷◌, ◌++◌, map, Option, Result, Ok, Err, refl, ap, ap₂, ◌∙◌, subst, inl, inr, append-nil, false}
 use Rattle.std.specs.Prelude.{OnOk, OnErr}
 use Rattle.std.specs.List.{flat_map, enumerate_from}
 use Rattle.std.specs.Io.KnownBytes.{Appends}
@@ -12,10 +12,12 @@ use Rattle.flow_export.specs.declared.fault.ExportFault.{ExportFault}
 use Rattle.flow_table.specs.declared.missing.Missing.{Missing}
 use Rattle.flow_table.specs.declared.table.Table.{Table}
 use Rattle.flow_table.specs.declared.tally.Tally.{Tally}
+use Rattle.report_sessions.specs.EndedSessions.{EndedSession}
 use Rattle.report_sessions.specs.MissingLines.{missing_told}
 use Rattle.report_writing.specs.OpeningLines.{if_verbose, opened_line}
 use Rattle.report_sessions.specs.ReportLines.{report_lines, tally_line}
 use Rattle.report_writing.specs.Told.{AreTold}
+use Rattle.report_writing.specs.Writing.{Tells}
 use Rattle.report_writing.specs.declared.origin.Origin.{Origin}
 use Rattle.report_writing.specs.declared.verbosity.Verbosity.{Verbosity}
 use Rattle.report_writing.specs.declared.verbosity.TheConstants.{NOTHING_MORE}
@@ -32,14 +34,23 @@ module _ (IsUntouched : Type 0) (IsCollect AsCollect : CollectFault → Type 0) 
   fault_told collect export otherwise (inl f) = inl (f.0, collect f.0 f.1, f.2, otherwise _ f.3)
   fault_told collect export otherwise (inr f) = inr (f.0, export f.0 f.1, otherwise _ f.2)
 
+-- a write, after one that is Ok, of which these are the lines
+on_ok : {T E : Type 0} (answer : Result T E) (old mid new : Option (List ℕ)) (xs ys : List ℕ) → Appends old mid xs → OnOk answer (Appends mid new ys) → OnOk answer (Appends old new (xs ++ ys))
+on_ok (Ok x) old mid new xs ys first then = Appends-trans old mid new xs ys first then
+on_ok (Err e) old mid new xs ys first then = tt
+
+pub tells_both : {W T U E : Type 0} (contents : W → Option (List ℕ)) (has_failed : W → Type 0) (old mid new : W) (x : T) (answer : Result U E) (xs ys : List ℕ)
+    → Tells {E = E} contents has_failed old mid (Ok x) xs → Tells contents has_failed mid new answer ys → Tells contents has_failed old new answer (xs ++ ys)
+tells_both contents has_failed old mid new x answer xs ys first then =
+    record { told = on_ok answer (contents old) (contents mid) (contents new) xs ys first.told then.told; failed = then.failed; kept = λ failed. then.kept (first.kept failed) }
+
 -- what is told of a table, by its tally and by what records lack
 pub table_lines : {T E : Type 0} (answer : Result T E) (job : CollectJob) (table : Table) (tally : Tally) (missing : Missing) (old mid new : Option (List ℕ)) → tally ≡ table.tally → missing ≡ table.missing
     → Appends old mid (tally_line tally) → OnOk answer (Appends mid new (missing_told job.verbosity job.elements.now job.plan.now missing)) → OnOk answer (Appends old new (table_told job table))
-table_lines (Ok x) job table tally missing old mid new is_tally is_missing first rest =
+table_lines answer job table tally missing old mid new is_tally is_missing first rest =
     let lack = λ (y : Missing). missing_told job.verbosity job.elements.now job.plan.now y in
-    subst (λ (l : List ℕ). Appends old new l) (ap₂ (λ (x : Tally) (y : Missing). tally_line x ++ lack y) is_tally is_missing)
-    (Appends-trans old mid new (tally_line tally) (lack missing) first rest)
-table_lines (Err e) job table tally missing old mid new is_tally is_missing first rest = tt
+    subst (λ (l : List ℕ). OnOk answer (Appends old new l)) (ap₂ (λ (x : Tally) (y : Missing). tally_line x ++ lack y) is_tally is_missing)
+    (on_ok answer old mid new (tally_line tally) (lack missing) first rest)
 
 -- without options nothing is told of it
 pub none_opened : (verbosity : Verbosity) → verbosity.verbose ≡ false → (n : ℕ) (origins : List Origin) → flat_map (λ (x : ℕ × Origin). if_verbose verbosity (opened_line x.0 x.1)) (enumerate_from n origins) ≡ []
@@ -63,9 +74,10 @@ module _ (job : CollectJob) (plain : job.verbosity ≡ NOTHING_MORE) where
       let nothing : missing_told job.verbosity job.elements.now job.plan.now table.missing ≡ [] = rw (is_verbose, is_strict) refl in
       ap (λ (l : List ℕ). tally_line table.tally ++ l) nothing ∙ append-nil _
 
-  pub plain_lines : (origins : List Origin) (fulls : List FullReport) (table : Table) → run_lines job origins fulls table ≡ report_lines (reports_in fulls) ++ tally_line table.tally
-  plain_lines origins fulls table =
-      ap₂ (λ (l m : List ℕ). l ++ m) (told_plain job.verbosity is_verbose is_strict job.elements.now origins fulls) (plain_table table)
+  -- and of sessions only their reports
+  pub plain_lines : (origins : List Origin) (fulls : List FullReport) (table : Table) (ended : List EndedSession) → map (λ (e : EndedSession). e.full) ended ≡ fulls → run_lines job origins table ended ≡ report_lines (reports_in fulls) ++ tally_line table.tally
+  plain_lines origins fulls table ended are =
+      ap₂ (λ (l m : List ℕ). l ++ m) (told_plain job.verbosity is_verbose is_strict job.elements.now origins ended fulls are) (plain_table table)
 
   -- what follows nothing
   pub behind_nothing : (first : List ℕ) → first ≡ [] → (origins : List Origin) (lines : List ℕ) → first ++ (opened_lines job.verbosity origins ++ lines) ≡ lines

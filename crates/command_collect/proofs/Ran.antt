@@ -8,7 +8,7 @@ use Rattle.ipfix_session.specs.declared.report.FullReport.{FullReport}
 use Rattle.ipfix_session.specs.declared.report.SessionReport.{SessionReport}
 use Rattle.flow_table.specs.Plans.{PlanValue}
 use Rattle.flow_table.specs.declared.table.Table.{Table}
-use Rattle.flow_collect.specs.Headline.{HeadlineWith, IsAddedUp, IsGivenBy}
+use Rattle.flow_collect.specs.Headline.{Answer, HeadlineWith, IsAddedUp, IsGivenBy}
 use Rattle.flow_collect.specs.InFull.{FullAnswer, FullHeadline, IsGivenInFull, reports_in}
 use Rattle.flow_collect.specs.declared.collected.Pool.{Pool}
 use Rattle.flow_collect.proofs.GivenLists.{first_each, all_whole, whole_records, whole_clean}
@@ -30,11 +30,11 @@ module _ {S : Type 0} (seen : S → SourceView) where
       }
 
   module _ (strict : Bool) (plan : PlanValue) (pool : Pool) (status : ℕ) where
-    abbrev pub Full : (List FullReport → Table → Type 0) → List S → Type 0
+    abbrev pub Full : (FullAnswer S → Type 0) → List S → Type 0
     Full Ends sources = WritesTable seen (IsGivenInFull seen) (WentWell strict) plan pool status Ends sources
 
-    pub writes_table : (Ends : List FullReport → Table → Type 0) (sources : List S) (c : FullAnswer S)
-        → FullHeadline seen sources plan pool c → ((status ≡ 0) ↔ WentWell strict c.sessions.items c.table) → (status ≡ 0 → AddsUpWhole seen sources plan c.table) → Ends c.sessions.items c.table
+    pub writes_table : (Ends : FullAnswer S → Type 0) (sources : List S) (c : FullAnswer S)
+        → FullHeadline seen sources plan pool c → ((status ≡ 0) ↔ WentWell strict c.sessions.items c.table) → (status ≡ 0 → AddsUpWhole seen sources plan c.table) → Ends c
         → Full Ends sources
     writes_table Ends sources c h status_is whole ends =
         record {
@@ -47,9 +47,9 @@ module _ {S : Type 0} (seen : S → SourceView) where
         }
 
     -- the same, where more is said of how it ended
-    pub ends_so : (Ends All_ends : List FullReport → Table → Type 0) (sources : List S) → ((fulls : List FullReport) (table : Table) → Ends fulls table → All_ends fulls table) → Full Ends sources → Full All_ends sources
+    pub ends_so : (Ends All_ends : FullAnswer S → Type 0) (sources : List S) → ((c : FullAnswer S) → Ends c → All_ends c) → Full Ends sources → Full All_ends sources
     ends_so Ends All_ends sources all w =
-        record { collected = w.collected; headline = w.headline; first = w.first; status_is = w.status_is; whole = w.whole; ends = all w.collected.sessions.items w.collected.table w.ends }
+        record { collected = w.collected; headline = w.headline; first = w.first; status_is = w.status_is; whole = w.whole; ends = all w.collected w.ends }
 
     -- ---- without the rest
 
@@ -62,7 +62,7 @@ module _ {S : Type 0} (seen : S → SourceView) where
     not_exported_short output IsUntouched sources fault n =
         record { collected = short_run n.collected; headline = headline_short sources n.collected n.headline; not_written = n.not_written }
 
-    pub table_short : (Ends : List FullReport → Table → Type 0) (Short : List SessionReport → Table → Type 0) → strict ≡ false → ((fulls : List FullReport) (table : Table) → Ends fulls table → Short (reports_in fulls) table)
+    pub table_short : (Ends : FullAnswer S → Type 0) (Short : Answer S → Type 0) → strict ≡ false → ((c : FullAnswer S) → Ends c → Short (short_run c))
         → (sources : List S) → Full Ends sources → WritesTable seen (IsGivenBy seen) HaveNoFault plan pool status Short sources
     unfolding headline_short
     table_short Ends Short plain shorter sources w =
@@ -72,5 +72,5 @@ module _ {S : Type 0} (seen : S → SourceView) where
           first = w.first;
           status_is = well_plainly status strict w.collected.sessions.items w.collected.table plain w.status_is;
           whole = w.whole;
-          ends = shorter w.collected.sessions.items w.collected.table w.ends;
+          ends = shorter w.collected w.ends;
         }

@@ -2,6 +2,7 @@
 use Rattle.std.specs.Prelude.{◌≡◌, ◌≢◌, ◌⊎◌, ◌<◌, ℕ, List, [], IfNone, IfSome, Option, map}
 use Rattle.std.specs.Borrow.{Bor}
 use Rattle.std.specs.Duration.{as_nanos}
+use Rattle.std.specs.declared.io.ErrorKind.{ErrorKind}
 use Rattle.std.specs.declared.net.socket_addr.SocketAddr.{SocketAddr}
 use Rattle.std.specs.declared.time.Duration.{Duration}
 use Rattle.ipfix_session.specs.Sources.{SourceView}
@@ -48,10 +49,10 @@ module _ {S W : Type 0} (seen : S → SourceView) (AreHad : List S → Type 0) (
       Collects status (new ≡ old) (RunsSources seen AreHad (λ sources. RunsPlainly contents old new AreTold seen sources plan pool output status)) TellsNotHad
 
   -- the same of a job, by the names that elements have under its files, and told in full: after the first lines, with origins
-  abbrev pub CollectsJob : CollectJob → (List S → List Origin → Type 0) → List ℕ → Type 0
-  CollectsJob job AreOrigins first =
+  abbrev pub CollectsJob : (S → Option ErrorKind) → CollectJob → (List S → List Origin → Type 0) → List ℕ → Type 0
+  CollectsJob failure job AreOrigins first =
       Collects status (new ≡ old)
-      (RunsSources seen AreHad (λ sources. TellsBehind (AreOrigins sources) job.verbosity first AreTold (λ origins Told. RunsJob contents old new Told seen sources job origins status)))
+      (RunsSources seen AreHad (λ sources. TellsBehind (AreOrigins sources) job.verbosity first AreTold (λ origins Told. RunsJob contents old new Told seen failure sources job origins status)))
       TellsNotHad
 
 -- from the files of these paths: each that was had is told, and then the path that can't be opened
@@ -67,9 +68,9 @@ module _ {S O W : Type 0} (seen : S → SourceView) (opens : O → List ℕ → 
   CollectsFilesPlainly status plan pool output =
       CollectsPlainly seen WereOpened (TellsPath NOTHING_MORE) contents old new AreTold status plan pool output
 
-  abbrev pub CollectsFiles : Status → CollectJob → Type 0
-  CollectsFiles status job =
-      CollectsJob seen WereOpened (TellsPath job.verbosity) contents old new AreTold (number_of status) job (λ sources. AreFiles (sizes before) paths) []
+  abbrev pub CollectsFiles : (S → Option ErrorKind) → Status → CollectJob → Type 0
+  CollectsFiles failure status job =
+      CollectsJob seen WereOpened (TellsPath job.verbosity) contents old new AreTold (number_of status) failure job (λ sources. AreFiles (sizes before) paths) []
 
 -- from so many connections with this limit, at an address: each that was had is told, with its peer, and then the address that
 -- gives none
@@ -81,11 +82,11 @@ module _ {S L : Type 0} (seen : S → SourceView) (gives : L → Option Duration
   CollectsConnectionsPlainly idle count address contents old new AreTold status plan pool output =
       CollectsPlainly seen (AreConnections idle count) (TellsNotAccepted (is_of before) (refuses before) NOTHING_MORE [] address AreTold) contents old new AreTold status plan pool output
 
-  abbrev pub CollectsConnections : {W : Type 0} → Connections → (W → Option (List ℕ)) → W → W → (List ℕ → Type 0) → Status → CollectJob → Type 0
-  CollectsConnections to contents old new AreTold status job =
+  abbrev pub CollectsConnections : {W : Type 0} → Connections → (W → Option (List ℕ)) → W → W → (List ℕ → Type 0) → (S → Option ErrorKind) → Status → CollectJob → Type 0
+  CollectsConnections to contents old new AreTold failure status job =
       let first = if_verbose job.verbosity (listening_line to.address.now to.count) in
       let TellsNone = TellsNotAccepted (is_of before) (refuses before) job.verbosity first to.address.now AreTold in
-      CollectsJob seen (AreConnections to.idle to.count) TellsNone contents old new AreTold (number_of status) job (ArePeers (is_of before)) first
+      CollectsJob seen (AreConnections to.idle to.count) TellsNone contents old new AreTold (number_of status) failure job (ArePeers (is_of before)) first
 
 -- a fact that holds if a pool has no fault
 abbrev pub IfPoolFits : Pool → Type 0 → Type 0

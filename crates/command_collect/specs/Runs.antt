@@ -1,6 +1,7 @@
 -- What a run of collecting wrote, and when its status says that all was well.
 use Rattle.std.specs.Prelude.{◌≡◌, ◌≢◌, ◌⊎◌, ◌↔◌, ℕ, Bool, true, false, List, [], ◌++◌, All, IfSome, IfNone, Option, length}
 use Rattle.std.specs.List.{AllZip, flat_map}
+use Rattle.std.specs.declared.io.ErrorKind.{ErrorKind}
 use Rattle.ipfix_message.specs.declared.record.DataRecord.{DataRecord}
 use Rattle.ipfix_session.specs.Given.{records_of, stop_of, IsPrefix}
 use Rattle.ipfix_session.specs.Sources.{SourceView}
@@ -10,6 +11,7 @@ use Rattle.ipfix_session.specs.declared.stop.Stop.TheVariants.{Clean}
 use Rattle.report_writing.specs.Statuses.{number_of}
 use Rattle.report_writing.specs.declared.origin.Origin.{Origin}
 use Rattle.report_writing.specs.declared.status.Status.TheVariants.{Well, SessionFault, Failed}
+use Rattle.report_sessions.specs.EndedSessions.{TellsEnded}
 use Rattle.report_sessions.specs.ReportLines.{report_lines, tally_line}
 use Rattle.report_sessions.specs.Spotless.{IsSpotless}
 use Rattle.flow_table.specs.AddedUp.{rows_in}
@@ -56,9 +58,8 @@ module _ {S : Type 0} (seen : S → SourceView) where
 
   -- by what a worker gets, as in the headline
   module _ {R : Type 0} (Gets : S → S → R → List DataRecord → Type 0) where
-    -- what was collected ended as the last fact says it, of the sessions and their table; the status says that all was well
-    -- exactly if it was
-    pub record WritesTable (IsWell : List R → Table → Type 0) (plan : PlanValue) (pool : Pool) (status : ℕ) (Ends : List R → Table → Type 0) (sources : List S) : Type 0 where
+    -- what was collected ended as the last fact says it; the status says that all was well exactly if it was
+    pub record WritesTable (IsWell : List R → Table → Type 0) (plan : PlanValue) (pool : Pool) (status : ℕ) (Ends : Collected S R Table → Type 0) (sources : List S) : Type 0 where
       -- what the headline says
       pub collected : Collected S R Table
       pub headline : HeadlineWith Gets sources plan pool collected
@@ -67,7 +68,7 @@ module _ {S : Type 0} (seen : S → SourceView) where
       pub status_is : (status ≡ number_of Well) ↔ IsWell collected.sessions.items collected.table
       -- then the table is that of the whole texts
       pub whole : status ≡ number_of Well → AddsUpWhole sources plan collected.table
-      pub ends : Ends collected.sessions.items collected.table
+      pub ends : Ends collected
 
     -- all was collected, and the table that it gave wasn't written for this reason
     pub record IsNotExported (plan : PlanValue) (pool : Pool) (output : Output) (IsUntouched : Type 0) (sources : List S) (fault : ExportFault) : Type 0 where
@@ -101,8 +102,9 @@ pub record Runs (pool : Pool) (count status : ℕ) (IsUntouched WritesIt TellsFa
 -- the table was written to a writer, and nothing else; the lines of the sessions and of the table's counts were told, and
 -- nothing else
 module _ {W : Type 0} (contents : W → Option (List ℕ)) (old new : W) (AreTold : List ℕ → Type 0) where
-  abbrev pub WritesAndTells : PlanValue → Output → List SessionReport → Table → Type 0
-  WritesAndTells plan output reports table = Writes [] plan output (contents old) (contents new) table × AreTold (report_lines reports ++ tally_line table.tally)
+  abbrev pub WritesAndTells : {S : Type 0} → PlanValue → Output → Collected S SessionReport Table → Type 0
+  WritesAndTells plan output c =
+      Writes [] plan output (contents old) (contents new) c.table × AreTold (report_lines c.sessions.items ++ tally_line c.table.tally)
 
   -- how a run ended that has no options,
   abbrev pub RunsPlainly : {S : Type 0} → (S → SourceView) → List S → PlanValue → Pool → Output → ℕ → Type 0
@@ -111,10 +113,16 @@ module _ {W : Type 0} (contents : W → Option (List ℕ)) (old new : W) (AreTol
       (WritesTable seen (IsGivenBy seen) HaveNoFault plan pool status (WritesAndTells plan output) sources)
       (TellsFault (new ≡ old) (IsCollectFault seen sources plan pool) (IsNotExported seen (IsGivenBy seen) plan pool output (new ≡ old) sources) AreTold) AreTold
 
-  -- and one with a job, by the names that elements have under its files, and told in full
-  abbrev pub RunsJob : {S : Type 0} → (S → SourceView) → List S → CollectJob → List Origin → ℕ → Type 0
-  RunsJob seen sources job origins status =
+  -- the table was written by the names that elements have under the files of a job; the sessions were told in full, each with
+  -- the reason that its own source answered, and nothing else
+  abbrev pub WritesAndTellsJob : {S : Type 0} → (S → Option ErrorKind) → CollectJob → List Origin → Collected S FullReport Table → Type 0
+  WritesAndTellsJob failure job origins c =
+      Writes job.elements.now job.plan.now job.output (contents old) (contents new) c.table
+      × TellsEnded failure c.sources.items c.sessions.items (run_lines job origins c.table) AreTold
+
+  -- and how one ended with a job
+  abbrev pub RunsJob : {S : Type 0} → (S → SourceView) → (S → Option ErrorKind) → List S → CollectJob → List Origin → ℕ → Type 0
+  RunsJob seen failure sources job origins status =
       Runs job.pool (length sources) status (new ≡ old)
-      (WritesTable seen (IsGivenInFull seen) (WentWell job.verbosity.strict) job.plan.now job.pool status
-      (λ fulls table. Writes job.elements.now job.plan.now job.output (contents old) (contents new) table × AreTold (run_lines job origins fulls table)) sources)
+      (WritesTable seen (IsGivenInFull seen) (WentWell job.verbosity.strict) job.plan.now job.pool status (WritesAndTellsJob failure job origins) sources)
       (TellsFault (new ≡ old) (IsCollectFault seen sources job.plan.now job.pool) (IsNotExported seen (IsGivenInFull seen) job.plan.now job.pool job.output (new ≡ old) sources) AreTold) AreTold

@@ -1,12 +1,12 @@
 -- What a run tells on standard error.
 use Rattle.std.specs.Prelude.{◌⊎◌, ℕ, List, ◌++◌, codes, Option}
 use Rattle.std.specs.declared.net.socket_addr.SocketAddr.{SocketAddr}
-use Rattle.ipfix_session.specs.declared.report.FullReport.{FullReport}
 use Rattle.flow_table.specs.declared.table.Table.{Table}
 use Rattle.flow_export.specs.declared.fault.ExportFault.{ExportFault}
 use Rattle.flow_collect.specs.declared.fault.CollectFault.{CollectFault}
 use Rattle.report_writing.specs.OpeningLines.{not_had_lines}
 use Rattle.output_tables.specs.ExportFaultLines.{export_fault_line}
+use Rattle.report_sessions.specs.EndedSessions.{EndedSession}
 use Rattle.report_sessions.specs.MissingLines.{missing_told}
 use Rattle.report_sessions.specs.ReportLines.{tally_line}
 use Rattle.report_sessions.specs.ToldLines.{told_lines}
@@ -23,8 +23,8 @@ abbrev pub table_told : CollectJob → Table → List ℕ
 table_told job table = tally_line table.tally ++ missing_told job.verbosity job.elements.now job.plan.now table.missing
 
 -- the sessions, in order, and then what is told of their table
-abbrev pub run_lines : CollectJob → List Origin → List FullReport → Table → List ℕ
-run_lines job origins fulls table = told_lines job.verbosity job.elements.now origins fulls ++ table_told job table
+abbrev pub run_lines : CollectJob → List Origin → Table → List EndedSession → List ℕ
+run_lines job origins table ended = told_lines job.verbosity job.elements.now origins ended ++ table_told job table
 
 -- after the first lines each session is told when it is had, with its origin; and after these what the last fact says
 pub record TellsBehind (AreOrigins : List Origin → Type 0) (verbosity : Verbosity) (first : List ℕ) (AreTold : List ℕ → Type 0) (Tells : List Origin → (List ℕ → Type 0) → Type 0) : Type 0 where

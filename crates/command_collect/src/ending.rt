@@ -5,6 +5,7 @@ ghost use Rattle.report_writing.specs.Writing.{Tells};
 ghost use Rattle.flow_table.specs.Plans.{PlanValue};
 ghost use Rattle.flow_collect.specs.InFull.{FullHeadline};
 ghost use Rattle.flow_collect.specs.Texts.{HasNoFault};
+ghost use Rattle.report_sessions.specs.EndedSessions.{TellsEnded};
 ghost use Rattle.command_collect.specs.Runs.{AddsUpWhole, WentWell};
 ghost use Rattle.command_collect.specs.Told.{run_lines, table_told};
 
@@ -63,20 +64,22 @@ fn have_no_fault(reports: &[FullReport]) -> bool
     true
 }
 
-/// Writes what there is to tell of sessions and their records.
-pub fn tell<S, E: WriteLines>(
+/// Writes what there is to tell of sessions, each with the reason that its own source answers, and of their records.
+pub fn tell<S: Source, E: WriteLines>(
     job: &CollectJob,
     origins: &[Origin],
     collected: &Collected<S, FullReport, FlatTable>,
     err: &mut E,
 ) -> io::Result<()>
-    ensures { Tells E.contents E.failed err.old err.new result
-        (run_lines job.now origins.now collected.now.sessions.items collected.now.table) }
+    ensures { TellsEnded S.failure collected.now.sources.items collected.now.sessions.items
+        (run_lines job.now origins.now collected.now.table)
+        (Tells E.contents E.failed err.old err.new result) }
 {
     write_told_reports(
         job.verbosity,
         job.elements,
         origins,
+        &collected.sources,
         &collected.sessions,
         err,
     )?;

@@ -64,8 +64,8 @@ pub fn run_with<S: Source + Send + Drop, W: Write, E: WriteLines, R: Threads + W
     // The same, with what `job` says beside: all was well exactly if no session had a fault, and if the run is
     // strict exactly if it was spotless.
     ensures runs { RunsJob W.contents out.old out.new
-        (AreToldTo E.contents E.failed err.old err.new) S.seen sources.items job.now origins.now
-        (number_of result) }
+        (AreToldTo E.contents E.failed err.old err.new) S.seen S.failure sources.items job.now
+        origins.now (number_of result) }
     ensures kept { E.failed err.old → E.failed err.new }
 {
     let collected = match collect_flat(rt, alloc, sources, job.plan, job.pool, &OpenGate) {

@@ -1,19 +1,27 @@
 -- How a dump ended, what it told, and what was written.
-use Rattle.std.proofs.Common.{◌≡◌, ℕ, Bool, true, false, List, [], ◌∷◌, All, Option, Some, None, refl, ap}
+use Rattle.std.proofs.Common.{◌≡◌, ℕ, Bool, true, false, List, [], ◌∷◌, ◌++◌, All, Option, Some, None, refl, ap, ap₂, subst}
 use Rattle.std.proofs.lemmas.List.Elements.{All-nil, All-cons, All-head}
 use Rattle.std.proofs.KnownBytes.{Appends-kept}
 use Rattle.std.specs.Io.KnownBytes.{Keeps}
-use Rattle.std.specs.Prelude.{◌↔◌, ◌⊎◌, IsTrue, is_none}
+use Rattle.std.specs.Prelude.{◌↔◌, ◌⊎◌, IsTrue, is_none, codes}
+use Rattle.std.specs.declared.io.ErrorKind.{ErrorKind}
+use Rattle.element_registry.specs.Registries.{Known}
 use Rattle.ipfix_message.specs.declared.record.DataRecord.{DataRecord}
 use Rattle.ipfix_session.specs.Sources.{SourceView}
 use Rattle.ipfix_session.specs.declared.report.FullReport.{FullReport}
 use Rattle.ipfix_dump.specs.Dumped.{DumpsInFull}
+use Rattle.report_sessions.specs.ReadFailures.{read_reason}
+use Rattle.report_sessions.specs.ReportLines.{report_lines}
 use Rattle.report_sessions.specs.Spotless.{IsSpotlessSession}
+use Rattle.report_sessions.proofs.Untold.{session_plain, unread_plain}
 use Rattle.report_writing.specs.Statuses.{number_of}
 use Rattle.report_writing.specs.declared.status.Status.{Status}
 use Rattle.report_writing.specs.declared.status.Status.TheVariants.{NotOpened}
+use Rattle.report_writing.specs.declared.verbosity.Verbosity.{Verbosity}
+use Rattle.report_writing.specs.declared.verbosity.TheConstants.{NOTHING_MORE}
 use Rattle.report_writing.proofs.Ended.{never_two}
-use Rattle.command_dump.specs.Dumps.{EndedWell, RunsDump}
+use Rattle.command_dump.specs.Dumps.{EndedWell, RunsDump, TellsDump}
+use Rattle.command_dump.specs.declared.job.DumpJob.{DumpJob}
 
 pub well_no_fault : (strict : Bool) (full : FullReport) → EndedWell strict full → full.report.fault ≡ None
 well_no_fault true full well = well.no_fault
@@ -42,18 +50,27 @@ flushed seen line_of before after old written new full d kept =
       in_full = d.in_full;
     }
 
+-- without options the report is told, and nothing else
+pub told_plain : (job : DumpJob) (known : List Known) → job.verbosity ≡ NOTHING_MORE → (answered : Option ErrorKind) (full : FullReport) (AreTold : List ℕ → Type 0) → TellsDump answered job known full AreTold → AreTold (report_lines (full.report ∷ []))
+told_plain job known plain answered full AreTold tells =
+    let verbose : job.verbosity.verbose ≡ false = ap (λ (v : Verbosity). v.verbose) plain in
+    let strict : job.verbosity.strict ≡ false = ap (λ (v : Verbosity). v.strict) plain in
+    let session = session_plain job.verbosity verbose strict known 1 job.origin None full in
+    let reason = unread_plain job.verbosity verbose (codes "standard input") (read_reason full.report.fault tells.said) in
+    subst AreTold (ap₂ (λ (l m : List ℕ). l ++ m) session reason) tells.told
+
 -- a dump that told its lines, said otherwise
 module _ {S : Type 0} {line_of : DataRecord → List ℕ} {seen : S → SourceView} {before after : S} {old new : Option (List ℕ)} {status : ℕ} {strict : Bool}
-    {lines_of : FullReport → List ℕ} {AreTold Told : List ℕ → Type 0} where
-  pub retold : ((lines : List ℕ) → AreTold lines → Told lines)
-      → RunsDump line_of seen before after old new status strict lines_of AreTold → RunsDump line_of seen before after old new status strict lines_of Told
-  retold otherwise runs =
+    {Tells Retells : FullReport → (List ℕ → Type 0) → Type 0} {AreTold Told : List ℕ → Type 0} where
+  pub retold : ((full : FullReport) → Tells full AreTold → Retells full Told) → ((lines : List ℕ) → AreTold lines → Told lines)
+      → RunsDump line_of seen before after old new status strict Tells AreTold → RunsDump line_of seen before after old new status strict Retells Told
+  retold session otherwise runs =
       record {
         statuses = runs.statuses;
         all = runs.all;
         dumped = λ ran.
             let to_end = runs.dumped ran in
-            record { full = to_end.full; dumps = to_end.dumps; told = otherwise _ to_end.told; status_is = to_end.status_is };
+            record { full = to_end.full; dumps = to_end.dumps; told = session _ to_end.told; status_is = to_end.status_is };
         failed = λ three.
             let fault = runs.failed three in
             (fault.0, otherwise _ fault.1);

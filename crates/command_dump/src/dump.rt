@@ -27,7 +27,7 @@ pub fn run_dump<S: Source, W: Write, E: WriteLines>(
 ) -> u8
     ensures runs { RunsDump (dump_line []) S.seen source.old source.new
         (W.contents out.old) (W.contents out.new) result false
-        (λ full. report_lines (full.report ∷ []))
+        (λ full AreTold. AreTold (report_lines (full.report ∷ [])))
         (AreToldTo E.contents E.failed err.old err.new) }
     ensures kept { E.failed err.old → E.failed err.new }
 {
@@ -55,7 +55,7 @@ pub fn run_dump_with<T: ReadText, S: Source, W: Write, E: WriteLines>(
     out: &mut W,
     err: &mut E,
 ) -> Status
-    ensures runs { RunsDumpWith S.seen source.old source.new W.contents out.old out.new job.now
+    ensures runs { RunsDumpWith S.seen S.failure source.old source.new W.contents out.old out.new job.now
         T.has T.refuses files.now (AreToldTo E.contents E.failed err.old err.new) result }
     ensures kept { E.failed err.old → E.failed err.new }
 {

@@ -4,17 +4,18 @@ ghost use Rattle.std.specs.Prelude.{◌≡◌, ◌⊎◌, ◌↔◌, IfOk, IsTru
 ghost use Rattle.ipfix_dump.specs.Dumped.{DumpsInFull, line_in};
 ghost use Rattle.report_writing.specs.Statuses.{number_of};
 ghost use Rattle.report_writing.specs.Told.{AreToldTo};
-ghost use Rattle.command_dump.specs.Dumps.{DumpsFor, EndedWell};
+ghost use Rattle.report_writing.specs.Writing.{Tells};
+ghost use Rattle.command_dump.specs.Dumps.{dump_lines, DumpsFor, EndedWell};
 
 use crate::dump_fault::write_dump_fault;
 use crate::job::DumpJob;
 use element_registry::Elements;
 use ipfix_dump::{DumpFault, DumpOptions, dump_with};
 use ipfix_session::{FullReport, Source};
-use report_sessions::{are_spotless, write_told_reports};
-use report_writing::{Status, WriteLines};
+use report_sessions::{are_spotless, read_reason, write_told_session, write_unread};
+use report_writing::{Reason, Status, WriteLines};
 use std::alloc::Global;
-use std::io::Write;
+use std::io::{self, Write};
 use std::slice;
 
 /// Dumps a source to `out` in the form of the job, with the names and kinds that `elements` give, and answers how
@@ -28,7 +29,7 @@ pub fn dump_to_end<S: Source, W: Write, E: WriteLines>(
     out: &mut W,
     err: &mut E,
 ) -> Status
-    ensures runs { DumpsFor S.seen source.old source.new W.contents out.old out.new job.now
+    ensures runs { DumpsFor S.seen S.failure source.old source.new W.contents out.old out.new job.now
         (number_of result) elements.now (AreToldTo E.contents E.failed err.old err.new) }
     ensures kept { E.failed err.old → E.failed err.new }
 {
@@ -38,13 +39,8 @@ pub fn dump_to_end<S: Source, W: Write, E: WriteLines>(
     };
     match dump_whole(alloc, &options, source, out) {
         Ok(full) => {
-            let _ = write_told_reports(
-                job.verbosity,
-                elements,
-                slice::from_ref(&job.origin),
-                slice::from_ref(&full),
-                err,
-            );
+            let reason = read_reason(full.report.fault, source.failure());
+            let _ = tell(job, elements, reason, &full, err);
             end_of(job.verbosity.strict, &full)
         }
         Err(fault) => {
@@ -52,6 +48,21 @@ pub fn dump_to_end<S: Source, W: Write, E: WriteLines>(
             Status::Failed
         }
     }
+}
+
+// Writes what there is to tell of the session, and then why standard input could not be read on, if that is known.
+fn tell<E: WriteLines>(
+    job: &DumpJob,
+    elements: &Elements,
+    reason: Option<Reason>,
+    full: &FullReport,
+    err: &mut E,
+) -> io::Result<()>
+    ensures { Tells E.contents E.failed err.old err.new result
+        (dump_lines job.now elements.now reason full.now) }
+{
+    write_told_session(job.verbosity, elements, 1, &job.origin, None, full, err)?;
+    write_unread(job.verbosity, "standard input", reason, err)
 }
 
 // How a session that was dumped ended.

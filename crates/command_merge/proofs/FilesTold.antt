@@ -12,6 +12,7 @@ use Rattle.report_writing.specs.declared.verbosity.Verbosity.{Verbosity}
 use Rattle.report_writing.proofs.Numbering.{numbered-last}
 use Rattle.flow_table.specs.declared.table.Table.{Table}
 use Rattle.flow_merge.specs.declared.merge_fault.MergeFault.{MergeFault}
+use Rattle.command_merge.specs.declared.not_merged.FileFault.{FileFault}
 use Rattle.command_merge.specs.MergeLines.{file_opened_line, files_opened_lines, merged_line, not_merged_lines, status_of}
 use Rattle.command_merge.specs.Merges.{IsNotAddedFor, StopsMerge}
 use Rattle.command_merge.specs.MergesTold.{TellsNotMerged}
@@ -51,9 +52,9 @@ module _ {P : Type 0} (name_of : P → List ℕ) (paths : List P) where
         subst (λ (l : List ℕ). AreTold old new After l) (sym (lines_more verbosity i d less)) (both_told old mid new Before After _ _ first then kept)
 
     -- one that isn't added
-    module _ (IsDueTo : List (List ℕ) → NotMerged → Type 0) (Refuses : List ℕ → Reason → Type 0) (Fails : MergeFault → Type 0) (i : ℕ) (d : P)
+    module _ (IsDueTo : List (List ℕ) → NotMerged → Type 0) (Refuses : List ℕ → Reason → Type 0) (Fails : FileFault → Type 0) (i : ℕ) (d : P)
         (refused : (path : Bor (List ℕ)) (reason : Reason) → Refuses path.now reason → IsDueTo (first_names i) (NotOpened path reason))
-        (failed : (number : ℕ) (path : Bor (List ℕ)) (fault : MergeFault) → Fails fault → IsDueTo (first_names (i + 1)) (File number path fault)) where
+        (failed : (number : ℕ) (path : Bor (List ℕ)) (fault : FileFault) → Fails fault → IsDueTo (first_names (i + 1)) (File number path fault)) where
       pub stops_merge : (not_merged : NotMerged) → i < length paths → AreTold old mid Before (files_opened_lines verbosity (first_names i))
           → IsNotAddedFor (Refuses (name_of (get_or paths i d))) Fails verbosity (i + 1) (name_of (get_or paths i d)) (AreTold mid new After) not_merged → (Before → After) → StopsMerge IsDueTo (map name_of paths) verbosity (AreTold old new After) not_merged
       stops_merge (NotOpened path reason) less first not_added kept =

@@ -12,9 +12,10 @@ use Rattle.flow_table.specs.declared.table.Table.{Table}
 use Rattle.flow_merge.specs.Merging.{AddsExport, GiveExports, GivesExport, IsDue, StandsFor, merging_plan}
 use Rattle.flow_merge.specs.declared.merging.Merging.{Merging}
 use Rattle.input_sources.specs.Had.{AreOpened, NextOnes, IsOpened, IsUnread}
-use Rattle.flow_merge.specs.declared.merge_fault.MergeFault.{MergeFault}
+use Rattle.std.specs.declared.io.ErrorKind.{ErrorKind}
+use Rattle.command_merge.specs.declared.not_merged.FileFault.{FileFault}
 use Rattle.command_merge.specs.Merges.{AddsFile, IsMerged}
-use Rattle.command_merge.specs.MergesStopped.{rows_of, FailsFile, LastFails}
+use Rattle.command_merge.specs.MergesStopped.{rows_of, FailsFile, HasReason, LastFails}
 use Rattle.input_sources.proofs.Had.{NextOnes-nil, NextOnes-trans}
 use Rattle.ipfix_session.specs.declared.driver.TheConstants.{READ_LIMIT}
 
@@ -75,9 +76,9 @@ pub adds_file : {S : Type 0} (seen : S → SourceView) (IsHad : S → Type 0) (o
     → ((rows : List RowValue) → StandsFor old rows → AddsExport seen READ_LIMIT old before after rows new) → AddsFile seen IsHad old new
 adds_file seen IsHad old new before after had unread same adds = record { before = before; after = after; had = had; unread = unread; same_plan = same; adds = adds }
 
-pub fails_file : {S : Type 0} (seen : S → SourceView) (IsHad : S → Type 0) (merging : Merging) (before after : S) (fault : MergeFault) → IsHad before → IsUnread seen before
-    → ((rows : List RowValue) → StandsFor merging rows → IsDue seen READ_LIMIT (merging_plan merging) rows before after fault) → FailsFile seen IsHad merging fault
-fails_file seen IsHad merging before after fault had unread due = record { before = before; after = after; had = had; unread = unread; due = due }
+pub fails_file : {S : Type 0} (seen : S → SourceView) (failure : S → Option ErrorKind) (IsHad : S → Type 0) (merging : Merging) (before after : S) (failed : FileFault) → IsHad before → IsUnread seen before
+    → ((rows : List RowValue) → StandsFor merging rows → IsDue seen READ_LIMIT (merging_plan merging) rows before after failed.fault) → HasReason (failure after) failed → FailsFile seen failure IsHad merging failed
+fails_file seen failure IsHad merging before after failed had unread due why = record { before = before; after = after; had = had; unread = unread; due = due; why = why }
 
 -- the names of paths, for the paths
 zip_names : {P S : Type 0} (opens : List ℕ → S → Type 0) (name_of : P → List ℕ) (paths : List P) (sources : List S) → AllZip (λ path. opens (name_of path)) paths sources → AllZip opens (map name_of paths) sources
@@ -87,10 +88,10 @@ zip_names opens name_of (p ∷ paths) [] all = absurd all
 zip_names opens name_of (p ∷ paths) (s ∷ sources) all = (all.0, zip_names opens name_of paths sources all.1)
 
 -- the file of one more path has a fault
-pub last_fails : {P S : Type 0} (seen : S → SourceView) (opens : List ℕ → S → Type 0) (name_of : P → List ℕ) (plan : PlanValue) (start : Option (List S)) (paths : List P) (i : ℕ) (d : P) (before after : Option (List S)) (opens_now : List ℕ → S → Type 0)
-    (merging : Merging) (fault : MergeFault) → i < length paths → ((x : List ℕ) (s : S) → opens_now x s → opens x s) → Stands seen (λ path. opens (name_of path)) plan start (take i paths) before merging
-    → FailsFile seen (IsOpened (opens_now (name_of (get_or paths i d))) before after) merging fault → LastFails seen opens start after plan (map name_of (take (i + 1) paths)) fault
-last_fails {P} seen opens name_of plan start paths i d before after opens_now merging fault less same so_far fails =
+pub last_fails : {P S : Type 0} (seen : S → SourceView) (failure : S → Option ErrorKind) (opens : List ℕ → S → Type 0) (name_of : P → List ℕ) (plan : PlanValue) (start : Option (List S)) (paths : List P) (i : ℕ) (d : P) (before after : Option (List S)) (opens_now : List ℕ → S → Type 0)
+    (merging : Merging) (fault : FileFault) → i < length paths → ((x : List ℕ) (s : S) → opens_now x s → opens x s) → Stands seen (λ path. opens (name_of path)) plan start (take i paths) before merging
+    → FailsFile seen failure (IsOpened (opens_now (name_of (get_or paths i d))) before after) merging fault → LastFails seen failure opens start after plan (map name_of (take (i + 1) paths)) fault
+last_fails {P} seen failure opens name_of plan start paths i d before after opens_now merging fault less same so_far fails =
     let opened = all_zipped_more (λ path. opens (name_of path)) (take i paths) so_far.sources (get_or paths i d) fails.before so_far.opened (same _ fails.before fails.had.asked) in
     record {
       sources = so_far.sources;
@@ -103,5 +104,6 @@ last_fails {P} seen opens name_of plan start paths i d before after opens_now me
       unread = All-push (IsUnread seen) so_far.sources fails.before so_far.unread fails.unread;
       exports = so_far.exports;
       given = so_far.given;
-      due = subst (λ (p : PlanValue). IsDue seen READ_LIMIT p (rows_of so_far.exports) fails.before fails.after fault) so_far.same_plan (fails.due (rows_of so_far.exports) so_far.stands);
+      due = subst (λ (p : PlanValue). IsDue seen READ_LIMIT p (rows_of so_far.exports) fails.before fails.after fault.fault) so_far.same_plan (fails.due (rows_of so_far.exports) so_far.stands);
+      why = fails.why;
     }

@@ -1,5 +1,6 @@
 -- The lines that a merge of files writes to standard error.
-use Rattle.std.specs.Prelude.{ℕ, List, ◌++◌, codes, decimal}
+use Rattle.std.specs.Prelude.{ℕ, List, ◌++◌, codes, decimal, Option, Some, None}
+use Rattle.std.specs.declared.io.ErrorKind.{ErrorKind}
 use Rattle.std.specs.List.{flat_map, enumerate_from}
 use Rattle.report_writing.specs.declared.status.Status.{Status}
 use Rattle.report_writing.specs.declared.status.Status.TheVariants as status
@@ -11,7 +12,10 @@ use Rattle.flow_merge.specs.declared.merge_fault.MergeFault.TheVariants.{Session
 use Rattle.report_writing.specs.OpeningLines.{if_verbose, not_had_lines}
 use Rattle.report_writing.specs.Origins.{whole_name}
 use Rattle.report_writing.specs.FaultLines.{fault_text}
+use Rattle.report_writing.specs.declared.reason.Reason.{Reason}
+use Rattle.report_sessions.specs.ReadFailures.{read_reason, unread_lines}
 use Rattle.report_writing.specs.declared.verbosity.Verbosity.{Verbosity}
+use Rattle.command_merge.specs.declared.not_merged.FileFault.{FileFault}
 use Rattle.command_merge.specs.declared.not_merged.NotMerged.{NotMerged}
 use Rattle.command_merge.specs.declared.not_merged.NotMerged.TheVariants.{NotOpened, File, Whole}
 
@@ -39,10 +43,16 @@ named_file_line file name text = file_start file ++ (whole_name name ++ text)
 abbrev pub file_opened_line : ℕ → List ℕ → List ℕ
 file_opened_line file name = named_file_line file name (codes ": opened\n")
 
--- the fault of a file, and once more with the file's name if that is asked for
-abbrev pub file_fault_lines : Verbosity → ℕ → List ℕ → MergeFault → List ℕ
-file_fault_lines verbosity file name fault =
-    file_fault_line file fault ++ if_verbose verbosity (named_file_line file name (merge_fault_text fault))
+-- why a file could not be read on, if that is its fault, and what the system answered is known
+abbrev pub unread_reason : MergeFault → Option ErrorKind → Option Reason
+unread_reason (Session fault) failure = read_reason (Some fault) failure
+unread_reason fault failure = None
+
+-- the fault of a file; if that is asked for, once more with the file's name, and why it could not be read on
+abbrev pub file_fault_lines : Verbosity → ℕ → List ℕ → FileFault → List ℕ
+file_fault_lines verbosity file name failed =
+    file_fault_line file failed.fault
+    ++ (if_verbose verbosity (named_file_line file name (merge_fault_text failed.fault)) ++ unread_lines verbosity name failed.reason)
 
 -- a fault that is no file's
 abbrev pub merge_fault_line : MergeFault → List ℕ

@@ -1,6 +1,7 @@
 -- What merging the exports in files wrote.
 use Rattle.std.specs.Prelude.{◌≡◌, ◌⊎◌, ℕ, List, [], All, Option, map}
 use Rattle.std.specs.Borrow.{Bor}
+use Rattle.std.specs.declared.io.ErrorKind.{ErrorKind}
 use Rattle.ipfix_session.specs.Sources.{SourceView}
 use Rattle.report_writing.specs.declared.status.Status.{Status}
 use Rattle.report_writing.specs.declared.status.Status.TheVariants as ends
@@ -9,7 +10,6 @@ use Rattle.flow_table.specs.Plans.{PlanValue}
 use Rattle.flow_table.specs.SameTables.{RowValue}
 use Rattle.flow_table.specs.declared.table.Table.{Table}
 use Rattle.flow_merge.specs.Merging.{merging_plan, AddsAllUp, AddsExport, StandsFor}
-use Rattle.flow_merge.specs.declared.merge_fault.MergeFault.{MergeFault}
 use Rattle.flow_merge.specs.declared.merging.Merging.{Merging}
 use Rattle.input_sources.specs.Had.{IsOpened, IsUnread, PathsAreOpened}
 use Rattle.report_writing.specs.declared.reason.Reason.{Reason}
@@ -21,6 +21,7 @@ use Rattle.command_merge.specs.MergeLines.{file_opened_line, files_opened_lines}
 use Rattle.command_merge.specs.MergesStopped.{FailsFile, IsDueTo}
 use Rattle.command_merge.specs.MergesTold.{merge_lines, StopsBehind, TellsNotExported, TellsNotMerged}
 use Rattle.command_merge.specs.declared.job.MergeJob.{MergeJob}
+use Rattle.command_merge.specs.declared.not_merged.FileFault.{FileFault}
 use Rattle.command_merge.specs.declared.not_merged.NotMerged.{NotMerged}
 use Rattle.command_merge.specs.declared.not_merged.NotMerged.TheVariants.{NotOpened, File, Whole}
 
@@ -65,20 +66,20 @@ module _ {S : Type 0} (seen : S → SourceView) where
     pub adds : (rows : List RowValue) → StandsFor old rows → AddsExport seen READ_LIMIT old before after rows new
 
 -- why the file of this name and number was not added, and what was told by then
-abbrev pub IsNotAddedFor : (Reason → Type 0) → (MergeFault → Type 0) → Verbosity → ℕ → List ℕ → (List ℕ → Type 0) → NotMerged → Type 0
+abbrev pub IsNotAddedFor : (Reason → Type 0) → (FileFault → Type 0) → Verbosity → ℕ → List ℕ → (List ℕ → Type 0) → NotMerged → Type 0
 IsNotAddedFor Refuses Fails verbosity file name AreTold (NotOpened path reason) = (path.now ≡ name) × Refuses reason × AreTold []
 IsNotAddedFor Refuses Fails verbosity file name AreTold (File number path fault) = (number ≡ file) × (path.now ≡ name) × Fails fault × AreTold (if_verbose verbosity (file_opened_line file name))
 IsNotAddedFor Refuses Fails verbosity file name AreTold (Whole fault) = ⊥
 
-module _ {S O : Type 0} (seen : S → SourceView) (opens : O → List ℕ → S → Type 0) (refuses : O → List ℕ → Reason → Type 0) (coming : O → Option (List S)) (before after : O) where
+module _ {S O : Type 0} (seen : S → SourceView) (failure : S → Option ErrorKind) (opens : O → List ℕ → S → Type 0) (refuses : O → List ℕ → Reason → Type 0) (coming : O → Option (List S)) (before after : O) where
   -- the same of a file that is opened by its name
   abbrev pub IsNotAdded : Merging → Verbosity → ℕ → List ℕ → (List ℕ → Type 0) → NotMerged → Type 0
   IsNotAdded merging verbosity file name AreTold not_merged =
-      IsNotAddedFor (refuses before name) (FailsFile seen (IsOpened (opens before name) (coming before) (coming after)) merging) verbosity file name AreTold not_merged
+      IsNotAddedFor (refuses before name) (FailsFile seen failure (IsOpened (opens before name) (coming before) (coming after)) merging) verbosity file name AreTold not_merged
 
   -- what keeps files from being merged that are opened by their names
   abbrev pub IsDueOpened : PlanValue → List (List ℕ) → NotMerged → Type 0
-  IsDueOpened plan names not_merged = IsDueTo seen (opens before) (coming before) (coming after) plan (refuses before) names not_merged
+  IsDueOpened plan names not_merged = IsDueTo seen failure (opens before) (coming before) (coming after) plan (refuses before) names not_merged
 
   -- what the status of a merge of the files of these paths says
   abbrev pub MergesFiles : {W : Type 0} → List (Bor (List ℕ)) → MergeJob → (W → Option (List ℕ)) → W → W → (List ℕ → Type 0) → Status → Type 0

@@ -10,7 +10,7 @@ ghost use Rattle.command_merge.specs.Merges.{AddsFile, IsDueOpened, IsMerged, Is
 ghost use Rattle.input_sources.specs.Had.{IsOpened, PathsAreOpened};
 
 use crate::job::MergeJob;
-use crate::not_merged::NotMerged;
+use crate::not_merged::{FileFault, NotMerged};
 use crate::reports::{write_file_opened, write_merged, write_not_merged};
 use flow_merge::Merging;
 use flow_table::FlatTable;
@@ -28,7 +28,7 @@ use std::io::Write;
 ///
 /// To `err` it writes how many files and rows there were, or else a line for the first file that was not
 /// opened or not merged, and what is wrong with it. If the job is verbose it tells each file that is
-/// opened or not merged, by its number and name, and the system's reason after one that can't be opened.
+/// opened or not merged, by its number and name, and the system's reason after one that can't be opened or read on.
 /// A strict merge is none other, since nothing is merged in which anything was lost or passed over.
 /// A fault of `err` is passed over. Nothing is written to `out` unless all files were merged.
 pub fn run_merge_with<S: Source + Drop, O: OpenSource<S>, W: Write, E: WriteLines>(
@@ -41,7 +41,7 @@ pub fn run_merge_with<S: Source + Drop, O: OpenSource<S>, W: Write, E: WriteLine
 ) -> Status
     // The source of each path, in their order, each opened once, gave an export; the rows of all of them,
     // added up, were written, and nothing else; or what kept them from it was told.
-    ensures runs { MergesFiles S.seen O.opens O.refuses O.coming files.old files.new paths.now
+    ensures runs { MergesFiles S.seen S.failure O.opens O.refuses O.coming files.old files.new paths.now
         job.now W.contents out.old out.new (AreToldTo E.contents E.failed err.old err.new) result }
     ensures kept { E.failed err.old → E.failed err.new }
 {
@@ -73,7 +73,7 @@ fn merge_files<'a, S: Source + Drop, O: OpenSource<S>, E: WriteLines>(
     ensures fits { IfOk result (FitsPlan job.now.plan.now) }
     ensures told { OnOk result (AreToldTo E.contents E.failed err.old err.new
         (files_opened_lines job.now.verbosity (names_of paths.now))) }
-    ensures stops { IfErr result (StopsMerge (IsDueOpened S.seen O.opens O.refuses O.coming
+    ensures stops { IfErr result (StopsMerge (IsDueOpened S.seen S.failure O.opens O.refuses O.coming
         files.old files.new job.now.plan.now) (names_of paths.now) job.now.verbosity
         (AreToldTo E.contents E.failed err.old err.new)) }
     ensures kept { E.failed err.old → E.failed err.new }
@@ -108,7 +108,7 @@ fn add_file<'a, S: Source + Drop, O: OpenSource<S>, E: WriteLines>(
         → O.refuses files.new name why → O.refuses files.old name why }
     ensures told { OnOk result (AreToldTo E.contents E.failed err.old err.new
         (if_verbose verbosity (file_opened_line number path.now))) }
-    ensures stops { IfErr result (IsNotAdded S.seen O.opens O.refuses O.coming files.old files.new
+    ensures stops { IfErr result (IsNotAdded S.seen S.failure O.opens O.refuses O.coming files.old files.new
         merging verbosity number path.now (AreToldTo E.contents E.failed err.old err.new)) }
     ensures kept { E.failed err.old → E.failed err.new }
 {
@@ -122,7 +122,7 @@ fn add_file<'a, S: Source + Drop, O: OpenSource<S>, E: WriteLines>(
         Err(fault) => Err(NotMerged::File {
             number,
             path,
-            fault,
+            fault: FileFault::of(fault, source.failure()),
         }),
     }
 }

@@ -7,8 +7,9 @@ ghost use Rattle.report_writing.specs.FaultLines.{fault_text};
 ghost use Rattle.command_merge.specs.MergeLines.{file_fault_line, file_fault_lines, file_opened_line, file_start, merge_fault_line, merge_fault_text, merged_line, named_file_line, not_merged_lines};
 ghost use Rattle.report_writing.specs.Writing.{Tells};
 
-use crate::not_merged::NotMerged;
+use crate::not_merged::{FileFault, NotMerged};
 use flow_merge::MergeFault;
+use report_sessions::write_unread;
 use report_writing::{
     Origin, Verbosity, WriteLines, write_fault, write_not_had_because, write_origin,
 };
@@ -51,9 +52,25 @@ fn write_merge_fault<W: WriteLines>(fault: MergeFault, out: &mut W) -> io::Resul
     write_fault("merge", fault.number(), fault.name(), out)
 }
 
-// The line of a file, counted from 1, that was not merged: the fault, and after it that of its session or of
-// its record. If `verbosity` is verbose, the same line follows with the file's name.
+// The lines of a file, counted from 1, that was not merged. The first has the fault, and after it that of its
+// session or of its record. If `verbosity` is verbose, the same line follows with the file's name, and then why
+// the file could not be read on, if that is known.
 fn write_file_fault<W: WriteLines>(
+    verbosity: Verbosity,
+    file: usize,
+    name: &str,
+    fault: FileFault,
+    out: &mut W,
+) -> io::Result<()>
+    ensures { Tells W.contents W.failed out.old out.new result
+        (file_fault_lines verbosity file name.now fault) }
+{
+    write_numbered_fault(file, fault.fault, out)?;
+    write_if_verbose(verbosity, file, name, fault.fault, out)?;
+    write_unread(verbosity, name, fault.reason, out)
+}
+
+fn write_if_verbose<W: WriteLines>(
     verbosity: Verbosity,
     file: usize,
     name: &str,
@@ -61,9 +78,8 @@ fn write_file_fault<W: WriteLines>(
     out: &mut W,
 ) -> io::Result<()>
     ensures { Tells W.contents W.failed out.old out.new result
-        (file_fault_lines verbosity file name.now fault) }
+        (if_verbose verbosity (named_file_line file name.now (merge_fault_text fault))) }
 {
-    write_numbered_fault(file, fault, out)?;
     if verbosity.verbose {
         write_named_fault(file, name, fault, out)
     } else {

@@ -6,4 +6,3 @@ pub mod PlaceLines
 pub mod PlansTold
 pub mod Progressing
 pub mod ProgressLines
-pub mod NotedPeers

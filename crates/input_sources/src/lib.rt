@@ -3,7 +3,6 @@
 #![tactic(auto)]
 
 mod accepting;
-mod noted;
 mod opening;
 mod opening_all;
 mod place_words;
@@ -14,14 +13,15 @@ mod progress;
 mod system_listener;
 mod unread_sources;
 mod with_progress;
+mod with_reason;
 
 pub use accepting::{Accepted, AcceptedAll, Listener, accept_all};
-pub use noted::{Note, Noted};
 pub use opening::{OpenSource, Opened, SystemFiles};
 pub use opening_all::{NotOpened, OpenedAll, open_all};
 pub use plan::{LoadedPlan, load_plan};
 pub use plan_fault::write_plan_fault;
 pub use progress::Progress;
-pub use system_listener::{NotedPeer, SystemListener};
+pub use system_listener::SystemListener;
 pub use unread_sources::UnreadSources;
 pub use with_progress::WithProgress;
+pub use with_reason::WithReason;

@@ -1,13 +1,9 @@
 //! What opens sources.
 
-ghost use Rattle.std.specs.Prelude.{◌≡◌, ◌++◌, ◌∷◌, [], ⊤, IfOk, None, OnOk};
-ghost use Rattle.input_sources.specs.declared.noted.Note.{Note as NoteValue};
-ghost use Rattle.input_sources.specs.Had.{IsUnread};
+ghost use Rattle.std.specs.Prelude.{⊤, None};
 
-use crate::noted::{Note, Noted};
 use ipfix_session::{FromReader, Source};
 use report_writing::Reason;
-use std::alloc::{AllocError, Global};
 use std::fs::{self, OpenFile};
 use std::io::Read;
 use std::num::NonZeroU64;
@@ -65,44 +61,20 @@ pub trait OpenSource<S: Source> {
             → refuses self.new name reason → refuses self.old name reason };
 }
 
-/// The files of the system. The path `-` is standard input. It keeps why octets could not be read on.
+/// The files of the system. The path `-` is standard input.
 #[derive(Drop)]
 pub struct SystemFiles<'r, R> {
     rt: &'r R,
-    alloc: Global,
-    notes: Vec<Note>,
 }
 
 impl<'r, R> SystemFiles<'r, R> {
     /// None of them is opened yet.
-    pub fn new(rt: &'r R, alloc: Global) -> Self {
-        SystemFiles {
-            rt,
-            alloc,
-            notes: Vec::new(alloc),
-        }
-    }
-
-    /// The notes of the files that were opened, in their order.
-    pub fn notes(&self) -> &[Note]
-        ensures { result.now ≡ self.now.notes.items }
-    {
-        &self.notes
-    }
-
-    // The source of a file of which nothing was read; its note is kept.
-    fn noted<F: Read + Drop>(&mut self, file: F) -> Result<FromReader<Noted<F>>, AllocError>
-        ensures kept { OnOk result ((note : NoteValue)
-            × (self.new.notes.items ≡ self.old.notes.items ++ note ∷ [])) }
-        ensures unread { IfOk result (IsUnread ⟦<FromReader<Noted<F>> as Source>⟧.seen) }
-    {
-        let noted = Noted::new(self.alloc, file)?;
-        self.notes.push(noted.note().clone()?)?;
-        Ok(FromReader::new(noted))
+    pub fn new(rt: &'r R) -> Self {
+        SystemFiles { rt }
     }
 }
 
-impl<'r, F: Read + OpenFile + Drop, R: Files<File = F>> OpenSource<FromReader<Noted<F>>>
+impl<'r, F: Read + OpenFile + Drop, R: Files<File = F>> OpenSource<FromReader<F>>
     for SystemFiles<'r, R> {
     ghost opens = { λ _ _ _. ⊤ };
 
@@ -112,7 +84,7 @@ impl<'r, F: Read + OpenFile + Drop, R: Files<File = F>> OpenSource<FromReader<No
 
     ghost coming = { λ _. None };
 
-    fn open_source(&mut self, path: &str) -> Result<Opened<FromReader<Noted<F>>>, Reason> {
+    fn open_source(&mut self, path: &str) -> Result<Opened<FromReader<F>>, Reason> {
         let name = if path == STANDARD_INPUT.0 {
             STANDARD_INPUT.1
         } else {
@@ -123,10 +95,10 @@ impl<'r, F: Read + OpenFile + Drop, R: Files<File = F>> OpenSource<FromReader<No
             Err(error) => return Err(Reason::of(&error)),
         };
         let size = size_of(&file);
-        match self.noted(file) {
-            Ok(source) => Ok(Opened { source, size }),
-            Err(_) => Err(Reason::OutOfMemory),
-        }
+        Ok(Opened {
+            source: FromReader::new(file),
+            size,
+        })
     }
 }
 

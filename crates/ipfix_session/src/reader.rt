@@ -1,6 +1,6 @@
 //! Any reader as a source.
 
-ghost use Rattle.std.specs.Prelude.{◌≡◌, ◌≢◌, ◌↔◌, [], true, false, Some, IfSome, IsSome};
+ghost use Rattle.std.specs.Prelude.{◌≡◌, ◌≢◌, ◌↔◌, ◌<◌, [], true, false, None, Some, IfSome, IsSome};
 ghost use Rattle.std.specs.Option.{ForSome};
 ghost use Rattle.ipfix_session.specs.Sources.{unread};
 
@@ -15,12 +15,14 @@ pub struct FromReader<R: Read> {
     failed: u64,
     failure: Option<ErrorKind>,
     ended: bool,
+    ghost counted: { (IsSome failure) ↔ (0 < failed) },
     ghost behind_the_end: { ended ≡ true → ForSome (R.remaining reader) (λ xs. xs ≡ []) },
 }
 
 impl<R: Read> FromReader<R> {
     pub fn new(reader: R) -> Self
-        ensures { ⟦<FromReader<R> as Source>⟧.seen result ≡ unread (R.remaining reader) }
+        ensures unread { ⟦<FromReader<R> as Source>⟧.seen result ≡ unread (R.remaining reader) }
+        ensures unfailed { result.failure ≡ None }
     {
         FromReader {
             reader,
@@ -63,7 +65,7 @@ impl<R: Read> Source for FromReader<R> {
         // After its end the reader isn't asked.
         ensures not_asked { (⟦<FromReader<R> as Source>⟧.seen self.old).ended ≡ true
             → reader_of self.new ≡ reader_of self.old }
-        // A read that fails leaves a reason, and no other read changes it.
+        // A read that fails leaves what the reader answered to it, and no other read changes it.
         ensures failure { result ≡ Err ReadError.Failed → IsSome (failure_of self.new) }
         ensures same { result ≢ Err ReadError.Failed → failure_of self.new ≡ failure_of self.old }
     {
@@ -91,6 +93,8 @@ impl<R: Read> Source for FromReader<R> {
     fn failure(&self) -> Option<ErrorKind>
         ensures known { IfSome result (λ kind. failure_of self.now ≡ Some kind) }
         ensures same { result ≡ failure_of self.now }
+        // There is one exactly if a read failed.
+        ensures failed { (IsSome result) ↔ (0 < (⟦<FromReader<R> as Source>⟧.seen self.now).failed) }
     {
         self.failure
     }

@@ -1,3 +1,4 @@
+pub mod Ended
 pub mod Untold
 mod Stream
 mod Once

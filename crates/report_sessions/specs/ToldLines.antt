@@ -1,6 +1,7 @@
 -- The lines of sessions in full: those that always stand, and those that are added to them.
 use Rattle.std.specs.Prelude.{ℕ, ◌-◌, ◌==◌, ◌&&◌, Bool, List, [], ◌++◌, codes, decimal, if◌then◌else◌, slice_get, unwrap_or, Option, Some, None}
 use Rattle.std.specs.List.{flat_map, enumerate_from}
+use Rattle.std.specs.declared.io.ErrorKind.{ErrorKind}
 use Rattle.element_registry.specs.Registries.{Known}
 use Rattle.ipfix_message.specs.declared.passed_over.PassedOver.{PassedOver}
 use Rattle.ipfix_session.specs.declared.fault.SessionFault.{SessionFault}
@@ -8,6 +9,8 @@ use Rattle.ipfix_session.specs.declared.report.DomainBalance.{DomainBalance}
 use Rattle.ipfix_session.specs.declared.report.FullReport.{FullReport}
 use Rattle.ipfix_session.specs.declared.report.MessagePlace.{MessagePlace}
 use Rattle.ipfix_session.specs.Faults.{number_of, name_of}
+use Rattle.report_sessions.specs.EndedSessions.{EndedSession}
+use Rattle.report_sessions.specs.ReadFailures.{read_failed_lines, read_reason}
 use Rattle.report_sessions.specs.ReportLines.{session_lines}
 use Rattle.report_writing.specs.Origins.{octets_from, session_start, tells_balances}
 use Rattle.report_sessions.specs.UnnamedElements.{unnamed_told}
@@ -69,27 +72,32 @@ ended_text messages octets records =
 abbrev pub ended_line : ℕ → Origin → FullReport → List ℕ
 ended_line session origin full = session_start session origin ++ ended_text full.report.messages full.stopped_at.octet full.report.delivered
 
-abbrev pub end_lines : ℕ → Origin → FullReport → List ℕ
-end_lines session origin full = fault_place_lines session origin full.report.fault full.stopped_at ++ ended_line session origin full
+-- the fault and its place, why the source could not be read on, and what counts
+abbrev pub end_lines : ℕ → Origin → Option ErrorKind → FullReport → List ℕ
+end_lines session origin failure full =
+    fault_place_lines session origin full.report.fault full.stopped_at
+    ++ (read_failed_lines session origin (read_reason full.report.fault failure) ++ ended_line session origin full)
 
--- both, if verbose lines are asked for
-abbrev pub end_told : Verbosity → ℕ → Origin → FullReport → List ℕ
-end_told verbosity session origin full = if verbosity.verbose then end_lines session origin full else []
+-- these, if verbose lines are asked for
+abbrev pub end_told : Verbosity → ℕ → Origin → Option ErrorKind → FullReport → List ℕ
+end_told verbosity session origin failure full = if verbosity.verbose then end_lines session origin failure full else []
 
 -- ---- a session, and all of them
 
 -- a session's lines that always stand, and then those that are added
-abbrev pub added_lines : Verbosity → List Known → ℕ → Origin → FullReport → List ℕ
-added_lines verbosity known session origin full =
-    balances_told verbosity session origin full.balances.items ++ (unnamed_told verbosity known session origin full ++ end_told verbosity session origin full)
+abbrev pub added_lines : Verbosity → List Known → ℕ → Origin → Option ErrorKind → FullReport → List ℕ
+added_lines verbosity known session origin failure full =
+    balances_told verbosity session origin full.balances.items ++ (unnamed_told verbosity known session origin full ++ end_told verbosity session origin failure full)
 
-abbrev pub told_session : Verbosity → List Known → ℕ → Origin → FullReport → List ℕ
-told_session verbosity known session origin full = session_lines session full.report ++ added_lines verbosity known session origin full
+abbrev pub told_session : Verbosity → List Known → ℕ → Origin → Option ErrorKind → FullReport → List ℕ
+told_session verbosity known session origin failure full =
+    session_lines session full.report ++ added_lines verbosity known session origin failure full
 
 -- the origin of a session, counted from 1; unknown, where none stands
 abbrev pub origin_of : List Origin → ℕ → Origin
 origin_of origins session = unwrap_or (slice_get origins (session - 1)) Unknown
 
 -- the sessions in order, counted from 1, each with the origin that has its place, under files of elements
-abbrev pub told_lines : Verbosity → List Known → List Origin → List FullReport → List ℕ
-told_lines verbosity known origins fulls = flat_map (λ x. told_session verbosity known x.0 (origin_of origins x.0) x.1) (enumerate_from 1 fulls)
+abbrev pub told_lines : Verbosity → List Known → List Origin → List EndedSession → List ℕ
+told_lines verbosity known origins ended =
+    flat_map (λ x. told_session verbosity known x.0 (origin_of origins x.0) x.1.failure x.1.full) (enumerate_from 1 ended)

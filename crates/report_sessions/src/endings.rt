@@ -3,24 +3,28 @@
 ghost use Rattle.report_sessions.specs.ToldLines.{end_told, ended_line, ended_text, fault_place_lines, left_text, number_left, place_text};
 ghost use Rattle.report_writing.specs.Writing.{Tells};
 
+use crate::read_failures::{read_reason, write_read_failed};
 use ipfix_session::{FullReport, MessagePlace, SessionFault};
 use report_writing::{Origin, Verbosity, WriteLines, write_session_start};
-use std::io;
+use std::io::{self, ErrorKind};
 
-/// Writes how a session ended, if verbose lines are asked for: the place of its fault, and then how much
-/// of it counts.
+/// Writes how a session ended, if verbose lines are asked for: the place of its fault, why its source could not
+/// be read on if that is known, and then how much of it counts.
 pub fn write_end<W: WriteLines>(
     verbosity: Verbosity,
     session: usize,
     origin: &Origin,
+    failure: Option<ErrorKind>,
     full: &FullReport,
     out: &mut W,
 ) -> io::Result<()>
     ensures { Tells W.contents W.failed out.old out.new result
-        (end_told verbosity session origin.now full.now) }
+        (end_told verbosity session origin.now failure full.now) }
 {
     if verbosity.verbose {
         write_fault_place(session, origin, full.report.fault, full.stopped_at, out)?;
+        let reason = read_reason(full.report.fault, failure);
+        write_read_failed(session, origin, reason, out)?;
         write_ended(session, origin, full, out)
     } else {
         Ok(())

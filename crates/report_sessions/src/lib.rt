@@ -15,8 +15,8 @@ mod told_reports;
 mod unnamed;
 
 pub use missing::write_missing;
-pub use read_failures::write_read_failed;
+pub use read_failures::{read_reason, write_unread};
 pub use reports::write_reports;
 pub use spotless::{are_spotless, is_spotless};
 pub use tally::write_tally;
-pub use told_reports::write_told_reports;
+pub use told_reports::{write_told_reports, write_told_session};

@@ -1,29 +1,57 @@
-//! The line that says why a session could not be read on.
+//! Why a session could not be read on, and the lines that say so.
 
-ghost use Rattle.report_writing.specs.OpeningLines.{if_verbose};
-ghost use Rattle.report_sessions.specs.ReadFailures.{read_failed_line, reason_text};
+ghost use Rattle.std.specs.Prelude.{◌≡◌};
+ghost use Rattle.report_sessions.specs.ReadFailures.{read_failed_line, read_failed_lines, read_reason as reason_by, reason_text, unread_lines};
 ghost use Rattle.report_writing.specs.Writing.{Tells};
 
 use ipfix_session::SessionFault;
-use report_writing::{Origin, Reason, Verbosity, WriteLines, write_session_start};
-use std::io;
+use report_writing::{
+    Origin, Reason, Verbosity, WriteLines, write_not_had_because, write_session_start,
+};
+use std::io::{self, ErrorKind};
 
-/// Writes the line of a session, counted from 1, that ended as ReadFailed, with the reason that the system gave.
-/// Nothing is written unless `verbosity` is verbose.
-pub fn write_read_failed<W: WriteLines>(
+/// Why a session ended as ReadFailed, if it did and what the system answered to the read that failed is known.
+pub fn read_reason(fault: Option<SessionFault>, failure: Option<ErrorKind>) -> Option<Reason>
+    ensures { result ≡ reason_by fault failure }
+{
+    match fault {
+        Some(SessionFault::ReadFailed) => failure.map(Reason::by_kind),
+        _ => None,
+    }
+}
+
+/// Writes the line that says why what has this name could not be read on. Nothing is written if that is not
+/// known, or unless `verbosity` is verbose.
+pub fn write_unread<W: WriteLines>(
     verbosity: Verbosity,
-    session: usize,
-    origin: &Origin,
-    reason: Reason,
+    name: &str,
+    reason: Option<Reason>,
     out: &mut W,
 ) -> io::Result<()>
     ensures { Tells W.contents W.failed out.old out.new result
-        (if_verbose verbosity (read_failed_line session origin.now reason)) }
+        (unread_lines verbosity name.now reason) }
 {
-    if verbosity.verbose {
-        write_read_failed_line(session, origin, reason, out)
-    } else {
-        Ok(())
+    match reason {
+        Some(reason) if verbosity.verbose => {
+            write_not_had_because(verbosity, "read", name, reason, out)
+        }
+        _ => Ok(()),
+    }
+}
+
+/// Writes the line that says why a session, counted from 1, could not be read on, if that is known.
+pub fn write_read_failed<W: WriteLines>(
+    session: usize,
+    origin: &Origin,
+    reason: Option<Reason>,
+    out: &mut W,
+) -> io::Result<()>
+    ensures { Tells W.contents W.failed out.old out.new result
+        (read_failed_lines session origin.now reason) }
+{
+    match reason {
+        Some(reason) => write_read_failed_line(session, origin, reason, out),
+        None => Ok(()),
     }
 }
 

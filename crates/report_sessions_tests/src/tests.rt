@@ -5,11 +5,11 @@ mod unnamed;
 use element_registry::Elements;
 use flow_table::{Missing, Tally};
 use ipfix_dump::{DumpOptions, Form, dump_with};
-use ipfix_session::{FromReader, FullReport};
+use ipfix_session::{FromReader, FullReport, Source};
 use report_sessions::*;
 use report_writing::*;
 use std::alloc::Global;
-use std::io::{self, ErrorKind};
+use std::io::{self, ErrorKind, Read};
 use std::net::{Ipv4Addr, SocketAddr, SocketAddrV4};
 use std::test::Fail;
 use worked_examples::sequences::*;
@@ -32,14 +32,18 @@ const STRICT: Verbosity = Verbosity {
 
 // The full report of a session of these octets.
 fn report_of(alloc: Global, text: &[u8]) -> Result<FullReport, Fail> {
-    let mut source = FromReader::new(text);
+    report_from(alloc, &mut FromReader::new(text))
+}
+
+// That of a session of this source.
+fn report_from<S: Source>(alloc: Global, source: &mut S) -> Result<FullReport, Fail> {
     let mut out = Vec::new(alloc);
     let elements = Elements::built_in(alloc);
     let options = DumpOptions {
         form: Form::Text,
         elements: &elements,
     };
-    Ok(dump_with(alloc, &options, &mut source, &mut out)?)
+    Ok(dump_with(alloc, &options, source, &mut out)?)
 }
 
 // Two sessions. In the first a data set comes before its template, and the third message is cut.
@@ -87,12 +91,69 @@ collectd: session 2 192.0.2.1:4711: ended: messages 1 octets 40 records 2
 "#,
         ),
     ];
+    let sources: [FromReader<&[u8]>; 0] = [];
     for (verbosity, wanted) in cases {
         let mut err = Vec::new(rt.alloc());
         write_told_reports(
             verbosity,
             &elements,
             &origins(),
+            &sources,
+            reports.as_slice(),
+            &mut err,
+        )?;
+        assert_eq!(rt; err.as_slice(), wanted.as_bytes());
+    }
+    Ok(())
+}
+
+// A reader whose reads all fail so, or which shows its end at once.
+#[derive(Drop)]
+struct Failing(Option<ErrorKind>);
+
+impl Read for Failing {
+    fn read(&mut self, _: &mut [u8]) -> io::Result<usize> {
+        match self.0 {
+            Some(kind) => Err(io::Error::from(kind)),
+            None => Ok(0),
+        }
+    }
+}
+
+const REASONS: &str = r#"collectd: session 1: fault 15 ReadFailed
+collectd: session 1 "flows \x1b.ipfix": fault 15 ReadFailed: message 1 octet 0 unread 74
+collectd: session 1 "flows \x1b.ipfix": fault 15 ReadFailed: nothing came in time
+collectd: session 1 "flows \x1b.ipfix": ended: messages 0 octets 0 records 0
+collectd: session 2 192.0.2.1:4711: ended: messages 0 octets 0 records 0
+collectd: session 3: fault 15 ReadFailed
+collectd: session 3: fault 15 ReadFailed: message 1 octet 0
+collectd: session 3: fault 15 ReadFailed: the connection was reset
+collectd: session 3: ended: messages 0 octets 0 records 0
+"#;
+
+#[test]
+fn tells_why_each_session_could_not_be_read_on(rt: HostRuntime) -> Result<(), Fail> {
+    let elements = Elements::built_in(rt.alloc());
+    let (mut sources, mut reports) = (Vec::new(rt.alloc()), Vec::new(rt.alloc()));
+    let silent = Some(ErrorKind::WouldBlock);
+    for failure in [silent, None, Some(ErrorKind::ConnectionReset)] {
+        let mut source = FromReader::new(Failing(failure));
+        reports.push(report_from(rt.alloc(), &mut source)?)?;
+        sources.push(source)?;
+    }
+    for (verbosity, wanted) in [
+        (
+            PLAIN,
+            "collectd: session 1: fault 15 ReadFailed\ncollectd: session 3: fault 15 ReadFailed\n",
+        ),
+        (VERBOSE, REASONS),
+    ] {
+        let mut err = Vec::new(rt.alloc());
+        write_told_reports(
+            verbosity,
+            &elements,
+            &origins(),
+            sources.as_slice(),
             reports.as_slice(),
             &mut err,
         )?;

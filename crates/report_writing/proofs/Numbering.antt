@@ -4,7 +4,8 @@ use Rattle.std.specs.List.{flat_map, enumerate_from}
 use Rattle.std.proofs.lemmas.List.{take_more}
 use Rattle.std.proofs.lemmas.Grind.{flat_map-append}
 
-enumerate_from-last : {X : Type 0} (n : ℕ) (xs : List X) (y : X) → enumerate_from n (xs ++ y ∷ []) ≡ enumerate_from n xs ++ (n + length xs, y) ∷ []
+-- one more after those that are counted
+pub enumerate_from-last : {X : Type 0} (n : ℕ) (xs : List X) (y : X) → enumerate_from n (xs ++ y ∷ []) ≡ enumerate_from n xs ++ (n + length xs, y) ∷ []
 enumerate_from-last n [] y = ap (λ k. (k, y) ∷ []) (omega arith)
 enumerate_from-last n (x ∷ xs) y =
     let k : (n + 1) + length xs ≡ n + length (x ∷ xs) = omega arith in

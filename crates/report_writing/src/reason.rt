@@ -43,8 +43,8 @@ impl Reason {
         Reason::by_kind(error.kind())
     }
 
-    // The reason that a kind of error is.
-    fn by_kind(kind: ErrorKind) -> Self
+    /// The reason that a kind of error is.
+    pub fn by_kind(kind: ErrorKind) -> Self
         ensures { result ≡ reason_of kind }
     {
         match kind {

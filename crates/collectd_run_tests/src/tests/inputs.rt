@@ -26,6 +26,16 @@ use worked_examples::values::{EXPORT_ROW, EXPORT_TEMPLATE};
 
 const NO_PROGRESS: Option<Sink> = None;
 
+const NO_WORKERS: Pool = Pool {
+    workers: 0,
+    capacity: 64,
+};
+
+const VERBOSE: Verbosity = Verbosity {
+    verbose: true,
+    strict: false,
+};
+
 fn peer() -> SocketAddr {
     SocketAddr::V4(SocketAddrV4::new(Ipv4Addr::new(192, 0, 2, 9), 4739))
 }
@@ -220,26 +230,9 @@ collectd: records: used 3 options 0 untimed 0 backward 0 unkeyed 0 too_long 0
     Ok(())
 }
 
-// What is written of these files with no workers.
-fn run_without_workers<R: Clock + Threads + Wait + Sync>(
-    rt: &R,
-    alloc: Global,
-    paths: &[&str],
-) -> Result<Vec<u8>, Fail> {
-    let pool = Pool {
-        workers: 0,
-        capacity: 64,
-    };
-    let verbosity = Verbosity {
-        verbose: true,
-        strict: false,
-    };
-    run_told(rt, alloc, paths, pool, verbosity)
-}
-
 #[test]
 fn a_file_that_is_missing_comes_before_a_pool_without_workers(rt: HostRuntime) -> Result<(), Fail> {
-    let text = run_without_workers(&rt, rt.alloc(), &["flows", "missing"])?;
+    let text = run_told(&rt, rt.alloc(), &["flows", "missing"], NO_WORKERS, VERBOSE)?;
     let want = b"collectd: session 1 \"flows\": opened
 collectd: open: missing: no such file
 2";
@@ -251,7 +244,7 @@ collectd: open: missing: no such file
 fn a_pool_without_workers_is_refused_after_all_files_were_opened(
     rt: HostRuntime,
 ) -> Result<(), Fail> {
-    let text = run_without_workers(&rt, rt.alloc(), &["flows", "cut"])?;
+    let text = run_told(&rt, rt.alloc(), &["flows", "cut"], NO_WORKERS, VERBOSE)?;
     let want = b"collectd: session 1 \"flows\": opened
 collectd: session 2 \"cut\": opened
 collectd: collect: fault 1 Workers

@@ -35,7 +35,7 @@ pub fn run_connections<
 ) -> Status
     ensures collects { CollectsConnections S.seen L.gives L.is_of L.refuses L.coming listener.old
         listener.new connections.now W.contents out.old out.new (AreToldTo E.contents E.failed err.old err.new)
-        result job.now }
+        S.failure result job.now }
     ensures closed { L.is_closed listener.new }
     ensures no_time { IfNoTime connections.now (result ≡ Status.NotOpened) }
     ensures kept { E.failed err.old → E.failed err.new }

@@ -77,7 +77,7 @@ pub fn run_files_with<
     // others; or each file that was had was told, and then the path that can't be opened.
     ensures collects { CollectsFiles S.seen O.opens O.sizes O.refuses O.coming files.old files.new
         paths.now W.contents out.old out.new (AreToldTo E.contents E.failed err.old err.new)
-        result job.now }
+        S.failure result job.now }
     ensures kept { E.failed err.old → E.failed err.new }
 {
     match open_all(rt, alloc, files, paths, progress, job.verbosity, err) {

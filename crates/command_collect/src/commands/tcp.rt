@@ -104,7 +104,7 @@ pub fn run_tcp_with<
     ensures collects { IfPoolFits job.now.pool
         (CollectsConnections S.seen L.gives L.is_of L.refuses L.coming listener.old listener.new
         connections.now W.contents out.old out.new (AreToldTo E.contents E.failed err.old err.new)
-        result job.now) }
+        S.failure result job.now) }
     ensures closed { L.is_closed listener.new }
     // No connection can have a limit of no time.
     ensures no_time { IfPoolFits job.now.pool

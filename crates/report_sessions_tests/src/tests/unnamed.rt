@@ -2,10 +2,9 @@
 
 use super::{STRICT, VERBOSE, report_of};
 use element_registry::{Elements, add_file};
-use report_sessions::write_told_reports;
+use report_sessions::write_told_session;
 use report_writing::{Origin, Verbosity};
 use std::alloc::{AllocError, Global};
-use std::slice;
 use std::test::*;
 use worked_examples::header;
 
@@ -47,14 +46,8 @@ fn told(
 ) -> Result<Vec<u8>, Fail> {
     let full = report_of(alloc, text)?;
     let mut err = Vec::new(alloc);
-    let origin = Origin::Unknown;
-    write_told_reports(
-        verbosity,
-        elements,
-        slice::from_ref(&origin),
-        slice::from_ref(&full),
-        &mut err,
-    )?;
+    let origin = &Origin::Unknown;
+    write_told_session(verbosity, elements, 1, origin, None, &full, &mut err)?;
     Ok(err)
 }
 

@@ -46,7 +46,7 @@ returns-clause-runs g c =
       table = λ ran.
           writes_table g.S.Source.seen job.verbosity.strict job.plan.now job.pool status _ c.args.sources.items c.in-Ok.collected c.in-Ok.ensures.ok well
           (λ zero. c.status_of.ensures.whole c.args.sources.items job.plan.now job.pool c.in-Ok.ensures.ok (well.0 zero))
-          (search rules, is_told _ _ _ c.tell.result _ c.tell.ensures.told c.tell.ensures.failed);
+          (search rules, record { ended = c.tell.ensures.ended; are_ended = c.tell.ensures.are_ended; told = is_told _ _ _ c.tell.result _ c.tell.ensures.told.told c.tell.ensures.told.failed });
       failed = never_three c.status_of.result status refl c.status_of.ensures.ends;
       refused = not_refused g.S.Source.seen c.args.sources job.plan.now job.pool c.in-Ok.collected _ same c.in-Ok.ensures.faults;
     }

@@ -21,7 +21,8 @@ returns-clause-runs g c =
         known = c.in-Some.elements;
         lines = loads.0;
         loaded = loads.1;
-        runs = retold (λ more told. both_told _ _ _ _ _ loads.0 more loads.2 told dump.kept) dump.runs;
+        runs = retold (λ full tells. record { said = tells.said; is_said = tells.is_said; told = both_told _ _ _ _ _ loads.0 _ loads.2 tells.told dump.kept })
+            (λ more told. both_told _ _ _ _ _ loads.0 more loads.2 told dump.kept) dump.runs;
       };
       stopped = never_opened c.dump_to_end.result dump.runs.statuses;
       untouched = never_opened c.dump_to_end.result dump.runs.statuses;

@@ -1,15 +1,18 @@
-use Rattle.std.proofs.Common.{refl, inr}
+use Rattle.std.proofs.Common.{Option, refl, inr, subst}
 use Rattle.ipfix_dump.specs.Dumped.{line_in}
 use Rattle.ipfix_dump.proofs.Writing.{dumps_all}
 use Rattle.report_writing.proofs.Ended.{never_three, one_of_three, zero_if_well}
 use Rattle.report_writing.proofs.LinesTold.{is_told}
+use Rattle.report_writing.specs.Told.{AreToldTo}
+use Rattle.report_writing.specs.declared.reason.Reason.{Reason}
+use Rattle.command_dump.specs.Dumps.{dump_lines}
 use Rattle.command_dump.proofs.FullDumped.{well_no_fault}
 use Rattle.command_dump.proofs.ending.dump_to_end.Goals as goal
 
 pub returns-in-Ok-clause-runs : goal.returns-in-Ok-clause-runs
 returns-in-Ok-clause-runs g c =
     let well = zero_if_well c.end_of.result _ _ refl c.end_of.ensures.ends c.end_of.ensures.well in
-    let told = rw (c.from_ref.ensures.value, c.from_ref-in-Ok.ensures.value) at c.write_told_reports.ensures.told.told in
+    let tells = c.tell.ensures in
     let job = c.args.job.now in
     record {
       statuses = one_of_three c.end_of.result _ refl c.end_of.ensures.ends;
@@ -19,7 +22,7 @@ returns-in-Ok-clause-runs g c =
       dumped = λ ran. record {
         full = c.in-Ok.full;
         dumps = c.in-Ok.ensures;
-        told = is_told _ _ _ c.write_told_reports.result _ told c.write_told_reports.ensures.told.failed;
+        told = record { said = c.failure.result; is_said = c.failure.ensures; told = subst (λ (r : Option Reason). AreToldTo g.E.WriteLines.contents g.E.WriteLines.failed c.args.err.now c.tell.new.err (dump_lines job c.args.elements.now r c.in-Ok.full)) c.read_reason-reason.ensures (is_told _ _ _ c.tell.result _ tells.told tells.failed) };
         status_is = well;
       };
       failed = never_three c.end_of.result _ refl c.end_of.ensures.ends;

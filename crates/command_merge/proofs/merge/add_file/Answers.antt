@@ -11,6 +11,7 @@ pub returns-clause-stops : goal.returns-clause-stops
 returns-clause-stops g c = (
   refl,
   refl,
-  fails_file _ _ _ c.in-Ok.opened.source c.read.new.source c.in-Err-read.fault (record { asked = c.in-Ok.ensures.named; came = c.in-Ok.ensures.came }) c.in-Ok.ensures.unread c.in-Err-read.ensures.fault,
+  fails_file _ _ _ _ c.in-Ok.opened.source c.read.new.source c.of.result (record { asked = c.in-Ok.ensures.named; came = c.in-Ok.ensures.came }) c.in-Ok.ensures.unread (rw c.of.ensures.fault c.in-Err-read.ensures.fault)
+      (record { said = c.failure.result; is_said = c.failure.ensures; reason = rw c.of.ensures.fault c.of.ensures.reason }),
   is_told _ _ _ c.write_file_opened.result _ c.write_file_opened.ensures.told c.write_file_opened.ensures.failed,
 )

@@ -35,7 +35,7 @@ returns-in_err-merging-clause-stops g c =
     passed_on c.from_residual.result c.in_err-merging.field-0.0 _ c.from_residual.ensures.1
     (stops_merge name_of c.args.paths.now _ _ _ _ _ c.args.job.now.verbosity _ (g.O.OpenSource.refuses c.loop-index.files) _ c.loop-index.index _
     (λ path reason refuses. so_far.same_reason path.now reason refuses)
-    (λ number path fault fails. last_fails g.S.Source.seen _ name_of c.args.job.now.plan.now _ c.args.paths.now c.loop-index.index _ _ _ _ c.loop-index.merging fault c.loop-index-test.true so_far.same so_far.stands fails) _
+    (λ number path fault fails. last_fails g.S.Source.seen g.S.Source.failure _ name_of c.args.job.now.plan.now _ c.args.paths.now c.loop-index.index _ _ _ _ c.loop-index.merging fault c.loop-index-test.true so_far.same so_far.stands fails) _
     c.loop-index-test.true so_far.told c.in_err-merging.ensures.stops c.add_file.ensures.kept)
 
 pub returns-in-Ok-finish-clause-merged : goal.returns-in-Ok-finish-clause-merged
