@@ -1,5 +1,7 @@
 -- The datagrams and the files of a peer, one after another.
 use Rattle.std.proofs.Common.{◌≡◌, ℕ, List, [], ◌∷◌, ◌++◌, map, refl, sym, ap, ap₂, subst, ◌∙◌, append_assoc}
+use Rattle.std.specs.Prelude.{◌≢◌}
+use Rattle.std.specs.List.{flat_map}
 use Rattle.std.proofs.lemmas.List.{append-nil, map-append}
 use Rattle.std.proofs.lemmas.Grind.{flat_map-append}
 use Rattle.ipfix_message.specs.Domains.{History, Message}
@@ -13,7 +15,7 @@ use Rattle.recording_files.specs.Sessions.{file_octets}
 use Rattle.recording_files.proofs.Going.{recorded-push}
 use Rattle.ipfix_datagrams.specs.Datagrams.{Known, none_known, known_with, known_from, IsTaken}
 use Rattle.recording_peer.specs.Peers.{Taken, AreTaken, HasFront, HaveFronts, PeerFile, givens, known_after_all, messages_with, given_with, all_messages, all_given, part_of, sent_of}
-use Rattle.recording_peer.specs.Recording.{taken_in, last_file, all_finished, all_taken}
+use Rattle.recording_peer.specs.Recording.{FiledDatagrams, IsLastFile, taken_before, taken_in, filed_with, finished_now, file_finished, taken_by_file, last_file}
 
 -- ---- datagrams, one after another
 
@@ -47,21 +49,35 @@ fronts-push before [] t have has = (subst (λ (b : List Message). HasFront b t) 
 fronts-push before (u ∷ us) t have has = (have.0, fronts-push (before ++ given_with u) us t have.1 (subst (λ (b : List Message). HasFront b t) (sym (append_assoc before (given_with u) (all_given us))) has))
 
 -- all of them, one more
-pub all_taken-push : (finished : List (List Taken)) (here : List Taken) (t : Taken) → all_taken finished (here ++ t ∷ []) ≡ all_taken finished here ++ t ∷ []
-all_taken-push finished here t = sym (append_assoc (all_finished finished) here (t ∷ []))
+pub taken_in-push : (filed : FiledDatagrams) (t : Taken) → taken_in (filed_with filed t) ≡ taken_in filed ++ t ∷ []
+taken_in-push filed t = sym (append_assoc (taken_before filed) filed.here (t ∷ []))
 
-flat-push : (finished : List (List Taken)) (here : List Taken) → all_finished (finished ++ here ∷ []) ≡ all_taken finished here
+-- the same where a file is finished
+abbrev pub all_finished : List (List Taken) → List Taken
+all_finished finished = flat_map (λ ts. ts) finished
+
+flat-push : (finished : List (List Taken)) (here : List Taken) → all_finished (finished ++ here ∷ []) ≡ all_finished finished ++ here
 flat-push finished here = flat_map-append (λ (ts : List Taken). ts) finished (here ∷ []) ∙ ap (λ (ts : List Taken). all_finished finished ++ ts) (append-nil here)
 
--- the same with a file finished
-pub all_taken-turned : (finished : List (List Taken)) (here : List Taken) → all_taken (finished ++ here ∷ []) [] ≡ all_taken finished here
-all_taken-turned finished here = append-nil (all_finished (finished ++ here ∷ [])) ∙ flat-push finished here
+flat-now : (finished : List (List Taken)) (here : List Taken) → all_finished (finished_now finished here) ≡ all_finished finished ++ here
+flat-now finished [] = sym (append-nil (all_finished finished))
+flat-now finished (t ∷ ts) = flat-push finished (t ∷ ts)
 
-pub givens-turned : (finished : List (List Taken)) (here : List Taken) → givens (all_finished (finished ++ here ∷ [])) ≡ givens (all_finished finished) ++ givens here
-givens-turned finished here = ap givens (flat-push finished here) ∙ givens-append (all_finished finished) here
+pub now_is : (finished : List (List Taken)) (here : List Taken) → here ≢ [] → finished_now finished here ≡ finished ++ here ∷ []
+now_is finished [] some = absurd (some refl)
+now_is finished (t ∷ ts) some = refl
 
-pub all_given-turned : (finished : List (List Taken)) (here : List Taken) → all_given (all_finished (finished ++ here ∷ [])) ≡ all_given (all_finished finished) ++ all_given here
-all_given-turned finished here = ap all_given (flat-push finished here) ∙ all_given-append (all_finished finished) here
+pub before-finished : (filed : FiledDatagrams) → taken_before (file_finished filed) ≡ taken_in filed
+before-finished filed = flat-now filed.finished filed.here
+
+pub in-finished : (filed : FiledDatagrams) → taken_in (file_finished filed) ≡ taken_in filed
+in-finished filed = append-nil (taken_before (file_finished filed)) ∙ before-finished filed
+
+pub givens-finished : (filed : FiledDatagrams) → givens (taken_before (file_finished filed)) ≡ givens (taken_before filed) ++ givens filed.here
+givens-finished filed = ap givens (before-finished filed) ∙ givens-append (taken_before filed) filed.here
+
+pub all_given-finished : (filed : FiledDatagrams) → all_given (taken_before (file_finished filed)) ≡ all_given (taken_before filed) ++ all_given filed.here
+all_given-finished filed = ap all_given (before-finished filed) ∙ all_given-append (taken_before filed) filed.here
 
 -- ---- what stands in front of them leaves no trace
 
@@ -71,16 +87,16 @@ known_in ds [] = refl
 known_in ds (t ∷ ts) =
     known-append ds (given_with t) (all_given ts) ∙ ap (λ (k : History). known_after k (all_given ts)) (known_after-push ds t.front.given t.given) ∙ known_in t.given.domains ts
 
-pub known_here : (finished : List (List Taken)) (here : List Taken) → known_after [] (all_given (all_finished finished) ++ all_given here) ≡ known_after [] (givens (all_taken finished here))
-known_here finished here = ap (known_after []) (sym (all_given-append (all_finished finished) here)) ∙ known_in [] (all_taken finished here)
+pub known_here : (filed : FiledDatagrams) → known_after [] (all_given (taken_before filed) ++ all_given filed.here) ≡ known_after [] (givens (taken_in filed))
+known_here filed = ap (known_after []) (sym (all_given-append (taken_before filed) filed.here)) ∙ known_in [] (taken_in filed)
 
-pub files_here : (finished : List (List Taken)) (here : List Taken) → (known_after_all (all_taken finished here)).files ≡ known_after [] (all_given (all_finished finished) ++ all_given here)
-files_here finished here = files_from none_known (givens (all_taken finished here)) ∙ sym (known_here finished here)
+pub files_here : (filed : FiledDatagrams) → (known_after_all (taken_in filed)).files ≡ known_after [] (all_given (taken_before filed) ++ all_given filed.here)
+files_here filed = files_from none_known (givens (taken_in filed)) ∙ sym (known_here filed)
 
 -- one more
-pub known-push : (finished : List (List Taken)) (here : List Taken) (t : Taken) → known_after_all (all_taken finished (here ++ t ∷ [])) ≡ known_with (known_after_all (all_taken finished here)) t.given
-known-push finished here t =
-    ap known_after_all (all_taken-push finished here t) ∙ ap (known_from none_known) (givens-append (all_taken finished here) (t ∷ [])) ∙ known_from-push none_known (givens (all_taken finished here)) t.given
+pub known-push : (filed : FiledDatagrams) (t : Taken) → known_after_all (taken_in (filed_with filed t)) ≡ known_with (known_after_all (taken_in filed)) t.given
+known-push filed t =
+    ap known_after_all (taken_in-push filed t) ∙ ap (known_from none_known) (givens-append (taken_in filed) (t ∷ [])) ∙ known_from-push none_known (givens (taken_in filed)) t.given
 
 -- and in the records
 pub records_same : (before : List Message) (ts : List Taken) → HaveFronts before ts → records_in (all_given ts) ≡ records_in (givens ts)
@@ -92,27 +108,29 @@ records_same before (t ∷ ts) have =
 -- ---- files, one after another
 
 -- what they gave
-pub all_is : (fs : List PeerFile) → faithful.all_given (map part_of fs) ≡ all_given (all_finished (taken_in fs))
+pub all_is : (fs : List PeerFile) → faithful.all_given (map part_of fs) ≡ all_given (all_finished (taken_by_file fs))
 all_is [] = refl
-all_is (f ∷ fs) = ap (λ (ms : List Message). all_given f.taken ++ ms) (all_is fs) ∙ sym (all_given-append f.taken (all_finished (taken_in fs)))
+all_is (f ∷ fs) = ap (λ (ms : List Message). all_given f.taken ++ ms) (all_is fs) ∙ sym (all_given-append f.taken (all_finished (taken_by_file fs)))
 
-pub sent_is : (fs : List PeerFile) → faithful.all_given (map sent_of fs) ≡ givens (all_finished (taken_in fs))
+pub sent_is : (fs : List PeerFile) → faithful.all_given (map sent_of fs) ≡ givens (all_finished (taken_by_file fs))
 sent_is [] = refl
-sent_is (f ∷ fs) = ap (λ (ms : List Message). givens f.taken ++ ms) (sent_is fs) ∙ sym (givens-append f.taken (all_finished (taken_in fs)))
+sent_is (f ∷ fs) = ap (λ (ms : List Message). givens f.taken ++ ms) (sent_is fs) ∙ sym (givens-append f.taken (all_finished (taken_by_file fs)))
 
 -- with one file more
-pub all_with : (fs : List PeerFile) (f : PeerFile) (finished : List (List Taken)) → taken_in fs ≡ finished → faithful.all_given (map part_of (fs ++ f ∷ [])) ≡ all_given (all_taken finished f.taken)
-all_with fs f finished are =
-    all_is (fs ++ f ∷ []) ∙ ap (λ (tss : List (List Taken)). all_given (all_finished tss)) (map-append (λ (g : PeerFile). g.taken) fs (f ∷ []) ∙ ap (λ (tss : List (List Taken)). tss ++ f.taken ∷ []) are)
-    ∙ ap all_given (flat-push finished f.taken)
+pub all_with : (fs : List PeerFile) (filed : FiledDatagrams) (file : List (List ℕ)) → taken_by_file fs ≡ filed.finished
+    → faithful.all_given (map part_of (fs ++ last_file filed.here file ∷ [])) ≡ all_given (taken_in filed)
+all_with fs filed file are =
+    let last = last_file filed.here file in
+    all_is (fs ++ last ∷ []) ∙ ap (λ (tss : List (List Taken)). all_given (all_finished tss)) (map-append (λ (g : PeerFile). g.taken) fs (last ∷ []) ∙ ap (λ (tss : List (List Taken)). tss ++ filed.here ∷ []) are)
+    ∙ ap all_given (flat-push filed.finished filed.here)
 
 -- they are a recording
-pub recorded_with : (fs : List PeerFile) (finished : List (List Taken)) (here : List Taken) (file : List (List ℕ)) → taken_in fs ≡ finished → Recorded [] (map part_of fs) → Writes (all_given (all_finished finished)) [] (all_messages here) (all_given here) file
-    → Recorded [] (map part_of (fs ++ last_file here file ∷ []))
-recorded_with fs finished here file are earlier last =
-    let before : faithful.all_given (map part_of fs) ≡ all_given (all_finished finished) = all_is fs ∙ ap (λ (tss : List (List Taken)). all_given (all_finished tss)) are in
-    subst (Recorded []) (sym (map-append part_of fs (last_file here file ∷ [])))
-    (recorded-push [] (map part_of fs) (part_of (last_file here file)) earlier (subst (λ (b : List Message). Writes b [] (all_messages here) (all_given here) file) (sym before) last))
+pub recorded_with : (fs : List PeerFile) (filed : FiledDatagrams) (file : List (List ℕ)) → taken_by_file fs ≡ filed.finished → Recorded [] (map part_of fs) → IsLastFile filed file
+    → Recorded [] (map part_of (fs ++ last_file filed.here file ∷ []))
+recorded_with fs filed file are earlier last =
+    let before : faithful.all_given (map part_of fs) ≡ all_given (taken_before filed) = all_is fs ∙ ap (λ (tss : List (List Taken)). all_given (all_finished tss)) are in
+    subst (Recorded []) (sym (map-append part_of fs (last_file filed.here file ∷ [])))
+    (recorded-push [] (map part_of fs) (part_of (last_file filed.here file)) earlier (subst (λ (b : List Message). Writes b [] (all_messages filed.here) (all_given filed.here) file) (sym before) last))
 
 -- the same octets
 pub octets_same : (fs : List PeerFile) → map file_octets (map sent_of fs) ≡ map file_octets (map part_of fs)

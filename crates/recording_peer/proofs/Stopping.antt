@@ -1,6 +1,6 @@
 -- Why a peer ends.
 use Rattle.std.proofs.Common.{◌≡◌, ℕ, List, [], ◌∷◌, ◌++◌, map, Option, refl, sym, ap, subst, ◌∙◌, append_assoc, inl, inr}
-use Rattle.std.specs.Prelude.{◌⊎◌, ◌≢◌}
+use Rattle.std.specs.Prelude.{◌⊎◌}
 use Rattle.ipfix_message.specs.declared.fault.MessageFault.{MessageFault}
 use Rattle.ipfix_message.specs.declared.fault.MessageFault.TheVariants.{OutOfMemory}
 use Rattle.ipfix_session.specs.Given.{octets_of, IsPrefix}
@@ -15,13 +15,13 @@ use Rattle.recording_files.specs.Sessions.{Stands}
 use Rattle.recording_files.proofs.Going.{stands_cut}
 use Rattle.ipfix_datagrams.specs.Datagrams.{IsTaken}
 use Rattle.recording_peer.specs.Peers.{Taken, known_after_all, all_given, sent_of}
-use Rattle.recording_peer.specs.Recording.{PeerTold, PeerView, last_file, all_finished, all_taken, FilesHold, Counts, IsPeer, HasStopped}
+use Rattle.recording_peer.specs.Recording.{PeerTold, PeerView, FiledDatagrams, last_file, taken_before, taken_in, HasDatagram, FilesHold, Counts, IsPeer, HasStopped}
 use Rattle.recording_peer.specs.Fronts.{TookDatagram}
 use Rattle.recording_peer.proofs.Taking.{holds_turned, file_with, octets_with, taken_with, fronts_with}
 
 -- other files with the same octets
-pub holds_same : (first v after : FilesView) (finished : List (List Taken)) (here : List Taken) → FilesHold first v finished here [] → after.contents ≡ v.contents → FilesHold first after finished here []
-holds_same first v after finished here h is = record {
+pub holds_same : (first v after : FilesView) (filed : FiledDatagrams) → FilesHold first v filed [] → after.contents ≡ v.contents → FilesHold first after filed []
+holds_same first v after filed h is = record {
   taken = h.taken;
   fronts = h.fronts;
   some = h.some;
@@ -30,43 +30,43 @@ holds_same first v after finished here h is = record {
   earlier = h.earlier;
   file = h.file;
   last = h.last;
-  stands = subst (λ (o : Option Contents). Stands first.contents o (map sent_of h.files) (sent_of (last_file here h.file)) []) (sym is) h.stands;
+  stands = subst (λ (o : Option Contents). Stands first.contents o (map sent_of h.files) (sent_of (last_file filed.here h.file)) []) (sym is) h.stands;
 }
 
 -- a call to finish the file failed
-pub stops_turning : (first v after : FilesView) (s : PeerView) (finished : List (List Taken)) (here : List Taken) (report : FileReport) (c : PeerTold) → IsPeer first v s finished here → here ≢ [] → report ≡ s.told.counts.file → c ≡ s.told
-    → (after ≡ failing v) ⊎ (after ≡ failing (with_next v report)) → (m : List ℕ) → HasStopped NotWritten first after c finished here m
-stops_turning first v after s finished here report c p some reported told (inl is) m =
+pub stops_turning : (first v after : FilesView) (s : PeerView) (filed : FiledDatagrams) (report : FileReport) (c : PeerTold) → IsPeer first v s filed → HasDatagram filed.here → report ≡ s.told.counts.file → c ≡ s.told
+    → (after ≡ failing v) ⊎ (after ≡ failing (with_next v report)) → (m : List ℕ) → HasStopped NotWritten first after c filed m
+stops_turning first v after s filed report c p some reported told (inl is) m =
     record {
       fails = ap (λ (u : FilesView). u.failed) is ∙ ap one_more p.not_failed;
-      stops = inl (record { there = inl (holds_same first v after finished here p.holds (ap (λ (u : FilesView). u.contents) is)); counted = subst (λ (k : PeerTold). Counts k finished here) (sym told) p.counted });
+      stops = inl (record { there = inl (holds_same first v after filed p.holds (ap (λ (u : FilesView). u.contents) is)); counted = subst (λ (k : PeerTold). Counts k filed) (sym told) p.counted });
     }
-stops_turning first v after s finished [] report c p some reported told (inr is) m = absurd (some refl)
-stops_turning first v after s finished (x ∷ xs) report c p some reported told (inr is) m =
+stops_turning first v after s filed report c p some reported told (inr is) m =
     record {
       fails = ap (λ (u : FilesView). u.failed) is ∙ ap one_more p.not_failed;
       stops = inr (record {
-        holds = holds_turned first v after finished (x ∷ xs) s.told p.holds p.counted some (ap (λ (u : FilesView). u.contents) is ∙ ap (λ (r : FileReport). (with_next v r).contents) reported);
-        counted = subst (λ (k : PeerTold). Counts k finished (x ∷ xs)) (sym told) p.counted;
+        some = some;
+        holds = holds_turned first v after filed s.told p.holds p.counted some (ap (λ (u : FilesView). u.contents) is ∙ ap (λ (r : FileReport). (with_next v r).contents) reported);
+        counted = subst (λ (k : PeerTold). Counts k filed) (sym told) p.counted;
       });
     }
 
 -- memory ran out, and nothing was written
-pub stops_out : (fault : MessageFault) (first v : FilesView) (s : PeerView) (finished : List (List Taken)) (here : List Taken) (c : PeerTold) (m : List ℕ) → fault ≡ OutOfMemory → IsPeer first v s finished here → c ≡ s.told
-    → HasStopped (OfMessage fault) first v c finished here m
-stops_out fault first v s finished here c m memory p told = record {
+pub stops_out : (fault : MessageFault) (first v : FilesView) (s : PeerView) (filed : FiledDatagrams) (c : PeerTold) (m : List ℕ) → fault ≡ OutOfMemory → IsPeer first v s filed → c ≡ s.told
+    → HasStopped (OfMessage fault) first v c filed m
+stops_out fault first v s filed c m memory p told = record {
   fails = (ap (λ (f : MessageFault). of_message f) memory, p.not_failed);
-  stops = inl (record { there = inl p.holds; counted = subst (λ (k : PeerTold). Counts k finished here) (sym told) p.counted });
+  stops = inl (record { there = inl p.holds; counted = subst (λ (k : PeerTold). Counts k filed) (sym told) p.counted });
 }
   where
     of_message : MessageFault → RecordFault
     of_message f = OfMessage f
 
 -- a call to write failed
-pub stops_cut : (first v after : FilesView) (s : PeerView) (t : State) (finished : List (List Taken)) (here : List Taken) (u : Taken) (octets front : List ℕ) (count : MessageCount) (c : PeerTold) (p : IsPeer first v s finished here)
-    → IsTaken (known_after_all (all_taken finished here)) u.datagram u.preparation u.given → (k : TookDatagram (all_given (all_finished finished)) (all_given here) t u octets count)
-    → IsPrefix front octets → after ≡ failing (with_more v front) → c ≡ s.told → HasStopped NotWritten first after c finished here u.datagram
-stops_cut first v after s t finished here u octets front count c p taken k begins is told =
+pub stops_cut : (first v after : FilesView) (s : PeerView) (t : State) (filed : FiledDatagrams) (u : Taken) (octets front : List ℕ) (count : MessageCount) (c : PeerTold) (p : IsPeer first v s filed)
+    → IsTaken (known_after_all (taken_in filed)) u.datagram u.preparation u.given → (k : TookDatagram (all_given (taken_before filed)) (all_given filed.here) t u octets count)
+    → IsPrefix front octets → after ≡ failing (with_more v front) → c ≡ s.told → HasStopped NotWritten first after c filed u.datagram
+stops_cut first v after s t filed u octets front count c p taken k begins is told =
     let h = p.holds in
     record {
       fails = ap (λ (w : FilesView). w.failed) is ∙ ap one_more p.not_failed;
@@ -82,16 +82,16 @@ stops_cut first v after s t finished here u octets front count c p taken k begin
             earlier = h.earlier;
             file = h.file;
             last = h.last;
-            stands = stands_cut first.contents v.contents after.contents (map sent_of h.files) (sent_of (last_file here h.file)) front (ap (λ (w : FilesView). w.contents) is) h.stands;
+            stands = stands_cut first.contents v.contents after.contents (map sent_of h.files) (sent_of (last_file filed.here h.file)) front (ap (λ (w : FilesView). w.contents) is) h.stands;
           };
           next = u;
           datagram = refl;
-          taken = taken_with finished here u h.taken taken;
-          fronts = fronts_with finished here u h.fronts k.has_front;
+          taken = taken_with filed u h.taken taken;
+          fronts = fronts_with filed u h.fronts k.has_front;
           file = h.file ++ k.file;
-          whole = file_with finished here u t octets count h.file h.last k;
+          whole = file_with filed u t octets count h.file h.last k;
           front = (begins.0, octets_with h.file k.file octets k.octets_are ∙ ap (λ (w : List ℕ). octets_of h.file ++ w) begins.1 ∙ sym (append_assoc (octets_of h.file) front begins.0));
         });
-        counted = subst (λ (w : PeerTold). Counts w finished here) (sym told) p.counted;
+        counted = subst (λ (w : PeerTold). Counts w filed) (sym told) p.counted;
       });
     }

@@ -8,13 +8,16 @@ use Rattle.ipfix_session.specs.Given.{known_after, octets_of, records_in}
 use Rattle.recording_files.specs.declared.message_count.MessageCount.{MessageCount}
 use Rattle.ipfix_message.specs.declared.stamp.Stamp.{Stamp}
 use Rattle.recording_files.specs.Preambles.{templates_message}
+use Rattle.recording_files.specs.Files.{FilesView}
 use Rattle.recording_files.specs.Recordings.{Precedes, Writes}
 use Rattle.recording_files.specs.Recorders.{State, Keeps, IsCountOf}
-use Rattle.ipfix_datagrams.specs.Datagrams.{Preparation, prepared, with_withdrawn, with_one_defined}
-use Rattle.ipfix_datagrams.specs.Attempts.{CanDefine}
+use Rattle.ipfix_datagrams.specs.declared.reading.DatagramReading.{DatagramReading}
+use Rattle.ipfix_datagrams.specs.Datagrams.{IsTaken, Preparation, prepared, with_withdrawn, with_one_defined}
+use Rattle.ipfix_datagrams.specs.Attempts.{CanDefine, Leaves, preparation_of}
 use Rattle.ipfix_datagrams.specs.Withdrawals.{withdrawal_message}
 use Rattle.ipfix_datagrams.specs.declared.withdrawn_template.WithdrawnTemplate.{WithdrawnTemplate}
-use Rattle.recording_peer.specs.Peers.{Front, Taken, InParts, HasFront, withdrawals, definitions, messages_with, given_with}
+use Rattle.recording_peer.specs.Peers.{Front, Taken, InParts, HasFront, withdrawals, definitions, messages_with, given_with, known_after_all}
+use Rattle.recording_peer.specs.Recording.{FiledDatagrams, PeerView, IsPeer, taken_in}
 
 -- a message of the recorder's own, after which these are the domains
 pub record TookOwn (before here : List Message) (s : State) (m : List ℕ) (domains : History) (old new : List ℕ) : Type 0 where
@@ -99,3 +102,10 @@ pub record TookDatagram (before here : List Message) (s : State) (next : Taken) 
   pub octets_are : octets ≡ octets_of file
   pub keeps : Keeps s before (here ++ given_with next)
   pub counts : IsCountOf count next.given
+
+-- the recorder and its files stand for these datagrams, and after them the next was read so, which leaves these templates
+pub record HasRead (first before : FilesView) (s : PeerView) (filed : FiledDatagrams) (m : List ℕ) (reading : DatagramReading) : Type 0 where
+  pub is : IsPeer first before s filed
+  pub given : Message
+  pub taken : IsTaken (known_after_all (taken_in filed)) m (preparation_of reading) given
+  pub leaves : Leaves reading.after given

@@ -1,5 +1,6 @@
 -- What a peer's recorder stands for, and what it answers.
-use Rattle.std.specs.Prelude.{◌≡◌, ◌≢◌, ◌⊎◌, ℕ, List, [], ◌∷◌, ◌++◌, map, flat_map, All, Option, Some, None, Result, Ok, Err}
+use Rattle.std.specs.Prelude.{◌≡◌, ◌≢◌, ◌⊎◌, ℕ, List, [], ◌∷◌, ◌++◌, map, flat_map, All, MatchResult, Option, Some, None, Result, Ok, Err}
+use Rattle.ipfix_session.specs.declared.stop.Stop.TheVariants.{Clean}
 use Rattle.ipfix_session.specs.Given.{IsOpen, IsPrefix, octets_of, records_of, stop_of}
 use Rattle.std.specs.Map.{lookup}
 use Rattle.std.specs.Option.{option_and_then}
@@ -10,8 +11,11 @@ use Rattle.ipfix_session.specs.Sources.{one_more}
 use Rattle.recording_files.specs.declared.record_fault.RecordFault.{RecordFault}
 use Rattle.recording_files.specs.declared.record_fault.RecordFault.TheVariants.{Message as OfMessage, NotWritten}
 use Rattle.recording_files.specs.Recordings.{Recorded as AreRecorded, Writes}
-use Rattle.recording_files.specs.Recorders.{State, Keeps, Told, Counted}
-use Rattle.recording_files.specs.Files.{FilesView}
+use Rattle.recording_files.specs.Recorders.{State, Keeps, Told, Counted, IsCountOf}
+use Rattle.recording_files.specs.declared.message_count.MessageCount.{MessageCount}
+use Rattle.recording_files.specs.declared.file_report.FileReport.{FileReport}
+use Rattle.recording_files.specs.FileReports.{AddUp}
+use Rattle.recording_files.specs.Files.{Contents, FilesView}
 use Rattle.recording_files.specs.Sessions.{Stands, IsTold}
 use Rattle.ipfix_datagrams.specs.declared.reach.Reach.{Reach}
 use Rattle.ipfix_datagrams.specs.Reaches.{reaches_of, told_of}
@@ -47,82 +51,104 @@ pub record KeepsListed (es : List (ℕ × List (ℕ × Template))) (k : Known) :
 
 -- ---- the files of a peer
 
-abbrev pub taken_in : List PeerFile → List (List Taken)
-taken_in fs = map (λ f. f.taken) fs
+-- datagrams that were taken, by the files that they stand in: those of each finished file, and those of the file that isn't
+-- finished
+pub record FiledDatagrams : Type 0 where
+  pub finished : List (List Taken)
+  pub here : List Taken
+
+abbrev pub none_filed : FiledDatagrams
+none_filed = record { finished = []; here = [] }
+
+-- all those of finished files
+abbrev pub taken_before : FiledDatagrams → List Taken
+taken_before filed = flat_map (λ ts. ts) filed.finished
+
+-- and then those of the file that isn't finished
+abbrev pub taken_in : FiledDatagrams → List Taken
+taken_in filed = taken_before filed ++ filed.here
+
+-- one more, in that file
+abbrev pub filed_with : FiledDatagrams → Taken → FiledDatagrams
+filed_with filed t = record { finished = filed.finished; here = filed.here ++ t ∷ [] }
+
+-- that file is finished, if it has a datagram
+abbrev pub finished_now : List (List Taken) → List Taken → List (List Taken)
+finished_now finished [] = finished
+finished_now finished (t ∷ ts) = finished ++ (t ∷ ts) ∷ []
+
+abbrev pub file_finished : FiledDatagrams → FiledDatagrams
+file_finished filed = record { finished = finished_now filed.finished filed.here; here = [] }
+
+abbrev pub HasDatagram : List Taken → Type 0
+HasDatagram ts = ts ≢ []
+
+-- the datagrams of each file
+abbrev pub taken_by_file : List PeerFile → List (List Taken)
+taken_by_file fs = map (λ f. f.taken) fs
 
 -- the file that isn't finished
 abbrev pub last_file : List Taken → List (List ℕ) → PeerFile
 last_file here file = record { taken = here; file = file }
 
--- all datagrams of finished files
-abbrev pub all_finished : List (List Taken) → List Taken
-all_finished finished = flat_map (λ ts. ts) finished
-
--- and those of the one that isn't finished
-abbrev pub all_taken : List (List Taken) → List Taken → List Taken
-all_taken finished here = all_finished finished ++ here
-
-abbrev pub HasDatagram : List Taken → Type 0
-HasDatagram ts = ts ≢ []
+-- it has these messages: its datagrams, each after what stands in front of it
+abbrev pub IsLastFile : FiledDatagrams → List (List ℕ) → Type 0
+IsLastFile filed file = Writes (all_given (taken_before filed)) [] (all_messages filed.here) (all_given filed.here) file
 
 -- these datagrams were taken, and stand in the files that came after the first ones, each after what stands in front of it: those
 -- of each finished file, and those of the file that isn't finished, after which stand these octets
-pub record FilesHold (first after : FilesView) (finished : List (List Taken)) (here : List Taken) (cut_off : List ℕ) : Type 0 where
-  pub taken : AreTaken none_known (all_taken finished here)
-  pub fronts : HaveFronts [] (all_taken finished here)
-  pub some : All HasDatagram finished
+pub record FilesHold (first after : FilesView) (filed : FiledDatagrams) (cut_off : List ℕ) : Type 0 where
+  pub taken : AreTaken none_known (taken_in filed)
+  pub fronts : HaveFronts [] (taken_in filed)
+  pub some : All HasDatagram filed.finished
   pub files : List PeerFile
-  pub are : taken_in files ≡ finished
+  pub are : taken_by_file files ≡ filed.finished
   -- the files are a recording of one session
   pub earlier : AreRecorded [] (map part_of files)
   pub file : List (List ℕ)
-  pub last : Writes (all_given (all_finished finished)) [] (all_messages here) (all_given here) file
+  pub last : IsLastFile filed file
   -- and each was finished with a report of what the exporter sent in it
-  pub stands : Stands first.contents after.contents (map sent_of files) (sent_of (last_file here file)) cut_off
+  pub stands : Stands first.contents after.contents (map sent_of files) (sent_of (last_file filed.here file)) cut_off
 
 -- the datagrams of finished files are counted, and those of the file that isn't finished; and of all of them it is noted how far
 -- they reach
-pub record Counts (c : PeerTold) (finished : List (List Taken)) (here : List Taken) : Type 0 where
-  pub counted : Counted c.counts (givens (all_finished finished)) (givens here)
-  pub noted : c.advances ≡ reaches_of (givens (all_taken finished here))
+pub record Counts (c : PeerTold) (filed : FiledDatagrams) : Type 0 where
+  pub counted : Counted c.counts (givens (taken_before filed)) (givens filed.here)
+  pub noted : c.advances ≡ reaches_of (givens (taken_in filed))
 
 -- the recorder stands for them
-pub record IsPeer (first after : FilesView) (s : PeerView) (finished : List (List Taken)) (here : List Taken) : Type 0 where
-  pub holds : FilesHold first after finished here []
+pub record IsPeer (first after : FilesView) (s : PeerView) (filed : FiledDatagrams) : Type 0 where
+  pub holds : FilesHold first after filed []
   pub not_failed : after.failed ≡ first.failed
   pub goes_on : s.ended ≡ None
-  pub counted : Counts s.told finished here
-  pub keeps : Keeps s.recorder (all_given (all_finished finished)) (all_given here)
-  pub withdrawn : KeepsListed s.withdrawn (known_after_all (all_taken finished here))
+  pub counted : Counts s.told filed
+  pub keeps : Keeps s.recorder (all_given (taken_before filed)) (all_given filed.here)
+  pub withdrawn : KeepsListed s.withdrawn (known_after_all (taken_in filed))
 
--- ---- its calls
-
--- the file that isn't finished is finished, if it has a datagram
-abbrev pub finished_now : List (List Taken) → List Taken → List (List Taken)
-finished_now finished [] = finished
-finished_now finished (t ∷ ts) = finished ++ (t ∷ ts) ∷ []
+-- ---- a call fails
 
 -- a call of the files failed: after the datagrams stand the first octets of what was to stand there for this one
-pub record IsCutOff (first after : FilesView) (finished : List (List Taken)) (here : List Taken) (m : List ℕ) : Type 0 where
+pub record IsCutOff (first after : FilesView) (filed : FiledDatagrams) (m : List ℕ) : Type 0 where
   pub cut_off : List ℕ
-  pub holds : FilesHold first after finished here cut_off
+  pub holds : FilesHold first after filed cut_off
   pub next : Taken
   pub datagram : next.datagram ≡ m
-  pub taken : AreTaken none_known (all_taken finished (here ++ next ∷ []))
-  pub fronts : HaveFronts [] (all_taken finished (here ++ next ∷ []))
+  pub taken : AreTaken none_known (taken_in (filed_with filed next))
+  pub fronts : HaveFronts [] (taken_in (filed_with filed next))
   pub file : List (List ℕ)
-  pub whole : Writes (all_given (all_finished finished)) [] (all_messages (here ++ next ∷ [])) (all_given (here ++ next ∷ [])) file
+  pub whole : IsLastFile (filed_with filed next) file
   pub front : IsPrefix (octets_of holds.file ++ cut_off) (octets_of file)
 
 -- the files have these datagrams, and at most some octets of the next, and they are counted
-pub record StopsAt (first after : FilesView) (c : PeerTold) (finished : List (List Taken)) (here : List Taken) (m : List ℕ) : Type 0 where
-  pub there : FilesHold first after finished here [] ⊎ IsCutOff first after finished here m
-  pub counted : Counts c finished here
+pub record StopsAt (first after : FilesView) (c : PeerTold) (filed : FiledDatagrams) (m : List ℕ) : Type 0 where
+  pub there : FilesHold first after filed [] ⊎ IsCutOff first after filed m
+  pub counted : Counts c filed
 
 -- a file was finished, but the answer was that it wasn't: its datagrams are told as those of the file that isn't finished
-pub record TurnedUnknown (first after : FilesView) (c : PeerTold) (finished : List (List Taken)) (here : List Taken) : Type 0 where
-  pub holds : FilesHold first after (finished_now finished here) [] []
-  pub counted : Counts c finished here
+pub record TurnedUnknown (first after : FilesView) (c : PeerTold) (filed : FiledDatagrams) : Type 0 where
+  pub some : HasDatagram filed.here
+  pub holds : FilesHold first after (file_finished filed) []
+  pub counted : Counts c filed
 
 -- how many calls of the files failed by the fault: one, or memory ran out
 abbrev pub FailsBy : RecordFault → ℕ → ℕ → Type 0
@@ -130,9 +156,58 @@ FailsBy NotWritten before after = after ≡ one_more before
 FailsBy fault before after = (fault ≡ OfMessage OutOfMemory) × (after ≡ before)
 
 -- it ended with a fault
-pub record HasStopped (fault : RecordFault) (first after : FilesView) (c : PeerTold) (finished : List (List Taken)) (here : List Taken) (m : List ℕ) : Type 0 where
+pub record HasStopped (fault : RecordFault) (first after : FilesView) (c : PeerTold) (filed : FiledDatagrams) (m : List ℕ) : Type 0 where
   pub fails : FailsBy fault first.failed after.failed
-  pub stops : StopsAt first after c finished here m ⊎ TurnedUnknown first after c finished here
+  pub stops : StopsAt first after c filed m ⊎ TurnedUnknown first after c filed
+
+-- ---- its calls
+
+-- a datagram was taken after these, and stands in the file that isn't finished; this is what it adds to the counts
+pub record IsRecorded (count : MessageCount) (m : List ℕ) (first after : FilesView) (s : PeerView) (filed : FiledDatagrams) : Type 0 where
+  pub next : Taken
+  pub datagram : next.datagram ≡ m
+  pub counts : IsCountOf count next.given
+  pub is : IsPeer first after s (filed_with filed next)
+
+-- what is answered of a datagram, by the files and the recorder before and after it
+abbrev pub Answers : Result PeerAnswer RecordFault → List ℕ → FilesView → FilesView → FilesView → PeerView → PeerView → FiledDatagrams → Type 0
+Answers (Ok (Recorded count)) m first before after s t filed = IsRecorded count m first after t filed
+Answers (Ok (Refused fault)) m first before after s t filed = IsRefused (known_after_all (taken_in filed)) m fault × (t ≡ s) × (after ≡ before)
+Answers (Err fault) m first before after s t filed = (t.ended ≡ Some fault) × HasStopped fault first after t.told filed m
+
+-- a recorder and its files take a datagram, whichever they stand for
+abbrev pub TakesDatagram : {F : Type 0} → (F → FilesView) → List ℕ → Result PeerAnswer RecordFault → PeerView → PeerView → F → F → Type 0
+TakesDatagram seen m answer s t old new = (first : FilesView) (filed : FiledDatagrams) → IsPeer first (seen old) s filed
+    → Answers answer m first (seen old) (seen new) s t filed
+
+-- they finish the file that isn't finished, if it has a datagram
+abbrev pub FinishesFile : {F : Type 0} → (F → FilesView) → Result (Unit {0}) RecordFault → PeerView → PeerView → F → F → Type 0
+FinishesFile seen answer s t old new = (first : FilesView) (filed : FiledDatagrams) → IsPeer first (seen old) s filed
+    → MatchResult answer (λ x. IsPeer first (seen new) t (file_finished filed))
+    (λ fault. (t.ended ≡ Some fault) × HasStopped fault first (seen new) t.told filed [])
+
+-- one that has ended answers its fault, and nothing changes
+abbrev pub StaysEnded : {F A : Type 0} → (F → FilesView) → Result A RecordFault → PeerView → PeerView → F → F → Type 0
+StaysEnded seen answer s t old new = (fault : RecordFault) → s.ended ≡ Some fault → (answer ≡ Err fault) × (t ≡ s) × (seen new ≡ seen old)
+
+-- ---- what the files give
+
+-- files tell what stands in them, and this has come after what stood there at first
+pub record CameAfter (first after : FilesView) (since : Contents) : Type 0 where
+  pub start : Contents
+  pub at_first : first.contents ≡ Some start
+  pub at_last : after.contents ≡ Some (record {
+    finished = start.finished ++ since.finished;
+    reports = start.reports ++ since.reports;
+    unfinished = since.unfinished;
+  })
+
+-- each of these files is read by itself as a session of a connection is, with no fault, and one after another they give the data
+-- records of datagrams, each once, in their order, under the templates in force over UDP
+pub record GiveRecordsOverUdp (files : List (List ℕ)) (ts : List Taken) : Type 0 where
+  pub taken : AreTaken none_known ts
+  pub stops : All (λ file. stop_of file ≡ Clean) files
+  pub records : flat_map records_of files ≡ records_over_udp ts
 
 -- the files of a peer that ended: each is read without a fault, where the last may end within a message, and they give the data
 -- records of the datagrams, and no others but maybe the first of this one, which was to stand there next
@@ -144,13 +219,7 @@ pub record KeepsWhole (ts : List Taken) (m : List ℕ) (files : List (List ℕ))
   pub at_least : IsPrefix (records_over_udp ts) (flat_map records_of files)
   pub at_most : IsPrefix (flat_map records_of files) (records_over_udp (ts ++ next))
 
--- what is answered of a datagram, by the files and the recorder before and after it
-abbrev pub Answers : Result PeerAnswer RecordFault → List ℕ → FilesView → FilesView → FilesView → PeerView → PeerView → List (List Taken) → List Taken → Type 0
-Answers (Ok Recorded) m first before after s t finished here =
-    (x : Taken) × (x.datagram ≡ m) × IsPeer first after t finished (here ++ x ∷ [])
-Answers (Ok (Refused fault)) m first before after s t finished here =
-    IsRefused (known_after_all (all_taken finished here)) m fault × (t ≡ s) × (after ≡ before)
-Answers (Err fault) m first before after s t finished here = (t.ended ≡ Some fault) × HasStopped fault first after t.told finished here m
+-- ---- what is told
 
 -- how a peer ended
 abbrev pub answer_of : Option RecordFault → Result (Unit {0}) RecordFault
@@ -158,10 +227,14 @@ answer_of None = Ok tt
 answer_of (Some fault) = Err fault
 
 -- what is told of it: its reports, and the advance in each domain of exactly the datagrams that were recorded, over all files
-pub record IsPeerTold (r : PeerSession) (finished : List (List Taken)) (here : List Taken) : Type 0 where
-  pub session : IsTold r.session (givens (all_finished finished)) (givens here)
-  pub advances : told_of r.advances.reaches ≡ advances_of (givens (all_taken finished here))
+pub record IsPeerTold (r : PeerSession) (filed : FiledDatagrams) : Type 0 where
+  pub session : IsTold r.session (givens (taken_before filed)) (givens filed.here)
+  pub advances : told_of r.advances.reaches ≡ advances_of (givens (taken_in filed))
 
 -- and so of whatever was counted
 abbrev pub Tells : PeerTold → PeerSession → Type 0
-Tells c r = (finished : List (List Taken)) (here : List Taken) → Counts c finished here → IsPeerTold r finished here
+Tells c r = (filed : FiledDatagrams) → Counts c filed → IsPeerTold r filed
+
+-- the reports that were given with files, and that of the file that isn't finished, add up to the session's
+abbrev pub ReportsAddUp : List FileReport → PeerSession → Type 0
+ReportsAddUp given r = AddUp (given ++ r.session.last ∷ []) r.session.report

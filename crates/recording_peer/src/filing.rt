@@ -1,30 +1,23 @@
 //! Writing the files of a peer.
 
-ghost use Rattle.std.specs.Prelude.{◌≡◌, ◌++◌, ◌∷◌, [], ℕ, List, Ok, All, MatchResult};
-ghost use Rattle.ipfix_message.specs.Domains.{Message, message_header};
-ghost use Rattle.ipfix_datagrams.specs.Datagrams.{IsTaken};
-ghost use Rattle.ipfix_datagrams.specs.Attempts.{Leaves, preparation_of};
+ghost use Rattle.std.specs.Prelude.{◌≡◌, Ok, All, IfOk, IfErr};
+ghost use Rattle.ipfix_message.specs.Domains.{message_header};
 ghost use Rattle.ipfix_datagrams.specs.Withdrawals.{HasTemplateId};
 ghost use Rattle.recording_files.specs.Files.{FilesView};
-ghost use Rattle.recording_peer.specs.Peers.{Taken, known_after_all};
-ghost use Rattle.recording_peer.specs.Recording.{IsPeer, HasStopped, all_taken, finished_now};
+ghost use Rattle.recording_peer.specs.Recording.{FiledDatagrams, IsRecorded, HasStopped, FinishesFile};
+ghost use Rattle.recording_peer.specs.Fronts.{HasRead};
 
 use crate::fronts::take_datagram;
 use crate::peer_recorder::PeerRecorder;
 use ipfix_datagrams::{DatagramReading, keep_withdrawn};
 use ipfix_wire::Header;
-use recording_files::{FileSeries, RecordFault};
+use recording_files::{FileSeries, MessageCount, RecordFault};
 use std::alloc::Global;
 
 impl PeerRecorder {
-    /// Finishes the file, if it has a datagram, and begins the next.
+    /// Finishes the file, if it has a datagram, and begins the next. After a fault it has ended.
     pub(crate) fn turn<F: FileSeries>(&mut self, files: &mut F) -> Result<(), RecordFault>
-        ensures { (first : FilesView) (finished : List (List Taken)) (here : List Taken)
-            → IsPeer first (F.seen files.old) self.old finished here
-            → MatchResult result
-            (λ _. IsPeer first (F.seen files.new) self.new (finished_now finished here) [])
-            (λ fault. (m : List ℕ)
-            → HasStopped fault first (F.seen files.new) self.new.told finished here m) }
+        ensures { FinishesFile F.seen result self.old self.new files.old files.new }
     {
         if !self.recorder.has_begun() {
             return Ok(());
@@ -36,11 +29,15 @@ impl PeerRecorder {
                 self.counts.turn();
                 Ok(())
             }
-            Err(_) => Err(RecordFault::NotWritten),
+            Err(_) => {
+                self.ended = Some(RecordFault::NotWritten);
+                Err(RecordFault::NotWritten)
+            }
         }
     }
 
-    /// Records a datagram, whose header was read, as it is to be taken, and counts and notes it then.
+    /// Records a datagram, whose header was read, as it is to be taken, and counts and notes it then. It answers
+    /// what the datagram adds to the counts.
     pub(crate) fn record<F: FileSeries>(
         &mut self,
         alloc: Global,
@@ -48,20 +45,17 @@ impl PeerRecorder {
         reading: &DatagramReading,
         datagram: &[u8],
         files: &mut F,
-    ) -> Result<(), RecordFault>
+    ) -> Result<MessageCount, RecordFault>
         requires header { message_header datagram.now ≡ Ok header.now }
         requires ids { All HasTemplateId reading.now.withdrawn.items }
-        ensures { (first : FilesView) (finished : List (List Taken)) (here : List Taken)
-            (x : Message)
-            → IsPeer first (F.seen files.old) self.old finished here
-            → IsTaken (known_after_all (all_taken finished here)) datagram.now
-            (preparation_of reading.now) x
-            → Leaves reading.now.after x
-            → MatchResult result
-            (λ _. (next : Taken) × (next.datagram ≡ datagram.now)
-            × IsPeer first (F.seen files.new) self.new finished (here ++ next ∷ []))
-            (λ fault. HasStopped fault first (F.seen files.new) self.new.told finished here
-            datagram.now) }
+        ensures recorded { (first : FilesView) (filed : FiledDatagrams)
+            → HasRead first (F.seen files.old) self.old filed datagram.now reading.now
+            → IfOk result
+            (λ count. IsRecorded count datagram.now first (F.seen files.new) self.new filed) }
+        ensures stopped { (first : FilesView) (filed : FiledDatagrams)
+            → HasRead first (F.seen files.old) self.old filed datagram.now reading.now
+            → IfErr result (λ fault. HasStopped fault first (F.seen files.new) self.new.told
+            filed datagram.now) }
     {
         self.counts.clear_waiting();
         keep_withdrawn(
@@ -86,6 +80,6 @@ impl PeerRecorder {
         let header = count.header;
         self.advances
             .note(header.domain, header.sequence, count.records);
-        Ok(())
+        Ok(count)
     }
 }

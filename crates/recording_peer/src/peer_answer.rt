@@ -1,12 +1,13 @@
 //! What is answered of a datagram.
 
 use ipfix_message::MessageFault;
+use recording_files::MessageCount;
 
 /// What was done with a datagram.
-#[derive(Clone, Copy, Debug, PartialEq, Eq)]
+#[derive(Clone, Copy)]
 pub enum PeerAnswer {
-    /// It stands in the peer's file.
-    Recorded,
+    /// It stands in the peer's file, and adds this to the counts.
+    Recorded(MessageCount),
     /// It was refused, and changed nothing.
     Refused(MessageFault),
 }

@@ -1,10 +1,8 @@
 //! Recording the datagrams of a peer.
 
-ghost use Rattle.std.specs.Prelude.{◌≡◌, [], ℕ, List, Some, Err, MatchResult};
+ghost use Rattle.std.specs.Prelude.{◌≡◌};
 ghost use Rattle.recording_files.specs.Files.{FilesView, IsEmpty};
-ghost use Rattle.recording_files.specs.declared.record_fault.RecordFault.{RecordFault as Fault};
-ghost use Rattle.recording_peer.specs.Peers.{Taken};
-ghost use Rattle.recording_peer.specs.Recording.{IsPeer, HasStopped, Answers, Tells, finished_now, answer_of};
+ghost use Rattle.recording_peer.specs.Recording.{IsPeer, TakesDatagram, FinishesFile, StaysEnded, Tells, none_filed, answer_of};
 
 use crate::peer_answer::PeerAnswer;
 use crate::peer_session::PeerSession;
@@ -44,7 +42,7 @@ impl Model for PeerRecorder {
 impl PeerRecorder {
     /// A peer of which nothing has come.
     pub fn new(alloc: Global) -> Self
-        ensures { (files : FilesView) → IsEmpty files.contents → IsPeer files files result [] [] }
+        ensures { (files : FilesView) → IsEmpty files.contents → IsPeer files files result none_filed }
     {
         PeerRecorder {
             recorder: Recorder::new(alloc),
@@ -60,7 +58,7 @@ impl PeerRecorder {
     /// of its domain if the file has none of the domain's messages yet and an earlier file has. If it
     /// changes templates, a message stands in front of it that withdraws them; if it has data sets of
     /// templates that an earlier one withdrew, messages that define them again. Any other datagram is
-    /// refused, and changes nothing.
+    /// refused, and changes nothing. It answers what a recorded datagram adds to the counts.
     ///
     /// The fault is `NotWritten` where a call of the files failed, or `OutOfMemory`: then the peer has ended,
     /// and the datagrams before stand whole.
@@ -70,13 +68,9 @@ impl PeerRecorder {
         datagram: &[u8],
         files: &mut F,
     ) -> Result<PeerAnswer, RecordFault>
-        ensures answers { (first : FilesView) (finished : List (List Taken)) (here : List Taken)
-            → IsPeer first (F.seen files.old) self.old finished here
-            → Answers result datagram.now first (F.seen files.old) (F.seen files.new)
-            self.old self.new finished here }
-        ensures ended { (fault : Fault) → self.old.ended ≡ Some fault
-            → (result ≡ Err fault) × (self.new ≡ self.old)
-            × (F.seen files.new ≡ F.seen files.old) }
+        ensures answers { TakesDatagram F.seen datagram.now result self.old self.new files.old
+            files.new }
+        ensures ended { StaysEnded F.seen result self.old self.new files.old files.new }
     {
         if let Some(fault) = &self.ended {
             return Err(*fault);
@@ -91,7 +85,7 @@ impl PeerRecorder {
             Err(fault) => return Ok(PeerAnswer::Refused(fault)),
         };
         match self.record(alloc, &header, &reading, datagram, files) {
-            Ok(()) => Ok(PeerAnswer::Recorded),
+            Ok(count) => Ok(PeerAnswer::Recorded(count)),
             Err(fault) => {
                 self.ended = Some(fault);
                 Err(fault)
@@ -102,26 +96,13 @@ impl PeerRecorder {
     /// Finishes the file that isn't finished with its report, if it has a datagram, and begins the next. The
     /// fault is `NotWritten`: then the peer has ended.
     pub fn finish_file<F: FileSeries>(&mut self, files: &mut F) -> Result<(), RecordFault>
-        ensures finishes { (first : FilesView) (finished : List (List Taken)) (here : List Taken)
-            → IsPeer first (F.seen files.old) self.old finished here
-            → MatchResult result
-            (λ _. IsPeer first (F.seen files.new) self.new (finished_now finished here) [])
-            (λ fault. (self.new.ended ≡ Some fault)
-            × HasStopped fault first (F.seen files.new) self.new.told finished here []) }
-        ensures ended { (fault : Fault) → self.old.ended ≡ Some fault
-            → (result ≡ Err fault) × (self.new ≡ self.old)
-            × (F.seen files.new ≡ F.seen files.old) }
+        ensures finishes { FinishesFile F.seen result self.old self.new files.old files.new }
+        ensures ended { StaysEnded F.seen result self.old self.new files.old files.new }
     {
         if let Some(fault) = &self.ended {
             return Err(*fault);
         }
-        match self.turn(files) {
-            Ok(()) => Ok(()),
-            Err(fault) => {
-                self.ended = Some(fault);
-                Err(fault)
-            }
-        }
+        self.turn(files)
     }
 
     /// What is told of the peer, which has ended: the report of its datagrams, and that of the file that

@@ -87,7 +87,7 @@ module _ {F : Type 0} (seen : F → FilesView) where
   }
 
   never_nothing : (answer : Result PeerAnswer RecordFault) (k : PeerState F) → NoMemory ≡ became_by answer k → ⊥
-  never_nothing (Ok answers.Recorded) k e = absurd cc
+  never_nothing (Ok (answers.Recorded count)) k e = absurd cc
   never_nothing (Ok (answers.Refused fault)) k e = absurd cc
   never_nothing (Err fault) k e = absurd cc
 

@@ -54,7 +54,7 @@ module _ {F : Type 0} (seen : F → FilesView) where
 
   ended : (answer : Result PeerAnswer RecordFault) (new k : PeerState F) (most : ℕ) (after : List (SocketAddr × PeerState F)) (cs : PeerDatagrams) (peer : SocketAddr) (m : List ℕ)
       → Ended k ≡ became_by answer new → Behind answer new most after cs peer m → StandFor seen after (others_for most peer cs) × HasEnded seen k (came_of peer cs) m
-  ended (Ok answers.Recorded) new k most after cs peer m e b = absurd cc
+  ended (Ok (answers.Recorded count)) new k most after cs peer m e b = absurd cc
   ended (Ok (answers.Refused fault)) new k most after cs peer m e b = absurd cc
   ended (Err fault) new k most after cs peer m e b = let same : k ≡ new = cc in (b.0, subst (λ x. HasEnded seen x (came_of peer cs) m) (sym same) b.1)
 

@@ -15,7 +15,7 @@ use Rattle.recording_peers.proofs.Settling.{finished_session, ended_session}
 
 module _ {F : Type 0} (seen : F → FilesView) where
   pub told_session : (k : PeerState F) (came : List (List ℕ)) → IsSession seen k came → IsSession seen (record k { refused = None }) came
-  told_session k came s = record { first = s.first; empty = s.empty; finished = s.finished; here = s.here; is = s.is; settles = s.settles }
+  told_session k came s = record { first = s.first; empty = s.empty; filed = s.filed; is = s.is; settles = s.settles }
 
   -- by the answer
   abbrev pub TurnsTo : Result (Unit {0}) RecordFault → PeerState F → List (List ℕ) → Type 0

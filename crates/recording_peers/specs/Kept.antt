@@ -8,7 +8,7 @@ use Rattle.ipfix_datagrams.specs.Datagrams.{IsRefused}
 use Rattle.recording_peer.specs.declared.peer_answer.PeerAnswer.{PeerAnswer}
 use Rattle.recording_peer.specs.declared.peer_answer.PeerAnswer.TheVariants.{Recorded, Refused}
 use Rattle.recording_peer.specs.Peers.{Taken, known_after_all}
-use Rattle.recording_peer.specs.Recording.{IsPeer, Answers, HasStopped, all_taken, finished_now}
+use Rattle.recording_peer.specs.Recording.{FiledDatagrams, IsPeer, HasStopped, TakesDatagram, FinishesFile, taken_in}
 use Rattle.recording_peers.specs.declared.peer_state.PeerState.{PeerState}
 use Rattle.recording_peers.specs.declared.refusals.Refusals.{Refusals}
 
@@ -25,21 +25,19 @@ Settles before (m ∷ ms) all = ((x : Taken) × (x.datagram ≡ m) × Settles (b
 pub record IsSession {F : Type 0} (seen : F → FilesView) (k : PeerState F) (came : List (List ℕ)) : Type 0 where
   pub first : FilesView
   pub empty : IsEmpty first.contents
-  pub finished : List (List Taken)
-  pub here : List Taken
-  pub is : IsPeer first (seen k.files) k.recorder finished here
-  pub settles : Settles [] came (all_taken finished here)
+  pub filed : FiledDatagrams
+  pub is : IsPeer first (seen k.files) k.recorder filed
+  pub settles : Settles [] came (taken_in filed)
 
 -- the session has ended with a fault, while this datagram was taken after them, or a file was finished
 pub record HasEnded {F : Type 0} (seen : F → FilesView) (k : PeerState F) (came : List (List ℕ)) (m : List ℕ) : Type 0 where
   pub first : FilesView
   pub empty : IsEmpty first.contents
-  pub finished : List (List Taken)
-  pub here : List Taken
+  pub filed : FiledDatagrams
   pub fault : RecordFault
   pub ended : k.recorder.ended ≡ Some fault
-  pub stopped : HasStopped fault first (seen k.files) k.recorder.told finished here m
-  pub settles : Settles [] came (all_taken finished here)
+  pub stopped : HasStopped fault first (seen k.files) k.recorder.told filed m
+  pub settles : Settles [] came (taken_in filed)
 
 -- ---- calls
 
@@ -53,21 +51,18 @@ one_more_refused r fault = record { count = one_more (untold r); last = fault }
 
 abbrev pub refused_by : Result PeerAnswer RecordFault → Option Refusals → Option Refusals
 refused_by (Ok (Refused fault)) r = Some (one_more_refused r fault)
-refused_by (Ok Recorded) r = r
+refused_by (Ok (Recorded count)) r = r
 refused_by (Err fault) r = r
 
 -- a datagram was taken by the peer's recorder
 pub record Takes {F : Type 0} (seen : F → FilesView) (old new : PeerState F) (m : List ℕ) (now : ℕ) (answer : Result PeerAnswer RecordFault) : Type 0 where
-  pub answers : (first : FilesView) (finished : List (List Taken)) (here : List Taken) → IsPeer first (seen old.files) old.recorder finished here
-      → Answers answer m first (seen old.files) (seen new.files) old.recorder new.recorder finished here
+  pub answers : TakesDatagram seen m answer old.recorder new.recorder old.files new.files
   pub heard : new.heard ≡ now
   pub refused : new.refused ≡ refused_by answer old.refused
 
 -- a file was finished by the peer's recorder
 pub record Finishes {F : Type 0} (seen : F → FilesView) (old new : PeerState F) (answer : Result (Unit {0}) RecordFault) : Type 0 where
-  pub finishes : (first : FilesView) (finished : List (List Taken)) (here : List Taken) → IsPeer first (seen old.files) old.recorder finished here
-      → MatchResult answer (λ x. IsPeer first (seen new.files) new.recorder (finished_now finished here) [])
-      (λ fault. (new.recorder.ended ≡ Some fault) × HasStopped fault first (seen new.files) new.recorder.told finished here [])
+  pub finishes : FinishesFile seen answer old.recorder new.recorder old.files new.files
   pub heard : new.heard ≡ old.heard
   pub refused : new.refused ≡ old.refused
 

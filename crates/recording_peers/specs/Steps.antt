@@ -17,7 +17,7 @@ use Rattle.recording_peers.specs.Table.{of_peer, others_for, with_first, gone_fo
 
 -- what became of it, by the answer of its peer's recorder
 abbrev pub became_by : {F : Type 0} → Result PeerAnswer RecordFault → PeerState F → Became F
-became_by (Ok answers.Recorded) k = Recorded
+became_by (Ok (answers.Recorded count)) k = Recorded
 became_by (Ok (answers.Refused fault)) k = Refused fault
 became_by (Err fault) k = Ended k
 

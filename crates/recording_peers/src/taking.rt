@@ -103,7 +103,7 @@ fn became_of<F>(answer: PeerAnswer) -> Became<F>
     ensures { (kept : PeerState F) → result ≡ became_by (Ok answer) kept }
 {
     match answer {
-        PeerAnswer::Recorded => Became::Recorded,
+        PeerAnswer::Recorded(_) => Became::Recorded,
         PeerAnswer::Refused(fault) => Became::Refused(fault),
     }
 }
