@@ -1,13 +1,15 @@
 //! Recording the datagrams of a peer.
 
-ghost use Rattle.std.specs.Prelude.{◌≡◌};
+ghost use Rattle.std.specs.Prelude.{◌≡◌, ℕ, List, Some, unwrap_or};
+ghost use Rattle.ipfix_message.specs.declared.fault.MessageFault.TheVariants.{OutOfMemory};
 ghost use Rattle.recording_files.specs.Files.{FilesView, IsEmpty};
-ghost use Rattle.recording_peer.specs.Recording.{IsPeer, TakesDatagram, FinishesFile, StaysEnded, Tells, none_filed, answer_of};
+ghost use Rattle.recording_files.specs.declared.record_fault.RecordFault.TheVariants.{Message as OfMessage};
+ghost use Rattle.recording_peer.specs.Recording.{FiledDatagrams, IsPeer, HasStopped, TakesDatagram, FinishesFile, StaysEnded, Tells, none_filed, answer_of};
 
 use crate::peer_answer::PeerAnswer;
 use crate::peer_session::PeerSession;
 use ipfix_datagrams::{SequenceAdvances, WithdrawnTemplates, read_datagram};
-use ipfix_message::header_of;
+use ipfix_message::{MessageFault, header_of};
 use recording_files::{FileSeries, RecordFault, Recorder, SessionCounts};
 use std::alloc::Global;
 use std::collections::BTreeMap;
@@ -103,6 +105,21 @@ impl PeerRecorder {
             return Err(*fault);
         }
         self.turn(files)
+    }
+
+    /// Ends the peer for want of memory, as where its next datagram can't be kept until it is due, and answers
+    /// that fault. The datagrams before stand whole. A peer that has ended answers its fault, and stays as it is.
+    pub fn end(&mut self) -> RecordFault
+        ensures fault { result ≡ unwrap_or self.old.ended (OfMessage OutOfMemory) }
+        ensures ended { self.new ≡ record self.old { ended = Some result } }
+        ensures stopped { (first after : FilesView) (filed : FiledDatagrams) (m : List ℕ)
+            → IsPeer first after self.old filed
+            → HasStopped result first after self.new.told filed m }
+    {
+        let out_of_memory = RecordFault::Message(MessageFault::OutOfMemory);
+        let fault = self.ended.unwrap_or(out_of_memory);
+        self.ended = Some(fault);
+        fault
     }
 
     /// What is told of the peer, which has ended: the report of its datagrams, and that of the file that
