@@ -1,6 +1,6 @@
 -- What a recorder takes for a datagram.
 use Rattle.std.proofs.Common.{◌≡◌, ℕ, ◌≤◌, List, [], ◌∷◌, ◌++◌, take, drop, length, Ok, refl, sym, ap, ap₂, subst, ◌∙◌, append_assoc, arith, inl, inr, Bool, true, false, eqb, ltb}
-use Rattle.std.specs.Prelude.{◌≢◌, ◌⊎◌, All, min}
+use Rattle.std.specs.Prelude.{◌≢◌, ◌⊎◌, All, min, Result, Err, IfOk, IfErr, MatchResult}
 use Rattle.std.proofs.lemmas.Bool.{eqb-true, ltb-true, ltb-false}
 use Rattle.std.proofs.lemmas.List.{append-nil, map-append, take_min, take-append-drop}
 use Rattle.std.proofs.Math.ListN.{drop_of_length-le}
@@ -23,7 +23,7 @@ use Rattle.ipfix_message.specs.declared.stamp.Stamp.{Stamp}
 use Rattle.ipfix_message.specs.TemplateMessages.{IsStamp, sets_octets, stamped, templates_message}
 use Rattle.ipfix_message.proofs.TemplateMessages.{header_is}
 use Rattle.recording_files.specs.Recordings.{Writes}
-use Rattle.recording_files.specs.Recorders.{State, Keeps, Records, IsCountOf}
+use Rattle.recording_files.specs.Recorders.{State, Keeps, IsCountOf}
 use Rattle.recording_files.proofs.Growing.{writes_more}
 use Rattle.ipfix_datagrams.specs.declared.withdrawn_template.WithdrawnTemplate.{WithdrawnTemplate}
 use Rattle.ipfix_datagrams.specs.Datagrams.{Known, Preparation, prepared, with_withdrawn, with_one_withdrawn, with_one_defined, with_defined, IsTaken}
@@ -35,44 +35,116 @@ use Rattle.ipfix_datagrams.proofs.Answered.{taken_prepares}
 use Rattle.ipfix_datagrams.proofs.Defined.{Defined, defines, defined_now, knows-one_defined}
 use Rattle.ipfix_datagrams.proofs.Readings.{header_same, only_memory}
 use Rattle.recording_peer.specs.Peers.{InParts, front_header, withdrawals, definitions}
-use Rattle.recording_peer.specs.Fronts.{TookOne, TookDefinition, TookParts, TakesParts, TookFront, TookPrepared, TakesDefinitions, TookDatagram, CanGoOn, stamp_of, taken_as}
+use Rattle.recording_peer.specs.Fronts.{domains_after, HasAppeared, CanWithdraw, Took, TookOwn, TookOne, TookDefinition, TookFront, TakesWithdrawals, TookWithdrawals, TookPrepared, TakesDefinitions, TookDatagram, CanGoOn, IsDefinable, CanDefineNext, stamp_of}
 
--- ---- one message
+-- ---- a message
 
--- what was appended after what
-appended : (old mid new lead m : List ℕ) (ls : List (List ℕ)) (w : List ℕ) → m ≡ w → lead ++ m ≡ octets_of ls ++ m → mid ≡ old ++ lead → new ≡ mid ++ m → new ≡ old ++ (octets_of ls ++ w)
-appended old mid new lead m ls w same led first second =
-    second ∙ ap (λ (x : List ℕ). x ++ m) first ∙ append_assoc old lead m ∙ ap (λ (x : List ℕ). old ++ x) (led ∙ ap (λ (x : List ℕ). octets_of ls ++ x) same)
-
--- a message that withdraws templates is read
-pub took_one : (before here : List Message) (t : State) (h : Header) (ws : List WithdrawnTemplate) (m lead old mid new : List ℕ) (c : MessageCount) → knows (known_after [] (before ++ here)) h.domain ≡ true
-    → message_header (withdrawal_message h ws) ≡ Ok (withdrawal_header h ws) → All HasTemplateId ws → m ≡ withdrawal_message h ws → Records before here t m (lead ++ m) c → mid ≡ old ++ lead → new ≡ mid ++ m
-    → TookOne before here t h ws old new
-took_one before here t h ws m lead old mid new c there good ids written r first second =
-    let ds = known_after [] (before ++ here) in
-    let y = withdraws ds h ws good there ids in
-    let read : message_gives ds (withdrawal_message h ws) ≡ Ok r.given = sym (ap (message_gives ds) written) ∙ r.read in
-    let same : r.given ≡ y.0 = ok_is r.given y.0 (sym read ∙ y.1.is) in
+-- it is one of the recorder's own, since it gives this
+own : (before here : List Message) (t : State) (m w old new : List ℕ) (c : MessageCount) (ds : History) (y : Message) → m ≡ w → message_gives (domains_after before here) w ≡ Ok y → y.domains ≡ ds → y.decoding.records ≡ []
+    → Took before here t m old new c → TookOwn before here t w ds old new
+own before here t m w old new c ds y written read domains none r =
+    let k : Took before here t w old new c = subst (λ (v : List ℕ). Took before here t v old new c) written r in
+    let same : k.records.given ≡ y = ok_is k.records.given y (sym k.records.read ∙ read) in
     record {
-      given = r.given;
-      read = read;
-      domains_are = ap (λ (k : Message). k.domains) same ∙ y.1.domains;
-      records = ap (λ (k : Message). k.decoding.records) same ∙ y.1.records;
-      lead = r.lead;
-      is = r.is;
-      octets = appended old mid new lead m r.lead (withdrawal_message h ws) written r.octets_are first second;
-      keeps = r.keeps;
+      count = c;
+      took = k;
+      domains_are = ap (λ (x : Message). x.domains) same ∙ domains;
+      no_records = ap (λ (x : Message). x.decoding.records) same ∙ none;
     }
 
+-- one that withdraws templates
+pub took_one : (before here : List Message) (t : State) (h : Header) (ws : List WithdrawnTemplate) (m old new : List ℕ) (c : MessageCount) → HasAppeared before here h.domain
+    → message_header (withdrawal_message h ws) ≡ Ok (withdrawal_header h ws) → All HasTemplateId ws → m ≡ withdrawal_message h ws → Took before here t m old new c → TookOne before here t h ws old new
+took_one before here t h ws m old new c there good ids written r =
+    let ds = domains_after before here in
+    let y = withdraws ds h ws good there ids in
+    own before here t m (withdrawal_message h ws) old new c (with_withdrawn ds h.domain ws) y.0 written y.1.is y.1.domains y.1.records r
+
 -- only memory can fail
-pub one_fails : (before here : List Message) (h : Header) (ws : List WithdrawnTemplate) (m : List ℕ) (fault : MessageFault) → knows (known_after [] (before ++ here)) h.domain ≡ true
-    → message_header (withdrawal_message h ws) ≡ Ok (withdrawal_header h ws) → All HasTemplateId ws → m ≡ withdrawal_message h ws → Fails fault (message_gives (known_after [] (before ++ here)) m) → fault ≡ OutOfMemory
+pub one_fails : (before here : List Message) (h : Header) (ws : List WithdrawnTemplate) (m : List ℕ) (fault : MessageFault) → HasAppeared before here h.domain
+    → message_header (withdrawal_message h ws) ≡ Ok (withdrawal_header h ws) → All HasTemplateId ws → m ≡ withdrawal_message h ws → Fails fault (message_gives (domains_after before here) m) → fault ≡ OutOfMemory
 one_fails before here h ws m fault there good ids written fails =
-    let ds = known_after [] (before ++ here) in
+    let ds = domains_after before here in
     let y = withdraws ds h ws good there ids in
     only_memory fault (message_gives ds m) y.0 fails (ap (message_gives ds) written ∙ y.1.is)
 
--- ---- whether templates are left
+-- one that defines a template
+pub took_definition : (before here : List Message) (t : State) (z : Stamp) (u : Template) (m old new : List ℕ) (c : MessageCount) → (y : Message) × Defined (domains_after before here) z u y
+    → m ≡ templates_message z (u ∷ []) → Took before here t m old new c → TookDefinition before here t z u old new
+took_definition before here t z u m old new c y written r =
+    own before here t m (templates_message z (u ∷ [])) old new c (with_one_defined (domains_after before here) z.domain u) y.0 written y.1.is y.1.domains y.1.records r
+
+pub definition_fails : (before here : List Message) (z : Stamp) (u : Template) (m : List ℕ) (fault : MessageFault) → (y : Message) × Defined (domains_after before here) z u y
+    → m ≡ templates_message z (u ∷ []) → Fails fault (message_gives (domains_after before here) m) → fault ≡ OutOfMemory
+definition_fails before here z u m fault y written fails =
+    let ds = domains_after before here in
+    only_memory fault (message_gives ds m) y.0 fails (ap (message_gives ds) written ∙ y.1.is)
+
+pub definition_header : (z : Stamp) (u : Template) → IsStamp z → IsTemplate u → (k : Header) × (message_header (templates_message z (u ∷ [])) ≡ Ok k)
+definition_header z u is fits =
+    let size : length (sets_octets (u ∷ [])) ≡ length (template_set u) = ap length (append-nil (template_set u)) in
+    (stamped z (length (sets_octets (u ∷ []))), header_is z (u ∷ []) is (omega (arith, fits.fits, size)))
+
+-- ---- messages in turn
+
+module _ (before here : List Message) where
+  -- none yet
+  none_front : (s : State) (octets : List ℕ) → octets ≡ [] → Keeps s before here → TookFront before here s [] (domains_after before here) octets
+  none_front s octets none keeps = record {
+    given = [];
+    no_records = refl;
+    file = [];
+    writes = refl;
+    octets_are = none;
+    known = ap (λ (ms : List Message). domains_after before ms) (append-nil here);
+    keeps = subst (Keeps s before) (sym (append-nil here)) keeps;
+  }
+
+  front_same : (s : State) (ms ns : List (List ℕ)) (ds es : History) (octets : List ℕ) → TookFront before here s ms ds octets → ms ≡ ns → ds ≡ es → TookFront before here s ns es octets
+  front_same s ms ns ds es octets f messages domains = record {
+    given = f.given;
+    no_records = f.no_records;
+    file = f.file;
+    writes = subst (λ (w : List (List ℕ)). Writes before here w f.given f.file) messages f.writes;
+    octets_are = f.octets_are;
+    known = f.known ∙ domains;
+    keeps = f.keeps;
+  }
+
+  -- what the file has with one more
+  writes_one : (s t : State) (ms : List (List ℕ)) (ds : History) (m old new : List ℕ) (c : MessageCount) (f : TookFront before here s ms ds old) (r : Took before (here ++ f.given) t m old new c)
+      → Writes before here (ms ++ m ∷ []) (f.given ++ r.records.given ∷ []) (f.file ++ (r.records.lead ++ m ∷ []))
+  writes_one s t ms ds m old new c f r = writes_more before here ms f.given f.file m r.records.given r.records.lead f.writes r.records.read r.records.is
+
+  octets_one : (s t : State) (ms : List (List ℕ)) (ds : History) (m old new : List ℕ) (c : MessageCount) (f : TookFront before here s ms ds old) (r : Took before (here ++ f.given) t m old new c)
+      → new ≡ octets_of (f.file ++ (r.records.lead ++ m ∷ []))
+  octets_one s t ms ds m old new c f r =
+      r.appended ∙ ap₂ (λ (a b : List ℕ). a ++ b) f.octets_are r.records.octets_are
+      ∙ sym (octets-append f.file (r.records.lead ++ m ∷ []) ∙ ap (λ (w : List ℕ). octets_of f.file ++ w) (octets-push r.records.lead m))
+
+  keeps_one : (t : State) (xs : List Message) (x : Message) → Keeps t before ((here ++ xs) ++ x ∷ []) → Keeps t before (here ++ (xs ++ x ∷ []))
+  keeps_one t xs x keeps = subst (Keeps t before) (append_assoc here xs (x ∷ [])) keeps
+
+  known_one : (xs : List Message) (x : Message) → domains_after before (here ++ (xs ++ x ∷ [])) ≡ x.domains
+  known_one xs x =
+      ap (λ (ms : List Message). known_after [] (before ++ ms)) (sym (append_assoc here xs (x ∷ []))) ∙ ap (known_after []) (sym (append_assoc before (here ++ xs) (x ∷ []))) ∙ known_after-push [] (before ++ (here ++ xs)) x
+
+  -- one more
+  front_more : (s t : State) (ms : List (List ℕ)) (ds es : History) (m old new : List ℕ) (f : TookFront before here s ms ds old) → TookOwn before (here ++ f.given) t m es old new → TookFront before here t (ms ++ m ∷ []) es new
+  front_more s t ms ds es m old new f one =
+      let r = one.took in
+      let x = r.records.given in
+      record {
+        given = f.given ++ x ∷ [];
+        no_records = records_in-append f.given (x ∷ []) ∙ rw (f.no_records, one.no_records) refl;
+        file = f.file ++ (r.records.lead ++ m ∷ []);
+        writes = writes_one s t ms ds m old new one.count f r;
+        octets_are = octets_one s t ms ds m old new one.count f r;
+        known = known_one f.given x ∙ one.domains_are;
+        keeps = keeps_one t f.given x r.records.keeps;
+      }
+
+-- ---- messages that withdraw templates
 
 pub none_in : (ws : List WithdrawnTemplate) → eqb (length ws) 0 ≡ true → ws ≡ []
 none_in [] e = refl
@@ -81,61 +153,30 @@ none_in (w ∷ ws) e = absurd (omega (arith, eqb-true (length (w ∷ ws)) 0 e))
 pub some_in : (ws : List WithdrawnTemplate) → eqb (length ws) 0 ≡ false → ws ≢ []
 some_in ws e = λ none. let no : true ≡ false = sym (ap (λ (xs : List WithdrawnTemplate). eqb (length xs) 0) none) ∙ e in absurd cc
 
--- ---- messages in turn
-
 withdrawn-append : (ds : History) (domain : ℕ) (vs ws : List WithdrawnTemplate) → with_withdrawn ds domain (vs ++ ws) ≡ with_withdrawn (with_withdrawn ds domain vs) domain ws
 withdrawn-append ds domain [] ws = refl
 withdrawn-append ds domain (v ∷ vs) ws = withdrawn-append (with_one_withdrawn ds domain v) domain vs ws
 
 -- none yet
-pub none_took : (before here : List Message) (s : State) (h : Header) (ws : List WithdrawnTemplate) (octets : List ℕ) → octets ≡ [] → Keeps s before here → TakesParts before here s h ws ws octets
+pub none_took : (before here : List Message) (s : State) (h : Header) (ws : List WithdrawnTemplate) (octets : List ℕ) → octets ≡ [] → Keeps s before here → TakesWithdrawals before here s h ws ws octets
 none_took before here s h ws octets none keeps = record {
   done = [];
   whole = refl;
-  took = record {
-    front = record { messages = []; given = [] };
-    parts = [];
-    messages = refl;
-    records = refl;
-    file = [];
-    writes = refl;
-    octets_are = none;
-    known = ap (λ (ms : List Message). known_after [] (before ++ ms)) (append-nil here);
-    keeps = subst (Keeps s before) (sym (append-nil here)) keeps;
-  };
-  are = λ parts is. is;
+  parts = [];
+  front = none_front before here s octets none keeps;
+  are = λ more is. is;
 }
 
 -- the domain is still known
-pub still_known : (before here : List Message) (s : State) (h : Header) (ws rest : List WithdrawnTemplate) (octets : List ℕ) (f : TakesParts before here s h ws rest octets)
-    → (ws ≡ []) ⊎ (knows (known_after [] (before ++ here)) h.domain ≡ true) → rest ≢ [] → knows (known_after [] (before ++ (here ++ f.took.front.given))) h.domain ≡ true
+pub still_known : (before here : List Message) (s : State) (h : Header) (ws rest : List WithdrawnTemplate) (octets : List ℕ) (f : TakesWithdrawals before here s h ws rest octets)
+    → CanWithdraw before here h.domain ws → rest ≢ [] → HasAppeared before (here ++ f.front.given) h.domain
 still_known before here s h ws rest octets f (inl none) some = absurd (some (no_rest f.done rest (sym f.whole ∙ none)))
   where
     no_rest : (done rest : List WithdrawnTemplate) → done ++ rest ≡ [] → rest ≡ []
     no_rest [] rest e = e
     no_rest (w ∷ done) rest e = absurd cc
 still_known before here s h ws rest octets f (inr there) some =
-    ap (λ (ds : History). knows ds h.domain) f.took.known ∙ knows-withdrawn (known_after [] (before ++ here)) h.domain f.done h.domain ∙ there
-
-one_more_took : (before here : List Message) (s t : State) (h : Header) (done part : List WithdrawnTemplate) (old new : List ℕ) (f : TookParts before here s h done old) → TookOne before (here ++ f.front.given) t h part old new
-    → TookParts before here t h (done ++ part) new
-one_more_took before here s t h done part old new f one =
-    let xs = f.front.given in
-    let m = withdrawal_message h part in
-    let behind : here ++ (xs ++ one.given ∷ []) ≡ (here ++ xs) ++ one.given ∷ [] = sym (append_assoc here xs (one.given ∷ [])) in
-    record {
-      front = record { messages = f.front.messages ++ m ∷ []; given = xs ++ one.given ∷ [] };
-      parts = f.parts ++ part ∷ [];
-      messages = ap (λ (ms : List (List ℕ)). ms ++ m ∷ []) f.messages ∙ sym (map-append (withdrawal_message h) f.parts (part ∷ []));
-      records = records_in-append xs (one.given ∷ []) ∙ rw (f.records, one.records) refl;
-      file = f.file ++ (one.lead ++ m ∷ []);
-      writes = writes_more before here f.front.messages xs f.file m one.given one.lead f.writes one.read one.is;
-      octets_are = one.octets ∙ ap (λ (w : List ℕ). w ++ (octets_of one.lead ++ m)) f.octets_are
-          ∙ sym (octets-append f.file (one.lead ++ m ∷ []) ∙ ap (λ (w : List ℕ). octets_of f.file ++ w) (octets-push one.lead m));
-      known = ap (λ (ms : List Message). known_after [] (before ++ ms)) behind ∙ ap (known_after []) (sym (append_assoc before (here ++ xs) (one.given ∷ []))) ∙ known_after-push [] (before ++ (here ++ xs)) one.given
-          ∙ one.domains_are ∙ ap (λ (k : History). with_withdrawn k h.domain part) f.known ∙ sym (withdrawn-append (known_after [] (before ++ here)) h.domain done part);
-      keeps = subst (Keeps t before) (sym behind) one.keeps;
-    }
+    ap (λ (ds : History). knows ds h.domain) f.front.known ∙ knows-withdrawn (domains_after before here) h.domain f.done h.domain ∙ there
 
 drop_min : (n : ℕ) (xs : List WithdrawnTemplate) → drop (min n (length xs)) xs ≡ drop n xs
 drop_min n xs = by_test (ltb n (length xs)) refl
@@ -148,75 +189,46 @@ drop_min n xs = by_test (ltb n (length xs)) refl
         drop_of_length-le xs all ∙ sym (drop_of_length-le xs many)
 
 -- one part more
-pub took_more : (before here : List Message) (s t : State) (h : Header) (ws rest part others : List WithdrawnTemplate) (n : ℕ) (old new : List ℕ) (f : TakesParts before here s h ws rest old) → rest ≢ []
-    → n ≡ min 8189 (length rest) → part ≡ take n rest → others ≡ drop n rest → TookOne before (here ++ f.took.front.given) t h part old new → TakesParts before here t h ws others new
-unfolding one_more_took
+pub took_more : (before here : List Message) (s t : State) (h : Header) (ws rest part others : List WithdrawnTemplate) (n : ℕ) (old new : List ℕ) (f : TakesWithdrawals before here s h ws rest old) → rest ≢ []
+    → n ≡ min 8189 (length rest) → part ≡ take n rest → others ≡ drop n rest → TookOne before (here ++ f.front.given) t h part old new → TakesWithdrawals before here t h ws others new
 took_more before here s t h ws rest part others n old new f some size first second one =
+    let ds = domains_after before here in
+    let m = withdrawal_message h part in
     let whole : rest ≡ part ++ others = sym (ap₂ (λ (a b : List WithdrawnTemplate). a ++ b) first second ∙ take-append-drop n rest) in
     let is_part : part ≡ take 8189 rest = first ∙ ap (λ (k : ℕ). take k rest) size ∙ take_min 8189 rest in
     let is_rest : others ≡ drop 8189 rest = second ∙ ap (λ (k : ℕ). drop k rest) size ∙ drop_min 8189 rest in
+    let more = front_more before here s t (withdrawals h f.parts) (with_withdrawn ds h.domain f.done) (with_withdrawn (domains_after before (here ++ f.front.given)) h.domain part) m old new f.front one in
     record {
       done = f.done ++ part;
       whole = f.whole ∙ ap (λ (xs : List WithdrawnTemplate). f.done ++ xs) whole ∙ sym (append_assoc f.done part others);
-      took = one_more_took before here s t h f.done part old new f.took one;
-      are = λ parts is. subst (InParts ws) (sym (append_assoc f.took.parts (part ∷ []) parts)) (f.are (part ∷ parts) (some, is_part, subst (λ (xs : List WithdrawnTemplate). InParts xs parts) is_rest is));
+      parts = f.parts ++ part ∷ [];
+      front = front_same before here t (withdrawals h f.parts ++ m ∷ []) (withdrawals h (f.parts ++ part ∷ [])) _ (with_withdrawn ds h.domain (f.done ++ part)) new more (sym (map-append (withdrawal_message h) f.parts (part ∷ [])))
+          (ap (λ (k : History). with_withdrawn k h.domain part) f.front.known ∙ sym (withdrawn-append ds h.domain f.done part));
+      are = λ others_parts is. subst (InParts ws) (sym (append_assoc f.parts (part ∷ []) others_parts)) (f.are (part ∷ others_parts) (some, is_part, subst (λ (xs : List WithdrawnTemplate). InParts xs others_parts) is_rest is));
     }
 
-pub took_all : (before here : List Message) (s : State) (h : Header) (ws rest : List WithdrawnTemplate) (octets : List ℕ) → TakesParts before here s h ws rest octets → rest ≡ [] → TookFront before here s h ws octets
+pub took_all : (before here : List Message) (s : State) (h : Header) (ws rest : List WithdrawnTemplate) (octets : List ℕ) → TakesWithdrawals before here s h ws rest octets → rest ≡ [] → TookWithdrawals before here s h ws octets
 took_all before here s h ws rest octets f none =
-    let all : ws ≡ f.done = f.whole ∙ ap (λ (xs : List WithdrawnTemplate). f.done ++ xs) none ∙ append-nil f.done in
+    let ds = domains_after before here in
+    let all : f.done ≡ ws = sym (f.whole ∙ ap (λ (xs : List WithdrawnTemplate). f.done ++ xs) none ∙ append-nil f.done) in
     record {
-      took = subst_took all f.took;
-      are = subst (InParts ws) (append-nil f.took.parts) (f.are [] none);
+      parts = f.parts;
+      are = subst (InParts ws) (append-nil f.parts) (f.are [] none);
+      front = front_same before here s (withdrawals h f.parts) (withdrawals h f.parts) (with_withdrawn ds h.domain f.done) (with_withdrawn ds h.domain ws) octets f.front refl (ap (with_withdrawn ds h.domain) all);
     }
-  where
-    subst_took : ws ≡ f.done → TookParts before here s h f.done octets → TookParts before here s h ws octets
-    subst_took all g = record { front = g.front; parts = g.parts; messages = g.messages; records = g.records; file = g.file; writes = g.writes; octets_are = g.octets_are; known = g.known ∙ ap (with_withdrawn (known_after [] (before ++ here)) h.domain) (sym all); keeps = g.keeps }
 
 -- ---- messages that define templates again
-
--- a message that defines a template is read
-pub took_definition : (before here : List Message) (t : State) (z : Stamp) (u : Template) (m lead old mid new : List ℕ) (c : MessageCount) → (y : Message) × Defined (known_after [] (before ++ here)) z u y
-    → m ≡ templates_message z (u ∷ []) → Records before here t m (lead ++ m) c → mid ≡ old ++ lead → new ≡ mid ++ m
-    → TookDefinition before here t z u old new
-took_definition before here t z u m lead old mid new c y written r first second =
-    let ds = known_after [] (before ++ here) in
-    let w = templates_message z (u ∷ []) in
-    let read : message_gives ds w ≡ Ok r.given = sym (ap (message_gives ds) written) ∙ r.read in
-    let same : r.given ≡ y.0 = ok_is r.given y.0 (sym read ∙ y.1.is) in
-    record {
-      given = r.given;
-      read = read;
-      domains_are = ap (λ (k : Message). k.domains) same ∙ y.1.domains;
-      records = ap (λ (k : Message). k.decoding.records) same ∙ y.1.records;
-      lead = r.lead;
-      is = r.is;
-      octets = appended old mid new lead m r.lead w written r.octets_are first second;
-      keeps = r.keeps;
-    }
-
--- only memory can fail
-pub definition_fails : (before here : List Message) (z : Stamp) (u : Template) (m : List ℕ) (fault : MessageFault) → (y : Message) × Defined (known_after [] (before ++ here)) z u y
-    → m ≡ templates_message z (u ∷ []) → Fails fault (message_gives (known_after [] (before ++ here)) m) → fault ≡ OutOfMemory
-definition_fails before here z u m fault y written fails =
-    let ds = known_after [] (before ++ here) in
-    only_memory fault (message_gives ds m) y.0 fails (ap (message_gives ds) written ∙ y.1.is)
 
 -- it can be defined
 some_is : (t : Template) (ts : List Template) → t ∷ ts ≡ [] → ⊥
 some_is t ts e = cc
 
-pub one_can : (ds : History) (domain : ℕ) (t : Template) (ts : List Template) → CanGoOn ds domain (t ∷ ts) → (knows ds domain ≡ true) × CanDefine (events_in ds domain) (t ∷ ts)
+one_can : (ds : History) (domain : ℕ) (t : Template) (ts : List Template) → CanGoOn ds domain (t ∷ ts) → (knows ds domain ≡ true) × CanDefine (events_in ds domain) (t ∷ ts)
 one_can ds domain t ts (inl none) = absurd (some_is t ts none)
 one_can ds domain t ts (inr can) = can
 
-pub this_can : (ds : History) (domain : ℕ) (t : Template) (ts : List Template) → CanGoOn ds domain (t ∷ ts) → CanGoOn ds domain (t ∷ [])
-this_can ds domain t ts can = let c = one_can ds domain t ts can in inr (c.0, (c.1.0, tt))
-
-pub reads_definition : (before here : List Message) (z : Stamp) (u : Template) → IsStamp z → IsTemplate u → CanGoOn (known_after [] (before ++ here)) z.domain (u ∷ []) → (y : Message) × Defined (known_after [] (before ++ here)) z u y
-reads_definition before here z u is fits can =
-    let c = one_can (known_after [] (before ++ here)) z.domain u [] can in
-    defines (known_after [] (before ++ here)) z u is fits c.0 c.1.0
+pub reads_definition : (before here : List Message) (z : Stamp) (u : Template) → IsStamp z → IsTemplate u → CanDefineNext before here z.domain u → (y : Message) × Defined (domains_after before here) z u y
+reads_definition before here z u is fits can = defines (domains_after before here) z u is fits can.0 can.1
 
 -- and those after it
 others_can : (ds : History) (domain : ℕ) (t : Template) (ts : List Template) → CanGoOn ds domain (t ∷ ts) → CanGoOn (with_one_defined ds domain t) domain ts
@@ -229,66 +241,51 @@ defined-push ds domain [] t = refl
 defined-push ds domain (u ∷ us) t = defined-push (with_one_defined ds domain u) domain us t
 
 -- none yet
-pub none_defined : (before here : List Message) (s : State) (h : Header) (ws : List WithdrawnTemplate) (ts : List Template) (octets : List ℕ) → TookFront before here s h ws octets
-    → CanGoOn (with_withdrawn (known_after [] (before ++ here)) h.domain ws) h.domain ts → TakesDefinitions before here s h (record { withdrawn = ws; defined = ts }) ts octets
-none_defined before here s h ws ts octets f can = record {
+pub none_defined : (before here : List Message) (s : State) (h : Header) (p : Preparation) (octets : List ℕ) → TookWithdrawals before here s h p.withdrawn octets
+    → CanGoOn (with_withdrawn (domains_after before here) h.domain p.withdrawn) h.domain p.defined → TakesDefinitions before here s h p p.defined octets
+none_defined before here s h p octets f can = record {
   done = [];
   whole = refl;
   took = record {
-    front = f.took.front;
-    parts = f.took.parts;
+    parts = f.parts;
     are = f.are;
-    messages = f.took.messages ∙ sym (append-nil (withdrawals h f.took.parts));
-    records = f.took.records;
-    file = f.took.file;
-    writes = f.took.writes;
-    octets_are = f.took.octets_are;
-    known = f.took.known;
-    keeps = f.took.keeps;
+    front = let ds = with_withdrawn (domains_after before here) h.domain p.withdrawn in
+        front_same before here s (withdrawals h f.parts) (withdrawals h f.parts ++ []) ds ds octets f.front (sym (append-nil (withdrawals h f.parts))) refl;
   };
-  can = subst (λ (ds : History). CanGoOn ds h.domain ts) (sym f.took.known) can;
+  can = can;
 }
 
-one_more_defined : (before here : List Message) (s t : State) (h : Header) (ws : List WithdrawnTemplate) (done : List Template) (u : Template) (old new : List ℕ) (f : TookPrepared before here s h (record { withdrawn = ws; defined = done }) old)
-    → TookDefinition before (here ++ f.front.given) t (stamp_of h) u old new → TookPrepared before here t h (record { withdrawn = ws; defined = done ++ u ∷ [] }) new
-one_more_defined before here s t h ws done u old new f one =
-    let xs = f.front.given in
-    let m = templates_message (stamp_of h) (u ∷ []) in
-    let behind : here ++ (xs ++ one.given ∷ []) ≡ (here ++ xs) ++ one.given ∷ [] = sym (append_assoc here xs (one.given ∷ [])) in
-    let first = withdrawals h f.parts in
-    record {
-      front = record { messages = f.front.messages ++ m ∷ []; given = xs ++ one.given ∷ [] };
-      parts = f.parts;
-      are = f.are;
-      messages = ap (λ (ms : List (List ℕ)). ms ++ m ∷ []) f.messages ∙ append_assoc first (definitions (stamp_of h) done) (m ∷ [])
-          ∙ ap (λ (ms : List (List ℕ)). first ++ ms) (sym (map-append (λ (v : Template). templates_message (stamp_of h) (v ∷ [])) done (u ∷ [])));
-      records = records_in-append xs (one.given ∷ []) ∙ rw (f.records, one.records) refl;
-      file = f.file ++ (one.lead ++ m ∷ []);
-      writes = writes_more before here f.front.messages xs f.file m one.given one.lead f.writes one.read one.is;
-      octets_are = one.octets ∙ ap (λ (w : List ℕ). w ++ (octets_of one.lead ++ m)) f.octets_are
-          ∙ sym (octets-append f.file (one.lead ++ m ∷ []) ∙ ap (λ (w : List ℕ). octets_of f.file ++ w) (octets-push one.lead m));
-      known = known_more before here xs one.given ∙ one.domains_are ∙ ap (λ (k : History). with_one_defined k h.domain u) f.known
-          ∙ sym (defined-push (with_withdrawn (known_after [] (before ++ here)) h.domain ws) h.domain done u);
-      keeps = subst (Keeps t before) (sym behind) one.keeps;
-    }
-  where
-    known_more : (before here xs : List Message) (x : Message) → known_after [] (before ++ (here ++ (xs ++ x ∷ []))) ≡ x.domains
-    known_more before here xs x =
-        ap (λ (ms : List Message). known_after [] (before ++ ms)) (sym (append_assoc here xs (x ∷ []))) ∙ ap (known_after []) (sym (append_assoc before (here ++ xs) (x ∷ []))) ∙ known_after-push [] (before ++ (here ++ xs)) x
+-- the next of them can be defined
+pub next_can : (before here : List Message) (s : State) (h : Header) (p : Preparation) (u v : Template) (ts rest : List Template) (octets : List ℕ) (f : TakesDefinitions before here s h p ts octets) → ts ≡ u ∷ rest → v ≡ u
+    → CanDefineNext before (here ++ f.took.front.given) h.domain v
+next_can before here s h p u v ts rest octets f step same =
+    let ds = prepared (domains_after before here) h.domain (record { withdrawn = p.withdrawn; defined = f.done }) in
+    let can = one_can ds h.domain u rest (subst (CanGoOn ds h.domain) step f.can) in
+    subst (λ (w : Template). CanDefineNext before (here ++ f.took.front.given) h.domain w) (sym same) (subst (λ (k : History). IsDefinable k h.domain u) (sym f.took.front.known) (can.0, can.1.0))
 
 -- one more
 pub defined_more : (before here : List Message) (s t : State) (h : Header) (p : Preparation) (u v : Template) (ts rest : List Template) (old new : List ℕ) (f : TakesDefinitions before here s h p ts old) → ts ≡ u ∷ rest → v ≡ u
     → TookDefinition before (here ++ f.took.front.given) t (stamp_of h) v old new → TakesDefinitions before here t h p rest new
-unfolding one_more_defined
 defined_more before here s t h p u v ts rest old new f step same one =
-    let mine = subst (λ (w : Template). TookDefinition before (here ++ f.took.front.given) t (stamp_of h) w old new) same one in
-    let took = one_more_defined before here s t h p.withdrawn f.done u old new f.took mine in
-    let can = others_can (known_after [] (before ++ (here ++ f.took.front.given))) h.domain u rest (subst (CanGoOn (known_after [] (before ++ (here ++ f.took.front.given))) h.domain) step f.can) in
+    let xs = f.took.front.given in
+    let m = templates_message (stamp_of h) (u ∷ []) in
+    let from = with_withdrawn (domains_after before here) h.domain p.withdrawn in
+    let ds = with_defined from h.domain f.done in
+    let first = withdrawals h f.took.parts in
+    let mine : TookDefinition before (here ++ xs) t (stamp_of h) u old new = subst (λ (w : Template). TookDefinition before (here ++ xs) t (stamp_of h) w old new) same one in
+    let more = front_more before here s t (first ++ definitions (stamp_of h) f.done) ds (with_one_defined (domains_after before (here ++ xs)) h.domain u) m old new f.took.front mine in
+    let messages = append_assoc first (definitions (stamp_of h) f.done) (m ∷ []) ∙ ap (λ (ms : List (List ℕ)). first ++ ms) (sym (map-append (λ (w : Template). templates_message (stamp_of h) (w ∷ [])) f.done (u ∷ []))) in
+    let pushed = defined-push from h.domain f.done u in
     record {
       done = f.done ++ u ∷ [];
       whole = f.whole ∙ ap (λ (us : List Template). f.done ++ us) step ∙ sym (append_assoc f.done (u ∷ []) rest);
-      took = took;
-      can = subst (λ (ds : History). CanGoOn ds h.domain rest) (ap (λ (ds : History). with_one_defined ds h.domain u) f.took.known ∙ sym (defined-push (with_withdrawn (known_after [] (before ++ here)) h.domain p.withdrawn) h.domain f.done u) ∙ sym took.known) can;
+      took = record {
+        parts = f.took.parts;
+        are = f.took.are;
+        front = front_same before here t _ (first ++ definitions (stamp_of h) (f.done ++ u ∷ [])) _ (with_defined from h.domain (f.done ++ u ∷ [])) new more messages
+            (ap (λ (k : History). with_one_defined k h.domain u) f.took.front.known ∙ sym pushed);
+      };
+      can = subst (λ (k : History). CanGoOn k h.domain rest) (sym pushed) (others_can ds h.domain u rest (subst (CanGoOn ds h.domain) step f.can));
     }
 
 pub defined_all : (before here : List Message) (s : State) (h : Header) (p : Preparation) (rest : List Template) (octets : List ℕ) → TakesDefinitions before here s h p rest octets → rest ≡ [] → TookPrepared before here s h p octets
@@ -300,11 +297,11 @@ defined_all before here s h p rest octets f none =
 
 -- the files' domains as the datagram was read after them
 abbrev SameFiles : Known → List Message → List Message → Type 0
-SameFiles k before here = k.files ≡ known_after [] (before ++ here)
+SameFiles k before here = k.files ≡ domains_after before here
 
 -- what can be done in front of it
 pub front_can : (k : Known) (before here : List Message) (m : List ℕ) (h : Header) (p : Preparation) (x : Message) → SameFiles k before here → IsSound k → message_header m ≡ Ok h → IsTaken k m p x
-    → ((p.withdrawn ≡ []) ⊎ (knows (known_after [] (before ++ here)) h.domain ≡ true)) × CanGoOn (with_withdrawn (known_after [] (before ++ here)) h.domain p.withdrawn) h.domain p.defined
+    → CanWithdraw before here h.domain p.withdrawn × CanGoOn (with_withdrawn (domains_after before here) h.domain p.withdrawn) h.domain p.defined
 front_can k before here m h p x same sound good taken =
     subst (λ (ds : History). ((p.withdrawn ≡ []) ⊎ (knows ds h.domain ≡ true)) × CanGoOn (with_withdrawn ds h.domain p.withdrawn) h.domain p.defined) same (by_cases (taken_prepares k m h p x good sound taken))
   where
@@ -314,59 +311,50 @@ front_can k before here m h p x same sound good taken =
 
 -- it is read after what stands in front of it
 reads_so : (k : Known) (before here : List Message) (s : State) (m : List ℕ) (h own : Header) (p : Preparation) (x : Message) (octets : List ℕ) → SameFiles k before here → message_header m ≡ Ok h → IsTaken k m p x → own.domain ≡ h.domain
-    → (f : TookPrepared before here s own p octets) → message_gives (known_after [] (before ++ (here ++ f.front.given))) m ≡ Ok x
+    → (f : TookPrepared before here s own p octets) → message_gives (domains_after before (here ++ f.front.given)) m ≡ Ok x
 reads_so k before here s m h own p x octets files good taken domain f =
     let same : taken.first.header ≡ h = header_same _ m h taken.first good taken.is_prepared.read in
-    ap (λ (ds : History). message_gives ds m) (f.known ∙ ap (λ (d : ℕ). prepared (known_after [] (before ++ here)) d p) (domain ∙ sym (ap (λ (g : Header). g.domain) same)) ∙ ap (λ (ds : History). prepared ds taken.first.header.domain p) (sym files)) ∙ taken.read
+    ap (λ (ds : History). message_gives ds m) (f.front.known ∙ ap (λ (d : ℕ). prepared (domains_after before here) d p) (domain ∙ sym (ap (λ (g : Header). g.domain) same)) ∙ ap (λ (ds : History). prepared ds taken.first.header.domain p) (sym files)) ∙ taken.read
 
 pub datagram_fails : (k : Known) (before here : List Message) (s : State) (m : List ℕ) (h own : Header) (p : Preparation) (x : Message) (octets : List ℕ) (fault : MessageFault) → SameFiles k before here → message_header m ≡ Ok h → IsTaken k m p x → own.domain ≡ h.domain
-    → (f : TookPrepared before here s own p octets) → Fails fault (message_gives (known_after [] (before ++ (here ++ f.front.given))) m) → fault ≡ OutOfMemory
+    → (f : TookPrepared before here s own p octets) → Fails fault (message_gives (domains_after before (here ++ f.front.given)) m) → fault ≡ OutOfMemory
 datagram_fails k before here s m h own p x octets fault files good taken domain f fails =
-    only_memory fault (message_gives (known_after [] (before ++ (here ++ f.front.given))) m) x fails (reads_so k before here s m h own p x octets files good taken domain f)
+    only_memory fault (message_gives (domains_after before (here ++ f.front.given)) m) x fails (reads_so k before here s m h own p x octets files good taken domain f)
 
 -- a header with this sequence number
 abbrev pub with_sequence : Header → ℕ → Header
 with_sequence h n = record h { sequence = n }
 
-pub took_datagram : (k : Known) (before here : List Message) (s t : State) (m : List ℕ) (h own : Header) (p : Preparation) (x : Message) (old mid new lead : List ℕ) (c : MessageCount) → SameFiles k before here → message_header m ≡ Ok h → IsTaken k m p x
-    → own ≡ front_header (before ++ here) h → (f : TookPrepared before here s own p old) → Records before (here ++ f.front.given) t m (lead ++ m) c → mid ≡ old ++ lead → new ≡ mid ++ m
-    → TookDatagram before here t (taken_as m p f.front x) new c
-took_datagram k before here s t m h own p x old mid new lead c files good taken owns f r first second =
+pub took_datagram : (k : Known) (before here : List Message) (s t : State) (m : List ℕ) (h own : Header) (p : Preparation) (x : Message) (old new : List ℕ) (c : MessageCount) → SameFiles k before here → message_header m ≡ Ok h → IsTaken k m p x
+    → own ≡ front_header (before ++ here) h → (f : TookPrepared before here s own p old) → Took before (here ++ f.front.given) t m old new c → TookDatagram before here t m p x new c
+took_datagram k before here s t m h own p x old new c files good taken owns f r =
     let xs = f.front.given in
+    let ms = withdrawals own f.parts ++ definitions (stamp_of own) p.defined in
+    let ds = prepared (domains_after before here) own.domain p in
     let domain : own.domain ≡ h.domain = ap (λ (g : Header). g.domain) owns in
     let header : x.header ≡ h = header_same _ m h x good taken.read in
-    let same : r.given ≡ x = ok_is r.given x (sym r.read ∙ reads_so k before here s m h own p x old files good taken domain f) in
+    let same : r.records.given ≡ x = ok_is r.records.given x (sym r.records.read ∙ reads_so k before here s m h own p x old files good taken domain f) in
     let is_header : own ≡ front_header (before ++ here) x.header = owns ∙ ap (front_header (before ++ here)) (sym header) in
-    let behind : here ++ (xs ++ x ∷ []) ≡ (here ++ xs) ++ r.given ∷ [] = sym (append_assoc here xs (x ∷ [])) ∙ ap (λ (y : Message). (here ++ xs) ++ y ∷ []) (sym same) in
-    let file = f.file ++ (r.lead ++ m ∷ []) in
-    let writes : Writes before here (f.front.messages ++ m ∷ []) (xs ++ r.given ∷ []) file = writes_more before here f.front.messages xs f.file m r.given r.lead f.writes r.read r.is in
     record {
+      front = record { messages = ms; given = xs };
       has_front = record {
         parts = f.parts;
         are = f.are;
-        messages = f.messages ∙ ap (λ (g : Header). withdrawals g f.parts ++ definitions (stamp_of g) p.defined) is_header;
-        records = f.records;
+        messages = ap (λ (g : Header). withdrawals g f.parts ++ definitions (stamp_of g) p.defined) is_header;
+        records = f.front.no_records;
       };
-      file = file;
-      writes = subst (λ (y : Message). Writes before here (f.front.messages ++ m ∷ []) (xs ++ y ∷ []) file) same writes;
-      octets_are = appended old mid new lead m r.lead m refl r.octets_are first second ∙ ap (λ (w : List ℕ). w ++ (octets_of r.lead ++ m)) f.octets_are
-          ∙ sym (octets-append f.file (r.lead ++ m ∷ []) ∙ ap (λ (w : List ℕ). octets_of f.file ++ w) (octets-push r.lead m));
-      keeps = subst (Keeps t before) (sym behind) r.keeps;
-      counts = subst (IsCountOf c) same r.counts;
+      file = f.front.file ++ (r.records.lead ++ m ∷ []);
+      writes = subst (λ (y : Message). Writes before here (ms ++ m ∷ []) (xs ++ y ∷ []) (f.front.file ++ (r.records.lead ++ m ∷ []))) same (writes_one before here s t ms ds m old new c f.front r);
+      octets_are = octets_one before here s t ms ds m old new c f.front r;
+      keeps = subst (λ (y : Message). Keeps t before (here ++ (xs ++ y ∷ []))) same (keeps_one before here t xs r.records.given r.records.keeps);
+      counts = subst (IsCountOf c) same r.records.counts;
     }
 
-pub definition_header : (z : Stamp) (u : Template) → IsStamp z → IsTemplate u → (k : Header) × (message_header (templates_message z (u ∷ [])) ≡ Ok k)
-definition_header z u is fits =
-    let size : length (sets_octets (u ∷ [])) ≡ length (template_set u) = ap length (append-nil (template_set u)) in
-    (stamped z (length (sets_octets (u ∷ []))), header_is z (u ∷ []) is (omega (arith, fits.fits, size)))
-
 -- templates that are the same
-pub taken_front : {before here : List Message} {s : State} {h : Header} {vs ws : List WithdrawnTemplate} {octets : List ℕ} → vs ≡ ws → TookFront before here s h vs octets → TookFront before here s h ws octets
-taken_front {before} {here} {s} {h} {vs} {ws} {octets} same f = subst (λ (us : List WithdrawnTemplate). TookFront before here s h us octets) same f
+pub taken_front : {before here : List Message} {s : State} {h : Header} {vs ws : List WithdrawnTemplate} {octets : List ℕ} → vs ≡ ws → TookWithdrawals before here s h vs octets → TookWithdrawals before here s h ws octets
+taken_front {before} {here} {s} {h} {vs} {ws} {octets} same f = subst (λ (us : List WithdrawnTemplate). TookWithdrawals before here s h us octets) same f
 
--- the next of them can be defined
-pub next_can : (before here : List Message) (s : State) (h : Header) (p : Preparation) (u v : Template) (ts rest : List Template) (octets : List ℕ) (f : TakesDefinitions before here s h p ts octets) → ts ≡ u ∷ rest → v ≡ u
-    → CanGoOn (known_after [] (before ++ (here ++ f.took.front.given))) h.domain (v ∷ [])
-next_can before here s h p u v ts rest octets f step same =
-    let ds = known_after [] (before ++ (here ++ f.took.front.given)) in
-    subst (λ (w : Template). CanGoOn ds h.domain (w ∷ [])) (sym same) (this_can ds h.domain u rest (subst (CanGoOn ds h.domain) step f.can))
+-- by what a call answers
+pub answered : {A E : Type 0} (result : Result A E) (P : A → Type 0) (Q : E → Type 0) (R : A → Type 0) (S : E → Type 0) → IfOk result P → IfErr result Q → ((a : A) → P a → R a) → ((e : E) → Q e → S e) → MatchResult result R S
+answered (Ok a) P Q R S ok err f g = f a ok
+answered (Err e) P Q R S ok err f g = g e err

@@ -1,6 +1,7 @@
 -- Why a peer ends.
 use Rattle.std.proofs.Common.{◌≡◌, ℕ, List, [], ◌∷◌, ◌++◌, map, Option, refl, sym, ap, subst, ◌∙◌, append_assoc, inl, inr}
 use Rattle.std.specs.Prelude.{◌⊎◌}
+use Rattle.ipfix_message.specs.Domains.{Message}
 use Rattle.ipfix_message.specs.declared.fault.MessageFault.{MessageFault}
 use Rattle.ipfix_message.specs.declared.fault.MessageFault.TheVariants.{OutOfMemory}
 use Rattle.ipfix_session.specs.Given.{octets_of, IsPrefix}
@@ -13,10 +14,10 @@ use Rattle.recording_files.specs.Files.{Contents, FilesView, with_more, with_nex
 use Rattle.recording_files.specs.Recorders.{State}
 use Rattle.recording_files.specs.Sessions.{Stands}
 use Rattle.recording_files.proofs.Going.{stands_cut}
-use Rattle.ipfix_datagrams.specs.Datagrams.{IsTaken}
-use Rattle.recording_peer.specs.Peers.{Taken, known_after_all, all_given, sent_of}
+use Rattle.ipfix_datagrams.specs.Datagrams.{Preparation, IsTaken}
+use Rattle.recording_peer.specs.Peers.{known_after_all, all_given, sent_of}
 use Rattle.recording_peer.specs.Recording.{PeerTold, PeerView, FiledDatagrams, last_file, taken_before, taken_in, HasDatagram, FilesHold, Counts, IsPeer, HasStopped}
-use Rattle.recording_peer.specs.Fronts.{TookDatagram}
+use Rattle.recording_peer.specs.Fronts.{TookDatagram, taken_as}
 use Rattle.recording_peer.proofs.Taking.{holds_turned, file_with, octets_with, taken_with, fronts_with}
 
 -- other files with the same octets
@@ -63,11 +64,12 @@ stops_out fault first v s filed c m memory p told = record {
     of_message f = OfMessage f
 
 -- a call to write failed
-pub stops_cut : (first v after : FilesView) (s : PeerView) (t : State) (filed : FiledDatagrams) (u : Taken) (octets front : List ℕ) (count : MessageCount) (c : PeerTold) (p : IsPeer first v s filed)
-    → IsTaken (known_after_all (taken_in filed)) u.datagram u.preparation u.given → (k : TookDatagram (all_given (taken_before filed)) (all_given filed.here) t u octets count)
-    → IsPrefix front octets → after ≡ failing (with_more v front) → c ≡ s.told → HasStopped NotWritten first after c filed u.datagram
-stops_cut first v after s t filed u octets front count c p taken k begins is told =
+pub stops_cut : (first v after : FilesView) (s : PeerView) (t : State) (filed : FiledDatagrams) (m : List ℕ) (q : Preparation) (x : Message) (octets front : List ℕ) (count : MessageCount) (c : PeerTold) (p : IsPeer first v s filed)
+    → IsTaken (known_after_all (taken_in filed)) m q x → (k : TookDatagram (all_given (taken_before filed)) (all_given filed.here) t m q x octets count)
+    → IsPrefix front octets → after ≡ failing (with_more v front) → c ≡ s.told → HasStopped NotWritten first after c filed m
+stops_cut first v after s t filed m q x octets front count c p taken k begins is told =
     let h = p.holds in
+    let u = taken_as m q k.front x in
     record {
       fails = ap (λ (w : FilesView). w.failed) is ∙ ap one_more p.not_failed;
       stops = inl (record {
@@ -89,7 +91,7 @@ stops_cut first v after s t filed u octets front count c p taken k begins is tol
           taken = taken_with filed u h.taken taken;
           fronts = fronts_with filed u h.fronts k.has_front;
           file = h.file ++ k.file;
-          whole = file_with filed u t octets count h.file h.last k;
+          whole = file_with filed m q x t octets count h.file h.last k;
           front = (begins.0, octets_with h.file k.file octets k.octets_are ∙ ap (λ (w : List ℕ). octets_of h.file ++ w) begins.1 ∙ sym (append_assoc (octets_of h.file) front begins.0));
         });
         counted = subst (λ (w : PeerTold). Counts w filed) (sym told) p.counted;

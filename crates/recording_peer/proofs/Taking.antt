@@ -16,11 +16,11 @@ use Rattle.recording_files.specs.Sessions.{Stands}
 use Rattle.recording_files.proofs.Growing.{writes-append}
 use Rattle.recording_files.proofs.Going.{empty_part, stands_first, stands_more, stands_turned}
 use Rattle.ipfix_message.specs.declared.record.Template.{Template}
-use Rattle.ipfix_datagrams.specs.Datagrams.{none_known, known_with, IsTaken}
+use Rattle.ipfix_datagrams.specs.Datagrams.{none_known, known_with, Preparation, IsTaken}
 use Rattle.ipfix_datagrams.specs.Reaches.{reaches_of}
 use Rattle.recording_peer.specs.Peers.{Taken, AreTaken, HasFront, HaveFronts, PeerFile, givens, known_after_all, messages_with, given_with, all_messages, all_given, sent_of}
 use Rattle.recording_peer.specs.Recording.{PeerTold, PeerView, FiledDatagrams, none_filed, taken_before, taken_in, filed_with, finished_now, file_finished, last_file, HasDatagram, IsLastFile, FilesHold, Counts, KeepsListed, IsPeer}
-use Rattle.recording_peer.specs.Fronts.{TookDatagram}
+use Rattle.recording_peer.specs.Fronts.{TookDatagram, taken_as}
 use Rattle.recording_peer.proofs.PeerFiles.{givens-append, all_given-append, all_given-push, all_messages-push, taken-push, fronts-push, taken_in-push, all_finished, now_is, in-finished, givens-finished, all_given-finished, known-push, sent_is, recorded_with}
 
 -- ---- the first file
@@ -115,9 +115,10 @@ fronts_with filed t have has =
     subst (HaveFronts []) (sym (taken_in-push filed t)) (fronts-push [] (taken_in filed) t have (subst (λ (b : List Message). HasFront b t) (sym (all_given-append (taken_before filed) filed.here)) has))
 
 -- the file with it
-pub file_with : (filed : FiledDatagrams) (t : Taken) (s : State) (octets : List ℕ) (c : MessageCount) (file : List (List ℕ)) → IsLastFile filed file
-    → (k : TookDatagram (all_given (taken_before filed)) (all_given filed.here) s t octets c) → IsLastFile (filed_with filed t) (file ++ k.file)
-file_with filed t s octets c file last k =
+pub file_with : (filed : FiledDatagrams) (m : List ℕ) (q : Preparation) (x : Message) (s : State) (octets : List ℕ) (c : MessageCount) (file : List (List ℕ)) → IsLastFile filed file
+    → (k : TookDatagram (all_given (taken_before filed)) (all_given filed.here) s m q x octets c) → IsLastFile (filed_with filed (taken_as m q k.front x)) (file ++ k.file)
+file_with filed m q x s octets c file last k =
+    let t = taken_as m q k.front x in
     let b = all_given (taken_before filed) in
     let more : Writes b [] (all_messages filed.here ++ messages_with t) (all_given filed.here ++ given_with t) (file ++ k.file) = writes-append b [] (all_messages filed.here) (messages_with t) (all_given filed.here) (given_with t) file k.file last k.writes in
     subst (λ (ms : List (List ℕ)). Writes b [] ms (all_given (filed.here ++ t ∷ [])) (file ++ k.file)) (sym (all_messages-push filed.here t))
@@ -131,14 +132,15 @@ octets_with file more octets is = octets-append file more ∙ ap (λ (w : List �
 pub givens_with : (here : List Taken) (t : Taken) → givens (here ++ t ∷ []) ≡ givens here ++ t.given ∷ []
 givens_with here t = givens-append here (t ∷ [])
 
-pub peer_with : (first v after : FilesView) (s t : PeerView) (filed : FiledDatagrams) (u : Taken) (octets : List ℕ) (c : MessageCount) (p : IsPeer first v s filed)
-    → IsTaken (known_after_all (taken_in filed)) u.datagram u.preparation u.given → (k : TookDatagram (all_given (taken_before filed)) (all_given filed.here) t.recorder u octets c)
-    → after ≡ with_more v octets → Counted t.told.counts (givens (taken_before filed)) (givens filed.here ++ u.given ∷ [])
-    → t.told.advances ≡ reaches_of (givens (taken_in filed) ++ u.given ∷ []) → t.ended ≡ None → KeepsListed t.withdrawn (known_with (known_after_all (taken_in filed)) u.given)
-    → IsPeer first after t (filed_with filed u)
-peer_with first v after s t filed u octets c p taken k is counted noted on withdrawn =
+pub peer_with : (first v after : FilesView) (s t : PeerView) (filed : FiledDatagrams) (m : List ℕ) (q : Preparation) (x : Message) (octets : List ℕ) (c : MessageCount) (p : IsPeer first v s filed)
+    → IsTaken (known_after_all (taken_in filed)) m q x → (k : TookDatagram (all_given (taken_before filed)) (all_given filed.here) t.recorder m q x octets c)
+    → after ≡ with_more v octets → Counted t.told.counts (givens (taken_before filed)) (givens filed.here ++ x ∷ [])
+    → t.told.advances ≡ reaches_of (givens (taken_in filed) ++ x ∷ []) → t.ended ≡ None → KeepsListed t.withdrawn (known_with (known_after_all (taken_in filed)) x)
+    → IsPeer first after t (filed_with filed (taken_as m q k.front x))
+peer_with first v after s t filed m q x octets c p taken k is counted noted on withdrawn =
     let h = p.holds in
-    let all : givens (taken_in (filed_with filed u)) ≡ givens (taken_in filed) ++ u.given ∷ [] = ap givens (taken_in-push filed u) ∙ givens-append (taken_in filed) (u ∷ []) in
+    let u = taken_as m q k.front x in
+    let all : givens (taken_in (filed_with filed u)) ≡ givens (taken_in filed) ++ x ∷ [] = ap givens (taken_in-push filed u) ∙ givens-append (taken_in filed) (u ∷ []) in
     record {
       holds = record {
         taken = taken_with filed u h.taken taken;
@@ -148,7 +150,7 @@ peer_with first v after s t filed u octets c p taken k is counted noted on withd
         are = h.are;
         earlier = h.earlier;
         file = h.file ++ k.file;
-        last = file_with filed u t.recorder octets c h.file h.last k;
+        last = file_with filed m q x t.recorder octets c h.file h.last k;
         stands = stands_more first.contents v.contents after.contents (map sent_of h.files) (sent_of (last_file filed.here h.file)) (sent_of (last_file (filed.here ++ u ∷ []) (h.file ++ k.file))) octets (ap (λ (w : FilesView). w.contents) is) (octets_with h.file k.file octets k.octets_are) h.stands;
       };
       not_failed = ap (λ (w : FilesView). w.failed) is ∙ p.not_failed;

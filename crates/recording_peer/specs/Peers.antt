@@ -1,12 +1,10 @@
 -- The datagrams of a peer, and its files (RFC 7011, sections 8.1, 8.4 and 10.3).
 use Rattle.std.specs.Prelude.{◌≡◌, ◌≢◌, ℕ, List, [], ◌∷◌, ◌++◌, take, drop, map, flat_map}
-use Rattle.std.specs.Option.{unwrap_or}
 use Rattle.ipfix_wire.specs.declared.header.Header.{Header}
 use Rattle.ipfix_message.specs.Domains.{Message}
 use Rattle.ipfix_message.specs.declared.record.DataRecord.{DataRecord}
 use Rattle.ipfix_message.specs.declared.record.Template.{Template}
 use Rattle.ipfix_session.specs.Given.{records_in}
-use Rattle.ipfix_session.specs.Ledger.{messages_of, due_of}
 use Rattle.recording_files.specs.Recordings.{Part, stamp_for}
 use Rattle.recording_files.specs.Preambles.{templates_message}
 use Rattle.ipfix_message.specs.declared.stamp.Stamp.{Stamp}
@@ -53,7 +51,7 @@ records_over_udp ts = records_in (givens ts)
 
 -- the header of a message of the recorder's own: that of the datagram, with the sequence number that is due, if one is known
 abbrev pub front_header : List Message → Header → Header
-front_header before h = record h { sequence = unwrap_or (due_of (messages_of h.domain before)) h.sequence }
+front_header before h = record h { sequence = (stamp_for before h).sequence }
 
 -- templates in parts, as many in each as a message withdraws at most, and those that are left in the last
 abbrev pub InParts : List WithdrawnTemplate → List (List WithdrawnTemplate) → Type 0

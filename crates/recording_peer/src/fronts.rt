@@ -1,26 +1,44 @@
 //! The messages of the recorder's own in front of a datagram.
 
-ghost use Rattle.std.specs.Prelude.{◌≡◌, ◌≤◌, ◌⊎◌, ◌++◌, ◌∷◌, [], List, Ok, true, All, length, MatchResult};
+ghost use Rattle.std.specs.Prelude.{◌≡◌, ◌≤◌, List, Ok, All, length, IfOk, IfErr};
 ghost use Rattle.std.specs.BTreeMap.{values};
-ghost use Rattle.ipfix_message.specs.Alike.{knows};
-ghost use Rattle.ipfix_message.specs.Domains.{Message, message_header};
-ghost use Rattle.ipfix_message.specs.declared.fault.MessageFault.TheVariants.{OutOfMemory};
-ghost use Rattle.ipfix_session.specs.Given.{known_after};
+ghost use Rattle.ipfix_message.specs.Domains.{Message, message_header, message_gives};
+ghost use Rattle.ipfix_message.specs.Outcome.{Fails};
 ghost use Rattle.ipfix_message.specs.WrittenTemplates.{IsTemplate};
 ghost use Rattle.ipfix_datagrams.specs.Attempts.{IsSound, preparation_of};
-ghost use Rattle.ipfix_datagrams.specs.Datagrams.{Known, IsTaken, with_withdrawn};
+ghost use Rattle.ipfix_datagrams.specs.Datagrams.{Known, Preparation, IsTaken};
 ghost use Rattle.ipfix_datagrams.specs.Withdrawals.{HasTemplateId};
-ghost use Rattle.ipfix_datagrams.specs.declared.withdrawn_template.WithdrawnTemplate.{WithdrawnTemplate as Withdrawn};
 ghost use Rattle.ipfix_datagrams.specs.declared.withdrawal.TheConstants.{MOST_WITHDRAWN};
 ghost use Rattle.recording_files.specs.Recorders.{Keeps};
-ghost use Rattle.recording_peer.specs.Peers.{Front};
-ghost use Rattle.recording_peer.specs.Fronts.{CanGoOn, TookOne, TookDefinition, TookFront, TookPrepared, TookDatagram, taken_as};
+ghost use Rattle.recording_peer.specs.Fronts.{domains_after, HasAppeared, CanWithdraw, CanDefineNext, OrOutOfMemory, Took, TookOne, TookDefinition, TookWithdrawals, TakesDefinitions, TookPrepared, TookDatagram};
 
 use ipfix_datagrams::{DatagramReading, MOST_WITHDRAWN, WithdrawnTemplate, append_withdrawals};
 use ipfix_message::{MessageFault, Stamp, Template, Templates, append_template_message, header_of};
 use ipfix_wire::Header;
 use recording_files::{MessageCount, Recorder};
 use std::alloc::Global;
+
+// Takes a message, whose header was read, and appends what precedes it in its file, and the message. It answers
+// what the message adds to the counts.
+fn take_and_append(
+    alloc: Global,
+    recorder: &mut Recorder,
+    header: &Header,
+    message: &[u8],
+    out: &mut Vec<u8>,
+) -> Result<MessageCount, MessageFault>
+    requires { message_header message.now ≡ Ok header.now }
+    ensures took { (before here : List Message) → Keeps recorder.old before here
+        → IfOk result (Took before here recorder.new message.now out.old.items out.new.items) }
+    ensures fails { (before here : List Message) → Keeps recorder.old before here → IfErr result
+        (λ fault. Fails fault (message_gives (domains_after before here) message.now)) }
+{
+    let mut lead = Vec::new(alloc);
+    let count = recorder.take_message(alloc, header, message, &mut lead)?;
+    out.extend_from_slice(&lead)?;
+    out.extend_from_slice(message)?;
+    Ok(count)
+}
 
 // Takes a message that withdraws templates, and appends what precedes it and the message.
 fn take_one(
@@ -33,18 +51,13 @@ fn take_one(
     requires few { length templates.now ≤ MOST_WITHDRAWN }
     requires ids { All HasTemplateId templates.now }
     ensures { (before here : List Message) → Keeps recorder.old before here
-        → knows (known_after [] (before ++ here)) header.now.domain ≡ true
-        → MatchResult result
-        (λ _. TookOne before here recorder.new header.now templates.now out.old.items out.new.items)
-        (λ fault. fault ≡ OutOfMemory) }
+        → HasAppeared before here header.now.domain → OrOutOfMemory result
+        (λ _. TookOne before here recorder.new header.now templates.now out.old.items out.new.items) }
 {
     let mut message = Vec::new(alloc);
     append_withdrawals(header, templates, &mut message)?;
     let own = header_of(&message)?;
-    let mut lead = Vec::new(alloc);
-    let _ = recorder.take_message(alloc, &own, &message, &mut lead)?;
-    out.extend_from_slice(&lead)?;
-    out.extend_from_slice(&message)?;
+    let _ = take_and_append(alloc, recorder, &own, &message, out)?;
     Ok(())
 }
 
@@ -59,10 +72,9 @@ fn take_withdrawals(
 ) -> Result<(), MessageFault>
     requires { All HasTemplateId withdrawn.now }
     ensures { (before here : List Message) → Keeps recorder.old before here
-        → (withdrawn.now ≡ []) ⊎ (knows (known_after [] (before ++ here)) header.now.domain ≡ true)
-        → MatchResult result
-        (λ _. TookFront before here recorder.new header.now withdrawn.now out.new.items)
-        (λ fault. fault ≡ OutOfMemory) }
+        → CanWithdraw before here header.now.domain withdrawn.now
+        → OrOutOfMemory result (λ _. TookWithdrawals before here recorder.new header.now
+        withdrawn.now out.new.items) }
 {
     out.clear();
     let mut rest = withdrawn;
@@ -84,20 +96,15 @@ fn take_definition(
 ) -> Result<(), MessageFault>
     requires { IsTemplate template.now }
     ensures { (before here : List Message) → Keeps recorder.old before here
-        → CanGoOn (known_after [] (before ++ here)) stamp.domain (template.now ∷ [])
-        → MatchResult result
-        (λ _. TookDefinition before here recorder.new stamp template.now out.old.items
-        out.new.items)
-        (λ fault. fault ≡ OutOfMemory) }
+        → CanDefineNext before here stamp.domain template.now
+        → OrOutOfMemory result (λ _. TookDefinition before here recorder.new stamp
+        template.now out.old.items out.new.items) }
 {
     let mut body = Vec::new(alloc);
     let mut message = Vec::new(alloc);
     append_template_message(stamp, template, &mut body, &mut message)?;
     let own = header_of(&message)?;
-    let mut lead = Vec::new(alloc);
-    let _ = recorder.take_message(alloc, &own, &message, &mut lead)?;
-    out.extend_from_slice(&lead)?;
-    out.extend_from_slice(&message)?;
+    let _ = take_and_append(alloc, recorder, &own, &message, out)?;
     Ok(())
 }
 
@@ -109,14 +116,10 @@ fn take_definitions(
     defined: &Templates,
     out: &mut Vec<u8>,
 ) -> Result<(), MessageFault>
-    ensures { (before here : List Message) (withdrawn : List Withdrawn)
-        → TookFront before here recorder.old header.now withdrawn out.old.items
-        → CanGoOn (with_withdrawn (known_after [] (before ++ here)) header.now.domain withdrawn)
-        header.now.domain (values defined.now)
-        → MatchResult result
-        (λ _. TookPrepared before here recorder.new header.now
-        (record { withdrawn = withdrawn; defined = values defined.now }) out.new.items)
-        (λ fault. fault ≡ OutOfMemory) }
+    ensures { (before here : List Message) (p : Preparation)
+        → TakesDefinitions before here recorder.old header.now p (values defined.now)
+        out.old.items → OrOutOfMemory result
+        (λ _. TookPrepared before here recorder.new header.now p out.new.items) }
 {
     let stamp = Stamp {
         export_time: header.export_time,
@@ -145,12 +148,10 @@ pub fn take_datagram(
     requires header { message_header datagram.now ≡ Ok header.now }
     requires ids { All HasTemplateId reading.now.withdrawn.items }
     ensures { (before here : List Message) (k : Known) (x : Message)
-        → Keeps recorder.old before here → k.files ≡ known_after [] (before ++ here) → IsSound k
-        → IsTaken k datagram.now (preparation_of reading.now) x
-        → MatchResult result
-        (λ count. (front : Front) × TookDatagram before here recorder.new
-        (taken_as datagram.now (preparation_of reading.now) front x) out.new.items count)
-        (λ fault. fault ≡ OutOfMemory) }
+        → Keeps recorder.old before here → k.files ≡ domains_after before here → IsSound k
+        → IsTaken k datagram.now (preparation_of reading.now) x → OrOutOfMemory result
+        (TookDatagram before here recorder.new datagram.now (preparation_of reading.now) x
+        out.new.items) }
 {
     let own = Header {
         length: header.length,
@@ -160,9 +161,5 @@ pub fn take_datagram(
     };
     take_withdrawals(alloc, recorder, &own, &reading.withdrawn, out)?;
     take_definitions(alloc, recorder, &own, &reading.defined, out)?;
-    let mut lead = Vec::new(alloc);
-    let count = recorder.take_message(alloc, header, datagram, &mut lead)?;
-    out.extend_from_slice(&lead)?;
-    out.extend_from_slice(datagram)?;
-    Ok(count)
+    take_and_append(alloc, recorder, header, datagram, out)
 }

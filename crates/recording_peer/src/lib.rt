@@ -1,5 +1,7 @@
 //! A peer that sends over UDP in files, each of which can be read by itself as a session: its datagrams as
-//! they came. A message that withdraws the templates that a datagram changes stands in front of it.
+//! they came. In front of a datagram are the messages that a session of a connection needs there: they
+//! withdraw the templates that the datagram replaces, and define those again that a withdrawal ended in the
+//! files and that the datagram has data sets of.
 #![tactic(auto)]
 
 mod filing;

@@ -1,10 +1,13 @@
 use Rattle.std.proofs.Common.{◌≡◌, ◌++◌, ℕ, Option, refl, ap, ◌∙◌, rules}
 use Rattle.std.specs.Option.{unwrap_or}
 use Rattle.std.proofs.lemmas.Result.{err_from_is_err_and}
+use Rattle.ipfix_message.specs.Domains.{message_gives}
+use Rattle.ipfix_message.specs.Outcome.{Fails}
+use Rattle.ipfix_message.specs.declared.fault.MessageFault.TheVariants.{OutOfMemory}
 use Rattle.ipfix_datagrams.specs.Attempts.{preparation_of}
 use Rattle.recording_peer.specs.Peers.{front_header}
-use Rattle.recording_peer.specs.Fronts.{TookFront, TookPrepared}
-use Rattle.recording_peer.proofs.Fronting.{with_sequence, front_can, taken_front, datagram_fails, took_datagram}
+use Rattle.recording_peer.specs.Fronts.{TookWithdrawals, TookPrepared, domains_after}
+use Rattle.recording_peer.proofs.Fronting.{with_sequence, front_can, taken_front, none_defined, datagram_fails, took_datagram, answered}
 use Rattle.recording_peer.proofs.fronts.take_datagram.Goals as goal
 
 pub returns-in_err-take_withdrawals : goal.returns-in_err-take_withdrawals
@@ -15,25 +18,15 @@ returns-in_err-take_withdrawals c = λ before here k x keeps files sound taken.
 
 pub returns-in_err-take_definitions : goal.returns-in_err-take_definitions
 returns-in_err-take_definitions c = λ before here k x keeps files sound taken.
-    let h = c.args.header.now in
-    let ws = c.args.reading.now.withdrawn.items in
-    let own = with_sequence h c.unwrap_or.result in
-    let can = front_can k before here c.args.datagram.now h (preparation_of c.args.reading.now) x files sound c.requires.header taken in
-    let f : TookFront before here c.take_withdrawals.new.recorder own ws c.take_withdrawals.new.out.items = taken_front c.deref.ensures.value (c.in_ok-take_withdrawals.ensures before here keeps (rw c.deref.ensures.value can.0)) in
-    let p = err_from_is_err_and c.from_residual-in_err-take_definitions.result c.from_residual-in_err-take_definitions.ensures.1 in
-    rw (p.1, p.2) (c.in_err-take_definitions.ensures before here ws f can.1)
-
-pub returns-in_err-count : goal.returns-in_err-count
-returns-in_err-count c = λ before here k x keeps files sound taken.
     let m = c.args.datagram.now in
     let h = c.args.header.now in
     let q = preparation_of c.args.reading.now in
     let own = with_sequence h c.unwrap_or.result in
     let can = front_can k before here m h q x files sound c.requires.header taken in
-    let e : TookFront before here c.take_withdrawals.new.recorder own q.withdrawn c.take_withdrawals.new.out.items = taken_front c.deref.ensures.value (c.in_ok-take_withdrawals.ensures before here keeps (rw c.deref.ensures.value can.0)) in
-    let f : TookPrepared before here c.take_definitions.new.recorder own q c.take_definitions.new.out.items = c.in_ok-take_definitions.ensures before here q.withdrawn e can.1 in
-    let p = err_from_is_err_and c.from_residual-in_err-count.result c.from_residual-in_err-count.ensures.1 in
-    rw (p.1, p.2) (datagram_fails k before here c.take_definitions.new.recorder m h own q x c.take_definitions.new.out.items c.in_err-count.field-0.0 files c.requires.header taken refl f (c.in_err-count.ensures.fails before (here ++ f.front.given) f.keeps))
+    let e : TookWithdrawals before here c.take_withdrawals.new.recorder own q.withdrawn c.take_withdrawals.new.out.items = taken_front c.deref.ensures.value (c.in_ok-take_withdrawals.ensures before here keeps (rw c.deref.ensures.value can.0)) in
+    let d = none_defined before here c.take_withdrawals.new.recorder own q c.take_withdrawals.new.out.items e can.1 in
+    let p = err_from_is_err_and c.from_residual-in_err-take_definitions.result c.from_residual-in_err-take_definitions.ensures.1 in
+    rw (p.1, p.2) (c.in_err-take_definitions.ensures before here q d)
 
 pub returns : goal.returns
 returns c = λ before here k x keeps files sound taken.
@@ -42,13 +35,12 @@ returns c = λ before here k x keeps files sound taken.
     let q = preparation_of c.args.reading.now in
     let own = with_sequence h c.unwrap_or.result in
     let can = front_can k before here m h q x files sound c.requires.header taken in
-    let e : TookFront before here c.take_withdrawals.new.recorder own q.withdrawn c.take_withdrawals.new.out.items = taken_front c.deref.ensures.value (c.in_ok-take_withdrawals.ensures before here keeps (rw c.deref.ensures.value can.0)) in
-    let f : TookPrepared before here c.take_definitions.new.recorder own q c.take_definitions.new.out.items = c.in_ok-take_definitions.ensures before here q.withdrawn e can.1 in
+    let e : TookWithdrawals before here c.take_withdrawals.new.recorder own q.withdrawn c.take_withdrawals.new.out.items = taken_front c.deref.ensures.value (c.in_ok-take_withdrawals.ensures before here keeps (rw c.deref.ensures.value can.0)) in
+    let d = none_defined before here c.take_withdrawals.new.recorder own q c.take_withdrawals.new.out.items e can.1 in
+    let f : TookPrepared before here c.take_definitions.new.recorder own q c.take_definitions.new.out.items = c.in_ok-take_definitions.ensures before here q d in
     let number : c.unwrap_or.result ≡ unwrap_or c.due.result h.sequence = search rules in
     let owns : own ≡ front_header (before ++ here) h = ap (with_sequence h) (number ∙ ap (λ (o : Option ℕ). unwrap_or o h.sequence) (c.due.ensures before here keeps)) in
-    let first : c.extend_from_slice.new.self.items ≡ c.take_definitions.new.out.items ++ c.take_message.new.lead.items = search rules in
-    let second : c.extend_from_slice-2.new.self.items ≡ c.extend_from_slice.new.self.items ++ m = search rules in (
-      f.front,
-      took_datagram k before here c.take_definitions.new.recorder c.take_message.new.self m h own q x c.take_definitions.new.out.items c.extend_from_slice.new.self.items c.extend_from_slice-2.new.self.items c.take_message.new.lead.items c.in_ok-count.count
-          files c.requires.header taken owns f (c.in_ok-count.ensures.records before (here ++ f.front.given) f.keeps) first second,
-    )
+    answered c.take_and_append.result _ (λ fault. Fails fault (message_gives (domains_after before (here ++ f.front.given)) m)) _ (λ fault. fault ≡ OutOfMemory)
+    (c.take_and_append.ensures.took before (here ++ f.front.given) f.front.keeps) (c.take_and_append.ensures.fails before (here ++ f.front.given) f.front.keeps)
+    (λ count r. took_datagram k before here c.take_definitions.new.recorder c.take_and_append.new.recorder m h own q x c.take_definitions.new.out.items c.take_and_append.new.out.items count files c.requires.header taken owns f r)
+    (λ fault fails. datagram_fails k before here c.take_definitions.new.recorder m h own q x c.take_definitions.new.out.items fault files c.requires.header taken refl f fails)

@@ -1,4 +1,4 @@
-use Rattle.std.proofs.Common.{◌≡◌, ◌++◌, ◌∷◌, [], ◌∙◌, ap, arith, rules}
+use Rattle.std.proofs.Common.{◌≡◌, ◌∷◌, [], ◌∙◌, ap, arith, rules}
 use Rattle.std.proofs.lemmas.Result.{err_from_is_err_and}
 use Rattle.ipfix_message.specs.Domains.{message_header}
 use Rattle.recording_files.specs.Preambles.{IsStamp, templates_message}
@@ -16,14 +16,14 @@ returns-in_err-own c = λ before here keeps can.
     let p = err_from_is_err_and c.from_residual-in_err-own.result c.from_residual-in_err-own.ensures.1 in
     rw (p.1, p.2) (only_memory _ (message_header c.deref.result.now) good.0 c.in_err-own.ensures.gives (ap message_header written ∙ good.1))
 
-pub returns-in_err-take_message : goal.returns-in_err-take_message
-returns-in_err-take_message c = λ before here keeps can.
+pub returns-in_err-take_and_append : goal.returns-in_err-take_and_append
+returns-in_err-take_and_append c = λ before here keeps can.
     let z = c.args.stamp in
     let u = c.args.template.now in
     let is : IsStamp z = record { export_time = omega arith; sequence = omega arith; domain = omega arith } in
     let written : c.deref-2.result.now ≡ templates_message z (u ∷ []) = search rules in
-    let p = err_from_is_err_and c.from_residual-in_err-take_message.result c.from_residual-in_err-take_message.ensures.1 in
-    rw (p.1, p.2) (definition_fails before here z u c.deref-2.result.now _ (reads_definition before here z u is c.requires can) written (c.in_err-take_message.ensures.fails before here keeps))
+    let p = err_from_is_err_and c.from_residual-in_err-take_and_append.result c.from_residual-in_err-take_and_append.ensures.1 in
+    rw (p.1, p.2) (definition_fails before here z u c.deref-2.result.now _ (reads_definition before here z u is c.requires can) written (c.in_err-take_and_append.ensures.fails before here keeps))
 
 pub returns : goal.returns
 returns c = λ before here keeps can.
@@ -31,7 +31,5 @@ returns c = λ before here keeps can.
     let u = c.args.template.now in
     let is : IsStamp z = record { export_time = omega arith; sequence = omega arith; domain = omega arith } in
     let written : c.deref-2.result.now ≡ templates_message z (u ∷ []) = search rules in
-    let first : c.extend_from_slice.new.self.items ≡ c.args.out.now.items ++ c.take_message.new.lead.items = search rules in
-    let second : c.extend_from_slice-2.new.self.items ≡ c.extend_from_slice.new.self.items ++ c.deref-2.result.now = search rules in
-    took_definition before here c.take_message.new.self z u c.deref-2.result.now c.take_message.new.lead.items c.args.out.now.items c.extend_from_slice.new.self.items c.extend_from_slice-2.new.self.items c.in_ok-take_message.field-0
-    (reads_definition before here z u is c.requires can) written (c.in_ok-take_message.ensures.records before here keeps) first second
+    took_definition before here c.take_and_append.new.recorder z u c.deref-2.result.now c.args.out.now.items c.take_and_append.new.out.items c.in_ok-take_and_append.field-0
+    (reads_definition before here z u is c.requires can) written (c.in_ok-take_and_append.ensures.took before here keeps)

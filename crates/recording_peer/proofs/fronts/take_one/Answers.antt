@@ -1,4 +1,4 @@
-use Rattle.std.proofs.Common.{◌≡◌, ◌++◌, ◌∙◌, Ok, ap, rules}
+use Rattle.std.proofs.Common.{◌≡◌, ◌∙◌, Ok, ap, rules}
 use Rattle.std.proofs.lemmas.Result.{err_from_is_err_and}
 use Rattle.ipfix_message.specs.Domains.{message_header}
 use Rattle.ipfix_datagrams.proofs.Readings.{only_memory}
@@ -15,14 +15,14 @@ returns-in_err-own c = λ before here keeps there.
     let p = err_from_is_err_and c.from_residual-in_err-own.result c.from_residual-in_err-own.ensures.1 in
     rw (p.1, p.2) (only_memory _ (message_header c.deref.result.now) (withdrawal_header h ws) c.in_err-own.ensures.gives (ap message_header written ∙ good))
 
-pub returns-in_err-take_message : goal.returns-in_err-take_message
-returns-in_err-take_message c = λ before here keeps there.
+pub returns-in_err-take_and_append : goal.returns-in_err-take_and_append
+returns-in_err-take_and_append c = λ before here keeps there.
     let h = c.args.header.now in
     let ws = c.args.templates.now in
     let written : c.deref-2.result.now ≡ withdrawal_message h ws = search rules in
     let good : message_header (withdrawal_message h ws) ≡ Ok (withdrawal_header h ws) = search rules in
-    let p = err_from_is_err_and c.from_residual-in_err-take_message.result c.from_residual-in_err-take_message.ensures.1 in
-    rw (p.1, p.2) (one_fails before here h ws c.deref-2.result.now _ there good c.requires.ids written (c.in_err-take_message.ensures.fails before here keeps))
+    let p = err_from_is_err_and c.from_residual-in_err-take_and_append.result c.from_residual-in_err-take_and_append.ensures.1 in
+    rw (p.1, p.2) (one_fails before here h ws c.deref-2.result.now _ there good c.requires.ids written (c.in_err-take_and_append.ensures.fails before here keeps))
 
 pub returns : goal.returns
 returns c = λ before here keeps there.
@@ -30,7 +30,4 @@ returns c = λ before here keeps there.
     let ws = c.args.templates.now in
     let written : c.deref-2.result.now ≡ withdrawal_message h ws = search rules in
     let good : message_header (withdrawal_message h ws) ≡ Ok (withdrawal_header h ws) = search rules in
-    let first : c.extend_from_slice.new.self.items ≡ c.args.out.now.items ++ c.take_message.new.lead.items = search rules in
-    let second : c.extend_from_slice-2.new.self.items ≡ c.extend_from_slice.new.self.items ++ c.deref-2.result.now = search rules in
-    took_one before here c.take_message.new.self h ws c.deref-2.result.now c.take_message.new.lead.items c.args.out.now.items c.extend_from_slice.new.self.items c.extend_from_slice-2.new.self.items c.in_ok-take_message.field-0
-    there good c.requires.ids written (c.in_ok-take_message.ensures.records before here keeps) first second
+    took_one before here c.take_and_append.new.recorder h ws c.deref-2.result.now c.args.out.now.items c.take_and_append.new.out.items c.in_ok-take_and_append.field-0 there good c.requires.ids written (c.in_ok-take_and_append.ensures.took before here keeps)

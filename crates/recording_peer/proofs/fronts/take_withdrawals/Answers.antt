@@ -18,7 +18,7 @@ returns-in_err-take_one c = λ before here keeps there.
     let f = c.loop-rest.invariant.takes before here keeps there in
     let known = still_known before here c.loop-rest.recorder c.args.header.now c.args.withdrawn.now rest c.loop-rest.out.items f there (some_in rest (sym c.is_empty.ensures ∙ c.loop-rest-test.true)) in
     let p = err_from_is_err_and c.from_residual.result c.from_residual.ensures.1 in
-    rw (p.1, p.2) (c.in_err-take_one.ensures before (here ++ f.took.front.given) f.took.keeps known)
+    rw (p.1, p.2) (c.in_err-take_one.ensures before (here ++ f.front.given) f.front.keeps known)
 
 pub loop-rest-preserved : goal.loop-rest-preserved
 loop-rest-preserved c =
@@ -32,7 +32,7 @@ loop-rest-preserved c =
           let f = c.loop-rest.invariant.takes before here keeps there in
           let known = still_known before here c.loop-rest.recorder h ws rest c.loop-rest.out.items f there some in
           took_more before here c.loop-rest.recorder c.take_one.new.recorder h ws rest c.split_at.result.0.now c.split_at.result.1.now c.min.result c.loop-rest.out.items c.take_one.new.out.items f some c.min.ensures c.split_at.ensures.front c.split_at.ensures.back
-          (c.in_ok-take_one.ensures before (here ++ f.took.front.given) f.took.keeps known);
+          (c.in_ok-take_one.ensures before (here ++ f.front.given) f.front.keeps known);
     }
 
 pub returns : goal.returns

@@ -56,8 +56,8 @@ returns-in_err-append-clause-stopped g c = λ first filed p.
     let front : IsPrefix cut.0 octets = subst (λ (w : List ℕ). IsPrefix cut.0 w) c.deref.ensures.value cut.1 in
     let told = told_with (c.in_ok-wait_for.ensures.told ∙ c.clear_waiting.ensures.told) c.in_ok-make_room.ensures.same in
     let e = err_from_is_err_and c.from_residual-in_err-append.result c.from_residual-in_err-append.ensures.1 in
-    rw (e.1, e.2) (stops_cut first v (g.F.FileSeries.seen c.append.new.self) inside c.take_datagram.new.recorder filed (taken_as m q k.0 x) octets cut.0 c.in_ok-count.count
-    (counts_as c.wait_for.new.self.told c.make_room.new.self.reaches) now p.taken k.1 front cut.2 told)
+    rw (e.1, e.2) (stops_cut first v (g.F.FileSeries.seen c.append.new.self) inside c.take_datagram.new.recorder filed m q x octets cut.0 c.in_ok-count.count
+    (counts_as c.wait_for.new.self.told c.make_room.new.self.reaches) now p.taken k front cut.2 told)
 
 pub returns-clause-recorded : goal.returns-clause-recorded
 returns-clause-recorded g c = λ first filed p.
@@ -80,12 +80,12 @@ returns-clause-recorded g c = λ first filed p.
     let told = c.in_ok-wait_for.ensures.told ∙ c.clear_waiting.ensures.told in
     let waits : c.wait_for.new.self.waiting ≡ c.in_ok-count.count ∷ [] = c.in_ok-wait_for.ensures.waits ∙ ap (λ (cs : List MessageCount). cs ++ c.in_ok-count.count ∷ []) c.clear_waiting.ensures.waiting in
     let counted = c.count_waiting.ensures before (givens filed.here) (x ∷ []) (subst (λ (t : Told). Counted t before (givens filed.here)) (sym told) now.counted.counted)
-    (subst (λ (cs : List MessageCount). AreCountsOf cs (x ∷ [])) (sym waits) (k.1.counts, tt)) in
-    let noted = c.note.ensures (givens (taken_in filed)) x (c.in_ok-make_room.ensures.same ∙ now.counted.noted) (ap (λ (h : Header). h.domain) k.1.counts.header) (ap (λ (h : Header). h.sequence) k.1.counts.header) k.1.counts.records in
+    (subst (λ (cs : List MessageCount). AreCountsOf cs (x ∷ [])) (sym waits) (k.counts, tt)) in
+    let noted = c.note.ensures (givens (taken_in filed)) x (c.in_ok-make_room.ensures.same ∙ now.counted.noted) (ap (λ (h : Header). h.domain) k.counts.header) (ap (λ (h : Header). h.sequence) k.counts.header) k.counts.records in
     record {
-      next = taken_as m q k.0 x;
+      next = taken_as m q k.front x;
       datagram = refl;
-      counts = k.1.counts;
-      is = peer_with first v (g.F.FileSeries.seen c.append.new.self) inside (record { recorder = c.take_datagram.new.recorder; withdrawn = kept c.keep_withdrawn.new.withdrawn.entries; told = counts_as c.count_waiting.new.self.told c.note.new.self.reaches; ended = inside.ended }) filed (taken_as m q k.0 x) c.take_datagram.new.out.items c.in_ok-count.count
-          now p.taken k.1 (c.in_ok-append.ensures ∙ ap (with_more v) c.deref.ensures.value) counted noted now.goes_on withdrawn;
+      counts = k.counts;
+      is = peer_with first v (g.F.FileSeries.seen c.append.new.self) inside (record { recorder = c.take_datagram.new.recorder; withdrawn = kept c.keep_withdrawn.new.withdrawn.entries; told = counts_as c.count_waiting.new.self.told c.note.new.self.reaches; ended = inside.ended }) filed m q x c.take_datagram.new.out.items c.in_ok-count.count
+          now p.taken k (c.in_ok-append.ensures ∙ ap (with_more v) c.deref.ensures.value) counted noted now.goes_on withdrawn;
     }
