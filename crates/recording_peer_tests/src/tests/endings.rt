@@ -1,11 +1,11 @@
 //! How a peer ends: where a file isn't written, and where memory runs out.
 
 use super::datagrams::*;
-use super::told::{Told, end, finish, new_peer, take};
+use super::told::{Answer, Told, end, finish, is_recorded, new_peer, take};
 use ipfix_message::MessageFault;
 use ipfix_session::SessionFault;
 use recording_files::{MemoryFiles, RecordFault};
-use recording_peer::{PeerAnswer, PeerRecorder};
+use recording_peer::PeerRecorder;
 use std::alloc::Global;
 use std::test::*;
 use worked_examples::recordings::{FIRST_OF_1, FIRST_OF_2};
@@ -23,7 +23,7 @@ fn is_refused(alloc: Global, peer: &mut PeerRecorder, files: &mut MemoryFiles) -
 fn fill(alloc: Global) -> (MemoryFiles, Told, bool) {
     let mut peer = new_peer(alloc);
     let mut files = MemoryFiles::new(alloc, 100);
-    let mut right = take(alloc, &mut peer, FIRST_OF_1, &mut files) == Ok(PeerAnswer::Recorded);
+    let mut right = is_recorded(take(alloc, &mut peer, FIRST_OF_1, &mut files));
     for _ in 0..3 {
         let refused = is_refused(alloc, &mut peer, &mut files);
         right = right && refused;
@@ -52,6 +52,32 @@ fn a_full_place_ends_the_peer(rt: HostRuntime) -> Result<(), Fail> {
     Ok(())
 }
 
+// Whether a peer that was ended for want of memory answers so from then on.
+fn is_ended(alloc: Global, peer: &mut PeerRecorder, files: &mut MemoryFiles) -> bool {
+    let out_of_memory = RecordFault::Message(MessageFault::OutOfMemory);
+    let ended = peer.end();
+    let taken = take(alloc, peer, FIRST_OF_2, files);
+    let finished = finish(peer, files);
+    ended == out_of_memory && taken == Err(out_of_memory) && finished == Err(out_of_memory)
+}
+
+// The datagrams before stand whole, and are told.
+#[test]
+fn a_peer_is_ended(rt: HostRuntime) -> Result<(), Fail> {
+    let alloc: Global = rt.alloc();
+    let mut peer = new_peer(alloc);
+    let mut files = MemoryFiles::new(alloc, 1000);
+    assert!(rt; is_recorded(take(alloc, &mut peer, FIRST_OF_1, &mut files)));
+    assert!(rt; is_ended(alloc, &mut peer, &mut files));
+    assert_eq!(rt; files.unfinished.as_slice(), FIRST_OF_1);
+    let told = end(peer);
+    assert_eq!(rt;
+        (told.ended, told.messages),
+        (Err(RecordFault::Message(MessageFault::OutOfMemory)), 1)
+    );
+    Ok(())
+}
+
 // A refused allocation refuses the datagram or ends the peer; what was recorded before stands whole. Here
 // `tests/gate/refusals` refuses each allocation in turn.
 #[test]
@@ -61,8 +87,8 @@ fn recording_survives_refused_memory(rt: HostRuntime) -> Result<(), Fail> {
     let mut recorded: u64 = 0;
     for datagram in DATAGRAMS {
         match take(rt.alloc(), &mut peer, datagram, &mut files) {
-            Ok(PeerAnswer::Recorded) => recorded = recorded.saturating_add(1),
-            Ok(PeerAnswer::Refused(fault)) => {
+            Ok(Answer::Recorded(_)) => recorded = recorded.saturating_add(1),
+            Ok(Answer::Refused(fault)) => {
                 assert_eq!(rt; fault, MessageFault::OutOfMemory);
             }
             // (files in memory are not written if they find none)

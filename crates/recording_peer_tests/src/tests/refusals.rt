@@ -2,10 +2,10 @@
 
 use super::datagrams::*;
 use super::running::{files_of, told_by};
-use super::told::{end, new_peer, take};
+use super::told::{Answer, end, is_recorded, new_peer, take};
 use ipfix_message::MessageFault;
 use recording_files::MemoryFiles;
-use recording_peer::{PeerAnswer, PeerRecorder};
+use recording_peer::PeerRecorder;
 use std::alloc::Global;
 use std::test::*;
 use worked_examples::faults::VERSION_9;
@@ -22,7 +22,7 @@ fn are_refused(alloc: Global, peer: &mut PeerRecorder, files: &mut MemoryFiles) 
         (CHANGED_TEMPLATE, MessageFault::TemplateChanged),
     ] {
         let answer = take(alloc, peer, datagram, files);
-        right = right && answer == Ok(PeerAnswer::Refused(fault));
+        right = right && answer == Ok(Answer::Refused(fault));
     }
     right
 }
@@ -33,7 +33,7 @@ fn take_among_refused(alloc: Global, peer: &mut PeerRecorder, files: &mut Memory
     for datagram in DATAGRAMS {
         let refused = are_refused(alloc, peer, files);
         let answer = take(alloc, peer, datagram, files);
-        right = right && refused && answer == Ok(PeerAnswer::Recorded);
+        right = right && refused && is_recorded(answer);
     }
     right
 }

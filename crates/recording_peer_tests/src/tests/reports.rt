@@ -2,9 +2,9 @@
 
 use super::datagrams::*;
 use super::running::take_all;
-use super::told::{advance_of, domain_of, end, finish, new_peer};
+use super::told::{Answer, Count, advance_of, domain_of, end, finish, new_peer, take};
 use ipfix_datagrams::DomainAdvance;
-use recording_files::{FileReport, MemoryFiles};
+use recording_files::{FileReport, MemoryFiles, RecordFault};
 use recording_peer::PeerRecorder;
 use std::alloc::Global;
 use std::process::Abort;
@@ -50,6 +50,45 @@ fn the_ledger_goes_on_in_the_next_file(rt: HostRuntime) -> Result<(), Fail> {
     for (index, expected) in [(0, (1, 8, 4, 0)), (1, (2, 2, 0, 0))] {
         let (peer, _) = recorded(&rt, rt.alloc());
         assert_eq!(rt; domain_of(peer, index), Some(expected));
+    }
+    Ok(())
+}
+
+// What is answered of a datagram after others.
+fn answer_after(
+    rt: &impl Abort,
+    alloc: Global,
+    before: &[&[u8]],
+    datagram: &[u8],
+) -> Result<Answer, RecordFault> {
+    let mut peer = new_peer(alloc);
+    let mut files = MemoryFiles::new(alloc, 100_000);
+    take_all(rt, alloc, &mut peer, before, &mut files);
+    take(alloc, &mut peer, datagram, &mut files)
+}
+
+// The header, the data records and the unknown sets are those of the datagram, and not of the messages in front
+// of it, which withdraw template 257 or define template 256 again.
+#[test]
+fn the_count_is_of_the_datagram(rt: HostRuntime) -> Result<(), Fail> {
+    let nothing: &[&[u8]] = &[];
+    let first: &[&[u8]] = &[FIRST_OF_1];
+    let withdrawn: &[&[u8]] = &[FIRST_OF_1, WITHDRAWS_256];
+    for (before, datagram, (sequence, records, unknown_sets)) in [
+        (nothing, FIRST_OF_1, (0, 3, 0)),
+        (nothing, SECOND_OF_1, (3, 0, 1)),
+        (first, SECOND_OF_1, (3, 2, 0)),
+        (first, CHANGES_257, (9, 1, 0)),
+        (first, WITHDRAWS_256, (12, 0, 0)),
+        (withdrawn, SECOND_OF_1, (3, 2, 0)),
+    ] {
+        let count = Count {
+            sequence,
+            records,
+            unknown_sets,
+        };
+        let answer = answer_after(&rt, rt.alloc(), before, datagram);
+        assert_eq!(rt; answer, Ok(Answer::Recorded(count)));
     }
     Ok(())
 }

@@ -1,10 +1,10 @@
 //! Recording datagrams in memory, and reading a file.
 
-use super::told::{finish_if, new_peer, take};
+use super::told::{finish_if, is_recorded, new_peer, take};
 use ipfix_message::DataRecord;
 use ipfix_session::{FromReader, SessionFault, VecSink, drive_in_full};
 use recording_files::MemoryFiles;
-use recording_peer::{PeerAnswer, PeerRecorder};
+use recording_peer::PeerRecorder;
 use std::alloc::{AllocError, Global};
 use std::process::Abort;
 
@@ -18,7 +18,7 @@ pub fn take_all(
 ) {
     for datagram in datagrams {
         let answer = take(alloc, peer, datagram, files);
-        assert_eq!(rt; answer, Ok(PeerAnswer::Recorded));
+        assert!(rt; is_recorded(answer));
     }
 }
 
@@ -34,7 +34,7 @@ pub fn files_of(
     for (number, datagram) in datagrams.iter().enumerate() {
         let finished = finish_if(number == finish_before, &mut peer, &mut files);
         let answer = take(alloc, &mut peer, datagram, &mut files);
-        assert_eq!(rt; (finished, answer), (Ok(()), Ok(PeerAnswer::Recorded)));
+        assert_eq!(rt; (finished, is_recorded(answer)), (Ok(()), true));
     }
     files
 }

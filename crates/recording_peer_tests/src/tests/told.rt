@@ -1,6 +1,7 @@
 //! What becomes of a peer, as plain values.
 
 use ipfix_datagrams::DomainAdvance;
+use ipfix_message::MessageFault;
 use ipfix_session::SessionFault;
 use recording_files::{FileReport, MemoryFiles, RecordFault};
 use recording_peer::{PeerAnswer, PeerRecorder};
@@ -22,14 +23,42 @@ pub fn new_peer(alloc: Global) -> PeerRecorder {
     PeerRecorder::new(alloc)
 }
 
+/// What was answered of a datagram.
+#[derive(Clone, Copy, Debug, PartialEq, Eq)]
+pub enum Answer {
+    Recorded(Count),
+    Refused(MessageFault),
+}
+
+/// What a datagram adds to the counts: its data records, and its sets of an unknown template.
+#[derive(Clone, Copy, Debug, PartialEq, Eq)]
+pub struct Count {
+    pub sequence: u32,
+    pub records: u64,
+    pub unknown_sets: u64,
+}
+
 /// Takes a datagram.
 pub fn take(
     alloc: Global,
     peer: &mut PeerRecorder,
     datagram: &[u8],
     files: &mut MemoryFiles,
-) -> Result<PeerAnswer, RecordFault> {
-    peer.take(alloc, datagram, files)
+) -> Result<Answer, RecordFault> {
+    match peer.take(alloc, datagram, files) {
+        Ok(PeerAnswer::Recorded(count)) => Ok(Answer::Recorded(Count {
+            sequence: count.header.sequence,
+            records: count.records,
+            unknown_sets: count.passed_over.unknown_sets,
+        })),
+        Ok(PeerAnswer::Refused(fault)) => Ok(Answer::Refused(fault)),
+        Err(fault) => Err(fault),
+    }
+}
+
+/// Whether a datagram was recorded.
+pub fn is_recorded(answer: Result<Answer, RecordFault>) -> bool {
+    matches!(answer, Ok(Answer::Recorded(_)))
 }
 
 /// Finishes a peer's file.
