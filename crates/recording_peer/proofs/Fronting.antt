@@ -25,9 +25,10 @@ use Rattle.ipfix_message.proofs.TemplateMessages.{header_is}
 use Rattle.recording_files.specs.Recordings.{Writes}
 use Rattle.recording_files.specs.Recorders.{State, Keeps, IsCountOf}
 use Rattle.recording_files.proofs.Growing.{writes_more}
+use Rattle.ipfix_datagrams.specs.declared.reading.DatagramReading.{DatagramReading}
 use Rattle.ipfix_datagrams.specs.declared.withdrawn_template.WithdrawnTemplate.{WithdrawnTemplate}
 use Rattle.ipfix_datagrams.specs.Datagrams.{Known, Preparation, prepared, with_withdrawn, with_one_withdrawn, with_one_defined, with_defined, IsTaken}
-use Rattle.ipfix_datagrams.specs.Attempts.{CanDefine, CanPrepare, IsSound}
+use Rattle.ipfix_datagrams.specs.Attempts.{CanDefine, CanPrepare, IsSound, preparation_of}
 use Rattle.ipfix_datagrams.specs.Withdrawals.{HasTemplateId, withdrawal_header, withdrawal_message}
 use Rattle.ipfix_datagrams.proofs.Withdrawn.{withdraws}
 use Rattle.ipfix_datagrams.proofs.WithdrawnDomains.{knows-withdrawn}
@@ -325,9 +326,10 @@ datagram_fails k before here s m h own p x octets fault files good taken domain 
 abbrev pub with_sequence : Header → ℕ → Header
 with_sequence h n = record h { sequence = n }
 
-pub took_datagram : (k : Known) (before here : List Message) (s t : State) (m : List ℕ) (h own : Header) (p : Preparation) (x : Message) (old new : List ℕ) (c : MessageCount) → SameFiles k before here → message_header m ≡ Ok h → IsTaken k m p x
-    → own ≡ front_header (before ++ here) h → (f : TookPrepared before here s own p old) → Took before (here ++ f.front.given) t m old new c → TookDatagram before here t m p x new c
-took_datagram k before here s t m h own p x old new c files good taken owns f r =
+pub took_datagram : (k : Known) (before here : List Message) (s t : State) (m : List ℕ) (h own : Header) (q : DatagramReading) (x : Message) (old new : List ℕ) (c : MessageCount) → SameFiles k before here → message_header m ≡ Ok h → IsTaken k m (preparation_of q) x
+    → own ≡ front_header (before ++ here) h → (f : TookPrepared before here s own (preparation_of q) old) → Took before (here ++ f.front.given) t m old new c → TookDatagram before here t m q x new c
+took_datagram k before here s t m h own q x old new c files good taken owns f r =
+    let p = preparation_of q in
     let xs = f.front.given in
     let ms = withdrawals own f.parts ++ definitions (stamp_of own) p.defined in
     let ds = prepared (domains_after before here) own.domain p in

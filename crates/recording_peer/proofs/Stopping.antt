@@ -14,15 +14,18 @@ use Rattle.recording_files.specs.Files.{Contents, FilesView, with_more, with_nex
 use Rattle.recording_files.specs.Recorders.{State}
 use Rattle.recording_files.specs.Sessions.{Stands}
 use Rattle.recording_files.proofs.Going.{stands_cut}
-use Rattle.ipfix_datagrams.specs.Datagrams.{Preparation, IsTaken}
+use Rattle.ipfix_datagrams.specs.Datagrams.{IsTaken}
+use Rattle.ipfix_datagrams.specs.Attempts.{preparation_of}
+use Rattle.ipfix_datagrams.specs.declared.reading.DatagramReading.{DatagramReading}
 use Rattle.recording_peer.specs.Peers.{known_after_all, all_given, sent_of}
 use Rattle.recording_peer.specs.Recording.{PeerTold, PeerView, FiledDatagrams, last_file, taken_before, taken_in, HasDatagram, FilesHold, Counts, IsPeer, HasStopped}
 use Rattle.recording_peer.specs.Fronts.{TookDatagram, taken_as}
 use Rattle.recording_peer.proofs.Taking.{holds_turned, file_with, octets_with, taken_with, fronts_with}
 
--- other files with the same octets
-pub holds_same : (first v after : FilesView) (filed : FiledDatagrams) → FilesHold first v filed [] → after.contents ≡ v.contents → FilesHold first after filed []
-holds_same first v after filed h is = record {
+-- other files with the same datagrams
+abbrev holds_with : (first v after : FilesView) (filed : FiledDatagrams) (cut_off : List ℕ) (h : FilesHold first v filed []) → Stands first.contents after.contents (map sent_of h.files) (sent_of (last_file filed.here h.file)) cut_off
+    → FilesHold first after filed cut_off
+holds_with first v after filed cut_off h stands = record {
   taken = h.taken;
   fronts = h.fronts;
   some = h.some;
@@ -31,8 +34,12 @@ holds_same first v after filed h is = record {
   earlier = h.earlier;
   file = h.file;
   last = h.last;
-  stands = subst (λ (o : Option Contents). Stands first.contents o (map sent_of h.files) (sent_of (last_file filed.here h.file)) []) (sym is) h.stands;
+  stands = stands;
 }
+
+holds_same : (first v after : FilesView) (filed : FiledDatagrams) → FilesHold first v filed [] → after.contents ≡ v.contents → FilesHold first after filed []
+holds_same first v after filed h is =
+    holds_with first v after filed [] h (subst (λ (o : Option Contents). Stands first.contents o (map sent_of h.files) (sent_of (last_file filed.here h.file)) []) (sym is) h.stands)
 
 -- a call to finish the file failed
 pub stops_turning : (first v after : FilesView) (s : PeerView) (filed : FiledDatagrams) (report : FileReport) (c : PeerTold) → IsPeer first v s filed → HasDatagram filed.here → report ≡ s.told.counts.file → c ≡ s.told
@@ -64,28 +71,18 @@ stops_out fault first v s filed c m memory p told = record {
     of_message f = OfMessage f
 
 -- a call to write failed
-pub stops_cut : (first v after : FilesView) (s : PeerView) (t : State) (filed : FiledDatagrams) (m : List ℕ) (q : Preparation) (x : Message) (octets front : List ℕ) (count : MessageCount) (c : PeerTold) (p : IsPeer first v s filed)
-    → IsTaken (known_after_all (taken_in filed)) m q x → (k : TookDatagram (all_given (taken_before filed)) (all_given filed.here) t m q x octets count)
+pub stops_cut : (first v after : FilesView) (s : PeerView) (t : State) (filed : FiledDatagrams) (m : List ℕ) (q : DatagramReading) (x : Message) (octets front : List ℕ) (count : MessageCount) (c : PeerTold) (p : IsPeer first v s filed)
+    → IsTaken (known_after_all (taken_in filed)) m (preparation_of q) x → (k : TookDatagram (all_given (taken_before filed)) (all_given filed.here) t m q x octets count)
     → IsPrefix front octets → after ≡ failing (with_more v front) → c ≡ s.told → HasStopped NotWritten first after c filed m
 stops_cut first v after s t filed m q x octets front count c p taken k begins is told =
     let h = p.holds in
-    let u = taken_as m q k.front x in
+    let u = taken_as m (preparation_of q) k.front x in
     record {
       fails = ap (λ (w : FilesView). w.failed) is ∙ ap one_more p.not_failed;
       stops = inl (record {
         there = inr (record {
           cut_off = front;
-          holds = record {
-            taken = h.taken;
-            fronts = h.fronts;
-            some = h.some;
-            files = h.files;
-            are = h.are;
-            earlier = h.earlier;
-            file = h.file;
-            last = h.last;
-            stands = stands_cut first.contents v.contents after.contents (map sent_of h.files) (sent_of (last_file filed.here h.file)) front (ap (λ (w : FilesView). w.contents) is) h.stands;
-          };
+          holds = holds_with first v after filed front h (stands_cut first.contents v.contents after.contents (map sent_of h.files) (sent_of (last_file filed.here h.file)) front (ap (λ (w : FilesView). w.contents) is) h.stands);
           next = u;
           datagram = refl;
           taken = taken_with filed u h.taken taken;

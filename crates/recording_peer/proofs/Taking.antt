@@ -16,8 +16,10 @@ use Rattle.recording_files.specs.Sessions.{Stands}
 use Rattle.recording_files.proofs.Growing.{writes-append}
 use Rattle.recording_files.proofs.Going.{empty_part, stands_first, stands_more, stands_turned}
 use Rattle.ipfix_message.specs.declared.record.Template.{Template}
-use Rattle.ipfix_datagrams.specs.Datagrams.{none_known, known_with, Preparation, IsTaken}
+use Rattle.ipfix_datagrams.specs.Datagrams.{none_known, known_with, IsTaken}
 use Rattle.ipfix_datagrams.specs.Reaches.{reaches_of}
+use Rattle.ipfix_datagrams.specs.Attempts.{preparation_of}
+use Rattle.ipfix_datagrams.specs.declared.reading.DatagramReading.{DatagramReading}
 use Rattle.recording_peer.specs.Peers.{Taken, AreTaken, HasFront, HaveFronts, PeerFile, givens, known_after_all, messages_with, given_with, all_messages, all_given, sent_of}
 use Rattle.recording_peer.specs.Recording.{PeerTold, PeerView, FiledDatagrams, none_filed, taken_before, taken_in, filed_with, finished_now, file_finished, last_file, HasDatagram, IsLastFile, FilesHold, Counts, KeepsListed, IsPeer}
 use Rattle.recording_peer.specs.Fronts.{TookDatagram, taken_as}
@@ -115,10 +117,10 @@ fronts_with filed t have has =
     subst (HaveFronts []) (sym (taken_in-push filed t)) (fronts-push [] (taken_in filed) t have (subst (λ (b : List Message). HasFront b t) (sym (all_given-append (taken_before filed) filed.here)) has))
 
 -- the file with it
-pub file_with : (filed : FiledDatagrams) (m : List ℕ) (q : Preparation) (x : Message) (s : State) (octets : List ℕ) (c : MessageCount) (file : List (List ℕ)) → IsLastFile filed file
-    → (k : TookDatagram (all_given (taken_before filed)) (all_given filed.here) s m q x octets c) → IsLastFile (filed_with filed (taken_as m q k.front x)) (file ++ k.file)
+pub file_with : (filed : FiledDatagrams) (m : List ℕ) (q : DatagramReading) (x : Message) (s : State) (octets : List ℕ) (c : MessageCount) (file : List (List ℕ)) → IsLastFile filed file
+    → (k : TookDatagram (all_given (taken_before filed)) (all_given filed.here) s m q x octets c) → IsLastFile (filed_with filed (taken_as m (preparation_of q) k.front x)) (file ++ k.file)
 file_with filed m q x s octets c file last k =
-    let t = taken_as m q k.front x in
+    let t = taken_as m (preparation_of q) k.front x in
     let b = all_given (taken_before filed) in
     let more : Writes b [] (all_messages filed.here ++ messages_with t) (all_given filed.here ++ given_with t) (file ++ k.file) = writes-append b [] (all_messages filed.here) (messages_with t) (all_given filed.here) (given_with t) file k.file last k.writes in
     subst (λ (ms : List (List ℕ)). Writes b [] ms (all_given (filed.here ++ t ∷ [])) (file ++ k.file)) (sym (all_messages-push filed.here t))
@@ -132,14 +134,14 @@ octets_with file more octets is = octets-append file more ∙ ap (λ (w : List �
 pub givens_with : (here : List Taken) (t : Taken) → givens (here ++ t ∷ []) ≡ givens here ++ t.given ∷ []
 givens_with here t = givens-append here (t ∷ [])
 
-pub peer_with : (first v after : FilesView) (s t : PeerView) (filed : FiledDatagrams) (m : List ℕ) (q : Preparation) (x : Message) (octets : List ℕ) (c : MessageCount) (p : IsPeer first v s filed)
-    → IsTaken (known_after_all (taken_in filed)) m q x → (k : TookDatagram (all_given (taken_before filed)) (all_given filed.here) t.recorder m q x octets c)
+pub peer_with : (first v after : FilesView) (s t : PeerView) (filed : FiledDatagrams) (m : List ℕ) (q : DatagramReading) (x : Message) (octets : List ℕ) (c : MessageCount) (p : IsPeer first v s filed)
+    → IsTaken (known_after_all (taken_in filed)) m (preparation_of q) x → (k : TookDatagram (all_given (taken_before filed)) (all_given filed.here) t.recorder m q x octets c)
     → after ≡ with_more v octets → Counted t.told.counts (givens (taken_before filed)) (givens filed.here ++ x ∷ [])
     → t.told.advances ≡ reaches_of (givens (taken_in filed) ++ x ∷ []) → t.ended ≡ None → KeepsListed t.withdrawn (known_with (known_after_all (taken_in filed)) x)
-    → IsPeer first after t (filed_with filed (taken_as m q k.front x))
+    → IsPeer first after t (filed_with filed (taken_as m (preparation_of q) k.front x))
 peer_with first v after s t filed m q x octets c p taken k is counted noted on withdrawn =
     let h = p.holds in
-    let u = taken_as m q k.front x in
+    let u = taken_as m (preparation_of q) k.front x in
     let all : givens (taken_in (filed_with filed u)) ≡ givens (taken_in filed) ++ x ∷ [] = ap givens (taken_in-push filed u) ∙ givens-append (taken_in filed) (u ∷ []) in
     record {
       holds = record {

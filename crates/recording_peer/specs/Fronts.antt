@@ -15,8 +15,8 @@ use Rattle.recording_files.specs.Files.{FilesView}
 use Rattle.recording_files.specs.Recordings.{Writes}
 use Rattle.recording_files.specs.Recorders.{State, Keeps, Records, IsCountOf}
 use Rattle.ipfix_datagrams.specs.declared.reading.DatagramReading.{DatagramReading}
-use Rattle.ipfix_datagrams.specs.Datagrams.{IsTaken, Preparation, prepared, with_withdrawn, with_one_defined}
-use Rattle.ipfix_datagrams.specs.Attempts.{CanDefine, Leaves, preparation_of}
+use Rattle.ipfix_datagrams.specs.Datagrams.{Known, IsTaken, Preparation, prepared, with_withdrawn, with_one_defined}
+use Rattle.ipfix_datagrams.specs.Attempts.{CanDefine, IsSound, Leaves, preparation_of}
 use Rattle.ipfix_datagrams.specs.Withdrawals.{withdrawal_message}
 use Rattle.ipfix_datagrams.specs.declared.withdrawn_template.WithdrawnTemplate.{WithdrawnTemplate}
 use Rattle.recording_peer.specs.Peers.{Front, Taken, InParts, HasFront, withdrawals, definitions, messages_with, given_with, known_after_all}
@@ -113,20 +113,27 @@ pub record TakesDefinitions (before here : List Message) (s : State) (h : Header
   pub took : TookPrepared before here s h (record { withdrawn = p.withdrawn; defined = done }) octets
   pub can : CanGoOn (prepared (domains_after before here) h.domain (record { withdrawn = p.withdrawn; defined = done })) h.domain rest
 
--- a datagram, and what stands in front of it
+-- a datagram, and the messages in front of it
 abbrev pub taken_as : List ℕ → Preparation → Front → Message → Taken
 taken_as m p front x = record { datagram = m; preparation = p; front = front; given = x }
 
-pub record TookDatagram (before here : List Message) (s : State) (m : List ℕ) (p : Preparation) (x : Message) (octets : List ℕ) (count : MessageCount) : Type 0 where
+pub record TookDatagram (before here : List Message) (s : State) (m : List ℕ) (reading : DatagramReading) (x : Message) (octets : List ℕ) (count : MessageCount) : Type 0 where
   pub front : Front
-  pub has_front : HasFront (before ++ here) (taken_as m p front x)
+  pub has_front : HasFront (before ++ here) (taken_as m (preparation_of reading) front x)
   pub file : List (List ℕ)
-  pub writes : Writes before here (messages_with (taken_as m p front x)) (given_with (taken_as m p front x)) file
+  pub writes : Writes before here (messages_with (taken_as m (preparation_of reading) front x)) (given_with (taken_as m (preparation_of reading) front x)) file
   pub octets_are : octets ≡ octets_of file
-  pub keeps : Keeps s before (here ++ given_with (taken_as m p front x))
+  pub keeps : Keeps s before (here ++ given_with (taken_as m (preparation_of reading) front x))
   pub counts : IsCountOf count x
 
--- the recorder and its files stand for these datagrams, and after them the next was read so, which leaves these templates
+-- a datagram was read so after these messages of the session: it gives this
+pub record IsReadAfter (before here : List Message) (m : List ℕ) (reading : DatagramReading) (x : Message) : Type 0 where
+  pub known : Known
+  pub files : known.files ≡ domains_after before here
+  pub sound : IsSound known
+  pub taken : IsTaken known m (preparation_of reading) x
+
+-- the recorder and its files represent these datagrams, and after them the next was read so, which leaves these templates
 pub record HasRead (first before : FilesView) (s : PeerView) (filed : FiledDatagrams) (m : List ℕ) (reading : DatagramReading) : Type 0 where
   pub is : IsPeer first before s filed
   pub given : Message

@@ -20,8 +20,8 @@ pub record Front : Type 0 where
   pub messages : List (List ℕ)
   pub given : List Message
 
--- a datagram that was taken, the templates that are withdrawn and defined again before it, what stands in front of it, and what
--- it gave
+-- a datagram that was taken, the templates that are withdrawn and defined again before it, the messages in front of it, and
+-- what it gave
 pub record Taken : Type 0 where
   pub datagram : List ℕ
   pub preparation : Preparation
@@ -47,7 +47,7 @@ known_after_all ts = known_from none_known (givens ts)
 abbrev pub records_over_udp : List Taken → List DataRecord
 records_over_udp ts = records_in (givens ts)
 
--- ---- what stands in front of them
+-- ---- the messages in front of them
 
 -- the header of a message of the recorder's own: that of the datagram, with the sequence number that is due, if one is known
 abbrev pub front_header : List Message → Header → Header
@@ -74,7 +74,7 @@ pub record HasFront (before : List Message) (t : Taken) : Type 0 where
   pub messages : t.front.messages ≡ withdrawals (front_header before t.given.header) parts ++ definitions (stamp_for before t.given.header) t.preparation.defined
   pub records : records_in t.front.given ≡ []
 
--- a datagram after what stands in front of it
+-- a datagram after the messages in front of it
 abbrev pub messages_with : Taken → List (List ℕ)
 messages_with t = t.front.messages ++ t.datagram ∷ []
 
@@ -94,12 +94,12 @@ HaveFronts before (t ∷ ts) = HasFront before t × HaveFronts (before ++ given_
 
 -- ---- files
 
--- a file of a peer: its datagrams, and all messages that stand in it
+-- a file of a peer: its datagrams, and all its messages
 pub record PeerFile : Type 0 where
   pub taken : List Taken
   pub file : List (List ℕ)
 
--- as a part of the session that the files are: each datagram after what stands in front of it
+-- as a part of the session that the files are: each datagram after the messages in front of it
 abbrev pub part_of : PeerFile → Part
 part_of f = record { messages = all_messages f.taken; given = all_given f.taken; file = f.file }
 

@@ -1,4 +1,4 @@
--- What a peer's recorder stands for, and what it answers.
+-- The datagrams that a peer's recorder represents, and what it answers.
 use Rattle.std.specs.Prelude.{◌≡◌, ◌≢◌, ◌⊎◌, ℕ, List, [], ◌∷◌, ◌++◌, map, flat_map, All, MatchResult, Option, Some, None, Result, Ok, Err}
 use Rattle.ipfix_session.specs.declared.stop.Stop.TheVariants.{Clean}
 use Rattle.ipfix_session.specs.Given.{IsOpen, IsPrefix, octets_of, records_of, stop_of}
@@ -51,8 +51,7 @@ pub record KeepsListed (es : List (ℕ × List (ℕ × Template))) (k : Known) :
 
 -- ---- the files of a peer
 
--- datagrams that were taken, by the files that they stand in: those of each finished file, and those of the file that isn't
--- finished
+-- datagrams that were taken, by their files: those of each finished file, and those of the file that isn't finished
 pub record FiledDatagrams : Type 0 where
   pub finished : List (List Taken)
   pub here : List Taken
@@ -91,12 +90,12 @@ taken_by_file fs = map (λ f. f.taken) fs
 abbrev pub last_file : List Taken → List (List ℕ) → PeerFile
 last_file here file = record { taken = here; file = file }
 
--- it has these messages: its datagrams, each after what stands in front of it
+-- it has these messages: its datagrams, each after the messages in front of it
 abbrev pub IsLastFile : FiledDatagrams → List (List ℕ) → Type 0
 IsLastFile filed file = Writes (all_given (taken_before filed)) [] (all_messages filed.here) (all_given filed.here) file
 
--- these datagrams were taken, and stand in the files that came after the first ones, each after what stands in front of it: those
--- of each finished file, and those of the file that isn't finished, after which stand these octets
+-- these datagrams were taken, and are in the files that came after the first ones, each after the messages in front of it: those
+-- of each finished file, and those of the file that isn't finished, where these octets follow
 pub record FilesHold (first after : FilesView) (filed : FiledDatagrams) (cut_off : List ℕ) : Type 0 where
   pub taken : AreTaken none_known (taken_in filed)
   pub fronts : HaveFronts [] (taken_in filed)
@@ -116,7 +115,7 @@ pub record Counts (c : PeerTold) (filed : FiledDatagrams) : Type 0 where
   pub counted : Counted c.counts (givens (taken_before filed)) (givens filed.here)
   pub noted : c.advances ≡ reaches_of (givens (taken_in filed))
 
--- the recorder stands for them
+-- the recorder represents them
 pub record IsPeer (first after : FilesView) (s : PeerView) (filed : FiledDatagrams) : Type 0 where
   pub holds : FilesHold first after filed []
   pub not_failed : after.failed ≡ first.failed
@@ -127,7 +126,7 @@ pub record IsPeer (first after : FilesView) (s : PeerView) (filed : FiledDatagra
 
 -- ---- a call fails
 
--- a call of the files failed: after the datagrams stand the first octets of what was to stand there for this one
+-- a call of the files failed: after the datagrams are the first octets of what was to be written for this one
 pub record IsCutOff (first after : FilesView) (filed : FiledDatagrams) (m : List ℕ) : Type 0 where
   pub cut_off : List ℕ
   pub holds : FilesHold first after filed cut_off
@@ -162,7 +161,7 @@ pub record HasStopped (fault : RecordFault) (first after : FilesView) (c : PeerT
 
 -- ---- its calls
 
--- a datagram was taken after these, and stands in the file that isn't finished; this is what it adds to the counts
+-- a datagram was taken after these, and is in the file that isn't finished; this is what it adds to the counts
 pub record IsRecorded (count : MessageCount) (m : List ℕ) (first after : FilesView) (s : PeerView) (filed : FiledDatagrams) : Type 0 where
   pub next : Taken
   pub datagram : next.datagram ≡ m
@@ -175,12 +174,12 @@ Answers (Ok (Recorded count)) m first before after s t filed = IsRecorded count 
 Answers (Ok (Refused fault)) m first before after s t filed = IsRefused (known_after_all (taken_in filed)) m fault × (t ≡ s) × (after ≡ before)
 Answers (Err fault) m first before after s t filed = (t.ended ≡ Some fault) × HasStopped fault first after t.told filed m
 
--- a recorder and its files take a datagram, whichever they stand for
+-- a recorder and its files, whichever datagrams they represent, take the next
 abbrev pub TakesDatagram : {F : Type 0} → (F → FilesView) → List ℕ → Result PeerAnswer RecordFault → PeerView → PeerView → F → F → Type 0
 TakesDatagram seen m answer s t old new = (first : FilesView) (filed : FiledDatagrams) → IsPeer first (seen old) s filed
     → Answers answer m first (seen old) (seen new) s t filed
 
--- they finish the file that isn't finished, if it has a datagram
+-- or they finish the file that isn't finished, if it has a datagram
 abbrev pub FinishesFile : {F : Type 0} → (F → FilesView) → Result (Unit {0}) RecordFault → PeerView → PeerView → F → F → Type 0
 FinishesFile seen answer s t old new = (first : FilesView) (filed : FiledDatagrams) → IsPeer first (seen old) s filed
     → MatchResult answer (λ x. IsPeer first (seen new) t (file_finished filed))
@@ -192,7 +191,7 @@ StaysEnded seen answer s t old new = (fault : RecordFault) → s.ended ≡ Some 
 
 -- ---- what the files give
 
--- files tell what stands in them, and this has come after what stood there at first
+-- files show what is in them, and this has come after what was there at first
 pub record CameAfter (first after : FilesView) (since : Contents) : Type 0 where
   pub start : Contents
   pub at_first : first.contents ≡ Some start
@@ -210,7 +209,7 @@ pub record GiveRecordsOverUdp (files : List (List ℕ)) (ts : List Taken) : Type
   pub records : flat_map records_of files ≡ records_over_udp ts
 
 -- the files of a peer that ended: each is read without a fault, where the last may end within a message, and they give the data
--- records of the datagrams, and no others but maybe the first of this one, which was to stand there next
+-- records of the datagrams, and no others but maybe the first of this one, which was to be written next
 pub record KeepsWhole (ts : List Taken) (m : List ℕ) (files : List (List ℕ)) : Type 0 where
   pub read : All (λ file. IsOpen (stop_of file)) files
   pub next : List Taken

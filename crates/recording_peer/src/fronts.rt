@@ -5,12 +5,11 @@ ghost use Rattle.std.specs.BTreeMap.{values};
 ghost use Rattle.ipfix_message.specs.Domains.{Message, message_header, message_gives};
 ghost use Rattle.ipfix_message.specs.Outcome.{Fails};
 ghost use Rattle.ipfix_message.specs.WrittenTemplates.{IsTemplate};
-ghost use Rattle.ipfix_datagrams.specs.Attempts.{IsSound, preparation_of};
-ghost use Rattle.ipfix_datagrams.specs.Datagrams.{Known, Preparation, IsTaken};
+ghost use Rattle.ipfix_datagrams.specs.Datagrams.{Preparation};
 ghost use Rattle.ipfix_datagrams.specs.Withdrawals.{HasTemplateId};
 ghost use Rattle.ipfix_datagrams.specs.declared.withdrawal.TheConstants.{MOST_WITHDRAWN};
 ghost use Rattle.recording_files.specs.Recorders.{Keeps};
-ghost use Rattle.recording_peer.specs.Fronts.{domains_after, HasAppeared, CanWithdraw, CanDefineNext, OrOutOfMemory, Took, TookOne, TookDefinition, TookWithdrawals, TakesDefinitions, TookPrepared, TookDatagram};
+ghost use Rattle.recording_peer.specs.Fronts.{domains_after, HasAppeared, CanWithdraw, CanDefineNext, OrOutOfMemory, Took, TookOne, TookDefinition, TookWithdrawals, TakesDefinitions, TookPrepared, TookDatagram, IsReadAfter};
 
 use ipfix_datagrams::{DatagramReading, MOST_WITHDRAWN, WithdrawnTemplate, append_withdrawals};
 use ipfix_message::{MessageFault, Stamp, Template, Templates, append_template_message, header_of};
@@ -147,11 +146,9 @@ pub fn take_datagram(
 ) -> Result<MessageCount, MessageFault>
     requires header { message_header datagram.now ≡ Ok header.now }
     requires ids { All HasTemplateId reading.now.withdrawn.items }
-    ensures { (before here : List Message) (k : Known) (x : Message)
-        → Keeps recorder.old before here → k.files ≡ domains_after before here → IsSound k
-        → IsTaken k datagram.now (preparation_of reading.now) x → OrOutOfMemory result
-        (TookDatagram before here recorder.new datagram.now (preparation_of reading.now) x
-        out.new.items) }
+    ensures { (before here : List Message) (x : Message) → Keeps recorder.old before here
+        → IsReadAfter before here datagram.now reading.now x → OrOutOfMemory result
+        (TookDatagram before here recorder.new datagram.now reading.now x out.new.items) }
 {
     let own = Header {
         length: header.length,

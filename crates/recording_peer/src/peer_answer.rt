@@ -6,7 +6,7 @@ use recording_files::MessageCount;
 /// What was done with a datagram.
 #[derive(Clone, Copy)]
 pub enum PeerAnswer {
-    /// It stands in the peer's file, and adds this to the counts.
+    /// It is in the peer's file, and adds this to the counts.
     Recorded(MessageCount),
     /// It was refused, and changed nothing.
     Refused(MessageFault),

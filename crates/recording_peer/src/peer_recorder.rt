@@ -58,12 +58,12 @@ impl PeerRecorder {
 
     /// Takes a datagram. One that is read after the rules over UDP is recorded as it came, after a preamble
     /// of its domain if the file has none of the domain's messages yet and an earlier file has. If it
-    /// changes templates, a message stands in front of it that withdraws them; if it has data sets of
+    /// changes templates, a message in front of it withdraws them; if it has data sets of
     /// templates that an earlier one withdrew, messages that define them again. Any other datagram is
     /// refused, and changes nothing. It answers what a recorded datagram adds to the counts.
     ///
     /// The fault is `NotWritten` where a call of the files failed, or `OutOfMemory`: then the peer has ended,
-    /// and the datagrams before stand whole.
+    /// and the datagrams before are whole.
     pub fn take<F: FileSeries>(
         &mut self,
         alloc: Global,
@@ -108,7 +108,7 @@ impl PeerRecorder {
     }
 
     /// Ends the peer for want of memory, as where its next datagram can't be kept until it is due, and answers
-    /// that fault. The datagrams before stand whole. A peer that has ended answers its fault, and stays as it is.
+    /// that fault. The datagrams before are whole. A peer that has ended answers its fault, and stays as it is.
     pub fn end(&mut self) -> RecordFault
         ensures fault { result ≡ unwrap_or self.old.ended (OfMessage OutOfMemory) }
         ensures ended { self.new ≡ record self.old { ended = Some result } }
