@@ -15,7 +15,6 @@ use Rattle.recording_files.specs.Faithful.{IsReadAlone, all_given}
 use Rattle.recording_files.specs.Files.{Contents, FilesView, all_of}
 use Rattle.recording_files.specs.Sessions.{file_octets}
 use Rattle.recording_files.proofs.FilesGive.{kept, all_records}
-use Rattle.ipfix_datagrams.specs.Datagrams.{none_known}
 use Rattle.recording_peer.specs.Peers.{Taken, AreTaken, PeerFile, part_of, records_over_udp}
 use Rattle.recording_peer.specs.Recording.{PeerTold, FiledDatagrams, FilesHold, IsCutOff, StopsAt, HasStopped, CameAfter, KeepsWhole, last_file, taken_in, filed_with, file_finished}
 use Rattle.recording_peer.proofs.PeerFiles.{recorded_with, taken_in-push, in-finished}
@@ -35,7 +34,7 @@ keeps_all first after since filed m h came =
       read = open_each (all_of since) g.stops;
       next = [];
       one = inl refl;
-      taken = subst (AreTaken none_known) (sym (append-nil (taken_in filed))) h.taken;
+      taken = subst (AreTaken []) (sym (append-nil (taken_in filed))) h.taken;
       at_least = ([], g.records ∙ sym (append-nil (records_over_udp (taken_in filed))));
       at_most = ([], ap records_over_udp (append-nil (taken_in filed)) ∙ sym g.records ∙ sym (append-nil (flat_map records_of (all_of since))));
     }
@@ -82,7 +81,7 @@ keeps_cut first after since filed m k came =
       read = subst (λ (ws : List (List ℕ)). All (λ file. IsOpen (stop_of file)) ws) (sym are) whole.0;
       next = k.next ∷ [];
       one = inr (ap (λ (w : List ℕ). w ∷ []) k.datagram);
-      taken = subst (AreTaken none_known) pushed k.taken;
+      taken = subst (AreTaken []) pushed k.taken;
       at_least = (longest.0, ap (λ (ws : List (List ℕ)). flat_map records_of ws) are ∙ longest.1 ∙ ap (λ (rs : List DataRecord). rs ++ longest.0) (records_with h.files last read_last ∙ given_last));
       at_most = (whole.1.0, ap records_over_udp (sym pushed) ∙ sym given ∙ whole.1.1 ∙ ap (λ (ws : List (List ℕ)). flat_map records_of ws ++ whole.1.0) (sym are));
     }

@@ -27,8 +27,8 @@ use Rattle.recording_files.specs.Recorders.{State, Keeps, IsCountOf}
 use Rattle.recording_files.proofs.Growing.{writes_more}
 use Rattle.ipfix_datagrams.specs.declared.reading.DatagramReading.{DatagramReading}
 use Rattle.ipfix_datagrams.specs.declared.withdrawn_template.WithdrawnTemplate.{WithdrawnTemplate}
-use Rattle.ipfix_datagrams.specs.Datagrams.{Known, Preparation, prepared, with_withdrawn, with_one_withdrawn, with_one_defined, with_defined, IsTaken}
-use Rattle.ipfix_datagrams.specs.Attempts.{CanDefine, CanPrepare, IsSound, preparation_of}
+use Rattle.ipfix_datagrams.specs.Datagrams.{Preparation, preparation_of, prepared, with_withdrawn, with_one_withdrawn, with_one_defined, with_defined, IsTaken}
+use Rattle.ipfix_datagrams.specs.Attempts.{CanDefine, CanPrepare}
 use Rattle.ipfix_datagrams.specs.Withdrawals.{HasTemplateId, withdrawal_header, withdrawal_message}
 use Rattle.ipfix_datagrams.proofs.Withdrawn.{withdraws}
 use Rattle.ipfix_datagrams.proofs.WithdrawnDomains.{knows-withdrawn}
@@ -296,46 +296,41 @@ defined_all before here s h p rest octets f none =
 
 -- ---- a datagram
 
--- the files' domains as the datagram was read after them
-abbrev SameFiles : Known → List Message → List Message → Type 0
-SameFiles k before here = k.files ≡ domains_after before here
-
 -- what can be done in front of it
-pub front_can : (k : Known) (before here : List Message) (m : List ℕ) (h : Header) (p : Preparation) (x : Message) → SameFiles k before here → IsSound k → message_header m ≡ Ok h → IsTaken k m p x
+pub front_can : (before here : List Message) (m : List ℕ) (h : Header) (p : Preparation) (x : Message) → message_header m ≡ Ok h → IsTaken (domains_after before here) m p x
     → CanWithdraw before here h.domain p.withdrawn × CanGoOn (with_withdrawn (domains_after before here) h.domain p.withdrawn) h.domain p.defined
-front_can k before here m h p x same sound good taken =
-    subst (λ (ds : History). ((p.withdrawn ≡ []) ⊎ (knows ds h.domain ≡ true)) × CanGoOn (with_withdrawn ds h.domain p.withdrawn) h.domain p.defined) same (by_cases (taken_prepares k m h p x good sound taken))
+front_can before here m h p x good taken = by_cases (taken_prepares (domains_after before here) m h p x good taken)
   where
-    by_cases : CanPrepare k.files h.domain p → ((p.withdrawn ≡ []) ⊎ (knows k.files h.domain ≡ true)) × CanGoOn (with_withdrawn k.files h.domain p.withdrawn) h.domain p.defined
+    by_cases : CanPrepare (domains_after before here) h.domain p → CanWithdraw before here h.domain p.withdrawn × CanGoOn (with_withdrawn (domains_after before here) h.domain p.withdrawn) h.domain p.defined
     by_cases (inl none) = (inl (ap (λ (q : Preparation). q.withdrawn) none), inl (ap (λ (q : Preparation). q.defined) none))
-    by_cases (inr can) = (inr can.0, inr (knows-withdrawn k.files h.domain p.withdrawn h.domain ∙ can.0, can.1))
+    by_cases (inr can) = (inr can.0, inr (knows-withdrawn (domains_after before here) h.domain p.withdrawn h.domain ∙ can.0, can.1))
 
--- it is read after what stands in front of it
-reads_so : (k : Known) (before here : List Message) (s : State) (m : List ℕ) (h own : Header) (p : Preparation) (x : Message) (octets : List ℕ) → SameFiles k before here → message_header m ≡ Ok h → IsTaken k m p x → own.domain ≡ h.domain
+-- it is read after the messages in front of it
+reads_so : (before here : List Message) (s : State) (m : List ℕ) (h own : Header) (p : Preparation) (x : Message) (octets : List ℕ) → message_header m ≡ Ok h → IsTaken (domains_after before here) m p x → own.domain ≡ h.domain
     → (f : TookPrepared before here s own p octets) → message_gives (domains_after before (here ++ f.front.given)) m ≡ Ok x
-reads_so k before here s m h own p x octets files good taken domain f =
+reads_so before here s m h own p x octets good taken domain f =
     let same : taken.first.header ≡ h = header_same _ m h taken.first good taken.is_prepared.read in
-    ap (λ (ds : History). message_gives ds m) (f.front.known ∙ ap (λ (d : ℕ). prepared (domains_after before here) d p) (domain ∙ sym (ap (λ (g : Header). g.domain) same)) ∙ ap (λ (ds : History). prepared ds taken.first.header.domain p) (sym files)) ∙ taken.read
+    ap (λ (ds : History). message_gives ds m) (f.front.known ∙ ap (λ (d : ℕ). prepared (domains_after before here) d p) (domain ∙ sym (ap (λ (g : Header). g.domain) same))) ∙ taken.read
 
-pub datagram_fails : (k : Known) (before here : List Message) (s : State) (m : List ℕ) (h own : Header) (p : Preparation) (x : Message) (octets : List ℕ) (fault : MessageFault) → SameFiles k before here → message_header m ≡ Ok h → IsTaken k m p x → own.domain ≡ h.domain
+pub datagram_fails : (before here : List Message) (s : State) (m : List ℕ) (h own : Header) (p : Preparation) (x : Message) (octets : List ℕ) (fault : MessageFault) → message_header m ≡ Ok h → IsTaken (domains_after before here) m p x → own.domain ≡ h.domain
     → (f : TookPrepared before here s own p octets) → Fails fault (message_gives (domains_after before (here ++ f.front.given)) m) → fault ≡ OutOfMemory
-datagram_fails k before here s m h own p x octets fault files good taken domain f fails =
-    only_memory fault (message_gives (domains_after before (here ++ f.front.given)) m) x fails (reads_so k before here s m h own p x octets files good taken domain f)
+datagram_fails before here s m h own p x octets fault good taken domain f fails =
+    only_memory fault (message_gives (domains_after before (here ++ f.front.given)) m) x fails (reads_so before here s m h own p x octets good taken domain f)
 
 -- a header with this sequence number
 abbrev pub with_sequence : Header → ℕ → Header
 with_sequence h n = record h { sequence = n }
 
-pub took_datagram : (k : Known) (before here : List Message) (s t : State) (m : List ℕ) (h own : Header) (q : DatagramReading) (x : Message) (old new : List ℕ) (c : MessageCount) → SameFiles k before here → message_header m ≡ Ok h → IsTaken k m (preparation_of q) x
+pub took_datagram : (before here : List Message) (s t : State) (m : List ℕ) (h own : Header) (q : DatagramReading) (x : Message) (old new : List ℕ) (c : MessageCount) → message_header m ≡ Ok h → IsTaken (domains_after before here) m (preparation_of q) x
     → own ≡ front_header (before ++ here) h → (f : TookPrepared before here s own (preparation_of q) old) → Took before (here ++ f.front.given) t m old new c → TookDatagram before here t m q x new c
-took_datagram k before here s t m h own q x old new c files good taken owns f r =
+took_datagram before here s t m h own q x old new c good taken owns f r =
     let p = preparation_of q in
     let xs = f.front.given in
     let ms = withdrawals own f.parts ++ definitions (stamp_of own) p.defined in
     let ds = prepared (domains_after before here) own.domain p in
     let domain : own.domain ≡ h.domain = ap (λ (g : Header). g.domain) owns in
     let header : x.header ≡ h = header_same _ m h x good taken.read in
-    let same : r.records.given ≡ x = ok_is r.records.given x (sym r.records.read ∙ reads_so k before here s m h own p x old files good taken domain f) in
+    let same : r.records.given ≡ x = ok_is r.records.given x (sym r.records.read ∙ reads_so before here s m h own p x old good taken domain f) in
     let is_header : own ≡ front_header (before ++ here) x.header = owns ∙ ap (front_header (before ++ here)) (sym header) in
     record {
       front = record { messages = ms; given = xs };

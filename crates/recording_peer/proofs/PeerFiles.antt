@@ -13,7 +13,7 @@ use Rattle.recording_files.specs.Recordings.{Recorded, Writes}
 use Rattle.recording_files.specs.Faithful as faithful
 use Rattle.recording_files.specs.Sessions.{file_octets}
 use Rattle.recording_files.proofs.Going.{recorded-push}
-use Rattle.ipfix_datagrams.specs.Datagrams.{Known, none_known, known_with, known_from, IsTaken}
+use Rattle.ipfix_datagrams.specs.Datagrams.{IsTaken}
 use Rattle.recording_peer.specs.Peers.{Taken, AreTaken, HasFront, HaveFronts, PeerFile, givens, known_after_all, messages_with, given_with, all_messages, all_given, part_of, sent_of}
 use Rattle.recording_peer.specs.Recording.{FiledDatagrams, IsLastFile, taken_before, taken_in, filed_with, finished_now, file_finished, taken_by_file, last_file}
 
@@ -31,18 +31,9 @@ all_given-push ts t = all_given-append ts (t ∷ []) ∙ ap (λ (ms : List Messa
 pub all_messages-push : (ts : List Taken) (t : Taken) → all_messages (ts ++ t ∷ []) ≡ all_messages ts ++ messages_with t
 all_messages-push ts t = flat_map-append messages_with ts (t ∷ []) ∙ ap (λ (ms : List (List ℕ)). all_messages ts ++ ms) (append-nil (messages_with t))
 
-pub taken-push : (k : Known) (ts : List Taken) (t : Taken) → AreTaken k ts → IsTaken (known_from k (givens ts)) t.datagram t.preparation t.given → AreTaken k (ts ++ t ∷ [])
-taken-push k [] t are is = (is, tt)
-taken-push k (u ∷ us) t are is = (are.0, taken-push (known_with k u.given) us t are.1 is)
-
-pub known_from-push : (k : Known) (xs : List Message) (x : Message) → known_from k (xs ++ x ∷ []) ≡ known_with (known_from k xs) x
-known_from-push k [] x = refl
-known_from-push k (y ∷ ys) x = known_from-push (known_with k y) ys x
-
--- the domains as the files leave them
-files_from : (k : Known) (xs : List Message) → (known_from k xs).files ≡ known_after k.files xs
-files_from k [] = refl
-files_from k (x ∷ xs) = files_from (known_with k x) xs
+pub taken-push : (ds : History) (ts : List Taken) (t : Taken) → AreTaken ds ts → IsTaken (known_after ds (givens ts)) t.datagram t.preparation t.given → AreTaken ds (ts ++ t ∷ [])
+taken-push ds [] t are is = (is, tt)
+taken-push ds (u ∷ us) t are is = (are.0, taken-push u.given.domains us t are.1 is)
 
 pub fronts-push : (before : List Message) (ts : List Taken) (t : Taken) → HaveFronts before ts → HasFront (before ++ all_given ts) t → HaveFronts before (ts ++ t ∷ [])
 fronts-push before [] t have has = (subst (λ (b : List Message). HasFront b t) (append-nil before) has, tt)
@@ -87,16 +78,12 @@ known_in ds [] = refl
 known_in ds (t ∷ ts) =
     known-append ds (given_with t) (all_given ts) ∙ ap (λ (k : History). known_after k (all_given ts)) (known_after-push ds t.front.given t.given) ∙ known_in t.given.domains ts
 
-pub known_here : (filed : FiledDatagrams) → known_after [] (all_given (taken_before filed) ++ all_given filed.here) ≡ known_after [] (givens (taken_in filed))
-known_here filed = ap (known_after []) (sym (all_given-append (taken_before filed) filed.here)) ∙ known_in [] (taken_in filed)
-
-pub files_here : (filed : FiledDatagrams) → (known_after_all (taken_in filed)).files ≡ known_after [] (all_given (taken_before filed) ++ all_given filed.here)
-files_here filed = files_from none_known (givens (taken_in filed)) ∙ sym (known_here filed)
+pub files_here : (filed : FiledDatagrams) → known_after_all (taken_in filed) ≡ known_after [] (all_given (taken_before filed) ++ all_given filed.here)
+files_here filed = sym (ap (known_after []) (sym (all_given-append (taken_before filed) filed.here)) ∙ known_in [] (taken_in filed))
 
 -- one more
-pub known-push : (filed : FiledDatagrams) (t : Taken) → known_after_all (taken_in (filed_with filed t)) ≡ known_with (known_after_all (taken_in filed)) t.given
-known-push filed t =
-    ap known_after_all (taken_in-push filed t) ∙ ap (known_from none_known) (givens-append (taken_in filed) (t ∷ [])) ∙ known_from-push none_known (givens (taken_in filed)) t.given
+pub known-push : (filed : FiledDatagrams) (t : Taken) → known_after_all (taken_in (filed_with filed t)) ≡ t.given.domains
+known-push filed t = ap known_after_all (taken_in-push filed t) ∙ ap (known_after []) (givens-append (taken_in filed) (t ∷ [])) ∙ known_after-push [] (givens (taken_in filed)) t.given
 
 -- and in the records
 pub records_same : (before : List Message) (ts : List Taken) → HaveFronts before ts → records_in (all_given ts) ≡ records_in (givens ts)

@@ -14,8 +14,7 @@ use Rattle.recording_files.specs.Files.{Contents, FilesView, with_more, with_nex
 use Rattle.recording_files.specs.Recorders.{State}
 use Rattle.recording_files.specs.Sessions.{Stands}
 use Rattle.recording_files.proofs.Going.{stands_cut}
-use Rattle.ipfix_datagrams.specs.Datagrams.{IsTaken}
-use Rattle.ipfix_datagrams.specs.Attempts.{preparation_of}
+use Rattle.ipfix_datagrams.specs.Datagrams.{preparation_of, IsTaken}
 use Rattle.ipfix_datagrams.specs.declared.reading.DatagramReading.{DatagramReading}
 use Rattle.recording_peer.specs.Peers.{known_after_all, all_given, sent_of}
 use Rattle.recording_peer.specs.Recording.{PeerTold, PeerView, FiledDatagrams, last_file, taken_before, taken_in, HasDatagram, FilesHold, Counts, IsPeer, HasStopped}

@@ -3,8 +3,8 @@ use Rattle.std.proofs.Common.{◌≡◌, ℕ, List, [], ◌∷◌, ◌++◌, map
 use Rattle.std.specs.Prelude.{◌≢◌, All}
 use Rattle.std.proofs.lemmas.List.{map-append}
 use Rattle.std.proofs.lemmas.List.Elements.{All-nil, All-push}
-use Rattle.ipfix_message.specs.Domains.{Message}
-use Rattle.ipfix_session.specs.Given.{octets_of}
+use Rattle.ipfix_message.specs.Domains.{DomainsView, History, Message, StandsFor}
+use Rattle.ipfix_session.specs.Given.{known_after, octets_of}
 use Rattle.ipfix_session.proofs.MessagesTaken.{octets-append}
 use Rattle.recording_files.specs.declared.message_count.MessageCount.{MessageCount}
 use Rattle.recording_files.specs.FileReports.{file_report}
@@ -16,18 +16,17 @@ use Rattle.recording_files.specs.Sessions.{Stands}
 use Rattle.recording_files.proofs.Growing.{writes-append}
 use Rattle.recording_files.proofs.Going.{empty_part, stands_first, stands_more, stands_turned}
 use Rattle.ipfix_message.specs.declared.record.Template.{Template}
-use Rattle.ipfix_datagrams.specs.Datagrams.{none_known, known_with, IsTaken}
+use Rattle.ipfix_datagrams.specs.Datagrams.{preparation_of, Represents, IsTaken}
 use Rattle.ipfix_datagrams.specs.Reaches.{reaches_of}
-use Rattle.ipfix_datagrams.specs.Attempts.{preparation_of}
 use Rattle.ipfix_datagrams.specs.declared.reading.DatagramReading.{DatagramReading}
 use Rattle.recording_peer.specs.Peers.{Taken, AreTaken, HasFront, HaveFronts, PeerFile, givens, known_after_all, messages_with, given_with, all_messages, all_given, sent_of}
 use Rattle.recording_peer.specs.Recording.{PeerTold, PeerView, FiledDatagrams, none_filed, taken_before, taken_in, filed_with, finished_now, file_finished, last_file, HasDatagram, IsLastFile, FilesHold, Counts, KeepsListed, IsPeer}
 use Rattle.recording_peer.specs.Fronts.{TookDatagram, taken_as}
-use Rattle.recording_peer.proofs.PeerFiles.{givens-append, all_given-append, all_given-push, all_messages-push, taken-push, fronts-push, taken_in-push, all_finished, now_is, in-finished, givens-finished, all_given-finished, known-push, sent_is, recorded_with}
+use Rattle.recording_peer.proofs.PeerFiles.{files_here, givens-append, all_given-append, all_given-push, all_messages-push, taken-push, fronts-push, taken_in-push, all_finished, now_is, in-finished, givens-finished, all_given-finished, known-push, sent_is, recorded_with}
 
 -- ---- the first file
 
-pub peer_first : (v : FilesView) (s : PeerView) → IsEmpty v.contents → s.ended ≡ None → Keeps s.recorder [] [] → Counted s.told.counts [] [] → s.told.advances ≡ [] → KeepsListed s.withdrawn none_known → IsPeer v v s none_filed
+pub peer_first : (v : FilesView) (s : PeerView) → IsEmpty v.contents → s.ended ≡ None → Keeps s.recorder [] [] → Counted s.told.counts [] [] → s.told.advances ≡ [] → KeepsListed s.withdrawn [] → IsPeer v v s none_filed
 peer_first v s empty on keeps counted none withdrawn = record {
   holds = record {
     taken = tt;
@@ -47,6 +46,20 @@ peer_first v s empty on keeps counted none withdrawn = record {
   withdrawn = withdrawn;
 }
 
+-- ---- what it represents
+
+-- by its view, in place of it
+pub inside_of : {first v : FilesView} {s t : PeerView} {filed : FiledDatagrams} → t ≡ s → IsPeer first v s filed → IsPeer first v t filed
+inside_of {first} {v} {s} {t} {filed} same p = subst (λ (u : PeerView). IsPeer first v u filed) (sym same) p
+
+-- its domains are those after the datagrams
+pub represents : {first v : FilesView} {s : PeerView} {filed : FiledDatagrams} (d : DomainsView) → IsPeer first v s filed → d ≡ s.recorder.domains → Represents d (known_after_all (taken_in filed))
+represents {first} {v} {s} {filed} d p same = record {
+  fresh = ap (λ (k : DomainsView). k.spent) same ∙ p.keeps.not_spent;
+  stands = subst (λ (ds : History). StandsFor d.domains ds) (sym (files_here filed))
+      (subst (λ (k : DomainsView). StandsFor k.domains (known_after [] (all_given (taken_before filed) ++ all_given filed.here))) (sym same) p.keeps.known);
+}
+
 -- ---- the next file
 
 -- what is counted of the file is what is to be told of it
@@ -61,7 +74,7 @@ holds_turned first v after filed c h counted some is =
     let last = last_file filed.here h.file in
     let now = now_is filed.finished filed.here some in
     record {
-      taken = subst (AreTaken none_known) (sym (in-finished filed)) h.taken;
+      taken = subst (AreTaken []) (sym (in-finished filed)) h.taken;
       fronts = subst (HaveFronts []) (sym (in-finished filed)) h.fronts;
       some = subst (λ (tss : List (List Taken)). All HasDatagram tss) (sym now) (All-push HasDatagram filed.finished filed.here h.some some);
       files = h.files ++ last ∷ [];
@@ -109,8 +122,8 @@ peer_unturned first v s filed p none = subst (IsPeer first v s) (sym (unfinished
 
 -- ---- one datagram more
 
-pub taken_with : (filed : FiledDatagrams) (t : Taken) → AreTaken none_known (taken_in filed) → IsTaken (known_after_all (taken_in filed)) t.datagram t.preparation t.given → AreTaken none_known (taken_in (filed_with filed t))
-taken_with filed t are is = subst (AreTaken none_known) (sym (taken_in-push filed t)) (taken-push none_known (taken_in filed) t are is)
+pub taken_with : (filed : FiledDatagrams) (t : Taken) → AreTaken [] (taken_in filed) → IsTaken (known_after_all (taken_in filed)) t.datagram t.preparation t.given → AreTaken [] (taken_in (filed_with filed t))
+taken_with filed t are is = subst (AreTaken []) (sym (taken_in-push filed t)) (taken-push [] (taken_in filed) t are is)
 
 pub fronts_with : (filed : FiledDatagrams) (t : Taken) → HaveFronts [] (taken_in filed) → HasFront (all_given (taken_before filed) ++ all_given filed.here) t → HaveFronts [] (taken_in (filed_with filed t))
 fronts_with filed t have has =
@@ -137,7 +150,7 @@ givens_with here t = givens-append here (t ∷ [])
 pub peer_with : (first v after : FilesView) (s t : PeerView) (filed : FiledDatagrams) (m : List ℕ) (q : DatagramReading) (x : Message) (octets : List ℕ) (c : MessageCount) (p : IsPeer first v s filed)
     → IsTaken (known_after_all (taken_in filed)) m (preparation_of q) x → (k : TookDatagram (all_given (taken_before filed)) (all_given filed.here) t.recorder m q x octets c)
     → after ≡ with_more v octets → Counted t.told.counts (givens (taken_before filed)) (givens filed.here ++ x ∷ [])
-    → t.told.advances ≡ reaches_of (givens (taken_in filed) ++ x ∷ []) → t.ended ≡ None → KeepsListed t.withdrawn (known_with (known_after_all (taken_in filed)) x)
+    → t.told.advances ≡ reaches_of (givens (taken_in filed) ++ x ∷ []) → t.ended ≡ None → KeepsListed t.withdrawn x.domains
     → IsPeer first after t (filed_with filed (taken_as m (preparation_of q) k.front x))
 peer_with first v after s t filed m q x octets c p taken k is counted noted on withdrawn =
     let h = p.holds in

@@ -1,8 +1,7 @@
 -- What a recorder took for a datagram.
-use Rattle.std.specs.Prelude.{◌≡◌, ◌⊎◌, ℕ, true, List, [], ◌∷◌, ◌++◌, Some, None, Result, MatchResult}
+use Rattle.std.specs.Prelude.{◌≡◌, ◌⊎◌, ℕ, true, List, [], ◌∷◌, ◌++◌, Result, MatchResult}
 use Rattle.ipfix_wire.specs.declared.header.Header.{Header}
 use Rattle.ipfix_message.specs.Alike.{knows}
-use Rattle.ipfix_message.specs.TemplatesInForce.{in_force}
 use Rattle.ipfix_message.specs.Domains.{History, Message, events_in}
 use Rattle.ipfix_message.specs.declared.fault.MessageFault.{MessageFault}
 use Rattle.ipfix_message.specs.declared.fault.MessageFault.TheVariants.{OutOfMemory}
@@ -15,8 +14,8 @@ use Rattle.recording_files.specs.Files.{FilesView}
 use Rattle.recording_files.specs.Recordings.{Writes}
 use Rattle.recording_files.specs.Recorders.{State, Keeps, Records, IsCountOf}
 use Rattle.ipfix_datagrams.specs.declared.reading.DatagramReading.{DatagramReading}
-use Rattle.ipfix_datagrams.specs.Datagrams.{Known, IsTaken, Preparation, prepared, with_withdrawn, with_one_defined}
-use Rattle.ipfix_datagrams.specs.Attempts.{CanDefine, IsSound, Leaves, preparation_of}
+use Rattle.ipfix_datagrams.specs.Datagrams.{IsReadingOf, Preparation, preparation_of, prepared, with_withdrawn, with_one_defined}
+use Rattle.ipfix_datagrams.specs.Attempts.{IsFree, CanDefine}
 use Rattle.ipfix_datagrams.specs.Withdrawals.{withdrawal_message}
 use Rattle.ipfix_datagrams.specs.declared.withdrawn_template.WithdrawnTemplate.{WithdrawnTemplate}
 use Rattle.recording_peer.specs.Peers.{Front, Taken, InParts, HasFront, withdrawals, definitions, messages_with, given_with, known_after_all}
@@ -40,7 +39,7 @@ CanWithdraw before here domain ws = (ws ≡ []) ⊎ HasAppeared before here doma
 
 -- a template can be defined in a domain: that has appeared, and none is in force for the id, or the same
 abbrev pub IsDefinable : History → ℕ → Template → Type 0
-IsDefinable ds domain t = (knows ds domain ≡ true) × ((in_force (events_in ds domain) t.id ≡ None) ⊎ (in_force (events_in ds domain) t.id ≡ Some t))
+IsDefinable ds domain t = (knows ds domain ≡ true) × IsFree (events_in ds domain) t
 
 -- and so it can after these messages
 abbrev pub CanDefineNext : List Message → List Message → ℕ → Template → Type 0
@@ -126,16 +125,12 @@ pub record TookDatagram (before here : List Message) (s : State) (m : List ℕ) 
   pub keeps : Keeps s before (here ++ given_with (taken_as m (preparation_of reading) front x))
   pub counts : IsCountOf count x
 
--- a datagram was read so after these messages of the session: it gives this
-pub record IsReadAfter (before here : List Message) (m : List ℕ) (reading : DatagramReading) (x : Message) : Type 0 where
-  pub known : Known
-  pub files : known.files ≡ domains_after before here
-  pub sound : IsSound known
-  pub taken : IsTaken known m (preparation_of reading) x
+-- a datagram was read so after these messages of the session, and gives this
+abbrev pub IsReadAfter : List Message → List Message → List ℕ → DatagramReading → Message → Type 0
+IsReadAfter before here m reading x = IsReadingOf (domains_after before here) m reading x
 
--- the recorder and its files represent these datagrams, and after them the next was read so, which leaves these templates
+-- the recorder and its files represent these datagrams, and after them the next was read so, which gives this
 pub record HasRead (first before : FilesView) (s : PeerView) (filed : FiledDatagrams) (m : List ℕ) (reading : DatagramReading) : Type 0 where
   pub is : IsPeer first before s filed
   pub given : Message
-  pub taken : IsTaken (known_after_all (taken_in filed)) m (preparation_of reading) given
-  pub leaves : Leaves reading.after given
+  pub read : IsReadingOf (known_after_all (taken_in filed)) m reading given

@@ -1,14 +1,14 @@
 -- The datagrams of a peer, and its files (RFC 7011, sections 8.1, 8.4 and 10.3).
 use Rattle.std.specs.Prelude.{◌≡◌, ◌≢◌, ℕ, List, [], ◌∷◌, ◌++◌, take, drop, map, flat_map}
 use Rattle.ipfix_wire.specs.declared.header.Header.{Header}
-use Rattle.ipfix_message.specs.Domains.{Message}
+use Rattle.ipfix_message.specs.Domains.{History, Message}
 use Rattle.ipfix_message.specs.declared.record.DataRecord.{DataRecord}
 use Rattle.ipfix_message.specs.declared.record.Template.{Template}
-use Rattle.ipfix_session.specs.Given.{records_in}
+use Rattle.ipfix_session.specs.Given.{known_after, records_in}
 use Rattle.recording_files.specs.Recordings.{Part, stamp_for}
 use Rattle.recording_files.specs.Preambles.{templates_message}
 use Rattle.ipfix_message.specs.declared.stamp.Stamp.{Stamp}
-use Rattle.ipfix_datagrams.specs.Datagrams.{Known, none_known, known_with, known_from, Preparation, IsTaken}
+use Rattle.ipfix_datagrams.specs.Datagrams.{Preparation, IsTaken}
 use Rattle.ipfix_datagrams.specs.Withdrawals.{withdrawal_message}
 use Rattle.ipfix_datagrams.specs.declared.withdrawal.TheConstants.{MOST_WITHDRAWN}
 use Rattle.ipfix_datagrams.specs.declared.withdrawn_template.WithdrawnTemplate.{WithdrawnTemplate}
@@ -28,10 +28,10 @@ pub record Taken : Type 0 where
   pub front : Front
   pub given : Message
 
--- datagrams one after another, each taken after the templates that those before it leave
-abbrev pub AreTaken : Known → List Taken → Type 0
-AreTaken k [] = Unit {0}
-AreTaken k (t ∷ ts) = IsTaken k t.datagram t.preparation t.given × AreTaken (known_with k t.given) ts
+-- datagrams one after another, each taken after the domains that those before it leave in the files
+abbrev pub AreTaken : History → List Taken → Type 0
+AreTaken ds [] = Unit {0}
+AreTaken ds (t ∷ ts) = IsTaken ds t.datagram t.preparation t.given × AreTaken t.given.domains ts
 
 abbrev pub datagrams : List Taken → List (List ℕ)
 datagrams ts = map (λ t. t.datagram) ts
@@ -39,9 +39,9 @@ datagrams ts = map (λ t. t.datagram) ts
 abbrev pub givens : List Taken → List Message
 givens ts = map (λ t. t.given) ts
 
--- the templates after them
-abbrev pub known_after_all : List Taken → Known
-known_after_all ts = known_from none_known (givens ts)
+-- the domains after them
+abbrev pub known_after_all : List Taken → History
+known_after_all ts = known_after [] (givens ts)
 
 -- their data records, in order
 abbrev pub records_over_udp : List Taken → List DataRecord

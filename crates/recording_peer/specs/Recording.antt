@@ -5,6 +5,7 @@ use Rattle.ipfix_session.specs.Given.{IsOpen, IsPrefix, octets_of, records_of, s
 use Rattle.std.specs.Map.{lookup}
 use Rattle.std.specs.Option.{option_and_then}
 use Rattle.std.specs.Ordering.{nat_cmp, eq_by_cmp}
+use Rattle.ipfix_message.specs.Domains.{History}
 use Rattle.ipfix_message.specs.declared.record.Template.{Template}
 use Rattle.ipfix_message.specs.declared.fault.MessageFault.TheVariants.{OutOfMemory}
 use Rattle.ipfix_session.specs.Sources.{one_more}
@@ -20,8 +21,7 @@ use Rattle.recording_files.specs.Sessions.{Stands, IsTold}
 use Rattle.ipfix_datagrams.specs.declared.reach.Reach.{Reach}
 use Rattle.ipfix_datagrams.specs.Reaches.{reaches_of, told_of}
 use Rattle.ipfix_datagrams.specs.Advances.{advances_of}
-use Rattle.ipfix_datagrams.specs.Datagrams.{Known, none_known, withdrawn_in, IsRefused}
-use Rattle.ipfix_datagrams.specs.Attempts.{IsSound}
+use Rattle.ipfix_datagrams.specs.Datagrams.{withdrawn_in, IsRefused}
 use Rattle.recording_peer.specs.declared.peer_answer.PeerAnswer.{PeerAnswer}
 use Rattle.recording_peer.specs.declared.peer_answer.PeerAnswer.TheVariants.{Recorded, Refused}
 use Rattle.recording_peer.specs.declared.peer_session.PeerSession.{PeerSession}
@@ -45,9 +45,8 @@ abbrev pub template_listed : List (ℕ × List (ℕ × Template)) → ℕ → �
 template_listed es domain id = option_and_then (λ ts. lookup (eq_by_cmp nat_cmp id) ts) (lookup (eq_by_cmp nat_cmp domain) es)
 
 -- they are exactly those that are known over UDP, and that the files don't have in force
-pub record KeepsListed (es : List (ℕ × List (ℕ × Template))) (k : Known) : Type 0 where
-  pub at : (domain id : ℕ) → template_listed es domain id ≡ withdrawn_in k domain id
-  pub sound : IsSound k
+pub record KeepsListed (es : List (ℕ × List (ℕ × Template))) (ds : History) : Type 0 where
+  pub at : (domain id : ℕ) → template_listed es domain id ≡ withdrawn_in ds domain id
 
 -- ---- the files of a peer
 
@@ -97,7 +96,7 @@ IsLastFile filed file = Writes (all_given (taken_before filed)) [] (all_messages
 -- these datagrams were taken, and are in the files that came after the first ones, each after the messages in front of it: those
 -- of each finished file, and those of the file that isn't finished, where these octets follow
 pub record FilesHold (first after : FilesView) (filed : FiledDatagrams) (cut_off : List ℕ) : Type 0 where
-  pub taken : AreTaken none_known (taken_in filed)
+  pub taken : AreTaken [] (taken_in filed)
   pub fronts : HaveFronts [] (taken_in filed)
   pub some : All HasDatagram filed.finished
   pub files : List PeerFile
@@ -132,7 +131,7 @@ pub record IsCutOff (first after : FilesView) (filed : FiledDatagrams) (m : List
   pub holds : FilesHold first after filed cut_off
   pub next : Taken
   pub datagram : next.datagram ≡ m
-  pub taken : AreTaken none_known (taken_in (filed_with filed next))
+  pub taken : AreTaken [] (taken_in (filed_with filed next))
   pub fronts : HaveFronts [] (taken_in (filed_with filed next))
   pub file : List (List ℕ)
   pub whole : IsLastFile (filed_with filed next) file
@@ -204,7 +203,7 @@ pub record CameAfter (first after : FilesView) (since : Contents) : Type 0 where
 -- each of these files is read by itself as a session of a connection is, with no fault, and one after another they give the data
 -- records of datagrams, each once, in their order, under the templates in force over UDP
 pub record GiveRecordsOverUdp (files : List (List ℕ)) (ts : List Taken) : Type 0 where
-  pub taken : AreTaken none_known ts
+  pub taken : AreTaken [] ts
   pub stops : All (λ file. stop_of file ≡ Clean) files
   pub records : flat_map records_of files ≡ records_over_udp ts
 
@@ -214,7 +213,7 @@ pub record KeepsWhole (ts : List Taken) (m : List ℕ) (files : List (List ℕ))
   pub read : All (λ file. IsOpen (stop_of file)) files
   pub next : List Taken
   pub one : (next ≡ []) ⊎ (datagrams next ≡ m ∷ [])
-  pub taken : AreTaken none_known (ts ++ next)
+  pub taken : AreTaken [] (ts ++ next)
   pub at_least : IsPrefix (records_over_udp ts) (flat_map records_of files)
   pub at_most : IsPrefix (flat_map records_of files) (records_over_udp (ts ++ next))
 

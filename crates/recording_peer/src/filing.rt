@@ -58,13 +58,8 @@ impl PeerRecorder {
             filed datagram.now) }
     {
         self.counts.clear_waiting();
-        keep_withdrawn(
-            alloc,
-            &mut self.withdrawn,
-            header.domain,
-            self.recorder.domains().templates(header.domain),
-            reading.after.templates(header.domain),
-        )?;
+        let domains = self.recorder.domains();
+        keep_withdrawn(alloc, &mut self.withdrawn, domains, header.domain, reading)?;
         let count = take_datagram(
             alloc,
             &mut self.recorder,

@@ -4,7 +4,7 @@ use Rattle.std.proofs.lemmas.Result.{err_from_is_err_and}
 use Rattle.ipfix_message.specs.Domains.{message_gives}
 use Rattle.ipfix_message.specs.Outcome.{Fails}
 use Rattle.ipfix_message.specs.declared.fault.MessageFault.TheVariants.{OutOfMemory}
-use Rattle.ipfix_datagrams.specs.Attempts.{preparation_of}
+use Rattle.ipfix_datagrams.specs.Datagrams.{preparation_of}
 use Rattle.recording_peer.specs.Peers.{front_header}
 use Rattle.recording_peer.specs.Fronts.{TookWithdrawals, TookPrepared, domains_after}
 use Rattle.recording_peer.proofs.Fronting.{with_sequence, front_can, taken_front, none_defined, datagram_fails, took_datagram, answered}
@@ -12,19 +12,17 @@ use Rattle.recording_peer.proofs.fronts.take_datagram.Goals as goal
 
 pub returns-in_err-take_withdrawals : goal.returns-in_err-take_withdrawals
 returns-in_err-take_withdrawals c = λ before here x keeps r.
-    let k = r.known in
-    let can = front_can k before here c.args.datagram.now c.args.header.now (preparation_of c.args.reading.now) x r.files r.sound c.requires.header r.taken in
+    let can = front_can before here c.args.datagram.now c.args.header.now (preparation_of c.args.reading.now) x c.requires.header r.taken in
     let p = err_from_is_err_and c.from_residual.result c.from_residual.ensures.1 in
     rw (p.1, p.2) (c.in_err-take_withdrawals.ensures before here keeps (rw c.deref.ensures.value can.0))
 
 pub returns-in_err-take_definitions : goal.returns-in_err-take_definitions
 returns-in_err-take_definitions c = λ before here x keeps r.
-    let k = r.known in
     let m = c.args.datagram.now in
     let h = c.args.header.now in
     let q = preparation_of c.args.reading.now in
     let own = with_sequence h c.unwrap_or.result in
-    let can = front_can k before here m h q x r.files r.sound c.requires.header r.taken in
+    let can = front_can before here m h q x c.requires.header r.taken in
     let e : TookWithdrawals before here c.take_withdrawals.new.recorder own q.withdrawn c.take_withdrawals.new.out.items = taken_front c.deref.ensures.value (c.in_ok-take_withdrawals.ensures before here keeps (rw c.deref.ensures.value can.0)) in
     let d = none_defined before here c.take_withdrawals.new.recorder own q c.take_withdrawals.new.out.items e can.1 in
     let p = err_from_is_err_and c.from_residual-in_err-take_definitions.result c.from_residual-in_err-take_definitions.ensures.1 in
@@ -32,12 +30,11 @@ returns-in_err-take_definitions c = λ before here x keeps r.
 
 pub returns : goal.returns
 returns c = λ before here x keeps r.
-    let k = r.known in
     let m = c.args.datagram.now in
     let h = c.args.header.now in
     let q = preparation_of c.args.reading.now in
     let own = with_sequence h c.unwrap_or.result in
-    let can = front_can k before here m h q x r.files r.sound c.requires.header r.taken in
+    let can = front_can before here m h q x c.requires.header r.taken in
     let e : TookWithdrawals before here c.take_withdrawals.new.recorder own q.withdrawn c.take_withdrawals.new.out.items = taken_front c.deref.ensures.value (c.in_ok-take_withdrawals.ensures before here keeps (rw c.deref.ensures.value can.0)) in
     let d = none_defined before here c.take_withdrawals.new.recorder own q c.take_withdrawals.new.out.items e can.1 in
     let f : TookPrepared before here c.take_definitions.new.recorder own q c.take_definitions.new.out.items = c.in_ok-take_definitions.ensures before here q d in
@@ -45,5 +42,5 @@ returns c = λ before here x keeps r.
     let owns : own ≡ front_header (before ++ here) h = ap (with_sequence h) (number ∙ ap (λ (o : Option ℕ). unwrap_or o h.sequence) (c.due.ensures before here keeps)) in
     answered c.take_and_append.result _ (λ fault. Fails fault (message_gives (domains_after before (here ++ f.front.given)) m)) _ (λ fault. fault ≡ OutOfMemory)
     (c.take_and_append.ensures.took before (here ++ f.front.given) f.front.keeps) (c.take_and_append.ensures.fails before (here ++ f.front.given) f.front.keeps)
-    (λ count took. took_datagram k before here c.take_definitions.new.recorder c.take_and_append.new.recorder m h own c.args.reading.now x c.take_definitions.new.out.items c.take_and_append.new.out.items count r.files c.requires.header r.taken owns f took)
-    (λ fault fails. datagram_fails k before here c.take_definitions.new.recorder m h own q x c.take_definitions.new.out.items fault r.files c.requires.header r.taken refl f fails)
+    (λ count took. took_datagram before here c.take_definitions.new.recorder c.take_and_append.new.recorder m h own c.args.reading.now x c.take_definitions.new.out.items c.take_and_append.new.out.items count c.requires.header r.taken owns f took)
+    (λ fault fails. datagram_fails before here c.take_definitions.new.recorder m h own q x c.take_definitions.new.out.items fault c.requires.header r.taken refl f fails)
