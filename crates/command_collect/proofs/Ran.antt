@@ -4,10 +4,7 @@ use Rattle.std.specs.Prelude.{◌↔◌}
 use Rattle.std.specs.Option.{ForSome}
 use Rattle.ipfix_message.specs.declared.record.DataRecord.{DataRecord}
 use Rattle.ipfix_session.specs.Sources.{SourceView}
-use Rattle.ipfix_session.specs.declared.report.FullReport.{FullReport}
-use Rattle.ipfix_session.specs.declared.report.SessionReport.{SessionReport}
 use Rattle.flow_table.specs.Plans.{PlanValue}
-use Rattle.flow_table.specs.declared.table.Table.{Table}
 use Rattle.flow_collect.specs.Headline.{Answer, HeadlineWith, IsAddedUp, IsGivenBy}
 use Rattle.flow_collect.specs.InFull.{FullAnswer, FullHeadline, IsGivenInFull, reports_in}
 use Rattle.flow_collect.specs.declared.collected.Pool.{Pool}

@@ -1,13 +1,12 @@
 //! Merging the exports in files.
 
-ghost use Rattle.std.specs.Prelude.{ℕ, List, IfErr, IfOk, OnOk};
+ghost use Rattle.std.specs.Prelude.{IfErr, IfOk, OnOk};
 ghost use Rattle.flow_table.specs.Fitting.{FitsPlan};
 ghost use Rattle.report_writing.specs.OpeningLines.{if_verbose};
 ghost use Rattle.report_writing.specs.Told.{AreToldTo};
 ghost use Rattle.command_merge.specs.MergeLines.{file_opened_line, files_opened_lines};
-ghost use Rattle.report_writing.specs.declared.reason.Reason.{Reason as ReasonValue};
 ghost use Rattle.command_merge.specs.Merges.{AddsFile, IsDueOpened, IsMerged, IsNotAdded, MergesFiles, StopsMerge, names_of};
-ghost use Rattle.input_sources.specs.Had.{IsOpened, PathsAreOpened};
+ghost use Rattle.input_sources.specs.Had.{HoldBefore, IsOpened, PathsAreOpened};
 
 use crate::job::MergeJob;
 use crate::not_merged::{FileFault, NotMerged};
@@ -102,10 +101,8 @@ fn add_file<'a, S: Source + Drop, O: OpenSource<S>, E: WriteLines>(
 ) -> Result<Merging, NotMerged<'a>>
     ensures added { IfOk result (AddsFile S.seen
         (IsOpened (O.opens files.old path.now) (O.coming files.old) (O.coming files.new)) merging) }
-    ensures same { (name : List ℕ) (source : S)
-        → O.opens files.new name source → O.opens files.old name source }
-    ensures same_reason { (name : List ℕ) (why : ReasonValue)
-        → O.refuses files.new name why → O.refuses files.old name why }
+    ensures same { HoldBefore (O.opens files.old) (O.opens files.new) }
+    ensures same_reason { HoldBefore (O.refuses files.old) (O.refuses files.new) }
     ensures told { OnOk result (AreToldTo E.contents E.failed err.old err.new
         (if_verbose verbosity (file_opened_line number path.now))) }
     ensures stops { IfErr result (IsNotAdded S.seen S.failure O.opens O.refuses O.coming files.old files.new

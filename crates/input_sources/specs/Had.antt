@@ -18,10 +18,18 @@ NextOnes None after sources = Unit {0}
 NextOnes (Some all) None sources = ⊥
 NextOnes (Some all) (Some left) sources = all ≡ sources ++ left
 
+-- and exactly this one came
+abbrev pub ComesNext : {S : Type 0} → Option (List S) → Option (List S) → S → Type 0
+ComesNext before after source = NextOnes before after (source ∷ [])
+
+-- what is so after a call was so before it
+abbrev pub HoldBefore : {A B : Type 0} → (A → B → Type 0) → (A → B → Type 0) → Type 0
+HoldBefore {A} {B} before after = (a : A) (b : B) → after a b → before a b
+
 -- the next source came, which is the one that was asked for
 pub record IsOpened {S : Type 0} (IsAsked : S → Type 0) (before after : Option (List S)) (source : S) : Type 0 where
   pub asked : IsAsked source
-  pub came : NextOnes before after (source ∷ [])
+  pub came : ComesNext before after source
 
 -- each path was opened once, in their order: there is one source for each, and exactly these came
 pub record AreOpened {P S : Type 0} (opens : P → S → Type 0) (paths : List P) (before after : Option (List S)) (sources : List S) : Type 0 where

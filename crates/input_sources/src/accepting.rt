@@ -27,12 +27,11 @@ pub struct Accepted<S> {
 
 /// What gives one connection after another.
 pub trait Listener<S: Source> {
-    ghost use Rattle.std.specs.Prelude.{◌≡◌, List, [], ◌∷◌, Option, IfErr, IfOk, IfSome, IsErr, OnErr};
+    ghost use Rattle.std.specs.Prelude.{◌≡◌, List, Option, IfErr, IfOk, IfSome, IsErr, OnErr};
     ghost use Rattle.std.specs.declared.net.socket_addr.SocketAddr.{SocketAddr};
     ghost use Rattle.std.specs.declared.time.Duration.{Duration};
     ghost use Rattle.report_writing.specs.declared.reason.Reason.{Reason};
-    ghost use Rattle.input_sources.specs.Had.{IsUnread};
-    ghost use Rattle.input_sources.specs.Had.{NextOnes};
+    ghost use Rattle.input_sources.specs.Had.{ComesNext, HoldBefore, IsUnread};
 
     /// Whether a source is a connection with this limit of a read's time, as it is before it is read.
     ghost gives: { Self → Option Duration → S → Type 0 };
@@ -59,16 +58,14 @@ pub trait Listener<S: Source> {
         ensures unread { IfOk result (λ accepted. IsUnread S.seen accepted.source) }
         // It is the next one that was to come.
         ensures came { IfOk result
-            (λ accepted. NextOnes (coming self.old) (coming self.new) (accepted.source ∷ [])) }
+            (λ accepted. ComesNext (coming self.old) (coming self.new) accepted.source) }
         ensures none_came { OnErr result (coming self.new ≡ coming self.old) }
         ensures no_time { IfSome idle (λ limit. as_nanos limit ≡ 0 → IsErr result) }
         ensures closed { is_closed self.old → IsErr result }
         // No other connection has a limit than before.
-        ensures same { (limit : Option Duration) (source : S)
-            → gives self.new limit source → gives self.old limit source }
+        ensures same { HoldBefore (gives self.old) (gives self.new) }
         // Nor another peer, nor is there none for another reason.
-        ensures same_peer { (source : S) (address : SocketAddr)
-            → is_of self.new source address → is_of self.old source address }
+        ensures same_peer { HoldBefore (is_of self.old) (is_of self.new) }
         ensures same_reason { (reason : Reason) → refuses self.new reason → refuses self.old reason };
 
     /// Closes it. A peer that comes later is refused.

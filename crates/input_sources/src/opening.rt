@@ -22,10 +22,9 @@ pub struct Opened<S> {
 
 /// Opens sources by their paths.
 pub trait OpenSource<S: Source> {
-    ghost use Rattle.std.specs.Prelude.{◌≡◌, ℕ, List, [], ◌∷◌, Option, IfErr, IfOk, OnErr, option_map};
+    ghost use Rattle.std.specs.Prelude.{◌≡◌, ℕ, List, Option, IfErr, IfOk, OnErr, option_map};
     ghost use Rattle.std.specs.Int.NonZero.{non_zero_u64_get};
-    ghost use Rattle.input_sources.specs.Had.{IsUnread};
-    ghost use Rattle.input_sources.specs.Had.{NextOnes};
+    ghost use Rattle.input_sources.specs.Had.{ComesNext, HoldBefore, IsUnread};
     ghost use Rattle.report_writing.specs.declared.reason.Reason.{Reason};
 
     /// Whether a source is the one that a path opens, as it is before it is read.
@@ -49,16 +48,13 @@ pub trait OpenSource<S: Source> {
         ensures unread { IfOk result (λ opened. IsUnread S.seen opened.source) }
         // It is the next one that was to come.
         ensures came { IfOk result
-            (λ opened. NextOnes (coming self.old) (coming self.new) (opened.source ∷ [])) }
+            (λ opened. ComesNext (coming self.old) (coming self.new) opened.source) }
         ensures none_came { OnErr result (coming self.new ≡ coming self.old) }
         // No path has another source than before.
-        ensures same { (name : List ℕ) (source : S)
-            → opens self.new name source → opens self.old name source }
+        ensures same { HoldBefore (opens self.old) (opens self.new) }
         // Nor another size, nor is it refused for another reason.
-        ensures same_size { (name : List ℕ) (size : Option ℕ)
-            → sizes self.new name size → sizes self.old name size }
-        ensures same_reason { (name : List ℕ) (reason : Reason)
-            → refuses self.new name reason → refuses self.old name reason };
+        ensures same_size { HoldBefore (sizes self.old) (sizes self.new) }
+        ensures same_reason { HoldBefore (refuses self.old) (refuses self.new) };
 }
 
 /// The files of the system. The path `-` is standard input.

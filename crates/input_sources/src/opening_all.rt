@@ -1,9 +1,8 @@
 //! Opening files, one after another.
 
-ghost use Rattle.std.specs.Prelude.{◌≡◌, ℕ, List, [], ◌∷◌, map, IfErr, IfOk, Option};
-ghost use Rattle.input_sources.specs.Had.{IsReasonOf, IsUnread, NextOnes, PathsAreOpened};
+ghost use Rattle.std.specs.Prelude.{◌≡◌, map, IfErr, IfOk};
+ghost use Rattle.input_sources.specs.Had.{ComesNext, HoldBefore, IsReasonOf, IsUnread, PathsAreOpened};
 ghost use Rattle.input_sources.specs.Origins.{AreFiles, IsFileNamed};
-ghost use Rattle.report_writing.specs.declared.reason.Reason.{Reason as ReasonValue};
 ghost use Rattle.input_sources.specs.InputsTold.{opened_lines, StopsAt};
 ghost use Rattle.report_writing.specs.Told.{AreToldTo};
 
@@ -101,13 +100,10 @@ fn open_watched<'r, 'a, S: Source + Drop, O: OpenSource<S>, P: Write + Copy + Dr
 ) -> Result<(WithProgress<'r, S, R, P>, Origin<'a>), NotOpened<'a>>
     ensures opened { IfOk result (λ had. O.opens files.old path.now had.0) }
     ensures came { IfOk result
-        (λ had. NextOnes (O.coming files.old) (O.coming files.new) (had.0 ∷ [])) }
-    ensures same { (name : List ℕ) (source : S)
-        → O.opens files.new name source → O.opens files.old name source }
-    ensures same_size { (name : List ℕ) (size : Option ℕ)
-        → O.sizes files.new name size → O.sizes files.old name size }
-    ensures same_reason { (name : List ℕ) (why : ReasonValue)
-        → O.refuses files.new name why → O.refuses files.old name why }
+        (λ had. ComesNext (O.coming files.old) (O.coming files.new) had.0) }
+    ensures same { HoldBefore (O.opens files.old) (O.opens files.new) }
+    ensures same_size { HoldBefore (O.sizes files.old) (O.sizes files.new) }
+    ensures same_reason { HoldBefore (O.refuses files.old) (O.refuses files.new) }
     ensures stopped { IfErr result (λ stopped. stopped.path.now ≡ path.now) }
     ensures reason { IfErr result (λ stopped. O.refuses files.old path.now stopped.reason) }
     ensures unread { IfOk result (λ had. IsUnread S.seen had.0) }
