@@ -1,10 +1,11 @@
 -- Which peers have a session, and the peers that were refused and are not reported yet.
-use Rattle.std.specs.Prelude.{◌≡◌, ℕ, Option, Some, None}
+use Rattle.std.specs.Prelude.{◌≡◌, ℕ, zero, suc, List, [], ◌++◌, Option, Some, None}
 use Rattle.std.specs.Net.Socket.{socket_ip}
 use Rattle.std.specs.declared.net.socket_addr.SocketAddr.{SocketAddr}
 use Rattle.ipfix_session.specs.Sources.{one_more}
 use Rattle.network_prefixes.specs.Peers.{LetsIn}
 use Rattle.network_prefixes.specs.declared.peer_filter.PeerFilter.{PeerFilter}
+use Rattle.recording_lines.specs.RecordLines.{not_accepted_line, refused_line}
 use Rattle.recording_connections.specs.declared.shared_counts.RefusedPeers.{RefusedPeers}
 use Rattle.recording_connections.specs.declared.shared_counts.SessionNumber.{SessionNumber}
 use Rattle.recording_connections.specs.declared.shared_counts.SharedCounts.{SharedCounts}
@@ -31,3 +32,16 @@ IsAdmitted before None after = ⊥
 abbrev pub IsTurnedAway : SharedCounts → SocketAddr → Option SessionNumber → SharedCounts → Type 0
 IsTurnedAway before peer number after =
     (number ≡ None) × (after ≡ record before { refused = Some (one_more_refused before.refused peer) })
+
+-- ---- the lines of peers that have no session
+
+abbrev pub refused_lines : Option RefusedPeers → List ℕ
+refused_lines None = []
+refused_lines (Some refused) = refused_line refused.count refused.last
+
+abbrev pub not_accepted_lines : ℕ → List ℕ
+not_accepted_lines zero = []
+not_accepted_lines (suc n) = not_accepted_line (suc n)
+
+abbrev pub unserved_lines : Option RefusedPeers → ℕ → List ℕ
+unserved_lines refused not_accepted = refused_lines refused ++ not_accepted_lines not_accepted

@@ -9,6 +9,7 @@ mod running;
 mod serving;
 mod shared_counts;
 mod system;
+mod unserved;
 
 pub use connection::{Connection, ConnectionSource, NotAccepted, PatientListener};
 pub use patient_reader::PatientReader;

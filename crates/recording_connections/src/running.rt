@@ -9,10 +9,11 @@ use crate::connection::{Connection, ConnectionSource};
 use crate::place::{RecordingFiles, SessionPlace};
 use crate::serving::record_connection;
 use crate::shared_counts::SharedCounts;
+use crate::unserved::write_unserved;
 use ipfix_session::Source;
 use network_prefixes::PeerFilter;
 use recording_files::PeriodClock;
-use recording_lines::{WholeLines, write_not_accepted, write_refused, write_threads};
+use recording_lines::{WholeLines, write_threads};
 use report_writing::{Status, WriteLines};
 use std::alloc::Global;
 use std::io::{self, Write};
@@ -168,12 +169,8 @@ fn tell_forever<W: WriteLines, R: Clock + Wait>(rt: &R, shared: &Mutex<SharedCou
     for _ in rt.forever() {
         thread::sleep(rt, Duration::from_secs(BETWEEN_LINES));
         let refused = shared.lock(rt).take_refused();
-        if let Some(refused) = refused {
-            let _ = write_refused(refused.count, refused.last, out);
-        }
         let not_accepted = shared.lock(rt).take_not_accepted();
-        if not_accepted > 0 {
-            let _ = write_not_accepted(not_accepted, out);
-        }
+        // (a line that can't be written stops nothing)
+        let _ = write_unserved(refused, not_accepted, out);
     }
 }
