@@ -3,4 +3,5 @@ pub mod Ending
 pub mod Taking
 pub mod Turns
 pub mod Rounds
+pub mod Queues
 pub mod Standing

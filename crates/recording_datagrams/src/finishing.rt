@@ -1,6 +1,6 @@
 //! Threads that finish the files of peers, beside the one that takes datagrams.
 
-ghost use Rattle.std.specs.Prelude.{◌≡◌, ◌⊎◌, IsOk};
+ghost use Rattle.recording_datagrams.specs.Queues.{IsFinishedOrQueued};
 
 use crossbeam_channel::{Receiver, Sender};
 use recording_folder::{EndedFile, FileFinisher, Folder, FolderFinisher};
@@ -34,22 +34,21 @@ pub struct QueueFinisher<'a, R: Files + Clock, W: Wait, E: Write + Drop> {
 
 impl<'a, R: Files + Clock, W: Wait, E: Write + Drop> FileFinisher<R::File>
     for QueueFinisher<'a, R, W, E> {
-    // (a file that is queued is another thread's)
-    ghost finishes = { λ before ended result after.
-        (IsOk result × (after.at_once ≡ before.at_once))
-        ⊎ ⟦<FolderFinisher<'a, R, WholeLines<E>> as FileFinisher<R::File>>⟧.finishes
+    ghost finishes = { λ before ended result after. IsFinishedOrQueued
+        ⟦<FolderFinisher<'a, R, WholeLines<E>> as FileFinisher<R::File>>⟧.finishes
         before.at_once ended result after.at_once };
 
     fn finish(&mut self, ended: EndedFile<R::File>) -> Result<(), EndedFile<R::File>>
-        ensures { ⟦<FolderFinisher<'a, R, WholeLines<E>> as FileFinisher<R::File>>⟧.finishes
+        ensures { IsFinishedOrQueued
+            ⟦<FolderFinisher<'a, R, WholeLines<E>> as FileFinisher<R::File>>⟧.finishes
             self.old.at_once ended result self.new.at_once }
     {
         self.at_once.finish(ended)
     }
 
     fn finish_or_queue(&mut self, ended: EndedFile<R::File>) -> Result<(), EndedFile<R::File>>
-        ensures { (IsOk result × (self.new.at_once ≡ self.old.at_once))
-            ⊎ ⟦<FolderFinisher<'a, R, WholeLines<E>> as FileFinisher<R::File>>⟧.finishes
+        ensures { IsFinishedOrQueued
+            ⟦<FolderFinisher<'a, R, WholeLines<E>> as FileFinisher<R::File>>⟧.finishes
             self.old.at_once ended result self.new.at_once }
     {
         let Some(queue) = self.queue else {
