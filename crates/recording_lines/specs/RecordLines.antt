@@ -82,6 +82,11 @@ unfoldable pub advance_line : SocketAddr → ℕ → ℕ → ℕ → List ℕ
 advance_line peer domain advance came =
     codes "collectd: session " ++ (socket_text peer ++ (codes ": domain " ++ (decimal domain ++ (codes ": sequence numbers advanced by " ++ (decimal advance ++ (codes ", records " ++ (decimal came ++ codes "\n")))))))
 
+-- how many datagrams of a domain came twice, and how many were written before one that came earlier
+unfoldable pub order_line : SocketAddr → ℕ → ℕ → ℕ → List ℕ
+order_line peer domain doubled reordered =
+    codes "collectd: session " ++ (socket_text peer ++ (codes ": domain " ++ (decimal domain ++ (codes ": doubled " ++ (decimal doubled ++ (codes ", reordered " ++ (decimal reordered ++ codes "\n")))))))
+
 -- datagrams of peers that have no session
 unfoldable pub turned_away_line : ℕ → SocketAddr → List ℕ
 turned_away_line count last = codes "collectd: refused " ++ (decimal count ++ (codes " datagrams, last " ++ (socket_text last ++ codes "\n")))

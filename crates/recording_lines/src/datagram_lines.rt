@@ -1,7 +1,7 @@
 //! The lines of peers that send datagrams.
 
 ghost use Rattle.report_writing.specs.Writing.{Tells};
-ghost use Rattle.recording_lines.specs.RecordLines.{advance_line, not_received_line, peer_ended_line, refused_datagrams_line, turned_away_line};
+ghost use Rattle.recording_lines.specs.RecordLines.{advance_line, not_received_line, order_line, peer_ended_line, refused_datagrams_line, turned_away_line};
 
 use report_writing::WriteLines;
 use std::io;
@@ -49,6 +49,25 @@ pub fn write_advance<W: WriteLines>(
     writeln!(
         out,
         "collectd: session {peer}: domain {domain}: sequence numbers advanced by {advance}, records {came}"
+    )
+}
+
+/// Writes how many datagrams of a domain came twice (RFC 7011, section 8.2), and how many were written before
+/// one that came earlier.
+#[tactic(auto, unfolding(crate::specs::RecordLines::order_line))]
+pub fn write_order<W: WriteLines>(
+    peer: SocketAddr,
+    domain: u32,
+    doubled: u64,
+    reordered: u64,
+    out: &mut W,
+) -> io::Result<()>
+    ensures { Tells W.contents W.failed out.old out.new result
+        (order_line peer domain doubled reordered) }
+{
+    writeln!(
+        out,
+        "collectd: session {peer}: domain {domain}: doubled {doubled}, reordered {reordered}"
     )
 }
 
