@@ -1,6 +1,6 @@
 //! What is counted of each domain.
 
-ghost use Rattle.std.specs.Prelude.{◌≡◌, IfOk, OnErr, map};
+ghost use Rattle.std.specs.Prelude.{◌≡◌, ◌<◌, Some, IfOk, OnErr, length, map, slice_get};
 ghost use Rattle.recording_order.specs.Counts as specs;
 
 use crate::numbering::Numbering;
@@ -40,6 +40,27 @@ fn begin_counts(numbers: &mut IndexMap<u32, Numbering>)
 }
 
 impl Window {
+    /// How many domains have numbers.
+    pub fn domain_count(&self) -> usize
+        ensures { result ≡ length self.now.numbers }
+    {
+        self.numbers.len()
+    }
+
+    /// What was counted of the domain at an index since the counts began, in the order in which a datagram of
+    /// them was first written. This needs no memory.
+    pub fn counts_at(&self, index: usize) -> OrderCounts
+        requires { index < length self.now.numbers }
+        ensures { slice_get (map specs.counts_of self.now.numbers) index ≡ Some result }
+    {
+        let (domain, known) = self.numbers.get_index(index).unwrap();
+        OrderCounts {
+            domain: *domain,
+            doubled: known.doubled,
+            reordered: known.reordered,
+        }
+    }
+
     // The counts of the domains of which a datagram was doubled or reordered.
     fn told_counts(&self, alloc: Global) -> Result<Vec<OrderCounts>, AllocError>
         ensures { IfOk result (λ counts. counts.items ≡ specs.told_counts self.now) }
