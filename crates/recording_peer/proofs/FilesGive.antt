@@ -15,7 +15,7 @@ use Rattle.recording_files.specs.Files.{Contents, FilesView, all_of}
 use Rattle.recording_files.specs.Sessions.{file_octets}
 use Rattle.recording_files.proofs.Together.{is_faithful}
 use Rattle.recording_files.proofs.FilesGive.{all_clean, all_records, contents_are}
-use Rattle.recording_peer.specs.Peers.{AreTaken, HaveFronts, PeerFile, part_of, sent_of, records_over_udp}
+use Rattle.recording_peer.specs.Peers.{HaveFronts, PeerFile, part_of, sent_of, records_over_udp}
 use Rattle.recording_peer.specs.Recording.{FiledDatagrams, FilesHold, CameAfter, GiveRecordsOverUdp, last_file, taken_by_file, taken_in}
 use Rattle.recording_peer.proofs.PeerFiles.{all_with, records_same, recorded_with, octets_same}
 

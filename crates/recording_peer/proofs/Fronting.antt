@@ -1,6 +1,6 @@
 -- What a recorder takes for a datagram.
 use Rattle.std.proofs.Common.{◌≡◌, ℕ, ◌≤◌, List, [], ◌∷◌, ◌++◌, take, drop, length, Ok, refl, sym, ap, ap₂, subst, ◌∙◌, append_assoc, arith, inl, inr, Bool, true, false, eqb, ltb}
-use Rattle.std.specs.Prelude.{◌≢◌, ◌⊎◌, All, min, Result, Err, IfOk, IfErr, MatchResult}
+use Rattle.std.specs.Prelude.{◌≢◌, All, min, Result, Err, IfOk, IfErr, MatchResult}
 use Rattle.std.proofs.lemmas.Bool.{eqb-true, ltb-true, ltb-false}
 use Rattle.std.proofs.lemmas.List.{append-nil, map-append, take_min, take-append-drop}
 use Rattle.std.proofs.Math.ListN.{drop_of_length-le}

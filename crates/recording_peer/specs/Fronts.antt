@@ -1,10 +1,8 @@
 -- What a recorder took for a datagram.
-use Rattle.std.specs.Prelude.{◌≡◌, ◌⊎◌, ℕ, true, List, [], ◌∷◌, ◌++◌, Result, MatchResult}
+use Rattle.std.specs.Prelude.{◌≡◌, ◌⊎◌, ℕ, true, List, [], ◌∷◌, ◌++◌}
 use Rattle.ipfix_wire.specs.declared.header.Header.{Header}
 use Rattle.ipfix_message.specs.Alike.{knows}
 use Rattle.ipfix_message.specs.Domains.{History, Message, events_in}
-use Rattle.ipfix_message.specs.declared.fault.MessageFault.{MessageFault}
-use Rattle.ipfix_message.specs.declared.fault.MessageFault.TheVariants.{OutOfMemory}
 use Rattle.ipfix_message.specs.declared.record.Template.{Template}
 use Rattle.ipfix_session.specs.Given.{known_after, octets_of, records_in}
 use Rattle.recording_files.specs.declared.message_count.MessageCount.{MessageCount}
@@ -20,10 +18,6 @@ use Rattle.ipfix_datagrams.specs.Withdrawals.{withdrawal_message}
 use Rattle.ipfix_datagrams.specs.declared.withdrawn_template.WithdrawnTemplate.{WithdrawnTemplate}
 use Rattle.recording_peer.specs.Peers.{Front, Taken, InParts, HasFront, withdrawals, definitions, messages_with, given_with, known_after_all}
 use Rattle.recording_peer.specs.Recording.{FiledDatagrams, PeerView, IsPeer, taken_in}
-
--- what a call answers that only memory can be refused to
-abbrev pub OrOutOfMemory : {A : Type 0} → Result A MessageFault → (A → Type 0) → Type 0
-OrOutOfMemory result Ends = MatchResult result Ends (λ fault. fault ≡ OutOfMemory)
 
 -- the domains after these messages of earlier files, and of this one
 abbrev pub domains_after : List Message → List Message → History

@@ -5,11 +5,12 @@ ghost use Rattle.std.specs.BTreeMap.{values};
 ghost use Rattle.ipfix_message.specs.Domains.{Message, message_header, message_gives};
 ghost use Rattle.ipfix_message.specs.Outcome.{Fails};
 ghost use Rattle.ipfix_message.specs.WrittenTemplates.{IsTemplate};
+ghost use Rattle.ipfix_datagrams.specs.Attempts.{OrOutOfMemory};
 ghost use Rattle.ipfix_datagrams.specs.Datagrams.{Preparation};
 ghost use Rattle.ipfix_datagrams.specs.Withdrawals.{HasTemplateId};
 ghost use Rattle.ipfix_datagrams.specs.declared.withdrawal.TheConstants.{MOST_WITHDRAWN};
 ghost use Rattle.recording_files.specs.Recorders.{Keeps};
-ghost use Rattle.recording_peer.specs.Fronts.{domains_after, HasAppeared, CanWithdraw, CanDefineNext, OrOutOfMemory, Took, TookOne, TookDefinition, TookWithdrawals, TakesDefinitions, TookPrepared, TookDatagram, IsReadAfter};
+ghost use Rattle.recording_peer.specs.Fronts.{domains_after, HasAppeared, CanWithdraw, CanDefineNext, Took, TookOne, TookDefinition, TookWithdrawals, TakesDefinitions, TookPrepared, TookDatagram, IsReadAfter};
 
 use ipfix_datagrams::{DatagramReading, MOST_WITHDRAWN, WithdrawnTemplate, append_withdrawals};
 use ipfix_message::{MessageFault, Stamp, Template, Templates, append_template_message, header_of};
