@@ -10,3 +10,5 @@ mod Keeping
 mod Steps
 mod Ticks
 mod Doubles
+mod Alike
+mod AlikeRuns

@@ -10,3 +10,4 @@ pub mod InOrder
 pub mod Domains
 pub mod Bounds
 pub mod Doubles
+pub mod Alike

@@ -2,8 +2,10 @@
 //! call brings that to the proof of its caller.
 
 ghost use Rattle.std.specs.Prelude.{◌≡◌, ◌≢◌, ◌+◌, ◌++◌, ◌<◌, ℕ, true, List, [], Some, None, Contains, length, sum_by};
+ghost use Rattle.recording_order.specs.Alike.{RunsAlike, SameButCounts};
 ghost use Rattle.recording_order.specs.Arrivals.{Arrival};
 ghost use Rattle.recording_order.specs.Bounds.{IsBounded};
+ghost use Rattle.recording_order.specs.Counts.{with_counts_begun};
 ghost use Rattle.recording_order.specs.DataSets.{has_data};
 ghost use Rattle.recording_order.specs.Domains.{LeavesDomain};
 ghost use Rattle.recording_order.specs.Doubles.{IsSameAsOne};
@@ -143,4 +145,14 @@ pub fn fewer_wait()
     ensures none_next { (w : WindowView) (domain second : ℕ)
         → w.waiting ≡ [] → next_of w domain second ≡ None }
     ensures none_least { (w : WindowView) (domain : ℕ) → w.waiting ≡ [] → least_in w domain ≡ None }
+{}
+
+/// The counts change nothing of a run: two runs that have handed on the same, and whose windows are the same
+/// but for their counts, go on alike. So it does where the counts were told, and have begun anew.
+pub fn counts_change_nothing()
+    ensures step { (says : Says) (r s : Run) (e : Event) → RunsAlike r s
+        → RunsAlike (step says r e) (step says s e) }
+    ensures finish { (says : Says) (r s : Run) → RunsAlike r s
+        → RunsAlike (finish says r) (finish says s) }
+    ensures told { (w : WindowView) → SameButCounts (with_counts_begun w) w }
 {}

@@ -7,11 +7,14 @@ use Rattle.std.specs.contracts.net.socket_addr.SocketAddrEq.TheImpl.Laws.{laws-l
 use Rattle.recording_files.specs.Files.{FilesView}
 use Rattle.recording_peers.specs.declared.peer_state.PeerState.{PeerState}
 use Rattle.recording_peers.specs.declared.outcome.Became.{Became}
-use Rattle.recording_peers.specs.declared.outcome.Became.TheVariants.{Recorded, Refused, Ended, NoMemory}
+use Rattle.recording_peers.specs.declared.outcome.Became.TheVariants.{Taken, Ended, NoMemory}
+use Rattle.recording_peers.specs.Happenings.{Happening}
+use Rattle.recording_peers.specs.Steps.{Reception}
 use Rattle.recording_peers.specs.Table.{same_peer, of_peer, others_for, with_first}
-use Rattle.recording_peers.specs.Sessions.{PeerDatagrams, came_of, with_datagram, StandFor, StandBehind}
-use Rattle.recording_peers.specs.Runs.{Reception, AreRecorded, came_by, came_after, own_of, IsSettled, IsNeverEvicted}
-use Rattle.recording_peers.proofs.Standing.{stand_behind}
+use Rattle.recording_peers.specs.Sessions.{PeerHappenings, happened_to, with_happening, came_in, StandFor, StandBy}
+use Rattle.recording_peers.specs.Runs.{AreRecorded, happened_by, happened_in, happened_after, own_of, IsTaken, IsNeverEvicted}
+use Rattle.recording_peers.proofs.SessionSteps.{Laws}
+use Rattle.recording_peers.proofs.Standing.{stand_after}
 
 module _ {K X : Type 0} (test : K → Bool) where
   lookup_take : (n : ℕ) (es : List (K × X)) (v : X) → lookup test (take n es) ≡ Some v → lookup test es ≡ Some v
@@ -75,56 +78,53 @@ same_option None (Some w) h k = let no_value = k refl in absurd cc
 same_option (Some v) q h k = sym (h v refl)
 
 module _ (peer : SocketAddr) (most : ℕ) where
-  -- its own datagram
-  settled : (q : SocketAddr) (m : List ℕ) (cs : PeerDatagrams) → same_peer peer q ≡ true → of_peer peer (with_datagram most cs q m) ≡ Some (came_of peer cs ++ m ∷ [])
-  settled q m cs e = first_is most peer q cs (came_of q cs ++ m ∷ []) e ∙ ap (λ o. Some (unwrap_or o [] ++ m ∷ [])) (same_of most peer q cs e)
+  -- its own
+  added : (q : SocketAddr) (h : Happening) (cs : PeerHappenings) → same_peer peer q ≡ true → of_peer peer (with_happening most cs q h) ≡ Some (happened_to peer cs ++ h ∷ [])
+  added q h cs e = first_is most peer q cs (happened_to q cs ++ h ∷ []) e ∙ ap (λ o. Some (unwrap_or o [] ++ h ∷ [])) (same_of most peer q cs e)
 
 module _ {F : Type 0} (peer : SocketAddr) (most : ℕ) where
-  own_cons : (r : Reception F) (rs : List (Reception F)) → own_of peer (r ∷ rs) ≡ cond (same_peer peer r.peer) (r.octets ∷ []) [] ++ own_of peer rs
-  own_cons r rs = elim (same_peer peer r.peer) as (λ b. map (λ (x : Reception F). x.octets) (cond b (r ∷ filter (λ (x : Reception F). same_peer peer x.peer) rs) (filter (λ (x : Reception F). same_peer peer x.peer) rs)) ≡ cond b (r.octets ∷ []) [] ++ own_of peer rs) [
+  own_cons : (r : Reception F) (rs : List (Reception F)) → own_of peer (r ∷ rs) ≡ cond (same_peer peer r.peer) (came_in r ∷ []) [] ++ own_of peer rs
+  own_cons r rs = elim (same_peer peer r.peer) as (λ b. map (λ (x : Reception F). came_in x) (cond b (r ∷ filter (λ (x : Reception F). same_peer peer x.peer) rs) (filter (λ (x : Reception F). same_peer peer x.peer) rs)) ≡ cond b (came_in r ∷ []) [] ++ own_of peer rs) [
     | true ↦ refl
     | false ↦ refl
   ]
 
   -- another's datagram
-  theirs : (became : Became F) (q : SocketAddr) (m : List ℕ) (cs : PeerDatagrams) → same_peer peer q ≡ false → (IsSome (of_peer peer cs) → IsSome (of_peer peer (came_by became most q m cs)))
-      → of_peer peer (came_by became most q m cs) ≡ of_peer peer cs
-  theirs Recorded q m cs e k = same_option (of_peer peer (with_datagram most cs q m)) (of_peer peer cs) (λ v h. in_first most peer q cs (came_of q cs ++ m ∷ []) v e h) k
-  theirs (Refused fault) q m cs e k = same_option (of_peer peer (with_datagram most cs q m)) (of_peer peer cs) (λ v h. in_first most peer q cs (came_of q cs ++ m ∷ []) v e h) k
-  theirs (Ended x) q m cs e k = same_option (of_peer peer (others_for most q cs)) (of_peer peer cs) (λ v h. in_others most peer q cs v e h) k
-  theirs NoMemory q m cs e k = refl
+  theirs : (became : Became F) (r : Reception F) (cs : PeerHappenings) → same_peer peer r.peer ≡ false → (IsSome (of_peer peer cs) → IsSome (of_peer peer (happened_by became most r cs)))
+      → of_peer peer (happened_by became most r cs) ≡ of_peer peer cs
+  theirs Taken r cs e k = same_option (of_peer peer (with_happening most cs r.peer (came_in r))) (of_peer peer cs) (λ v h. in_first most peer r.peer cs (happened_to r.peer cs ++ came_in r ∷ []) v e h) k
+  theirs (Ended x) r cs e k = same_option (of_peer peer (others_for most r.peer cs)) (of_peer peer cs) (λ v h. in_others most peer r.peer cs v e h) k
+  theirs NoMemory r cs e k = refl
 
   -- or its own
-  its : (became : Became F) (q : SocketAddr) (m : List ℕ) (cs : PeerDatagrams) → same_peer peer q ≡ true → IsSettled became → of_peer peer (came_by became most q m cs) ≡ Some (came_of peer cs ++ m ∷ [])
-  its Recorded q m cs e s = settled peer most q m cs e
-  its (Refused fault) q m cs e s = settled peer most q m cs e
-  its (Ended k) q m cs e s = absurd s
-  its NoMemory q m cs e s = absurd s
+  its : (became : Became F) (r : Reception F) (cs : PeerHappenings) → same_peer peer r.peer ≡ true → IsTaken became → of_peer peer (happened_by became most r cs) ≡ Some (happened_to peer cs ++ came_in r ∷ [])
+  its Taken r cs e s = added peer most r.peer (came_in r) cs e
+  its (Ended k) r cs e s = absurd s
+  its NoMemory r cs e s = absurd s
 
-  pub one : (r : Reception F) (cs : PeerDatagrams) → (same_peer peer r.peer ≡ true → IsSettled r.became) → (IsSome (of_peer peer cs) → IsSome (of_peer peer (came_by r.became most r.peer r.octets cs)))
-      → came_of peer (came_by r.became most r.peer r.octets cs) ≡ came_of peer cs ++ cond (same_peer peer r.peer) (r.octets ∷ []) []
-  one r cs s k = (elim (same_peer peer r.peer) as (λ b. same_peer peer r.peer ≡ b → came_of peer (came_by r.became most r.peer r.octets cs) ≡ came_of peer cs ++ cond b (r.octets ∷ []) []) [
-    | true ↦ λ e. ap (λ o. unwrap_or o []) (its r.became r.peer r.octets cs e (s e))
-    | false ↦ λ e. ap (λ o. unwrap_or o []) (theirs r.became r.peer r.octets cs e k) ∙ sym (append-nil (came_of peer cs))
+  pub one : (r : Reception F) (cs : PeerHappenings) → (same_peer peer r.peer ≡ true → IsTaken r.became) → (IsSome (of_peer peer cs) → IsSome (of_peer peer (happened_in most r cs)))
+      → happened_to peer (happened_in most r cs) ≡ happened_to peer cs ++ cond (same_peer peer r.peer) (came_in r ∷ []) []
+  one r cs s k = (elim (same_peer peer r.peer) as (λ b. same_peer peer r.peer ≡ b → happened_to peer (happened_in most r cs) ≡ happened_to peer cs ++ cond b (came_in r ∷ []) []) [
+    | true ↦ λ e. ap (λ o. unwrap_or o []) (its r.became r cs e (s e))
+    | false ↦ λ e. ap (λ o. unwrap_or o []) (theirs r.became r cs e k) ∙ sym (append-nil (happened_to peer cs))
   ]) refl
 
-  pub alone : (rs : List (Reception F)) (cs : PeerDatagrams) → IsNeverEvicted peer most rs cs → came_of peer (came_after most rs cs) ≡ came_of peer cs ++ own_of peer rs
-  alone [] cs g = sym (append-nil (came_of peer cs))
+  pub alone : (rs : List (Reception F)) (cs : PeerHappenings) → IsNeverEvicted peer most rs cs → happened_to peer (happened_after most rs cs) ≡ happened_to peer cs ++ own_of peer rs
+  alone [] cs g = sym (append-nil (happened_to peer cs))
   alone (r ∷ rs) cs g =
-      alone rs (came_by r.became most r.peer r.octets cs) g.2
-      ∙ ap (λ ms. ms ++ own_of peer rs) (one r cs g.0 g.1)
-      ∙ append_assoc (came_of peer cs) (cond (same_peer peer r.peer) (r.octets ∷ []) []) (own_of peer rs)
-      ∙ ap (λ ms. came_of peer cs ++ ms) (sym (own_cons r rs))
+      alone rs (happened_in most r cs) g.2
+      ∙ ap (λ hs. hs ++ own_of peer rs) (one r cs g.0 g.1)
+      ∙ append_assoc (happened_to peer cs) (cond (same_peer peer r.peer) (came_in r ∷ []) []) (own_of peer rs)
+      ∙ ap (λ hs. happened_to peer cs ++ hs) (sym (own_cons r rs))
 
-module _ {F : Type 0} (seen : F → FilesView) (most : ℕ) where
-  pub stand_by : (became : Became F) (leaving : Option (SocketAddr × PeerState F)) (after : List (SocketAddr × PeerState F)) (cs : PeerDatagrams) (peer : SocketAddr) (m : List ℕ) → StandBehind seen became leaving most after cs peer m → StandFor seen after (came_by became most peer m cs)
-  stand_by Recorded leaving after cs peer m s = s.0
-  stand_by (Refused fault) leaving after cs peer m s = s.0
-  stand_by (Ended k) leaving after cs peer m s = s.0
-  stand_by NoMemory leaving after cs peer m s = s.0
+module _ {F : Type 0} (seen : F → FilesView) (made_for : F → SocketAddr → Type 0) (laws : Laws) (seconds most : ℕ) where
+  pub stand_by : (became : Became F) (r : Reception F) (after : List (SocketAddr × PeerState F)) (cs : PeerHappenings) → StandBy seen seconds became most r after cs → StandFor seen seconds after (happened_by became most r cs)
+  stand_by Taken r after cs s = s.0
+  stand_by (Ended k) r after cs s = s.0
+  stand_by NoMemory r after cs s = s.0
 
-  pub stand_after : (rs : List (Reception F)) (es after : List (SocketAddr × PeerState F)) (cs : PeerDatagrams) → StandFor seen es cs → AreRecorded seen most rs es after → StandFor seen after (came_after most rs cs)
-  stand_after [] es after cs p r = subst (λ l. StandFor seen l cs) (sym r) p
-  stand_after (r ∷ rs) es after cs p a =
-      let behind = stand_behind seen most r.now es a.0 cs r.peer r.octets r.became r.gone p a.1 in
-      stand_after rs a.0 after (came_by r.became most r.peer r.octets cs) (stand_by r.became r.gone a.0 cs r.peer r.octets behind) a.2
+  pub stand_after_all : (rs : List (Reception F)) (es after : List (SocketAddr × PeerState F)) (cs : PeerHappenings) → StandFor seen seconds es cs → AreRecorded seen made_for seconds most rs es after → StandFor seen seconds after (happened_after most rs cs)
+  stand_after_all [] es after cs p r = subst (λ l. StandFor seen seconds l cs) (sym r) p
+  stand_after_all (r ∷ rs) es after cs p a =
+      let stand = stand_after seen made_for laws seconds most r es a.0 cs p a.1 in
+      stand_after_all rs a.0 after (happened_in most r cs) (stand_by r.became r a.0 cs stand) a.2

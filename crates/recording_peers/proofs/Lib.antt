@@ -1,8 +1,12 @@
 pub mod Tables
 pub mod Paired
-pub mod Settling
+mod Growing
+mod Following
+mod HandingOn
+mod Looping
+pub mod SessionSteps
 pub mod Standing
 pub mod Turning
-pub mod Recording
+mod Recording
 pub mod Alone
 mod ScriptLemmas

@@ -1,136 +1,143 @@
 -- What a call of the table does, by what it finds there.
-use Rattle.std.proofs.Common.{◌≡◌, ℕ, Bool, List, [], Option, Some, None, Result, Ok, Err, refl, sym, ap, ◌∙◌, subst}
+use Rattle.std.proofs.Common.{◌≡◌, ℕ, ◌-◌, Bool, cond, is_some, slice_get, List, [], Option, Some, None, Result, Ok, Err, refl, sym, ap, ◌∙◌, subst}
 use Rattle.std.specs.Map.{lookup, remove_entry, set_value}
 use Rattle.std.specs.declared.net.socket_addr.SocketAddr.{SocketAddr}
 use Rattle.lru.specs.LruCache.{promoted, last_entry}
 use Rattle.recording_files.specs.declared.record_fault.RecordFault.{RecordFault}
 use Rattle.recording_files.specs.Files.{FilesView}
-use Rattle.recording_peer.specs.declared.peer_answer.PeerAnswer.{PeerAnswer}
-use Rattle.recording_peer.specs.declared.peer_answer.PeerAnswer.TheVariants as answers
 use Rattle.recording_peers.specs.declared.peer_state.PeerState.{PeerState}
-use Rattle.recording_peers.specs.declared.refusals.Refusals.{Refusals}
+use Rattle.recording_peers.specs.declared.turn.Turn.{Turn}
+use Rattle.recording_peers.specs.declared.in_turn.InTurn.{InTurn}
 use Rattle.recording_peers.specs.declared.outcome.Became.{Became}
-use Rattle.recording_peers.specs.declared.outcome.Became.TheVariants.{Recorded, Refused, Ended, NoMemory}
-use Rattle.recording_peers.specs.Kept.{IsSession, Takes, TakesTurn}
-use Rattle.recording_peers.specs.Table.{same_peer, of_peer, with_first, gone_for}
-use Rattle.recording_peers.specs.Steps.{ComesTo, TakesIn, Records, GoesOn, became_by, kept_by}
+use Rattle.recording_peers.specs.declared.outcome.Became.TheVariants.{Taken, Ended, NoMemory}
+use Rattle.recording_peers.specs.Calls.{Takes, TakesTurn}
+use Rattle.recording_peers.specs.Table.{same_peer, of_peer, with_first, gone_for, others_than_last}
+use Rattle.recording_peers.specs.Steps.{Reception, ComesTo, Begins, TakesKept, TakesIn, RecordsBy, Records, GoesOn, became_by, kept_by, ended_by, first_by}
 use Rattle.recording_peers.proofs.Tables.{IsLast, written, taken_out, value_out, begun, begun_first, begun_others, last_first, last_out, last_there}
 
 module _ {F : Type 0} (seen : F → FilesView) where
   -- a peer that is kept took a datagram
-  abbrev pub TookIn : ℕ → List (SocketAddr × PeerState F) → List (SocketAddr × PeerState F) → SocketAddr → List ℕ → ℕ → Became F → Type 0
-  TookIn most es after peer m now became = (x : PeerState F) × (of_peer peer es ≡ Some x) × TakesIn seen most es after peer m now became
-
-  pub took_in : (most : ℕ) (es : List (SocketAddr × PeerState F)) (peer : SocketAddr) (m : List ℕ) (now : ℕ) (old new : PeerState F) (given : Result PeerAnswer RecordFault) (answer : PeerAnswer)
-      → of_peer peer es ≡ Some old → given ≡ Ok answer → Takes seen old new m now given
-      → TookIn most es (set_value (same_peer peer) (promoted (same_peer peer) es) new) peer m now (became_by (Ok answer) new)
-  took_in most es peer m now old new given answer h e t = (
-    old,
-    h,
-    record {
-      old = old;
-      comes_to = subst (λ o. ComesTo seen o old) (sym h) refl;
-      new = new;
-      answer = Ok answer;
-      takes = subst (Takes seen old new m now) e t;
-      is = refl;
-      others = written most peer es old new h;
-    },
-  )
-
-  pub took_in_by : (most : ℕ) (es : List (SocketAddr × PeerState F)) (peer : SocketAddr) (m : List ℕ) (now : ℕ) (old new : PeerState F) (given : Result PeerAnswer RecordFault) (answer : PeerAnswer) (became : Became F)
-      → of_peer peer es ≡ Some old → given ≡ Ok answer → Takes seen old new m now given → became ≡ became_by (Ok answer) new
-      → TookIn most es (set_value (same_peer peer) (promoted (same_peer peer) es) new) peer m now became
-  took_in_by most es peer m now old new given answer became h e t b = subst (TookIn most es (set_value (same_peer peer) (promoted (same_peer peer) es) new) peer m now) (sym b) (took_in most es peer m now old new given answer h e t)
-
-  pub took_out : (most : ℕ) (es after : List (SocketAddr × PeerState F)) (peer : SocketAddr) (m : List ℕ) (now : ℕ) (old new ended : PeerState F) (given : Result PeerAnswer RecordFault) (fault : RecordFault)
-      → of_peer peer es ≡ Some old → given ≡ Err fault → Takes seen old new m now given
-      → Some ended ≡ lookup (same_peer peer) (set_value (same_peer peer) (promoted (same_peer peer) es) new)
-      → after ≡ remove_entry (same_peer peer) (set_value (same_peer peer) (promoted (same_peer peer) es) new)
-      → TookIn most es after peer m now (Ended ended)
-  took_out most es after peer m now old new ended given fault h e t popped left =
-      let there = value_out most peer es old new h in
-      let same : ended ≡ new = cc (popped, there) in (
-        old,
-        h,
-        record {
-          old = old;
-          comes_to = subst (λ o. ComesTo seen o old) (sym h) refl;
-          new = new;
-          answer = Err fault;
-          takes = subst (Takes seen old new m now) e t;
-          is = ap (λ k. Ended k) same;
-          others = left ∙ taken_out most peer es old new h;
-        },
-      )
-
-  -- the session of a new peer
-  same_kept : (answer : Result PeerAnswer RecordFault) (most : ℕ) (peer : SocketAddr) (k new : PeerState F) (es : List (SocketAddr × PeerState F)) → of_peer peer es ≡ None
-      → kept_by answer most peer new (with_first most peer k es) ≡ kept_by answer most peer new es
-  same_kept (Ok answer) most peer k new es h = begun_first most peer es k new h
-  same_kept (Err fault) most peer k new es h = begun_others most peer es k h
-
-  came_new : (o : Option (PeerState F)) (old k : PeerState F) → ComesTo seen o old → o ≡ Some k → IsSession seen k [] → IsSession seen old []
-  came_new None old k c e s = c
-  came_new (Some x) old k c e s = let same : x ≡ k = cc in subst (λ y. IsSession seen y []) (sym (c ∙ same)) s
-
-  new_in : (most : ℕ) (es after : List (SocketAddr × PeerState F)) (peer : SocketAddr) (m : List ℕ) (now : ℕ) (became : Became F) (k : PeerState F) → of_peer peer es ≡ None → IsSession seen k []
-      → TakesIn seen most (with_first most peer k es) after peer m now became → TakesIn seen most es after peer m now became
-  new_in most es after peer m now became k none fresh t = record {
-    old = t.old;
-    comes_to = subst (λ o. ComesTo seen o t.old) (sym none) (came_new (of_peer peer (with_first most peer k es)) t.old k t.comes_to (begun most peer es k none) fresh);
-    new = t.new;
-    answer = t.answer;
-    takes = t.takes;
-    is = t.is;
-    others = t.others ∙ same_kept t.answer most peer k t.new es none;
-  }
-
-  never_nothing : (answer : Result PeerAnswer RecordFault) (k : PeerState F) → NoMemory ≡ became_by answer k → ⊥
-  never_nothing (Ok (answers.Recorded count)) k e = absurd cc
-  never_nothing (Ok (answers.Refused fault)) k e = absurd cc
-  never_nothing (Err fault) k e = absurd cc
-
-  -- it took a datagram, and this one went for it
-  pub recorded : (most : ℕ) (es after : List (SocketAddr × PeerState F)) (peer : SocketAddr) (m : List ℕ) (now : ℕ) (became : Became F) (leaving : Option (SocketAddr × PeerState F))
-      → TakesIn seen most es after peer m now became → leaving ≡ gone_for most peer es → Records seen became leaving most es after peer m now
-  recorded most es after peer m now Recorded leaving t g = (t, g)
-  recorded most es after peer m now (Refused fault) leaving t g = (t, g)
-  recorded most es after peer m now (Ended k) leaving t g = (t, g)
-  recorded most es after peer m now NoMemory leaving t g = absurd (never_nothing t.answer t.new t.is)
-
-  pub began : (most now_most : ℕ) (es begun after : List (SocketAddr × PeerState F)) (peer : SocketAddr) (m : List ℕ) (now : ℕ) (became : Became F) (leaving : Option (SocketAddr × PeerState F)) (k : PeerState F)
-      → of_peer peer es ≡ None → IsSession seen k [] → begun ≡ with_first most peer k es → now_most ≡ most
-      → TookIn now_most begun after peer m now became → leaving ≡ gone_for most peer es → Records seen became leaving most es after peer m now
-  began most now_most es begun after peer m now became leaving k none fresh e same t g =
-      let there = subst (λ l. TakesIn seen most l after peer m now became) e (subst (λ n. TakesIn seen n begun after peer m now became) same t.2) in
-      recorded most es after peer m now became leaving (new_in most es after peer m now became k none fresh there) g
-
-  -- the last peer had its turn
-  pub went_on : (is_over : Bool) (es : List (SocketAddr × PeerState F)) (e : SocketAddr × PeerState F) (old new : PeerState F) (told : Option Refusals) (given : Result (Unit {0}) RecordFault)
-      → last_entry es ≡ Some e → IsLast es e → Some old ≡ of_peer e.0 es → given ≡ Ok tt → TakesTurn seen is_over old new told given
-      → GoesOn seen is_over es (set_value (same_peer e.0) (promoted (same_peer e.0) es) new) (record { peer = e.0; refused = told; ended = None })
-  went_on is_over es e old new told given last l here ok t = let there = last_there es e l in let same : old ≡ e.1 = cc (here, there) in record {
+  pub took_in : (most : ℕ) (es : List (SocketAddr × PeerState F)) (r : Reception F) (old new : PeerState F) → of_peer r.peer es ≡ Some old → r.became ≡ Taken → Takes seen old new r.octets r.second (Ok tt)
+      → TakesKept seen most r es (set_value (same_peer r.peer) (promoted (same_peer r.peer) es) new)
+  took_in most es r old new h became takes = record {
     old = old;
-    last = last ∙ ap (λ k. Some (e.0, k)) (sym same);
+    kept = h;
     new = new;
     answer = Ok tt;
-    turn = subst (TakesTurn seen is_over old new told) ok t;
-    ended = refl;
-    others = last_first es e new l;
+    takes = takes;
+    became = became;
+    others = written most r.peer es old new h;
   }
 
-  pub went_out : (is_over : Bool) (es after : List (SocketAddr × PeerState F)) (e : SocketAddr × PeerState F) (old new : PeerState F) (told : Option Refusals) (given : Result (Unit {0}) RecordFault) (fault : RecordFault) (ended : Option (PeerState F))
-      → last_entry es ≡ Some e → IsLast es e → Some old ≡ of_peer e.0 es → given ≡ Err fault → TakesTurn seen is_over old new told given
+  pub took_out : (most : ℕ) (es after : List (SocketAddr × PeerState F)) (r : Reception F) (old new ended : PeerState F) (fault : RecordFault) → of_peer r.peer es ≡ Some old → r.became ≡ Ended ended
+      → Takes seen old new r.octets r.second (Err fault)
+      → Some ended ≡ lookup (same_peer r.peer) (set_value (same_peer r.peer) (promoted (same_peer r.peer) es) new)
+      → after ≡ remove_entry (same_peer r.peer) (set_value (same_peer r.peer) (promoted (same_peer r.peer) es) new)
+      → TakesKept seen most r es after
+  took_out most es after r old new ended fault h became takes popped left =
+      let there = value_out most r.peer es old new h in
+      let same : ended ≡ new = cc (popped, there) in
+      record {
+        old = old;
+        kept = h;
+        new = new;
+        answer = Err fault;
+        takes = takes;
+        became = became ∙ ap (λ k. Ended k) same;
+        others = left ∙ taken_out most r.peer es old new h;
+      }
+
+  module _ (made_for : F → SocketAddr → Type 0) (seconds most : ℕ) where
+    by_became : (b : Became F) (r : Reception F) (es after : List (SocketAddr × PeerState F)) → r.became ≡ b → TakesIn seen made_for seconds most r es after → RecordsBy seen made_for seconds b most r es after
+    by_became Taken r es after is t = t
+    by_became (Ended k) r es after is t = t
+    by_became NoMemory r es after is t = absurd (never t.answer t.new (sym is ∙ t.became))
+      where
+        never : (answer : Result (Unit {0}) RecordFault) (k : PeerState F) → NoMemory ≡ became_by answer k → ⊥
+        never (Ok x) k e = cc
+        never (Err fault) k e = cc
+
+    recorded : (r : Reception F) (es after : List (SocketAddr × PeerState F)) → TakesIn seen made_for seconds most r es after → Records seen made_for seconds most r es after
+    recorded r es after t = by_became r.became r es after refl t
+
+    -- none went for it
+    none_gone : (o : Option (PeerState F)) (old : PeerState F) (e : Option (SocketAddr × PeerState F)) → o ≡ Some old → cond (is_some o) None e ≡ None
+    none_gone None old e h = absurd cc
+    none_gone (Some k) old e h = refl
+
+    pub recorded_kept : (r : Reception F) (es after : List (SocketAddr × PeerState F)) → TakesKept seen most (record r { gone = None }) es after → r.gone ≡ None → Records seen made_for seconds most r es after
+    recorded_kept r es after t none = recorded r es after (record {
+      old = t.old;
+      comes_to = subst (λ o. ComesTo seen made_for seconds r.peer o t.old) (sym t.kept) refl;
+      new = t.new;
+      answer = t.answer;
+      takes = t.takes;
+      became = t.became;
+      others = t.others;
+      went = none ∙ sym (none_gone (of_peer r.peer es) t.old (slice_get es (most - 1)) t.kept);
+    })
+
+    -- the session of a new peer
+    same_kept : (answer : Result (Unit {0}) RecordFault) (peer : SocketAddr) (k new : PeerState F) (es : List (SocketAddr × PeerState F)) → of_peer peer es ≡ None
+        → kept_by answer most peer new (with_first most peer k es) ≡ kept_by answer most peer new es
+    same_kept (Ok x) peer k new es h = begun_first most peer es k new h
+    same_kept (Err fault) peer k new es h = begun_others most peer es k h
+
+    pub recorded_new : (now_most : ℕ) (r : Reception F) (es begins after : List (SocketAddr × PeerState F)) (k : PeerState F) → of_peer r.peer es ≡ None → Begins seen made_for seconds r.peer k → begins ≡ with_first most r.peer k es → now_most ≡ most
+        → TakesKept seen now_most (record r { gone = None }) begins after → r.gone ≡ gone_for most r.peer es → Records seen made_for seconds most r es after
+    recorded_new now_most r es begins after k none fresh is same_most taken gone =
+        let t : TakesKept seen most (record r { gone = None }) begins after = subst (λ n. TakesKept seen n (record r { gone = None }) begins after) same_most taken in
+        let there : of_peer r.peer begins ≡ Some k = ap (of_peer r.peer) is ∙ begun most r.peer es k none in
+        let kept = t.kept in
+        let same : t.old ≡ k = cc (kept, there) in
+        recorded r es after (record {
+          old = t.old;
+          comes_to = subst (λ o. ComesTo seen made_for seconds r.peer o t.old) (sym none) (subst (Begins seen made_for seconds r.peer) (sym same) fresh);
+          new = t.new;
+          answer = t.answer;
+          takes = t.takes;
+          became = t.became;
+          others = t.others ∙ ap (kept_by t.answer most r.peer t.new) is ∙ same_kept t.answer r.peer k t.new es none;
+          went = gone;
+        })
+
+  -- ---- the last peer had its turn
+
+  pub went_on : (second : ℕ) (is_over : Bool) (es after : List (SocketAddr × PeerState F)) (e : SocketAddr × PeerState F) (old new : PeerState F) (turn : Turn) (ended : Option (PeerState F))
+      → last_entry es ≡ Some e → IsLast es e → Some old ≡ of_peer e.0 es → turn.answer ≡ Ok tt → TakesTurn seen old new second is_over turn
+      → after ≡ set_value (same_peer e.0) (promoted (same_peer e.0) es) new → ended ≡ None
+      → GoesOn seen second is_over es after (record { peer = e.0; refused = turn.refused; orders = turn.orders; ended = ended })
+  went_on second is_over es after e old new turn ended last l here ok takes left none =
+      let there = last_there es e l in
+      let same : old ≡ e.1 = cc (here, there) in
+      record {
+        old = old;
+        last = last ∙ ap (λ k. Some (e.0, k)) (sym same);
+        new = new;
+        turn = turn;
+        takes = takes;
+        refused = refl;
+        orders = refl;
+        ended = none ∙ sym (ap (λ a. ended_by a new) ok);
+        others = left ∙ last_first es e new l ∙ sym (ap (λ a. first_by a e.0 new (others_than_last es)) ok);
+      }
+
+  pub went_out : (second : ℕ) (is_over : Bool) (es after : List (SocketAddr × PeerState F)) (e : SocketAddr × PeerState F) (old new : PeerState F) (turn : Turn) (fault : RecordFault) (ended : Option (PeerState F))
+      → last_entry es ≡ Some e → IsLast es e → Some old ≡ of_peer e.0 es → turn.answer ≡ Err fault → TakesTurn seen old new second is_over turn
       → ended ≡ lookup (same_peer e.0) (set_value (same_peer e.0) (promoted (same_peer e.0) es) new)
       → after ≡ remove_entry (same_peer e.0) (set_value (same_peer e.0) (promoted (same_peer e.0) es) new)
-      → GoesOn seen is_over es after (record { peer = e.0; refused = told; ended = ended })
-  went_out is_over es after e old new told given fault ended last l here failed t popped left = let there = last_there es e l in let same : old ≡ e.1 = cc (here, there) in record {
-    old = old;
-    last = last ∙ ap (λ k. Some (e.0, k)) (sym same);
-    new = new;
-    answer = Err fault;
-    turn = subst (TakesTurn seen is_over old new told) failed t;
-    ended = popped ∙ value_out 0 e.0 es e.1 new there;
-    others = left ∙ last_out es e new l;
-  }
+      → GoesOn seen second is_over es after (record { peer = e.0; refused = turn.refused; orders = turn.orders; ended = ended })
+  went_out second is_over es after e old new turn fault ended last l here failed takes popped left =
+      let there = last_there es e l in
+      let same : old ≡ e.1 = cc (here, there) in
+      record {
+        old = old;
+        last = last ∙ ap (λ k. Some (e.0, k)) (sym same);
+        new = new;
+        turn = turn;
+        takes = takes;
+        refused = refl;
+        orders = refl;
+        ended = popped ∙ value_out 0 e.0 es e.1 new there ∙ sym (ap (λ a. ended_by a new) failed);
+        others = left ∙ last_out es e new l ∙ sym (ap (λ a. first_by a e.0 new (others_than_last es)) failed);
+      }

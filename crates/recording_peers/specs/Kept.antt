@@ -1,76 +1,101 @@
--- A session of a peer, and the datagrams of the peer that it stands for (RFC 7011, sections 8.4 and 10.3).
-use Rattle.std.specs.Prelude.{◌≡◌, ◌⊎◌, ℕ, Bool, true, false, List, [], ◌∷◌, ◌++◌, Option, Some, None, Result, Ok, Err, MatchResult}
-use Rattle.ipfix_session.specs.Sources.{one_more}
-use Rattle.recording_files.specs.declared.record_fault.RecordFault.{RecordFault}
-use Rattle.recording_files.specs.Files.{FilesView, IsEmpty}
+-- A session of a peer, and what it stands for (RFC 7011, sections 8.4 and 10.3).
+use Rattle.std.specs.Prelude.{◌≡◌, ℕ, List, [], ◌∷◌, ◌++◌, length, slice_get, Option, Some, None, unwrap_or, Result, Ok, Err}
+use Rattle.std.specs.Option.{option_to_list}
+use Rattle.ipfix_message.specs.Domains.{Message}
 use Rattle.ipfix_message.specs.declared.fault.MessageFault.{MessageFault}
+use Rattle.ipfix_session.specs.Given.{IsPrefix}
+use Rattle.ipfix_session.specs.Ledger.{count_in}
+use Rattle.recording_files.specs.declared.record_fault.RecordFault.{RecordFault}
+use Rattle.recording_files.specs.declared.message_count.MessageCount.{MessageCount}
+use Rattle.recording_files.specs.Files.{FilesView, IsEmpty}
 use Rattle.ipfix_datagrams.specs.Datagrams.{IsRefused}
-use Rattle.recording_peer.specs.declared.peer_answer.PeerAnswer.{PeerAnswer}
-use Rattle.recording_peer.specs.declared.peer_answer.PeerAnswer.TheVariants.{Recorded, Refused}
+use Rattle.recording_order.specs.Alike.{SameButCounts}
+use Rattle.recording_order.specs.Arrivals.{Arrival}
+use Rattle.recording_order.specs.Releases.{Says, Agree, run, released}
+use Rattle.recording_order.specs.declared.datagram_counts.DatagramCounts.{DatagramCounts}
 use Rattle.recording_peer.specs.Peers.{Taken, known_after_all}
-use Rattle.recording_peer.specs.Recording.{FiledDatagrams, IsPeer, HasStopped, TakesDatagram, FinishesFile, taken_in}
+use Rattle.recording_peer.specs.Recording.{FiledDatagrams, IsPeer, HasStopped, taken_in}
 use Rattle.recording_peers.specs.declared.peer_state.PeerState.{PeerState}
-use Rattle.recording_peers.specs.declared.refusals.Refusals.{Refusals}
+use Rattle.recording_peers.specs.Happenings.{Happening, events_of, datagrams_of}
 
--- ---- the datagrams of a peer
+-- ---- what the recorder said
 
--- each of these, one after another, was taken or refused after those that were taken before it; then all these were taken
-abbrev pub Settles : List Taken → List (List ℕ) → List Taken → Type 0
-Settles before [] all = all ≡ before
-Settles before (m ∷ ms) all = ((x : Taken) × (x.datagram ≡ m) × Settles (before ++ x ∷ []) ms all)
-    ⊎ ((fault : MessageFault) × IsRefused (known_after_all before) m fault × Settles before ms all)
+-- of a datagram that was handed on to it: its data records and unknown sets where it was recorded, or why it was refused
+abbrev pub Said : Type 0
+Said = Result DatagramCounts MessageFault
 
--- the files and the recorder of a peer stand for the datagrams that came since the session began: each was recorded in the
--- files, in its order and as it came, or it was refused, and changed nothing
-pub record IsSession {F : Type 0} (seen : F → FilesView) (k : PeerState F) (came : List (List ℕ)) : Type 0 where
+abbrev pub counts_said : Option Said → Option DatagramCounts
+counts_said None = None
+counts_said (Some (Ok counts)) = Some counts
+counts_said (Some (Err fault)) = None
+
+-- what it adds to the counts, as the window notes it
+abbrev pub counts_of : MessageCount → DatagramCounts
+counts_of c = record { records = c.records; unknown_sets = c.passed_over.unknown_sets }
+
+-- so it says of each, by how many were before
+abbrev pub says_of : List Said → Says
+says_of said n = counts_said (slice_get said n)
+
+-- it said the same of those of which it said something
+abbrev pub SaidSo : List Said → Says → Type 0
+SaidSo said says = Agree (says_of said) says 0 (length said)
+
+-- ---- the datagrams that were handed on
+
+pub record HasCounts (c : DatagramCounts) (m : Message) : Type 0 where
+  pub records : c.records ≡ count_in m
+  pub unknown_sets : c.unknown_sets ≡ m.decoding.passed_over.unknown_sets
+
+-- each of these, one after another, was taken, with these counts, or refused, after those that were taken before it; then all these
+-- were taken
+abbrev pub Settles : List Taken → List (List ℕ) → List Said → List Taken → Type 0
+Settles before [] [] all = all ≡ before
+Settles before [] (s ∷ said) all = ⊥
+Settles before (m ∷ ms) [] all = ⊥
+Settles before (m ∷ ms) (Ok c ∷ said) all = (x : Taken) × (x.datagram ≡ m) × HasCounts c x.given × Settles (before ++ x ∷ []) ms said all
+Settles before (m ∷ ms) (Err fault ∷ said) all = IsRefused (known_after_all before) m fault × Settles before ms said all
+
+-- of a session: what was seen of its files at first, the datagrams that stand in them, and what was said of each that was handed on
+pub record Recording : Type 0 where
   pub first : FilesView
-  pub empty : IsEmpty first.contents
   pub filed : FiledDatagrams
-  pub is : IsPeer first (seen k.files) k.recorder filed
-  pub settles : Settles [] came (taken_in filed)
+  pub said : List Said
 
--- the session has ended with a fault, while this datagram was taken after them, or a file was finished
-pub record HasEnded {F : Type 0} (seen : F → FilesView) (k : PeerState F) (came : List (List ℕ)) (m : List ℕ) : Type 0 where
-  pub first : FilesView
-  pub empty : IsEmpty first.contents
-  pub filed : FiledDatagrams
-  pub fault : RecordFault
-  pub ended : k.recorder.ended ≡ Some fault
-  pub stopped : HasStopped fault first (seen k.files) k.recorder.told filed m
-  pub settles : Settles [] came (taken_in filed)
+module _ {F : Type 0} (seen : F → FilesView) (k : PeerState F) where
+  -- the files and the recorder of a peer stand for these datagrams, which were handed on since the session began: each was recorded in
+  -- the files, in this order and as it came, or it was refused, and changed nothing
+  pub record HasRecorded (p : Recording) (ms : List (List ℕ)) : Type 0 where
+    pub empty : IsEmpty p.first.contents
+    pub is : IsPeer p.first (seen k.files) k.recorder p.filed
+    pub settles : Settles [] ms p.said (taken_in p.filed)
 
--- ---- calls
+  -- the recorder ended with a fault, while the next datagram was taken, or a file was finished, or memory ran out. The files and the
+  -- recorder have those that were handed on before; and these, and then the next one, are the first that are handed on
+  pub record HasFailed (fault : RecordFault) (p : Recording) (handed_on : Says → List Arrival) : Type 0 where
+    pub empty : IsEmpty p.first.contents
+    pub ended : k.recorder.ended ≡ Some fault
+    pub before : List (List ℕ)
+    pub next : Option (List ℕ)
+    pub stopped : HasStopped fault p.first (seen k.files) k.recorder.told p.filed (unwrap_or next [])
+    pub settles : Settles [] before p.said (taken_in p.filed)
+    pub are_first : (says : Says) → SaidSo p.said says → IsPrefix (before ++ option_to_list next) (datagrams_of (handed_on says))
 
--- how many were refused and aren't reported yet
-abbrev pub untold : Option Refusals → ℕ
-untold None = 0
-untold (Some r) = r.count
+  -- ---- a session, in which a datagram waits for so many seconds
 
-abbrev pub one_more_refused : Option Refusals → MessageFault → Refusals
-one_more_refused r fault = record { count = one_more (untold r); last = fault }
+  module _ (seconds : ℕ) (happenings : List Happening) where
+    -- it stands for what happened since it began: its files have those that are released by then of the datagrams that came
+    pub record IsSession : Type 0 where
+      pub recording : Recording
+      pub recorded : HasRecorded recording (datagrams_of (run (says_of recording.said) seconds (events_of happenings)).handed_on)
+      pub window : SameButCounts k.window (run (says_of recording.said) seconds (events_of happenings)).window
 
-abbrev pub refused_by : Result PeerAnswer RecordFault → Option Refusals → Option Refusals
-refused_by (Ok (Refused fault)) r = Some (one_more_refused r fault)
-refused_by (Ok (Recorded count)) r = r
-refused_by (Err fault) r = r
+    -- it ended with a fault at the last of what happened
+    pub record HasEnded : Type 0 where
+      pub recording : Recording
+      pub fault : RecordFault
+      pub failed : HasFailed fault recording (λ says. (run says seconds (events_of happenings)).handed_on)
 
--- a datagram was taken by the peer's recorder
-pub record Takes {F : Type 0} (seen : F → FilesView) (old new : PeerState F) (m : List ℕ) (now : ℕ) (answer : Result PeerAnswer RecordFault) : Type 0 where
-  pub answers : TakesDatagram seen m answer old.recorder new.recorder old.files new.files
-  pub heard : new.heard ≡ now
-  pub refused : new.refused ≡ refused_by answer old.refused
-
--- a file was finished by the peer's recorder
-pub record Finishes {F : Type 0} (seen : F → FilesView) (old new : PeerState F) (answer : Result (Unit {0}) RecordFault) : Type 0 where
-  pub finishes : FinishesFile seen answer old.recorder new.recorder old.files new.files
-  pub heard : new.heard ≡ old.heard
-  pub refused : new.refused ≡ old.refused
-
--- a session in its turn: what was refused is told, and its file is finished if a period is over
-abbrev pub FinishesIf : Bool → {F : Type 0} → (F → FilesView) → PeerState F → PeerState F → Result (Unit {0}) RecordFault → Type 0
-FinishesIf true seen old new answer = Finishes seen old new answer
-FinishesIf false seen old new answer = (answer ≡ Ok tt) × (new ≡ old)
-
-pub record TakesTurn {F : Type 0} (seen : F → FilesView) (is_over : Bool) (old new : PeerState F) (told : Option Refusals) (answer : Result (Unit {0}) RecordFault) : Type 0 where
-  pub told_is : told ≡ old.refused
-  pub finishes : FinishesIf is_over seen (record old { refused = None }) new answer
+    -- none waits any more: its files have all that is released
+    abbrev pub IsReleased : Recording → Type 0
+    IsReleased p = HasRecorded p (datagrams_of (released (says_of p.said) seconds (events_of happenings)))

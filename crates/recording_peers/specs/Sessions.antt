@@ -1,42 +1,62 @@
 -- What the peers that are kept stand for (RFC 7011, sections 8.4 and 10.3).
-use Rattle.std.specs.Prelude.{◌≡◌, ◌-◌, ℕ, List, [], ◌∷◌, ◌++◌, length, take, Option, Some, None, unwrap_or}
+use Rattle.std.specs.Prelude.{◌≡◌, ℕ, List, [], ◌∷◌, ◌++◌, Option, Some, None, unwrap_or}
 use Rattle.std.specs.declared.net.socket_addr.SocketAddr.{SocketAddr}
+use Rattle.lru.specs.LruCache.{last_entry}
 use Rattle.recording_files.specs.Files.{FilesView}
 use Rattle.recording_peers.specs.declared.peer_state.PeerState.{PeerState}
 use Rattle.recording_peers.specs.declared.outcome.Became.{Became}
-use Rattle.recording_peers.specs.declared.outcome.Became.TheVariants.{Recorded, Refused, Ended, NoMemory}
+use Rattle.recording_peers.specs.declared.outcome.Became.TheVariants.{Taken, Ended, NoMemory}
+use Rattle.recording_peers.specs.declared.in_turn.InTurn.{InTurn}
+use Rattle.recording_peers.specs.Happenings.{Happening, DatagramCame, SecondBegan}
 use Rattle.recording_peers.specs.Kept.{IsSession, HasEnded}
-use Rattle.recording_peers.specs.Table.{of_peer, others_for, with_first, gone_for, Beside, Paired, Both}
+use Rattle.recording_peers.specs.Steps.{PeerSessions, Reception}
+use Rattle.recording_peers.specs.Table.{of_peer, others_for, with_first, gone_for, others_than_last, Beside, Paired, Both}
 
--- peers, each with its datagrams that came since its session began, in their order
-abbrev pub PeerDatagrams : Type 0
-PeerDatagrams = List (SocketAddr × List (List ℕ))
+-- peers, each with what happened to it since its session began, in order
+abbrev pub PeerHappenings : Type 0
+PeerHappenings = List (SocketAddr × List Happening)
 
-abbrev pub came_of : SocketAddr → PeerDatagrams → List (List ℕ)
-came_of peer cs = unwrap_or (of_peer peer cs) []
+abbrev pub happened_to : SocketAddr → PeerHappenings → List Happening
+happened_to peer cs = unwrap_or (of_peer peer cs) []
 
--- one more of a peer has come
-abbrev pub with_datagram : ℕ → PeerDatagrams → SocketAddr → List ℕ → PeerDatagrams
-with_datagram most cs peer m = with_first most peer (came_of peer cs ++ m ∷ []) cs
+-- and then this
+abbrev pub happened_with : SocketAddr → PeerHappenings → Happening → List Happening
+happened_with peer cs h = happened_to peer cs ++ h ∷ []
 
-module _ {F : Type 0} (seen : F → FilesView) where
-  -- the session of each peer stands for its own datagrams
-  abbrev pub StandFor : List (SocketAddr × PeerState F) → PeerDatagrams → Type 0
-  StandFor es cs = Paired (IsSession seen) es cs
+-- one more happened to a peer, which is first now
+abbrev pub with_happening : ℕ → PeerHappenings → SocketAddr → Happening → PeerHappenings
+with_happening most cs peer h = with_first most peer (happened_with peer cs h) cs
+
+-- a datagram of it came
+abbrev pub came_in : {F : Type 0} → Reception F → Happening
+came_in r = DatagramCame r.octets r.second
+
+module _ {F : Type 0} (seen : F → FilesView) (seconds : ℕ) where
+  -- the session of each peer stands for its own
+  abbrev pub StandFor : PeerSessions F → PeerHappenings → Type 0
+  StandFor es cs = Paired (λ k hs. IsSession seen k seconds hs) es cs
 
   -- and so does that of one that goes out
-  abbrev pub EvictedStands : Option (SocketAddr × PeerState F) → Option (SocketAddr × List (List ℕ)) → Type 0
-  EvictedStands gone c = Both (Beside (IsSession seen)) gone c
+  abbrev pub EvictedStands : Option (SocketAddr × PeerState F) → Option (SocketAddr × List Happening) → Type 0
+  EvictedStands gone c = Both (Beside (λ k hs. IsSession seen k seconds hs)) gone c
 
   -- after a datagram of a peer
-  abbrev pub StandBehind : Became F → Option (SocketAddr × PeerState F) → ℕ → List (SocketAddr × PeerState F) → PeerDatagrams → SocketAddr → List ℕ → Type 0
-  StandBehind Recorded gone most after cs peer m = StandFor after (with_datagram most cs peer m) × EvictedStands gone (gone_for most peer cs)
-  StandBehind (Refused fault) gone most after cs peer m = StandFor after (with_datagram most cs peer m) × EvictedStands gone (gone_for most peer cs)
-  StandBehind (Ended k) gone most after cs peer m =
-      StandFor after (others_for most peer cs) × EvictedStands gone (gone_for most peer cs) × HasEnded seen k (came_of peer cs) m
-  StandBehind NoMemory gone most after cs peer m = StandFor after cs × (gone ≡ None)
+  abbrev pub StandBy : Became F → ℕ → Reception F → PeerSessions F → PeerHappenings → Type 0
+  StandBy Taken most r after cs = StandFor after (with_happening most cs r.peer (came_in r)) × EvictedStands r.gone (gone_for most r.peer cs)
+  StandBy (Ended k) most r after cs = StandFor after (others_for most r.peer cs) × EvictedStands r.gone (gone_for most r.peer cs)
+      × HasEnded seen k seconds (happened_with r.peer cs (came_in r))
+  StandBy NoMemory most r after cs = StandFor after cs × (r.gone ≡ None)
 
-  -- after the turn of the last one
-  abbrev pub StandInTurn : Option (PeerState F) → List (SocketAddr × PeerState F) → PeerDatagrams → SocketAddr × List (List ℕ) → Type 0
-  StandInTurn None after cs c = StandFor after (c ∷ take (length cs - 1) cs)
-  StandInTurn (Some k) after cs c = StandFor after (take (length cs - 1) cs) × HasEnded seen k c.1 []
+  abbrev pub StandAfter : ℕ → Reception F → PeerSessions F → PeerHappenings → Type 0
+  StandAfter most r after cs = StandBy r.became most r after cs
+
+  -- after the turn of the last one, as a second began
+  abbrev pub StandInTurn : ℕ → Option (PeerState F) → PeerSessions F → PeerHappenings → SocketAddr × List Happening → Type 0
+  StandInTurn second None after cs c = StandFor after ((c.0, c.1 ++ SecondBegan second ∷ []) ∷ others_than_last cs)
+  StandInTurn second (Some k) after cs c = StandFor after (others_than_last cs) × HasEnded seen k seconds (c.1 ++ SecondBegan second ∷ [])
+
+  pub record StandAfterTurn (second : ℕ) (t : InTurn F) (after : PeerSessions F) (cs : PeerHappenings) : Type 0 where
+    pub last : SocketAddr × List Happening
+    pub is : last_entry cs ≡ Some last
+    pub peer : t.peer ≡ last.0
+    pub stand : StandInTurn second t.ended after cs last

@@ -1,57 +1,98 @@
 -- What becomes of a datagram, and of the peers that are kept.
-use Rattle.std.specs.Prelude.{◌≡◌, ◌-◌, ℕ, Bool, List, [], ◌∷◌, length, take, Option, Some, None, Result, Ok, Err}
+use Rattle.std.specs.Prelude.{◌≡◌, ℕ, Bool, List, [], ◌∷◌, Option, Some, None, Result, Ok, Err}
 use Rattle.std.specs.declared.net.socket_addr.SocketAddr.{SocketAddr}
 use Rattle.lru.specs.LruCache.{last_entry}
 use Rattle.recording_files.specs.declared.record_fault.RecordFault.{RecordFault}
 use Rattle.recording_files.specs.Files.{FilesView}
-use Rattle.recording_peer.specs.declared.peer_answer.PeerAnswer.{PeerAnswer}
-use Rattle.recording_peer.specs.declared.peer_answer.PeerAnswer.TheVariants as answers
 use Rattle.recording_peers.specs.declared.peer_state.PeerState.{PeerState}
 use Rattle.recording_peers.specs.declared.outcome.Became.{Became}
-use Rattle.recording_peers.specs.declared.outcome.Became.TheVariants.{Recorded, Refused, Ended, NoMemory}
+use Rattle.recording_peers.specs.declared.outcome.Became.TheVariants.{Taken, Ended, NoMemory}
+use Rattle.recording_peers.specs.declared.peers.Peers.{Peers}
 use Rattle.recording_peers.specs.declared.in_turn.InTurn.{InTurn}
-use Rattle.recording_peers.specs.Kept.{IsSession, Takes, TakesTurn}
-use Rattle.recording_peers.specs.Table.{of_peer, others_for, with_first, gone_for}
+use Rattle.recording_peers.specs.declared.turn.Turn.{Turn}
+use Rattle.recording_peers.specs.Kept.{IsSession}
+use Rattle.recording_peers.specs.Calls.{Takes, TakesTurn}
+use Rattle.recording_peers.specs.Table.{of_peer, others_for, with_first, gone_for, others_than_last}
+
+-- peers that are kept, each with its session, in the order of their last datagrams, the latest first
+abbrev pub PeerSessions : Type 0 → Type 0
+PeerSessions F = List (SocketAddr × PeerState F)
 
 -- ---- a datagram
 
--- what became of it, by the answer of its peer's recorder
-abbrev pub became_by : {F : Type 0} → Result PeerAnswer RecordFault → PeerState F → Became F
-became_by (Ok (answers.Recorded count)) k = Recorded
-became_by (Ok (answers.Refused fault)) k = Refused fault
+-- a datagram of a peer that came at a second, what became of it, and the peer that went for it
+pub record Reception (F : Type 0) : Type 0 where
+  pub peer : SocketAddr
+  pub octets : List ℕ
+  pub second : ℕ
+  pub became : Became F
+  pub gone : Option (SocketAddr × PeerState F)
+
+-- what became of it, by the answer of its peer's session
+abbrev pub became_by : {F : Type 0} → Result (Unit {0}) RecordFault → PeerState F → Became F
+became_by (Ok x) k = Taken
 became_by (Err fault) k = Ended k
 
 -- the peer is first, with its session; one that ended is kept no more
-abbrev pub kept_by : {F : Type 0} → Result PeerAnswer RecordFault → ℕ → SocketAddr → PeerState F → List (SocketAddr × PeerState F) → List (SocketAddr × PeerState F)
-kept_by (Ok answer) most peer k es = with_first most peer k es
+abbrev pub kept_by : {F : Type 0} → Result (Unit {0}) RecordFault → ℕ → SocketAddr → PeerState F → PeerSessions F → PeerSessions F
+kept_by (Ok x) most peer k es = with_first most peer k es
 kept_by (Err fault) most peer k es = others_for most peer es
 
 -- there was no memory to begin a session, and nothing has changed
-pub record TakesNothing {F : Type 0} (es after : List (SocketAddr × PeerState F)) (peer : SocketAddr) : Type 0 where
-  pub begins : of_peer peer es ≡ None
+pub record TakesNothing {F : Type 0} (r : Reception F) (es after : PeerSessions F) : Type 0 where
+  pub begins : of_peer r.peer es ≡ None
   pub same : after ≡ es
+  pub none_went : r.gone ≡ None
 
-module _ {F : Type 0} (seen : F → FilesView) where
-  -- the session that it comes to: the peer's, or one that begins
-  abbrev pub ComesTo : Option (PeerState F) → PeerState F → Type 0
-  ComesTo (Some was) k = k ≡ was
-  ComesTo None k = IsSession seen k []
+-- the room for peers, and for how many seconds a datagram waits, stay
+pub record KeepsLimits {F : Type 0} (old new : Peers F) : Type 0 where
+  pub room : new.kept.cap ≡ old.kept.cap
+  pub reorder : new.reorder ≡ old.reorder
+
+-- the session of a peer that is kept took it; no other has changed
+pub record TakesKept {F : Type 0} (seen : F → FilesView) (most : ℕ) (r : Reception F) (es after : PeerSessions F) : Type 0 where
+  pub old : PeerState F
+  pub kept : of_peer r.peer es ≡ Some old
+  pub new : PeerState F
+  pub answer : Result (Unit {0}) RecordFault
+  pub takes : Takes seen old new r.octets r.second answer
+  pub became : r.became ≡ became_by answer new
+  pub others : after ≡ kept_by answer most r.peer new es
+
+module _ {F : Type 0} (seen : F → FilesView) (made_for : F → SocketAddr → Type 0) (seconds : ℕ) where
+  -- a session that begins, with files that were made for its peer
+  pub record Begins (peer : SocketAddr) (k : PeerState F) : Type 0 where
+    pub session : IsSession seen k seconds []
+    pub made : made_for k.files peer
+
+  -- a peer that isn't kept is first then, with a session that begins, and this one went for it; or there is no memory
+  abbrev pub BeginsWith : {E : Type 0} → ℕ → SocketAddr → Result (Option (SocketAddr × PeerState F)) E → PeerSessions F → PeerSessions F → Type 0
+  BeginsWith most peer (Ok gone) es after = (gone ≡ gone_for most peer es) × ((k : PeerState F) × Begins peer k × (after ≡ with_first most peer k es))
+  BeginsWith most peer (Err e) es after = after ≡ es
+
+  -- the session that a datagram comes to: the peer's, or one that begins
+  abbrev pub ComesTo : SocketAddr → Option (PeerState F) → PeerState F → Type 0
+  ComesTo peer (Some was) k = k ≡ was
+  ComesTo peer None k = Begins peer k
 
   -- its peer's session took it; no other has changed
-  pub record TakesIn (most : ℕ) (es after : List (SocketAddr × PeerState F)) (peer : SocketAddr) (m : List ℕ) (now : ℕ) (became : Became F) : Type 0 where
+  pub record TakesIn (most : ℕ) (r : Reception F) (es after : PeerSessions F) : Type 0 where
     pub old : PeerState F
-    pub comes_to : ComesTo (of_peer peer es) old
+    pub comes_to : ComesTo r.peer (of_peer r.peer es) old
     pub new : PeerState F
-    pub answer : Result PeerAnswer RecordFault
-    pub takes : Takes seen old new m now answer
-    pub is : became ≡ became_by answer new
-    pub others : after ≡ kept_by answer most peer new es
+    pub answer : Result (Unit {0}) RecordFault
+    pub takes : Takes seen old new r.octets r.second answer
+    pub became : r.became ≡ became_by answer new
+    pub others : after ≡ kept_by answer most r.peer new es
+    pub went : r.gone ≡ gone_for most r.peer es
 
-  abbrev pub Records : Became F → Option (SocketAddr × PeerState F) → ℕ → List (SocketAddr × PeerState F) → List (SocketAddr × PeerState F) → SocketAddr → List ℕ → ℕ → Type 0
-  Records NoMemory gone most es after peer m now = TakesNothing es after peer × (gone ≡ None)
-  Records Recorded gone most es after peer m now = TakesIn most es after peer m now Recorded × (gone ≡ gone_for most peer es)
-  Records (Refused fault) gone most es after peer m now = TakesIn most es after peer m now (Refused fault) × (gone ≡ gone_for most peer es)
-  Records (Ended k) gone most es after peer m now = TakesIn most es after peer m now (Ended k) × (gone ≡ gone_for most peer es)
+  abbrev pub RecordsBy : Became F → ℕ → Reception F → PeerSessions F → PeerSessions F → Type 0
+  RecordsBy NoMemory most r es after = TakesNothing r es after
+  RecordsBy Taken most r es after = TakesIn most r es after
+  RecordsBy (Ended k) most r es after = TakesIn most r es after
+
+  abbrev pub Records : ℕ → Reception F → PeerSessions F → PeerSessions F → Type 0
+  Records most r es after = RecordsBy r.became most r es after
 
 -- ---- peers in turn
 
@@ -60,16 +101,18 @@ abbrev pub ended_by : {F : Type 0} → Result (Unit {0}) RecordFault → PeerSta
 ended_by (Ok x) k = None
 ended_by (Err fault) k = Some k
 
-abbrev pub first_by : {F : Type 0} → Result (Unit {0}) RecordFault → SocketAddr → PeerState F → List (SocketAddr × PeerState F) → List (SocketAddr × PeerState F)
+abbrev pub first_by : {F : Type 0} → Result (Unit {0}) RecordFault → SocketAddr → PeerState F → PeerSessions F → PeerSessions F
 first_by (Ok x) peer k es = (peer, k) ∷ es
 first_by (Err fault) peer k es = es
 
--- the last peer had its turn; no other has changed
-pub record GoesOn {F : Type 0} (seen : F → FilesView) (is_over : Bool) (es after : List (SocketAddr × PeerState F)) (t : InTurn F) : Type 0 where
+-- the last peer had its turn as a second began; no other has changed
+pub record GoesOn {F : Type 0} (seen : F → FilesView) (second : ℕ) (is_over : Bool) (es after : PeerSessions F) (t : InTurn F) : Type 0 where
   pub old : PeerState F
   pub last : last_entry es ≡ Some (t.peer, old)
   pub new : PeerState F
-  pub answer : Result (Unit {0}) RecordFault
-  pub turn : TakesTurn seen is_over old new t.refused answer
-  pub ended : t.ended ≡ ended_by answer new
-  pub others : after ≡ first_by answer t.peer new (take (length es - 1) es)
+  pub turn : Turn
+  pub takes : TakesTurn seen old new second is_over turn
+  pub refused : t.refused ≡ turn.refused
+  pub orders : t.orders ≡ turn.orders
+  pub ended : t.ended ≡ ended_by turn.answer new
+  pub others : after ≡ first_by turn.answer t.peer new (others_than_last es)

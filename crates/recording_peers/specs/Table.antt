@@ -1,6 +1,6 @@
 -- Tables of peers, which have room for some of them (RFC 7011, section 10.3): in the order of their last datagrams, the latest
 -- first.
-use Rattle.std.specs.Prelude.{◌≡◌, ℕ, ◌-◌, Bool, List, [], ◌∷◌, take, Option, Some, None, is_some, unwrap_or, slice_get, if◌then◌else◌}
+use Rattle.std.specs.Prelude.{◌≡◌, ℕ, ◌-◌, Bool, List, [], ◌∷◌, length, take, Option, Some, None, is_some, unwrap_or, slice_get, if◌then◌else◌}
 use Rattle.std.specs.Map.{lookup, lookup_key, remove_entry}
 use Rattle.std.specs.declared.net.socket_addr.SocketAddr.{SocketAddr}
 use Rattle.std.specs.contracts.net.socket_addr.SocketAddrPartialEq.TheImpl as addresses
@@ -23,6 +23,10 @@ gone_for most peer es = if is_some (of_peer peer es) then None else slice_get es
 -- a peer is first, with this, under the address that it was kept under
 abbrev pub with_first : {X : Type 0} → ℕ → SocketAddr → X → List (SocketAddr × X) → List (SocketAddr × X)
 with_first most peer x es = (unwrap_or (lookup_key (same_peer peer) es) peer, x) ∷ others_for most peer es
+
+-- the others than the last one, which was silent for longest
+abbrev pub others_than_last : {X : Type 0} → List (SocketAddr × X) → List (SocketAddr × X)
+others_than_last es = take (length es - 1) es
 
 -- ---- two tables of the same peers in the same order, whose values are related
 

@@ -2,6 +2,7 @@
 
 use crate::peer_state::PeerState;
 use crate::refusals::Refusals;
+use recording_order::OrderCounts;
 use std::net::SocketAddr;
 
 /// A peer, where all are gone over in turn.
@@ -10,6 +11,9 @@ pub struct InTurn<F> {
     pub peer: SocketAddr,
     /// Its datagrams that were refused and are told now, if there are any.
     pub refused: Option<Refusals>,
-    /// Its session, where that ended with a fault, since the file could not be finished.
+    /// How many datagrams were doubled and reordered in each domain that had some, where a period is over.
+    pub orders: Vec<OrderCounts>,
+    /// Its session, where that ended with a fault: a datagram that waited could not be recorded, or the file
+    /// could not be finished.
     pub ended: Option<PeerState<F>>,
 }

@@ -1,54 +1,94 @@
 //! Laws of the definitions. Each is a function that does nothing, and its contract is the theorem: a
 //! call brings that to the proof of its caller.
 
-ghost use Rattle.std.specs.Prelude.{◌≡◌, ◌++◌, ◌-◌, ℕ, Bool, List, Option, Some, length, take};
+ghost use Rattle.std.specs.Prelude.{◌≡◌, ◌++◌, ℕ, Bool, List, [], Some, Ok, false};
 ghost use Rattle.std.specs.declared.net.socket_addr.SocketAddr.{SocketAddr};
 ghost use Rattle.lru.specs.LruCache.{last_entry};
+ghost use Rattle.recording_order.specs.InOrder.{AreNext};
+ghost use Rattle.recording_order.specs.Releases.{finish, start};
 ghost use Rattle.recording_peers.specs.declared.peer_state.PeerState.{PeerState};
-ghost use Rattle.recording_peers.specs.declared.outcome.Became.{Became};
 ghost use Rattle.recording_peers.specs.declared.in_turn.InTurn.{InTurn};
-ghost use Rattle.recording_peers.specs.Runs.{Reception, AreRecorded, IsNeverEvicted, came_after, own_of};
-ghost use Rattle.recording_peers.specs.Sessions.{PeerDatagrams, StandFor, StandBehind, StandInTurn, EvictedStands, came_of};
-ghost use Rattle.recording_peers.specs.Steps.{Records, GoesOn};
+ghost use Rattle.recording_peers.specs.Calls.{Follows};
+ghost use Rattle.recording_peers.specs.Happenings.{Happening, came_with_header, events_of};
+ghost use Rattle.recording_peers.specs.Kept.{HasRecorded, IsReleased, IsSession, Recording, says_of};
+ghost use Rattle.recording_peers.specs.Runs.{AreRecorded, IsNeverEvicted, happened_after, own_of};
+ghost use Rattle.recording_peers.specs.Sessions.{PeerHappenings, StandFor, StandAfter, StandAfterTurn, EvictedStands, happened_to};
+ghost use Rattle.recording_peers.specs.Steps.{GoesOn, PeerSessions, Reception, Records};
+ghost use Rattle.recording_peers.specs.Table.{others_than_last};
 
+use crate::peer_place::PeerPlace;
 use recording_files::FileSeries;
+use recording_order::laws::{
+    counts_change_nothing, in_order_nothing_changes, only_what_was_handed_on_is_asked,
+    with_no_seconds_nothing_changes,
+};
 
-/// Where the session of each peer stands for the datagrams of that peer that came since it began, so it
-/// does after one more: that is recorded after those of its own peer, as it came, or refused, and no
-/// other session has changed. The first of a peer begins a session. The session of a peer that goes out
-/// still stands for its own; one that ended has those of its datagrams that came before.
-pub fn sessions_stand_for_their_datagrams<F: FileSeries>()
-    ensures { (most now : ℕ) (es after : List (SocketAddr × PeerState F)) (cs : PeerDatagrams)
-        (peer : SocketAddr) (m : List ℕ) (became : Became F)
-        (gone : Option (SocketAddr × PeerState F))
-        → StandFor F.seen es cs → Records F.seen became gone most es after peer m now
-        → StandBehind F.seen became gone most after cs peer m }
-{}
+/// Where the session of each peer stands for what happened to that peer since it began, so it does after one
+/// more datagram: that takes its place among those of its own peer, and no other session has changed. The
+/// first of a peer begins a session. The session of a peer that goes out still stands for its own; one that
+/// ended has those of its datagrams that were handed on before.
+pub fn sessions_stand_for_their_datagrams<F: FileSeries, P: PeerPlace<F>>()
+    ensures { (seconds most : ℕ) (r : Reception F)
+        (es after : PeerSessions F) (cs : PeerHappenings)
+        → StandFor F.seen seconds es cs → Records F.seen P.made_for seconds most r es after
+        → StandAfter F.seen seconds most r after cs }
+{
+    only_what_was_handed_on_is_asked();
+    counts_change_nothing();
+}
 
-/// When the peer that was silent for longest has had its turn, each session stands for the same datagrams,
-/// whether its file was finished or not; and so does one that ended at that.
+/// When the peer that was silent for longest has had its turn, each session stands for what happened to its
+/// peer, and the last one's also for the second that began, whether its file was finished or not; and so
+/// does one that ended at that.
 pub fn sessions_stand_in_turn<F: FileSeries>()
-    ensures { (is_over : Bool) (es after : List (SocketAddr × PeerState F)) (cs : PeerDatagrams)
-        (t : InTurn F) → StandFor F.seen es cs → GoesOn F.seen is_over es after t
-        → (c : SocketAddr × List (List ℕ)) × (last_entry cs ≡ Some c) × (t.peer ≡ c.0)
-        × StandInTurn F.seen t.ended after cs c }
-{}
+    ensures { (seconds second : ℕ) (is_over : Bool) (es after : PeerSessions F)
+        (cs : PeerHappenings) (t : InTurn F)
+        → StandFor F.seen seconds es cs → GoesOn F.seen second is_over es after t
+        → StandAfterTurn F.seen seconds second t after cs }
+{
+    only_what_was_handed_on_is_asked();
+    counts_change_nothing();
+}
 
-/// The peer that was silent for longest stands for its datagrams when it goes out, and the others for theirs.
+/// The peer that was silent for longest stands for its own when it goes out, and the others for theirs.
 pub fn sessions_stand_without_the_last<F: FileSeries>()
-    ensures { (es : List (SocketAddr × PeerState F)) (cs : PeerDatagrams) → StandFor F.seen es cs
-        → EvictedStands F.seen (last_entry es) (last_entry cs)
-        × StandFor F.seen (take (length es - 1) es) (take (length cs - 1) cs) }
+    ensures { (seconds : ℕ) (es : PeerSessions F) (cs : PeerHappenings)
+        → StandFor F.seen seconds es cs
+        → EvictedStands F.seen seconds (last_entry es) (last_entry cs)
+        × StandFor F.seen seconds (others_than_last es) (others_than_last cs) }
 {}
 
 /// Over datagrams of any peers, one after another: the session of each peer that is kept then stands for the
-/// datagrams of that peer alone, as many as came since it began. Where the peer's session didn't go out in
+/// datagrams of that peer only, as many as came since it began. Where the peer's session didn't go out in
 /// between, these are all of its own in their order, whatever came from others.
-pub fn sessions_stand_for_their_own<F: FileSeries>()
-    ensures stand { (most : ℕ) (rs : List (Reception F)) (es after : List (SocketAddr × PeerState F))
-        (cs : PeerDatagrams) → StandFor F.seen es cs → AreRecorded F.seen most rs es after
-        → StandFor F.seen after (came_after most rs cs) }
-    ensures own { (most : ℕ) (rs : List (Reception F)) (cs : PeerDatagrams) (peer : SocketAddr)
+pub fn sessions_stand_for_their_own<F: FileSeries, P: PeerPlace<F>>()
+    ensures stand { (seconds most : ℕ) (rs : List (Reception F)) (es after : PeerSessions F)
+        (cs : PeerHappenings) → StandFor F.seen seconds es cs
+        → AreRecorded F.seen P.made_for seconds most rs es after
+        → StandFor F.seen seconds after (happened_after most rs cs) }
+    ensures own { (most : ℕ) (rs : List (Reception F)) (cs : PeerHappenings) (peer : SocketAddr)
         → IsNeverEvicted peer most rs cs
-        → came_of peer (came_after most rs cs) ≡ came_of peer cs ++ own_of peer rs }
-{}
+        → happened_to peer (happened_after most rs cs) ≡ happened_to peer cs ++ own_of peer rs }
+{
+    only_what_was_handed_on_is_asked();
+    counts_change_nothing();
+}
+
+/// The files of a session that stands for what happened to its peer, and in which none waits any more, have
+/// what is released of the datagrams that came. Where none waits at all, or each came in its order, these are
+/// all that came, as they came.
+pub fn files_have_what_is_released<F: FileSeries>()
+    ensures released { (old new : PeerState F) (seconds : ℕ) (hs : List Happening)
+        → IsSession F.seen old seconds hs → Follows F.seen finish false old new (Ok tt)
+        → (p : Recording) × IsReleased F.seen new seconds hs p }
+    ensures off { (k : PeerState F) (hs : List Happening) (p : Recording)
+        → IsReleased F.seen k 0 hs p → HasRecorded F.seen k p (came_with_header hs) }
+    ensures in_order { (k : PeerState F) (seconds : ℕ) (hs : List Happening) (p : Recording)
+        → AreNext (says_of p.said) (start seconds) (events_of hs)
+        → IsReleased F.seen k seconds hs p → HasRecorded F.seen k p (came_with_header hs) }
+{
+    only_what_was_handed_on_is_asked();
+    counts_change_nothing();
+    with_no_seconds_nothing_changes();
+    in_order_nothing_changes();
+}

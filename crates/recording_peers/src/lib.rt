@@ -1,10 +1,13 @@
 //! Many peers that send datagrams into one port, each recorded by itself: a transport session over UDP is a
-//! peer's address and port (RFC 7011, section 10.3).
+//! peer's address and port (RFC 7011, section 10.3). Each session puts its datagrams into order before it
+//! records them.
 #![tactic(auto)]
 
 mod datagram_source;
+mod handing_on;
 mod in_turn;
 pub mod laws;
+mod offering;
 mod outcome;
 mod peer_place;
 mod peer_state;
@@ -12,6 +15,9 @@ mod peers;
 mod refusals;
 mod script_datagrams;
 mod taking;
+mod taking_turns;
+mod turn;
+mod waiting;
 
 pub use datagram_source::{Datagram, DatagramSource, NoDatagram};
 pub use in_turn::InTurn;
@@ -21,3 +27,4 @@ pub use peer_state::PeerState;
 pub use peers::Peers;
 pub use refusals::Refusals;
 pub use script_datagrams::{ScriptDatagrams, ScriptedDatagram};
+pub use turn::Turn;

@@ -1,16 +1,14 @@
 //! What becomes of a datagram.
 
 use crate::peer_state::PeerState;
-use ipfix_message::MessageFault;
 use std::net::SocketAddr;
 
 /// What became of a datagram.
 #[derive(Drop)]
 pub enum Became<F> {
-    /// It stands in its peer's file.
-    Recorded,
-    /// It was refused, counted, and changed nothing.
-    Refused(MessageFault),
+    /// Its peer's session took it: it was recorded, it waits until it is due, it was dropped since it came
+    /// already, or it was refused, and counted.
+    Taken,
     /// Its peer's session ended with a fault that its recorder tells. The next datagram begins another.
     Ended(PeerState<F>),
     /// There was no memory to begin a session of its peer, and nothing has changed.

@@ -7,9 +7,14 @@ use std::net::SocketAddr;
 /// Makes the files of each session of a peer.
 pub trait PeerPlace<F: FileSeries> {
     ghost use Rattle.std.specs.Prelude.{IfOk};
+    ghost use Rattle.std.specs.declared.net.socket_addr.SocketAddr.{SocketAddr as Peer};
     ghost use Rattle.recording_files.specs.Files.{IsEmpty};
+
+    /// What contracts see of files: that they were made for a peer.
+    ghost made_for: { F → Peer → Type 0 };
 
     /// Files in which nothing stands, for a session of this peer that begins. Only memory can be refused.
     fn files(&mut self, alloc: Global, peer: SocketAddr) -> Result<F, AllocError>
-        ensures { IfOk result (λ files. IsEmpty (F.seen files).contents) };
+        ensures empty { IfOk result (λ files. IsEmpty (F.seen files).contents) }
+        ensures made { IfOk result (λ files. made_for files peer) };
 }

@@ -1,23 +1,27 @@
 //! A session of a peer.
 
-ghost use Rattle.std.specs.Prelude.{◌≡◌, [], Some, None};
+ghost use Rattle.std.specs.Prelude.{◌≡◌, []};
 ghost use Rattle.recording_files.specs.Files.{IsEmpty};
-ghost use Rattle.recording_peers.specs.Kept.{Takes, TakesTurn, Finishes, IsSession, one_more_refused, untold};
-ghost use Rattle.recording_peers.specs.Kept as specs;
+ghost use Rattle.recording_peers.specs.Calls.{Takes, TakesTurn};
+ghost use Rattle.recording_peers.specs.Kept.{IsSession};
 
-use crate::refusals::Refusals;
-use ipfix_message::MessageFault;
+use crate::refusals::{Refusals, one_more};
+use crate::turn::Turn;
+use ipfix_message::header_of;
 use recording_files::{FileSeries, RecordFault};
-use recording_peer::{PeerAnswer, PeerRecorder};
+use recording_order::Window;
+use recording_peer::PeerRecorder;
 use std::alloc::Global;
 
-/// A session of a peer, while its datagrams are recorded.
+/// A session of a peer, while its datagrams are put into order and recorded.
 #[derive(Drop)]
 pub struct PeerState<F> {
     /// What records them.
     pub recorder: PeerRecorder,
     /// The session's files.
     pub files: F,
+    /// Its datagrams that wait, and what is known of those that were recorded.
+    pub window: Window,
     /// When its last datagram came, in seconds.
     pub heard: u64,
     /// Its datagrams that were refused and aren't reported yet, if there are any.
@@ -26,84 +30,57 @@ pub struct PeerState<F> {
 
 impl<F: FileSeries> PeerState<F> {
     /// The session of a peer of which nothing has come, with files in which nothing stands, at a time in
-    /// seconds.
-    pub fn new(alloc: Global, files: F, now: u64) -> Self
+    /// seconds. A datagram that is ahead of the due sequence number waits for so many seconds (`reorder`);
+    /// with 0 none waits, and none is dropped.
+    pub fn new(alloc: Global, files: F, reorder: u64, now: u64) -> Self
         requires { IsEmpty (F.seen files).contents }
-        ensures session { IsSession F.seen result [] }
+        ensures session { IsSession F.seen result reorder [] }
         ensures heard { result.heard ≡ now }
+        ensures files { result.files ≡ files }
     {
         PeerState {
             recorder: PeerRecorder::new(alloc),
             files,
+            window: Window::new(alloc, reorder),
             heard: now,
             refused: None,
         }
     }
 
-    /// Takes a datagram, which came at a time in seconds, as [`PeerRecorder::take`] does. One that is refused
-    /// is counted.
-    pub fn take(
-        &mut self,
-        alloc: Global,
-        datagram: &[u8],
-        now: u64,
-    ) -> Result<PeerAnswer, RecordFault>
-        ensures { Takes F.seen self.old self.new datagram.now now result }
+    /// Takes a datagram, which came at a time in seconds. One whose header can't be read is refused, and
+    /// counted. Any other is recorded as [`PeerRecorder::take`] does if it is due, or its number is before
+    /// that, or none is due; it waits if it is ahead, and it is dropped and counted if it came already. Those
+    /// that waited for it are recorded then. One that the recorder refuses is counted, too.
+    ///
+    /// The fault is the recorder's, or `OutOfMemory` where one can't wait or be noted: then the session has
+    /// ended.
+    pub fn take(&mut self, alloc: Global, datagram: &[u8], second: u64) -> Result<(), RecordFault>
+        ensures { Takes F.seen self.old self.new datagram.now second result }
     {
-        self.heard = now;
-        let answer = self.recorder.take(alloc, datagram, &mut self.files);
-        self.refused = refused_by(&answer, self.refused);
-        answer
-    }
-
-    /// Its refused datagrams are told now; and if a period is over, its file is finished, if it has a
-    /// datagram, as [`PeerRecorder::finish_file`] does.
-    pub fn take_turn(&mut self, is_over: bool) -> (Option<Refusals>, Result<(), RecordFault>)
-        ensures { TakesTurn F.seen is_over self.old self.new result.0 result.1 }
-    {
-        let refused = self.refused.take();
-        if is_over {
-            (refused, self.finish_file())
-        } else {
-            (refused, Ok(()))
+        self.heard = second;
+        match header_of(datagram) {
+            Ok(header) => self.take_in_order(alloc, &header, datagram, second),
+            Err(fault) => {
+                self.refused = Some(one_more(self.refused, fault));
+                Ok(())
+            }
         }
     }
 
-    // Finishes its file, if it has a datagram.
-    fn finish_file(&mut self) -> Result<(), RecordFault>
-        ensures { Finishes F.seen self.old self.new result }
+    /// A second has begun: the refused datagrams are told now; those that waited long enough are recorded; and
+    /// if a period is over, the file is finished, if it has a datagram, as [`PeerRecorder::finish_file`] does,
+    /// and the counts of doubled and reordered datagrams are told and begin anew. Without memory for these
+    /// they are kept for the next time.
+    pub fn take_turn(&mut self, alloc: Global, second: u64, is_over: bool) -> Turn
+        ensures { TakesTurn F.seen self.old self.new second is_over result }
     {
-        self.recorder.finish_file(&mut self.files)
-    }
-}
-
-// The refused datagrams after this answer.
-fn refused_by(
-    answer: &Result<PeerAnswer, RecordFault>,
-    refused: Option<Refusals>,
-) -> Option<Refusals>
-    ensures { result ≡ specs.refused_by answer.now refused }
-{
-    match answer {
-        Ok(PeerAnswer::Refused(fault)) => Some(one_more(refused, *fault)),
-        _ => refused,
-    }
-}
-
-fn one_more(refused: Option<Refusals>, fault: MessageFault) -> Refusals
-    ensures { result ≡ one_more_refused refused fault }
-{
-    Refusals {
-        count: count_of(refused).saturating_add(1),
-        last: fault,
-    }
-}
-
-fn count_of(refused: Option<Refusals>) -> u64
-    ensures { result ≡ untold refused }
-{
-    match refused {
-        Some(refused) => refused.count,
-        None => 0,
+        let refused = self.refused.take();
+        let answer = self.go_on(alloc, second, is_over);
+        let orders = self.take_orders(alloc, is_over);
+        Turn {
+            refused,
+            orders,
+            answer,
+        }
     }
 }

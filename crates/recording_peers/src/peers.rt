@@ -1,14 +1,16 @@
 //! The peers that are kept.
 
-ghost use Rattle.std.specs.Prelude.{◌≡◌, ◌≤◌, ◌<◌, ◌-◌, ◌==◌, [], Some, None, length, take, IfOk, IfSome};
+ghost use Rattle.std.specs.Prelude.{◌≡◌, ◌≤◌, ◌<◌, ◌==◌, [], Some, None, length, IfOk, IfSome};
 ghost use Rattle.std.specs.NonZero.{non_zero_usize_get};
 ghost use Rattle.lru.specs.LruCache.{lru_cache, last_entry};
-ghost use Rattle.recording_peers.specs.Steps.{Records, GoesOn};
+ghost use Rattle.recording_peers.specs.Steps.{Records, GoesOn, KeepsLimits};
+ghost use Rattle.recording_peers.specs.Table.{others_than_last};
 
 use crate::in_turn::InTurn;
 use crate::outcome::Outcome;
 use crate::peer_place::PeerPlace;
 use crate::peer_state::PeerState;
+use crate::turn::Turn;
 use lru::LruCache;
 use recording_files::FileSeries;
 use std::alloc::{AllocError, Global};
@@ -21,16 +23,25 @@ use std::num::NonZeroUsize;
 pub struct Peers<F> {
     /// The session of each, under its address and port.
     pub kept: LruCache<SocketAddr, PeerState<F>, RandomState>,
+    /// For how many seconds a datagram that is ahead of the due sequence number waits.
+    pub reorder: u64,
 }
 
 impl<F: FileSeries + Drop> Peers<F> {
-    /// No peers, and room for `most`. Their addresses are hashed with random keys, since anybody may choose
-    /// them.
-    pub fn new(alloc: Global, most: NonZeroUsize, keys: RandomState) -> Result<Self, AllocError>
-        ensures { IfOk result (λ peers. peers.kept ≡ lru_cache [] (non_zero_usize_get most)) }
+    /// No peers, and room for `most`. In each session a datagram that is ahead of the due sequence number
+    /// waits for so many seconds (`reorder`); with 0 each is recorded as it comes. The addresses are hashed
+    /// with random keys, since anybody may choose them.
+    pub fn new(
+        alloc: Global,
+        most: NonZeroUsize,
+        keys: RandomState,
+        reorder: u64,
+    ) -> Result<Self, AllocError>
+        ensures kept { IfOk result (λ peers. peers.kept ≡ lru_cache [] (non_zero_usize_get most)) }
+        ensures reorder { IfOk result (λ peers. peers.reorder ≡ reorder) }
     {
         let kept = LruCache::with_hasher(alloc, most, keys)?;
-        Ok(Peers { kept })
+        Ok(Peers { kept, reorder })
     }
 
     /// How many are kept.
@@ -47,57 +58,63 @@ impl<F: FileSeries + Drop> Peers<F> {
         self.kept.is_empty()
     }
 
-    /// Records a datagram of a peer, which came at a time in seconds, in the files of the peer's session; one
-    /// that isn't kept begins, with files of a place. The peer is first now. Where there is no room for one
-    /// more, the peer that was silent for longest goes out. Any other stays as it is.
+    /// Gives a datagram of a peer, which came at a time in seconds, to the peer's session; one that isn't kept
+    /// begins, with files of a place. The peer is first now. Where there is no room for one more, the peer
+    /// that was silent for longest goes out. Any other stays as it is.
     pub fn record<P: PeerPlace<F>>(
         &mut self,
         alloc: Global,
         place: &mut P,
         peer: SocketAddr,
         datagram: &[u8],
-        now: u64,
+        second: u64,
     ) -> Outcome<F>
-        ensures records { Records F.seen result.became result.gone self.old.kept.cap
-            self.old.kept.entries self.new.kept.entries peer datagram.now now }
-        ensures room { self.new.kept.cap ≡ self.old.kept.cap }
+        ensures records { Records F.seen P.made_for self.old.reorder self.old.kept.cap
+            (record {
+              peer = peer;
+              octets = datagram.now;
+              second = second;
+              became = result.became;
+              gone = result.gone;
+            })
+            self.old.kept.entries self.new.kept.entries }
+        ensures limits { KeepsLimits self.old self.new }
     {
-        match self.take(alloc, peer, datagram, now) {
+        match self.take(alloc, peer, datagram, second) {
             Some(became) => Outcome { became, gone: None },
-            None => self.record_first(alloc, place, peer, datagram, now),
+            None => self.record_first(alloc, place, peer, datagram, second),
         }
     }
 
-    /// Goes on to the peer that was silent for longest, and makes it first: as many calls as there are peers go
-    /// over all of them, and leave their order. Its refused datagrams are told; and if a period is over, its
-    /// file is finished. A session that ends at that goes out.
-    pub fn go_on(&mut self, is_over: bool) -> Option<InTurn<F>>
+    /// Goes on to the peer that was silent for longest, as a second has begun, and makes it first: as many
+    /// calls as there are peers go over all of them, and leave their order. It has its turn
+    /// ([`PeerState::take_turn`]). A session that ends at that goes out.
+    pub fn go_on(&mut self, alloc: Global, second: u64, is_over: bool) -> Option<InTurn<F>>
         ensures none { result ≡ None → (self.old.kept.entries ≡ []) × (self.new ≡ self.old) }
         ensures goes_on { IfSome result
-            (GoesOn F.seen is_over self.old.kept.entries self.new.kept.entries) }
-        ensures room { self.new.kept.cap ≡ self.old.kept.cap }
+            (GoesOn F.seen second is_over self.old.kept.entries self.new.kept.entries) }
+        ensures limits { KeepsLimits self.old self.new }
     {
         if self.kept.len() == 0 {
             return None;
         }
         let (peer, _) = self.kept.peek_lru()?;
         let peer = *peer;
-        let (refused, finished) = self.kept.get_mut(&peer)?.take_turn(is_over);
-        match finished {
-            Ok(()) => Some(InTurn {
-                peer,
-                refused,
-                ended: None,
-            }),
-            Err(_) => {
-                let ended = self.kept.pop(&peer);
-                Some(InTurn {
-                    peer,
-                    refused,
-                    ended,
-                })
-            }
-        }
+        let Turn {
+            refused,
+            orders,
+            answer,
+        } = self.kept.get_mut(&peer)?.take_turn(alloc, second, is_over);
+        let ended = match answer {
+            Ok(()) => None,
+            Err(_) => self.kept.pop(&peer),
+        };
+        Some(InTurn {
+            peer,
+            refused,
+            orders,
+            ended,
+        })
     }
 
     /// Takes out the peer that was silent for longest, if its last datagram came before a time in seconds.
@@ -106,9 +123,8 @@ impl<F: FileSeries + Drop> Peers<F> {
             × IfSome (last_entry self.old.kept.entries) (λ e. since ≤ e.1.heard) }
         ensures silent { IfSome result (λ e. (last_entry self.old.kept.entries ≡ Some e)
             × (e.1.heard < since)
-            × (self.new.kept.entries
-            ≡ take (length self.old.kept.entries - 1) self.old.kept.entries)) }
-        ensures room { self.new.kept.cap ≡ self.old.kept.cap }
+            × (self.new.kept.entries ≡ others_than_last self.old.kept.entries)) }
+        ensures limits { KeepsLimits self.old self.new }
     {
         let (_, kept) = self.kept.peek_lru()?;
         if kept.heard < since {
@@ -121,9 +137,8 @@ impl<F: FileSeries + Drop> Peers<F> {
     /// Takes out the peer that was silent for longest.
     pub fn take_out(&mut self) -> Option<(SocketAddr, PeerState<F>)>
         ensures last { result ≡ last_entry self.old.kept.entries }
-        ensures others { self.new.kept.entries
-            ≡ take (length self.old.kept.entries - 1) self.old.kept.entries }
-        ensures room { self.new.kept.cap ≡ self.old.kept.cap }
+        ensures others { self.new.kept.entries ≡ others_than_last self.old.kept.entries }
+        ensures limits { KeepsLimits self.old self.new }
     {
         self.kept.pop_lru()
     }

@@ -1,6 +1,6 @@
 //! Datagrams in memory, for tests.
 
-ghost use Rattle.std.specs.Prelude.{◌≡◌, ◌≤◌, [], length, take};
+ghost use Rattle.std.specs.Prelude.{◌≡◌, ◌≤◌, [], false, length, take};
 
 use crate::datagram_source::{Datagram, DatagramSource, NoDatagram};
 use std::net::SocketAddr;
@@ -24,7 +24,10 @@ pub struct ScriptDatagrams {
 impl ScriptDatagrams {
     /// Gives these in turn.
     pub fn new(script: Vec<Result<ScriptedDatagram, NoDatagram>>) -> Self
-        ensures { ⟦<ScriptDatagrams as DatagramSource>⟧.answered result [] }
+        ensures answered { ⟦<ScriptDatagrams as DatagramSource>⟧.answered result [] }
+        ensures script { result.script ≡ script }
+        ensures next { result.next ≡ 0 }
+        ensures is_stuck { result.is_stuck ≡ false }
     {
         ScriptDatagrams {
             script,

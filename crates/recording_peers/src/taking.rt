@@ -1,16 +1,14 @@
 //! Taking the datagrams of peers.
 
-ghost use Rattle.std.specs.Prelude.{◌≡◌, [], Some, None, Ok, IfSome, MatchResult};
-ghost use Rattle.recording_peers.specs.Kept.{IsSession};
-ghost use Rattle.recording_peers.specs.Table.{of_peer, with_first, gone_for};
-ghost use Rattle.recording_peers.specs.Steps.{Records, TakesIn, became_by};
+ghost use Rattle.std.specs.Prelude.{◌≡◌, Some, None, IfSome};
+ghost use Rattle.recording_peers.specs.Table.{of_peer};
+ghost use Rattle.recording_peers.specs.Steps.{BeginsWith, KeepsLimits, Records, TakesKept};
 
 use crate::outcome::{Became, Outcome};
 use crate::peer_place::PeerPlace;
 use crate::peer_state::PeerState;
 use crate::peers::Peers;
 use recording_files::FileSeries;
-use recording_peer::PeerAnswer;
 use std::alloc::{AllocError, Global};
 use std::net::SocketAddr;
 
@@ -22,15 +20,22 @@ impl<F: FileSeries + Drop> Peers<F> {
         place: &mut P,
         peer: SocketAddr,
         datagram: &[u8],
-        now: u64,
+        second: u64,
     ) -> Outcome<F>
         requires { of_peer peer self.old.kept.entries ≡ None }
-        ensures records { Records F.seen result.became result.gone self.old.kept.cap
-            self.old.kept.entries self.new.kept.entries peer datagram.now now }
-        ensures room { self.new.kept.cap ≡ self.old.kept.cap }
+        ensures records { Records F.seen P.made_for self.old.reorder self.old.kept.cap
+            (record {
+              peer = peer;
+              octets = datagram.now;
+              second = second;
+              became = result.became;
+              gone = result.gone;
+            })
+            self.old.kept.entries self.new.kept.entries }
+        ensures limits { KeepsLimits self.old self.new }
     {
-        match self.begin(alloc, place, peer, now) {
-            Ok(gone) => match self.take(alloc, peer, datagram, now) {
+        match self.begin(alloc, place, peer, second) {
+            Ok(gone) => match self.take(alloc, peer, datagram, second) {
                 Some(became) => Outcome { became, gone },
                 None => Outcome {
                     became: Became::NoMemory,
@@ -50,19 +55,16 @@ impl<F: FileSeries + Drop> Peers<F> {
         alloc: Global,
         place: &mut P,
         peer: SocketAddr,
-        now: u64,
+        second: u64,
     ) -> Result<Option<(SocketAddr, PeerState<F>)>, AllocError>
         requires { of_peer peer self.old.kept.entries ≡ None }
-        ensures begun { MatchResult result
-            (λ gone. (gone ≡ gone_for self.old.kept.cap peer self.old.kept.entries)
-            × ((k : PeerState F) × IsSession F.seen k []
-            × (self.new.kept.entries
-            ≡ with_first self.old.kept.cap peer k self.old.kept.entries)))
-            (λ _. self.new.kept.entries ≡ self.old.kept.entries) }
-        ensures room { self.new.kept.cap ≡ self.old.kept.cap }
+        ensures begun { BeginsWith F.seen P.made_for self.old.reorder self.old.kept.cap peer result
+            self.old.kept.entries self.new.kept.entries }
+        ensures limits { KeepsLimits self.old self.new }
     {
         let files = place.files(alloc, peer)?;
-        match self.kept.push(peer, PeerState::new(alloc, files, now)) {
+        let session = PeerState::new(alloc, files, self.reorder, second);
+        match self.kept.push(peer, session) {
             Ok(gone) => Ok(gone),
             Err(_) => Err(AllocError),
         }
@@ -74,36 +76,26 @@ impl<F: FileSeries + Drop> Peers<F> {
         alloc: Global,
         peer: SocketAddr,
         datagram: &[u8],
-        now: u64,
+        second: u64,
     ) -> Option<Became<F>>
         ensures unknown { result ≡ None
             → (of_peer peer self.old.kept.entries ≡ None) × (self.new ≡ self.old) }
-        ensures taken { IfSome result (λ became. (old : PeerState F)
-            × (of_peer peer self.old.kept.entries ≡ Some old)
-            × TakesIn F.seen self.old.kept.cap self.old.kept.entries
-            self.new.kept.entries peer datagram.now now became) }
-        ensures room { self.new.kept.cap ≡ self.old.kept.cap }
+        ensures taken { IfSome result (λ became. TakesKept F.seen self.old.kept.cap
+            (record {
+              peer = peer;
+              octets = datagram.now;
+              second = second;
+              became = became;
+              gone = None;
+            }) self.old.kept.entries self.new.kept.entries) }
+        ensures limits { KeepsLimits self.old self.new }
     {
-        let answer = match self.kept.get_mut(&peer) {
-            Some(kept) => kept.take(alloc, datagram, now),
-            None => return None,
-        };
-        match answer {
-            Ok(answer) => Some(became_of(answer)),
+        match self.kept.get_mut(&peer)?.take(alloc, datagram, second) {
+            Ok(()) => Some(Became::Taken),
             Err(_) => {
                 let ended = self.kept.pop(&peer)?;
                 Some(Became::Ended(ended))
             }
         }
-    }
-}
-
-// What became of a datagram that a peer's recorder answered so.
-fn became_of<F>(answer: PeerAnswer) -> Became<F>
-    ensures { (kept : PeerState F) → result ≡ became_by (Ok answer) kept }
-{
-    match answer {
-        PeerAnswer::Recorded(_) => Became::Recorded,
-        PeerAnswer::Refused(fault) => Became::Refused(fault),
     }
 }

@@ -12,7 +12,7 @@ fn longest_silent_goes(rt: HostRuntime) -> Result<(), Fail> {
     record(alloc, &mut peers, 2, FIRST_OF_2, 1000);
     record(alloc, &mut peers, 1, FIRST_OF_1, 1000);
     let third = record(alloc, &mut peers, 3, FIRST_OF_1, 1000);
-    assert_eq!(rt; third, (Answer::Recorded, Some(peer(2))));
+    assert_eq!(rt; third, (Answer::Taken, Some(peer(2))));
     assert!(rt; has(&peers, 1, FIRST_OF_1));
     assert_eq!(rt; peers.len(), 2);
     Ok(())

@@ -1,7 +1,6 @@
 //! What stands in the files of each peer.
 
 use super::running::*;
-use ipfix_message::MessageFault;
 use std::test::*;
 use worked_examples::faults::VERSION_9;
 use worked_examples::recordings::{FIRST_OF_1, FIRST_OF_2};
@@ -23,13 +22,12 @@ fn each_has_its_own_files(rt: HostRuntime) -> Result<(), Fail> {
 fn refused_is_counted(rt: HostRuntime) -> Result<(), Fail> {
     let alloc = rt.alloc();
     let mut peers = two_peers(&rt)?;
-    let version = MessageFault::Version;
     let first = record(alloc, &mut peers, 1, FIRST_OF_1, 1000);
-    assert_eq!(rt; first, (Answer::Recorded, None));
+    assert_eq!(rt; first, (Answer::Taken, None));
     let second = record(alloc, &mut peers, 1, VERSION_9, 1000);
-    assert_eq!(rt; second, (Answer::Refused(version), None));
+    assert_eq!(rt; second, (Answer::Taken, None));
     assert!(rt; has(&peers, 1, FIRST_OF_1));
-    assert_eq!(rt; refused_in_turn(&mut peers), Some(1));
+    assert_eq!(rt; refused_in_turn(alloc, &mut peers), Some(1));
     assert!(rt; has(&peers, 1, &[]));
     Ok(())
 }

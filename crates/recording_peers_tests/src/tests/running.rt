@@ -1,6 +1,5 @@
 //! Peers, a place in memory, and datagrams.
 
-use ipfix_message::MessageFault;
 use recording_files::MemoryFiles;
 use recording_peers::{
     Became, Datagram, DatagramSource, Outcome, PeerPlace, PeerState, Peers, ScriptDatagrams,
@@ -19,6 +18,11 @@ pub struct MemoryPlace {
 }
 
 impl PeerPlace<MemoryFiles> for MemoryPlace {
+    ghost use Rattle.std.specs.Prelude.{Unit};
+
+    // Files in memory don't say whose they are.
+    ghost made_for = { λ files peer. Unit {0} };
+
     fn files(&mut self, alloc: Global, _peer: SocketAddr) -> Result<MemoryFiles, AllocError> {
         Ok(MemoryFiles::new(alloc, self.room))
     }
@@ -43,23 +47,27 @@ pub fn source_of(alloc: Global, datagrams: &[(u8, &[u8])]) -> Result<ScriptDatag
     Ok(ScriptDatagrams::new(script))
 }
 
-/// No peers yet, and room for two.
+/// No peers yet, and room for two, whose datagrams wait for a second.
 pub fn two_peers(rt: &HostRuntime) -> Result<Peers<MemoryFiles>, Fail> {
+    peers_that_wait(rt, 1)
+}
+
+/// No peers yet, and room for two, whose datagrams wait for so many seconds.
+pub fn peers_that_wait(rt: &HostRuntime, seconds: u64) -> Result<Peers<MemoryFiles>, Fail> {
     let most = NonZeroUsize::new(2).unwrap();
-    Ok(Peers::new(rt.alloc(), most, RandomState::new(rt)?)?)
+    Ok(Peers::new(rt.alloc(), most, RandomState::new(rt)?, seconds)?)
 }
 
 /// What became of a datagram.
 #[derive(Clone, Copy, Debug, PartialEq, Eq)]
 pub enum Answer {
-    Recorded,
-    Refused(MessageFault),
+    Taken,
     Ended,
     NoMemory,
 }
 
-/// Records a datagram of the peer of a number, in a place with room for so many octets, and answers what
-/// became of it, and who went.
+/// Records a datagram of the peer of a number at second 10, in a place with room for so many octets, and
+/// answers what became of it, and who went.
 pub fn record(
     alloc: Global,
     peers: &mut Peers<MemoryFiles>,
@@ -74,8 +82,7 @@ pub fn record(
 
 fn answer_of(became: Became<MemoryFiles>) -> Answer {
     match became {
-        Became::Recorded => Answer::Recorded,
-        Became::Refused(fault) => Answer::Refused(fault),
+        Became::Taken => Answer::Taken,
         Became::Ended(_) => Answer::Ended,
         Became::NoMemory => Answer::NoMemory,
     }
@@ -91,8 +98,8 @@ pub fn peer_of(gone: Option<(SocketAddr, PeerState<MemoryFiles>)>) -> Option<Soc
 
 /// Gives the peer that was silent for longest its turn at the end of a period, and answers how many of its
 /// datagrams were refused.
-pub fn refused_in_turn(peers: &mut Peers<MemoryFiles>) -> Option<u64> {
-    match peers.go_on(true) {
+pub fn refused_in_turn(alloc: Global, peers: &mut Peers<MemoryFiles>) -> Option<u64> {
+    match peers.go_on(alloc, 11, true) {
         Some(turn) => turn.refused.map(|refused| refused.count),
         None => None,
     }
@@ -120,6 +127,33 @@ pub fn receive_all(
 pub fn has(peers: &Peers<MemoryFiles>, number: u8, octets: &[u8]) -> bool {
     match peers.kept.peek(&peer(number)) {
         Some(kept) => kept.files.unfinished.as_slice() == octets,
+        None => false,
+    }
+}
+
+/// Gives the peer that was silent for longest its turn as a second begins, at the end of a period if it is
+/// over, and answers how many datagrams were doubled and reordered in its domains.
+pub fn orders_in_turn(
+    alloc: Global,
+    peers: &mut Peers<MemoryFiles>,
+    second: u64,
+    is_over: bool,
+) -> (u64, u64) {
+    let mut doubled: u64 = 0;
+    let mut reordered: u64 = 0;
+    if let Some(turn) = peers.go_on(alloc, second, is_over) {
+        for counts in &turn.orders {
+            doubled = doubled.saturating_add(counts.doubled);
+            reordered = reordered.saturating_add(counts.reordered);
+        }
+    }
+    (doubled, reordered)
+}
+
+/// Whether that file ends with these.
+pub fn ends_with(peers: &Peers<MemoryFiles>, number: u8, octets: &[u8]) -> bool {
+    match peers.kept.peek(&peer(number)) {
+        Some(kept) => kept.files.unfinished.as_slice().ends_with(octets),
         None => false,
     }
 }

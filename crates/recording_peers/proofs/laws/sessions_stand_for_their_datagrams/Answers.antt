@@ -1,5 +1,5 @@
-use Rattle.recording_peers.proofs.Standing.{stand_behind}
+use Rattle.recording_peers.proofs.Standing.{stand_after}
 use Rattle.recording_peers.proofs.laws.sessions_stand_for_their_datagrams.Goals as goal
 
 pub returns : goal.returns
-returns g c = λ most now es after cs peer m became gone. stand_behind g.F.FileSeries.seen most now es after cs peer m became gone
+returns g c = λ seconds most r es after cs. stand_after g.F.FileSeries.seen g.P.PeerPlace.made_for (record { asked = c.only_what_was_handed_on_is_asked.ensures.run; step_alike = c.counts_change_nothing.ensures.step; finish_alike = c.counts_change_nothing.ensures.finish; told = c.counts_change_nothing.ensures.told }) seconds most r es after cs

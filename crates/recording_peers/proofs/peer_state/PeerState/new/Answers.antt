@@ -1,12 +1,15 @@
-use Rattle.std.proofs.Common.{refl}
+use Rattle.std.proofs.Common.{[], refl, ap}
+use Rattle.recording_order.specs.Counts.{with_counts_begun}
 use Rattle.recording_peer.specs.Recording.{none_filed}
 use Rattle.recording_peers.proofs.peer_state.PeerState.new.Goals as goal
 
 pub returns-clause-session : goal.returns-clause-session
 returns-clause-session g c = record {
-  first = g.F.FileSeries.seen c.args.files;
-  empty = c.requires;
-  filed = none_filed;
-  is = c.new.ensures (g.F.FileSeries.seen c.args.files) c.requires;
-  settles = refl;
+  recording = record { first = g.F.FileSeries.seen c.args.files; filed = none_filed; said = [] };
+  recorded = record {
+    empty = c.requires;
+    is = c.new.ensures (g.F.FileSeries.seen c.args.files) c.requires;
+    settles = refl;
+  };
+  window = ap with_counts_begun c.new-2.ensures;
 }

@@ -1,0 +1,209 @@
+-- A datagram that is handed on to the recorder.
+use Rattle.std.proofs.Common.{◌≡◌, ℕ, zero, suc, ◌+◌, ◌<◌, ◌≤◌, true, false, Option, Some, None, Result, Ok, Err, List, [], ◌∷◌, ◌++◌, length, map, refl, sym, ap, subst, ◌∙◌, arith, length-append}
+use Rattle.std.proofs.lemmas.List.{append-nil, map-append, length-map}
+use Rattle.lru.proofs.Pairs.{slice_get-cut}
+use Rattle.ipfix_session.specs.Given.{IsPrefix}
+use Rattle.ipfix_message.specs.declared.fault.MessageFault.{MessageFault}
+use Rattle.recording_files.specs.declared.message_count.MessageCount.{MessageCount}
+use Rattle.recording_files.specs.declared.record_fault.RecordFault.{RecordFault}
+use Rattle.recording_files.specs.Files.{FilesView}
+use Rattle.recording_order.specs.Arrivals.{Arrival}
+use Rattle.recording_order.specs.Windows.{WindowView, after_writing}
+use Rattle.recording_order.specs.Releases.{Run, Says, answered}
+use Rattle.recording_peer.specs.declared.peer_answer.PeerAnswer.TheVariants.{Recorded, Refused}
+use Rattle.recording_peer.specs.Peers.{Taken}
+use Rattle.recording_peer.specs.Recording.{PeerView, FiledDatagrams, IsPeer, HasStopped, TakesDatagram, FinishesFile, filed_with, file_finished, taken_in}
+use Rattle.recording_peer.proofs.PeerFiles.{taken_in-push, in-finished}
+use Rattle.recording_peers.specs.declared.peer_state.PeerState.{PeerState}
+use Rattle.recording_peers.specs.Happenings.{datagrams_of}
+use Rattle.recording_peers.specs.Kept.{Said, SaidSo, Settles, Recording, HasRecorded, HasFailed, counts_said, counts_of}
+use Rattle.recording_peers.specs.Calls.{Part, Follows, RunsTo, IsRunning, handed_on, one_more_refused, recorded_then}
+use Rattle.recording_peers.proofs.Growing.{Grows, grows-none}
+use Rattle.recording_peers.proofs.Following.{follows-of, recorded-none, datagrams-longer}
+
+-- ---- one more is settled
+
+settles-more : (before : List Taken) (ms : List (List ℕ)) (said : List Said) (all : List Taken) (m : List ℕ) (s : Said) (now : List Taken)
+    → Settles before ms said all → Settles all (m ∷ []) (s ∷ []) now → Settles before (ms ++ m ∷ []) (said ++ s ∷ []) now
+settles-more before [] [] all m s now h one = subst (λ ts. Settles ts (m ∷ []) (s ∷ []) now) h one
+settles-more before [] (t ∷ said) all m s now h one = absurd h
+settles-more before (x ∷ ms) [] all m s now h one = absurd h
+settles-more before (x ∷ ms) (Ok c ∷ said) all m s now h one = (h.0, h.1, h.2, settles-more (before ++ h.0 ∷ []) ms said all m s now h.3 one)
+settles-more before (x ∷ ms) (Err fault ∷ said) all m s now h one = (h.0, settles-more before ms said all m s now h.1 one)
+
+pub settles-length : (before : List Taken) (ms : List (List ℕ)) (said : List Said) (all : List Taken) → Settles before ms said all → length said ≡ length ms
+settles-length before [] [] all h = refl
+settles-length before [] (t ∷ said) all h = absurd h
+settles-length before (x ∷ ms) [] all h = absurd h
+settles-length before (x ∷ ms) (Ok c ∷ said) all h = ap suc (settles-length (before ++ h.0 ∷ []) ms said all h.3)
+settles-length before (x ∷ ms) (Err fault ∷ said) all h = ap suc (settles-length before ms said all h.1)
+
+datagrams-push : (xs : List Arrival) (a : Arrival) → datagrams_of (xs ++ a ∷ []) ≡ datagrams_of xs ++ a.octets ∷ []
+datagrams-push xs a = map-append (λ (x : Arrival). x.octets) xs (a ∷ [])
+
+-- what was said of the next one
+said-next : (xs : List Arrival) (said : List Said) (s : Said) (says : Says) → length said ≡ length xs → SaidSo (said ++ s ∷ []) says → says (length xs) ≡ counts_said (Some s)
+said-next xs said s says same so =
+    ap says (sym same) ∙ sym (so (length said) (omega arith) (omega (arith, length-append said (s ∷ [])))) ∙ ap counts_said (slice_get-cut said s [])
+
+module _ {F : Type 0} (seen : F → FilesView) where
+  counted : (p : Recording) (r : Run) (k : PeerState F) → IsRunning seen k p r → length p.said ≡ length r.handed_on
+  counted p r k is = settles-length [] (datagrams_of r.handed_on) p.said (taken_in p.filed) is.recorded.settles ∙ length-map r.handed_on (λ (a : Arrival). a.octets)
+
+  hands-on : (a : Arrival) (old new : PeerState F) (p : Recording) (r : Run) (s : Said) (more : List Taken) → IsRunning seen old p r → new.window ≡ answered r.window a (counts_said (Some s))
+      → HasRecorded seen new (recorded_then false p more (s ∷ [])) (datagrams_of (r.handed_on ++ a ∷ [])) → RunsTo seen new (recorded_then false p more (s ∷ [])) (handed_on a) r
+  hands-on a old new p r s more is window recorded = record {
+    run = record { window = answered r.window a (counts_said (Some s)); handed_on = r.handed_on ++ a ∷ []; doubled = r.doubled };
+    is = record { recorded = recorded; window = window };
+    by = λ says so. ap (λ o. record { window = answered r.window a o; handed_on = r.handed_on ++ a ∷ []; doubled = r.doubled }) (said-next r.handed_on p.said s says (counted p r old is) so);
+  }
+
+  settles-next : (a : Arrival) (old : PeerState F) (p : Recording) (r : Run) (s : Said) (now : List Taken) → IsRunning seen old p r → Settles (taken_in p.filed) (a.octets ∷ []) (s ∷ []) now
+      → Settles [] (datagrams_of (r.handed_on ++ a ∷ [])) (p.said ++ s ∷ []) now
+  settles-next a old p r s now is one =
+      subst (λ ms. Settles [] ms (p.said ++ s ∷ []) now) (sym (datagrams-push r.handed_on a)) (settles-more [] (datagrams_of r.handed_on) p.said (taken_in p.filed) a.octets s now is.recorded.settles one)
+
+  -- it was recorded, and noted
+  pub follows-recorded : (old : PeerState F) (a : Arrival) (count : MessageCount) (t : PeerView) (fs : F) (w : WindowView) → TakesDatagram seen a.octets (Ok (Recorded count)) old.recorder t old.files fs
+      → w ≡ after_writing old.window a (counts_of count) → Follows seen (handed_on a) false old (record old { recorder = t; files = fs; window = w }) (Ok tt)
+  follows-recorded old a count t fs w takes noted =
+      let new = record old { recorder = t; files = fs; window = w } in
+      let c = counts_of count in
+      follows-of seen (handed_on a) false old new (Ok tt) (Ok c ∷ []) refl refl
+      (λ p r is.
+      let x = takes p.first p.filed is.recorded.is in
+      record {
+        more = x.next ∷ [];
+        leads = hands-on a old new p r (Ok c) (x.next ∷ []) is (noted ∙ ap (λ v. after_writing v a c) is.window) (record {
+          empty = is.recorded.empty;
+          is = x.is;
+          settles = settles-next a old p r (Ok c) (taken_in (filed_with p.filed x.next)) is
+              (x.next, x.datagram, record { records = sym x.counts.records; unknown_sets = sym (ap (λ o. o.unknown_sets) x.counts.passed_over) }, taken_in-push p.filed x.next);
+        });
+      })
+
+  -- it was refused, and nothing else changed
+  pub follows-refused : (old : PeerState F) (a : Arrival) (fault : MessageFault) (t : PeerView) (fs : F) → TakesDatagram seen a.octets (Ok (Refused fault)) old.recorder t old.files fs
+      → Follows seen (handed_on a) false old (record old { recorder = t; files = fs; refused = Some (one_more_refused old.refused fault) }) (Ok tt)
+  follows-refused old a fault t fs takes =
+      let new = record old { recorder = t; files = fs; refused = Some (one_more_refused old.refused fault) } in
+      follows-of seen (handed_on a) false old new (Ok tt) (Err fault ∷ []) refl refl
+      (λ p r is.
+      let x = takes p.first p.filed is.recorded.is in
+      let filed : FiledDatagrams = record p.filed { here = p.filed.here ++ [] } in
+      let same : filed ≡ p.filed = λ i. record { finished = p.filed.finished; here = append-nil p.filed.here i } in
+      let peer : IsPeer p.first (seen fs) t p.filed = subst (λ v. IsPeer p.first v t p.filed) (sym x.2) (subst (λ s. IsPeer p.first (seen old.files) s p.filed) (sym x.1) is.recorded.is) in
+      record {
+        more = [];
+        leads = hands-on a old new p r (Err fault) [] is is.window (record {
+          empty = is.recorded.empty;
+          is = subst (λ f. IsPeer p.first (seen fs) t f) (sym same) peer;
+          settles = subst (λ f. Settles [] (datagrams_of (r.handed_on ++ a ∷ [])) (p.said ++ Err fault ∷ []) (taken_in f)) (sym same) (settles-next a old p r (Err fault) (taken_in p.filed) is (x.0, refl));
+        });
+      })
+
+  -- the recorder, or its files, failed
+  pub follows-failed : (old : PeerState F) (a : Arrival) (fault : RecordFault) (t : PeerView) (fs : F) → TakesDatagram seen a.octets (Err fault) old.recorder t old.files fs
+      → Follows seen (handed_on a) false old (record old { recorder = t; files = fs }) (Err fault)
+  follows-failed old a fault t fs takes =
+      let new = record old { recorder = t; files = fs } in
+      follows-of seen (handed_on a) false old new (Err fault) [] refl refl
+      (λ p r is.
+      let x = takes p.first p.filed is.recorded.is in
+      let failed : HasFailed seen new fault p (λ says. (handed_on a says r).handed_on) = record {
+        empty = is.recorded.empty;
+        ended = x.0;
+        before = datagrams_of r.handed_on;
+        next = Some a.octets;
+        stopped = x.1;
+        settles = is.recorded.settles;
+        are_first = λ says so. ([], datagrams-push r.handed_on a ∙ sym (append-nil (datagrams_of r.handed_on ++ a.octets ∷ [])));
+      } in
+      record { more = []; leads = subst (λ q. HasFailed seen new fault q (λ says. (handed_on a says r).handed_on)) (sym (recorded-none p)) failed })
+
+  -- ---- no memory
+
+  -- a peer that is ended then
+  pub record EndsFor (fault : RecordFault) (t u : PeerView) : Type 0 where
+    pub ended : u ≡ record t { ended = Some fault }
+    pub stopped : (first after : FilesView) (filed : FiledDatagrams) (m : List ℕ) → IsPeer first after t filed → HasStopped fault first after u.told filed m
+
+  -- to note one that was recorded
+  pub follows-unnoted : (old : PeerState F) (a : Arrival) (count : MessageCount) (t u : PeerView) (fs : F) (w : WindowView) (fault : RecordFault) → TakesDatagram seen a.octets (Ok (Recorded count)) old.recorder t old.files fs
+      → EndsFor fault t u → Follows seen (handed_on a) false old (record old { recorder = u; files = fs; window = w }) (Err fault)
+  follows-unnoted old a count t u fs w fault takes ends =
+      let new = record old { recorder = u; files = fs; window = w } in
+      let c = counts_of count in
+      follows-of seen (handed_on a) false old new (Err fault) (Ok c ∷ []) refl refl
+      (λ p r is.
+      let x = takes p.first p.filed is.recorded.is in
+      record {
+        more = x.next ∷ [];
+        leads = record {
+          empty = is.recorded.empty;
+          ended = ap (λ v. v.ended) ends.ended;
+          before = datagrams_of (r.handed_on ++ a ∷ []);
+          next = None;
+          stopped = ends.stopped p.first (seen fs) (filed_with p.filed x.next) [] x.is;
+          settles = settles-next a old p r (Ok c) (taken_in (filed_with p.filed x.next)) is
+              (x.next, x.datagram, record { records = sym x.counts.records; unknown_sets = sym (ap (λ o. o.unknown_sets) x.counts.passed_over) }, taken_in-push p.filed x.next);
+          are_first = λ says so. ([], sym (append-nil (datagrams_of (r.handed_on ++ a ∷ []))) ∙ sym (append-nil (datagrams_of (r.handed_on ++ a ∷ []) ++ [])));
+        };
+      })
+
+  -- the session fails, and none was being recorded
+  failed-between : (k new : PeerState F) (fault : RecordFault) (part : Part) (p : Recording) (r : Run) → ((says : Says) → Grows (part says)) → new.recorder.ended ≡ Some fault → HasStopped fault p.first (seen new.files) new.recorder.told p.filed []
+      → IsRunning seen k p r → HasFailed seen new fault (recorded_then false p [] []) (λ says. (part says r).handed_on)
+  failed-between k new fault part p r grows ended stopped is =
+      let failed : HasFailed seen new fault p (λ says. (part says r).handed_on) = record {
+        empty = is.recorded.empty;
+        ended = ended;
+        before = datagrams_of r.handed_on;
+        next = None;
+        stopped = stopped;
+        settles = is.recorded.settles;
+        are_first = λ says so. subst (λ ms. IsPrefix ms (datagrams_of (part says r).handed_on)) (sym (append-nil (datagrams_of r.handed_on))) (datagrams-longer r.handed_on (part says r).handed_on (grows says r));
+      } in
+      subst (λ q. HasFailed seen new fault q (λ says. (part says r).handed_on)) (sym (recorded-none p)) failed
+
+  -- for one that is to wait
+  pub follows-no_room : (old : PeerState F) (u : PeerView) (fault : RecordFault) (part : Part) → ((says : Says) → Grows (part says)) → EndsFor fault old.recorder u
+      → Follows seen part false old (record old { recorder = u }) (Err fault)
+  follows-no_room old u fault part grows ends =
+      follows-of seen part false old (record old { recorder = u }) (Err fault) [] refl refl
+      (λ p r is. record {
+        more = [];
+        leads = failed-between old (record old { recorder = u }) fault part p r grows (ap (λ v. v.ended) ends.ended) (ends.stopped p.first (seen old.files) p.filed [] is.recorded.is) is;
+      })
+
+  -- ---- a file is finished
+
+  follows-finished : (old : PeerState F) (t : PeerView) (fs : F) → FinishesFile seen (Ok tt) old.recorder t old.files fs → Follows seen (λ says r. r) true old (record old { recorder = t; files = fs }) (Ok tt)
+  follows-finished old t fs finishes =
+      let new = record old { recorder = t; files = fs } in
+      follows-of seen (λ says r. r) true old new (Ok tt) [] refl refl
+      (λ p r is.
+      let done : Recording = record { first = p.first; filed = file_finished p.filed; said = p.said } in
+      let same : recorded_then true p [] [] ≡ done = λ i. record { first = p.first; filed = file_finished (record { finished = p.filed.finished; here = append-nil p.filed.here i }); said = append-nil p.said i } in
+      let running : IsRunning seen new done r = record {
+        recorded = record {
+          empty = is.recorded.empty;
+          is = finishes p.first p.filed is.recorded.is;
+          settles = subst (Settles [] (datagrams_of r.handed_on) p.said) (sym (in-finished p.filed)) is.recorded.settles;
+        };
+        window = is.window;
+      } in
+      record { more = []; leads = record { run = r; is = subst (λ q. IsRunning seen new q r) (sym same) running; by = λ says so. refl } })
+
+  follows-unfinished : (old : PeerState F) (t : PeerView) (fs : F) (fault : RecordFault) → FinishesFile seen (Err fault) old.recorder t old.files fs
+      → Follows seen (λ says r. r) true old (record old { recorder = t; files = fs }) (Err fault)
+  follows-unfinished old t fs fault finishes =
+      let new = record old { recorder = t; files = fs } in
+      follows-of seen (λ says r. r) true old new (Err fault) [] refl refl
+      (λ p r is.
+      let x = finishes p.first p.filed is.recorded.is in
+      record { more = []; leads = failed-between old new fault (λ says r. r) p r (λ says. grows-none) x.0 x.1 is })
+
+  pub follows-finish : (old : PeerState F) (t : PeerView) (fs : F) (answer : Result (Unit {0}) RecordFault) → FinishesFile seen answer old.recorder t old.files fs → Follows seen (λ says r. r) true old (record old { recorder = t; files = fs }) answer
+  follows-finish old t fs (Ok x) finishes = follows-finished old t fs finishes
+  follows-finish old t fs (Err fault) finishes = follows-unfinished old t fs fault finishes
