@@ -1,24 +1,23 @@
 -- Windows that are the same but for their counts hand on the same.
-use Rattle.std.proofs.Common.{◌≡◌, ℕ, zero, suc, ◌+◌, ◌-◌, ◌^◌, Bool, true, false, cond, leb, ltb, eqb, Option, Some, None, List, [], ◌∷◌, ◌++◌, length, map, take, slice_get, is_some, option_map, refl, sym, ap, ◌∙◌}
+use Rattle.std.proofs.Common.{◌≡◌, ℕ, ◌-◌, ◌^◌, Bool, true, false, cond, Option, Some, None, List, [], ◌∷◌, length, map, take, slice_get, is_some, option_map, refl, sym, ap, ◌∙◌}
 use Rattle.std.specs.Prelude.{nat_eq, nat_le, nat_lt, not, ◌||◌, ◌&&◌, remove, find}
 use Rattle.std.specs.List.{list_any}
 use Rattle.std.specs.Map.{lookup}
 use Rattle.std.specs.Option.{option_map_or}
 use Rattle.std.proofs.lemmas.Map.Made.{lookup-map_values}
 use Rattle.indexmap.specs.IndexMap.{insert_entry}
-use Rattle.recording_order.specs.Arrivals.{Arrival, is_in, count_in, room_beside}
+use Rattle.recording_order.specs.Arrivals.{Arrival, is_in}
 use Rattle.recording_order.specs.Counts.{none_counted, with_counts_begun}
 use Rattle.recording_order.specs.DataSets.{has_data}
 use Rattle.recording_order.specs.Leasts.{least_of}
-use Rattle.recording_order.specs.Numbers.{place, standing_of, is_at_due, numbers_after, number_after, furthest}
+use Rattle.recording_order.specs.Numbers.{place, standing_of, is_at_due, numbers_after}
 use Rattle.recording_order.specs.declared.datagram_counts.DatagramCounts.{DatagramCounts}
 use Rattle.recording_order.specs.declared.least.Least.{Least}
 use Rattle.recording_order.specs.declared.numbering.Numbering.{Numbering}
 use Rattle.recording_order.specs.declared.numbering.Standing.{Standing}
 use Rattle.recording_order.specs.declared.numbering.Standing.TheVariants.{AtOnce, Ahead, Afar}
-use Rattle.recording_order.specs.declared.offer.Offer.{Offer}
 use Rattle.recording_order.specs.declared.offer.Offer.TheVariants.{Write, Waits, Doubled, First, Anew}
-use Rattle.recording_order.specs.Windows.{WindowView, numbering, renumbered, due_number, is_due, counted, one_doubled, one_reordered, with_doubled, with_reordered, passing, least, without, leaving, is_ripe, if_ripe, ripe, next_of, is_late, late_domain, least_in, last_of, with_last, is_doubled, has_room, held, Offered, now, first_or, offered_full, offered_ahead, offered_as, offered, noted, after_writing}
+use Rattle.recording_order.specs.Windows.{WindowView, numbering, renumbered, due_number, is_due, counted, one_doubled, one_reordered, with_doubled, with_reordered, passing, least, without, leaving, if_ripe, ripe, next_of, is_late, late_domain, least_in, last_of, with_last, is_doubled, has_room, held, Offered, now, first_or, offered_full, offered_ahead, offered_as, offered, noted, after_writing}
 
 -- the counts of a domain begin anew
 abbrev plain : Numbering → Numbering

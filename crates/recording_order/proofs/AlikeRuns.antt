@@ -1,9 +1,9 @@
 -- Runs whose windows are the same but for their counts hand on the same.
-use Rattle.std.proofs.Common.{◌≡◌, ℕ, zero, suc, Option, Some, None, List, [], ◌∷◌, ◌++◌, length, refl, sym, ap, subst, ◌∙◌}
+use Rattle.std.proofs.Common.{◌≡◌, ℕ, zero, suc, Option, Some, None, [], ◌∷◌, ◌++◌, length, refl, ap, subst, ◌∙◌}
 use Rattle.recording_order.specs.Arrivals.{Arrival}
 use Rattle.recording_order.specs.Counts.{with_counts_begun}
 use Rattle.recording_order.specs.Windows.{WindowView, Offered, offered, next_of, least_in, last_of, late_domain}
-use Rattle.recording_order.specs.Releases.{Run, Says, Event, Came, Tick, hand_on, answered, go_on, empty_with, empty, begin_anew, take_offered, take_with, take_run, settle_with, settle, settle_late, tick_with, tick, finish_with, finish, step}
+use Rattle.recording_order.specs.Releases.{Run, Says, Event, Came, Tick, hand_on, answered, go_on, empty_with, empty, begin_anew, take_offered, take_with, take_run, settle_with, settle, settle_late, tick_with, finish_with, finish, step}
 use Rattle.recording_order.specs.declared.datagram_counts.DatagramCounts.{DatagramCounts}
 use Rattle.recording_order.specs.declared.offer.Offer.{Offer}
 use Rattle.recording_order.specs.declared.offer.Offer.TheVariants.{Write, Waits, Doubled, First, Anew}

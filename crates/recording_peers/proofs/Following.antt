@@ -1,8 +1,7 @@
 -- Calls that go on as parts of a run do, one after another.
-use Rattle.std.proofs.Common.{◌≡◌, ℕ, zero, suc, ◌+◌, ◌<◌, ◌≤◌, Bool, true, false, Option, Some, None, Result, Ok, Err, List, [], ◌∷◌, ◌++◌, length, map, slice_get, refl, sym, ap, subst, ◌∙◌, append_assoc, arith, length-append}
+use Rattle.std.proofs.Common.{◌≡◌, ℕ, zero, suc, ◌<◌, Bool, true, false, Option, Some, Result, Ok, Err, List, [], ◌∷◌, ◌++◌, length, slice_get, refl, sym, ap, subst, ◌∙◌, append_assoc, arith, length-append}
 use Rattle.std.specs.Prelude.{MatchResult}
 use Rattle.std.proofs.lemmas.List.{append-nil, map-append}
-use Rattle.ipfix_message.specs.declared.fault.MessageFault.{MessageFault}
 use Rattle.ipfix_session.specs.Given.{IsPrefix}
 use Rattle.recording_files.specs.declared.record_fault.RecordFault.{RecordFault}
 use Rattle.recording_files.specs.Files.{FilesView}
@@ -14,7 +13,7 @@ use Rattle.recording_peer.specs.Recording.{FiledDatagrams, file_finished, taken_
 use Rattle.recording_peers.specs.declared.peer_state.PeerState.{PeerState}
 use Rattle.recording_peers.specs.declared.refusals.Refusals.{Refusals}
 use Rattle.recording_peers.specs.Happenings.{datagrams_of}
-use Rattle.recording_peers.specs.Kept.{Said, SaidSo, Settles, Recording, HasRecorded, HasFailed, says_of, counts_said}
+use Rattle.recording_peers.specs.Kept.{Said, SaidSo, Settles, Recording, HasFailed, says_of, counts_said}
 use Rattle.recording_peers.specs.Calls.{Part, Follows, RunsTo, IsRunning, refused_after, one_more_refused, recorded_then, filed_then}
 use Rattle.recording_peers.proofs.Growing.{Grows, prefix-both, prefix-same}
 

@@ -1,10 +1,10 @@
 -- What was handed on in a run stays.
-use Rattle.std.proofs.Common.{◌≡◌, ℕ, zero, suc, Option, Some, None, List, [], ◌∷◌, ◌++◌, length, refl, sym, ap, ◌∙◌, append_assoc}
+use Rattle.std.proofs.Common.{ℕ, zero, suc, Option, Some, None, List, [], ◌∷◌, ◌++◌, length, refl, sym, ap, ◌∙◌, append_assoc}
 use Rattle.std.proofs.lemmas.List.{append-nil}
 use Rattle.ipfix_session.specs.Given.{IsPrefix}
 use Rattle.recording_order.specs.Arrivals.{Arrival}
 use Rattle.recording_order.specs.Windows.{WindowView, next_of, least_in, last_of, late_domain, offered}
-use Rattle.recording_order.specs.Releases.{Run, Says, hand_on, go_on, empty_with, empty, begin_anew, take_offered, take_with, take_run, settle_with, settle, settle_late, tick_with, tick, finish_with, finish}
+use Rattle.recording_order.specs.Releases.{Run, Says, hand_on, go_on, empty_with, empty, begin_anew, take_offered, take_with, settle_with, settle, settle_late, tick_with, finish_with}
 use Rattle.recording_order.specs.declared.offer.Offer.{Offer}
 use Rattle.recording_order.specs.declared.offer.Offer.TheVariants.{Write, Waits, Doubled, First, Anew}
 

@@ -1,10 +1,10 @@
 -- Loops that hand on one datagram after another, as a run does.
-use Rattle.std.proofs.Common.{◌≡◌, ℕ, zero, suc, ◌+◌, ◌<◌, ◌≤◌, ◌-◌, true, false, Option, Some, None, Result, Ok, Err, List, [], ◌∷◌, ◌++◌, length, refl, sym, ap, subst, ◌∙◌, arith}
+use Rattle.std.proofs.Common.{◌≡◌, ℕ, suc, ◌+◌, ◌<◌, ◌-◌, false, Option, Some, None, Result, Ok, Err, [], ◌∷◌, ◌++◌, refl, sym, ap, ◌∙◌, arith}
 use Rattle.recording_files.specs.declared.record_fault.RecordFault.{RecordFault}
 use Rattle.recording_files.specs.Files.{FilesView}
 use Rattle.recording_order.specs.Arrivals.{Arrival}
 use Rattle.recording_order.specs.Windows.{WindowView, Leaves, offered, late_domain}
-use Rattle.recording_order.specs.Releases.{Run, Says, hand_on, go_on, begin_anew, take_offered, take_with, settle, settle_late, tick_with}
+use Rattle.recording_order.specs.Releases.{Run, Says, go_on, begin_anew, take_offered, take_with, settle, settle_late, tick_with}
 use Rattle.recording_order.specs.declared.offer.Offer.{Offer}
 use Rattle.recording_order.specs.declared.offer.Offer.TheVariants.{Write, Waits, Doubled, First, Anew}
 use Rattle.recording_peers.specs.declared.peer_state.PeerState.{PeerState}

@@ -1,5 +1,5 @@
 -- What a call of the table does, by what it finds there.
-use Rattle.std.proofs.Common.{◌≡◌, ℕ, ◌-◌, Bool, cond, is_some, slice_get, List, [], Option, Some, None, Result, Ok, Err, refl, sym, ap, ◌∙◌, subst}
+use Rattle.std.proofs.Common.{◌≡◌, ℕ, ◌-◌, Bool, cond, is_some, slice_get, List, Option, Some, None, Result, Ok, Err, refl, sym, ap, ◌∙◌, subst}
 use Rattle.std.specs.Map.{lookup, remove_entry, set_value}
 use Rattle.std.specs.declared.net.socket_addr.SocketAddr.{SocketAddr}
 use Rattle.lru.specs.LruCache.{promoted, last_entry}
@@ -7,7 +7,6 @@ use Rattle.recording_files.specs.declared.record_fault.RecordFault.{RecordFault}
 use Rattle.recording_files.specs.Files.{FilesView}
 use Rattle.recording_peers.specs.declared.peer_state.PeerState.{PeerState}
 use Rattle.recording_peers.specs.declared.turn.Turn.{Turn}
-use Rattle.recording_peers.specs.declared.in_turn.InTurn.{InTurn}
 use Rattle.recording_peers.specs.declared.outcome.Became.{Became}
 use Rattle.recording_peers.specs.declared.outcome.Became.TheVariants.{Taken, Ended, NoMemory}
 use Rattle.recording_peers.specs.Calls.{Takes, TakesTurn}

@@ -1,5 +1,5 @@
 -- A session stands for one thing more that happened.
-use Rattle.std.proofs.Common.{◌≡◌, ℕ, ◌<◌, ◌≤◌, Bool, true, false, Option, Some, None, Result, Ok, Err, List, [], ◌∷◌, ◌++◌, length, refl, sym, ap, subst, ◌∙◌, arith, inl, inr}
+use Rattle.std.proofs.Common.{◌≡◌, ℕ, Bool, true, false, None, Result, Ok, Err, List, [], ◌∷◌, ◌++◌, length, refl, sym, ap, subst, ◌∙◌, arith, inl, inr}
 use Rattle.std.proofs.lemmas.List.{append-nil, length-map}
 use Rattle.std.proofs.lemmas.Grind.{flat_map-append}
 use Rattle.ipfix_wire.specs.declared.header.Header.{Header}
@@ -17,10 +17,10 @@ use Rattle.recording_peer.specs.Recording.{IsPeer, taken_in}
 use Rattle.recording_peers.specs.declared.peer_state.PeerState.{PeerState}
 use Rattle.recording_peers.specs.Happenings.{Happening, DatagramCame, SecondBegan, arrived, event_of, events_of, datagrams_of}
 use Rattle.recording_peers.specs.Kept.{Said, SaidSo, Recording, HasRecorded, HasFailed, IsSession, HasEnded, IsReleased, says_of}
-use Rattle.recording_peers.specs.Calls.{Part, Follows, RunsTo, IsRunning, TakesBy, Takes, TakesTurn, TellsCounts, arriving, recorded_then, one_more_refused}
+use Rattle.recording_peers.specs.Calls.{Part, Follows, RunsTo, TakesBy, Takes, TakesTurn, TellsCounts, arriving, recorded_then}
 use Rattle.recording_peers.specs.declared.turn.Turn.{Turn}
 use Rattle.recording_order.specs.declared.order_counts.OrderCounts.{OrderCounts}
-use Rattle.recording_peers.proofs.Following.{Leads, Lead, lead-of, fails-as, said-before, said-itself}
+use Rattle.recording_peers.proofs.Following.{Lead, lead-of, fails-as, said-before, said-itself}
 use Rattle.recording_peers.proofs.Growing.{prefix-same}
 use Rattle.recording_peers.proofs.HandingOn.{settles-length}
 

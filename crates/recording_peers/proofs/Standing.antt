@@ -1,5 +1,5 @@
 -- What the peers that are kept stand for, after a datagram.
-use Rattle.std.proofs.Common.{◌≡◌, ℕ, List, [], ◌∷◌, ◌++◌, Option, Some, None, Result, Ok, Err, refl, sym, subst}
+use Rattle.std.proofs.Common.{◌≡◌, ℕ, List, [], Option, Some, None, Result, Ok, Err, refl, sym, subst}
 use Rattle.std.specs.Prelude.{unwrap_or}
 use Rattle.std.specs.declared.net.socket_addr.SocketAddr.{SocketAddr}
 use Rattle.recording_files.specs.declared.record_fault.RecordFault.{RecordFault}
@@ -8,7 +8,7 @@ use Rattle.recording_peers.specs.declared.peer_state.PeerState.{PeerState}
 use Rattle.recording_peers.specs.declared.outcome.Became.{Became}
 use Rattle.recording_peers.specs.declared.outcome.Became.TheVariants.{Taken, Ended, NoMemory}
 use Rattle.recording_peers.specs.Happenings.{Happening}
-use Rattle.recording_peers.specs.Kept.{IsSession, HasEnded}
+use Rattle.recording_peers.specs.Kept.{IsSession}
 use Rattle.recording_peers.specs.Table.{same_peer, of_peer, others_for, gone_for, Both}
 use Rattle.recording_peers.specs.Steps.{Reception, ComesTo, TakesIn, RecordsBy, Records, became_by, kept_by}
 use Rattle.recording_peers.specs.Sessions.{PeerHappenings, happened_to, happened_with, with_happening, came_in, StandFor, EvictedStands, StandBy, StandAfter}

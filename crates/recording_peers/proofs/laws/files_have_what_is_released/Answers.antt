@@ -1,5 +1,4 @@
-use Rattle.std.proofs.Common.{ap, subst}
-use Rattle.recording_order.specs.Arrivals.{Arrival}
+use Rattle.std.proofs.Common.{subst}
 use Rattle.recording_peers.specs.Happenings.{datagrams_of, events_of}
 use Rattle.recording_peers.specs.Kept.{HasRecorded, says_of}
 use Rattle.recording_peers.proofs.SessionSteps.{release-stands}

@@ -1,4 +1,4 @@
-use Rattle.std.proofs.Common.{length, false}
+use Rattle.std.proofs.Common.{false}
 use Rattle.std.proofs.lemmas.Result.{err_from_is_err_and}
 use Rattle.recording_order.specs.Arrivals.{Arrival}
 use Rattle.recording_order.specs.Releases.{empty}

@@ -1,4 +1,4 @@
-use Rattle.std.proofs.Common.{true, false, Ok}
+use Rattle.std.proofs.Common.{true}
 use Rattle.std.proofs.lemmas.Result.{err_from_is_err_and}
 use Rattle.recording_order.specs.Releases.{tick}
 use Rattle.recording_peers.proofs.Growing.{grows-none}

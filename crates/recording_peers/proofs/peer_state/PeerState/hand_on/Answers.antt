@@ -1,8 +1,7 @@
-use Rattle.std.proofs.Common.{Ok, Err, subst, sym, ap, ◌∙◌}
+use Rattle.std.proofs.Common.{ap, ◌∙◌}
 use Rattle.std.proofs.lemmas.Result.{err_from_is_err_and}
 use Rattle.recording_order.specs.Arrivals.{Arrival}
 use Rattle.recording_order.specs.Windows.{after_writing}
-use Rattle.recording_peer.specs.Recording.{TakesDatagram}
 use Rattle.recording_peers.proofs.HandingOn.{follows-recorded, follows-refused, follows-failed, follows-unnoted}
 use Rattle.recording_peers.proofs.peer_state.PeerState.hand_on.Goals as goal
 

@@ -1,9 +1,8 @@
-use Rattle.std.proofs.Common.{◌≡◌, ℕ, suc, ◌+◌, ◌<◌, length, true, false, Ok, Err, refl, sym, ap, subst, ◌∙◌, arith}
+use Rattle.std.proofs.Common.{◌≡◌, suc, ◌+◌, length, false, Ok, Err, refl, sym, subst, arith}
 use Rattle.std.proofs.lemmas.Result.{err_from_is_err_and}
 use Rattle.recording_order.specs.Arrivals.{Arrival}
 use Rattle.recording_order.specs.Releases.{take_run, take_with}
-use Rattle.recording_order.specs.Windows.{WindowView, offered}
-use Rattle.recording_order.specs.declared.offer.Offer.TheVariants.{Write, Waits, Doubled, First, Anew}
+use Rattle.recording_order.specs.Windows.{WindowView}
 use Rattle.recording_peers.specs.Calls.{Follows, handed_on}
 use Rattle.recording_peers.proofs.Growing.{grows-take_with}
 use Rattle.recording_peers.proofs.HandingOn.{follows-no_room}

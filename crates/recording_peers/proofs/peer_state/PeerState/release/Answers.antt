@@ -1,11 +1,10 @@
-use Rattle.std.proofs.Common.{◌≡◌, ℕ, false, length, Ok, Err, subst, sym, refl, ◌∙◌, arith}
+use Rattle.std.proofs.Common.{◌≡◌, ℕ, false, length, Ok, Err, subst, sym, refl, arith}
 use Rattle.std.proofs.lemmas.Result.{err_from_is_err_and}
 use Rattle.recording_order.specs.Windows.{WindowView, last_of}
-use Rattle.recording_order.specs.Releases.{Run, Says, finish, finish_with}
+use Rattle.recording_order.specs.Releases.{finish, finish_with}
 use Rattle.recording_peers.specs.Calls.{Part, Follows}
-use Rattle.recording_peers.specs.declared.peer_state.PeerState.{PeerState}
 use Rattle.recording_peers.proofs.Growing.{grows-finish_with}
-use Rattle.recording_peers.proofs.Looping.{leaves-some, leaves-none, leaves-same, loops-begin, loops-on, loops-end, loops-done, out-on, out-fault, out-none}
+use Rattle.recording_peers.proofs.Looping.{leaves-some, leaves-none, leaves-same, loops-begin, loops-on, loops-end, out-on, out-fault, out-none}
 use Rattle.recording_peers.proofs.Following.{follows-none}
 use Rattle.recording_peers.proofs.peer_state.PeerState.release.Goals as goal
 
