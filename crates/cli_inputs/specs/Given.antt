@@ -73,6 +73,7 @@ module _ (chosen : Chosen) where
     pub every : IsNumberGiven chosen (codes "every") (Some (non_zero_u64_get told.every))
     pub sessions : IsNumberGiven chosen (codes "sessions") (Some told.sessions)
     pub peers : IsNumberGiven chosen (codes "peers") (Some (non_zero_usize_get told.peers))
+    pub reorder : IsNumberGiven chosen (codes "reorder") (Some told.reorder)
     pub prefixes : map (λ prefix. prefix.now) told.prefixes.now ≡ texts_given chosen (codes "from")
     pub idle : IsDurationGiven (codes "idle") told.idle
 

@@ -7,8 +7,8 @@ ghost use Rattle.cli_words.specs.Arguments.{OneNumber, reading_of};
 use crate::formats::{dump_form, table_format};
 use cli_words::{
     Argument, Chosen, DUMP_FORMAT, ELEMENTS, EVERY, FAULT, FLOW_FILES, FOLDER, FROM, IDLE, INTO,
-    LISTEN, PEERS, PLAN, PROGRESS, RECORD_IDLE, RECORD_LISTEN, RECORD_SESSIONS, RING, SESSIONS,
-    STRICT, Subcommand, TABLE_FILES, TABLE_FORMAT, TIME, UDP, VERBOSE, WORD, WORKERS,
+    LISTEN, PEERS, PLAN, PROGRESS, RECORD_IDLE, RECORD_LISTEN, RECORD_SESSIONS, REORDER, RING,
+    SESSIONS, STRICT, Subcommand, TABLE_FILES, TABLE_FORMAT, TIME, UDP, VERBOSE, WORD, WORKERS,
 };
 use flow_collect::Pool;
 use ipfix_dump::Form;
@@ -97,6 +97,9 @@ pub struct RecordArguments<'m, 'w> {
     pub every: NonZeroU64,
     pub sessions: usize,
     pub peers: NonZeroUsize,
+    /// How many seconds a datagram waits for those before it if it is ahead of the due sequence number. With 0 none
+    /// waits, and none is held for doubled.
+    pub reorder: u64,
     /// The prefixes that peers may have, as they were given.
     pub prefixes: &'m [&'w str],
     /// How long a peer may send nothing, if that was given.
@@ -238,6 +241,7 @@ fn read_record<'m, 'w>(chosen: Chosen<'m, 'w>) -> Option<RecordArguments<'m, 'w>
     let every = chosen.number(EVERY)?;
     let sessions = chosen.number(RECORD_SESSIONS)?;
     let peers = chosen.number(PEERS)?;
+    let reorder = chosen.number(REORDER)?;
     Some(RecordArguments {
         into: chosen.text(INTO)?,
         listen: chosen.text(RECORD_LISTEN),
@@ -245,6 +249,7 @@ fn read_record<'m, 'w>(chosen: Chosen<'m, 'w>) -> Option<RecordArguments<'m, 'w>
         every: NonZeroU64::new(u64::from(every))?,
         sessions: sessions as usize,
         peers: NonZeroUsize::new(peers as usize)?,
+        reorder: u64::from(reorder),
         prefixes: chosen.texts(FROM),
         idle: read_duration(chosen, RECORD_IDLE),
     })

@@ -3,8 +3,8 @@
 use crate::arguments::Argument;
 use crate::bare_arguments::{FAULT, FLOW_FILES, FOLDER, TABLE_FILES, WORD};
 use crate::listen_options::{
-    EVERY, FROM, IDLE, INTO, LISTEN, PEERS, RECORD_IDLE, RECORD_LISTEN, RECORD_SESSIONS, SESSIONS,
-    UDP,
+    EVERY, FROM, IDLE, INTO, LISTEN, PEERS, RECORD_IDLE, RECORD_LISTEN, RECORD_SESSIONS, REORDER,
+    SESSIONS, UDP,
 };
 use crate::options::{
     DUMP_FORMAT, ELEMENTS, MERGE_STRICT, PLAN, PROGRESS, RING, STRICT, TABLE_FORMAT, TIME, VERBOSE,
@@ -74,6 +74,7 @@ pub const RECORD: CommandWords = CommandWords {
         EVERY,
         RECORD_SESSIONS,
         PEERS,
+        REORDER,
         FROM,
         RECORD_IDLE,
     ],

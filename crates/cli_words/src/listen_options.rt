@@ -77,6 +77,14 @@ pub const PEERS: Argument = Argument {
     help: "How many peers that send datagrams are kept at once, 1 to 65536; when one more appears, the one silent longest is dropped",
 };
 
+/// For how long a datagram may wait for those before it.
+pub const REORDER: Argument = Argument {
+    word: "reorder",
+    takes: Takes::Number("SECONDS", 0, 60),
+    due: Due::Default("1"),
+    help: "How many seconds a datagram waits for those before it if it is ahead of the due sequence number, 0 to 60; 0 turns order and doubles off",
+};
+
 pub const FROM: Argument = Argument {
     word: "from",
     takes: Takes::Texts("PREFIX"),

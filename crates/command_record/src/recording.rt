@@ -80,11 +80,12 @@ fn open_socket(
     }
 }
 
-// How many peers that send datagrams are kept, and how long each may be silent.
+// How many peers that send datagrams are kept, how long each may be silent, and for how long a datagram waits.
 fn limits_of(arguments: &RecordArguments) -> PeerLimits
     ensures most { result.most ≡ arguments.now.peers }
     ensures idle { MatchOption arguments.now.idle (result.idle ≡ IDLE)
         (λ limit. result.idle ≡ as_nanos limit / 1000000000) }
+    ensures reorder { result.reorder ≡ arguments.now.reorder }
 {
     PeerLimits {
         most: arguments.peers,
@@ -92,6 +93,7 @@ fn limits_of(arguments: &RecordArguments) -> PeerLimits
             Some(limit) => limit.as_secs(),
             None => IDLE,
         },
+        reorder: arguments.reorder,
     }
 }
 

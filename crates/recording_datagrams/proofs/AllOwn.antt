@@ -1,32 +1,35 @@
--- What the session of a peer stands for after rounds in which it didn't end: all its own datagrams.
+-- The session of a peer that stays stands for all that happened to it since its first datagram.
 use Rattle.std.proofs.Common.{◌≡◌, ◌≢◌, ℕ, ◌&&◌, Bool, true, false, cond, List, [], ◌∷◌, ◌++◌, Option, Some, None, IsSome, Result, Ok, Err, refl, sym, ap, ◌∙◌, subst, inl, inr, append-nil, append_assoc}
-use Rattle.std.specs.Prelude.{unwrap_or}
+use Rattle.std.specs.Prelude.{nat_lt, unwrap_or}
+use Rattle.std.proofs.lemmas.Bool.{le-ltb, lt-ltb}
 use Rattle.std.specs.declared.net.socket_addr.SocketAddr.{SocketAddr}
-use Rattle.lru.specs.LruCache.{LruCache}
 use Rattle.recording_files.specs.Files.{FilesView}
 use Rattle.recording_files.specs.Periods.{ClockView}
 use Rattle.recording_files.specs.declared.file_report.FileReport.{FileReport}
 use Rattle.recording_files.specs.declared.file_series.NotWritten.{NotWritten}
+use Rattle.recording_peers.specs.Happenings.{Happening, DatagramCame, SecondBegan}
 use Rattle.recording_peers.specs.Kept.{IsSession}
-use Rattle.recording_peers.specs.Runs.{IsSettled, came_by}
-use Rattle.recording_peers.specs.Sessions.{PeerDatagrams, came_of, StandFor}
-use Rattle.recording_peers.specs.Steps.{Records}
-use Rattle.recording_peers.specs.Table.{same_peer, of_peer, others_for, Both}
+use Rattle.recording_peers.specs.Runs.{IsTaken, happened_by, happened_in}
+use Rattle.recording_peers.specs.Sessions.{PeerHappenings, StandFor, came_in, happened_to}
+use Rattle.recording_peers.specs.Steps.{Reception, Records, RecordsBy}
+use Rattle.recording_peers.specs.Table.{same_peer, of_peer, others_for, Both, Paired}
 use Rattle.recording_peers.specs.declared.datagram_source.NoDatagram.{NoDatagram}
 use Rattle.recording_peers.specs.declared.datagram_source.NoDatagram.TheVariants.{Tick, Failed}
 use Rattle.recording_peers.specs.declared.peer_state.PeerState.{PeerState}
+use Rattle.recording_peers.specs.declared.peers.Peers.{Peers}
 use Rattle.recording_peers.specs.declared.outcome.Became.{Became}
-use Rattle.recording_peers.specs.declared.outcome.Became.TheVariants.{Recorded, Refused, Ended, NoMemory}
-use Rattle.recording_peers.proofs.Alone.{one, same_of, same_option, stand_by}
+use Rattle.recording_peers.specs.declared.outcome.Became.TheVariants.{Taken, Ended, NoMemory}
+use Rattle.recording_peers.proofs.Alone.{one, same_of, same_option}
 use Rattle.recording_peers.proofs.Paired.{paired_lookup}
-use Rattle.recording_peers.proofs.Standing.{stand_behind}
 use Rattle.recording_connections.specs.declared.shared_counts.SharedCounts.{SharedCounts}
 use Rattle.recording_datagrams.specs.Taking.{Arrival, IsProcessedIf}
 use Rattle.recording_datagrams.specs.Turns.{HadTurns}
-use Rattle.recording_datagrams.specs.Rounds.{Round, HadTurnsIf, TakesGiven, KeepsToSeconds, IsRound, AreRounds}
-use Rattle.recording_datagrams.specs.Standing.{own_in, own_of, HaveLast, StandsForAll, IsKept, StaysInRound, StaysThrough}
+use Rattle.recording_datagrams.specs.Rounds.{Round, HadTurnsIf, TakesGiven, KeepsToSeconds, IsRound, AreRounds, FromNone}
+use Rattle.recording_datagrams.specs.Standing.{begun, own_datagram, own_in, own_of, HaveLast, HaveAllCame, IsHeard, StandsForAll, IsKept, StaysInRound, StaysThrough, came_among}
 use Rattle.recording_datagrams.specs.declared.datagram_taker.DatagramTaker.{DatagramTaker}
-use Rattle.recording_datagrams.proofs.OwnDatagrams.{AreApart, Less, BehindTurns, found_none, others_of, others_are, own_with, own_behind, last_same, next_stands, behind_turns, front_of}
+use Rattle.recording_datagrams.proofs.OneStep.{SessionsStand, StandAfters, StandInTurns, heard_after, none_with_second, stand_after}
+use Rattle.recording_datagrams.proofs.OwnHappenings.{AreApart, StandLess, all_with, found_none, front_of, last_by, last_same, of_peer-all, others_are, others_of, own_and, own_with, behind_turns, with_it}
+use Rattle.recording_datagrams.proofs.BehindRounds.{own_steps, own_then, round_reorder, round_second, taken_second}
 
 -- ---- whether it is there, among the sessions and among what they stand for
 
@@ -44,122 +47,208 @@ module _ {V W : Type 0} (R : V → W → Type 0) where
 not_there : {X : Type 0} (o : Option X) → o ≡ None → IsSome o → ⊥
 not_there {X} o e s = let none : IsSome {T = X} None = subst (λ (x : Option X). IsSome x) e s in cc
 
-module _ {F : Type 0} (seen : F → FilesView) (peer : SocketAddr) where
+-- ---- all that came
+
+there_before : (h : Happening) (o : Option (List Happening)) → IsSome (with_it h o) → IsSome o
+there_before h None s = absurd cc
+there_before h (Some hs) s = refl
+
+came_then : (hs all more : List Happening) → HaveAllCame hs all → HaveAllCame (hs ++ more) (all ++ more)
+came_then hs all more h = record { before = h.before; none_came = h.none_came; are = ap (λ xs. xs ++ more) h.are ∙ append_assoc h.before hs more }
+
+-- a second began; where there is no session it is one before the first datagram
+second_then : (second : ℕ) (o : Option (List Happening)) (all : List Happening) → HaveAllCame (unwrap_or o []) all → HaveAllCame (unwrap_or (with_it (SecondBegan second) o) []) (all ++ SecondBegan second ∷ [])
+second_then second None all h = record {
+  before = h.before ++ SecondBegan second ∷ [];
+  none_came = none_with_second h.before second h.none_came;
+  are = ap (λ xs. xs ++ SecondBegan second ∷ []) (h.are ∙ append-nil h.before) ∙ sym (append-nil (h.before ++ SecondBegan second ∷ []));
+}
+second_then second (Some hs) all h = came_then hs all (SecondBegan second ∷ []) h
+
+module _ {F : Type 0} (seen : F → FilesView) (peer : SocketAddr) (seconds : ℕ) where
+  abbrev Is : PeerState F → List Happening → Type 0
+  Is k hs = IsSession seen k seconds hs
+
   abbrev IsIn : List (SocketAddr × PeerState F) → Type 0
   IsIn es = IsSome (of_peer peer es)
 
-  came_in : (es : List (SocketAddr × PeerState F)) (cs : PeerDatagrams) → StandFor seen es cs → IsIn es → IsSome (of_peer peer cs)
-  came_in es cs p s = there (IsSession seen) (of_peer peer es) (of_peer peer cs) (paired_lookup (IsSession seen) (same_peer peer) es cs p) s
+  came_to : (es : List (SocketAddr × PeerState F)) (cs : PeerHappenings) → StandFor seen seconds es cs → IsIn es → IsSome (of_peer peer cs)
+  came_to es cs p s = there Is (of_peer peer es) (of_peer peer cs) (paired_lookup Is (same_peer peer) es cs p) s
 
-  kept_in : (es : List (SocketAddr × PeerState F)) (cs : PeerDatagrams) → StandFor seen es cs → IsSome (of_peer peer cs) → IsIn es
-  kept_in es cs p s = there_too (IsSession seen) (of_peer peer es) (of_peer peer cs) (paired_lookup (IsSession seen) (same_peer peer) es cs p) s
+  kept_in : (es : List (SocketAddr × PeerState F)) (cs : PeerHappenings) → StandFor seen seconds es cs → IsSome (of_peer peer cs) → IsIn es
+  kept_in es cs p s = there_too Is (of_peer peer es) (of_peer peer cs) (paired_lookup Is (same_peer peer) es cs p) s
 
   -- the sessions stand for the last ones of their own, and that of the peer for all of its own
-  record HasAll (own : SocketAddr → List (List ℕ)) (es : List (SocketAddr × PeerState F)) : Type 0 where
-    cs : PeerDatagrams
-    stand : StandFor seen es cs
+  record HasAll (own : SocketAddr → List Happening) (es : List (SocketAddr × PeerState F)) : Type 0 where
+    cs : PeerHappenings
+    stand : StandFor seen seconds es cs
+    heard : Paired IsHeard es cs
     apart : AreApart cs
     last : HaveLast own cs
-    all : came_of peer cs ≡ own peer
+    all : HaveAllCame (happened_to peer cs) (own peer)
 
-  all_same : (own all : SocketAddr → List (List ℕ)) (es after : List (SocketAddr × PeerState F)) → ((p : SocketAddr) → own p ≡ all p) → after ≡ es → HasAll own es → HasAll all after
-  all_same own all es after e same s =
-      record { cs = s.cs; stand = subst (λ (l : List (SocketAddr × PeerState F)). StandFor seen l s.cs) (sym same) s.stand; apart = s.apart; last = last_same own all s.cs e s.last; all = s.all ∙ e peer }
+  all_same : (own all : SocketAddr → List Happening) (es after : List (SocketAddr × PeerState F)) → ((p : SocketAddr) → own p ≡ all p) → after ≡ es → HasAll own es → HasAll all after
+  all_same own all es after e same s = record {
+    cs = s.cs;
+    stand = subst (λ (l : List (SocketAddr × PeerState F)). StandFor seen seconds l s.cs) (sym same) s.stand;
+    heard = subst (λ (l : List (SocketAddr × PeerState F)). Paired IsHeard l s.cs) (sym same) s.heard;
+    apart = s.apart;
+    last = last_same own all s.cs e s.last;
+    all = subst (λ xs. HaveAllCame (happened_to peer s.cs) xs) (e peer) s.all;
+  }
 
-  module _ (own : SocketAddr → List (List ℕ)) where
+  module _ (own : SocketAddr → List Happening) where
     -- where others go
-    without : (es after : List (SocketAddr × PeerState F)) (s : HasAll own es) → BehindTurns seen own s.cs after → (IsIn es → IsIn after) → HasAll own after
-    without es after s b stays =
-        let same = same_option (of_peer peer b.0) (of_peer peer s.cs) (b.2.same peer) (λ k. came_in after b.0 b.1 (stays (kept_in es s.cs s.stand k))) in
-        record { cs = b.0; stand = b.1; apart = b.2.apart; last = b.2.last; all = ap (λ (o : Option (List (List ℕ))). unwrap_or o []) same ∙ s.all }
+    without : (cs : PeerHappenings) (after : List (SocketAddr × PeerState F)) → StandLess seen seconds own cs after → HaveAllCame (happened_to peer cs) (own peer) → (IsSome (of_peer peer cs) → IsIn after) → HasAll own after
+    without cs after b all stays =
+        let same = same_option (of_peer peer b.ds) (of_peer peer cs) (b.less.same peer) (λ k. came_to after b.ds b.stand (stays k)) in
+        record { cs = b.ds; stand = b.stand; heard = b.heard; apart = b.less.apart; last = b.less.last; all = subst (λ (o : Option (List Happening)). HaveAllCame (unwrap_or o []) (own peer)) (sym same) all }
 
-    settled : (most now : ℕ) (es after : List (SocketAddr × PeerState F)) (from : SocketAddr) (m : List ℕ) (became : Became F) (leaving : Option (SocketAddr × PeerState F)) (cs : PeerDatagrams) → StandFor seen es cs → AreApart cs
-        → Records seen became leaving most es after from m now → same_peer peer from ≡ true → IsIn after → IsSettled became
-    settled most now es after from m Recorded leaving cs p a r e s = tt
-    settled most now es after from m (Refused fault) leaving cs p a r e s = tt
-    settled most now es after from m (Ended k) leaving cs p a r e s =
-        let stand = stand_by seen most (Ended k) leaving after cs from m (stand_behind seen most now es after cs from m (Ended k) leaving p r) in
-        let none = found_none peer (others_for most from cs) (others_of peer from (others_for most from cs) e (others_are most from cs a)) in
-        absurd (not_there (of_peer peer (others_for most from cs)) none (came_in after (others_for most from cs) stand s))
-    settled most now es after from m NoMemory leaving cs p a r e s =
-        let none : of_peer peer es ≡ None = sym (same_of most peer from es e) ∙ r.0.begins in
-        absurd (not_there (of_peer peer es) none (subst (λ (l : List (SocketAddr × PeerState F)). IsIn l) r.0.same s))
+    module _ (made_for : F → SocketAddr → Type 0) (most : ℕ) (r : Reception F) (es after : List (SocketAddr × PeerState F)) (cs : PeerHappenings) where
+      taken_by : (became : Became F) → StandFor seen seconds after (happened_by became most r cs) → AreApart cs → RecordsBy seen made_for seconds became most r es after → same_peer peer r.peer ≡ true → IsIn after → IsTaken became
+      taken_by Taken p a t e s = tt
+      taken_by (Ended k) p a t e s =
+          let none = found_none peer (others_for most r.peer cs) (others_of peer r.peer (others_for most r.peer cs) e (others_are most r.peer cs a)) in
+          absurd (not_there (of_peer peer (others_for most r.peer cs)) none (came_to after (others_for most r.peer cs) p s))
+      taken_by NoMemory p a t e s =
+          let none : of_peer peer es ≡ None = sym (same_of most peer r.peer es e) ∙ t.begins in
+          absurd (not_there (of_peer peer es) none (subst (λ (l : List (SocketAddr × PeerState F)). IsIn l) t.same s))
 
     -- after a datagram
-    with_one : (most now : ℕ) (es after : List (SocketAddr × PeerState F)) (from : SocketAddr) (m : List ℕ) (became : Became F) (leaving : Option (SocketAddr × PeerState F)) → HasAll own es → Records seen became leaving most es after from m now
-        → (IsIn es → IsIn after) → (same_peer peer from ≡ true → IsIn after) → HasAll (own_with own from m) after
-    with_one most now es after from m became leaving s r stays its =
-        let cs = came_by became most from m s.cs in
-        let stand = stand_by seen most became leaving after s.cs from m (stand_behind seen most now es after s.cs from m became leaving s.stand r) in
-        let next = next_stands seen own most now es after from m became leaving s.cs s.stand s.apart s.last r in
-        let more = one peer most (record { peer = from; octets = m; now = now; became = became; gone = leaving }) s.cs (λ e. settled most now es after from m became leaving s.cs s.stand s.apart r e (its e))
-        (λ k. came_in after cs stand (stays (kept_in es s.cs s.stand k))) in
-        record { cs = cs; stand = stand; apart = next.0; last = next.1; all = more ∙ ap (λ (l : List (List ℕ)). l ++ cond (same_peer peer from) (m ∷ []) []) s.all }
+    with_one : (made_for : F → SocketAddr → Type 0) (law : StandAfters seen made_for) (most : ℕ) (r : Reception F) (es after : List (SocketAddr × PeerState F)) → HasAll own es → Records seen made_for seconds most r es after → (IsIn es → IsIn after) → (same_peer peer r.peer ≡ true → IsIn after)
+        → HasAll (own_with own r.peer (came_in r)) after
+    with_one made_for law most r es after s t stays its =
+        let stand = stand_after seen made_for seconds most r es after s.cs law s.stand t in
+        let next = last_by seen seconds own made_for r.became most r es after s.cs s.stand s.apart s.last t in
+        let more = one peer most r s.cs (λ e. taken_by made_for most r es after s.cs r.became stand s.apart t e (its e)) (λ k. came_to after (happened_in most r s.cs) stand (stays (kept_in es s.cs s.stand k))) in
+        record {
+          cs = happened_in most r s.cs;
+          stand = stand;
+          heard = heard_after seen made_for seconds most r es after s.cs s.heard t;
+          apart = next.0;
+          last = next.1;
+          all = subst (λ hs. HaveAllCame hs (own_with own r.peer (came_in r) peer)) (sym more) (came_then (happened_to peer s.cs) (own peer) (cond (same_peer peer r.peer) (came_in r ∷ []) []) s.all);
+        }
 
-  stands_so : (o : Option (PeerState F)) (q : Option (List (List ℕ))) (ms : List (List ℕ)) → Both (IsSession seen) o q → unwrap_or q [] ≡ ms → StandsForAll seen o ms
-  stands_so None None ms b e = sym e
-  stands_so None (Some ns) ms b e = absurd b
-  stands_so (Some k) None ms b e = absurd b
-  stands_so (Some k) (Some ns) ms b e = subst (λ (l : List (List ℕ)). IsSession seen k l) e b
+  stands_so : (o : Option (PeerState F)) (q : Option (List Happening)) (all : List Happening) → Both Is o q → HaveAllCame (unwrap_or q []) all → StandsForAll seen seconds o all
+  stands_so None None all b h = ap came_among (h.are ∙ append-nil h.before) ∙ h.none_came
+  stands_so None (Some hs) all b h = absurd b
+  stands_so (Some k) None all b h = absurd b
+  stands_so (Some k) (Some hs) all b h = (hs, h, b)
 
-  -- ---- rounds
+  -- ---- turns
 
-  module _ (finishes : F → FileReport → Result (Unit {0}) NotWritten → Type 0) where
-    turns_all : (own : SocketAddr → List (List ℕ)) (is_over : Bool) (es after : List (SocketAddr × PeerState F)) (lines : List ℕ) → HasAll own es → HadTurns seen finishes is_over es after lines → (IsIn es → IsIn after) → HasAll own after
-    turns_all own is_over es after lines s t stays = without own es after s (behind_turns seen own finishes is_over es after s.cs lines s.stand s.apart s.last t) stays
+  module _ (law : StandInTurns seen) (finishes : F → FileReport → Result (Unit {0}) NotWritten → Type 0) where
+    -- what is left of all, after a second began
+    turned_all : (own : SocketAddr → List Happening) (second : ℕ) (is_over : Bool) (es after : List (SocketAddr × PeerState F)) (lines : List ℕ) (s : HasAll own es) → HadTurns seen finishes second is_over es after lines
+        → StandLess seen seconds (own_and own (SecondBegan second)) (all_with (SecondBegan second) s.cs) after × HaveAllCame (happened_to peer (all_with (SecondBegan second) s.cs)) (own_and own (SecondBegan second) peer)
+        × (IsSome (of_peer peer (all_with (SecondBegan second) s.cs)) → IsIn es)
+    turned_all own second is_over es after lines s t =
+        let found = of_peer-all peer (SecondBegan second) s.cs in (
+          behind_turns seen seconds own finishes second is_over law es after s.cs lines s.stand s.heard s.apart s.last t,
+          subst (λ (o : Option (List Happening)). HaveAllCame (unwrap_or o []) (own peer ++ SecondBegan second ∷ [])) (sym found) (second_then second (of_peer peer s.cs) (own peer) s.all),
+          λ k. kept_in es s.cs s.stand (there_before (SecondBegan second) (of_peer peer s.cs) (subst (λ (o : Option (List Happening)). IsSome o) found k)),
+        )
 
-    kept_all : (own : SocketAddr → List (List ℕ)) (is_over : Bool) (es after : List (SocketAddr × PeerState F)) (lines : List ℕ) → HasAll own es → HadTurnsIf seen finishes is_over es after lines → (IsIn es → IsIn after) → HasAll own after
-    kept_all own true es after lines s t stays = turns_all own true es after lines s t stays
-    kept_all own false es after lines s t stays = all_same own own es after (λ p. refl) t.0 s
+    turns_all : (own : SocketAddr → List Happening) (second : ℕ) (is_over : Bool) (es after : List (SocketAddr × PeerState F)) (lines : List ℕ) → HasAll own es → HadTurns seen finishes second is_over es after lines → (IsIn es → IsIn after)
+        → HasAll (own_and own (SecondBegan second)) after
+    turns_all own second is_over es after lines s t stays =
+        let turned = turned_all own second is_over es after lines s t in
+        without (own_and own (SecondBegan second)) (all_with (SecondBegan second) s.cs) after turned.0 turned.1 (λ k. stays (turned.2 k))
 
-    its_own : (from : SocketAddr) (m : List ℕ) {X : Type 0} → (cond (same_peer peer from) (m ∷ []) [] ≢ [] → X) → same_peer peer from ≡ true → X
-    its_own from m k e = k (λ h. let none : m ∷ [] ≡ [] = rw e at h in cc)
+    kept_all : (own : SocketAddr → List Happening) (is_over : Bool) (second : ℕ) (es after : List (SocketAddr × PeerState F)) (lines : List ℕ) → HasAll own es → HadTurnsIf seen finishes is_over second es after lines → (IsIn es → IsIn after)
+        → HasAll (own_then own (λ p. begun is_over second)) after
+    kept_all own true second es after lines s t stays = turns_all own second true es after lines s t stays
+    kept_all own false second es after lines s t stays = all_same own _ es after (λ p. sym (append-nil (own p))) t.0 s
 
-    sent_all : (own : SocketAddr → List (List ℕ)) (may_send : Bool) (before after : LruCache SocketAddr (PeerState F)) (shared then : SharedCounts) (from : SocketAddr) (m : List ℕ) (now : ℕ) (lines : List ℕ) → HasAll own before.entries
-        → IsProcessedIf seen finishes before after may_send shared then from m now lines → (IsIn before.entries → IsIn after.entries) → (cond (may_send && same_peer peer from) (m ∷ []) [] ≢ [] → IsIn after.entries)
-        → HasAll (λ p. own p ++ cond (may_send && same_peer p from) (m ∷ []) []) after.entries
-    sent_all own true before after shared then from m now lines s t stays its = with_one own before.cap now before.entries after.entries from m t.1.became t.1.gone s t.1.records stays (its_own from m its)
-    sent_all own false before after shared then from m now lines s t stays its =
-        all_same own _ before.entries after.entries (λ p. sym (append-nil (own p))) (ap (λ (k : LruCache SocketAddr (PeerState F)). k.entries) t.1) s
+    its_own : (from : SocketAddr) (h : Happening) {X : Type 0} → (cond (same_peer peer from) (h ∷ []) [] ≢ [] → X) → same_peer peer from ≡ true → X
+    its_own from h k e = k (λ n. let none : h ∷ [] ≡ [] = rw e at n in cc)
 
-module _ {F P W : Type 0} (seen : F → FilesView) (finishes : F → FileReport → Result (Unit {0}) NotWritten → Type 0) (asked : P → ClockView) (peer : SocketAddr) where
-  taken_all : (own : SocketAddr → List (List ℕ)) (given : Result Arrival NoDatagram) (now : ℕ) (old new : DatagramTaker F P W) (lines : List ℕ) → HasAll seen peer own old.peers.kept.entries → TakesGiven seen finishes asked given now old new lines
-      → (IsKept peer old → IsKept peer new) → (own_in peer given ≢ [] → IsKept peer new) → HasAll seen peer (own_behind own given) new.peers.kept.entries
-  taken_all own (Ok a) now old new lines s t stays its = sent_all seen peer finishes own a.may_send old.peers.kept new.peers.kept old.unserved new.unserved a.peer a.octets now lines s t.arrives.taken stays its
-  taken_all own (Err Tick) now old new lines s t stays its = all_same seen peer own _ old.peers.kept.entries new.peers.kept.entries (λ p. sym (append-nil (own p))) (ap (λ (r : DatagramTaker F P W). r.peers.kept.entries) t.0) s
-  taken_all own (Err Failed) now old new lines s t stays its = all_same seen peer own _ old.peers.kept.entries new.peers.kept.entries (λ p. sym (append-nil (own p))) (ap (λ (r : DatagramTaker F P W). r.peers.kept.entries) t.0) s
+    sent_all : (made_for : F → SocketAddr → Type 0) (datagrams : StandAfters seen made_for) (own : SocketAddr → List Happening) (may_send : Bool) (before after : Peers F) (shared then : SharedCounts) (from : SocketAddr) (m : List ℕ) (now : ℕ) (lines : List ℕ) → before.reorder ≡ seconds
+        → HasAll own before.kept.entries → IsProcessedIf seen finishes made_for before after may_send shared then from m now lines → (IsIn before.kept.entries → IsIn after.kept.entries)
+        → (cond (may_send && same_peer peer from) (DatagramCame m now ∷ []) [] ≢ [] → IsIn after.kept.entries) → HasAll (λ p. own p ++ cond (may_send && same_peer p from) (DatagramCame m now ∷ []) []) after.kept.entries
+    sent_all made_for datagrams own true before after shared then from m now lines e s t stays its =
+        let r : Reception F = record { peer = from; octets = m; second = now; became = t.1.became; gone = t.1.gone } in
+        let records = subst (λ n. Records seen made_for n before.kept.cap r before.kept.entries after.kept.entries) e t.1.records in
+        with_one own made_for datagrams before.kept.cap r before.kept.entries after.kept.entries s records stays (its_own from (DatagramCame m now) its)
+    sent_all made_for datagrams own false before after shared then from m now lines e s t stays its =
+        all_same own _ before.kept.entries after.kept.entries (λ p. sym (append-nil (own p))) (ap (λ (k : Peers F). k.kept.entries) t.1) s
+
+-- ---- rounds
+
+module _ {F P W : Type 0} (seen : F → FilesView) (finishes : F → FileReport → Result (Unit {0}) NotWritten → Type 0) (made_for : F → SocketAddr → Type 0) (asked : P → ClockView) (laws : SessionsStand seen made_for) (peer : SocketAddr) (seconds : ℕ) where
+  taken_all : (own : SocketAddr → List Happening) (given : Result Arrival NoDatagram) (now : ℕ) (old new : DatagramTaker F P W) (lines : List ℕ) → old.peers.reorder ≡ seconds → HasAll seen peer seconds own old.peers.kept.entries
+      → TakesGiven seen finishes made_for asked given now old new lines → (IsKept peer old → IsKept peer new) → (own_datagram peer now given ≢ [] → IsKept peer new)
+      → HasAll seen peer seconds (own_then own (λ p. own_datagram p now given)) new.peers.kept.entries
+  taken_all own (Ok a) now old new lines e s t stays its = sent_all seen peer seconds laws.turns finishes made_for laws.datagrams own a.may_send old.peers new.peers old.unserved new.unserved a.peer a.octets now lines e s t.arrives.taken stays its
+  taken_all own (Err Tick) now old new lines e s t stays its =
+      all_same seen peer seconds own _ old.peers.kept.entries new.peers.kept.entries (λ p. sym (append-nil (own p))) (ap (λ (r : DatagramTaker F P W). r.peers.kept.entries) t.0) s
+  taken_all own (Err Failed) now old new lines e s t stays its =
+      all_same seen peer seconds own _ old.peers.kept.entries new.peers.kept.entries (λ p. sym (append-nil (own p))) (ap (λ (r : DatagramTaker F P W). r.peers.kept.entries) t.0) s
 
   -- those that are silent follow the others
-  second_all : (own : SocketAddr → List (List ℕ)) (now : ℕ) (old new : DatagramTaker F P W) (lines : List ℕ) → HasAll seen peer own old.peers.kept.entries → KeepsToSeconds seen finishes asked now old new lines → (IsKept peer old → IsKept peer new)
-      → HasAll seen peer own new.peers.kept.entries
-  second_all own now old new lines s g stays = elim g [
-    | inl same ↦ all_same seen peer own own old.peers.kept.entries new.peers.kept.entries (λ p. refl) (ap (λ (r : DatagramTaker F P W). r.peers.kept.entries) same.1) s
+  began_all : (own : SocketAddr → List Happening) (now : ℕ) (old new : DatagramTaker F P W) (lines : List ℕ) → HasAll seen peer seconds own old.peers.kept.entries → KeepsToSeconds seen finishes made_for asked now old new lines → (IsKept peer old → IsKept peer new)
+      → HasAll seen peer seconds (own_then own (λ p. begun (nat_lt old.second now) now)) new.peers.kept.entries
+  began_all own now old new lines s g stays = elim g [
+    | inl same ↦ (
+        let none : nat_lt old.second now ≡ false = le-ltb old.second now same.0 in
+        all_same seen peer seconds own _ old.peers.kept.entries new.peers.kept.entries (λ p. rw none (sym (append-nil (own p)))) (ap (λ (r : DatagramTaker F P W). r.peers.kept.entries) same.1) s
+        )
     | inr ends ↦ (
-        let turned = behind_turns seen own finishes false old.peers.kept.entries ends.1.between s.cs ends.1.told s.stand s.apart s.last ends.1.turns in
-        let front = front_of seen own new.peers.kept.entries ends.1.silent.gone turned.0 (subst (λ (l : List (SocketAddr × PeerState F)). StandFor seen l turned.0) ends.1.silent.those turned.1) turned.2.apart turned.2.last in
-        let less : Less own front.0 s.cs = record { apart = front.2.apart; last = front.2.last; among = λ p h. front.2.among p (turned.2.among p h); same = λ p ms h. turned.2.same p ms (front.2.same p ms h) } in
-        without seen peer own old.peers.kept.entries new.peers.kept.entries s (front.0, front.1, less) stays
+        let one : nat_lt old.second now ≡ true = lt-ltb old.second now ends.0 in
+        let began = own_and own (SecondBegan now) in
+        let turned = turned_all seen peer seconds laws.turns finishes own now false old.peers.kept.entries ends.1.between ends.1.told s ends.1.turns in
+        let silent = ends.1.silent in
+        let front = front_of seen seconds began new.peers.kept.entries silent.gone turned.0.ds (subst (λ (l : List (SocketAddr × PeerState F)). StandFor seen seconds l turned.0.ds) silent.those turned.0.stand)
+        (subst (λ (l : List (SocketAddr × PeerState F)). Paired IsHeard l turned.0.ds) silent.those turned.0.heard) turned.0.less.apart turned.0.less.last in
+        let less : StandLess seen seconds began (all_with (SecondBegan now) s.cs) new.peers.kept.entries = record {
+          ds = front.ds;
+          stand = front.stand;
+          heard = front.heard;
+          less = record {
+            apart = front.less.apart;
+            last = front.less.last;
+            among = λ p h. front.less.among p (turned.0.less.among p h);
+            same = λ p hs h. turned.0.less.same p hs (front.less.same p hs h);
+          };
+        } in
+        let all = without seen peer seconds began (all_with (SecondBegan now) s.cs) new.peers.kept.entries less turned.1 (λ k. stays (turned.2 k)) in
+        all_same seen peer seconds began _ new.peers.kept.entries new.peers.kept.entries (λ p. rw one refl) refl all
         )
   ]
 
-  round_all : (own : SocketAddr → List (List ℕ)) (r : Round) (old new : DatagramTaker F P W) → HasAll seen peer own old.peers.kept.entries → (is : IsRound seen finishes asked r old new) → StaysInRound seen finishes asked peer r old new is
-      → HasAll seen peer (own_behind own r.given) new.peers.kept.entries
-  round_all own r old new s is on =
-      let kept = kept_all seen peer finishes own r.is_over old.peers.kept.entries is.kept.peers.kept.entries is.kept_lines s is.keeps.turns on.period in
-      let taken = taken_all own r.given r.second is.kept is.taken is.taken_lines kept is.takes on.datagram on.own in
-      second_all (own_behind own r.given) r.second is.taken new is.last_lines taken is.goes_on on.second
+  round_all : (own : SocketAddr → List Happening) (r : Round) (old new : DatagramTaker F P W) → old.peers.reorder ≡ seconds → HasAll seen peer seconds own old.peers.kept.entries → (is : IsRound seen finishes made_for asked r old new)
+      → StaysInRound seen finishes made_for asked peer r old new is → HasAll seen peer seconds (own_then own (λ p. own_in p old.second r)) new.peers.kept.entries
+  round_all own r old new e s is on =
+      let kept = kept_all seen peer seconds laws.turns finishes own r.is_over r.second old.peers.kept.entries is.kept.peers.kept.entries is.kept_lines s is.keeps.turns on.period in
+      let taken = taken_all _ r.given r.second is.kept is.taken is.taken_lines (is.keeps.limits.reorder ∙ e) kept is.takes on.datagram on.own in
+      let began = began_all _ r.second is.taken new is.last_lines taken is.goes_on on.second in
+      let at = taken_second seen finishes made_for asked r old new is in
+      all_same seen peer seconds _ _ new.peers.kept.entries new.peers.kept.entries
+      (λ p. ap (λ n. ((own p ++ begun r.is_over r.second) ++ own_datagram p r.second r.given) ++ begun (nat_lt n r.second) r.second) at ∙ own_steps own old.second r p) refl began
 
-  rounds_all : (own : SocketAddr → List (List ℕ)) (rs : List Round) (old new : DatagramTaker F P W) → HasAll seen peer own old.peers.kept.entries → (are : AreRounds seen finishes asked rs old new) → StaysThrough seen finishes asked peer rs old new are
-      → HasAll seen peer (λ p. own p ++ own_of p rs) new.peers.kept.entries
-  rounds_all own [] old new s are on = all_same seen peer own _ old.peers.kept.entries new.peers.kept.entries (λ p. sym (append-nil (own p))) (ap (λ (r : DatagramTaker F P W). r.peers.kept.entries) are) s
-  rounds_all own (r ∷ rs) old new s are on =
-      let last = rounds_all (own_behind own r.given) rs are.0 new (round_all own r old are.0 s are.1 on.0) are.2 on.1 in
-      all_same seen peer _ _ new.peers.kept.entries new.peers.kept.entries (λ p. append_assoc (own p) (own_in p r.given) (own_of p rs)) refl last
+  rounds_all : (own : SocketAddr → List Happening) (rs : List Round) (old new : DatagramTaker F P W) → old.peers.reorder ≡ seconds → HasAll seen peer seconds own old.peers.kept.entries → (are : AreRounds seen finishes made_for asked rs old new)
+      → StaysThrough seen finishes made_for asked peer rs old new are → HasAll seen peer seconds (own_then own (λ p. own_of p old.second rs)) new.peers.kept.entries
+  rounds_all own [] old new e s are on = all_same seen peer seconds own _ old.peers.kept.entries new.peers.kept.entries (λ p. sym (append-nil (own p))) (ap (λ (r : DatagramTaker F P W). r.peers.kept.entries) are) s
+  rounds_all own (r ∷ rs) old new e s are on =
+      let now = round_second seen finishes made_for asked r old are.0 are.1 in
+      let last = rounds_all (own_then own (λ p. own_in p old.second r)) rs are.0 new (round_reorder seen finishes made_for asked r old are.0 are.1 ∙ e) (round_all own r old are.0 e s are.1 on.0) are.2 on.1 in
+      all_same seen peer seconds _ _ new.peers.kept.entries new.peers.kept.entries
+      (λ p. ap (λ n. (own p ++ own_in p old.second r) ++ own_of p n rs) now ∙ append_assoc (own p) (own_in p old.second r) (own_of p r.second rs)) refl last
 
-  pub stands_for_all : (rs : List Round) (old new : DatagramTaker F P W) (are : AreRounds seen finishes asked rs old new) → old.peers.kept.entries ≡ [] → StaysThrough seen finishes asked peer rs old new are
-      → StandsForAll seen (of_peer peer new.peers.kept.entries) (own_of peer rs)
-  stands_for_all rs old new are none on =
-      let first : HasAll seen peer (λ p. []) old.peers.kept.entries =
-      record { cs = []; stand = subst (λ (l : List (SocketAddr × PeerState F)). StandFor seen l []) (sym none) tt; apart = tt; last = tt; all = refl } in
-      let s = rounds_all (λ p. []) rs old new first are on in
-      stands_so seen peer (of_peer peer new.peers.kept.entries) (of_peer peer s.cs) (own_of peer rs) (paired_lookup (IsSession seen) (same_peer peer) new.peers.kept.entries s.cs s.stand) s.all
+module _ {F P W : Type 0} (seen : F → FilesView) (finishes : F → FileReport → Result (Unit {0}) NotWritten → Type 0) (made_for : F → SocketAddr → Type 0) (asked : P → ClockView) (laws : SessionsStand seen made_for) (peer : SocketAddr) where
+  pub stands_for_all : (run : FromNone W seen finishes made_for asked) → StaysThrough seen finishes made_for asked peer run.rounds run.old run.new run.are
+      → StandsForAll seen run.old.peers.reorder (of_peer peer run.new.peers.kept.entries) (own_of peer run.old.second run.rounds)
+  stands_for_all run on =
+      let seconds = run.old.peers.reorder in
+      let first : HasAll seen peer seconds (λ p. []) run.old.peers.kept.entries = record {
+        cs = [];
+        stand = subst (λ (l : List (SocketAddr × PeerState F)). StandFor seen seconds l []) (sym run.none) tt;
+        heard = subst (λ (l : List (SocketAddr × PeerState F)). Paired IsHeard l []) (sym run.none) tt;
+        apart = tt;
+        last = tt;
+        all = record { before = []; none_came = refl; are = refl };
+      } in
+      let s = rounds_all seen finishes made_for asked laws peer seconds (λ p. []) run.rounds run.old run.new refl first run.are on in
+      stands_so seen peer seconds (of_peer peer run.new.peers.kept.entries) (of_peer peer s.cs) (own_of peer run.old.second run.rounds)
+      (paired_lookup (λ (k : PeerState F) (hs : List Happening). IsSession seen k seconds hs) (same_peer peer) run.new.peers.kept.entries s.cs s.stand) s.all

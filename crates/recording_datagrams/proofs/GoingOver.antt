@@ -1,5 +1,5 @@
 -- The turns of all peers, and the end of those that are silent.
-use Rattle.std.proofs.Common.{◌≡◌, ℕ, ◌+◌, ◌-◌, ◌<◌, ◌≤◌, ◌⊎◌, Bool, List, [], ◌∷◌, ◌++◌, length, take, Option, Some, Result, Ok, Err, refl, sym, ap, ◌∙◌, subst, inl, inr, arith, length-append, append-nil, append_assoc}
+use Rattle.std.proofs.Common.{◌≡◌, ℕ, ◌+◌, ◌-◌, ◌<◌, ◌≤◌, ◌⊎◌, Bool, List, [], ◌∷◌, ◌++◌, length, take, Option, Some, Vec, Global, Result, Ok, Err, refl, sym, ap, ◌∙◌, subst, inl, inr, arith, length-append, append-nil, append_assoc}
 use Rattle.std.specs.declared.net.socket_addr.SocketAddr.{SocketAddr}
 use Rattle.lru.specs.LruCache.{last_entry}
 use Rattle.lru.proofs.Pairs.{cut_end, last_of_push}
@@ -7,13 +7,20 @@ use Rattle.recording_files.specs.Files.{FilesView}
 use Rattle.recording_files.specs.declared.file_report.FileReport.{FileReport}
 use Rattle.recording_files.specs.declared.file_series.NotWritten.{NotWritten}
 use Rattle.recording_files.specs.declared.record_fault.RecordFault.{RecordFault}
-use Rattle.recording_peers.specs.Kept.{TakesTurn}
-use Rattle.recording_peers.specs.Steps.{ended_by, first_by}
+use Rattle.recording_order.specs.declared.order_counts.OrderCounts.{OrderCounts}
+use Rattle.recording_peers.specs.Calls.{TakesTurn}
+use Rattle.recording_peers.specs.Steps.{KeepsLimits, ended_by, first_by}
+use Rattle.recording_peers.specs.declared.in_turn.InTurn.{InTurn}
 use Rattle.recording_peers.specs.declared.peer_state.PeerState.{PeerState}
+use Rattle.recording_peers.specs.declared.peers.Peers.{Peers}
+use Rattle.recording_peers.specs.declared.refusals.Refusals.{Refusals}
 use Rattle.recording_datagrams.specs.Ending.{TellsSome}
 use Rattle.recording_datagrams.specs.Turns.{IsTurnTold, IsTurn, HadTurn, HadTurns, EndsOneSilent, AreSilent, EndsSilent}
 
-module _ {F : Type 0} (seen : F → FilesView) (finishes : F → FileReport → Result (Unit {0}) NotWritten → Type 0) (is_over : Bool) where
+pub limits_both : {F : Type 0} {old mid new : Peers F} → KeepsLimits old mid → KeepsLimits mid new → KeepsLimits old new
+limits_both h k = record { room = k.room ∙ h.room; reorder = k.reorder ∙ h.reorder }
+
+module _ {F : Type 0} (seen : F → FilesView) (finishes : F → FileReport → Result (Unit {0}) NotWritten → Type 0) (second : ℕ) (is_over : Bool) where
   -- the last peers, as many as had their turn, stand before the others now
   pub record GoneOver (es now : List (SocketAddr × PeerState F)) (count : ℕ) (lines : List ℕ) : Type 0 where
     pub front : List (SocketAddr × PeerState F)
@@ -22,7 +29,7 @@ module _ {F : Type 0} (seen : F → FilesView) (finishes : F → FileReport → 
     pub those : es ≡ front ++ behind
     pub as_many : length behind ≡ count
     pub now_is : now ≡ kept ++ front
-    pub had : HadTurns seen finishes is_over behind kept lines
+    pub had : HadTurns seen finishes second is_over behind kept lines
 
   pub gone_first : (es : List (SocketAddr × PeerState F)) → GoneOver es es 0 []
   gone_first es = record { front = es; behind = []; kept = []; those = sym (append-nil es); as_many = refl; now_is = refl; had = (refl, refl) }
@@ -32,35 +39,44 @@ module _ {F : Type 0} (seen : F → FilesView) (finishes : F → FileReport → 
   first_before (Ok x) peer k kept front = refl
   first_before (Err fault) peer k kept front = refl
 
+  -- what was told of it is told of these
+  turn_told : (peer : SocketAddr) (t : InTurn F) (refused : Option Refusals) (orders : List OrderCounts) (ended : Option (PeerState F)) (lines : List ℕ) → t.peer ≡ peer → t.refused ≡ refused → t.orders.items ≡ orders → t.ended ≡ ended
+      → IsTurnTold seen finishes t.peer t.refused t.orders.items t.ended lines → IsTurnTold seen finishes peer refused orders ended lines
+  turn_told peer t refused orders ended lines p r o e told =
+      subst (λ (x : Option (PeerState F)). IsTurnTold seen finishes peer refused orders x lines) e
+      (subst (λ (x : List OrderCounts). IsTurnTold seen finishes peer refused x t.ended lines) o
+      (subst (λ (x : Option Refusals). IsTurnTold seen finishes peer x t.orders.items t.ended lines) r (subst (λ (x : SocketAddr). IsTurnTold seen finishes x t.refused t.orders.items t.ended lines) p told)))
+
   -- the turn of the last one
-  turn_of : (kept front : List (SocketAddr × PeerState F)) (e : SocketAddr × PeerState F) (after : List (SocketAddr × PeerState F)) (own : List ℕ) → IsTurn seen finishes is_over ((kept ++ front) ++ e ∷ []) after own
-      → (k : List (SocketAddr × PeerState F)) × HadTurn seen finishes is_over e kept k own × (after ≡ k ++ front)
+  turn_of : (kept front : List (SocketAddr × PeerState F)) (e : SocketAddr × PeerState F) (after : List (SocketAddr × PeerState F)) (own : List ℕ) → IsTurn seen finishes second is_over ((kept ++ front) ++ e ∷ []) after own
+      → (k : List (SocketAddr × PeerState F)) × HadTurn seen finishes second is_over e kept k own × (after ≡ k ++ front)
   turn_of kept front e after own t =
       let g = t.goes_on in
       let ends = last_of_push (kept ++ front) e in
       let same : (t.turn.peer, g.old) ≡ e = (let found : Some (t.turn.peer, g.old) ≡ Some e = sym g.last ∙ ends.0 in cc) in
       let peer : t.turn.peer ≡ e.0 = ap (λ (p : SocketAddr × PeerState F). p.0) same in
-      let others : after ≡ first_by g.answer e.0 g.new (kept ++ front) =
-      g.others ∙ ap (λ (l : List (SocketAddr × PeerState F)). first_by g.answer t.turn.peer g.new l) ends.1 ∙ ap (λ (p : SocketAddr). first_by g.answer p g.new (kept ++ front)) peer in (
-        first_by g.answer e.0 g.new kept,
+      let others : after ≡ first_by g.turn.answer e.0 g.new (kept ++ front) =
+      g.others ∙ ap (λ (l : List (SocketAddr × PeerState F)). first_by g.turn.answer t.turn.peer g.new l) ends.1 ∙ ap (λ (p : SocketAddr). first_by g.turn.answer p g.new (kept ++ front)) peer in
+      let told : IsTurnTold seen finishes e.0 g.turn.refused g.turn.orders.items (ended_by g.turn.answer g.new) own =
+      turn_told e.0 t.turn g.turn.refused g.turn.orders.items (ended_by g.turn.answer g.new) own peer g.refused (ap (λ (v : Vec OrderCounts Global). v.items) g.orders) g.ended t.is_told in (
+        first_by g.turn.answer e.0 g.new kept,
         record {
           new = g.new;
-          refused = t.turn.refused;
-          answer = g.answer;
-          turn = subst (λ (k : PeerState F). TakesTurn seen is_over k g.new t.turn.refused g.answer) (ap (λ (p : SocketAddr × PeerState F). p.1) same) g.turn;
+          turn = g.turn;
+          takes = subst (λ (k : PeerState F). TakesTurn seen k g.new second is_over g.turn) (ap (λ (p : SocketAddr × PeerState F). p.1) same) g.takes;
           kept = refl;
-          is_told = subst (λ (p : SocketAddr). IsTurnTold finishes p t.turn.refused (ended_by g.answer g.new) own) peer (subst (λ (o : Option (PeerState F)). IsTurnTold finishes t.turn.peer t.turn.refused o own) g.ended t.is_told);
+          is_told = told;
         },
-        others ∙ first_before g.answer e.0 g.new kept front,
+        others ∙ first_before g.turn.answer e.0 g.new kept front,
       )
 
-  pub gone_on : (es now after : List (SocketAddr × PeerState F)) (count : ℕ) (lines own : List ℕ) → GoneOver es now count lines → count < length es → IsTurn seen finishes is_over now after own → GoneOver es after (count + 1) (lines ++ own)
+  pub gone_on : (es now after : List (SocketAddr × PeerState F)) (count : ℕ) (lines own : List ℕ) → GoneOver es now count lines → count < length es → IsTurn seen finishes second is_over now after own → GoneOver es after (count + 1) (lines ++ own)
   gone_on es now after count lines own g h t =
       let long : length es ≡ length g.front + length g.behind = ap length g.those ∙ length-append g.front g.behind in
       let many = g.as_many in
       let cut = cut_end g.front (omega arith) in
       let now_is : now ≡ (g.kept ++ cut.0) ++ cut.1 ∷ [] = g.now_is ∙ ap (λ (l : List (SocketAddr × PeerState F)). g.kept ++ l) cut.2 ∙ sym (append_assoc g.kept cut.0 (cut.1 ∷ [])) in
-      let turned = turn_of g.kept cut.0 cut.1 after own (subst (λ (l : List (SocketAddr × PeerState F)). IsTurn seen finishes is_over l after own) now_is t) in
+      let turned = turn_of g.kept cut.0 cut.1 after own (subst (λ (l : List (SocketAddr × PeerState F)). IsTurn seen finishes second is_over l after own) now_is t) in
       record {
         front = cut.0;
         behind = cut.1 ∷ g.behind;
@@ -74,8 +90,8 @@ module _ {F : Type 0} (seen : F → FilesView) (finishes : F → FileReport → 
   -- it wasn't empty, so one had its turn
   pub gone_later : {W A : Type 0} {contents : W → Option (List ℕ)} {has_failed : W → Type 0} {old new : W} {answer : Result (Unit {0}) A} {after : List (SocketAddr × PeerState F)}
       (es now : List (SocketAddr × PeerState F)) (count : ℕ) (lines : List ℕ) → GoneOver es now count lines → count < length es
-      → (now ≡ []) ⊎ TellsSome contents has_failed old new answer (IsTurn seen finishes is_over now after)
-      → (t : TellsSome contents has_failed old new answer (IsTurn seen finishes is_over now after)) × GoneOver es after (count + 1) (lines ++ t.lines)
+      → (now ≡ []) ⊎ TellsSome contents has_failed old new answer (IsTurn seen finishes second is_over now after)
+      → (t : TellsSome contents has_failed old new answer (IsTurn seen finishes second is_over now after)) × GoneOver es after (count + 1) (lines ++ t.lines)
   gone_later {after = after} es now count lines g h t = elim t [
     | inl none ↦ (
         let long : length es ≡ length g.front + length g.behind = ap length g.those ∙ length-append g.front g.behind in
@@ -86,22 +102,22 @@ module _ {F : Type 0} (seen : F → FilesView) (finishes : F → FileReport → 
     | inr told ↦ (told, gone_on es now after count lines told.lines g h told.are)
   ]
 
-  emptied : (front behind kept es now : List (SocketAddr × PeerState F)) (lines : List ℕ) → es ≡ front ++ behind → length es ≤ length behind → now ≡ kept ++ front → HadTurns seen finishes is_over behind kept lines → HadTurns seen finishes is_over es now lines
+  emptied : (front behind kept es now : List (SocketAddr × PeerState F)) (lines : List ℕ) → es ≡ front ++ behind → length es ≤ length behind → now ≡ kept ++ front → HadTurns seen finishes second is_over behind kept lines → HadTurns seen finishes second is_over es now lines
   emptied [] behind kept es now lines e h n t =
-      subst (λ (l : List (SocketAddr × PeerState F)). HadTurns seen finishes is_over l now lines) (sym e) (subst (λ (l : List (SocketAddr × PeerState F)). HadTurns seen finishes is_over behind l lines) (sym (n ∙ append-nil kept)) t)
+      subst (λ (l : List (SocketAddr × PeerState F)). HadTurns seen finishes second is_over l now lines) (sym e) (subst (λ (l : List (SocketAddr × PeerState F)). HadTurns seen finishes second is_over behind l lines) (sym (n ∙ append-nil kept)) t)
   emptied (x ∷ xs) behind kept es now lines e h n t = let long : length es ≡ length (x ∷ xs) + length behind = ap length e ∙ length-append (x ∷ xs) behind in absurd (omega arith)
 
   -- all had their turn
-  pub gone_over : (es now : List (SocketAddr × PeerState F)) (count : ℕ) (lines : List ℕ) → GoneOver es now count lines → length es ≤ count → HadTurns seen finishes is_over es now lines
+  pub gone_over : (es now : List (SocketAddr × PeerState F)) (count : ℕ) (lines : List ℕ) → GoneOver es now count lines → length es ≤ count → HadTurns seen finishes second is_over es now lines
   gone_over es now count lines g h = let many = g.as_many in emptied g.front g.behind g.kept es now lines g.those (omega arith) g.now_is g.had
 
-module _ {F : Type 0} (finishes : F → FileReport → Result (Unit {0}) NotWritten → Type 0) (since : ℕ) where
+module _ {F : Type 0} (seen : F → FilesView) (finishes : F → FileReport → Result (Unit {0}) NotWritten → Type 0) (since : ℕ) where
   -- so many are gone
   pub record EndedBehind (es now : List (SocketAddr × PeerState F)) (count : ℕ) (lines : List ℕ) : Type 0 where
     pub gone : List (SocketAddr × PeerState F)
     pub those : es ≡ now ++ gone
     pub as_many : length gone ≡ count
-    pub are_silent : AreSilent finishes since gone lines
+    pub are_silent : AreSilent seen finishes since gone lines
 
   pub none_ended : (es : List (SocketAddr × PeerState F)) → EndedBehind es es 0 []
   none_ended es = record { gone = []; those = sym (append-nil es); as_many = refl; are_silent = refl }
@@ -117,7 +133,7 @@ module _ {F : Type 0} (finishes : F → FileReport → Result (Unit {0}) NotWrit
       let rest : take (length (x ∷ xs) - 1) (x ∷ xs) ≡ cut.0 = ap (λ (l : List (SocketAddr × PeerState F)). take (length l - 1) l) cut.2 ∙ ends.1 in
       cut.2 ∙ ap (λ (l : List (SocketAddr × PeerState F)). l ++ cut.1 ∷ []) (sym rest) ∙ ap (λ (y : SocketAddr × PeerState F). take (length (x ∷ xs) - 1) (x ∷ xs) ++ y ∷ []) same
 
-  pub one_ended : (es now after : List (SocketAddr × PeerState F)) (count : ℕ) (lines own : List ℕ) → EndedBehind es now count lines → EndsOneSilent finishes since now after own → EndedBehind es after (count + 1) (lines ++ own)
+  pub one_ended : (es now after : List (SocketAddr × PeerState F)) (count : ℕ) (lines own : List ℕ) → EndedBehind es now count lines → EndsOneSilent seen finishes since now after own → EndedBehind es after (count + 1) (lines ++ own)
   one_ended es now after count lines own g s =
       let many = g.as_many in
       let now_is : now ≡ after ++ s.gone ∷ [] = cut_last now s.gone s.last ∙ ap (λ (l : List (SocketAddr × PeerState F)). l ++ s.gone ∷ []) (sym s.others) in
@@ -128,6 +144,6 @@ module _ {F : Type 0} (finishes : F → FileReport → Result (Unit {0}) NotWrit
         are_silent = (lines, own, g.are_silent, s.is_silent, refl);
       }
 
-  pub ended_all : (es now : List (SocketAddr × PeerState F)) (count : ℕ) (lines : List ℕ) → EndedBehind es now count lines → length es ≤ count → EndsSilent finishes since es now lines
+  pub ended_all : (es now : List (SocketAddr × PeerState F)) (count : ℕ) (lines : List ℕ) → EndedBehind es now count lines → length es ≤ count → EndsSilent seen finishes since es now lines
   ended_all es [] count lines g h = record { gone = g.gone; those = g.those; heard = tt; are_silent = g.are_silent }
   ended_all es (x ∷ xs) count lines g h = let many = g.as_many in let long : length es ≡ length (x ∷ xs) + length g.gone = ap length g.those ∙ length-append (x ∷ xs) g.gone in absurd (omega arith)

@@ -1,29 +1,30 @@
 -- Peers stand in the order of their last datagrams, so nobody is kept that has been silent for too long.
-use Rattle.std.proofs.Common.{◌≡◌, ℕ, zero, suc, ◌-◌, ◌≤◌, ◌<◌, Bool, true, false, cond, List, [], ◌∷◌, ◌++◌, take, length, slice_get, is_some, Option, None, Result, Ok, Err, sym, ap, ◌∙◌, subst, inl, inr, arith}
+use Rattle.std.proofs.Common.{◌≡◌, ℕ, zero, suc, ◌-◌, ◌≤◌, ◌<◌, Bool, true, false, cond, List, [], ◌∷◌, ◌++◌, take, length, slice_get, is_some, Result, Ok, Err, sym, ap, ◌∙◌, subst, inl, inr, arith}
 use Rattle.std.specs.Prelude.{IfSome}
 use Rattle.std.specs.Map.{remove_entry}
 use Rattle.std.specs.declared.net.socket_addr.SocketAddr.{SocketAddr}
-use Rattle.lru.specs.LruCache.{LruCache, last_entry}
+use Rattle.lru.specs.LruCache.{last_entry}
 use Rattle.recording_files.specs.Files.{FilesView}
 use Rattle.recording_files.specs.Periods.{ClockView}
 use Rattle.recording_files.specs.declared.file_report.FileReport.{FileReport}
 use Rattle.recording_files.specs.declared.file_series.NotWritten.{NotWritten}
 use Rattle.recording_files.specs.declared.record_fault.RecordFault.{RecordFault}
-use Rattle.recording_peer.specs.declared.peer_answer.PeerAnswer.{PeerAnswer}
-use Rattle.recording_peers.specs.Kept.{FinishesIf}
-use Rattle.recording_peers.specs.Steps.{Records, first_by, kept_by}
+use Rattle.recording_peers.specs.Steps.{Reception, Records, RecordsBy, first_by, kept_by}
 use Rattle.recording_peers.specs.Table.{same_peer, of_peer, others_for}
 use Rattle.recording_peers.specs.declared.datagram_source.NoDatagram.{NoDatagram}
 use Rattle.recording_peers.specs.declared.datagram_source.NoDatagram.TheVariants.{Tick, Failed}
 use Rattle.recording_peers.specs.declared.peer_state.PeerState.{PeerState}
+use Rattle.recording_peers.specs.declared.peers.Peers.{Peers}
 use Rattle.recording_peers.specs.declared.outcome.Became.{Became}
-use Rattle.recording_peers.specs.declared.outcome.Became.TheVariants.{Recorded, Refused, Ended, NoMemory}
+use Rattle.recording_peers.specs.declared.outcome.Became.TheVariants.{Taken, Ended, NoMemory}
 use Rattle.recording_connections.specs.declared.shared_counts.SharedCounts.{SharedCounts}
 use Rattle.recording_datagrams.specs.Taking.{Arrival, IsProcessedIf}
 use Rattle.recording_datagrams.specs.Turns.{HadTurns}
-use Rattle.recording_datagrams.specs.Rounds.{Round, HadTurnsIf, TakesGiven, TellsAndEnds, IsRound, AreRounds}
+use Rattle.recording_datagrams.specs.Rounds.{Round, HadTurnsIf, TakesGiven, TellsAndEnds, IsRound, AreRounds, FromNone}
 use Rattle.recording_datagrams.specs.Standing.{AreHeard}
 use Rattle.recording_datagrams.specs.declared.datagram_taker.DatagramTaker.{DatagramTaker}
+use Rattle.recording_datagrams.proofs.BehindRounds.{given_idle, taken_second}
+use Rattle.recording_datagrams.proofs.OneStep.{heard_at}
 
 -- the latest first, and none after a second
 abbrev IsInOrder : {F : Type 0} → ℕ → List (SocketAddr × PeerState F) → Type 0
@@ -70,8 +71,8 @@ module _ {F : Type 0} where
       let first = on.0 in let before = o.1.0 in
       (omega arith, on)
 
-  by_answer : (answer : Result PeerAnswer RecordFault) (now most : ℕ) (peer : SocketAddr) (k : PeerState F) (es after : List (SocketAddr × PeerState F)) → IsInOrder now es → k.heard ≡ now → after ≡ kept_by answer most peer k es → IsInOrder now after
-  by_answer (Ok answer) now most peer k es after o h e =
+  by_answer : (answer : Result (Unit {0}) RecordFault) (now most : ℕ) (peer : SocketAddr) (k : PeerState F) (es after : List (SocketAddr × PeerState F)) → IsInOrder now es → k.heard ≡ now → after ≡ kept_by answer most peer k es → IsInOrder now after
+  by_answer (Ok x) now most peer k es after o h e =
       subst (λ (l : List (SocketAddr × PeerState F)). IsInOrder now l) (sym e) ((omega arith, subst (λ n. IsInOrder n (others_for most peer es)) (sym h) (others now most peer es o)))
   by_answer (Err fault) now most peer k es after o h e = subst (λ (l : List (SocketAddr × PeerState F)). IsInOrder now l) (sym e) (others now most peer es o)
 
@@ -81,78 +82,65 @@ module _ {F : Type 0} where
       subst (λ (l : List (SocketAddr × PeerState F)). IsInOrder second l) (sym is) ((omega arith, subst (λ n. IsInOrder n behind) (sym same) o))
   turned (Err fault) second e new behind after h same o is = subst (λ (l : List (SocketAddr × PeerState F)). IsInOrder second l) (sym is) (later e.1.heard second behind h o)
 
-module _ {F : Type 0} (seen : F → FilesView) where
-  same_heard : (is_over : Bool) (old new : PeerState F) (answer : Result (Unit {0}) RecordFault) → FinishesIf is_over seen (record old { refused = None }) new answer → new.heard ≡ old.heard
-  same_heard true old new answer f = f.heard
-  same_heard false old new answer f = ap (λ (k : PeerState F). k.heard) f.1
+module _ {F : Type 0} (seen : F → FilesView) (finishes : F → FileReport → Result (Unit {0}) NotWritten → Type 0) where
+  module _ (made_for : F → SocketAddr → Type 0) (seconds most : ℕ) (r : Reception F) (es after : List (SocketAddr × PeerState F)) where
+    records_by : (became : Became F) → IsInOrder r.second es → RecordsBy seen made_for seconds became most r es after → IsInOrder r.second after
+    records_by NoMemory o t = subst (λ (l : List (SocketAddr × PeerState F)). IsInOrder r.second l) (sym t.same) o
+    records_by Taken o t = by_answer t.answer r.second most r.peer t.new es after o (heard_at seen t.old t.new r.octets r.second t.answer t.takes) t.others
+    records_by (Ended k) o t = by_answer t.answer r.second most r.peer t.new es after o (heard_at seen t.old t.new r.octets r.second t.answer t.takes) t.others
 
-  records : (became : Became F) (leaving : Option (SocketAddr × PeerState F)) (most now : ℕ) (es after : List (SocketAddr × PeerState F)) (peer : SocketAddr) (m : List ℕ) → IsInOrder now es → Records seen became leaving most es after peer m now → IsInOrder now after
-  records NoMemory leaving most now es after peer m o r = subst (λ (l : List (SocketAddr × PeerState F)). IsInOrder now l) (sym r.0.same) o
-  records Recorded leaving most now es after peer m o r = by_answer r.0.answer now most peer r.0.new es after o r.0.takes.heard r.0.others
-  records (Refused fault) leaving most now es after peer m o r = by_answer r.0.answer now most peer r.0.new es after o r.0.takes.heard r.0.others
-  records (Ended k) leaving most now es after peer m o r = by_answer r.0.answer now most peer r.0.new es after o r.0.takes.heard r.0.others
+    records : IsInOrder r.second es → Records seen made_for seconds most r es after → IsInOrder r.second after
+    records o t = records_by r.became o t
 
-  module _ (finishes : F → FileReport → Result (Unit {0}) NotWritten → Type 0) where
-    had_turns : (is_over : Bool) (second : ℕ) (es after : List (SocketAddr × PeerState F)) (lines : List ℕ) → IsInOrder second es → HadTurns seen finishes is_over es after lines → IsInOrder second after
-    had_turns is_over second [] after lines o t = subst (λ (l : List (SocketAddr × PeerState F)). IsInOrder second l) (sym t.0) tt
-    had_turns is_over second (e ∷ es) after lines o t =
-        turned t.4.answer second e t.4.new t.0 after o.0 (same_heard is_over e.1 t.4.new t.4.answer t.4.turn.finishes) (had_turns is_over e.1.heard es t.0 t.1 o.1 t.3) t.4.kept
+  had_turns : (at : ℕ) (is_over : Bool) (second : ℕ) (es after : List (SocketAddr × PeerState F)) (lines : List ℕ) → IsInOrder second es → HadTurns seen finishes at is_over es after lines → IsInOrder second after
+  had_turns at is_over second [] after lines o t = subst (λ (l : List (SocketAddr × PeerState F)). IsInOrder second l) (sym t.0) tt
+  had_turns at is_over second (e ∷ es) after lines o t =
+      turned t.4.turn.answer second e t.4.new t.0 after o.0 t.4.takes.follows.heard (had_turns at is_over e.1.heard es t.0 t.1 o.1 t.3) t.4.kept
 
-    had_turns_if : (is_over : Bool) (second : ℕ) (es after : List (SocketAddr × PeerState F)) (lines : List ℕ) → IsInOrder second es → HadTurnsIf seen finishes is_over es after lines → IsInOrder second after
-    had_turns_if true second es after lines o t = had_turns true second es after lines o t
-    had_turns_if false second es after lines o t = subst (λ (l : List (SocketAddr × PeerState F)). IsInOrder second l) (sym t.0) o
+  had_turns_if : (is_over : Bool) (at second : ℕ) (es after : List (SocketAddr × PeerState F)) (lines : List ℕ) → IsInOrder second es → HadTurnsIf seen finishes is_over at es after lines → IsInOrder second after
+  had_turns_if true at second es after lines o t = had_turns at true second es after lines o t
+  had_turns_if false at second es after lines o t = subst (λ (l : List (SocketAddr × PeerState F)). IsInOrder second l) (sym t.0) o
 
-    takes_if : (may_send : Bool) (before after : LruCache SocketAddr (PeerState F)) (shared then : SharedCounts) (from : SocketAddr) (m : List ℕ) (now : ℕ) (lines : List ℕ) → IsInOrder now before.entries
-        → IsProcessedIf seen finishes before after may_send shared then from m now lines → IsInOrder now after.entries
-    takes_if true before after shared then from m now lines o t = records t.1.became t.1.gone before.cap now before.entries after.entries from m o t.1.records
-    takes_if false before after shared then from m now lines o t = subst (λ (k : LruCache SocketAddr (PeerState F)). IsInOrder now k.entries) (sym t.1) o
+  takes_if : (made_for : F → SocketAddr → Type 0) (may_send : Bool) (before after : Peers F) (shared then : SharedCounts) (from : SocketAddr) (m : List ℕ) (now : ℕ) (lines : List ℕ) → IsInOrder now before.kept.entries
+      → IsProcessedIf seen finishes made_for before after may_send shared then from m now lines → IsInOrder now after.kept.entries
+  takes_if made_for true before after shared then from m now lines o t =
+      records made_for before.reorder before.kept.cap (record { peer = from; octets = m; second = now; became = t.1.became; gone = t.1.gone }) before.kept.entries after.kept.entries o t.1.records
+  takes_if made_for false before after shared then from m now lines o t = subst (λ (k : Peers F). IsInOrder now k.kept.entries) (sym t.1) o
 
-module _ {F P W : Type 0} (seen : F → FilesView) (finishes : F → FileReport → Result (Unit {0}) NotWritten → Type 0) (asked : P → ClockView) where
-  takes_given : (given : Result Arrival NoDatagram) (now : ℕ) (old new : DatagramTaker F P W) (lines : List ℕ) → IsInOrder now old.peers.kept.entries → TakesGiven seen finishes asked given now old new lines → IsInOrder now new.peers.kept.entries
-  takes_given (Ok a) now old new lines o t = takes_if seen finishes a.may_send old.peers.kept new.peers.kept old.unserved new.unserved a.peer a.octets now lines o t.arrives.taken
+module _ {F P W : Type 0} (seen : F → FilesView) (finishes : F → FileReport → Result (Unit {0}) NotWritten → Type 0) (made_for : F → SocketAddr → Type 0) (asked : P → ClockView) where
+  takes_given : (given : Result Arrival NoDatagram) (now : ℕ) (old new : DatagramTaker F P W) (lines : List ℕ) → IsInOrder now old.peers.kept.entries → TakesGiven seen finishes made_for asked given now old new lines → IsInOrder now new.peers.kept.entries
+  takes_given (Ok a) now old new lines o t = takes_if seen finishes made_for a.may_send old.peers new.peers old.unserved new.unserved a.peer a.octets now lines o t.arrives.taken
   takes_given (Err Tick) now old new lines o t = subst (λ (r : DatagramTaker F P W). IsInOrder now r.peers.kept.entries) (sym t.0) o
   takes_given (Err Failed) now old new lines o t = subst (λ (r : DatagramTaker F P W). IsInOrder now r.peers.kept.entries) (sym t.0) o
 
-  same_second : (given : Result Arrival NoDatagram) (now : ℕ) (old new : DatagramTaker F P W) (lines : List ℕ) → TakesGiven seen finishes asked given now old new lines → new.second ≡ old.second
-  same_second (Ok a) now old new lines t = ap (λ (r : DatagramTaker F P W). r.second) t.others
-  same_second (Err Tick) now old new lines t = ap (λ (r : DatagramTaker F P W). r.second) t.0
-  same_second (Err Failed) now old new lines t = ap (λ (r : DatagramTaker F P W). r.second) t.0
-
-  same_idle : (given : Result Arrival NoDatagram) (now : ℕ) (old new : DatagramTaker F P W) (lines : List ℕ) → TakesGiven seen finishes asked given now old new lines → new.idle ≡ old.idle
-  same_idle (Ok a) now old new lines t = ap (λ (r : DatagramTaker F P W). r.idle) t.others
-  same_idle (Err Tick) now old new lines t = ap (λ (r : DatagramTaker F P W). r.idle) t.0
-  same_idle (Err Failed) now old new lines t = ap (λ (r : DatagramTaker F P W). r.idle) t.0
-
-  ends_in_order : (now : ℕ) (old new : DatagramTaker F P W) (lines : List ℕ) → IsInOrder now old.peers.kept.entries → TellsAndEnds seen finishes asked now old new lines → IsInOrder now new.peers.kept.entries
+  ends_in_order : (now : ℕ) (old new : DatagramTaker F P W) (lines : List ℕ) → IsInOrder now old.peers.kept.entries → TellsAndEnds seen finishes made_for asked now old new lines → IsInOrder now new.peers.kept.entries
   ends_in_order now old new lines o t =
-      let turned = had_turns seen finishes false now old.peers.kept.entries t.between t.told o t.turns in
+      let turned = had_turns seen finishes now false now old.peers.kept.entries t.between t.told o t.turns in
       front now new.peers.kept.entries t.silent.gone (subst (λ (l : List (SocketAddr × PeerState F)). IsInOrder now l) t.silent.those turned)
 
-  before_end : (r : Round) (old new : DatagramTaker F P W) → IsInOrder old.second old.peers.kept.entries → (is : IsRound seen finishes asked r old new) → IsInOrder r.second is.taken.peers.kept.entries
+  before_end : (r : Round) (old new : DatagramTaker F P W) → IsInOrder old.second old.peers.kept.entries → (is : IsRound seen finishes made_for asked r old new) → IsInOrder r.second is.taken.peers.kept.entries
   before_end r old new o is =
-      let kept = had_turns_if seen finishes r.is_over r.second old.peers.kept.entries is.kept.peers.kept.entries is.kept_lines (later old.second r.second old.peers.kept.entries is.forward o) is.keeps.turns in
+      let first = later old.second r.second old.peers.kept.entries is.forward o in
+      let kept = had_turns_if seen finishes r.is_over r.second r.second old.peers.kept.entries is.kept.peers.kept.entries is.kept_lines first is.keeps.turns in
       takes_given r.given r.second is.kept is.taken is.taken_lines kept is.takes
 
-  at_second : (r : Round) (old new : DatagramTaker F P W) → (is : IsRound seen finishes asked r old new) → is.taken.second ≡ old.second
-  at_second r old new is = same_second r.given r.second is.kept is.taken is.taken_lines is.takes ∙ ap (λ (x : DatagramTaker F P W). x.second) is.keeps.others
-
-  round_in_order : (r : Round) (old new : DatagramTaker F P W) → IsInOrder old.second old.peers.kept.entries → IsRound seen finishes asked r old new → IsInOrder new.second new.peers.kept.entries
+  round_in_order : (r : Round) (old new : DatagramTaker F P W) → IsInOrder old.second old.peers.kept.entries → IsRound seen finishes made_for asked r old new → IsInOrder new.second new.peers.kept.entries
   round_in_order r old new o is = elim is.goes_on [
     | inl same ↦ subst (λ (x : DatagramTaker F P W). IsInOrder x.second x.peers.kept.entries) (sym same.1) (later r.second is.taken.second is.taken.peers.kept.entries same.0 (before_end r old new o is))
     | inr ends ↦ subst (λ n. IsInOrder n new.peers.kept.entries) (sym (ap (λ (x : DatagramTaker F P W). x.second) ends.1.others)) (ends_in_order r.second is.taken new is.last_lines (before_end r old new o is) ends.1)
   ]
 
-  rounds_in_order : (rs : List Round) (old new : DatagramTaker F P W) → IsInOrder old.second old.peers.kept.entries → AreRounds seen finishes asked rs old new → IsInOrder new.second new.peers.kept.entries
+  rounds_in_order : (rs : List Round) (old new : DatagramTaker F P W) → IsInOrder old.second old.peers.kept.entries → AreRounds seen finishes made_for asked rs old new → IsInOrder new.second new.peers.kept.entries
   rounds_in_order [] old new o are = subst (λ (x : DatagramTaker F P W). IsInOrder x.second x.peers.kept.entries) (sym are) o
   rounds_in_order (r ∷ rs) old new o are = rounds_in_order rs are.0 new (round_in_order r old are.0 o are.1) are.2
 
-  pub nobody_silent : (rs : List Round) (r : Round) (old mid new : DatagramTaker F P W) → old.peers.kept.entries ≡ [] → AreRounds seen finishes asked rs old mid → IsRound seen finishes asked r mid new → mid.second < r.second
-      → AreHeard (r.second - mid.idle) new.peers.kept.entries
-  nobody_silent rs r old mid new none are is h =
-      let first : IsInOrder old.second old.peers.kept.entries = subst (λ (l : List (SocketAddr × PeerState F)). IsInOrder old.second l) (sym none) tt in
-      let o = before_end r mid new (rounds_in_order rs old mid first are) is in
-      let at = at_second r mid new is in
-      let idle : is.taken.idle ≡ mid.idle = same_idle r.given r.second is.kept is.taken is.taken_lines is.takes ∙ ap (λ (x : DatagramTaker F P W). x.idle) is.keeps.others in
+  pub nobody_silent : (run : FromNone W seen finishes made_for asked) (r : Round) (new : DatagramTaker F P W) → IsRound seen finishes made_for asked r run.new new → run.new.second < r.second → AreHeard (r.second - run.new.idle) new.peers.kept.entries
+  nobody_silent run r new is h =
+      let mid = run.new in
+      let first : IsInOrder run.old.second run.old.peers.kept.entries = subst (λ (l : List (SocketAddr × PeerState F)). IsInOrder run.old.second l) (sym run.none) tt in
+      let o = before_end r mid new (rounds_in_order run.rounds run.old mid first run.are) is in
+      let at = taken_second seen finishes made_for asked r mid new is in
+      let idle : is.taken.idle ≡ mid.idle = given_idle seen finishes made_for asked r.given r.second is.kept is.taken is.taken_lines is.takes ∙ ap (λ (x : DatagramTaker F P W). x.idle) is.keeps.others in
       elim is.goes_on [
         | inl same ↦ let early = same.0 in absurd (omega arith)
         | inr ends ↦ subst (λ n. AreHeard (r.second - n) new.peers.kept.entries) idle

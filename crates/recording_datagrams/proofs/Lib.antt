@@ -1,6 +1,8 @@
-mod Told
-mod GoingOver
-mod RoundLemmas
-mod OwnDatagrams
-mod HeardLast
 mod AllOwn
+mod BehindRounds
+mod GoingOver
+mod HeardLast
+mod OneStep
+mod OwnHappenings
+mod RoundLemmas
+mod Told

@@ -4,6 +4,7 @@ use Rattle.std.specs.Result.{result_and}
 use Rattle.report_writing.specs.Writing.{Tells}
 use Rattle.std.proofs.lemmas.Grind.{flat_map-append}
 use Rattle.std.proofs.lemmas.List.{map-append}
+use Rattle.std.specs.declared.net.socket_addr.SocketAddr.{SocketAddr}
 use Rattle.recording_files.specs.Files.{FilesView}
 use Rattle.recording_files.specs.Periods.{ClockView}
 use Rattle.recording_files.specs.declared.file_report.FileReport.{FileReport}
@@ -38,17 +39,17 @@ lines-push rs r = flat_map-append (λ (x : Round). x.lines) rs (r ∷ []) ∙ ap
 
 -- ---- what they did
 
-module _ {F P W : Type 0} (seen : F → FilesView) (finishes : F → FileReport → Result (Unit {0}) NotWritten → Type 0) (asked : P → ClockView) where
-  rounds-push : (rs : List Round) (r : Round) (old mid new : DatagramTaker F P W) → AreRounds seen finishes asked rs old mid → IsRound seen finishes asked r mid new → AreRounds seen finishes asked (rs ++ r ∷ []) old new
-  rounds-push [] r old mid new are is = (new, subst (λ (x : DatagramTaker F P W). IsRound seen finishes asked r x new) are is, refl)
+module _ {F P W : Type 0} (seen : F → FilesView) (finishes : F → FileReport → Result (Unit {0}) NotWritten → Type 0) (made_for : F → SocketAddr → Type 0) (asked : P → ClockView) where
+  rounds-push : (rs : List Round) (r : Round) (old mid new : DatagramTaker F P W) → AreRounds seen finishes made_for asked rs old mid → IsRound seen finishes made_for asked r mid new → AreRounds seen finishes made_for asked (rs ++ r ∷ []) old new
+  rounds-push [] r old mid new are is = (new, subst (λ (x : DatagramTaker F P W). IsRound seen finishes made_for asked r x new) are is, refl)
   rounds-push (q ∷ rs) r old mid new are is = (are.0, are.1, rounds-push rs r are.0 mid new are.2 is)
 
-  pub no_rounds : {D A : Type 0} (answered : D → List Answer → Type 0) (contents : W → Option (List ℕ)) (has_failed : W → Type 0) (source : D) (old : DatagramTaker F P W) → TakesRounds seen finishes asked {A = A} answered contents has_failed 0 source source old old (Ok tt)
+  pub no_rounds : {D A : Type 0} (answered : D → List Answer → Type 0) (contents : W → Option (List ℕ)) (has_failed : W → Type 0) (source : D) (old : DatagramTaker F P W) → TakesRounds seen finishes made_for asked {A = A} answered contents has_failed 0 source source old old (Ok tt)
   no_rounds answered contents has_failed source old = record { rounds = []; as_many = refl; are = refl; given = gives_none answered source; told = tells_nothing }
 
   pub one_more_round : {D A : Type 0} (answered : D → List Answer → Type 0) (contents : W → Option (List ℕ)) (has_failed : W → Type 0) (count : ℕ) (before between after : D) (old mid new : DatagramTaker F P W) (told answer : Result (Unit {0}) A)
-      → TakesRounds seen finishes asked answered contents has_failed count before between old mid told → TakesRound seen finishes asked answered contents has_failed between after mid new answer
-      → TakesRounds seen finishes asked answered contents has_failed (count + 1) before after old new (result_and told answer)
+      → TakesRounds seen finishes made_for asked answered contents has_failed count before between old mid told → TakesRound seen finishes made_for asked answered contents has_failed between after mid new answer
+      → TakesRounds seen finishes made_for asked answered contents has_failed (count + 1) before after old new (result_and told answer)
   one_more_round answered contents has_failed count before between after old mid new told answer rs r =
       let many = rs.as_many in
       record {

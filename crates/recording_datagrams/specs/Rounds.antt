@@ -7,6 +7,7 @@ use Rattle.recording_files.specs.Periods.{ClockView, IsAnswer}
 use Rattle.recording_files.specs.declared.file_report.FileReport.{FileReport}
 use Rattle.recording_files.specs.declared.file_series.NotWritten.{NotWritten}
 use Rattle.recording_peers.specs.Answers.{Answer, Gives}
+use Rattle.recording_peers.specs.Steps.{KeepsLimits}
 use Rattle.recording_peers.specs.declared.datagram_source.NoDatagram.{NoDatagram}
 use Rattle.recording_peers.specs.declared.datagram_source.NoDatagram.TheVariants.{Tick, Failed}
 use Rattle.recording_peers.specs.declared.peer_state.PeerState.{PeerState}
@@ -47,21 +48,22 @@ one_not_received shared = record shared { not_accepted = one_more shared.not_acc
 
 module _ {F : Type 0} (seen : F → FilesView) (finishes : F → FileReport → Result (Unit {0}) NotWritten → Type 0) where
   -- if a period is over all peers have their turn, and else nothing changes
-  abbrev pub HadTurnsIf : Bool → List (SocketAddr × PeerState F) → List (SocketAddr × PeerState F) → List ℕ → Type 0
-  HadTurnsIf true es after lines = HadTurns seen finishes true es after lines
-  HadTurnsIf false es after lines = (after ≡ es) × (lines ≡ [])
+  abbrev pub HadTurnsIf : Bool → ℕ → List (SocketAddr × PeerState F) → List (SocketAddr × PeerState F) → List ℕ → Type 0
+  HadTurnsIf true second es after lines = HadTurns seen finishes second true es after lines
+  HadTurnsIf false second es after lines = (after ≡ es) × (lines ≡ [])
 
-module _ {F P W : Type 0} (seen : F → FilesView) (finishes : F → FileReport → Result (Unit {0}) NotWritten → Type 0) (asked : P → ClockView) where
+module _ {F P W : Type 0} (seen : F → FilesView) (finishes : F → FileReport → Result (Unit {0}) NotWritten → Type 0) (made_for : F → SocketAddr → Type 0)
+    (asked : P → ClockView) where
   -- the clock of the place is asked once
-  pub record KeepsToPeriods (is_over : Bool) (old new : DatagramTaker F P W) (lines : List ℕ) : Type 0 where
+  pub record KeepsToPeriods (is_over : Bool) (now : ℕ) (old new : DatagramTaker F P W) (lines : List ℕ) : Type 0 where
     pub answer : IsAnswer (asked old.place) is_over (asked new.place)
-    pub turns : HadTurnsIf seen finishes is_over old.peers.kept.entries new.peers.kept.entries lines
-    pub room : new.peers.kept.cap ≡ old.peers.kept.cap
+    pub turns : HadTurnsIf seen finishes is_over now old.peers.kept.entries new.peers.kept.entries lines
+    pub limits : KeepsLimits old.peers new.peers
     pub others : new ≡ record old { peers = new.peers; place = new.place; out = new.out }
 
   -- a datagram is taken under its peer
   pub record TakesArrival (a : Arrival) (now : ℕ) (old new : DatagramTaker F P W) (lines : List ℕ) : Type 0 where
-    pub arrives : Arrives seen finishes old.peers.kept new.peers.kept old.filter.now old.unserved new.unserved a now lines
+    pub arrives : Arrives seen finishes made_for old.peers new.peers old.filter.now old.unserved new.unserved a now lines
     pub others : new ≡ record old { peers = new.peers; place = new.place; unserved = new.unserved; out = new.out }
 
   -- what the source gave is taken; a failure is counted
@@ -75,11 +77,11 @@ module _ {F P W : Type 0} (seen : F → FilesView) (finishes : F → FileReport 
   pub record TellsAndEnds (now : ℕ) (old new : DatagramTaker F P W) (lines : List ℕ) : Type 0 where
     pub between : List (SocketAddr × PeerState F)
     pub told : List ℕ
-    pub turns : HadTurns seen finishes false old.peers.kept.entries between told
+    pub turns : HadTurns seen finishes now false old.peers.kept.entries between told
     pub ended : List ℕ
-    pub silent : EndsSilent finishes (now - old.idle) between new.peers.kept.entries ended
+    pub silent : EndsSilent seen finishes (now - old.idle) between new.peers.kept.entries ended
     pub lines_are : lines ≡ told ++ (ended ++ unserved_lines old.unserved)
-    pub room : new.peers.kept.cap ≡ old.peers.kept.cap
+    pub limits : KeepsLimits old.peers new.peers
     pub others : new ≡ record old { second = now; peers = new.peers; unserved = none_unserved old.unserved; out = new.out }
 
   -- the second never goes back
@@ -91,7 +93,7 @@ module _ {F P W : Type 0} (seen : F → FilesView) (finishes : F → FileReport 
     pub forward : old.second ≤ r.second
     pub kept : DatagramTaker F P W
     pub kept_lines : List ℕ
-    pub keeps : KeepsToPeriods r.is_over old kept kept_lines
+    pub keeps : KeepsToPeriods r.is_over r.second old kept kept_lines
     pub taken : DatagramTaker F P W
     pub taken_lines : List ℕ
     pub takes : TakesGiven r.given r.second kept taken taken_lines
@@ -121,3 +123,12 @@ module _ {F P W : Type 0} (seen : F → FilesView) (finishes : F → FileReport 
     pub are : AreRounds rounds old new
     pub given : Gives answered (answers_of rounds) before after
     pub told : Tells contents has_failed old.out new.out answer (lines_of rounds)
+
+-- rounds, before the first of which no peer was kept
+pub record FromNone {F P : Type 0} (W : Type 0) (seen : F → FilesView) (finishes : F → FileReport → Result (Unit {0}) NotWritten → Type 0) (made_for : F → SocketAddr → Type 0)
+    (asked : P → ClockView) : Type 0 where
+  pub rounds : List Round
+  pub old : DatagramTaker F P W
+  pub new : DatagramTaker F P W
+  pub none : old.peers.kept.entries ≡ []
+  pub are : AreRounds seen finishes made_for asked rounds old new

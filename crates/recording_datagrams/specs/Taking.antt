@@ -2,16 +2,16 @@
 use Rattle.std.specs.Prelude.{◌≡◌, ◌↔◌, ℕ, Bool, true, false, IsTrue, List, [], ◌++◌, Option, Some, None, Result}
 use Rattle.std.specs.Net.Socket.{socket_ip}
 use Rattle.std.specs.declared.net.socket_addr.SocketAddr.{SocketAddr}
-use Rattle.lru.specs.LruCache.{LruCache}
 use Rattle.ipfix_message.specs.declared.fault.MessageFault.TheVariants.{OutOfMemory}
 use Rattle.recording_files.specs.Files.{FilesView}
 use Rattle.recording_files.specs.declared.file_report.FileReport.{FileReport}
 use Rattle.recording_files.specs.declared.file_series.NotWritten.{NotWritten}
 use Rattle.recording_files.specs.declared.record_fault.RecordFault.TheVariants as faults
-use Rattle.recording_peers.specs.Steps.{Records}
+use Rattle.recording_peers.specs.Steps.{KeepsLimits, Records}
 use Rattle.recording_peers.specs.declared.peer_state.PeerState.{PeerState}
+use Rattle.recording_peers.specs.declared.peers.Peers.{Peers}
 use Rattle.recording_peers.specs.declared.outcome.Became.{Became}
-use Rattle.recording_peers.specs.declared.outcome.Became.TheVariants.{Recorded, Refused, Ended, NoMemory}
+use Rattle.recording_peers.specs.declared.outcome.Became.TheVariants.{Taken, Ended, NoMemory}
 use Rattle.network_prefixes.specs.Peers.{LetsIn}
 use Rattle.recording_connections.specs.Refusals.{one_more_refused}
 use Rattle.recording_connections.specs.Serving.{fault_line}
@@ -30,31 +30,31 @@ pub record Arrival : Type 0 where
 abbrev pub one_turned_away : SharedCounts → SocketAddr → SharedCounts
 one_turned_away shared from = record shared { refused = Some (one_more_refused shared.refused from) }
 
-module _ {F : Type 0} (finishes : F → FileReport → Result (Unit {0}) NotWritten → Type 0) where
+module _ {F : Type 0} (seen : F → FilesView) (finishes : F → FileReport → Result (Unit {0}) NotWritten → Type 0) where
   -- the session of a peer that went ends, with these lines
   abbrev pub EvictedLines : Option (SocketAddr × PeerState F) → List ℕ → Type 0
   EvictedLines None lines = lines ≡ []
-  EvictedLines (Some gone) lines = Ends finishes gone.0 gone.1 (Some LongestSilent) lines
+  EvictedLines (Some gone) lines = Ends seen finishes gone.0 gone.1 (Some LongestSilent) lines
 
-  -- the lines of what became of a datagram: of one that was recorded none; refused ones are told later
+  -- the lines of what became of a datagram: of one that was taken none; refused and doubled ones are told later
   abbrev pub OutcomeLines : SocketAddr → Became F → List ℕ → Type 0
-  OutcomeLines peer Recorded lines = lines ≡ []
-  OutcomeLines peer (Refused fault) lines = lines ≡ []
-  OutcomeLines peer (Ended kept) lines = Ends finishes peer kept None lines
+  OutcomeLines peer Taken lines = lines ≡ []
+  OutcomeLines peer (Ended kept) lines = Ends seen finishes peer kept None lines
   OutcomeLines peer NoMemory lines = lines ≡ fault_line peer (faults.Message OutOfMemory)
 
-module _ {F : Type 0} (seen : F → FilesView) (finishes : F → FileReport → Result (Unit {0}) NotWritten → Type 0)
-    (before after : LruCache SocketAddr (PeerState F)) where
-  -- a datagram was recorded or refused among the peers that are kept, and what went or ended at that was finished and told
+module _ {F : Type 0} (seen : F → FilesView) (finishes : F → FileReport → Result (Unit {0}) NotWritten → Type 0) (made_for : F → SocketAddr → Type 0)
+    (before after : Peers F) where
+  -- a datagram was taken among the peers that are kept, and what went or ended at that was finished and told
   pub record IsProcessed (from : SocketAddr) (m : List ℕ) (now : ℕ) (lines : List ℕ) : Type 0 where
     pub became : Became F
     pub gone : Option (SocketAddr × PeerState F)
-    pub records : Records seen became gone before.cap before.entries after.entries from m now
-    pub room : after.cap ≡ before.cap
+    pub records : Records seen made_for before.reorder before.kept.cap (record { peer = from; octets = m; second = now; became = became; gone = gone })
+        before.kept.entries after.kept.entries
+    pub limits : KeepsLimits before after
     pub gone_lines : List ℕ
-    pub goes : EvictedLines finishes gone gone_lines
+    pub goes : EvictedLines seen finishes gone gone_lines
     pub own_lines : List ℕ
-    pub becomes : OutcomeLines finishes from became own_lines
+    pub becomes : OutcomeLines seen finishes from became own_lines
     pub lines_are : lines ≡ gone_lines ++ own_lines
 
   -- one of a peer that may send is taken; of another it is counted that it came, and no more

@@ -1,51 +1,53 @@
 -- What is done with all peers now and then, and the lines that tell of it.
-use Rattle.std.specs.Prelude.{◌≡◌, ◌<◌, ◌≤◌, ◌-◌, ℕ, zero, suc, Bool, List, [], ◌∷◌, ◌++◌, length, take, Option, Some, None, Result, IfSome}
+use Rattle.std.specs.Prelude.{◌≡◌, ◌<◌, ◌≤◌, ℕ, zero, suc, Bool, List, [], ◌∷◌, ◌++◌, Option, Some, None, Result, IfSome}
 use Rattle.std.specs.declared.net.socket_addr.SocketAddr.{SocketAddr}
 use Rattle.lru.specs.LruCache.{last_entry}
 use Rattle.recording_files.specs.Files.{FilesView}
 use Rattle.recording_files.specs.declared.file_report.FileReport.{FileReport}
 use Rattle.recording_files.specs.declared.file_series.NotWritten.{NotWritten}
-use Rattle.recording_files.specs.declared.record_fault.RecordFault.{RecordFault}
-use Rattle.recording_peers.specs.Kept.{TakesTurn}
+use Rattle.recording_order.specs.declared.order_counts.OrderCounts.{OrderCounts}
+use Rattle.recording_peers.specs.Calls.{TakesTurn}
 use Rattle.recording_peers.specs.Steps.{GoesOn, ended_by, first_by}
+use Rattle.recording_peers.specs.Table.{others_than_last}
 use Rattle.recording_peers.specs.declared.in_turn.InTurn.{InTurn}
 use Rattle.recording_peers.specs.declared.peer_state.PeerState.{PeerState}
+use Rattle.recording_peers.specs.declared.turn.Turn.{Turn}
 use Rattle.recording_peers.specs.declared.refusals.Refusals.{Refusals}
 use Rattle.recording_lines.specs.RecordLines.{not_received_line, turned_away_line}
 use Rattle.recording_connections.specs.declared.shared_counts.SharedCounts.{SharedCounts}
 use Rattle.recording_connections.specs.declared.shared_counts.RefusedPeers.{RefusedPeers}
-use Rattle.recording_datagrams.specs.Ending.{Ends, refusal_lines}
+use Rattle.recording_datagrams.specs.Ending.{Ends, order_lines, refusal_lines}
 use Rattle.recording_datagrams.specs.declared.ending.EndCause.TheVariants.{Idle}
 
 -- ---- turns
 
-module _ {F : Type 0} (finishes : F → FileReport → Result (Unit {0}) NotWritten → Type 0) where
+module _ {F : Type 0} (seen : F → FilesView) (finishes : F → FileReport → Result (Unit {0}) NotWritten → Type 0) where
   -- a session that ended with a fault in its turn, if it did, is finished with these lines
   abbrev pub EndedLines : SocketAddr → Option (PeerState F) → List ℕ → Type 0
   EndedLines peer None lines = lines ≡ []
-  EndedLines peer (Some kept) lines = Ends finishes peer kept None lines
+  EndedLines peer (Some kept) lines = Ends seen finishes peer kept None lines
 
-  -- a peer's refused datagrams are told, and what ended it
-  pub record IsTurnTold (peer : SocketAddr) (refused : Option Refusals) (ended : Option (PeerState F)) (lines : List ℕ) : Type 0 where
+  -- a peer's refused datagrams are told, how many were doubled and reordered, and what ended it
+  pub record IsTurnTold (peer : SocketAddr) (refused : Option Refusals) (orders : List OrderCounts) (ended : Option (PeerState F)) (lines : List ℕ) : Type 0 where
     pub fall : List ℕ
     pub falls : EndedLines peer ended fall
-    pub lines_are : lines ≡ refusal_lines peer refused ++ fall
+    pub lines_are : lines ≡ refusal_lines peer refused ++ (order_lines peer orders ++ fall)
 
-module _ {F : Type 0} (seen : F → FilesView) (finishes : F → FileReport → Result (Unit {0}) NotWritten → Type 0) (is_over : Bool) where
+-- as a second began, and a period may be over
+module _ {F : Type 0} (seen : F → FilesView) (finishes : F → FileReport → Result (Unit {0}) NotWritten → Type 0) (second : ℕ) (is_over : Bool) where
   -- the peer that was silent for longest had its turn
   pub record IsTurn (before after : List (SocketAddr × PeerState F)) (lines : List ℕ) : Type 0 where
     pub turn : InTurn F
-    pub goes_on : GoesOn seen is_over before after turn
-    pub is_told : IsTurnTold finishes turn.peer turn.refused turn.ended lines
+    pub goes_on : GoesOn seen second is_over before after turn
+    pub is_told : IsTurnTold seen finishes turn.peer turn.refused turn.orders.items turn.ended lines
 
   -- a peer had its turn after others of which these are kept: it is kept before them, unless its session ended
   pub record HadTurn (e : SocketAddr × PeerState F) (others after : List (SocketAddr × PeerState F)) (lines : List ℕ) : Type 0 where
     pub new : PeerState F
-    pub refused : Option Refusals
-    pub answer : Result (Unit {0}) RecordFault
-    pub turn : TakesTurn seen is_over e.1 new refused answer
-    pub kept : after ≡ first_by answer e.0 new others
-    pub is_told : IsTurnTold finishes e.0 refused (ended_by answer new) lines
+    pub turn : Turn
+    pub takes : TakesTurn seen e.1 new second is_over turn
+    pub kept : after ≡ first_by turn.answer e.0 new others
+    pub is_told : IsTurnTold seen finishes e.0 turn.refused turn.orders.items (ended_by turn.answer new) lines
 
   -- each of these peers had one turn, the last one first, and they are kept in their order
   abbrev pub HadTurns : List (SocketAddr × PeerState F) → List (SocketAddr × PeerState F) → List ℕ → Type 0
@@ -56,17 +58,17 @@ module _ {F : Type 0} (seen : F → FilesView) (finishes : F → FileReport → 
 
 -- ---- silent peers
 
-module _ {F : Type 0} (finishes : F → FileReport → Result (Unit {0}) NotWritten → Type 0) (since : ℕ) where
+module _ {F : Type 0} (seen : F → FilesView) (finishes : F → FileReport → Result (Unit {0}) NotWritten → Type 0) (since : ℕ) where
   -- a peer whose last datagram came before then: its session ends with these lines
   pub record IsSilent (e : SocketAddr × PeerState F) (lines : List ℕ) : Type 0 where
     pub silent : e.1.heard < since
-    pub ends : Ends finishes e.0 e.1 (Some Idle) lines
+    pub ends : Ends seen finishes e.0 e.1 (Some Idle) lines
 
   -- the peer that was silent for longest goes
   pub record EndsOneSilent (before after : List (SocketAddr × PeerState F)) (lines : List ℕ) : Type 0 where
     pub gone : SocketAddr × PeerState F
     pub last : last_entry before ≡ Some gone
-    pub others : after ≡ take (length before - 1) before
+    pub others : after ≡ others_than_last before
     pub is_silent : IsSilent gone lines
 
   -- all of these, the last one first

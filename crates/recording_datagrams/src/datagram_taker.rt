@@ -45,21 +45,21 @@ impl<
     ghost use Rattle.recording_datagrams.specs.Rounds.{KeepsToSeconds, KeepsToPeriods, TakesArrival, TakesGiven, TellsAndEnds, answer_in};
     ghost use Rattle.recording_datagrams.specs.Taking.{Arrival};
 
-    /// Finishes the files of all peers, if the period of the place is over.
-    pub fn keep_to_periods(&mut self) -> io::Result<()>
+    /// All peers have their turn, in which their files are finished, if the period of the place is over.
+    pub fn keep_to_periods(&mut self, now: u64) -> io::Result<()>
         ensures { (is_over : Bool) × TellsSome W.contents W.failed self.old.out self.new.out result
-            (KeepsToPeriods F.seen F.finishes P.asked is_over self.old self.new) }
+            (KeepsToPeriods F.seen F.finishes P.made_for P.asked is_over now self.old self.new) }
     {
         if self.place.is_over() {
-            go_over(&mut self.peers, true, &mut self.out)
+            go_over(self.alloc, &mut self.peers, now, true, &mut self.out)
         } else {
             Ok(())
         }
     }
 
     /// Takes what a source gave into a buffer, in a second. A datagram of a peer that may not send is counted,
-    /// and nothing more; another is recorded or refused, as `Peers::record` does, and each session that ends at that is
-    /// told. That none could be received is counted.
+    /// and nothing more; another is taken, as `Peers::record` does, and each session that ends at that is told. That
+    /// none could be received is counted.
     pub fn take(
         &mut self,
         received: Result<Datagram, NoDatagram>,
@@ -70,7 +70,7 @@ impl<
         ensures { (given : Result Arrival NoDatagram)
             × (answer_in given ≡ answer_of received buffer.now)
             × TellsSome W.contents W.failed self.old.out self.new.out result
-            (TakesGiven F.seen F.finishes P.asked given now self.old self.new) }
+            (TakesGiven F.seen F.finishes P.made_for P.asked given now self.old self.new) }
     {
         match received {
             Ok(Datagram { length, peer }) => self.take_from(peer, &buffer[..length], now),
@@ -82,12 +82,12 @@ impl<
         }
     }
 
-    // Takes a datagram of a peer. If the peer may not send it is counted, and nothing more. Otherwise it is recorded or
-    // refused, as `Peers::record` does, and each session that ends at that is reported; without memory to begin a session
-    // that is told as its fault.
+    // Takes a datagram of a peer. If the peer may not send it is counted, and nothing more. Otherwise it is taken, as
+    // `Peers::record` does, and each session that ends at that is reported; without memory to begin a session that is
+    // told as its fault.
     fn take_from(&mut self, from: SocketAddr, datagram: &[u8], now: u64) -> io::Result<()>
         ensures { (may_send : Bool) × TellsSome W.contents W.failed self.old.out self.new.out result
-            (TakesArrival F.seen F.finishes P.asked
+            (TakesArrival F.seen F.finishes P.made_for P.asked
             (record { peer = from; octets = datagram.now; may_send = may_send })
             now self.old self.new) }
     {
@@ -106,11 +106,11 @@ impl<
         )
     }
 
-    /// Goes on to a second. If it is a new one, what was refused is told, and the sessions of peers end that
-    /// have been silent for longer than they may be.
+    /// Goes on to a second. If it is a new one, all peers have their turn, and the sessions of peers end that have
+    /// been silent for longer than they may be.
     pub fn go_on_to(&mut self, now: u64) -> io::Result<()>
         ensures { TellsSome W.contents W.failed self.old.out self.new.out result
-            (KeepsToSeconds F.seen F.finishes P.asked now self.old self.new) }
+            (KeepsToSeconds F.seen F.finishes P.made_for P.asked now self.old self.new) }
     {
         if now <= self.second {
             return Ok(());
@@ -118,15 +118,15 @@ impl<
         self.tell_and_end(now)
     }
 
-    // Tells what was refused, and ends the sessions of peers that have been silent for too long.
+    // All peers have their turn, and the sessions of those end that have been silent for too long.
     fn tell_and_end(&mut self, now: u64) -> io::Result<()>
         ensures { TellsSome W.contents W.failed self.old.out self.new.out result
-            (TellsAndEnds F.seen F.finishes P.asked now self.old self.new) }
+            (TellsAndEnds F.seen F.finishes P.made_for P.asked now self.old self.new) }
     {
         self.second = now;
-        let told = go_over(&mut self.peers, false, &mut self.out);
+        let told = go_over(self.alloc, &mut self.peers, now, false, &mut self.out);
         let since = now.saturating_sub(self.idle);
-        let ended = end_silent(&mut self.peers, since, &mut self.out);
+        let ended = end_silent(self.alloc, &mut self.peers, since, &mut self.out);
         let unserved = tell_unserved(&mut self.unserved, &mut self.out);
         told.and(ended.and(unserved))
     }

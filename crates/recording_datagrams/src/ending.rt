@@ -2,15 +2,17 @@
 
 ghost use Rattle.std.specs.Prelude.{◌≡◌, ◌++◌};
 ghost use Rattle.report_writing.specs.Writing.{Tells};
-ghost use Rattle.recording_datagrams.specs.Ending.{advance_lines, cause_lines, ending_lines, Ends, refusal_lines, TellsSome, text_of, told_lines};
+ghost use Rattle.recording_datagrams.specs.Ending.{advance_lines, cause_lines, counted_lines, domain_order_lines, ending_lines, Ends, IsReleasedFor, order_lines, refusal_lines, TellsSome, text_of, told_lines};
 
 use ipfix_datagrams::{DomainAdvance, SequenceAdvances};
 use recording_connections::{RecordingFiles, write_session};
 use recording_files::NotWritten;
-use recording_lines::{write_advance, write_peer_ended, write_refused_datagrams};
+use recording_lines::{write_advance, write_order, write_peer_ended, write_refused_datagrams};
+use recording_order::{OrderCounts, Window};
 use recording_peer::PeerSession;
 use recording_peers::{PeerState, Refusals};
 use report_writing::WriteLines;
+use std::alloc::Global;
 use std::io;
 use std::net::SocketAddr;
 
@@ -35,43 +37,124 @@ impl EndCause {
     }
 }
 
-/// Ends a peer's session: finishes its last file with its report, and tells what was refused of it, why it
-/// ends if it has no fault, how far its sequence numbers advanced beside the records that came, what its
-/// ledger says, and its faults.
+/// Ends a peer's session: records what waits of it, finishes its last file with its report, and tells what was
+/// refused of it, how many datagrams were doubled and reordered, why it ends if it has no fault, how far its
+/// sequence numbers advanced beside the records that came, what its ledger says, and its faults.
 pub fn end_peer<F: RecordingFiles, W: WriteLines>(
+    alloc: Global,
     peer: SocketAddr,
     kept: PeerState<F>,
     cause: Option<EndCause>,
     out: &mut W,
 ) -> io::Result<()>
     ensures { TellsSome W.contents W.failed out.old out.new result
-        (Ends F.finishes peer kept cause) }
+        (Ends F.seen F.finishes peer kept cause) }
 {
     let PeerState {
         recorder,
         files,
         heard: _,
         refused,
-    } = kept;
+        window,
+    } = released(alloc, kept, cause);
     let session = recorder.into_session();
     let finished = files.finish(&session.session.last);
-    tell_end(peer, refused, cause, &session, finished, out)
+    tell_end(peer, refused, &window, cause, &session, finished, out)
+}
+
+// The session, after what waits of it is recorded. One that ended with a fault records nothing more.
+fn released<F: RecordingFiles>(
+    alloc: Global,
+    kept: PeerState<F>,
+    cause: Option<EndCause>,
+) -> PeerState<F>
+    ensures { IsReleasedFor F.seen cause kept result }
+{
+    let mut kept = kept;
+    if cause.is_some() {
+        // (a fault of this is the session's, which tells it)
+        let _ = kept.release(alloc);
+    }
+    kept
 }
 
 // Tells all of that.
 fn tell_end<W: WriteLines>(
     peer: SocketAddr,
     refused: Option<Refusals>,
+    window: &Window,
     cause: Option<EndCause>,
     session: &PeerSession,
     finished: Result<(), NotWritten>,
     out: &mut W,
 ) -> io::Result<()>
     ensures { Tells W.contents W.failed out.old out.new result
-        (ending_lines peer refused cause session.now finished) }
+        (ending_lines peer refused window.now cause session.now finished) }
 {
     tell_refusals(peer, refused, out)?;
+    tell_ordered(peer, window, cause, session, finished, out)
+}
+
+// Tells how many datagrams were doubled and reordered, and the rest.
+fn tell_ordered<W: WriteLines>(
+    peer: SocketAddr,
+    window: &Window,
+    cause: Option<EndCause>,
+    session: &PeerSession,
+    finished: Result<(), NotWritten>,
+    out: &mut W,
+) -> io::Result<()>
+    ensures { Tells W.contents W.failed out.old out.new result
+        (counted_lines peer window.now ++ (cause_lines peer cause ++ told_lines peer session.now finished)) }
+{
+    tell_counted(peer, window, out)?;
     tell_rest(peer, cause, session, finished, out)
+}
+
+// Tells what was counted of each domain since its counts began.
+fn tell_counted<W: WriteLines>(peer: SocketAddr, window: &Window, out: &mut W) -> io::Result<()>
+    ensures { Tells W.contents W.failed out.old out.new result
+        (counted_lines peer window.now) }
+{
+    for index in 0..window.domain_count() {
+        tell_domain_order(peer, &window.counts_at(index), out)?;
+    }
+    Ok(())
+}
+
+/// Tells how many datagrams of a peer's domains were doubled and reordered.
+pub(crate) fn tell_orders<W: WriteLines>(
+    peer: SocketAddr,
+    orders: &[OrderCounts],
+    out: &mut W,
+) -> io::Result<()>
+    ensures { Tells W.contents W.failed out.old out.new result
+        (order_lines peer orders.now) }
+{
+    for counts in orders {
+        tell_domain_order(peer, counts, out)?;
+    }
+    Ok(())
+}
+
+// Tells it of a domain, if there were any.
+fn tell_domain_order<W: WriteLines>(
+    peer: SocketAddr,
+    counts: &OrderCounts,
+    out: &mut W,
+) -> io::Result<()>
+    ensures { Tells W.contents W.failed out.old out.new result
+        (domain_order_lines peer counts.now) }
+{
+    let OrderCounts {
+        domain,
+        doubled,
+        reordered,
+    } = *counts;
+    if doubled == 0 && reordered == 0 {
+        return Ok(());
+    }
+    write_order(peer, domain, doubled, reordered, out)
 }
 
 // Tells why it ended, and the rest.

@@ -38,6 +38,11 @@ impl<'a, R: Files + Clock, W: Wait, E: Write + Copy + Drop> PeerFolder<'a, R, W,
 
 impl<'a, R: Files + Clock, W: Wait, E: Write + Copy + Drop> PeerPlace<PeerFiles<'a, R, W, E>>
     for PeerFolder<'a, R, W, E> {
+    ghost use Rattle.std.specs.Prelude.{⊤};
+
+    // (whose files of the system are no contract sees)
+    ghost made_for = { λ _ _. ⊤ };
+
     fn files(
         &mut self,
         alloc: Global,

@@ -107,13 +107,19 @@ fn taker_of<'x, E: Write + Copy + Drop, R: Wait>(
     ensures most { IfOk result (λ taker.
         taker.peers.kept ≡ lru_cache [] (non_zero_usize_get limits.most)) }
     ensures idle { IfOk result (λ taker. taker.idle ≡ limits.idle) }
+    ensures reorder { IfOk result (λ taker. taker.peers.reorder ≡ limits.reorder) }
     ensures second { IfOk result (λ taker. taker.second ≡ 0) }
 {
     let place = SystemPlace::new(run.rt, run.folder, run.order.every.get());
     let periods = place.periods(run.alloc)?;
     Ok(DatagramTaker {
         alloc: run.alloc,
-        peers: Peers::new(run.alloc, limits.most, RandomState::new(run.rt)?)?,
+        peers: Peers::new(
+            run.alloc,
+            limits.most,
+            RandomState::new(run.rt)?,
+            limits.reorder,
+        )?,
         place: PeerFolder {
             place,
             periods,

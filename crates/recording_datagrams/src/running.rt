@@ -34,7 +34,7 @@ pub fn record_datagrams<
     taker: &mut DatagramTaker<F, P, W>,
     rounds: u64,
 ) -> io::Result<()>
-    ensures { TakesRounds F.seen F.finishes P.asked D.answered W.contents W.failed rounds
+    ensures { TakesRounds F.seen F.finishes P.made_for P.asked D.answered W.contents W.failed rounds
         source.old source.new taker.old taker.new result }
 {
     let mut told: io::Result<()> = Ok(());
@@ -74,12 +74,12 @@ fn take_round<
     buffer: &mut [u8],
     taker: &mut DatagramTaker<F, P, W>,
 ) -> io::Result<()>
-    ensures { TakesRound F.seen F.finishes P.asked D.answered W.contents W.failed
+    ensures { TakesRound F.seen F.finishes P.made_for P.asked D.answered W.contents W.failed
         source.old source.new taker.old taker.new result }
 {
     let received = ask(rt, source, buffer);
     let now = seconds_since(rt, start).max(taker.second);
-    let kept = taker.keep_to_periods();
+    let kept = taker.keep_to_periods(now);
     let taken = taker.take(received, buffer, now);
     kept.and(taken.and(taker.go_on_to(now)))
 }

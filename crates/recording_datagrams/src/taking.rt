@@ -29,40 +29,41 @@ pub(crate) fn record_and_tell<F: RecordingFiles + Drop, P: PeerPlace<F>, W: Writ
     out: &mut W,
 ) -> io::Result<()>
     ensures { TellsSome W.contents W.failed out.old out.new result
-        (IsProcessed F.seen F.finishes peers.old.kept peers.new.kept from datagram.now now) }
+        (IsProcessed F.seen F.finishes P.made_for peers.old peers.new from datagram.now now) }
 {
     let Outcome { became, gone } = peers.record(alloc, place, from, datagram, now);
-    let told = tell_gone(gone, out);
-    told.and(tell_became(from, became, out))
+    let told = tell_gone(alloc, gone, out);
+    told.and(tell_became(alloc, from, became, out))
 }
 
 // Ends the session of a peer that went, since there was no room for one more.
 fn tell_gone<F: RecordingFiles, W: WriteLines>(
+    alloc: Global,
     gone: Option<(SocketAddr, PeerState<F>)>,
     out: &mut W,
 ) -> io::Result<()>
     ensures { TellsSome W.contents W.failed out.old out.new result
-        (EvictedLines F.finishes gone) }
+        (EvictedLines F.seen F.finishes gone) }
 {
     match gone {
         None => Ok(()),
-        Some((peer, kept)) => end_peer(peer, kept, Some(EndCause::LongestSilent), out),
+        Some((peer, kept)) => end_peer(alloc, peer, kept, Some(EndCause::LongestSilent), out),
     }
 }
 
 // Ends a session that ended with a fault.
 fn tell_became<F: RecordingFiles, W: WriteLines>(
+    alloc: Global,
     peer: SocketAddr,
     became: Became<F>,
     out: &mut W,
 ) -> io::Result<()>
     ensures { TellsSome W.contents W.failed out.old out.new result
-        (OutcomeLines F.finishes peer became) }
+        (OutcomeLines F.seen F.finishes peer became) }
 {
     match became {
-        Became::Recorded => Ok(()),
-        Became::Refused(_) => Ok(()),
-        Became::Ended(kept) => end_peer(peer, kept, None, out),
+        Became::Taken => Ok(()),
+        Became::Ended(kept) => end_peer(alloc, peer, kept, None, out),
         Became::NoMemory => tell_no_memory(peer, out),
     }
 }

@@ -3,95 +3,111 @@
 ghost use Rattle.std.specs.Prelude.{◌≡◌, ◌≤◌, ◌⊎◌, [], None, IfSome};
 ghost use Rattle.lru.specs.LruCache.{last_entry};
 ghost use Rattle.report_writing.specs.Writing.{Tells};
+ghost use Rattle.recording_peers.specs.Steps.{KeepsLimits};
 ghost use Rattle.recording_datagrams.specs.Ending.{TellsSome};
 ghost use Rattle.recording_datagrams.specs.Turns.{EndsSilent, EndedLines, HadTurns, EndsOneSilent, IsTurn, IsTurnTold, none_unserved, not_received_lines, turned_away_lines, unserved_lines};
 
-use crate::ending::{EndCause, end_peer, tell_refusals};
+use crate::ending::{EndCause, end_peer, tell_orders, tell_refusals};
 use recording_connections::{RecordingFiles, RefusedPeers, SharedCounts};
 use recording_lines::{write_not_received, write_turned_away};
 use recording_peers::{InTurn, PeerState, Peers};
 use report_writing::WriteLines;
+use std::alloc::Global;
 use std::io;
 use std::net::SocketAddr;
 
-/// Goes over all peers: tells which of their datagrams were refused, and finishes their files if a period is
-/// over. A session whose file can't be finished ends. A line that can't be written stops nothing; its first
-/// error is the answer.
+/// Goes over all peers as a second begins: records their datagrams whose time to wait is over, tells which were
+/// refused, and if a period is over finishes their files and tells how many were doubled and reordered. A session
+/// whose datagrams can't be recorded or whose file can't be finished ends. A line that can't be written stops
+/// nothing; its first error is the answer.
 pub fn go_over<F: RecordingFiles + Drop, W: WriteLines>(
+    alloc: Global,
     peers: &mut Peers<F>,
+    second: u64,
     is_over: bool,
     out: &mut W,
 ) -> io::Result<()>
     ensures turns { TellsSome W.contents W.failed out.old out.new result
-        (HadTurns F.seen F.finishes is_over peers.old.kept.entries peers.new.kept.entries) }
-    ensures room { peers.new.kept.cap ≡ peers.old.kept.cap }
+        (HadTurns F.seen F.finishes second is_over peers.old.kept.entries peers.new.kept.entries) }
+    ensures limits { KeepsLimits peers.old peers.new }
 {
     let mut told: io::Result<()> = Ok(());
     for _ in 0..peers.len() {
-        told = told.and(go_on(peers, is_over, out));
+        told = told.and(go_on(alloc, peers, second, is_over, out));
     }
     told
 }
 
 // The turn of the peer that was silent for longest.
 fn go_on<F: RecordingFiles + Drop, W: WriteLines>(
+    alloc: Global,
     peers: &mut Peers<F>,
+    second: u64,
     is_over: bool,
     out: &mut W,
 ) -> io::Result<()>
     ensures turn { (peers.old.kept.entries ≡ []) ⊎ TellsSome W.contents W.failed out.old out.new result
-        (IsTurn F.seen F.finishes is_over peers.old.kept.entries peers.new.kept.entries) }
-    ensures room { peers.new.kept.cap ≡ peers.old.kept.cap }
+        (IsTurn F.seen F.finishes second is_over peers.old.kept.entries peers.new.kept.entries) }
+    ensures limits { KeepsLimits peers.old peers.new }
 {
-    match peers.go_on(is_over) {
+    match peers.go_on(alloc, second, is_over) {
         None => Ok(()),
-        Some(turn) => tell_turn(turn, out),
+        Some(turn) => tell_turn(alloc, turn, out),
     }
 }
 
-// Tells the refused datagrams of a peer that has its turn, and ends its session if that ended in its turn.
-fn tell_turn<F: RecordingFiles, W: WriteLines>(turn: InTurn<F>, out: &mut W) -> io::Result<()>
+// Tells the refused datagrams of a peer that has its turn, and how many were doubled and reordered, and ends its
+// session if that ended in its turn.
+fn tell_turn<F: RecordingFiles, W: WriteLines>(
+    alloc: Global,
+    turn: InTurn<F>,
+    out: &mut W,
+) -> io::Result<()>
     ensures { TellsSome W.contents W.failed out.old out.new result
-        (IsTurnTold F.finishes turn.peer turn.refused turn.ended) }
+        (IsTurnTold F.seen F.finishes turn.peer turn.refused turn.orders.items turn.ended) }
 {
     let InTurn {
         peer,
         refused,
+        orders,
         ended,
     } = turn;
     let told = tell_refusals(peer, refused, out);
-    told.and(end_if(peer, ended, out))
+    let ordered = tell_orders(peer, orders.as_slice(), out);
+    told.and(ordered.and(end_if(alloc, peer, ended, out)))
 }
 
 // Ends a session that ended with a fault in its turn.
 fn end_if<F: RecordingFiles, W: WriteLines>(
+    alloc: Global,
     peer: SocketAddr,
     ended: Option<PeerState<F>>,
     out: &mut W,
 ) -> io::Result<()>
     ensures { TellsSome W.contents W.failed out.old out.new result
-        (EndedLines F.finishes peer ended) }
+        (EndedLines F.seen F.finishes peer ended) }
 {
     match ended {
         None => Ok(()),
-        Some(kept) => end_peer(peer, kept, None, out),
+        Some(kept) => end_peer(alloc, peer, kept, None, out),
     }
 }
 
 /// Ends the sessions of peers whose last datagram came before a time in seconds: of those after the last that
 /// isn't one. A line that can't be written stops nothing; its first error is the answer.
 pub fn end_silent<F: RecordingFiles + Drop, W: WriteLines>(
+    alloc: Global,
     peers: &mut Peers<F>,
     since: u64,
     out: &mut W,
 ) -> io::Result<()>
     ensures silent { TellsSome W.contents W.failed out.old out.new result
-        (EndsSilent F.finishes since peers.old.kept.entries peers.new.kept.entries) }
-    ensures room { peers.new.kept.cap ≡ peers.old.kept.cap }
+        (EndsSilent F.seen F.finishes since peers.old.kept.entries peers.new.kept.entries) }
+    ensures limits { KeepsLimits peers.old peers.new }
 {
     let mut told: io::Result<()> = Ok(());
     for _ in 0..peers.len() {
-        match end_one(peers, since, out) {
+        match end_one(alloc, peers, since, out) {
             None => return told,
             Some(ended) => told = told.and(ended),
         }
@@ -101,6 +117,7 @@ pub fn end_silent<F: RecordingFiles + Drop, W: WriteLines>(
 
 // Ends the session of the peer that was silent for longest, if that is too long. The answer is that of its lines.
 fn end_one<F: RecordingFiles + Drop, W: WriteLines>(
+    alloc: Global,
     peers: &mut Peers<F>,
     since: u64,
     out: &mut W,
@@ -108,12 +125,12 @@ fn end_one<F: RecordingFiles + Drop, W: WriteLines>(
     ensures none { result ≡ None → (peers.new ≡ peers.old) × (out.new ≡ out.old)
         × IfSome (last_entry peers.old.kept.entries) (λ e. since ≤ e.1.heard) }
     ensures silent { IfSome result (λ answer. TellsSome W.contents W.failed out.old out.new answer
-        (EndsOneSilent F.finishes since peers.old.kept.entries peers.new.kept.entries)) }
-    ensures room { peers.new.kept.cap ≡ peers.old.kept.cap }
+        (EndsOneSilent F.seen F.finishes since peers.old.kept.entries peers.new.kept.entries)) }
+    ensures limits { KeepsLimits peers.old peers.new }
 {
     match peers.take_silent(since) {
         None => None,
-        Some((peer, kept)) => Some(end_peer(peer, kept, Some(EndCause::Idle), out)),
+        Some((peer, kept)) => Some(end_peer(alloc, peer, kept, Some(EndCause::Idle), out)),
     }
 }
 

@@ -47,7 +47,12 @@ fn tell_all(rt: &HostRuntime, out: &mut FailingWriter) -> Result<(), Fail> {
     let filter = only_from(alloc, "192.0.2.0/24")?;
     let mut taker: DatagramTaker<SmallFiles, PlaceInPeriods, &mut FailingWriter> = DatagramTaker {
         alloc,
-        peers: Peers::new(alloc, NonZeroUsize::new(2).unwrap(), RandomState::new(rt)?)?,
+        peers: Peers::new(
+            alloc,
+            NonZeroUsize::new(2).unwrap(),
+            RandomState::new(rt)?,
+            0,
+        )?,
         place: PlaceInPeriods {
             place: SmallPlace { room: 100 },
             clock: ScriptClock::new(Vec::new(alloc)),

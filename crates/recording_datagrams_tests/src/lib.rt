@@ -5,6 +5,8 @@
 #[cfg(test)]
 mod endings;
 #[cfg(test)]
+mod order;
+#[cfg(test)]
 mod places;
 #[cfg(test)]
 mod rounds;

@@ -6,10 +6,11 @@ use recording_peers::PeerPlace;
 use std::alloc::{AllocError, Global};
 use std::net::SocketAddr;
 
-/// Files that have room for a number of octets.
+/// Files that have room for a number of octets, and keep what was written.
 #[derive(Drop)]
 pub struct SmallFiles {
     pub room: usize,
+    pub written: Vec<u8>,
     failed: u64,
 }
 
@@ -19,7 +20,7 @@ impl FileSeries for SmallFiles {
     ghost seen = { λ f. record { contents = None; failed = f.failed } };
 
     fn append(&mut self, octets: &[u8]) -> Result<(), NotWritten> {
-        if octets.len() > self.room {
+        if octets.len() > self.room || self.written.extend_from_slice(octets).is_err() {
             self.failed = self.failed.saturating_add(1);
             return Err(NotWritten);
         }
@@ -49,9 +50,14 @@ pub struct SmallPlace {
 }
 
 impl PeerPlace<SmallFiles> for SmallPlace {
-    fn files(&mut self, _alloc: Global, _peer: SocketAddr) -> Result<SmallFiles, AllocError> {
+    ghost use Rattle.std.specs.Prelude.{⊤};
+
+    ghost made_for = { λ _ _. ⊤ };
+
+    fn files(&mut self, alloc: Global, _peer: SocketAddr) -> Result<SmallFiles, AllocError> {
         Ok(SmallFiles {
             room: self.room,
+            written: Vec::new(alloc),
             failed: 0,
         })
     }
@@ -65,6 +71,10 @@ pub struct PlaceInPeriods {
 }
 
 impl PeerPlace<SmallFiles> for PlaceInPeriods {
+    ghost use Rattle.std.specs.Prelude.{⊤};
+
+    ghost made_for = { λ _ _. ⊤ };
+
     fn files(&mut self, alloc: Global, peer: SocketAddr) -> Result<SmallFiles, AllocError> {
         self.place.files(alloc, peer)
     }

@@ -40,7 +40,12 @@ fn each_datagram_is_taken_once(rt: HostRuntime) -> Result<(), Fail> {
     let filter = only_from(alloc, "192.0.2.0/24")?;
     let mut taker = DatagramTaker {
         alloc,
-        peers: Peers::new(alloc, NonZeroUsize::new(2).unwrap(), RandomState::new(&rt)?)?,
+        peers: Peers::new(
+            alloc,
+            NonZeroUsize::new(2).unwrap(),
+            RandomState::new(&rt)?,
+            0,
+        )?,
         place: PlaceInPeriods {
             place: SmallPlace { room: 1000 },
             clock: ScriptClock::new(Vec::new(alloc)),

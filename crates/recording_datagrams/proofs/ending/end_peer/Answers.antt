@@ -5,6 +5,8 @@ pub returns : goal.returns
 returns g c = record {
   lines = _;
   are = record {
+    released = c.released-recorder.result;
+    is_released = c.released-recorder.ensures;
     session = c.into_session-session.result;
     reports = c.into_session-session.ensures.told;
     fault = c.into_session-session.ensures.ended;

@@ -5,11 +5,8 @@ use Rattle.recording_connections.specs.Serving.{fault_line}
 use Rattle.recording_datagrams.proofs.Told.{tells_nothing}
 use Rattle.recording_datagrams.proofs.taking.tell_became.Goals as goal
 
-pub returns-in-Recorded : goal.returns-in-Recorded
-returns-in-Recorded g c = record { lines = []; are = rw c.in-Recorded.is refl; told = tells_nothing }
-
-pub returns-in-Refused : goal.returns-in-Refused
-returns-in-Refused g c = record { lines = []; are = rw c.in-Refused.is refl; told = tells_nothing }
+pub returns-in-Taken : goal.returns-in-Taken
+returns-in-Taken g c = record { lines = []; are = rw c.in-Taken.is refl; told = tells_nothing }
 
 pub returns-in-NoMemory : goal.returns-in-NoMemory
 returns-in-NoMemory g c = record { lines = fault_line c.args.peer (faults.Message OutOfMemory); are = rw c.in-NoMemory.is refl; told = c.tell_no_memory.ensures }

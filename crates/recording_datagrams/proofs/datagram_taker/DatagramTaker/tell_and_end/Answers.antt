@@ -1,4 +1,5 @@
-use Rattle.std.proofs.Common.{refl, ◌∙◌}
+use Rattle.std.proofs.Common.{refl}
+use Rattle.recording_datagrams.proofs.GoingOver.{limits_both}
 use Rattle.recording_datagrams.proofs.Told.{and_tells}
 use Rattle.recording_datagrams.proofs.datagram_taker.DatagramTaker.tell_and_end.Goals as goal
 
@@ -15,7 +16,7 @@ returns g c =
         ended = silent.lines;
         silent = rw c.saturating_sub-since.ensures at silent.are;
         lines_are = refl;
-        room = c.end_silent-ended.ensures.room ∙ c.go_over-told.ensures.room;
+        limits = limits_both c.go_over-told.ensures.limits c.end_silent-ended.ensures.limits;
         others = rw c.tell_unserved-unserved.ensures.none_left refl;
       };
       told = rw (c.and-2.ensures, c.and.ensures)
