@@ -62,10 +62,10 @@ pub fn sessions_stand_without_the_last<F: FileSeries>()
 /// datagrams of that peer only, as many as came since it began. Where the peer's session didn't go out in
 /// between, these are all of its own in their order, whatever came from others.
 pub fn sessions_stand_for_their_own<F: FileSeries, P: PeerPlace<F>>()
-    ensures stand { (seconds most : ℕ) (rs : List (Reception F)) (es after : PeerSessions F)
-        (cs : PeerHappenings) → StandFor F.seen seconds es cs
-        → AreRecorded F.seen P.made_for seconds most rs es after
-        → StandFor F.seen seconds after (happened_after most rs cs) }
+    ensures stand { (wait most : ℕ) (rs : List (Reception F)) (es after : PeerSessions F)
+        (cs : PeerHappenings) → StandFor F.seen wait es cs
+        → AreRecorded F.seen P.made_for wait most rs es after
+        → StandFor F.seen wait after (happened_after most rs cs) }
     ensures own { (most : ℕ) (rs : List (Reception F)) (cs : PeerHappenings) (peer : SocketAddr)
         → IsNeverEvicted peer most rs cs
         → happened_to peer (happened_after most rs cs) ≡ happened_to peer cs ++ own_of peer rs }
