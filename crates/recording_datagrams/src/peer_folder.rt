@@ -38,10 +38,12 @@ impl<'a, R: Files + Clock, W: Wait, E: Write + Copy + Drop> PeerFolder<'a, R, W,
 
 impl<'a, R: Files + Clock, W: Wait, E: Write + Copy + Drop> PeerPlace<PeerFiles<'a, R, W, E>>
     for PeerFolder<'a, R, W, E> {
-    ghost use Rattle.std.specs.Prelude.{⊤};
+    ghost use Rattle.std.specs.Prelude.{ℕ};
+    ghost use Rattle.std.specs.Arc.{arc_value};
+    ghost use Rattle.recording_folder.specs.SessionNames.{IsNamed};
 
-    // (whose files of the system are no contract sees)
-    ghost made_for = { λ _ _. ⊤ };
+    // Its files have the name of the peer, and the number of a session.
+    ghost made_for = { λ files peer. (number : ℕ) × IsNamed (arc_value files.session) peer number };
 
     fn files(
         &mut self,
