@@ -18,8 +18,6 @@ pub struct MemoryPlace {
 }
 
 impl PeerPlace<MemoryFiles> for MemoryPlace {
-    ghost use Rattle.std.specs.Prelude.{Unit};
-
     // Files in memory don't say whose they are.
     ghost made_for = { λ files peer. Unit {0} };
 
