@@ -25,7 +25,7 @@ returns-in-None g c = λ text is.
     let took = c.driven_is_given.ensures.fault READ_LIMIT c.new-source.result c.drive-report.new.source c.new-sink.result c.drive-report.new.sink c.drive-report.result
     c.drive-report.ensures (closed_not c.drive-report.result.fault c.in-None.is) in
     let told = c.no_fault_is_all.ensures READ_LIMIT c.new-source.result c.drive-report.new.source c.drive-report.result took.records text
-    took.given c.in-None.is (ap (λ (v : SourceView). v.text) c.new-source.ensures ∙ is) in (
+    took.given c.in-None.is (ap (λ (v : SourceView). v.text) c.new-source.ensures.unread ∙ is) in (
       told.0,
       kept_all (λ (p : VecSink) (x : DataRecord) (q : VecSink). q.records.items ≡ p.records.items ++ x ∷ []) (λ (p : VecSink). p.records.items) (λ p x q e. e)
           c.new-sink.result took.records c.drive-report.new.sink took.takes.chain
