@@ -1,6 +1,6 @@
 -- What is kept for the domains of a session.
 use Rattle.std.proofs.Common.{◌≡◌, ℕ, ◌<◌, ◌≤◌, Bool, true, false, cond, ltb, eqb, List, [], ◌∷◌, ◌++◌, length, drop, Option, Some, None, Result, Ok, Err, refl, sym, ap, subst, ◌∙◌, arith, inl, inr, is_some}
-use Rattle.std.specs.Prelude.{IsOk, MatchBool}
+use Rattle.std.specs.Prelude.{IsOk, IfOk, MatchBool, not}
 use Rattle.std.specs.Map.{lookup, keys_of, set_value}
 use Rattle.std.specs.Option.{unwrap_or, option_and_then, option_map}
 use Rattle.std.proofs.lemmas.Bool.Decides.{eqb_tells}
@@ -8,6 +8,7 @@ use Rattle.std.specs.BTreeMap.{BTreeMap}
 use Rattle.std.specs.List.{AllZip}
 use Rattle.std.proofs.lemmas.Map.Made.{lookup-map_values}
 use Rattle.std.proofs.lemmas.Map.Entries.{length-keys_of}
+use Rattle.std.proofs.lemmas.Map.Steps.{set_value_same}
 use Rattle.std.proofs.lemmas.Bool.{ltb-false, ltb-true, le-ltb, lt-ltb, eqb-true}
 use Rattle.std.proofs.lemmas.List.{map-append}
 use Rattle.ipfix_message.specs.declared.fault.MessageFault.{MessageFault}
@@ -25,8 +26,9 @@ use Rattle.ipfix_message.specs.Messages.{Decoding, before, sets_from}
 use Rattle.ipfix_message.proofs.Reading.{Fails-of, ok_is, not_both}
 use Rattle.ipfix_wire.proofs.Choices.{chosen, different}
 use Rattle.ipfix_message.specs.TemplatesInForce.{in_force}
-use Rattle.ipfix_message.specs.Held.{template_in, Agrees, Holds, Reaches, Admits}
-use Rattle.ipfix_message.specs.Domains.{History, IsAdmitted, admit, with_events, of_wire, message_header, message_gives, Message, StandsFor, Decodes, template_for, alone}
+use Rattle.ipfix_message.specs.Held.{template_in, Agrees, Holds, Reaches, Admits, ChecksSets}
+use Rattle.ipfix_message.specs.Sets.{has_template_set}
+use Rattle.ipfix_message.specs.Domains.{History, IsAdmitted, admit, with_events, of_wire, message_header, message_gives, Message, StandsFor, Decodes, template_for, alone, IsChecked}
 use Rattle.ipfix_message.specs.Kept.{kept}
 
 -- ---- what is kept at each domain
@@ -410,3 +412,44 @@ pub stands_alone : (xs : List (ℕ × BTreeMap ℕ Template)) (ds : History) (do
 stands_alone xs ds domain m n stands some is =
     rw (copied m.entries n.entries is)
     (alone_some (lookup (eqb domain) (kept xs)) ds domain (lookup (eqb domain) ds) m.entries (lookup-kept domain xs ∙ ap (option_map (λ (x : BTreeMap ℕ Template). x.entries)) some) refl (stands-at (kept xs) ds stands domain))
+
+-- ---- a message that is only checked
+
+admit_same : (ds : History) (domain : ℕ) (es : List Event) → lookup (eqb domain) ds ≡ Some es → admit ds domain ≡ Ok ds
+unfolding admit
+admit_same ds domain es here = rw (ap is_some here) refl
+
+not_false : (b : Bool) → false ≡ not b → b ≡ true
+not_false true h = refl
+not_false false h = absurd cc
+
+-- by the events of its domain
+checked_after : (ds : History) (m : List ℕ) (h : Header) (es : List Event) (result : Result Bool MessageFault) → message_header m ≡ Ok h → lookup (eqb h.domain) ds ≡ Some es
+    → ChecksSets result (before es) (sets_from h (before es) (drop 16 m)) → IfOk result (λ is_data. is_data ≡ not (has_template_set (drop 16 m))) → IsChecked result ds h.domain m
+checked_after ds m h es (Ok true) is here checked are =
+    record {
+      given = record { header = h; decoding = checked.0; domains = with_events ds h.domain checked.0.events };
+      read = gives_sets ds m h ds es (Ok checked.0) is (admit_same ds h.domain es here) (ap (λ (o : Option (List Event)). unwrap_or o []) here) checked.1;
+      same = ap (λ (x : List Event). with_events ds h.domain x) checked.2 ∙ set_value_same (eqb h.domain) ds es here;
+    }
+checked_after ds m h es (Ok false) is here checked are = inl (not_false (has_template_set (drop 16 m)) are)
+checked_after ds m h es (Err f) is here checked are =
+    (gives_sets ds m h ds es (Err f) is (admit_same ds h.domain es here) (ap (λ (o : Option (List Event)). unwrap_or o []) here) checked.0, checked.1)
+
+checked_at : (a : Option (List (ℕ × Template))) (b : Option (List Event)) (ds : History) (m : List ℕ) (h : Header) (entries : List (ℕ × Template)) (result : Result Bool MessageFault) → message_header m ≡ Ok h
+    → a ≡ Some entries → lookup (eqb h.domain) ds ≡ b → AgreesAt a b → ((d : Decoding) → Agrees entries d.events → ChecksSets result d (sets_from h d (drop 16 m)))
+    → IfOk result (λ is_data. is_data ≡ not (has_template_set (drop 16 m))) → IsChecked result ds h.domain m
+checked_at a (Some es) ds m h entries result is ea eb agrees checked are =
+    let at : Agrees entries es = subst (λ (o : Option (List (ℕ × Template))). AgreesAt o (Some es)) ea agrees in
+    checked_after ds m h es result is eb (checked (before es) at) are
+checked_at a None ds m h entries result is ea eb agrees checked are = absurd (subst (λ (o : Option (List (ℕ × Template))). AgreesAt o None) ea agrees)
+
+pub checked_message : (xs : List (ℕ × List (ℕ × Template))) (ds : History) (m : List ℕ) (h : Header) (entries : List (ℕ × Template)) (result : Result Bool MessageFault) → message_header m ≡ Ok h
+    → StandsFor xs ds → lookup (eqb h.domain) xs ≡ Some entries → ((d : Decoding) → Agrees entries d.events → ChecksSets result d (sets_from h d (drop 16 m)))
+    → IfOk result (λ is_data. is_data ≡ not (has_template_set (drop 16 m))) → IsChecked result ds h.domain m
+checked_message xs ds m h entries result is stands here checked are =
+    checked_at (lookup (eqb h.domain) xs) (lookup (eqb h.domain) ds) ds m h entries result is here refl (stands-at xs ds stands h.domain) checked are
+
+-- its domain has not appeared
+pub new_domain : (xs : List (ℕ × List (ℕ × Template))) (ds : History) (domain : ℕ) → StandsFor xs ds → lookup (eqb domain) xs ≡ None → is_some (lookup (eqb domain) ds) ≡ false
+new_domain xs ds domain stands none = sym (same_found (eqb domain) xs ds stands.domains) ∙ ap is_some none

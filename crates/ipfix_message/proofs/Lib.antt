@@ -11,6 +11,7 @@ pub mod MessageSets
 pub mod TemplateSets
 pub mod LastDefinition
 pub mod Decoding
+pub mod DataChecks
 pub mod History
 pub mod RecordOctets
 pub mod SpelledFields

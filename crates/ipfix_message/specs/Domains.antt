@@ -1,5 +1,5 @@
 -- The domains of a session with their events, and what a message gives after them (RFC 7011, sections 3.1 and 8).
-use Rattle.std.specs.Prelude.{◌≡◌, ℕ, Bool, nat_lt, ◌==◌, nat_eq, is_some, if◌then◌else◌, List, [], ◌∷◌, ◌++◌, length, drop, Option, Some, None, Result, Ok, Err, IsOk}
+use Rattle.std.specs.Prelude.{◌≡◌, ◌≢◌, ◌⊎◌, ℕ, Bool, true, false, nat_lt, ◌==◌, nat_eq, is_some, if◌then◌else◌, List, [], ◌∷◌, ◌++◌, length, drop, Option, Some, None, Result, Ok, Err, IsOk}
 use Rattle.std.specs.Map.{lookup, keys_of, set_value}
 use Rattle.std.specs.Option.{unwrap_or, option_and_then}
 use Rattle.std.specs.Ordering.{nat_cmp, eq_by_cmp}
@@ -8,7 +8,7 @@ use Rattle.ipfix_wire.specs.declared.header.TheConstants.{HEADER_LENGTH}
 use Rattle.ipfix_wire.specs.declared.header.Header.{Header}
 use Rattle.ipfix_wire.specs.declared.fault.WireFault.{WireFault}
 use Rattle.ipfix_message.specs.declared.fault.MessageFault.{MessageFault}
-use Rattle.ipfix_message.specs.declared.fault.MessageFault.TheVariants.{MessageLength, TooManyDomains}
+use Rattle.ipfix_message.specs.declared.fault.MessageFault.TheVariants.{MessageLength, TemplateChanged, TooManyDomains}
 use Rattle.ipfix_message.specs.declared.passed_over.PassedOver.{PassedOver}
 use Rattle.ipfix_message.specs.declared.record.Template.{Template}
 use Rattle.ipfix_message.specs.declared.template_record.Event.{Event}
@@ -17,6 +17,7 @@ use Rattle.ipfix_message.specs.declared.message.Decoded.{Decoded}
 use Rattle.ipfix_message.specs.Faults.{fault_of}
 use Rattle.ipfix_message.specs.Outcome.{Read, ◌>>=◌, Fails}
 use Rattle.ipfix_message.specs.TemplatesInForce.{in_force}
+use Rattle.ipfix_message.specs.Sets.{has_template_set}
 use Rattle.ipfix_message.specs.Messages.{Decoding, before, sets_from}
 
 -- the domains of a session in order of first appearance, each with its events, the newest first
@@ -110,3 +111,21 @@ pub record IsAnswer (decoded : Decoded) (m : Message) : Type 0 where
 abbrev pub Decodes : Result Decoded MessageFault → List (ℕ × List (ℕ × Template)) → Read Message → Type 0
 Decodes (Ok decoded) kept read = (m : Message) × (read ≡ Ok m) × IsAnswer decoded m × StandsFor kept m.domains
 Decodes (Err e) kept read = Fails e read
+
+-- ---- messages that change no template
+
+-- a message is read, and the domains stay as they are
+pub record ChangesNothing (ds : History) (m : List ℕ) : Type 0 where
+  pub given : Message
+  pub read : message_gives ds m ≡ Ok given
+  pub same : given.domains ≡ ds
+
+-- it has a template set, or its domain has not appeared
+abbrev pub MayChangeSome : History → ℕ → List ℕ → Type 0
+MayChangeSome ds domain m = (has_template_set (drop HEADER_LENGTH m) ≡ true) ⊎ (is_some (lookup (nat_eq domain) ds) ≡ false)
+
+-- a message of a domain was checked, up to its first template set
+abbrev pub IsChecked : Result Bool MessageFault → History → ℕ → List ℕ → Type 0
+IsChecked (Ok true) ds domain m = ChangesNothing ds m
+IsChecked (Ok false) ds domain m = MayChangeSome ds domain m
+IsChecked (Err f) ds domain m = (message_gives ds m ≡ Err f) × (f ≢ TemplateChanged)

@@ -1,5 +1,5 @@
 -- What the maps and counters of the code stand for while a message is read.
-use Rattle.std.specs.Prelude.{◌≡◌, ℕ, ◌+◌, if◌then◌else◌, List, Option, Result, Ok, Err}
+use Rattle.std.specs.Prelude.{◌≡◌, ◌≢◌, ℕ, ◌+◌, Bool, true, false, if◌then◌else◌, List, Option, Result, Ok, Err}
 use Rattle.std.specs.Map.{lookup}
 use Rattle.std.specs.Ordering.{nat_cmp, eq_by_cmp}
 use Rattle.ipfix_message.specs.declared.fault.MessageFault.{MessageFault}
@@ -48,3 +48,16 @@ counted decoded = decoded.skipped_sets + decoded.unknown_sets + decoded.ignored_
 abbrev pub Admits : Result (Unit {0}) MessageFault → List (ℕ × List (ℕ × Template)) → Read History → Type 0
 Admits (Ok x) kept read = (ds : History) × (read ≡ Ok ds) × StandsFor kept ds
 Admits (Err e) kept read = Fails e read
+
+-- ---- sets that are only checked
+
+-- what is read leaves the events as they are; or it fails so, and not since a template changed
+abbrev pub Checks : Result (Unit {0}) MessageFault → Decoding → Read Decoding → Type 0
+Checks (Ok x) d read = (e : Decoding) × (read ≡ Ok e) × (e.events ≡ d.events)
+Checks (Err f) d read = (read ≡ Err f) × (f ≢ TemplateChanged)
+
+-- sets in turn, up to a template set
+abbrev pub ChecksSets : Result Bool MessageFault → Decoding → Read Decoding → Type 0
+ChecksSets (Ok true) d read = Checks (Ok tt) d read
+ChecksSets (Ok false) d read = Unit {0}
+ChecksSets (Err f) d read = Checks (Err f) d read

@@ -1,8 +1,9 @@
 -- The sets of a message (RFC 7011, section 3.3).
-use Rattle.std.specs.Prelude.{◌≡◌, ℕ, ◌+◌, ◌^◌, ◌<◌, nat_lt, ◌==◌, if◌then◌else◌, List, ◌++◌, length, take, drop, Option, Some, None, Result, Ok, Err}
+use Rattle.std.specs.Prelude.{◌≡◌, ℕ, ◌+◌, ◌^◌, ◌<◌, nat_lt, Bool, ◌==◌, ◌||◌, if◌then◌else◌, List, ◌++◌, length, take, drop, Option, Some, None, Result, Ok, Err}
+use Rattle.std.specs.List.{list_any}
 use Rattle.ipfix_wire.specs.InTurn.{Parts, parts_of}
 use Rattle.ipfix_wire.specs.SetHeader.{set_octets, set_at}
-use Rattle.ipfix_wire.specs.declared.set.TheConstants.{SET_HEADER_LENGTH}
+use Rattle.ipfix_wire.specs.declared.set.TheConstants.{SET_HEADER_LENGTH, TEMPLATE_SET_ID, OPTIONS_TEMPLATE_SET_ID}
 use Rattle.ipfix_wire.specs.declared.set.SetSpan.{SetSpan}
 use Rattle.ipfix_wire.specs.declared.fault.WireFault.{WireFault}
 use Rattle.ipfix_message.specs.declared.fault.MessageFault.{MessageFault}
@@ -41,3 +42,13 @@ fault_after_sets rest =
     if length rest == 0 then None
     else if nat_lt (length rest) SET_HEADER_LENGTH then Some SetHeader
     else Some SetLength
+
+-- ---- template sets
+
+-- a set of template records, of either kind
+abbrev pub is_template_set : Set → Bool
+is_template_set s = (s.id == TEMPLATE_SET_ID) || (s.id == OPTIONS_TEMPLATE_SET_ID)
+
+-- whether there is one in what follows a message's header
+abbrev pub has_template_set : List ℕ → Bool
+has_template_set w = list_any is_template_set (sets_of w).items

@@ -4,12 +4,13 @@ ghost use Rattle.std.specs.Prelude.{[], ◌≡◌, false, true, IsTrue, ℕ, IsE
 ghost use Rattle.std.specs.Map.{lookup};
 ghost use Rattle.std.specs.Ordering.{nat_cmp};
 ghost use Rattle.std.specs.BTreeMap.{get};
-ghost use Rattle.ipfix_message.specs.Domains.{History, StandsFor, Decodes, IsAdmitted, admit, message_header, message_gives, template_for, alone};
+ghost use Rattle.ipfix_message.specs.Domains.{History, StandsFor, Decodes, IsAdmitted, IsChecked, admit, message_header, message_gives, template_for, alone};
 ghost use Rattle.ipfix_message.specs.declared.fault.MessageFault.TheVariants.{OutOfMemory, Spent, TooManyDomains};
 
+use crate::data_check::check_sets;
 use crate::fault::MessageFault;
 use crate::in_force::Templates;
-use crate::message::{Decoded, MAX_DOMAINS, header_of, read_message};
+use crate::message::{Decoded, MAX_DOMAINS, after_header, header_of, read_message};
 use crate::record::Template;
 use indexmap::IndexMap;
 use ipfix_wire::Header;
@@ -139,6 +140,21 @@ impl Domains {
             return true;
         }
         self.known.len() < MAX_DOMAINS
+    }
+
+    /// Checks a message, whose header was read, up to its first template set, and answers whether it has none
+    /// and its domain has appeared: then it can be decoded, and changes no template. The fault is that of
+    /// decoding it. This takes no memory. After a fault of an earlier message the answer is `false`.
+    pub fn check_data(&self, header: &Header, message: &[u8]) -> Result<bool, MessageFault>
+        requires { message_header message.now ≡ Ok header.now }
+        ensures spent { IsTrue self.now.spent → result ≡ Ok false }
+        ensures checked { self.now.spent ≡ false → (ds : History) → StandsFor self.now.domains ds
+            → IsChecked result ds header.now.domain message.now }
+    {
+        let Some(templates) = self.templates(header.domain) else {
+            return Ok(false);
+        };
+        check_sets(after_header(header, message), templates)
     }
 
     /// Only one of the domains, with the templates that are in force in it, or none if it has not

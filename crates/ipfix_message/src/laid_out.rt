@@ -1,8 +1,9 @@
 //! A template with the layout of its records (RFC 7011, section 3.4.3).
 
-ghost use Rattle.std.specs.Prelude.{◌≡◌, ◌<◌, ◌^◌, length, All, IfOk, OnOk, option_copied};
+ghost use Rattle.std.specs.Prelude.{◌≡◌, ◌<◌, ◌^◌, length, All, IfOk, IfErr, OnOk, option_copied};
 ghost use Rattle.ipfix_message.specs.Fields.{octets_of};
 ghost use Rattle.ipfix_message.specs.Outcome.{Gives};
+ghost use Rattle.ipfix_message.specs.declared.fault.MessageFault.TheVariants.{RecordCut};
 ghost use Rattle.ipfix_message.specs.SpelledFields.{BeginsWithFields, IsShort, fields_at, fields_in};
 
 use crate::fault::MessageFault;
@@ -51,6 +52,7 @@ impl LaidOut {
         ensures gives { Gives (λ after. (fields_in self.now.specs octets.now, after.now)) result
             (fields_at self.now.specs octets.now) }
         ensures short { OnOk result (All IsShort (fields_in self.now.specs octets.now)) }
+        ensures cut { IfErr result (λ fault. fault ≡ RecordCut) }
     {
         self.layout
             .after_record(octets)

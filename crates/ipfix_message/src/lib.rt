@@ -2,6 +2,7 @@
 //! transport session.
 #![tactic(auto)]
 
+mod data_check;
 mod data_set;
 mod domains;
 mod fault;

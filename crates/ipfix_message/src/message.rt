@@ -91,9 +91,9 @@ impl Decoded {
     }
 }
 
-// The octets after a message's header, which gives the message's length in 16 bits.
+/// The octets after a message's header, which gives the message's length in 16 bits.
 #[tactic(auto, using(crate::proofs::History::header_is_whole, crate::proofs::History::header_has_length))]
-fn behind_header<'a>(header: &Header, message: &'a [u8]) -> &'a [u8]
+pub fn after_header<'a>(header: &Header, message: &'a [u8]) -> &'a [u8]
     requires { Domains.message_header message.now ≡ Ok header.now }
     ensures octets { result.now ≡ drop HEADER_LENGTH message.now }
     ensures room { length result.now ≤ SET_HEADER_LENGTH + LONGEST_BODY }
@@ -127,7 +127,7 @@ pub fn read_message(
     let templates = known.get_mut(&header.domain).unwrap();
     take_sets(
         alloc,
-        behind_header(header, message),
+        after_header(header, message),
         templates,
         &mut decoded,
     )?;

@@ -1,9 +1,10 @@
 //! The sets of a message in turn (RFC 7011, section 3.3).
 
-ghost use Rattle.std.specs.Prelude.{◌≡◌, ◌+◌, ◌<◌, ◌≤◌, ◌^◌, length, IfOk, OnOk};
+ghost use Rattle.std.specs.Prelude.{◌≡◌, ◌+◌, ◌<◌, ◌≤◌, ◌^◌, length, IfOk, OnOk, IsErrOf};
 ghost use Rattle.ipfix_message.specs.declared.template_record.TheConstants.{LONGEST_BODY};
 ghost use Rattle.ipfix_message.specs.Outcome.{Gives};
 ghost use Rattle.ipfix_message.specs.Sets;
+ghost use Rattle.ipfix_message.specs.declared.fault.MessageFault.TheVariants.{OutOfMemory};
 ghost use Rattle.ipfix_message.specs.Messages;
 ghost use Rattle.ipfix_message.specs.Messages.{Decoding, set_gives, sets_from};
 ghost use Rattle.ipfix_message.specs.Held.{Holds, Reaches, counted};
@@ -28,6 +29,7 @@ pub fn next_set(rest: &[u8]) -> Result<((u16, &[u8]), &[u8]), MessageFault>
         (Sets.next_set rest.now) }
     ensures room { IfOk result (λ x.
         SET_HEADER_LENGTH + length x.0.1.now + length x.1.now ≡ length rest.now) }
+    ensures memory { ¬ IsErrOf result OutOfMemory }
 {
     let span = read_set(rest)?;
     let (_, rest) = rest.split_at(SET_HEADER_LENGTH);

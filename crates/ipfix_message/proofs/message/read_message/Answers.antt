@@ -25,7 +25,7 @@ returns-in_err-take_sets-clause-gives c = λ ds stands.
     rw (p.1, p.2) (bad_sets c.in_err-take_sets.field-0.0 ds c.args.message.now c.args.header.now c.admit.new.known.entries c.unwrap-templates.result.now _ c.requires
     (c.in_ok-admit.ensures.gives ds stands) found
     (λ es agrees. record { templates = agrees; records = c.new.ensures.items; passed_over = refl })
-    (λ d holds. rw c.behind_header.ensures.octets at (c.in_err-take_sets.ensures.gives d holds)))
+    (λ d holds. rw c.after_header.ensures.octets at (c.in_err-take_sets.ensures.gives d holds)))
 
 pub returns-clause-gives : goal.returns-clause-gives
 returns-clause-gives c = λ ds stands.
@@ -33,5 +33,5 @@ returns-clause-gives c = λ ds stands.
     good_message ds c.args.message.now c.args.header.now c.admit.new.known.entries c.unwrap-templates.result.now c.take_sets.new.templates _ c.take_sets.new.decoded _ c.requires
     (c.in_ok-admit.ensures.gives ds stands) found
     (λ es agrees. record { templates = agrees; records = c.new.ensures.items; passed_over = refl })
-    (λ d holds. rw c.behind_header.ensures.octets at (c.in_ok-take_sets.ensures.gives d holds))
+    (λ d holds. rw c.after_header.ensures.octets at (c.in_ok-take_sets.ensures.gives d holds))
     c.take_sets.ensures.header (c.get_mut.follows.holds c.take_sets.new.templates).0

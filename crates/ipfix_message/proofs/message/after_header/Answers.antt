@@ -1,7 +1,7 @@
 use Rattle.std.proofs.Common.{◌≡◌, ℕ, ◌-◌, length, take, drop, ap, ◌∙◌}
 use Rattle.std.proofs.lemmas.List.{take_rest}
 use Rattle.ipfix_message.proofs.History.{header_has_length}
-use Rattle.ipfix_message.proofs.message.behind_header.Goals as goal
+use Rattle.ipfix_message.proofs.message.after_header.Goals as goal
 
 pub returns-clause-octets : goal.returns-clause-octets
 returns-clause-octets c =
