@@ -5,6 +5,7 @@ ghost use Rattle.std.specs.Arc.{arc_value};
 ghost use Rattle.std.specs.Int.NonZero.{non_zero_u64_get};
 ghost use Rattle.recording_folder.specs.EndedFiles.{EndsLast};
 ghost use Rattle.recording_folder.specs.SessionNames.{IsNamed};
+ghost use Rattle.recording_folder.specs.declared.transport.Transport.TheVariants.{Connection};
 
 use crate::connection::PatientListener;
 use crate::place::{Recording, RecordingFiles, SessionPlace};
@@ -13,7 +14,7 @@ use crate::running::{ConnectionRecorder, record_connections};
 use recording_files::{FileReport, NotWritten};
 use recording_folder::{
     FileFinisher, Folder, FolderFault, FolderFinisher, SessionFiles, SystemPeriods, SystemPlace,
-    SystemSession, open_folder, recover, reopen_folder,
+    SystemSession, Transport, open_folder, recover, reopen_folder,
 };
 use recording_lines::WholeLines;
 use report_writing::Status;
@@ -50,7 +51,7 @@ impl<'a, R: Files + Clock, E: Write + Copy + Drop> SessionPlace<
 > for ConnectionFolder<'a, R, E> {
     // (the name of its files is that of this session)
     ghost makes = { λ _ peer number made. IfOk made (λ recording.
-        IsNamed (arc_value recording.files.session) peer number) };
+        IsNamed (arc_value recording.files.session) peer Connection number) };
 
     fn session(
         &self,
@@ -59,7 +60,10 @@ impl<'a, R: Files + Clock, E: Write + Copy + Drop> SessionPlace<
         number: u64,
     ) -> Result<Recording<ConnectionFiles<'a, R, E>, SystemPeriods<'a, R>>, AllocError> {
         let out = WholeLines::new(self.err);
-        match self.place.session(alloc, peer, number, out) {
+        match self
+            .place
+            .session(alloc, peer, Transport::Connection, number, out)
+        {
             Ok(SystemSession { files, periods }) => Ok(Recording {
                 files,
                 clock: periods,

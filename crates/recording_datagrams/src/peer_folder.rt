@@ -3,7 +3,7 @@
 use crate::finishing::{FileQueue, QueueFinisher};
 use recording_connections::SharedCounts;
 use recording_files::PeriodClock;
-use recording_folder::{SessionFiles, SystemPeriods, SystemPlace};
+use recording_folder::{SessionFiles, SystemPeriods, SystemPlace, Transport};
 use recording_lines::WholeLines;
 use recording_peers::PeerPlace;
 use std::alloc::{AllocError, Global};
@@ -41,9 +41,10 @@ impl<'a, R: Files + Clock, W: Wait, E: Write + Copy + Drop> PeerPlace<PeerFiles<
     ghost use Rattle.std.specs.Prelude.{ℕ};
     ghost use Rattle.std.specs.Arc.{arc_value};
     ghost use Rattle.recording_folder.specs.SessionNames.{IsNamed};
+    ghost use Rattle.recording_folder.specs.declared.transport.Transport.TheVariants.{Datagrams};
 
     // Its files have the name of the peer, and the number of a session.
-    ghost made_for = { λ files peer. (number : ℕ) × IsNamed (arc_value files.session) peer number };
+    ghost made_for = { λ files peer. (number : ℕ) × IsNamed (arc_value files.session) peer Datagrams number };
 
     fn files(
         &mut self,
@@ -56,8 +57,14 @@ impl<'a, R: Files + Clock, W: Wait, E: Write + Copy + Drop> PeerPlace<PeerFiles<
             queue: self.queue,
             waiting: self.waiting,
         };
-        self.place
-            .files(alloc, peer, number.get(), &self.periods, finisher)
+        self.place.files(
+            alloc,
+            peer,
+            Transport::Datagrams,
+            number.get(),
+            &self.periods,
+            finisher,
+        )
     }
 }
 

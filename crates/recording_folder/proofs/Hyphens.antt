@@ -1,5 +1,5 @@
 -- Texts with hyphens between them, and the decimal numbers in them.
-use Rattle.std.proofs.Common.{◌≡◌, ℕ, ◌<◌, ◌^◌, List, [], ◌∷◌, ◌++◌, length, get_or, drop, Option, Some, None, Result, sym, ap, subst, ◌∙◌, append_assoc, length-append, arith}
+use Rattle.std.proofs.Common.{◌≡◌, ℕ, ◌<◌, ◌^◌, List, [], ◌∷◌, ◌++◌, length, get_or, take, drop, zero, suc, eqb, refl, take-append-drop, ◌+◌, ◌≤◌, Option, Some, None, Result, sym, ap, subst, ◌∙◌, append_assoc, length-append, arith}
 use denote.Bor.{Bor}
 use Rattle.std.specs.Prelude.{◌≢◌}
 use Rattle.std.specs.Option.{MatchOption}
@@ -10,22 +10,21 @@ use Rattle.std.specs.declared.net.socket_addr.SocketAddr.{SocketAddr}
 use Rattle.std.specs.Net.Socket.{socket_ip, socket_port}
 use Rattle.std.proofs.lemmas.Fmt.{digits_decimal, decimal_injective, parse-decimal}
 use Rattle.std.proofs.lemmas.Str.Parse.{IsNumeralModel, numerals_by_value, tells_digits, not_in_digits}
-use Rattle.std.proofs.lemmas.Str.Pattern.{IsSplitOnceResult, split_after}
+use Rattle.std.proofs.lemmas.Str.Pattern.{IsSplitOnceResult, split_after, NoCharPasses-char, drop_at_char}
+use Rattle.std.specs.Str.Pattern.{RFindsChar}
+use Rattle.std.specs.Str.{NoCharPasses}
 use Rattle.std.proofs.lemmas.Option.{none-some, same_Some}
 use Rattle.std.proofs.Math.Seq.{get_or-append_seam}
-use Rattle.recording_folder.specs.SessionNames.{address_name, name_of_session}
+use Rattle.recording_folder.specs.SessionNames.{HasNoHyphen, hyphened, address_name, name_of_session, number_text, session_text}
+use Rattle.recording_folder.specs.declared.transport.Transport.{Transport}
+use Rattle.recording_folder.specs.declared.transport.Transport.TheVariants.{Connection, Datagrams}
 use Rattle.recording_folder.specs.UnfinishedNames.{name_of_unfinished}
 
 digits : IsNumeralModel (AllDigits 10) (digits_value 10)
 digits = numerals_by_value (AllDigits 10) tells_digits
 
--- there is no hyphen in a text
-pub HasNoHyphen : List ℕ → Type 0
-HasNoHyphen text = (i : ℕ) → i < length text → get_or text i 0 ≢ 45
-
 -- a decimal number has none
 pub no_hyphen : (n : ℕ) → n < 2 ^ 64 → HasNoHyphen (decimal n)
-unfolding HasNoHyphen
 no_hyphen n small i within = not_in_digits digits (decimal n) 45 (digits_decimal digits n small) (λ r. omega (arith, r.0, r.1)) i within
 
 -- what is written for a number is parsed
@@ -34,32 +33,102 @@ parsed n text r o small is parses ok = ok ∙ ap result_ok (parse-decimal 64 n t
 
 -- a hyphen follows any text
 no_seam : (text front back : List ℕ) → HasNoHyphen text → text ≢ front ++ 45 ∷ back
-unfolding HasNoHyphen
 no_seam text front back none is =
     none (length front) (subst (λ (t : List ℕ). length front < length t) (sym is) (omega (arith, length-append front (45 ∷ back))))
     (ap (λ (t : List ℕ). get_or t (length front) 0) is ∙ get_or-append_seam front 45 back 0)
 
--- what follows the last hyphen of a text
-behind_last : (front other back rest : List ℕ) → HasNoHyphen back → HasNoHyphen rest → front ++ 45 ∷ back ≡ other ++ 45 ∷ rest → back ≡ rest
-behind_last [] [] back rest none no_more is = ap (drop 1) is
-behind_last [] (b ∷ other) back rest none no_more is = absurd (no_seam back other rest none (ap (drop 1) is))
-behind_last (b ∷ front) [] back rest none no_more is = absurd (no_seam rest front back no_more (sym (ap (drop 1) is)))
-behind_last (b ∷ front) (d ∷ other) back rest none no_more is = behind_last front other back rest none no_more (ap (drop 1) is)
+-- ---- the last hyphen of a text
 
--- a session's number follows the last hyphen of its name
-number_last : (peer : SocketAddr) (number : ℕ) → (address_name (socket_ip peer) ++ 45 ∷ decimal (socket_port peer)) ++ 45 ∷ decimal number ≡ name_of_session peer number
-number_last peer number = append_assoc (address_name (socket_ip peer)) (45 ∷ decimal (socket_port peer)) (45 ∷ decimal number)
+-- the clause of `rsplit_once` at a character
+abbrev IsSplitLast : ℕ → List ℕ → Option (Bor (List ℕ) × Bor (List ℕ)) → Type 0
+IsSplitLast c bs r = MatchOption r (RFindsChar c bs None)
+    (λ x. (i : ℕ) × (j : ℕ) × RFindsChar c bs (Some (i, j)) × (x.0.now ≡ take i bs) × (x.1.now ≡ drop j bs) × (i ≤ j) × (length x.0.now ≡ i) × (length x.1.now + j ≡ length bs))
 
--- so a name has one number
-pub one_number : (peer other : SocketAddr) (number next : ℕ) → number < 2 ^ 64 → next < 2 ^ 64 → name_of_session peer number ≡ name_of_session other next → number ≡ next
-one_number peer other number next small fits is =
-    decimal_injective number next small fits
-    (behind_last (address_name (socket_ip peer) ++ 45 ∷ decimal (socket_port peer)) (address_name (socket_ip other) ++ 45 ∷ decimal (socket_port other)) (decimal number) (decimal next) (no_hyphen number small) (no_hyphen next fits)
-    (number_last peer number ∙ is ∙ sym (number_last other next)))
+-- what it finds
+pub last_parts : (text : List ℕ) (r : Option (Bor (List ℕ) × Bor (List ℕ))) → IsSplitLast 45 text r
+    → MatchOption r ((front back : List ℕ) → text ≢ hyphened front back) (λ x. (text ≡ hyphened x.0.now x.1.now) × HasNoHyphen x.1.now)
+last_parts text None h = λ front back. no_seam text front back (λ i. NoCharPasses-char 45 text i h (omega arith))
+last_parts text (Some x) h = (
+  sym (take-append-drop h.0 text) ∙ (λ k. sym h.3 k ++ (drop_at_char 45 text h.0 h.1 h.2.1 (omega arith) ∙ ap (λ l. 45 ∷ l) (sym h.4)) k),
+  λ i. NoCharPasses-char 45 x.1.now i (subst (NoCharPasses (λ d. eqb d 45)) (sym h.4) h.2.0) (omega arith),
+)
+
+-- there is one
+one_split : (front other back rest : List ℕ) → HasNoHyphen back → HasNoHyphen rest → hyphened front back ≡ hyphened other rest → (front ≡ other) × (back ≡ rest)
+one_split [] [] back rest none no_more is = (refl, ap (drop 1) is)
+one_split [] (b ∷ other) back rest none no_more is = absurd (no_seam back other rest none (ap (drop 1) is))
+one_split (b ∷ front) [] back rest none no_more is = absurd (no_seam rest front back no_more (sym (ap (drop 1) is)))
+one_split (b ∷ front) (d ∷ other) back rest none no_more is =
+    let r = one_split front other back rest none no_more (ap (drop 1) is) in
+    let head : b ≡ d = ap (λ (t : List ℕ). get_or t 0 0) is in
+    (subst (λ (x : ℕ). b ∷ front ≡ x ∷ other) head (ap (λ (t : List ℕ). b ∷ t) r.0), r.1)
+
+-- ---- a session's number
+
+number_has_no_hyphen : (transport : Transport) (number : ℕ) → number < 2 ^ 64 → HasNoHyphen (number_text transport number)
+number_has_no_hyphen Connection number small i within = no_hyphen number small i within
+number_has_no_hyphen Datagrams number small zero within = λ is. omega (arith, is)
+number_has_no_hyphen Datagrams number small (suc i) within = no_hyphen number small i (omega (arith, within))
+
+-- no decimal number begins with the letter
+no_letter : (number : ℕ) (rest : List ℕ) → number < 2 ^ 64 → decimal number ≢ 117 ∷ rest
+no_letter number rest small is =
+    not_in_digits digits (decimal number) 117 (digits_decimal digits number small) (λ r. omega (arith, r.0, r.1)) 0 (subst (λ (t : List ℕ). 0 < length t) (sym is) (omega arith)) (ap (λ (t : List ℕ). get_or t 0 0) is)
+
+one_number : (transport over : Transport) (number next : ℕ) → number < 2 ^ 64 → next < 2 ^ 64 → number_text transport number ≡ number_text over next → (transport ≡ over) × (number ≡ next)
+one_number Connection Connection number next small fits is = (refl, decimal_injective number next small fits is)
+one_number Connection Datagrams number next small fits is = absurd (no_letter number (decimal next) small is)
+one_number Datagrams Connection number next small fits is = absurd (no_letter next (decimal number) fits (sym is))
+one_number Datagrams Datagrams number next small fits is = (refl, decimal_injective number next small fits (ap (drop 1) is))
+
+-- where none is read after the letter, or without it
+pub none_after_letter : (text digits : List ℕ) → text ≡ 117 ∷ digits → ((n : ℕ) → n < 2 ^ 64 → digits ≢ decimal n) → (transport : Transport) (n : ℕ) → n < 2 ^ 64 → text ≢ number_text transport n
+none_after_letter text digits is none Connection n small e = no_letter n digits small (sym e ∙ is)
+none_after_letter text digits is none Datagrams n small e = none n small (ap (drop 1) (sym is ∙ e))
+
+pub none_without_letter : (text : List ℕ) → ((rest : List ℕ) → text ≢ 117 ∷ rest) → ((n : ℕ) → n < 2 ^ 64 → text ≢ decimal n) → (transport : Transport) (n : ℕ) → n < 2 ^ 64 → text ≢ number_text transport n
+none_without_letter text other none Connection n small e = none n small e
+none_without_letter text other none Datagrams n small e = other (decimal n) e
+
+-- ---- the names of sessions
+
+-- an address and a port, and then the number
+before_number : (address : List ℕ) (port : ℕ) (transport : Transport) (number : ℕ) → session_text address port transport number ≡ hyphened (hyphened address (decimal port)) (number_text transport number)
+before_number address port transport number = sym (append_assoc address (45 ∷ decimal port) (45 ∷ number_text transport number))
+
+-- what stands before and after the last hyphen of a name
+pub name_parts : (name peer rest address : List ℕ) (port : ℕ) (transport : Transport) (number : ℕ) → (name ≡ hyphened peer rest) × HasNoHyphen rest → number < 2 ^ 64 → name ≡ session_text address port transport number
+    → (peer ≡ hyphened address (decimal port)) × (rest ≡ number_text transport number)
+name_parts name peer rest address port transport number split small is =
+    one_split peer (hyphened address (decimal port)) rest (number_text transport number) split.1 (number_has_no_hyphen transport number small) (sym split.0 ∙ is ∙ before_number address port transport number)
+
+-- and before that the port follows one
+pub port_is : (peer front digits address : List ℕ) (port : ℕ) → (peer ≡ hyphened front digits) × HasNoHyphen digits → port < 2 ^ 16 → peer ≡ hyphened address (decimal port) → digits ≡ decimal port
+port_is peer front digits address port split small is = (one_split front address digits (decimal port) split.1 (no_hyphen port (omega (arith, small))) (sym split.0 ∙ is)).1
+
+-- what a name says
+pub one_session : (address other : List ℕ) (port next_port : ℕ) (transport over : Transport) (number next : ℕ) → port < 2 ^ 16 → next_port < 2 ^ 16 → number < 2 ^ 64 → next < 2 ^ 64
+    → session_text address port transport number ≡ session_text other next_port over next → (address ≡ other) × (port ≡ next_port) × (transport ≡ over) × (number ≡ next)
+one_session address other port next_port transport over number next p q small fits is =
+    let last = one_split (hyphened address (decimal port)) (hyphened other (decimal next_port)) (number_text transport number) (number_text over next)
+    (number_has_no_hyphen transport number small) (number_has_no_hyphen over next fits)
+    (sym (before_number address port transport number) ∙ is ∙ before_number other next_port over next) in
+    let front = one_split address other (decimal port) (decimal next_port) (no_hyphen port (omega (arith, p))) (no_hyphen next_port (omega (arith, q))) last.0 in
+    let numbers = one_number transport over number next small fits last.1 in
+    (front.0, decimal_injective port next_port (omega (arith, p)) (omega (arith, q)) front.1, numbers.0, numbers.1)
+
+-- so sessions of different numbers differ in name, whatever the ports are
+pub one_number_in : (peer other : SocketAddr) (transport over : Transport) (number next : ℕ) → number < 2 ^ 64 → next < 2 ^ 64 → name_of_session peer transport number ≡ name_of_session other over next → number ≡ next
+one_number_in peer other transport over number next small fits is =
+    let last = one_split (hyphened (address_name (socket_ip peer)) (decimal (socket_port peer))) (hyphened (address_name (socket_ip other)) (decimal (socket_port other))) (number_text transport number) (number_text over next)
+    (number_has_no_hyphen transport number small) (number_has_no_hyphen over next fits)
+    (sym (before_number (address_name (socket_ip peer)) (socket_port peer) transport number) ∙ is ∙ before_number (address_name (socket_ip other)) (socket_port other) over next) in
+    (one_number transport over number next small fits last.1).1
+
+-- ---- the names of unfinished files
 
 -- the two parts of an unfinished file's name
 pub parts_again : (begins : ℕ) (session name : List ℕ) (r : Option (Bor (List ℕ) × Bor (List ℕ))) → IsSplitOnceResult 45 name r → begins < 2 ^ 64 → name ≡ name_of_unfinished begins session → MatchOption r ⊥ (λ x. (x.0.now ≡ decimal begins) × (x.1.now ≡ session))
-unfolding HasNoHyphen
 parts_again begins session name r split small is = split_after 45 name (decimal begins) session r split (omega arith) is (no_hyphen begins small)
 
 -- so there are parts

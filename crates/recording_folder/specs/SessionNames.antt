@@ -1,5 +1,5 @@
 -- The names of sessions.
-use Rattle.std.specs.Prelude.{◌≡◌, ℕ, false, if◌then◌else◌, List, [], ◌∷◌, ◌++◌, codes, decimal, take, drop, bytes_eq}
+use Rattle.std.specs.Prelude.{◌≡◌, ◌≢◌, ◌<◌, ℕ, false, if◌then◌else◌, List, [], ◌∷◌, ◌++◌, codes, decimal, take, drop, bytes_eq, length, get_or}
 use Rattle.std.specs.List.{flat_map}
 use Rattle.std.specs.Fmt.{digits}
 use Rattle.std.specs.declared.net.ip_addr.IpAddr.{IpAddr}
@@ -9,6 +9,8 @@ use Rattle.std.specs.Net.Addr.{ipv4_octets, ipv6_segments, octets_of}
 use Rattle.std.specs.Net.Socket.{socket_ip, socket_port}
 use Rattle.std.specs.Net.Text.{ipv4_text}
 use Rattle.std.specs.String.{string_bytes}
+use Rattle.recording_folder.specs.declared.transport.Transport.{Transport}
+use Rattle.recording_folder.specs.declared.transport.Transport.TheVariants.{Connection, Datagrams}
 use Rattle.recording_folder.specs.declared.filed_session.FiledSession.{FiledSession}
 
 -- two texts with a hyphen between them
@@ -32,10 +34,23 @@ address_name (V6 a) =
     then ipv4_text (octets_of (drop 6 (ipv6_segments a)))
     else groups (ipv6_segments a)
 
+-- a session's number: after a letter, where its messages come in datagrams
+abbrev pub number_text : Transport → ℕ → List ℕ
+number_text Connection number = decimal number
+number_text Datagrams number = codes "u" ++ decimal number
+
+-- an address, a port and a session's number
+abbrev pub session_text : List ℕ → ℕ → Transport → ℕ → List ℕ
+session_text address port transport number = hyphened address (hyphened (decimal port) (number_text transport number))
+
 -- the name of a session: its peer's address and port, and its number
-abbrev pub name_of_session : SocketAddr → ℕ → List ℕ
-name_of_session peer number = hyphened (address_name (socket_ip peer)) (hyphened (decimal (socket_port peer)) (decimal number))
+abbrev pub name_of_session : SocketAddr → Transport → ℕ → List ℕ
+name_of_session peer transport number = session_text (address_name (socket_ip peer)) (socket_port peer) transport number
 
 -- the files of a session have its name
-abbrev pub IsNamed : FiledSession → SocketAddr → ℕ → Type 0
-IsNamed session peer number = string_bytes session.name ≡ name_of_session peer number
+abbrev pub IsNamed : FiledSession → SocketAddr → Transport → ℕ → Type 0
+IsNamed session peer transport number = string_bytes session.name ≡ name_of_session peer transport number
+
+-- there is no hyphen in a text
+abbrev pub HasNoHyphen : List ℕ → Type 0
+HasNoHyphen text = (i : ℕ) → i < length text → get_or text i 0 ≢ 45

@@ -1,12 +1,22 @@
 //! Laws of the definitions. Each is a function that does nothing, and its contract is the theorem.
 
-ghost use Rattle.std.specs.Prelude.{◌≢◌, ◌<◌, ◌^◌, ℕ};
+ghost use Rattle.std.specs.Prelude.{◌≡◌, ◌≢◌, ◌<◌, ◌^◌, ℕ, List};
 ghost use Rattle.std.specs.declared.net.socket_addr.SocketAddr.{SocketAddr};
-ghost use Rattle.recording_folder.specs.SessionNames.{name_of_session};
+ghost use Rattle.recording_folder.specs.SessionNames.{name_of_session, session_text};
+ghost use Rattle.recording_folder.specs.declared.transport.Transport.{Transport};
 
-/// Sessions of different numbers have different names, whatever their peers.
+/// Sessions of different numbers have different names, whatever their peers, and whatever they come over.
 pub fn sessions_differ_in_name()
-    ensures { (peer other : SocketAddr) (number next : ℕ)
+    ensures { (peer other : SocketAddr) (transport over : Transport) (number next : ℕ)
         → number < 2 ^ 64 → next < 2 ^ 64 → number ≢ next
-        → name_of_session peer number ≢ name_of_session other next }
+        → name_of_session peer transport number ≢ name_of_session other over next }
+{}
+
+/// What is read of a session's name is what it was made of: the address as it is written, the port, what the
+/// session comes over, and its number.
+pub fn names_say_one_session()
+    ensures { (address other : List ℕ) (port next_port : ℕ) (transport over : Transport) (number next : ℕ)
+        → port < 2 ^ 16 → next_port < 2 ^ 16 → number < 2 ^ 64 → next < 2 ^ 64
+        → session_text address port transport number ≡ session_text other next_port over next
+        → (address ≡ other) × (port ≡ next_port) × (transport ≡ over) × (number ≡ next) }
 {}

@@ -2,6 +2,7 @@
 //! what is done at a start with those that an earlier run left.
 #![tactic(auto)]
 
+mod decimals;
 mod ended_file;
 mod file_contents;
 mod file_reading;
@@ -19,6 +20,7 @@ mod session_names;
 mod system_periods;
 mod system_place;
 mod told_period;
+mod transport;
 mod unfinished_file;
 mod unfinished_names;
 
@@ -29,7 +31,8 @@ pub use period::{CALENDAR_END, Period, period_of};
 pub use period_names::period_name;
 pub use recovery::recover;
 pub use session_files::SessionFiles;
-pub use session_names::session_name;
+pub use session_names::{SessionName, address_name, read_session_name, session_name};
 pub use system_periods::{LatestPeriod, SystemPeriods};
 pub use system_place::{SystemPlace, SystemSession};
+pub use transport::Transport;
 pub use unfinished_names::{UnfinishedName, read_unfinished_name, unfinished_name};

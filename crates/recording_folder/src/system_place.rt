@@ -11,6 +11,7 @@ use crate::session_files::SessionFiles;
 use crate::session_names::session_name;
 use crate::system_periods::{SystemPeriods, period_now};
 use crate::told_period::ToldPeriod;
+use crate::transport::Transport;
 use recording_files::FinishedFiles;
 use std::alloc::{AllocError, Global};
 use std::fs::Files;
@@ -55,16 +56,17 @@ impl<'a, R: Files + Clock> SystemPlace<'a, R> {
         &self,
         alloc: Global,
         peer: SocketAddr,
+        transport: Transport,
         number: u64,
         log: L,
     ) -> Result<SystemSession<'a, R, FolderFinisher<'a, R, L>>, AllocError>
-        ensures session { IfOk result (λ s. IsNamed (arc_value s.files.session) peer number) }
+        ensures session { IfOk result (λ s. IsNamed (arc_value s.files.session) peer transport number) }
         ensures failed { IfOk result (λ s. s.files.failed ≡ 0) }
         ensures periods { IfOk result (λ s. (s.periods.asked ≡ 0) × (s.periods.over ≡ 0)) }
     {
         let periods = self.periods(alloc)?;
         let finisher = self.finisher(alloc, log);
-        let files = self.files(alloc, peer, number, &periods, finisher)?;
+        let files = self.files(alloc, peer, transport, number, &periods, finisher)?;
         Ok(SystemSession { files, periods })
     }
 
@@ -82,14 +84,15 @@ impl<'a, R: Files + Clock> SystemPlace<'a, R> {
         &self,
         alloc: Global,
         peer: SocketAddr,
+        transport: Transport,
         number: u64,
         periods: &SystemPeriods<'a, R>,
         finisher: K,
     ) -> Result<SessionFiles<'a, R, K>, AllocError>
-        ensures session { IfOk result (λ files. IsNamed (arc_value files.session) peer number) }
+        ensures session { IfOk result (λ files. IsNamed (arc_value files.session) peer transport number) }
         ensures failed { IfOk result (λ files. files.failed ≡ 0) }
     {
-        let name = session_name(alloc, peer, number)?;
+        let name = session_name(alloc, peer, transport, number)?;
         let session = Arc::new(alloc, FiledSession::new(name))?;
         let told = periods.told()?;
         Ok(SessionFiles::new(self.rt, alloc, self.folder, session, told, finisher))

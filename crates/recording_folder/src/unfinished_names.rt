@@ -1,12 +1,12 @@
 //! The names of files that aren't finished.
 
-ghost use Rattle.std.specs.Prelude.{◌≡◌, ◌≢◌, ◌<◌, ◌^◌, ℕ, List, decimal, IfOk, MatchOption};
+ghost use Rattle.std.specs.Prelude.{◌≡◌, ◌≢◌, ◌<◌, ℕ, List, IfOk, MatchOption};
 ghost use Rattle.std.specs.String.{string_bytes};
 ghost use Rattle.recording_folder.specs.PeriodNames.{calendar_end};
 ghost use Rattle.recording_folder.specs.UnfinishedNames.{name_of_unfinished};
 
+use crate::decimals::decimal_number;
 use crate::period::{CALENDAR_END, Period};
-use itoa::Buffer;
 use std::alloc::{AllocError, Global};
 
 /// What the name of an unfinished file tells.
@@ -44,18 +44,4 @@ pub fn read_unfinished_name(name: &str) -> Option<UnfinishedName<'_>>
         period: Period { begins },
         session,
     })
-}
-
-// A decimal number of 64 bits, without a sign or leading zeros.
-fn decimal_number(text: &str) -> Option<u64>
-    ensures { MatchOption result
-        ((number : ℕ) → number < 2 ^ 64 → text.now ≢ decimal number)
-        (λ number. text.now ≡ decimal number) }
-{
-    let number = text.parse::<u64>().ok()?;
-    if Buffer::new().format(number) == text {
-        Some(number)
-    } else {
-        None
-    }
 }

@@ -12,7 +12,7 @@ use super::trial::{MANY_CALLS, NEXT_PERIOD, Trial};
 use recording_files::{FileReport, PeriodClock};
 use recording_folder::{
     EndedFile, FileFinisher, Folder, FolderFinisher, SessionFiles, SystemPeriods, SystemPlace,
-    open_folder,
+    Transport, open_folder,
 };
 use std::cell::RefCell;
 use std::test::*;
@@ -102,7 +102,14 @@ fn write_both<'q, 'a>(
     let mut periods = place.periods(disk.alloc)?;
     let at_once = place.finisher(disk.alloc, notes);
     let finisher = QueueFinisher { at_once, queue };
-    let mut files = place.files(disk.alloc, peer(), 7, &periods, finisher)?;
+    let mut files = place.files(
+        disk.alloc,
+        peer(),
+        Transport::Connection,
+        7,
+        &periods,
+        finisher,
+    )?;
     write_first(disk, &mut files, &mut periods, kept)?;
     kept.append(&mut files, THIRD)?;
     files.finish(&FileReport::EMPTY)?;
@@ -193,7 +200,14 @@ fn fail_apart<'q, 'a>(
     let mut periods = place.periods(disk.alloc)?;
     let at_once = place.finisher(disk.alloc, notes);
     let finisher = QueueFinisher { at_once, queue };
-    let mut files = place.files(disk.alloc, peer(), 7, &periods, finisher)?;
+    let mut files = place.files(
+        disk.alloc,
+        peer(),
+        Transport::Connection,
+        7,
+        &periods,
+        finisher,
+    )?;
     let mut kept = KeptFiles::new(disk.alloc);
     write_first(disk, &mut files, &mut periods, &mut kept)?;
     kept.append(&mut files, THIRD)?;
@@ -235,7 +249,14 @@ fn lack_descriptor<'q, 'a>(
     let mut periods = place.periods(disk.alloc)?;
     let at_once = place.finisher(disk.alloc, notes);
     let finisher = QueueFinisher { at_once, queue };
-    let mut files = place.files(disk.alloc, peer(), 7, &periods, finisher)?;
+    let mut files = place.files(
+        disk.alloc,
+        peer(),
+        Transport::Connection,
+        7,
+        &periods,
+        finisher,
+    )?;
     let mut kept = KeptFiles::new(disk.alloc);
     write_first(disk, &mut files, &mut periods, &mut kept)?;
     trial.refuse(Some(Refusal {

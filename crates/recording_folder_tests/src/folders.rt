@@ -6,7 +6,7 @@ use super::script_file::lent;
 use super::sessions::{FIRST, FIRST_NAME, SECOND, peer};
 use super::trial::Trial;
 use recording_files::{FileReport, NotWritten};
-use recording_folder::{FolderFault, SystemPlace, open_folder, reopen_folder};
+use recording_folder::{FolderFault, SystemPlace, Transport, open_folder, reopen_folder};
 use std::fs;
 use std::io::ErrorKind;
 use std::test::*;
@@ -76,7 +76,7 @@ fn nothing_is_acknowledged_in_a_folder_that_is_gone(rt: HostRuntime) -> Result<(
     lent(&trial.tree)?.remove_all(folder.path());
     let disk = trial.disk();
     let place = SystemPlace::new(&disk, &folder, 300);
-    let mut session = place.session(trial.alloc, peer(), 7, trial.notes())?;
+    let mut session = place.session(trial.alloc, peer(), Transport::Connection, 7, trial.notes())?;
     let mut kept = KeptFiles::new(trial.alloc);
     assert!(rt; kept.append(&mut session.files, FIRST) == Err(NotWritten));
     assert!(rt; session.files.finish(&FileReport::EMPTY) == Ok(()));
@@ -89,7 +89,7 @@ fn a_file_is_not_said_to_be_finished_in_a_folder_that_is_gone(rt: HostRuntime) -
     let trial = Trial::new(&rt, &folder)?;
     let disk = trial.disk();
     let place = SystemPlace::new(&disk, &folder, 300);
-    let mut session = place.session(trial.alloc, peer(), 7, trial.notes())?;
+    let mut session = place.session(trial.alloc, peer(), Transport::Connection, 7, trial.notes())?;
     let mut kept = KeptFiles::new(trial.alloc);
     kept.append(&mut session.files, FIRST)?;
     lent(&trial.tree)?.remove_all(folder.path());
@@ -103,7 +103,7 @@ fn a_folder_of_a_period_that_was_moved_away_is_made_again(rt: HostRuntime) -> Re
     let trial = Trial::new(&rt, &folder)?;
     let disk = trial.disk();
     let place = SystemPlace::new(&disk, &folder, 300);
-    let mut session = place.session(trial.alloc, peer(), 7, trial.notes())?;
+    let mut session = place.session(trial.alloc, peer(), Transport::Connection, 7, trial.notes())?;
     let mut kept = KeptFiles::new(trial.alloc);
     kept.append(&mut session.files, FIRST)?;
     kept.turn(&mut session.files)?;

@@ -1,6 +1,8 @@
 //! The names in a folder, with values worked out by `date -u` and by hand.
 
-use recording_folder::{period_name, period_of, read_unfinished_name, session_name};
+use recording_folder::{
+    Transport, period_name, period_of, read_session_name, read_unfinished_name, session_name,
+};
 use std::net::{IpAddr, Ipv4Addr, Ipv6Addr, SocketAddr};
 
 #[test]
@@ -24,14 +26,38 @@ fn periods_are_named_in_utc(rt: HostRuntime) {
 fn sessions_are_named_by_peer_and_number(rt: HostRuntime) {
     let documentation = Ipv6Addr::new(0x2001, 0xdb8, 0, 0, 0, 0, 0, 1);
     let mapped = Ipv6Addr::new(0, 0, 0, 0, 0, 0xffff, 0xc000, 0x201);
-    for (ip, name) in [
-        (IpAddr::V4(Ipv4Addr::new(192, 0, 2, 1)), "192.0.2.1-40012-7"),
-        (IpAddr::V6(documentation), "2001-db8-0-0-0-0-0-1-40012-7"),
-        (IpAddr::V6(mapped), "192.0.2.1-40012-7"),
+    let usual = Ipv4Addr::new(192, 0, 2, 1);
+    for (ip, transport, name) in [
+        (
+            IpAddr::V4(usual),
+            Transport::Connection,
+            "192.0.2.1-40012-7",
+        ),
+        (
+            IpAddr::V4(usual),
+            Transport::Datagrams,
+            "192.0.2.1-40012-u7",
+        ),
+        (
+            IpAddr::V6(documentation),
+            Transport::Connection,
+            "2001-db8-0-0-0-0-0-1-40012-7",
+        ),
+        (
+            IpAddr::V6(mapped),
+            Transport::Datagrams,
+            "192.0.2.1-40012-u7",
+        ),
     ] {
-        let named = session_name(rt.alloc(), SocketAddr::new(ip, 40012), 7);
+        let named = session_name(rt.alloc(), SocketAddr::new(ip, 40012), transport, 7);
         assert!(rt;
             matches!(&named, Ok(text) if text.as_str() == name),
+            "{name}"
+        );
+        let told = read_session_name(name);
+        assert!(rt;
+            matches!(told, Some(told) if told.transport == transport
+            && told.port == 40012 && told.number == 7),
             "{name}"
         );
     }
@@ -55,5 +81,23 @@ fn names_of_unfinished_files_are_read(rt: HostRuntime) {
         "18446744073709551616-x",
     ] {
         assert!(rt; read_unfinished_name(name).is_none(), "{name}");
+    }
+}
+
+#[test]
+fn names_of_other_files_are_none_of_sessions(rt: HostRuntime) {
+    let told = read_session_name("2001-db8-0-0-0-0-0-1-40012-u7");
+    assert!(rt; matches!(told, Some(told) if told.address == "2001-db8-0-0-0-0-0-1"));
+    for name in [
+        "",
+        "40012-7",
+        "a-40012-v7",
+        "a-40012-uu7",
+        "a-40012-u",
+        "a-40012-07",
+        "a-65536-7",
+        "a-40012-18446744073709551616",
+    ] {
+        assert!(rt; read_session_name(name).is_none(), "{name}");
     }
 }

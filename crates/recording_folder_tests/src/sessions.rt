@@ -10,7 +10,8 @@ use super::standing::{Notes, check};
 use super::trial::{MANY_CALLS, NEXT_PERIOD, Trial, cut_at_each_call};
 use recording_files::{FileReport, NotWritten, PeriodClock};
 use recording_folder::{
-    Folder, FolderFinisher, SessionFiles, SystemPeriods, SystemPlace, SystemSession, open_folder,
+    Folder, FolderFinisher, SessionFiles, SystemPeriods, SystemPlace, SystemSession, Transport,
+    open_folder,
 };
 use std::io;
 use std::net::{IpAddr, Ipv4Addr, SocketAddr};
@@ -82,7 +83,7 @@ fn record_session<'a>(
     let SystemSession {
         mut files,
         mut periods,
-    } = place.session(disk.alloc, peer(), 7, notes)?;
+    } = place.session(disk.alloc, peer(), Transport::Connection, 7, notes)?;
     let mut kept = KeptFiles::new(disk.alloc);
     let written = write_files(disk, &mut files, &mut periods, &mut kept);
     let finished = files.finish(&FileReport::EMPTY);

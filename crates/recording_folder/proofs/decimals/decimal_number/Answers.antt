@@ -4,7 +4,7 @@ use Rattle.std.proofs.lemmas.Bool.{false≢true}
 use Rattle.std.proofs.lemmas.Option.{none-some, same_Some}
 use Rattle.std.proofs.lemmas.Slice.Eq.{bytes_eq-Decides}
 use Rattle.recording_folder.proofs.Hyphens.{parsed}
-use Rattle.recording_folder.proofs.unfinished_names.decimal_number.Goals as goal
+use Rattle.recording_folder.proofs.decimals.decimal_number.Goals as goal
 
 pub returns-in_err-number : goal.returns-in_err-number
 returns-in_err-number c = rw c.from_residual.ensures (λ n small is. none-some n (sym c.in_err-number.was ∙ parsed n c.args.text.now c.parse.result c.ok.result small is c.parse.ensures.value.0 c.ok.ensures.value))
