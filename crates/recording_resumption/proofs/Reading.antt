@@ -29,7 +29,7 @@ use Rattle.ipfix_session.proofs.Giving.{gives_after-stop, behind-behind, gives_a
 use Rattle.ipfix_session.proofs.Ledgers.{own_one, own_other, own-append}
 use Rattle.ipfix_session.proofs.Reaching.{delivered-push, fault_is}
 use Rattle.recording_resumption.specs.Resumption.{last_message, last_of}
-use Rattle.recording_resumption.specs.EarlierFiles.{HasCounted, HasReadSession, messages_view}
+use Rattle.recording_resumption.specs.Readings.{HasCounted, HasReadSession, messages_view}
 use Rattle.recording_resumption.specs.declared.earlier_reading.EarlierReading.{EarlierReading}
 use Rattle.recording_resumption.specs.declared.file_messages.FileMessages.{FileMessages}
 

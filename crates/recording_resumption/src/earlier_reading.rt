@@ -5,7 +5,8 @@ ghost use Rattle.ipfix_message.specs.declared.fault.MessageFault.TheVariants.{Ou
 ghost use Rattle.ipfix_session.specs.declared.fault.SessionFault.TheVariants.{Message};
 ghost use Rattle.ipfix_session.specs.Faults.{ends_open};
 ghost use Rattle.ipfix_session.specs.Reports.{ended_by};
-ghost use Rattle.recording_resumption.specs.EarlierFiles.{HasReadSession, IsEarlierSession};
+ghost use Rattle.recording_resumption.specs.EarlierFiles.{IsEarlierSession};
+ghost use Rattle.recording_resumption.specs.Readings.{HasReadSession};
 
 use crate::earlier_session::EarlierSession;
 use crate::file_messages::FileMessages;

@@ -2,7 +2,7 @@
 
 ghost use Rattle.std.specs.Prelude.{◌≡◌, [], false};
 ghost use Rattle.ipfix_message.specs.Domains.{IsAnswer, Message, StandsFor};
-ghost use Rattle.recording_resumption.specs.EarlierFiles.{HasCounted};
+ghost use Rattle.recording_resumption.specs.Readings.{HasCounted};
 ghost use Rattle.recording_resumption.specs.Resumption.{last_message};
 
 use crate::last_message::LastMessage;
@@ -54,7 +54,7 @@ impl FileMessages {
 }
 
 impl MessageSink<()> for FileMessages {
-    ghost use Rattle.recording_resumption.specs.EarlierFiles.{messages_view};
+    ghost use Rattle.recording_resumption.specs.Readings.{messages_view};
 
     ghost seen = { messages_view };
 

@@ -2,7 +2,7 @@ use Rattle.std.proofs.Common.{List, refl, sym, ap, subst}
 use Rattle.ipfix_message.specs.Domains.{Message}
 use Rattle.ipfix_session.specs.Given.{Given}
 use Rattle.ipfix_session.proofs.Reaching.{gives_first, stands_first}
-use Rattle.recording_resumption.specs.EarlierFiles.{HasCounted}
+use Rattle.recording_resumption.specs.Readings.{HasCounted}
 use Rattle.recording_resumption.proofs.earlier_reading.EarlierReading.new.Goals as goal
 
 pub returns : goal.returns

@@ -3,7 +3,7 @@ use Rattle.std.proofs.lemmas.Bool.{false≢true}
 use Rattle.ipfix_session.specs.Given.{gives}
 use Rattle.ipfix_session.proofs.MessagesTaken.{between_first}
 use Rattle.ipfix_session.proofs.Reaching.{buffer_is_rest, may_go_on}
-use Rattle.recording_resumption.specs.EarlierFiles.{messages_view}
+use Rattle.recording_resumption.specs.Readings.{messages_view}
 use Rattle.recording_resumption.proofs.Reading.{none_but, read_by, read_no_more, taken_first}
 use Rattle.recording_resumption.proofs.earlier_reading.EarlierReading.read.Goals as goal
 

@@ -6,7 +6,7 @@ use Rattle.ipfix_session.specs.Given.{known_after, records_in}
 use Rattle.ipfix_session.specs.Intake.{counts_of}
 use Rattle.ipfix_session.proofs.Chains.{known_after-push}
 use Rattle.ipfix_session.proofs.Reaching.{tells_accounts, tells_delivered}
-use Rattle.recording_resumption.specs.EarlierFiles.{HasCounted}
+use Rattle.recording_resumption.specs.Readings.{HasCounted}
 use Rattle.recording_resumption.specs.Resumption.{last_message}
 use Rattle.recording_resumption.specs.declared.file_messages.FileMessages.{FileMessages}
 use Rattle.recording_resumption.specs.declared.last_message.LastMessage.{LastMessage}
