@@ -5,6 +5,7 @@ pub mod SameRuns
 pub mod Settled
 pub mod Runs
 pub mod Serials
+pub mod LotLists
 pub mod SendLists
 pub mod LinkEndLists
 pub mod ZipLists

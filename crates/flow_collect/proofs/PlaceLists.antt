@@ -12,6 +12,13 @@ each4_more P [] [] [] [] a b c d e p = (p, tt)
 each4_more P (w ∷ aa) (x ∷ bs) (y ∷ cs) (z ∷ ds) a b c d e p = (e.0, each4_more P aa bs cs ds a b c d e.1 p)
 each4_more P aa bs cs ds a b c d e p = absurd e
 
+-- four lists behind four others
+pub each4_append : {A B C D : Type 0} (P : A → B → C → D → Type 0) (aa aa' : List A) (bs bs' : List B) (cs cs' : List C) (ds ds' : List D)
+    → Each4 P aa bs cs ds → Each4 P aa' bs' cs' ds' → Each4 P (aa ++ aa') (bs ++ bs') (cs ++ cs') (ds ++ ds')
+each4_append P [] aa' [] bs' [] cs' [] ds' e f = f
+each4_append P (w ∷ aa) aa' (x ∷ bs) bs' (y ∷ cs) cs' (z ∷ ds) ds' e f = (e.0, each4_append P aa aa' bs bs' cs cs' ds ds' e.1 f)
+each4_append P aa aa' bs bs' cs cs' ds ds' e f = absurd e
+
 -- what holds of the last two
 pub last_two : {A B C D : Type 0} (P : A → B → C → D → Type 0) (Q : C → D → Type 0) → ((a : A) (b : B) (c : C) (d : D) → P a b c d → Q c d)
     → (aa : List A) (bs : List B) (cs : List C) (ds : List D) → Each4 P aa bs cs ds → AllZip Q cs ds

@@ -6,9 +6,8 @@ use Rattle.flow_table.specs.Plans.{PlanValue}
 use Rattle.flow_table.specs.SameTables.{IsSameTable}
 use Rattle.flow_table.specs.Tables.{IsTable}
 use Rattle.flow_table.proofs.OneTable.{same_table}
-use Rattle.flow_collect.specs.Headline.{Answer, all_of, without_links}
+use Rattle.flow_collect.specs.Headline.{Answer, SerialAnswer, all_of, without_links}
 use Rattle.flow_collect.specs.Texts.{ReadsOctets, ReadsInThreads}
-use Rattle.flow_collect.specs.declared.collected.Serial.{Serial}
 use Rattle.flow_collect.proofs.GivenLists.{records_by_octets}
 
 -- one in threads, without its links
@@ -17,7 +16,7 @@ links_aside seen sources plan gave c r =
     let h = r.headline in
     record { headline = record { records = h.records; given = h.given; added_up = h.added_up }; gave_these = r.gave_these; had_memory = r.had_memory }
 
-pub same_runs : {S T : Type 0} (seen : S → SourceView) (other : T → SourceView) (sources : List S) (others : List T) (plan : PlanValue) (gave : List (List ℕ)) (s : Serial S) (t : Serial T)
+pub same_runs : {S T : Type 0} (seen : S → SourceView) (other : T → SourceView) (sources : List S) (others : List T) (plan : PlanValue) (gave : List (List ℕ)) (s : SerialAnswer S) (t : SerialAnswer T)
     → ReadsOctets seen sources plan gave s → ReadsOctets other others plan gave t → IsSameTable s.table t.table
 same_runs seen other sources others plan gave s t rs rt =
     let hs = rs.headline in

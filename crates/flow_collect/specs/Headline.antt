@@ -80,20 +80,28 @@ pub record HeadlineWith {S R : Type 0} (Gets : S → S → R → List DataRecord
 abbrev pub Answer : Type 0 → Type 0
 Answer S = Collected S SessionReport Table
 
+-- of a run without links, on one thread or in lots. `Gets` says which records a session gets, as above
+pub record SerialHeadlineWith {S R : Type 0} (Gets : S → S → R → List DataRecord → Type 0) (sources : List S) (plan : PlanValue) (s : Serial S R Table) : Type 0 where
+  -- for each session there are records
+  pub records : List (List DataRecord)
+  -- which are what it gets of the octets that its source gave, as its report tells
+  pub given : Each4 Gets sources s.sources.items s.sessions.items records
+  -- and of which all together the table is the aggregate
+  pub added_up : IsAddedUp plan (all_of records) s.table
+
+-- what `collect_serial` answers
+abbrev pub SerialAnswer : Type 0 → Type 0
+SerialAnswer S = Serial S SessionReport Table
+
 module _ {S : Type 0} (seen : S → SourceView) where
   -- the headline: a worker gets exactly the records of these octets
   abbrev pub Headline : List S → PlanValue → Pool → Answer S → Type 0
   Headline sources plan pool c = HeadlineWith (IsGivenBy seen) sources plan pool c
 
-  -- of a run on one thread, which has no links
-  pub record SerialHeadline (sources : List S) (plan : PlanValue) (s : Serial S) : Type 0 where
-    -- for each session there are records
-    pub records : List (List DataRecord)
-    -- which are those of the octets that its source gave, as its report tells
-    pub given : Each4 (IsGivenBy seen) sources s.sources.items s.sessions.items records
-    -- and of which all together the table is the aggregate
-    pub added_up : IsAddedUp plan (all_of records) s.table
+  -- and without links a session gets exactly these
+  abbrev pub SerialHeadline : List S → PlanValue → SerialAnswer S → Type 0
+  SerialHeadline sources plan s = SerialHeadlineWith (IsGivenBy seen) sources plan s
 
 -- a run in threads, without its links
-abbrev pub without_links : {S : Type 0} → Answer S → Serial S
+abbrev pub without_links : {S : Type 0} → Answer S → SerialAnswer S
 without_links c = record { sessions = c.sessions; sources = c.sources; table = c.table }

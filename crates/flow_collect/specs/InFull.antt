@@ -14,13 +14,18 @@ use Rattle.ipfix_session.specs.declared.report.SessionReport.{SessionReport}
 use Rattle.flow_table.specs.Plans.{PlanValue}
 use Rattle.flow_table.specs.SameTables.{IsSameTable}
 use Rattle.flow_table.specs.declared.table.Table.{Table}
-use Rattle.flow_collect.specs.Headline.{Answer, HeadlineWith, IsGivenBy}
+use Rattle.flow_collect.specs.Headline.{Answer, HeadlineWith, IsGivenBy, SerialHeadlineWith}
 use Rattle.flow_collect.specs.declared.collected.Pool.{Pool}
 use Rattle.flow_collect.specs.declared.collected.Collected.{Collected}
+use Rattle.flow_collect.specs.declared.collected.Serial.{Serial}
 
 -- what `collect_flat` answers
 abbrev pub FullAnswer : Type 0 → Type 0
 FullAnswer S = Collected S FullReport Table
+
+-- what `collect_direct` answers
+abbrev pub FullSerialAnswer : Type 0 → Type 0
+FullSerialAnswer S = Serial S FullReport Table
 
 -- the reports as they are without the rest
 abbrev pub reports_in : List FullReport → List SessionReport
@@ -46,6 +51,10 @@ module _ {S : Type 0} (seen : S → SourceView) where
   -- the headline, if a worker gets these records
   abbrev pub FullHeadline : List S → PlanValue → Pool → FullAnswer S → Type 0
   FullHeadline sources plan pool c = HeadlineWith IsGivenInFull sources plan pool c
+
+  -- and without links
+  abbrev pub FullSerialHeadline : List S → PlanValue → FullSerialAnswer S → Type 0
+  FullSerialHeadline sources plan s = SerialHeadlineWith IsGivenInFull sources plan s
 
   -- each domain's ledger balances, of the messages that the report counts
   pub record HasBalanced (before after : S) (full : FullReport) (records : List DataRecord) : Type 0 where

@@ -5,10 +5,12 @@
 mod collected;
 mod collecting;
 mod dealing;
+mod direct;
 mod fault;
 mod gate;
 pub mod laws;
 mod link_sink;
+mod lots;
 mod serial;
 mod session_thread;
 mod settling;
@@ -19,6 +21,7 @@ mod worker;
 
 pub use collected::{Collected, MAX_SESSIONS, MAX_WORKERS, Pool, Serial};
 pub use collecting::{collect_flat, refusal};
+pub use direct::{collect_direct, direct_refusal};
 pub use fault::CollectFault;
 pub use gate::{Gate, OpenGate};
 pub use ipfix_session::READ_LIMIT;

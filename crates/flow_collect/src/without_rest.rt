@@ -76,7 +76,11 @@ fn report_of(full: FullReport) -> SessionReport
     full.report
 }
 
-fn short_reports(alloc: Global, sessions: Vec<FullReport>) -> Result<Vec<SessionReport>, AllocError>
+/// The reports without the rest.
+pub fn short_reports(
+    alloc: Global,
+    sessions: Vec<FullReport>,
+) -> Result<Vec<SessionReport>, AllocError>
     ensures { IfOk result (λ reports. reports.items ≡ reports_in sessions.items) }
 {
     let mut waiting = VecDeque::from_vec(sessions);

@@ -1,6 +1,6 @@
 use Rattle.std.proofs.Common.{◌≡◌, take, drop}
 use Rattle.flow_collect.specs.Serials.{RanAs}
-use Rattle.flow_collect.proofs.serial.collect_serial.Given as goal
+use Rattle.flow_collect.proofs.lots.drive_in_turn.Given as goal
 
 -- the sources before the index have run, and the others are as they were
 abbrev pub invariant-loop-source : goal.invariant-loop-source

@@ -1,0 +1,94 @@
+//! Collecting without links.
+
+ghost use Rattle.std.specs.Prelude.{◌≡◌, IfOk, IsErrOf, MatchOption};
+ghost use Rattle.flow_table.specs.Fitting.{FitsPlan};
+ghost use Rattle.flow_collect.specs.InFull.{FullSerialHeadline};
+ghost use Rattle.flow_collect.specs.Refusals.{fault_of_lots, AreTooLarge, HasFaultsInLots};
+
+use crate::collected::{MAX_WORKERS, Serial};
+use crate::fault::CollectFault;
+use crate::lots::{Lot, drive_lots};
+use flow_table::{FlatTable, Plan, TableFault};
+use ipfix_session::{FullReport, Source};
+use std::alloc::{AllocError, Global};
+use std::thread::Threads;
+
+/// Collects without links, from any number of sources: cuts them into at most `lots` lots of neighbours, as even
+/// as can be, drives the sources of a lot one after another on one thread, the lots side by side, and merges the
+/// lots' tables by halves. A lot for which no thread can be had is driven on this one. Each session is reported
+/// in full, and the rows of the table are made as they are asked for.
+///
+/// It reads a source at most [`READ_LIMIT`](crate::READ_LIMIT) times. A session's own fault stands in its report. Each
+/// thread has ended when it returns.
+///
+/// The fault is `Workers` if `lots` is 0 or above [`MAX_WORKERS`], else `Sessions` for no source; then nothing was
+/// read. Else it is `OutOfMemory` where an allocation outside the sessions was refused, before `SumTooLarge`. A
+/// fault drops the sources.
+pub fn collect_direct<S: Source + Send + Drop, R: Threads + Sync>(
+    rt: &R,
+    alloc: Global,
+    sources: Vec<S>,
+    plan: &Plan,
+    lots: usize,
+) -> Result<Serial<S, FullReport, FlatTable>, CollectFault>
+    // The headline, without links, and each report in full.
+    ensures ok { IfOk result (FullSerialHeadline S.seen sources.items plan.now) }
+    // The table fits the plan, as an export asks.
+    ensures fits { IfOk result (λ s. FitsPlan plan.now s.table) }
+    // Exactly the first fault of the arguments, if they have one; `SumTooLarge` only if it is due.
+    ensures faults { HasFaultsInLots S.seen sources plan.now lots result }
+    // There is always a thread: this one.
+    ensures has_thread { IsErrOf result CollectFault.NoThread → ⊥ }
+{
+    if let Some(fault) = direct_refusal(lots, sources.len()) {
+        return Err(fault);
+    }
+    match collect_lots(rt, alloc, sources, plan, lots) {
+        Ok(Some(serial)) => Ok(serial),
+        Ok(None) => Err(CollectFault::SumTooLarge),
+        Err(AllocError) => Err(CollectFault::OutOfMemory),
+    }
+}
+
+/// The first of `Workers` and `Sessions` that so many lots and sources have, if they have one.
+/// [`collect_direct`] answers it before anything is read.
+pub fn direct_refusal(lots: usize, sessions: usize) -> Option<CollectFault>
+    ensures { result ≡ fault_of_lots lots sessions }
+{
+    if lots == 0 || lots > MAX_WORKERS {
+        return Some(CollectFault::Workers);
+    }
+    if sessions == 0 {
+        return Some(CollectFault::Sessions);
+    }
+    None
+}
+
+// The same for arguments without a fault. `None` if a sum is too large.
+fn collect_lots<S: Source + Send + Drop, R: Threads + Sync>(
+    rt: &R,
+    alloc: Global,
+    sources: Vec<S>,
+    plan: &Plan,
+    lots: usize,
+) -> Result<Option<Serial<S, FullReport, FlatTable>>, AllocError>
+    ensures { IfOk result (λ answer. MatchOption answer (AreTooLarge S.seen plan.now sources.items)
+        (λ s. FullSerialHeadline S.seen sources.items plan.now s × FitsPlan plan.now s.table)) }
+{
+    let lot = drive_lots(rt, alloc, sources, plan, lots)?;
+    let Lot {
+        sources,
+        sessions,
+        partial,
+    } = lot;
+    let table = match partial.finish_flat() {
+        Ok(table) => table,
+        Err(TableFault::SumTooLarge) => return Ok(None),
+        Err(TableFault::OutOfMemory) => return Err(AllocError),
+    };
+    Ok(Some(Serial {
+        sessions,
+        sources,
+        table,
+    }))
+}
