@@ -3,6 +3,7 @@
 #![tactic(auto)]
 
 mod accepting;
+mod files_in_turn;
 mod opening;
 mod opening_all;
 mod place_words;
@@ -16,6 +17,7 @@ mod with_progress;
 mod with_reason;
 
 pub use accepting::{Accepted, AcceptedAll, Listener, accept_all};
+pub use files_in_turn::{FileInTurn, FilesInTurn};
 pub use opening::{OpenSource, Opened, SystemFiles};
 pub use opening_all::{NotOpened, OpenedAll, open_all};
 pub use plan::{LoadedPlan, load_plan};

@@ -81,12 +81,7 @@ impl<'r, F: Read + OpenFile + Drop, R: Files<File = F>> OpenSource<FromReader<F>
     ghost coming = { λ _. None };
 
     fn open_source(&mut self, path: &str) -> Result<Opened<FromReader<F>>, Reason> {
-        let name = if path == STANDARD_INPUT.0 {
-            STANDARD_INPUT.1
-        } else {
-            path
-        };
-        let file = match fs::open(self.rt, name) {
+        let file = match fs::open(self.rt, name_of_file(path)) {
             Ok(file) => file,
             Err(error) => return Err(Reason::of(&error)),
         };
@@ -98,8 +93,17 @@ impl<'r, F: Read + OpenFile + Drop, R: Files<File = F>> OpenSource<FromReader<F>
     }
 }
 
-// How many octets a file has, if that can be known before it is read: a folder has a size, and no octets.
-fn size_of<F: OpenFile>(file: &F) -> Option<NonZeroU64> {
+/// The name that the system has for the file of a path.
+pub fn name_of_file(path: &str) -> &str {
+    if path == STANDARD_INPUT.0 {
+        STANDARD_INPUT.1
+    } else {
+        path
+    }
+}
+
+/// How many octets a file has, if that can be known before it is read: a folder has a size, and no octets.
+pub fn size_of<F: OpenFile>(file: &F) -> Option<NonZeroU64> {
     let metadata = file.metadata().ok()?;
     if metadata.is_file() {
         NonZeroU64::new(metadata.len())
