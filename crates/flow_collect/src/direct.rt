@@ -75,6 +75,8 @@ fn collect_lots<S: Source + Send + Drop, R: Threads + Sync>(
     ensures { IfOk result (λ answer. MatchOption answer (AreTooLarge S.seen plan.now sources.items)
         (λ s. FullSerialHeadline S.seen sources.items plan.now s × FitsPlan plan.now s.table)) }
 {
+    // A lot has at least one source.
+    let lots = lots.min(sources.len());
     let lot = drive_lots(rt, alloc, sources, plan, lots)?;
     let Lot {
         sources,
