@@ -1,6 +1,6 @@
 -- What is answered of a datagram.
-use Rattle.std.proofs.Common.{◌≡◌, ℕ, Bool, true, false, cond, ltb, eqb, ◌++◌, List, [], ◌∷◌, map, length, drop, Option, Result, Ok, Err, refl, sym, ap, ap₂, subst, ◌∙◌, inl, inr}
-use Rattle.std.specs.Prelude.{◌≢◌, ◌⊎◌, IsOk, reverse, flat_map}
+use Rattle.std.proofs.Common.{◌≡◌, ◌&&◌, ℕ, Bool, true, false, cond, ltb, eqb, ◌++◌, List, [], ◌∷◌, map, length, drop, Option, Result, Ok, Err, refl, sym, ap, ap₂, subst, ◌∙◌, inl, inr}
+use Rattle.std.specs.Prelude.{◌≢◌, ◌⊎◌, IsOk, is_ok, flat_map}
 use Rattle.std.specs.Ordering.{nat_cmp}
 use Rattle.std.specs.BTreeMap.{BTreeMap, get, values, IsOrdered}
 use Rattle.std.specs.Map.{lookup}
@@ -16,16 +16,17 @@ use Rattle.ipfix_message.specs.Faults.{fault_of}
 use Rattle.ipfix_message.specs.Outcome.{Read, ◌>>=◌, Fails}
 use Rattle.ipfix_message.specs.Domains.{DomainsView, History, Message, admit, events_in, template_for, of_wire, message_header, message_gives}
 use Rattle.ipfix_message.specs.Alike.{knows}
+use Rattle.ipfix_session.specs.Ledger.{capped}
 use Rattle.ipfix_message.proofs.Reading.{not_both, fault_is}
 use Rattle.ipfix_message.proofs.History.{bad_header, none_is}
 use Rattle.ipfix_message.specs.declared.record.Template.{Template}
 use Rattle.ipfix_datagrams.specs.declared.withdrawn_template.WithdrawnTemplate.{WithdrawnTemplate}
 use Rattle.ipfix_datagrams.specs.declared.definitions.Definitions.{Definitions}
 use Rattle.ipfix_datagrams.specs.declared.reading.DatagramReading.{DatagramReading}
-use Rattle.ipfix_datagrams.specs.Datagrams.{AreTemplatesOf, Preparation, with_withdrawn, replaced, replaced_by, given_after, MayChange, Changes, again, definition_of, events_of_message, first_definition, last_definition, IsPrepared, IsTaken, IsRefused, IsReadingOf, preparation_of}
+use Rattle.ipfix_datagrams.specs.Datagrams.{are_sets_of_withdrawals, withdrawals_in, withdraws_only, AreTemplatesOf, Preparation, with_withdrawn, replaced, replaced_by, given_after, MayChange, Changes, again, events_of_message, first_definition, last_definition, IsPrepared, IsTaken, IsRefused, IsReadingOf, preparation_of}
 use Rattle.ipfix_datagrams.specs.Attempts.{nothing, CanDefine, CanPrepare, Defines, HasFirst, Reads, FirstReads}
 use Rattle.ipfix_datagrams.proofs.DefinedAgain.{again_knows, can_define}
-use Rattle.ipfix_datagrams.proofs.FirstAndLast.{defined_id, events_in_sets}
+use Rattle.ipfix_datagrams.proofs.FirstAndLast.{defined_id}
 use Rattle.ipfix_datagrams.proofs.Replacing.{are_templates, replaced_in}
 use Rattle.ipfix_datagrams.proofs.Withdrawn.{admitted}
 use Rattle.ipfix_datagrams.proofs.Readings.{fails_or, header_same, none_in}
@@ -65,9 +66,12 @@ bad_header_refused ds m f fails = elim (fails_or f (message_header m) fails) [
   | inl e ↦ inl e
   | inr e ↦ elim (fails_or f (message_gives ds m) (bad_header f ds m fails)) [
     | inl e ↦ inl e
-    | inr g ↦ inr (inl (g, λ same. header_not_changed m (e ∙ ap (λ (g : MessageFault). Err g) same)))
+    | inr g ↦ inr (headless_kept m f e, inl (g, λ same. header_not_changed m (e ∙ ap (λ (g : MessageFault). Err g) same)))
   ]
 ]
+  where
+    headless_kept : (m : List ℕ) (f : MessageFault) → message_header m ≡ Err f → withdraws_only m ≡ false
+    headless_kept m f e = ap (λ (r : Read Header). is_ok r && are_sets_of_withdrawals (drop 16 m) && ltb 0 (withdrawals_in m)) e
 
 -- ---- no room for its domain
 
@@ -78,8 +82,8 @@ no_room_gives : (ds : History) (m : List ℕ) (h : Header) → message_header m 
 unfolding message_gives
 no_room_gives ds m h good full = rw (good, full) refl
 
-pub no_room_refused : (ds : History) (m : List ℕ) (h : Header) → message_header m ≡ Ok h → admit ds h.domain ≡ Err TooManyDomains → IsRefused ds m TooManyDomains
-no_room_refused ds m h good full = inr (inl (no_room_gives ds m h good full, room_not_changed))
+pub no_room_refused : (ds : History) (m : List ℕ) (h : Header) → withdraws_only m ≡ false → message_header m ≡ Ok h → admit ds h.domain ≡ Err TooManyDomains → IsRefused ds m TooManyDomains
+no_room_refused ds m h kept good full = inr (kept, inl (no_room_gives ds m h good full, room_not_changed))
 
 -- ---- as it is
 
@@ -93,8 +97,8 @@ first_plainly ds m domain ws after none reads = record {
   leaves = reads.leaves;
 }
 
-pub refused_plainly : (ds : History) (m : List ℕ) (f : MessageFault) → f ≢ TemplateChanged → Fails f (message_gives ds m) → IsRefused ds m f
-refused_plainly ds m f other fails = elim (fails_or f (message_gives ds m) fails) [ inl e ↦ inl e | inr e ↦ inr (inl (e, other)) ]
+pub refused_plainly : (ds : History) (m : List ℕ) (f : MessageFault) → withdraws_only m ≡ false → f ≢ TemplateChanged → Fails f (message_gives ds m) → IsRefused ds m f
+refused_plainly ds m f kept other fails = elim (fails_or f (message_gives ds m) fails) [ inl e ↦ inl e | inr e ↦ inr (kept, inl (e, other)) ]
 
 -- ---- after the templates that it replaces are withdrawn
 
@@ -144,19 +148,21 @@ first_changed ds m domain ws after c reads = record {
   leaves = reads.leaves;
 }
 
-pub refused_changed : (ds : History) (m : List ℕ) (h : Header) (ws : List WithdrawnTemplate) (f : MessageFault) → message_header m ≡ Ok h → Changes ds m h.domain ws → Fails f (message_gives (with_withdrawn ds h.domain ws) m) → IsRefused ds m f
-refused_changed ds m h ws f good c fails = elim (fails_or f (message_gives (with_withdrawn ds h.domain ws) m) fails) [
+pub refused_changed : (ds : History) (m : List ℕ) (h : Header) (ws : List WithdrawnTemplate) (f : MessageFault) → withdraws_only m ≡ false → message_header m ≡ Ok h → Changes ds m h.domain ws → Fails f (message_gives (with_withdrawn ds h.domain ws) m) → IsRefused ds m f
+refused_changed ds m h ws f kept good c fails = elim (fails_or f (message_gives (with_withdrawn ds h.domain ws) m) fails) [
   | inl e ↦ inl e
-  | inr e ↦ inr (inr (inl (record { header = h; is_header = good; withdrawn = ws; changes = c; fault = e })))
+  | inr e ↦ inr (kept, inr (inl (record { header = h; is_header = good; withdrawn = ws; changes = c; fault = e })))
 ]
 
 -- ---- what a datagram defines
 
-pub has_first : (d : Definitions) (w m : List ℕ) → Defines d (events_in_sets w) → w ≡ drop 16 m → HasFirst d.first m
-has_first d w m defines is = record { at = subst (λ (v : List ℕ). (id : ℕ) → get nat_cmp d.first id ≡ definition_of (events_in_sets v) id) is defines.first }
+pub has_first : (d : Definitions) (m : List ℕ) → Defines d (events_of_message m) → HasFirst d.first m
+has_first d m defines = record { at = defines.first }
 
-pub has_last : (d : Definitions) (w m : List ℕ) → Defines d (events_in_sets w) → w ≡ drop 16 m → (id : ℕ) → get nat_cmp d.last id ≡ last_definition m id
-has_last d w m defines is = subst (λ (v : List ℕ). (id : ℕ) → get nat_cmp d.last id ≡ definition_of (reverse (events_in_sets v)) id) is defines.last
+-- what is answered of its definitions and its withdrawals
+pub record HasLast (r : DatagramReading) (m : List ℕ) : Type 0 where
+  pub defines : (id : ℕ) → get nat_cmp r.definitions id ≡ last_definition m id
+  pub withdrawals : r.withdrawals ≡ capped (withdrawals_in m)
 
 -- ---- after templates are defined again
 
@@ -169,15 +175,16 @@ is_prepared ds m domain ws after f ts are = record {
 
 -- none
 pub taken_first : (ds : History) (m : List ℕ) (domain : ℕ) (r : DatagramReading) → FirstReads ds domain m r.withdrawn.items r.after → AreTemplatesOf (again ds m domain) (values r.defined) → values r.defined ≡ []
-    → ((id : ℕ) → get nat_cmp r.definitions id ≡ last_definition m id) → (x : Message) × IsReadingOf ds m r x
-taken_first ds m domain r f are none defines =
+    → withdraws_only m ≡ false → HasLast r m → (x : Message) × IsReadingOf ds m r x
+taken_first ds m domain r f are none kept last =
     let d = f.given.header.domain in
     let p = is_prepared ds m domain r.withdrawn.items r.after f (values r.defined) are in (
       f.given,
       record {
-        taken = record { first = f.given; is_prepared = p; read = ap (λ (ts : List Template). given_after ds d (prepared_as r.withdrawn.items ts) m) none ∙ p.read };
+        taken = record { kept = kept; first = f.given; is_prepared = p; read = ap (λ (ts : List Template). given_after ds d (prepared_as r.withdrawn.items ts) m) none ∙ p.read };
         leaves = f.leaves;
-        defines = defines;
+        defines = last.defines;
+        withdrawals = last.withdrawals;
       },
     )
 
@@ -189,30 +196,35 @@ can_prepare ds m domain ws ts some are = elim (again_knows ds m domain ts are) [
 ]
 
 pub taken_again : (ds : History) (m : List ℕ) (domain : ℕ) (r : DatagramReading) (after : DomainsView) → FirstReads ds domain m r.withdrawn.items after → AreTemplatesOf (again ds m domain) (values r.defined) → Reads ds domain (preparation_of r) m r.after
-    → ((id : ℕ) → get nat_cmp r.definitions id ≡ last_definition m id) → (x : Message) × IsReadingOf ds m r x
-taken_again ds m domain r after f are reads defines = (
+    → withdraws_only m ≡ false → HasLast r m → (x : Message) × IsReadingOf ds m r x
+taken_again ds m domain r after f are reads kept last = (
   reads.given,
   record {
     taken = record {
+      kept = kept;
       first = f.given;
       is_prepared = is_prepared ds m domain r.withdrawn.items after f (values r.defined) are;
       read = subst (λ (d : ℕ). given_after ds d (preparation_of r) m ≡ Ok reads.given) (sym f.domain_is) reads.read;
     };
     leaves = reads.leaves;
-    defines = defines;
+    defines = last.defines;
+    withdrawals = last.withdrawals;
   },
 )
 
-pub refused_again : (ds : History) (m : List ℕ) (domain : ℕ) (ws : List WithdrawnTemplate) (after : DomainsView) (ts : List Template) (fault : MessageFault) → FirstReads ds domain m ws after → AreTemplatesOf (again ds m domain) ts
+pub refused_again : (ds : History) (m : List ℕ) (domain : ℕ) (ws : List WithdrawnTemplate) (after : DomainsView) (ts : List Template) (fault : MessageFault) → withdraws_only m ≡ false → FirstReads ds domain m ws after → AreTemplatesOf (again ds m domain) ts
     → Fails fault (given_after ds domain (prepared_as ws ts) m) → IsRefused ds m fault
-refused_again ds m domain ws after ts fault f are fails = elim (fails_or fault (given_after ds domain (prepared_as ws ts) m) fails) [
+refused_again ds m domain ws after ts fault kept f are fails = elim (fails_or fault (given_after ds domain (prepared_as ws ts) m) fails) [
   | inl e ↦ inl e
-  | inr e ↦ inr (inr (inr (record {
-    preparation = prepared_as ws ts;
-    first = f.given;
-    is_prepared = is_prepared ds m domain ws after f ts are;
-    fault = subst (λ (d : ℕ). given_after ds d (prepared_as ws ts) m ≡ Err fault) (sym f.domain_is) e;
-  })))
+  | inr e ↦ inr (
+    kept,
+    inr (inr (record {
+      preparation = prepared_as ws ts;
+      first = f.given;
+      is_prepared = is_prepared ds m domain ws after f ts are;
+      fault = subst (λ (d : ℕ). given_after ds d (prepared_as ws ts) m ≡ Err fault) (sym f.domain_is) e;
+    })),
+  )
 ]
 
 -- what a datagram that is taken is prepared by can be done

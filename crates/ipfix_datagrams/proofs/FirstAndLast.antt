@@ -1,12 +1,15 @@
 -- The first and the last definitions in events.
-use Rattle.std.proofs.Common.{◌≡◌, ℕ, ◌<◌, Bool, true, false, cond, ltb, eqb, List, [], ◌∷◌, ◌++◌, append_assoc, length, Option, Some, None, Ok, Err, refl, sym, ap, subst, ◌∙◌, inl, inr}
-use Rattle.std.specs.Prelude.{reverse, flat_map}
+use Rattle.std.proofs.Common.{◌≡◌, ℕ, ◌+◌, ◌<◌, arith, Bool, true, false, cond, ltb, eqb, List, [], ◌∷◌, ◌++◌, append_assoc, length, Option, Some, None, Ok, Err, refl, sym, ap, subst, ◌∙◌, inl, inr}
+use Rattle.std.specs.Prelude.{count_by, reverse, flat_map}
 use Rattle.std.specs.Option.{option_or}
 use Rattle.std.specs.Ordering.{nat_cmp}
 use Rattle.std.specs.BTreeMap.{get}
 use Rattle.std.proofs.lemmas.List.{append-nil, reverse-append}
+use Rattle.std.proofs.lemmas.List.Sums.{sum_by_push}
 use Rattle.std.proofs.lemmas.Bool.{lt-ltb}
 use Rattle.std.proofs.lemmas.Bool.Decides.{eqb_tells}
+use Rattle.ipfix_session.specs.Ledger.{capped}
+use Rattle.ipfix_session.proofs.Accounts.{capped-capped}
 use Rattle.ipfix_wire.specs.InTurn.{Parts}
 use Rattle.ipfix_wire.proofs.Parts.{parts_of-next, parts_of-none}
 use Rattle.ipfix_message.specs.declared.fault.MessageFault.{MessageFault}
@@ -20,7 +23,7 @@ use Rattle.ipfix_message.specs.Sets.{Set, next_set, sets_of}
 use Rattle.ipfix_message.proofs.TemplateRecords.{events_shrink}
 use Rattle.ipfix_message.proofs.MessageSets.{sets_shrink, next_set-nil}
 use Rattle.ipfix_datagrams.specs.declared.definitions.Definitions.{Definitions}
-use Rattle.ipfix_datagrams.specs.Datagrams.{definition_of, events_of_set}
+use Rattle.ipfix_datagrams.specs.Datagrams.{definition_of, events_of_set, is_withdrawal}
 use Rattle.ipfix_datagrams.specs.Attempts.{Defines}
 
 -- ---- the first definition
@@ -98,34 +101,51 @@ defined_id (e ∷ es) id t is = by_cases (definition_of (e ∷ []) id) refl (sym
 pub reverse_more : (es : List Event) (e : Event) → reverse (es ++ e ∷ []) ≡ e ∷ reverse es
 reverse_more es e = reverse-append es (e ∷ [])
 
--- by what it puts among the first and the last definitions
+-- one for a withdrawal, and none for a definition
+abbrev pub withdrawals_of : Event → ℕ
+withdrawals_of e = cond (is_withdrawal e) 1 0
+
+counted_more : (es : List Event) (e : Event) → capped (count_by is_withdrawal (es ++ e ∷ [])) ≡ capped (capped (count_by is_withdrawal es) + withdrawals_of e)
+counted_more es e = capped-capped (count_by is_withdrawal es) (withdrawals_of e) (count_by is_withdrawal (es ++ e ∷ [])) (sum_by_push withdrawals_of es e)
+
+-- by what it puts among the first and the last definitions, and how many withdrawals it adds
 pub defines_more : (d new : Definitions) (es : List Event) (e : Event) → Defines d es → ((q : ℕ) → get nat_cmp new.first q ≡ option_or (get nat_cmp d.first q) (definition_of (e ∷ []) q))
-    → ((q : ℕ) → get nat_cmp new.last q ≡ option_or (definition_of (e ∷ []) q) (get nat_cmp d.last q)) → Defines new (es ++ e ∷ [])
-defines_more d new es e before firsts lasts = record {
+    → ((q : ℕ) → get nat_cmp new.last q ≡ option_or (definition_of (e ∷ []) q) (get nat_cmp d.last q)) → new.withdrawals ≡ capped (d.withdrawals + withdrawals_of e) → Defines new (es ++ e ∷ [])
+defines_more d new es e before firsts lasts counts = record {
   first = λ q. firsts q ∙ ap (λ (o : Option Template). option_or o (definition_of (e ∷ []) q)) (before.first q) ∙ sym (definition-append es (e ∷ []) q);
   last = λ q. lasts q ∙ ap (option_or (definition_of (e ∷ []) q)) (before.last q) ∙ sym (defined_or e (reverse es) q) ∙ ap (λ (fs : List Event). definition_of fs q) (sym (reverse_more es e));
+  withdrawals = counts ∙ ap (λ (n : ℕ). capped (n + withdrawals_of e)) before.withdrawals ∙ sym (counted_more es e);
 }
 
 -- a definition
 pub defines_one : (d new : Definitions) (es : List Event) (t : Template) → Defines d es → ((q : ℕ) → get nat_cmp new.first q ≡ option_or (get nat_cmp d.first q) (cond (eqb q t.id) (Some t) None))
-    → ((q : ℕ) → get nat_cmp new.last q ≡ cond (eqb q t.id) (Some t) (get nat_cmp d.last q)) → Defines new (es ++ Define t ∷ [])
-defines_one d new es t before firsts lasts = defines_more d new es (Define t) before
+    → ((q : ℕ) → get nat_cmp new.last q ≡ cond (eqb q t.id) (Some t) (get nat_cmp d.last q)) → new.withdrawals ≡ d.withdrawals → Defines new (es ++ Define t ∷ [])
+defines_one d new es t before firsts lasts same = defines_more d new es (Define t) before
     (λ q. firsts q ∙ ap (option_or (get nat_cmp d.first q)) (sym (one_definition t q)))
     (λ q. lasts q ∙ by_test (eqb q t.id) (get nat_cmp d.last q) ∙ ap (λ (o : Option Template). option_or o (get nat_cmp d.last q)) (sym (one_definition t q)))
+    (same ∙ before.withdrawals ∙ capped_again (count_by is_withdrawal es) ∙ ap (λ (n : ℕ). capped (n + 0)) (sym before.withdrawals))
   where
     by_test : (b : Bool) (o : Option Template) → cond b (Some t) o ≡ option_or (cond b (Some t) None) o
     by_test true o = refl
     by_test false o = refl
 
--- and an event that defines none
-pub defines_none : (d : Definitions) (es : List Event) (e : Event) → Defines d es → ((q : ℕ) → definition_of (e ∷ []) q ≡ None) → Defines d (es ++ e ∷ [])
-defines_none d es e before none = defines_more d d es e before
+    capped_again : (n : ℕ) → capped n ≡ capped (capped n + 0)
+    capped_again n = omega arith
+
+-- and a withdrawal
+pub defines_none : (d new : Definitions) (es : List Event) (e : Event) → Defines d es → ((q : ℕ) → definition_of (e ∷ []) q ≡ None) → is_withdrawal e ≡ true → new ≡ record d { withdrawals = capped (d.withdrawals + 1) } → Defines new (es ++ e ∷ [])
+defines_none d new es e before none is same = subst (λ (f : Definitions). Defines f (es ++ e ∷ [])) (sym same) (defines_more d (record d { withdrawals = capped (d.withdrawals + 1) }) es e before
     (λ q. sym (or_none (get nat_cmp d.first q)) ∙ ap (option_or (get nat_cmp d.first q)) (sym (none q)))
     (λ q. ap (λ (o : Option Template). option_or o (get nat_cmp d.last q)) (sym (none q)))
+    (ap (λ (b : Bool). capped (d.withdrawals + cond b 1 0)) (sym is)))
+
+-- whatever else it is
+pub defines_as : (d : Definitions) (only : Bool) (es : List Event) → Defines d es → Defines (record d { withdraws_only = only }) es
+defines_as d only es h = record { first = h.first; last = h.last; withdrawals = h.withdrawals }
 
 -- none yet
-pub defines_nothing : (d : Definitions) → ((q : ℕ) → get nat_cmp d.first q ≡ None) → ((q : ℕ) → get nat_cmp d.last q ≡ None) → Defines d []
-defines_nothing d firsts lasts = record { first = λ q. firsts q ∙ sym (none_defined q); last = λ q. lasts q ∙ sym (none_defined q) }
+pub defines_nothing : (d : Definitions) → ((q : ℕ) → get nat_cmp d.first q ≡ None) → ((q : ℕ) → get nat_cmp d.last q ≡ None) → d.withdrawals ≡ 0 → Defines d []
+defines_nothing d firsts lasts none = record { first = λ q. firsts q ∙ sym (none_defined q); last = λ q. lasts q ∙ sym (none_defined q); withdrawals = none }
 
 -- ---- events in turn, of which the rest is still to be taken
 
@@ -157,7 +177,7 @@ next_events kind w e r is = ap (λ (p : Parts Event). p.items) (parts_of-next (e
 pub no_events : (kind : TemplateKind) (w : List ℕ) (f : MessageFault) → event_at kind w ≡ Err f → (events_of kind w).items ≡ []
 no_events kind w f is = ap (λ (p : Parts Event). p.items) (parts_of-none (event_at kind) w f is)
 
-cut_event : (kind : TemplateKind) (w : List ℕ) → ltb (length w) 4 ≡ true → event_at kind w ≡ Err TemplateCut
+pub cut_event : (kind : TemplateKind) (w : List ℕ) → ltb (length w) 4 ≡ true → event_at kind w ≡ Err TemplateCut
 unfolding event_at
 cut_event kind w h = rw h refl
 

@@ -1,5 +1,6 @@
 pub mod Events
 pub mod FirstAndLast
+pub mod WithdrawalsAlone
 pub mod Given
 pub mod Withdrawn
 pub mod WithdrawnDomains

@@ -1,5 +1,5 @@
 -- One attempt to read a datagram, after templates are withdrawn and defined or none, and what is kept of those that were withdrawn.
-use Rattle.std.specs.Prelude.{◌≡◌, ◌⊎◌, ℕ, true, if◌then◌else◌, is_some, List, [], ◌∷◌, reverse, Option, Some, None, Ok, IsOk, Result, MatchResult}
+use Rattle.std.specs.Prelude.{◌≡◌, ◌⊎◌, ℕ, true, if◌then◌else◌, is_some, List, [], ◌∷◌, reverse, count_by, flat_map, Option, Some, None, Ok, IsOk, Result, MatchResult}
 use Rattle.std.specs.Option.{option_or}
 use Rattle.std.specs.Ordering.{nat_cmp}
 use Rattle.std.specs.BTreeMap.{BTreeMap, get}
@@ -10,8 +10,10 @@ use Rattle.ipfix_message.specs.declared.template_record.Event.{Event}
 use Rattle.ipfix_message.specs.declared.template_record.Event.TheVariants.{Define}
 use Rattle.ipfix_message.specs.TemplatesInForce.{in_force}
 use Rattle.ipfix_message.specs.Alike.{knows}
+use Rattle.ipfix_message.specs.Sets.{sets_of}
+use Rattle.ipfix_session.specs.Ledger.{capped}
 use Rattle.ipfix_message.specs.Domains.{DomainsView, History, Message, admit, events_in, message_gives}
-use Rattle.ipfix_datagrams.specs.Datagrams.{MayChange, Preparation, Represents, Leaves, definition_of, first_definition, given_after, with_defined, with_withdrawn}
+use Rattle.ipfix_datagrams.specs.Datagrams.{are_sets_of_withdrawals, events_of_set, is_withdrawal, MayChange, Preparation, Represents, Leaves, definition_of, first_definition, given_after, with_defined, with_withdrawn}
 use Rattle.ipfix_datagrams.specs.declared.definitions.Definitions.{Definitions}
 use Rattle.ipfix_datagrams.specs.declared.withdrawn_template.WithdrawnTemplate.{WithdrawnTemplate}
 
@@ -21,10 +23,16 @@ OrOutOfMemory result P = MatchResult result P (λ fault. fault ≡ OutOfMemory)
 
 -- ---- what a datagram defines
 
--- for each id the first and the last definition in these events
+-- for each id the first and the last definition in these events, and how many withdrawals are among them
 pub record Defines (d : Definitions) (es : List Event) : Type 0 where
   pub first : (id : ℕ) → get nat_cmp d.first id ≡ definition_of es id
   pub last : (id : ℕ) → get nat_cmp d.last id ≡ definition_of (reverse es) id
+  pub withdrawals : d.withdrawals ≡ capped (count_by is_withdrawal es)
+
+-- and so in the sets of these octets; and whether they are withdrawals alone
+pub record Finds (d : Definitions) (w : List ℕ) : Type 0 where
+  pub defines : Defines d (flat_map events_of_set (sets_of w).items)
+  pub only : d.withdraws_only ≡ are_sets_of_withdrawals w
 
 -- the first definitions of a datagram
 pub record HasFirst (first : BTreeMap ℕ Template) (m : List ℕ) : Type 0 where

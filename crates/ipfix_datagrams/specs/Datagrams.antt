@@ -1,8 +1,8 @@
 -- What the datagrams of a peer give (RFC 7011, sections 8.1 and 8.4). Over UDP a definition replaces an older one of its id, and a
--- withdrawal is ignored. In the files, which are read by the rules of a connection, a withdrawal ends its template.
-use Rattle.std.specs.Prelude.{◌≡◌, ◌≢◌, ◌⊎◌, ◌==◌, ℕ, Bool, false, is_some, List, [], ◌∷◌, map, reverse, drop, flat_map, if◌then◌else◌, Option, Some, None, Ok, Err, All, Contains}
+-- withdrawal is ignored. A datagram of withdrawals alone is not kept. In the files, which are read by the rules of a connection, a withdrawal ends its template.
+use Rattle.std.specs.Prelude.{◌≡◌, ◌≢◌, ◌⊎◌, ◌==◌, ◌&&◌, ℕ, Bool, false, true, nat_lt, is_some, is_ok, List, [], ◌∷◌, map, reverse, length, drop, count_by, flat_map, if◌then◌else◌, Option, Some, None, Ok, Err, All, Contains}
 use Rattle.std.specs.Option.{option_and_then}
-use Rattle.std.specs.List.{list_any}
+use Rattle.std.specs.List.{list_all, list_any}
 use Rattle.std.specs.List.Sorted.{IsStrictlySortedBy}
 use Rattle.std.specs.Ordering.{nat_cmp}
 use Rattle.std.specs.BTreeMap.{BTreeMap, get, values}
@@ -12,17 +12,21 @@ use Rattle.ipfix_wire.specs.declared.set.TheConstants.{TEMPLATE_SET_ID, OPTIONS_
 use Rattle.ipfix_message.specs.declared.fault.MessageFault.{MessageFault}
 use Rattle.ipfix_message.specs.declared.fault.MessageFault.TheVariants.{TemplateChanged, OutOfMemory}
 use Rattle.ipfix_message.specs.declared.record.Template.{Template}
+use Rattle.ipfix_message.specs.declared.template_record.TemplateKind.{TemplateKind}
 use Rattle.ipfix_message.specs.declared.template_record.TemplateKind.TheVariants.{Plain, Options}
 use Rattle.ipfix_message.specs.declared.template_record.Event.{Event}
 use Rattle.ipfix_message.specs.declared.template_record.Event.TheVariants.{Define, Withdraw, WithdrawAll}
 use Rattle.ipfix_message.specs.Outcome.{Read}
-use Rattle.ipfix_message.specs.TemplateRecords.{events_of}
+use Rattle.ipfix_message.specs.TemplateRecords.{events_of, is_padding}
 use Rattle.ipfix_message.specs.TemplatesInForce.{in_force, is_of, is_other, same_template}
 use Rattle.ipfix_message.specs.Sets.{Set, sets_of}
 use Rattle.ipfix_message.specs.Domains.{DomainsView, History, Message, StandsFor, events_in, with_events, template_for, message_header, message_gives}
-use Rattle.ipfix_datagrams.specs.Withdrawals.{kind_withdrawn}
+use Rattle.ipfix_session.specs.Ledger.{capped}
+use Rattle.ipfix_datagrams.specs.Withdrawals.{HasTemplateId, kind_withdrawn}
 use Rattle.ipfix_datagrams.specs.declared.withdrawn_template.WithdrawnTemplate.{WithdrawnTemplate}
 use Rattle.ipfix_datagrams.specs.declared.reading.DatagramReading.{DatagramReading}
+use Rattle.ipfix_datagrams.specs.declared.reading.Reading.{Reading}
+use Rattle.ipfix_datagrams.specs.declared.reading.Reading.TheVariants.{Ignored, Kept}
 
 -- ---- definitions
 
@@ -52,6 +56,39 @@ events_of_set s =
 -- the events of a datagram, in the order of its octets
 abbrev pub events_of_message : List ℕ → List Event
 events_of_message m = flat_map events_of_set (sets_of (drop HEADER_LENGTH m)).items
+
+-- ---- withdrawals
+
+abbrev pub is_withdrawal : Event → Bool
+is_withdrawal (Define t) = false
+is_withdrawal (Withdraw kind id) = true
+is_withdrawal (WithdrawAll kind) = true
+
+-- how many withdrawals a datagram has
+abbrev pub withdrawals_in : List ℕ → ℕ
+withdrawals_in m = count_by is_withdrawal (events_of_message m)
+
+-- the body of a template set is read without a fault, and each of its template records is a withdrawal
+abbrev pub are_withdrawals : TemplateKind → List ℕ → Bool
+are_withdrawals kind body = list_all is_withdrawal (events_of kind body).items && is_padding (events_of kind body).rest
+
+-- a set is such a template set or options template set
+abbrev pub is_set_of_withdrawals : Set → Bool
+is_set_of_withdrawals s =
+    if s.id == TEMPLATE_SET_ID then are_withdrawals Plain s.body
+    else if s.id == OPTIONS_TEMPLATE_SET_ID then are_withdrawals Options s.body
+    else false
+
+-- these octets are such sets
+abbrev pub are_sets_of_withdrawals : List ℕ → Bool
+are_sets_of_withdrawals w = list_all is_set_of_withdrawals (sets_of w).items && (length (sets_of w).rest == 0)
+
+-- a datagram of withdrawals alone: its header can be read, all that follows is such sets, and there is a withdrawal. Such a datagram
+-- is ignored, and any other is kept or refused
+abbrev pub withdraws_only : List ℕ → Bool
+withdraws_only m = is_ok (message_header m) && are_sets_of_withdrawals (drop HEADER_LENGTH m) && nat_lt 0 (withdrawals_in m)
+
+-- ---- its definitions
 
 -- its first definition of an id, and its last
 abbrev pub first_definition : List ℕ → ℕ → Option Template
@@ -148,6 +185,7 @@ pub record IsPrepared (ds : History) (m : List ℕ) (p : Preparation) (first : M
 
 -- a datagram is taken: it is read after that
 pub record IsTaken (ds : History) (m : List ℕ) (p : Preparation) (x : Message) : Type 0 where
+  pub kept : withdraws_only m ≡ false
   pub first : Message
   pub is_prepared : IsPrepared ds m p first
   pub read : given_after ds first.header.domain p m ≡ Ok x
@@ -171,8 +209,11 @@ pub record FailsAgain (ds : History) (m : List ℕ) (f : MessageFault) : Type 0 
   pub is_prepared : IsPrepared ds m preparation first
   pub fault : given_after ds first.header.domain preparation m ≡ Err f
 
+abbrev pub HasFault : History → List ℕ → MessageFault → Type 0
+HasFault ds m f = FailsPlainly ds m f ⊎ (FailsChanged ds m f ⊎ FailsAgain ds m f)
+
 abbrev pub IsRefused : History → List ℕ → MessageFault → Type 0
-IsRefused ds m f = (f ≡ OutOfMemory) ⊎ (FailsPlainly ds m f ⊎ (FailsChanged ds m f ⊎ FailsAgain ds m f))
+IsRefused ds m f = (f ≡ OutOfMemory) ⊎ ((withdraws_only m ≡ false) × HasFault ds m f)
 
 -- ---- what is answered and kept
 
@@ -191,11 +232,22 @@ pub record Leaves (d : DomainsView) (x : Message) : Type 0 where
 abbrev pub preparation_of : DatagramReading → Preparation
 preparation_of r = preparation_by r.withdrawn.items r.defined
 
--- an answer says how a datagram is taken, what it leaves, and what it defines last for each id
+-- an answer says how a datagram is taken, what it leaves, what it defines last for each id, and how many withdrawals it has
 pub record IsReadingOf (ds : History) (m : List ℕ) (r : DatagramReading) (x : Message) : Type 0 where
   pub taken : IsTaken ds m (preparation_of r) x
   pub leaves : Leaves r.after x
   pub defines : (id : ℕ) → get nat_cmp r.definitions id ≡ last_definition m id
+  pub withdrawals : r.withdrawals ≡ capped (withdrawals_in m)
+
+-- a datagram is ignored, and so many withdrawals with it, or it is taken
+abbrev pub Answers : History → List ℕ → Reading → Type 0
+Answers ds m (Ignored withdrawals) = (withdraws_only m ≡ true) × (withdrawals ≡ capped (withdrawals_in m))
+Answers ds m (Kept r) = (x : Message) × IsReadingOf ds m r x
+
+-- what is withdrawn before it are ids that templates have
+abbrev pub HasTemplateIds : Reading → Type 0
+HasTemplateIds (Ignored withdrawals) = Unit {0}
+HasTemplateIds (Kept r) = All HasTemplateId r.withdrawn.items
 
 -- the template for an id in a domain's templates, if the domain has any
 abbrev pub template_in : Option (BTreeMap ℕ Template) → ℕ → Option Template

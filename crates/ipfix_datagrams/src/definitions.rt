@@ -1,10 +1,11 @@
-//! The templates that a datagram defines (RFC 7011, sections 3.4 and 8.4).
+//! The templates that a datagram defines, and its withdrawals (RFC 7011, sections 3.4 and 8.4).
 
-ghost use Rattle.std.specs.Prelude.{◌≡◌, ◌==◌, ◌∷◌, ◌++◌, [], ℕ, List, Some, None, if◌then◌else◌, flat_map, length, ◌≤◌, ◌+◌, OnOk, MatchOption, Ok, Err};
+ghost use Rattle.std.specs.Prelude.{◌≡◌, ◌==◌, ◌&&◌, ◌∷◌, ◌++◌, [], ℕ, List, Some, None, false, if◌then◌else◌, length, ◌≤◌, ◌+◌, OnOk, MatchOption, Ok, Err};
+ghost use Rattle.std.specs.List.{list_all};
 ghost use Rattle.std.specs.Option.{option_or};
 ghost use Rattle.std.specs.BTreeMap.{get};
 ghost use Rattle.std.specs.Ordering.{nat_cmp};
-ghost use Rattle.ipfix_message.specs.Sets.{sets_of};
+ghost use Rattle.ipfix_message.specs.Sets.{Set};
 ghost use Rattle.ipfix_message.specs.TemplateRecords;
 ghost use Rattle.ipfix_message.specs.TemplateRecords.{event_at};
 ghost use Rattle.ipfix_message.specs.declared.fault.MessageFault.{MessageFault};
@@ -12,8 +13,9 @@ ghost use Rattle.ipfix_message.specs.declared.template_record.Event.{Event};
 ghost use Rattle.ipfix_message.specs.declared.template_record.Event.TheVariants.{Define};
 ghost use Rattle.ipfix_message.specs.declared.template_record.TheConstants.{LONGEST_BODY};
 ghost use Rattle.ipfix_wire.specs.declared.set.TheConstants.{SET_HEADER_LENGTH};
-ghost use Rattle.ipfix_datagrams.specs.Attempts.{Defines, OrOutOfMemory};
-ghost use Rattle.ipfix_datagrams.specs.Datagrams.{events_of_set};
+ghost use Rattle.ipfix_session.specs.Ledger.{capped};
+ghost use Rattle.ipfix_datagrams.specs.Attempts.{Defines, Finds, OrOutOfMemory};
+ghost use Rattle.ipfix_datagrams.specs.Datagrams.{are_withdrawals, events_of_set, is_set_of_withdrawals, is_withdrawal};
 
 use crate::data_sets::set_at;
 use ipfix_message::{
@@ -24,11 +26,17 @@ use ipfix_wire::{OPTIONS_TEMPLATE_SET_ID, TEMPLATE_SET_ID};
 use std::alloc::{AllocError, Global};
 use std::collections::BTreeMap;
 
-/// The templates that a datagram defines, by id: the first definition of each, and the last.
+/// What the template records of a datagram are.
 #[derive(Drop)]
 pub struct Definitions {
+    /// The templates that it defines, by id: the first definition of each.
     pub first: Templates,
+    /// The last definition of each.
     pub last: Templates,
+    /// How many withdrawals it has, up to `u64::MAX`.
+    pub withdrawals: u64,
+    /// Whether all that it has is withdrawals, and is read without a fault.
+    pub withdraws_only: bool,
 }
 
 // Puts a definition among the first ones, unless its id has one.
@@ -50,9 +58,11 @@ fn take_definition(
     definition: Definition,
     definitions: &mut Definitions,
 ) -> Result<(), AllocError>
-    ensures { (es : List Event) → Defines definitions.old es
+    ensures defines { (es : List Event) → Defines definitions.old es
         → OnOk result (Defines definitions.new (es ++ Define definition ∷ [])) }
+    ensures only { OnOk result (definitions.new.withdraws_only ≡ false) }
 {
+    definitions.withdraws_only = false;
     let id = definition.id();
     let template = TemplateInForce::new(alloc, definition)?;
     put_first(&template, &mut definitions.first)?;
@@ -60,16 +70,44 @@ fn take_definition(
     Ok(())
 }
 
-// Takes a template record. A withdrawal is skipped.
+// Counts a withdrawal.
+fn take_withdrawal(definitions: &mut Definitions)
+    ensures { definitions.new ≡ record definitions.old {
+      withdrawals = capped (definitions.old.withdrawals + 1);
+    } }
+{
+    definitions.withdrawals = definitions.withdrawals.saturating_add(1);
+}
+
+// Takes a template record.
 fn take_event(alloc: Global, event: Event, definitions: &mut Definitions) -> Result<(), AllocError>
-    ensures { (es : List Event) → Defines definitions.old es
+    ensures defines { (es : List Event) → Defines definitions.old es
         → OnOk result (Defines definitions.new (es ++ event ∷ [])) }
+    ensures only { OnOk result (definitions.new.withdraws_only
+        ≡ (is_withdrawal event && definitions.old.withdraws_only)) }
 {
     match event {
-        Event::Define(definition) => take_definition(alloc, definition, definitions),
-        Event::Withdraw(_, _) => Ok(()),
-        Event::WithdrawAll(_) => Ok(()),
+        Event::Define(definition) => take_definition(alloc, definition, definitions)?,
+        Event::Withdraw(_, _) => take_withdrawal(definitions),
+        Event::WithdrawAll(_) => take_withdrawal(definitions),
     }
+    Ok(())
+}
+
+// Whether octets are zeros, as padding is.
+fn are_zeros(octets: &[u8]) -> bool
+    ensures { result ≡ list_all (λ b. b == 0) octets.now }
+{
+    octets.iter().all(|b| *b == 0)
+}
+
+// Takes what is left of a set where no template record stands: padding, or there is a fault.
+fn take_rest(rest: &[u8], definitions: &mut Definitions)
+    ensures { definitions.new ≡ record definitions.old {
+      withdraws_only = list_all (λ b. b == 0) rest.now && definitions.old.withdraws_only;
+    } }
+{
+    definitions.withdraws_only = are_zeros(rest) && definitions.withdraws_only;
 }
 
 // The next template record and what follows it, if one stands there. The fault is `OutOfMemory`.
@@ -100,12 +138,15 @@ fn take_events(
     definitions: &mut Definitions,
 ) -> Result<(), MessageFault>
     requires { length body.now ≤ LONGEST_BODY }
-    ensures { (es : List Event) → Defines definitions.old es → OrOutOfMemory result
+    ensures defines { (es : List Event) → Defines definitions.old es → OrOutOfMemory result
         (λ _. Defines definitions.new (es ++ (TemplateRecords.events_of kind body.now).items)) }
+    ensures only { OrOutOfMemory result (λ _. definitions.new.withdraws_only
+        ≡ (are_withdrawals kind body.now && definitions.old.withdraws_only)) }
 {
     let mut rest = body;
     while TEMPLATE_HEADER_LENGTH <= rest.len() {
         let Some((event, after)) = next_event(alloc, kind, rest)? else {
+            take_rest(rest, definitions);
             return Ok(());
         };
         take_event(alloc, event, definitions)?;
@@ -122,32 +163,38 @@ fn take_set(
     definitions: &mut Definitions,
 ) -> Result<(), MessageFault>
     requires { length body.now ≤ LONGEST_BODY }
-    ensures { (es : List Event) → Defines definitions.old es → OrOutOfMemory result
+    ensures defines { (es : List Event) → Defines definitions.old es → OrOutOfMemory result
         (λ _. Defines definitions.new (es ++ events_of_set (record { id = id; body = body.now }))) }
+    ensures only { let s : Set = record { id = id; body = body.now } in
+        OrOutOfMemory result (λ _. definitions.new.withdraws_only
+        ≡ (is_set_of_withdrawals s && definitions.old.withdraws_only)) }
 {
     if id == TEMPLATE_SET_ID {
         take_events(alloc, TemplateKind::Plain, body, definitions)
     } else if id == OPTIONS_TEMPLATE_SET_ID {
         take_events(alloc, TemplateKind::Options, body, definitions)
     } else {
+        definitions.withdraws_only = false;
         Ok(())
     }
 }
 
-/// The templates that the sets in what follows a message's header define. Without a template set this takes
-/// no memory. The fault is `OutOfMemory`.
+/// The templates that the sets in what follows a message's header define, and their withdrawals. Without a
+/// definition this takes no memory. The fault is `OutOfMemory`.
 pub fn definitions_of(alloc: Global, octets: &[u8]) -> Result<Definitions, MessageFault>
     requires { length octets.now ≤ SET_HEADER_LENGTH + LONGEST_BODY }
-    ensures { OrOutOfMemory result
-        (λ definitions. Defines definitions (flat_map events_of_set (sets_of octets.now).items)) }
+    ensures { OrOutOfMemory result (λ definitions. Finds definitions octets.now) }
 {
     let mut definitions = Definitions {
         first: BTreeMap::new(alloc),
         last: BTreeMap::new(alloc),
+        withdrawals: 0,
+        withdraws_only: true,
     };
     let mut rest = octets;
     while !rest.is_empty() {
         let Some(((id, body), after)) = set_at(rest)? else {
+            definitions.withdraws_only = false;
             return Ok(definitions);
         };
         take_set(alloc, id, body, &mut definitions)?;

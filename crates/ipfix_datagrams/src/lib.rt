@@ -1,6 +1,6 @@
 //! IPFIX over UDP (RFC 7011, sections 8.1, 8.4 and 10.3): what the datagrams of a peer give, where the last
 //! definition of a template counts and withdrawals are ignored, what is done in the peer's files before a datagram,
-//! and which datagrams are refused; and how far sequence numbers advanced beside the data records that came
+//! and which datagrams are ignored or refused; and how far sequence numbers advanced beside the data records that came
 //! (section 3.1), in whatever order.
 #![tactic(auto)]
 
@@ -22,7 +22,7 @@ mod withdrawn_templates;
 
 pub use domain_advance::DomainAdvance;
 pub use reach::Reach;
-pub use reading::{DatagramReading, read_datagram};
+pub use reading::{DatagramReading, Reading, read_datagram};
 pub use sequence_advances::SequenceAdvances;
 pub use withdrawal::{MOST_WITHDRAWN, append_withdrawals};
 pub use withdrawn_template::WithdrawnTemplate;

@@ -1,15 +1,15 @@
 //! Whether a datagram is taken.
 
-ghost use Rattle.std.specs.Prelude.{◌≡◌, ◌≢◌, ◌≤◌, ◌+◌, ℕ, List, length, drop, All, Ok, IfOk, MatchBool, MatchResult};
+ghost use Rattle.std.specs.Prelude.{◌≡◌, ◌≢◌, ◌≤◌, ◌+◌, ℕ, List, length, drop, All, Ok, IfOk, MatchBool, MatchResult, false};
 ghost use Rattle.std.specs.BTreeMap.{get, IsOrdered};
 ghost use Rattle.std.specs.Ordering.{nat_cmp};
 ghost use Rattle.ipfix_wire.specs.declared.set.TheConstants.{SET_HEADER_LENGTH};
 ghost use Rattle.ipfix_message.specs.Domains.{History, Message, message_header};
 ghost use Rattle.ipfix_message.specs.declared.fault.MessageFault.TheVariants.{TemplateChanged};
 ghost use Rattle.ipfix_message.specs.declared.template_record.TheConstants.{LONGEST_BODY};
-ghost use Rattle.ipfix_datagrams.specs.Attempts.{FirstReads, HasFirst, OrOutOfMemory};
+ghost use Rattle.ipfix_datagrams.specs.Attempts.{Defines, FirstReads, HasFirst, OrOutOfMemory};
 ghost use Rattle.ipfix_datagrams.specs.Datagrams as specs;
-ghost use Rattle.ipfix_datagrams.specs.Datagrams.{IsReadingOf, IsRefused, KeepsWithdrawn, Represents};
+ghost use Rattle.ipfix_datagrams.specs.Datagrams.{HasTemplateIds, IsReadingOf, IsRefused, KeepsWithdrawn, Represents, events_of_message, withdraws_only};
 ghost use Rattle.ipfix_datagrams.specs.Withdrawals.{HasTemplateId};
 
 use crate::again::defined_again;
@@ -24,6 +24,16 @@ use ipfix_wire::{HEADER_LENGTH, Header};
 use std::alloc::Global;
 use std::collections::BTreeMap;
 
+/// What is to be done with a datagram.
+#[derive(Drop)]
+pub enum Reading {
+    /// It has withdrawals alone, which are ignored over UDP (RFC 7011, section 8.4), and so it is not kept.
+    /// These are so many, up to `u64::MAX`.
+    Ignored(u64),
+    /// It is to be taken so.
+    Kept(DatagramReading),
+}
+
 /// How a datagram is to be taken.
 #[derive(Drop)]
 pub struct DatagramReading {
@@ -35,6 +45,8 @@ pub struct DatagramReading {
     pub defined: Templates,
     /// What it defines last for each id.
     pub definitions: Templates,
+    /// How many withdrawals it has, up to `u64::MAX`. They are ignored.
+    pub withdrawals: u64,
     /// Its domain alone, after it.
     pub after: Domains,
 }
@@ -66,6 +78,7 @@ fn read_first(
     datagram: &[u8],
 ) -> Result<FirstReading, MessageFault>
     requires header { message_header datagram.now ≡ Ok header.now }
+    requires kept { withdraws_only datagram.now ≡ false }
     requires first { HasFirst first.now datagram.now }
     ensures ids { IfOk result (λ r. All HasTemplateId r.withdrawn.items) }
     ensures reads { (ds : History) → Represents domains.now ds → MatchResult result
@@ -129,8 +142,55 @@ fn again(
     Ok(defined)
 }
 
+// Reads a datagram that is kept, with what its template records are.
+fn read_kept(
+    alloc: Global,
+    domains: &Domains,
+    withdrawn: &WithdrawnTemplates,
+    header: &Header,
+    definitions: Definitions,
+    datagram: &[u8],
+) -> Result<DatagramReading, MessageFault>
+    requires header { message_header datagram.now ≡ Ok header.now }
+    requires kept { withdraws_only datagram.now ≡ false }
+    requires defines { Defines definitions (events_of_message datagram.now) }
+    ensures ids { IfOk result (λ r. All HasTemplateId r.withdrawn.items) }
+    ensures reads { (ds : History) → Represents domains.now ds → KeepsWithdrawn withdrawn.now ds
+        → MatchResult result
+        (λ r. (x : Message) × IsReadingOf ds datagram.now r x)
+        (λ fault. IsRefused ds datagram.now fault) }
+{
+    let sets = after_header(header, datagram);
+    let Definitions {
+        first,
+        last,
+        withdrawals,
+        withdraws_only: _,
+    } = definitions;
+    let reading = read_first(alloc, domains, header, &first, datagram)?;
+    let defined = again(alloc, withdrawn, &first, header.domain, sets)?;
+    let FirstReading { withdrawn, after } = reading;
+    if defined.is_empty() {
+        return Ok(DatagramReading {
+            withdrawn,
+            defined,
+            definitions: last,
+            withdrawals,
+            after,
+        });
+    }
+    let after = attempt(alloc, domains, header, &withdrawn, &defined, datagram)?;
+    Ok(DatagramReading {
+        withdrawn,
+        defined,
+        definitions: last,
+        withdrawals,
+        after,
+    })
+}
+
 /// Reads a datagram after the domains of its peer and the templates that were withdrawn there, which stay as
-/// they are. It answers how the datagram is to be taken.
+/// they are. It answers whether the datagram is ignored, and how it is to be taken if not.
 ///
 /// The fault is the first of these: `TooManyDomains`, and the faults of its sets in the order of its octets.
 /// `TemplateChanged` comes only where a datagram, without a withdrawal between, defines an id otherwise than it
@@ -141,32 +201,18 @@ pub fn read_datagram(
     withdrawn: &WithdrawnTemplates,
     header: &Header,
     datagram: &[u8],
-) -> Result<DatagramReading, MessageFault>
+) -> Result<Reading, MessageFault>
     requires { message_header datagram.now ≡ Ok header.now }
-    ensures ids { IfOk result (λ r. All HasTemplateId r.withdrawn.items) }
+    ensures ids { IfOk result HasTemplateIds }
     ensures reads { (ds : History) → Represents domains.now ds → KeepsWithdrawn withdrawn.now ds
         → MatchResult result
-        (λ r. (x : Message) × IsReadingOf ds datagram.now r x)
+        (specs.Answers ds datagram.now)
         (λ fault. IsRefused ds datagram.now fault) }
 {
-    let sets = after_header(header, datagram);
-    let Definitions { first, last } = definitions_of(alloc, sets)?;
-    let reading = read_first(alloc, domains, header, &first, datagram)?;
-    let defined = again(alloc, withdrawn, &first, header.domain, sets)?;
-    let FirstReading { withdrawn, after } = reading;
-    if defined.is_empty() {
-        return Ok(DatagramReading {
-            withdrawn,
-            defined,
-            definitions: last,
-            after,
-        });
+    let definitions = definitions_of(alloc, after_header(header, datagram))?;
+    if definitions.withdraws_only && 0 < definitions.withdrawals {
+        return Ok(Reading::Ignored(definitions.withdrawals));
     }
-    let after = attempt(alloc, domains, header, &withdrawn, &defined, datagram)?;
-    Ok(DatagramReading {
-        withdrawn,
-        defined,
-        definitions: last,
-        after,
-    })
+    let reading = read_kept(alloc, domains, withdrawn, header, definitions, datagram)?;
+    Ok(Reading::Kept(reading))
 }

@@ -1,7 +1,7 @@
 //! What is answered where memory runs out.
 
 use crate::octets::CHANGES_256;
-use ipfix_datagrams::{WithdrawnTemplate, read_datagram};
+use ipfix_datagrams::{Reading, WithdrawnTemplate, read_datagram};
 use ipfix_message::{Domains, MessageFault, header_of};
 use std::collections::BTreeMap;
 use std::test::*;
@@ -20,7 +20,7 @@ fn reading_survives_refused_memory(rt: HostRuntime) -> Result<(), Fail> {
         &header,
         CHANGES_256,
     ) {
-        Ok(reading) => {
+        Ok(Reading::Kept(reading)) => {
             let expected = WithdrawnTemplate {
                 id: 256,
                 is_options: false,
@@ -28,6 +28,7 @@ fn reading_survives_refused_memory(rt: HostRuntime) -> Result<(), Fail> {
             assert_eq!(rt; reading.withdrawn.as_slice(), [expected].as_slice());
             let _ = eprintln!(rt; "read: right");
         }
+        Ok(Reading::Ignored(_)) => return Err(Fail::from("ignored")),
         Err(fault) => {
             assert_eq!(rt; fault, MessageFault::OutOfMemory);
             let _ = eprintln!(rt; "read: OutOfMemory");

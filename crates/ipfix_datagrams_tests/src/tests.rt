@@ -3,8 +3,8 @@
 
 use crate::octets::*;
 use ipfix_datagrams::{
-    DatagramReading, WithdrawnTemplate, WithdrawnTemplates, append_withdrawals, keep_withdrawn,
-    read_datagram,
+    DatagramReading, Reading, WithdrawnTemplate, WithdrawnTemplates, append_withdrawals,
+    keep_withdrawn, read_datagram,
 };
 use ipfix_message::{Decoded, Domains, MessageFault, Stamp, append_template_message, header_of};
 use ipfix_wire::Header;
@@ -30,11 +30,7 @@ const OPTIONS: WithdrawnTemplate = WithdrawnTemplate {
 };
 
 // What is answered of a datagram, where no template was withdrawn.
-fn answer(
-    alloc: Global,
-    domains: &Domains,
-    datagram: &[u8],
-) -> Result<DatagramReading, MessageFault> {
+fn answer(alloc: Global, domains: &Domains, datagram: &[u8]) -> Result<Reading, MessageFault> {
     answer_after(alloc, domains, &BTreeMap::new(alloc), datagram)
 }
 
@@ -44,9 +40,25 @@ fn answer_after(
     domains: &Domains,
     withdrawn: &WithdrawnTemplates,
     datagram: &[u8],
-) -> Result<DatagramReading, MessageFault> {
+) -> Result<Reading, MessageFault> {
     let header = header_of(datagram)?;
     read_datagram(alloc, domains, withdrawn, &header, datagram)
+}
+
+// How a datagram is taken that is not ignored.
+fn kept(reading: Reading) -> Option<DatagramReading> {
+    match reading {
+        Reading::Kept(reading) => Some(reading),
+        Reading::Ignored(_) => None,
+    }
+}
+
+// How many withdrawals are ignored with a datagram.
+fn ignored(alloc: Global, datagram: &[u8]) -> Result<Option<u64>, MessageFault> {
+    match answer(alloc, &Domains::new(alloc), datagram)? {
+        Reading::Kept(_) => Ok(None),
+        Reading::Ignored(withdrawals) => Ok(Some(withdrawals)),
+    }
 }
 
 // The domains after messages.
@@ -67,7 +79,7 @@ fn assert_taken(
     expected: &[WithdrawnTemplate],
 ) -> Result<(), Fail> {
     let domains = domains_after(alloc, messages)?;
-    let reading = answer(alloc, &domains, datagram)?;
+    let reading = kept(answer(alloc, &domains, datagram)?).ok_or("ignored")?;
     assert_eq!(rt; reading.withdrawn.as_slice(), expected);
     assert!(rt; reading.defined.is_empty());
     Ok(())
@@ -135,7 +147,7 @@ fn an_options_template_replaces_a_template(rt: HostRuntime) -> Result<(), Fail> 
 fn records_of_unchanged_templates_are_read(rt: HostRuntime) -> Result<(), Fail> {
     let alloc: Global = rt.alloc();
     let mut domains = domains_after(alloc, &[ONE_FLOW, DEFINES_257])?;
-    let reading = answer(alloc, &domains, CHANGES_256_AFTER_RECORDS)?;
+    let reading = kept(answer(alloc, &domains, CHANGES_256_AFTER_RECORDS)?).ok_or("ignored")?;
     assert_eq!(rt; reading.withdrawn.as_slice(), [TEMPLATE].as_slice());
     let mut front = Vec::new(alloc);
     append_withdrawals(&header_of(ONE_FLOW)?, &[TEMPLATE], &mut front)?;
@@ -158,10 +170,18 @@ fn a_datagram_that_contradicts_itself_is_refused(rt: HostRuntime) -> Result<(), 
 fn a_withdrawal_is_no_fault(rt: HostRuntime) -> Result<(), Fail> {
     assert_taken(&rt, rt.alloc(), &[ONE_FLOW], WITHDRAWS_256, &[])?;
     assert_taken(&rt, rt.alloc(), &[ONE_FLOW], WITHDRAWS_ALL, &[])?;
-    assert_taken(&rt, rt.alloc(), &[], WITHDRAWAL_OF_NOTHING, &[])?;
     assert_taken(&rt, rt.alloc(), &[], WITHDRAWS_ALL, &[])?;
     assert_taken(&rt, rt.alloc(), &[], EMPTY_SET_IN_FORCE_ONCE, &[])?;
     assert_taken(&rt, rt.alloc(), &[OPTIONS_TEMPLATE], WITHDRAWS_ALL, &[])
+}
+
+// A datagram of withdrawals alone is ignored, whether or not the templates are known; one without a set is not.
+#[test]
+fn withdrawals_alone_are_ignored(rt: HostRuntime) -> Result<(), Fail> {
+    assert_eq!(rt; ignored(rt.alloc(), WITHDRAWAL_OF_NOTHING)?, Some(1));
+    assert_eq!(rt; ignored(rt.alloc(), WITHDRAWAL_OF_TWO)?, Some(2));
+    assert_eq!(rt; ignored(rt.alloc(), &header(16, 0, 1))?, None);
+    Ok(())
 }
 
 // Takes a datagram as its reading says: the templates that it replaces are withdrawn, others are defined again,
@@ -169,12 +189,13 @@ fn a_withdrawal_is_no_fault(rt: HostRuntime) -> Result<(), Fail> {
 fn take(
     alloc: Global,
     domains: &mut Domains,
-    kept: &mut WithdrawnTemplates,
+    known: &mut WithdrawnTemplates,
     datagram: &[u8],
 ) -> Result<Decoded, Fail> {
     let header = header_of(datagram)?;
-    let reading = read_datagram(alloc, domains, kept, &header, datagram)?;
-    keep_withdrawn(alloc, kept, domains, header.domain, &reading)?;
+    let read = read_datagram(alloc, domains, known, &header, datagram)?;
+    let reading = kept(read).ok_or("ignored")?;
+    keep_withdrawn(alloc, known, domains, header.domain, &reading)?;
     let mut message = Vec::new(alloc);
     for template in reading.withdrawn.as_slice() {
         message.clear();
@@ -202,12 +223,23 @@ fn assert_records(
     datagrams: &[(&[u8], usize)],
 ) -> Result<(), Fail> {
     let mut domains = domains_after(alloc, &[ONE_FLOW])?;
-    let mut kept = BTreeMap::new(alloc);
+    let mut known = BTreeMap::new(alloc);
     for (datagram, records) in datagrams {
-        let decoded = take(alloc, &mut domains, &mut kept, datagram)?;
+        let decoded = take(alloc, &mut domains, &mut known, datagram)?;
         assert_eq!(rt; decoded.records.len(), *records);
     }
     Ok(())
+}
+
+// How many templates are defined again before a datagram.
+fn defined_before(
+    alloc: Global,
+    domains: &Domains,
+    known: &WithdrawnTemplates,
+    datagram: &[u8],
+) -> Result<usize, Fail> {
+    let reading = kept(answer_after(alloc, domains, known, datagram)?).ok_or("ignored")?;
+    Ok(reading.defined.len())
 }
 
 // A template that was withdrawn is known over UDP: it is defined again before a datagram with data sets of it,
@@ -216,17 +248,14 @@ fn assert_records(
 fn a_withdrawn_template_is_defined_again(rt: HostRuntime) -> Result<(), Fail> {
     let alloc: Global = rt.alloc();
     let mut domains = domains_after(alloc, &[ONE_FLOW])?;
-    let mut kept = BTreeMap::new(alloc);
-    let _ = take(alloc, &mut domains, &mut kept, WITHDRAWS_256)?;
-    let flow = answer_after(alloc, &domains, &kept, NEXT_FLOW)?;
-    assert_eq!(rt; flow.defined.len(), 1);
-    let changed = answer_after(alloc, &domains, &kept, CHANGES_256)?;
-    assert!(rt; changed.defined.is_empty());
-    let template = answer_after(alloc, &domains, &kept, TEMPLATE_256)?;
-    assert!(rt; template.defined.is_empty());
-    let decoded = take(alloc, &mut domains, &mut kept, NEXT_FLOW)?;
+    let mut known = BTreeMap::new(alloc);
+    let _ = take(alloc, &mut domains, &mut known, WITHDRAWS_256)?;
+    for (datagram, defined) in [(NEXT_FLOW, 1), (CHANGES_256, 0), (TEMPLATE_256, 0)] {
+        assert_eq!(rt; defined_before(alloc, &domains, &known, datagram)?, defined);
+    }
+    let decoded = take(alloc, &mut domains, &mut known, NEXT_FLOW)?;
     assert_eq!(rt; decoded.records.len(), 1);
-    assert!(rt; kept.is_empty());
+    assert!(rt; known.is_empty());
     Ok(())
 }
 
@@ -245,7 +274,7 @@ fn what_a_datagram_defines_is_known(rt: HostRuntime) -> Result<(), Fail> {
 fn the_last_definition_is_known(rt: HostRuntime) -> Result<(), Fail> {
     let alloc: Global = rt.alloc();
     let domains = domains_after(alloc, &[CHANGES_256])?;
-    let reading = answer(alloc, &domains, CHANGES_256_TWICE)?;
+    let reading = kept(answer(alloc, &domains, CHANGES_256_TWICE)?).ok_or("ignored")?;
     assert!(rt; reading.withdrawn.is_empty());
     let last = reading.definitions.get(&256).ok_or("not defined")?;
     assert_eq!(rt; last.least(), 2);

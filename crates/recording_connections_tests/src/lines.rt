@@ -18,6 +18,7 @@ const REPORT: FileReport = FileReport {
     backward: 1,
     unknown_sets: 0,
     unaccounted: 0,
+    ignored_withdrawals: 0,
 };
 
 const UNACCOUNTED: FileReport = FileReport {
@@ -27,10 +28,11 @@ const UNACCOUNTED: FileReport = FileReport {
     backward: 1,
     unknown_sets: 0,
     unaccounted: 4,
+    ignored_withdrawals: 2,
 };
 
 const LINES: &str = "collectd: a: messages 2, records 11, lost 3, backward 1
-collectd: a: messages 2, records 11, lost 3, backward 1, unknown_sets 0, unaccounted 4
+collectd: a: messages 2, records 11, lost 3, backward 1, unknown_sets 0, unaccounted 4, ignored_withdrawals 2
 collectd: not finished: a
 collectd: session 192.0.2.1:4739: fault 15 ReadFailed
 collectd: refused 7 connections, last 192.0.2.1:4739
@@ -110,6 +112,7 @@ fn tell_longest(alloc: Global, out: &mut WholeLines<&mut FailingWriter>) -> io::
         backward: u64::MAX,
         unknown_sets: u64::MAX,
         unaccounted: u64::MAX,
+        ignored_withdrawals: u64::MAX,
     };
     let longest = "a".repeat(alloc, 4095)?;
     write_finished(longest.as_str(), &most, out)?;
@@ -124,6 +127,6 @@ fn longest_lines(rt: HostRuntime) -> Result<(), Fail> {
     let alloc: Global = rt.alloc();
     let mut out = FailingWriter::new(alloc, 15_000, 3);
     tell_longest(alloc, &mut WholeLines::new(&mut out))?;
-    assert_eq!(rt; out.taken.len(), 4095 + 199 + 4095 + 259 + 4351 + 26);
+    assert_eq!(rt; out.taken.len(), 4095 + 241 + 4095 + 259 + 4351 + 26);
     Ok(())
 }

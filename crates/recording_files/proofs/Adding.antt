@@ -106,7 +106,7 @@ all_domains f report field ms reports sum are is all = λ less.
 pub adds_up : (finished : List Part) (last : Part) (r : RecordedSession) → IsTold r (all_given finished) last.given → AddUp (file_reports [] finished ++ r.last ∷ []) r.report
 adds_up finished last r told =
     let ms = whole finished last in
-    let session = told.session.reports in
+    let session = told.reported.session.reports in
     let same : file_reports [] finished ++ r.last ∷ [] ≡ file_reports [] (parts finished last) =
     ap (λ (f : FileReport). file_reports [] finished ++ f ∷ []) told.last ∙ sym (reports-push [] finished last) in
     let all : AddUp (file_reports [] (parts finished last)) r.report = record {
@@ -120,7 +120,7 @@ adds_up finished last r told =
       unknown_sets = not_stopped _ _ (sum_by (λ (m : Message). m.decoding.passed_over.unknown_sets) ms) (ap (λ (p : PassedOver). p.unknown_sets) session.passed_over)
           (adds_total (λ f. f.unknown_sets) (λ before here. sum_by (λ (m : Message). m.decoding.passed_over.unknown_sets) here) unknown_is (λ xs. sum_by (λ (m : Message). m.decoding.passed_over.unknown_sets) xs) refl
           (sum_goes (λ (m : Message). m.decoding.passed_over.unknown_sets)) finished last);
-      unaccounted = all_domains unaccounted_between (domain_balance ms) (λ b. b.unaccounted) ms r.report.balances.items _ told.session.balances (λ k. refl)
+      unaccounted = all_domains unaccounted_between (domain_balance ms) (λ b. b.unaccounted) ms r.report.balances.items _ told.reported.session.balances (λ k. refl)
           (adds_total (λ f. f.unaccounted) (in_ledger_from unaccounted_between) unaccounted-capped (in_ledger unaccounted_between) refl (ledger_goes unaccounted_between unsure_after lost_at (λ n. refl) (λ x y. refl)) finished last);
     } in
     subst (λ (fs : List FileReport). AddUp fs r.report) (sym same) all
@@ -128,6 +128,6 @@ adds_up finished last r told =
 -- the same of what files tell
 pub files_add_up : (p : Progress) (after : FilesView) (start now : Contents) (r : RecordedSession) → HoldsSome (IsTold r) p after → AreSeen p.first after start now → start.reports ≡ [] → AddUp (now.reports ++ r.last ∷ []) r.report
 files_add_up p after start now r h seen none =
-    let t = contents_are p.first.contents after.contents start now h.holds.finished h.holds.last [] seen.at_first seen.at_last h.holds.stands in
+    let t = contents_are p.first.contents after.contents start now (file_reports [] h.holds.finished) h.holds.finished h.holds.last [] seen.at_first seen.at_last h.holds.stands in
     let reports : now.reports ≡ file_reports [] h.holds.finished = t.1 ∙ ap (λ (fs : List FileReport). fs ++ file_reports [] h.holds.finished) none in
     subst (λ (fs : List FileReport). AddUp (fs ++ r.last ∷ []) r.report) (sym reports) (adds_up h.holds.finished h.holds.last r h.tells)

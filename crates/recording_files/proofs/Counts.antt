@@ -42,14 +42,14 @@ counted-push c f before here m count a is account tells old new = record {
 
 -- ---- the next file
 
-pub counted-turned : (c d : Told) (before here : List Message) → Counted c before here → d.session ≡ c.session → d.file ≡ record { messages = 0; records = 0; lost = 0; backward = 0; unknown_sets = 0; unaccounted = 0 }
+pub counted-turned : (c d : Told) (before here : List Message) → Counted c before here → d.session ≡ c.session → d.file ≡ record { messages = 0; records = 0; lost = 0; backward = 0; unknown_sets = 0; unaccounted = 0; ignored_withdrawals = 0 }
     → Counted d (before ++ here) []
 counted-turned c d before here counted session file = record {
   session = subst (λ (ms : List Message). Tells d.session ms (length (records_in ms))) (sym (append-nil (before ++ here))) (subst (λ (k : Counts). Tells k (before ++ here) (length (records_in (before ++ here)))) (sym session) counted.session);
   file = file ∙ sym (report-none (before ++ here));
 }
 
-pub counted-first : (c : Told) → Tells c.session [] 0 → c.file ≡ record { messages = 0; records = 0; lost = 0; backward = 0; unknown_sets = 0; unaccounted = 0 } → Counted c [] []
+pub counted-first : (c : Told) → Tells c.session [] 0 → c.file ≡ record { messages = 0; records = 0; lost = 0; backward = 0; unknown_sets = 0; unaccounted = 0; ignored_withdrawals = 0 } → Counted c [] []
 counted-first c tells file = record { session = tells; file = file ∙ sym (report-none []) }
 
 -- ---- several

@@ -84,7 +84,7 @@ module _ (f : Message → Message → ℕ) (after : Message → Option ℕ) (g :
 
 abbrev report : ℕ → ℕ → ℕ → ℕ → ℕ → ℕ → FileReport
 report messages records lost backward unknown_sets unaccounted =
-    record { messages = messages; records = records; lost = lost; backward = backward; unknown_sets = unknown_sets; unaccounted = unaccounted }
+    record { messages = messages; records = records; lost = lost; backward = backward; unknown_sets = unknown_sets; unaccounted = unaccounted; ignored_withdrawals = 0 }
 
 report-same : (a b c d e f g h i j k l : ℕ) → a ≡ g → b ≡ h → c ≡ i → d ≡ j → e ≡ k → f ≡ l → report a b c d e f ≡ report g h i j k l
 report-same a b c d e f g h i j k l o p q r s t = rw (o, p, q, r, s, t) refl

@@ -16,12 +16,13 @@ use Rattle.ipfix_session.specs.Given.{Given, gives, records_in, records_of, stop
 use Rattle.ipfix_session.proofs.Giving.{records_in-append, records_of-prefix, gives_after-fault_stays}
 use Rattle.ipfix_session.specs.Drives.{IsDue}
 use Rattle.recording_files.specs.declared.record_fault.RecordFault.{RecordFault}
+use Rattle.recording_files.specs.declared.file_report.FileReport.{FileReport}
 use Rattle.recording_files.specs.FileReports.{file_reports}
 use Rattle.recording_files.specs.Recordings.{Part, Recorded}
 use Rattle.recording_files.specs.Faithful.{all_given, IsReadAlone, GiveRecordsOf, GiveFirstRecordsOf}
 use Rattle.recording_files.specs.Files.{Contents, FilesView, AreSeen, all_of}
 use Rattle.recording_files.specs.Periods.{ClockView, octets_read}
-use Rattle.recording_files.specs.Sessions.{Progress, progress_after, file_octets, parts, Stands, IsCutOff, HoldsAll, HoldsCut, HoldsBy, IsTold, fault_of, RecordsAll}
+use Rattle.recording_files.specs.Sessions.{Progress, progress_after, file_octets, parts, StandsWith, IsCutOff, HoldsAll, HoldsCut, HoldsBy, IsTold, fault_of, RecordsAll}
 use Rattle.recording_files.proofs.Growing.{writes-append}
 use Rattle.ipfix_session.proofs.MessagesTaken.{octets-append}
 use Rattle.recording_files.proofs.Going.{WritesPart, with_messages, recorded-push, all_given-parts}
@@ -39,16 +40,17 @@ all_records (p ∷ ps) all =
     ∙ sym (records_in-append p.given (all_given ps))
 
 -- what is told of files that tell their octets
-pub contents_are : (first after : Option Contents) (none c : Contents) (finished : List Part) (last : Part) (cut_off : List ℕ) → first ≡ Some none → after ≡ Some c → Stands first after finished last cut_off
-    → (c.finished ≡ none.finished ++ map file_octets finished) × (c.reports ≡ none.reports ++ file_reports [] finished) × (c.unfinished ≡ file_octets last ++ cut_off)
-contents_are first after none c finished last cut_off is now stands =
-    subst (λ (o : Option Contents). Stands (Some none) o finished last cut_off) now (subst (λ (o : Option Contents). Stands o after finished last cut_off) is stands)
+pub contents_are : (first after : Option Contents) (none c : Contents) (reports : List FileReport) (finished : List Part) (last : Part) (cut_off : List ℕ) → first ≡ Some none → after ≡ Some c
+    → StandsWith reports first after finished last cut_off
+    → (c.finished ≡ none.finished ++ map file_octets finished) × (c.reports ≡ none.reports ++ reports) × (c.unfinished ≡ file_octets last ++ cut_off)
+contents_are first after none c reports finished last cut_off is now stands =
+    subst (λ (o : Option Contents). StandsWith reports (Some none) o finished last cut_off) now (subst (λ (o : Option Contents). StandsWith reports o after finished last cut_off) is stands)
 
 pub files_give : (told : List Message → List Message → Type 0) (p : Progress) (after : FilesView) (start c : Contents) → HoldsAll told p after → AreSeen p.first after start c → start.finished ≡ [] → GiveRecordsOf (all_of c) p.text
 files_give told p after start c h seen none =
     let ps = parts h.some.holds.finished h.some.holds.last in
     let read = (is_faithful ps h.some.holds.recorded).files in
-    let t = contents_are p.first.contents after.contents start c h.some.holds.finished h.some.holds.last [] seen.at_first seen.at_last h.some.holds.stands in
+    let t = contents_are p.first.contents after.contents start c (file_reports [] h.some.holds.finished) h.some.holds.finished h.some.holds.last [] seen.at_first seen.at_last h.some.holds.stands in
     let are : all_of c ≡ map file_octets ps =
     ap (λ (w : List ℕ). c.finished ++ w ∷ []) (t.2 ∙ append-nil (file_octets h.some.holds.last))
     ∙ ap (λ (fs : List (List ℕ)). fs ++ file_octets h.some.holds.last ∷ []) (t.0 ∙ ap (λ (fs : List (List ℕ)). fs ++ map file_octets h.some.holds.finished) none)
@@ -127,7 +129,7 @@ pub files_keep : (told : List Message → List Message → Type 0) (p : Progress
 files_keep told p after start c h seen none =
     let finished = h.holds.finished in
     let last = h.holds.last in
-    let t = contents_are p.first.contents after.contents start c finished last h.cut_off seen.at_first seen.at_last h.holds.stands in
+    let t = contents_are p.first.contents after.contents start c (file_reports [] finished) finished last h.cut_off seen.at_first seen.at_last h.holds.stands in
     let are : all_of c ≡ map file_octets finished ++ (file_octets last ++ h.cut_off) ∷ [] =
     ap (λ (w : List ℕ). c.finished ++ w ∷ []) t.2
     ∙ ap (λ (fs : List (List ℕ)). fs ++ (file_octets last ++ h.cut_off) ∷ []) (t.0 ∙ ap (λ (fs : List (List ℕ)). fs ++ map file_octets finished) none) in

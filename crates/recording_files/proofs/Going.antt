@@ -1,5 +1,5 @@
 -- The files of a session while it is recorded, read by read.
-use Rattle.std.proofs.Common.{◌≡◌, ℕ, List, [], ◌∷◌, ◌++◌, length, drop, Option, Some, None, refl, sym, ap, ap₂, subst, ◌∙◌, append_assoc, arith, inl, inr, map}
+use Rattle.std.proofs.Common.{◌≡◌, ℕ, List, [], ◌∷◌, ◌++◌, length, drop, Option, Some, None, refl, sym, ap, subst, ◌∙◌, append_assoc, arith, inl, inr, map}
 use Rattle.std.specs.Prelude.{◌⊎◌, ◌≢◌, true, Err, IfSome}
 use Rattle.std.specs.List.{flat_map}
 use Rattle.std.specs.Option.{option_map}
@@ -34,7 +34,7 @@ use Rattle.recording_files.specs.Counting.{CountsUpTo}
 use Rattle.recording_files.specs.Faithful.{all_messages, all_given}
 use Rattle.recording_files.specs.Files.{Contents, grown, turned, FilesView, with_more, with_next, failing, IsEmpty}
 use Rattle.recording_files.specs.Periods.{unfinished_in, with_file, finished_at}
-use Rattle.recording_files.specs.Sessions.{Progress, HasMessage, file_octets, parts, files_of, Stands, IsCutOff, Holds, HoldsSome, HoldsEarlier, HoldsAll, HoldsCut, fault_of}
+use Rattle.recording_files.specs.Sessions.{Progress, HasMessage, file_octets, parts, files_of, Stands, StandsWith, IsCutOff, Holds, HoldsSome, HoldsEarlier, HoldsAll, HoldsCut, fault_of}
 use Rattle.recording_files.specs.Between.{HasRecorded, StopsRecording, turned_if, with_read}
 use Rattle.recording_files.proofs.Growing.{writes-append}
 
@@ -73,37 +73,46 @@ stands_first None none = tt
 stands_first (Some c) none = (sym (append-nil c.finished), sym (append-nil c.reports), none)
 
 -- what stands there after a change of it
-stands_changed : (change : Contents → Contents) (first v after : Option Contents) (finished fs : List Part) (last next : Part) (octets : List ℕ)
-    → ((f c : Contents) → Stands (Some f) (Some c) finished last [] → Stands (Some f) (Some (change c)) fs next octets) → after ≡ option_map change v → Stands first v finished last [] → Stands first after fs next octets
-stands_changed change first v after finished fs last next octets goes is stands = subst (λ (o : Option Contents). Stands first o fs next octets) (sym is) (by_cases first v stands)
+stands_changed : (change : Contents → Contents) (first v after : Option Contents) (reports rs : List FileReport) (finished fs : List Part) (last next : Part) (octets : List ℕ)
+    → ((f c : Contents) → StandsWith reports (Some f) (Some c) finished last [] → StandsWith rs (Some f) (Some (change c)) fs next octets) → after ≡ option_map change v → StandsWith reports first v finished last []
+    → StandsWith rs first after fs next octets
+stands_changed change first v after reports rs finished fs last next octets goes is stands = subst (λ (o : Option Contents). StandsWith rs first o fs next octets) (sym is) (by_cases first v stands)
   where
-    by_cases : (f o : Option Contents) → Stands f o finished last [] → Stands f (option_map change o) fs next octets
+    by_cases : (f o : Option Contents) → StandsWith reports f o finished last [] → StandsWith rs f (option_map change o) fs next octets
     by_cases None None h = tt
     by_cases None (Some c) h = absurd h
     by_cases (Some f) None h = absurd h
     by_cases (Some f) (Some c) h = goes f c h
 
-pub stands_more : (first v after : Option Contents) (finished : List Part) (last next : Part) (octets : List ℕ) → after ≡ option_map (grown octets) v → file_octets next ≡ file_octets last ++ octets → Stands first v finished last []
-    → Stands first after finished next []
-stands_more first v after finished last next octets is longer stands =
-    stands_changed (grown octets) first v after finished finished last next []
+pub stands_more : (first v after : Option Contents) (reports : List FileReport) (finished : List Part) (last next : Part) (octets : List ℕ) → after ≡ option_map (grown octets) v → file_octets next ≡ file_octets last ++ octets
+    → StandsWith reports first v finished last [] → StandsWith reports first after finished next []
+stands_more first v after reports finished last next octets is longer stands =
+    stands_changed (grown octets) first v after reports reports finished finished last next []
     (λ f c h. (h.0, h.1, ap (λ (w : List ℕ). w ++ octets) (h.2 ∙ append-nil (file_octets last)) ∙ sym longer ∙ sym (append-nil (file_octets next)))) is stands
 
-pub stands_cut : (first v after : Option Contents) (finished : List Part) (last : Part) (octets : List ℕ) → after ≡ option_map (grown octets) v → Stands first v finished last [] → Stands first after finished last octets
-stands_cut first v after finished last octets is stands =
-    stands_changed (grown octets) first v after finished finished last last octets (λ f c h. (h.0, h.1, ap (λ (w : List ℕ). w ++ octets) (h.2 ∙ append-nil (file_octets last)))) is stands
+pub stands_cut : (first v after : Option Contents) (reports : List FileReport) (finished : List Part) (last : Part) (octets : List ℕ) → after ≡ option_map (grown octets) v → StandsWith reports first v finished last []
+    → StandsWith reports first after finished last octets
+stands_cut first v after reports finished last octets is stands =
+    stands_changed (grown octets) first v after reports reports finished finished last last octets (λ f c h. (h.0, h.1, ap (λ (w : List ℕ). w ++ octets) (h.2 ∙ append-nil (file_octets last)))) is stands
 
-pub stands_turned : (first v after : Option Contents) (finished : List Part) (last : Part) (report : FileReport) → after ≡ option_map (turned report) v → report ≡ file_report (all_given finished) last.given → Stands first v finished last []
-    → Stands first after (parts finished last) empty_part []
-stands_turned first v after finished last report is reported stands =
-    stands_changed (turned report) first v after finished (parts finished last) last empty_part []
+pub stands_next : (first v after : Option Contents) (reports : List FileReport) (finished : List Part) (last : Part) (report : FileReport) → after ≡ option_map (turned report) v → StandsWith reports first v finished last []
+    → StandsWith (reports ++ report ∷ []) first after (parts finished last) empty_part []
+stands_next first v after reports finished last report is stands =
+    stands_changed (turned report) first v after reports (reports ++ report ∷ []) finished (parts finished last) last empty_part []
     (λ f c h. (
       ap (λ (fs : List (List ℕ)). fs ++ c.unfinished ∷ []) h.0 ∙ ap (λ (w : List ℕ). (f.finished ++ map file_octets finished) ++ w ∷ []) (h.2 ∙ append-nil (file_octets last))
           ∙ append_assoc f.finished (map file_octets finished) (file_octets last ∷ []) ∙ ap (λ (fs : List (List ℕ)). f.finished ++ fs) (sym (map-append file_octets finished (last ∷ []))),
-      ap₂ (λ (rs : List FileReport) (r : FileReport). rs ++ r ∷ []) h.1 reported ∙ append_assoc f.reports (file_reports [] finished) (file_report (all_given finished) last.given ∷ [])
-          ∙ ap (λ (rs : List FileReport). f.reports ++ rs) (sym (reports-push [] finished last)),
+      ap (λ (rs : List FileReport). rs ++ report ∷ []) h.1 ∙ append_assoc f.reports reports (report ∷ []),
       refl,
     )) is stands
+
+-- with the report of its messages
+pub stands_turned : (first v after : Option Contents) (finished : List Part) (last : Part) (report : FileReport) → after ≡ option_map (turned report) v → report ≡ file_report (all_given finished) last.given → Stands first v finished last []
+    → Stands first after (parts finished last) empty_part []
+stands_turned first v after finished last report is reported stands =
+    subst (λ (rs : List FileReport). StandsWith rs first after (parts finished last) empty_part [])
+    (ap (λ (r : FileReport). file_reports [] finished ++ r ∷ []) reported ∙ sym (reports-push [] finished last))
+    (stands_next first v after (file_reports [] finished) finished last report is stands)
 
 -- ---- between two reads
 
@@ -346,7 +355,7 @@ module _ {p : Progress} {v : FilesView} {g : Gathering} {left : List ℕ} (b : H
     pub read_cut : (after : FilesView) (front : List ℕ) → Gathered → IsPrefix front h.out.items → after ≡ failing (with_more v front) → HoldsCut (Counted g.counts.told) (with_read piece p) after
     read_cut after front t q is = record {
       cut_off = front;
-      holds = holds_yet piece after front (stands_cut p.first.contents v.contents after.contents b.finished b.last front (ap (λ (u : FilesView). u.contents) is) b.stands);
+      holds = holds_yet piece after front (stands_cut p.first.contents v.contents after.contents (file_reports [] b.finished) b.finished b.last front (ap (λ (u : FilesView). u.contents) is) b.stands);
       all = held_there;
       next = record {
         messages = t.messages;
@@ -366,7 +375,7 @@ module _ {p : Progress} {v : FilesView} {g : Gathering} {left : List ℕ} (b : H
       grown_counted t = counts before b.last.given t.given (subst (λ (told : Told). Counted told before b.last.given) (sym t.took.told_is) b.counted) t.took.counted
 
       grown_stands : (t : Gathered) → Stands p.first.contents after.contents b.finished (grown_part t) []
-      grown_stands t = stands_more p.first.contents v.contents after.contents b.finished b.last (grown_part t) h.out.items (ap (λ (u : FilesView). u.contents) is) (grown_octets t) b.stands
+      grown_stands t = stands_more p.first.contents v.contents after.contents (file_reports [] b.finished) b.finished b.last (grown_part t) h.out.items (ap (λ (u : FilesView). u.contents) is) (grown_octets t) b.stands
 
       pub read_on : (rest : List ℕ) → k.recorder ≡ h.recorder → IsAtRest gathering_view before_read (left ++ piece) h tt rest → HasRecorded (with_read piece p) after k rest
       read_on rest same x =

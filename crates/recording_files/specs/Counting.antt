@@ -18,6 +18,7 @@ file_after f a c = record {
   backward = capped (f.backward + backward_at a.due c.header.sequence);
   unknown_sets = capped (f.unknown_sets + c.passed_over.unknown_sets);
   unaccounted = capped (f.unaccounted + lost_at a.unsure c.header.sequence);
+  ignored_withdrawals = f.ignored_withdrawals;
 }
 
 -- the counts that a tally and the report of a file keep

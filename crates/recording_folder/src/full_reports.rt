@@ -22,6 +22,7 @@ pub(crate) fn report_of(full: &FullReport) -> FileReport
         backward: backward_in(&full.report.domains),
         unknown_sets: full.report.unknown_sets,
         unaccounted: unaccounted_in(&full.balances),
+        ignored_withdrawals: 0,
     }
 }
 

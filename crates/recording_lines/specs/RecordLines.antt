@@ -34,9 +34,16 @@ report_text r = counts_text r ++ (losses_text r ++ uncounted_end r)
 unfoldable pub line_start : List ℕ → List ℕ
 line_start name = codes "collectd: " ++ name
 
+unfoldable pub ignored_text : FileReport → List ℕ
+ignored_text r = codes ", ignored_withdrawals " ++ decimal r.ignored_withdrawals
+
+-- the withdrawals that were ignored, if there were any
+abbrev pub ignored_end : FileReport → List ℕ
+ignored_end r = if r.ignored_withdrawals == 0 then [] else ignored_text r
+
 -- what the exporter sent in it
 abbrev pub finished_line : List ℕ → FileReport → List ℕ
-finished_line path r = line_start path ++ (report_text r ++ codes "\n")
+finished_line path r = line_start path ++ (report_text r ++ (ignored_end r ++ codes "\n"))
 
 -- one that could not be finished
 unfoldable pub not_finished_line : List ℕ → List ℕ

@@ -1,19 +1,21 @@
 //! The lines of a file that is finished, and of one that could not be.
 
 ghost use Rattle.report_writing.specs.Writing.{Tells};
-ghost use Rattle.recording_lines.specs.RecordLines.{counts_text, finished_line, line_start, losses_text, not_finished_line, report_text, uncounted_end, uncounted_text};
+ghost use Rattle.recording_lines.specs.RecordLines.{counts_text, finished_line, ignored_end, ignored_text, line_start, losses_text, not_finished_line, report_text, uncounted_end, uncounted_text};
 
 use recording_files::FileReport;
 use report_writing::WriteLines;
 use std::io;
 
-/// Writes the line of a file that is finished: its path, and what the exporter sent in it.
+/// Writes the line of a file that is finished: its path, what the exporter sent in it, and how many withdrawals
+/// were ignored, if some were.
 pub fn write_finished<W: WriteLines>(path: &str, report: &FileReport, out: &mut W) -> io::Result<()>
     ensures { Tells W.contents W.failed out.old out.new result
         (finished_line path.now report.now) }
 {
     write_start(path, out)?;
     write_report(report, out)?;
+    write_ignored(report, out)?;
     writeln!(out)
 }
 
@@ -24,6 +26,28 @@ pub(crate) fn write_report<W: WriteLines>(report: &FileReport, out: &mut W) -> i
     write_counts(report, out)?;
     write_losses(report, out)?;
     write_uncounted(report, out)
+}
+
+// Nothing is written if none was ignored.
+fn write_ignored<W: WriteLines>(report: &FileReport, out: &mut W) -> io::Result<()>
+    ensures { Tells W.contents W.failed out.old out.new result (ignored_end report.now) }
+{
+    if report.ignored_withdrawals == 0 {
+        Ok(())
+    } else {
+        write_ignored_text(report, out)
+    }
+}
+
+#[tactic(auto, unfolding(crate::specs::RecordLines::ignored_text))]
+fn write_ignored_text<W: WriteLines>(report: &FileReport, out: &mut W) -> io::Result<()>
+    ensures { Tells W.contents W.failed out.old out.new result (ignored_text report.now) }
+{
+    let FileReport {
+        ignored_withdrawals,
+        ..
+    } = *report;
+    write!(out, ", ignored_withdrawals {ignored_withdrawals}")
 }
 
 /// Writes that a file could not be finished, by its path.

@@ -62,9 +62,9 @@ records_with fs f read =
 keeps_cut : (first after : FilesView) (since : Contents) (filed : FiledDatagrams) (m : List ℕ) → IsCutOff first after filed m → CameAfter first after since → KeepsWhole (taken_in filed) m (all_of since)
 keeps_cut first after since filed m k came =
     let h = k.holds in
-    let last = last_file filed.here h.file in
+    let last = last_file filed h.file in
     let more = filed_with filed k.next in
-    let next = last_file more.here k.file in
+    let next = last_file more k.file in
     let ps = map part_of h.files in
     let w = octets_of h.file ++ k.cut_off in
     let t = since_are first after since filed k.cut_off h came in

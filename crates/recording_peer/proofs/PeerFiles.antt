@@ -1,21 +1,24 @@
 -- The datagrams and the files of a peer, one after another.
-use Rattle.std.proofs.Common.{◌≡◌, ℕ, List, [], ◌∷◌, ◌++◌, map, refl, sym, ap, ap₂, subst, ◌∙◌, append_assoc}
-use Rattle.std.specs.Prelude.{◌≢◌}
+use Rattle.std.proofs.Common.{◌≡◌, arith, ℕ, List, [], ◌∷◌, ◌++◌, map, refl, sym, ap, ap₂, subst, ◌∙◌, append_assoc}
+use Rattle.std.specs.Prelude.{◌≢◌, ◌+◌, sum_by}
 use Rattle.std.specs.List.{flat_map}
 use Rattle.std.proofs.lemmas.List.{append-nil, map-append}
 use Rattle.std.proofs.lemmas.Grind.{flat_map-append}
+use Rattle.std.proofs.lemmas.List.Sums.{sum_by_push}
 use Rattle.ipfix_message.specs.Domains.{History, Message}
 use Rattle.ipfix_message.specs.declared.record.DataRecord.{DataRecord}
 use Rattle.ipfix_session.specs.Given.{known_after, octets_of, records_in}
+use Rattle.ipfix_session.specs.Ledger.{capped}
+use Rattle.recording_files.specs.declared.file_report.FileReport.{FileReport}
 use Rattle.ipfix_session.proofs.Chains.{known-append, known_after-push}
 use Rattle.ipfix_session.proofs.Giving.{records_in-append}
 use Rattle.recording_files.specs.Recordings.{Recorded, Writes}
 use Rattle.recording_files.specs.Faithful as faithful
 use Rattle.recording_files.specs.Sessions.{file_octets}
 use Rattle.recording_files.proofs.Going.{recorded-push}
-use Rattle.ipfix_datagrams.specs.Datagrams.{IsTaken}
-use Rattle.recording_peer.specs.Peers.{Taken, AreTaken, HasFront, HaveFronts, PeerFile, givens, known_after_all, messages_with, given_with, all_messages, all_given, part_of, sent_of}
-use Rattle.recording_peer.specs.Recording.{FiledDatagrams, IsLastFile, taken_before, taken_in, filed_with, finished_now, file_finished, taken_by_file, last_file}
+use Rattle.ipfix_datagrams.specs.Datagrams.{IsTaken, withdrawals_in}
+use Rattle.recording_peer.specs.Peers.{Taken, AreTaken, HasFront, HaveFronts, PeerFile, datagrams, givens, known_after_all, messages_with, given_with, all_messages, all_given, part_of, sent_of, withdrawals_ignored, peer_report, peer_reports}
+use Rattle.recording_peer.specs.Recording.{FiledDatagrams, IsLastFile, taken_before, taken_in, ignored_in, filed_with, finished_now, ignored_now, ignored_still, file_finished, taken_by_file, last_file}
 
 -- ---- datagrams, one after another
 
@@ -105,19 +108,59 @@ sent_is (f ∷ fs) = ap (λ (ms : List Message). givens f.taken ++ ms) (sent_is 
 
 -- with one file more
 pub all_with : (fs : List PeerFile) (filed : FiledDatagrams) (file : List (List ℕ)) → taken_by_file fs ≡ filed.finished
-    → faithful.all_given (map part_of (fs ++ last_file filed.here file ∷ [])) ≡ all_given (taken_in filed)
+    → faithful.all_given (map part_of (fs ++ last_file filed file ∷ [])) ≡ all_given (taken_in filed)
 all_with fs filed file are =
-    let last = last_file filed.here file in
+    let last = last_file filed file in
     all_is (fs ++ last ∷ []) ∙ ap (λ (tss : List (List Taken)). all_given (all_finished tss)) (map-append (λ (g : PeerFile). g.taken) fs (last ∷ []) ∙ ap (λ (tss : List (List Taken)). tss ++ filed.here ∷ []) are)
     ∙ ap all_given (flat-push filed.finished filed.here)
 
 -- they are a recording
 pub recorded_with : (fs : List PeerFile) (filed : FiledDatagrams) (file : List (List ℕ)) → taken_by_file fs ≡ filed.finished → Recorded [] (map part_of fs) → IsLastFile filed file
-    → Recorded [] (map part_of (fs ++ last_file filed.here file ∷ []))
+    → Recorded [] (map part_of (fs ++ last_file filed file ∷ []))
 recorded_with fs filed file are earlier last =
     let before : faithful.all_given (map part_of fs) ≡ all_given (taken_before filed) = all_is fs ∙ ap (λ (tss : List (List Taken)). all_given (all_finished tss)) are in
-    subst (Recorded []) (sym (map-append part_of fs (last_file filed.here file ∷ [])))
-    (recorded-push [] (map part_of fs) (part_of (last_file filed.here file)) earlier (subst (λ (b : List Message). Writes b [] (all_messages filed.here) (all_given filed.here) file) (sym before) last))
+    subst (Recorded []) (sym (map-append part_of fs (last_file filed file ∷ [])))
+    (recorded-push [] (map part_of fs) (part_of (last_file filed file)) earlier (subst (λ (b : List Message). Writes b [] (all_messages filed.here) (all_given filed.here) file) (sym before) last))
+
+-- the reports of one file more
+pub peer_reports-push : (before : List Message) (fs : List PeerFile) (f : PeerFile)
+    → peer_reports before (fs ++ f ∷ []) ≡ peer_reports before fs ++ peer_report (before ++ givens (all_finished (taken_by_file fs))) f.taken f.ignored ∷ []
+peer_reports-push before [] f = ap (λ (b : List Message). peer_report b f.taken f.ignored ∷ []) (sym (append-nil before))
+peer_reports-push before (g ∷ fs) f =
+    ap (λ (rs : List FileReport). peer_report before g.taken g.ignored ∷ rs) (peer_reports-push (before ++ givens g.taken) fs f)
+    ∙ ap (λ (b : List Message). peer_report before g.taken g.ignored ∷ (peer_reports (before ++ givens g.taken) fs ++ peer_report b f.taken f.ignored ∷ []))
+    (append_assoc before (givens g.taken) (givens (all_finished (taken_by_file fs))) ∙ ap (λ (ms : List Message). before ++ ms) (sym (givens-append g.taken (all_finished (taken_by_file fs)))))
+
+-- ---- what was ignored
+
+pub ignored_is : (here : List Taken) (ignored : List (List (List ℕ))) (now : List (List ℕ)) → here ≢ [] → ignored_now here ignored now ≡ ignored ++ now ∷ []
+ignored_is [] ignored now some = absurd (some refl)
+ignored_is (t ∷ ts) ignored now some = refl
+
+pub none_still : (here : List Taken) (now : List (List ℕ)) → here ≢ [] → ignored_still here now ≡ []
+none_still [] now some = absurd (some refl)
+none_still (t ∷ ts) now some = refl
+
+-- all of it, where a file is finished
+pub ignored-finished : (filed : FiledDatagrams) → ignored_in (file_finished filed) ≡ ignored_in filed
+ignored-finished filed = by_here filed.here
+  where
+    by_here : (here : List Taken) → flat_map (λ (ms : List (List ℕ)). ms) (ignored_now here filed.ignored filed.ignored_here) ++ ignored_still here filed.ignored_here ≡ ignored_in filed
+    by_here [] = refl
+    by_here (t ∷ ts) =
+        append-nil _ ∙ flat_map-append (λ (ms : List (List ℕ)). ms) filed.ignored (filed.ignored_here ∷ [])
+        ∙ ap (λ (ms : List (List ℕ)). flat_map (λ (ms : List (List ℕ)). ms) filed.ignored ++ ms) (append-nil filed.ignored_here)
+
+-- the withdrawals of one datagram more
+pub withdrawals-taken : (ts : List Taken) (t : Taken) (ms : List (List ℕ)) (n : ℕ) → n ≡ capped (withdrawals_in t.datagram) → capped (capped (withdrawals_ignored ts ms) + n) ≡ capped (withdrawals_ignored (ts ++ t ∷ []) ms)
+withdrawals-taken ts t ms n is =
+    let more : sum_by withdrawals_in (datagrams (ts ++ t ∷ [])) ≡ sum_by withdrawals_in (datagrams ts) + withdrawals_in t.datagram =
+    ap (sum_by withdrawals_in) (map-append (λ (u : Taken). u.datagram) ts (t ∷ [])) ∙ sum_by_push withdrawals_in (datagrams ts) t.datagram in
+    omega (arith, more, is)
+
+-- and of one that was ignored
+pub withdrawals-ignored : (ts : List Taken) (ms : List (List ℕ)) (m : List ℕ) (n : ℕ) → n ≡ capped (withdrawals_in m) → capped (capped (withdrawals_ignored ts ms) + n) ≡ capped (withdrawals_ignored ts (ms ++ m ∷ []))
+withdrawals-ignored ts ms m n is = omega (arith, sum_by_push withdrawals_in ms m, is)
 
 -- the same octets
 pub octets_same : (fs : List PeerFile) → map file_octets (map sent_of fs) ≡ map file_octets (map part_of fs)

@@ -12,17 +12,17 @@ use Rattle.recording_files.specs.declared.file_report.FileReport.{FileReport}
 use Rattle.recording_files.specs.declared.message_count.MessageCount.{MessageCount}
 use Rattle.recording_files.specs.Files.{Contents, FilesView, with_more, with_next, failing}
 use Rattle.recording_files.specs.Recorders.{State}
-use Rattle.recording_files.specs.Sessions.{Stands}
+use Rattle.recording_files.specs.Sessions.{StandsWith}
 use Rattle.recording_files.proofs.Going.{stands_cut}
 use Rattle.ipfix_datagrams.specs.Datagrams.{preparation_of, IsTaken}
 use Rattle.ipfix_datagrams.specs.declared.reading.DatagramReading.{DatagramReading}
-use Rattle.recording_peer.specs.Peers.{known_after_all, all_given, sent_of}
+use Rattle.recording_peer.specs.Peers.{known_after_all, all_given, sent_of, peer_reports}
 use Rattle.recording_peer.specs.Recording.{PeerTold, PeerView, FiledDatagrams, last_file, taken_before, taken_in, HasDatagram, FilesHold, Counts, IsPeer, HasStopped}
 use Rattle.recording_peer.specs.Fronts.{TookDatagram, taken_as}
-use Rattle.recording_peer.proofs.Taking.{holds_turned, file_with, octets_with, taken_with, fronts_with}
+use Rattle.recording_peer.proofs.Taking.{counted_report, holds_turned, file_with, octets_with, taken_with, fronts_with}
 
 -- other files with the same datagrams
-abbrev holds_with : (first v after : FilesView) (filed : FiledDatagrams) (cut_off : List ℕ) (h : FilesHold first v filed []) → Stands first.contents after.contents (map sent_of h.files) (sent_of (last_file filed.here h.file)) cut_off
+abbrev holds_with : (first v after : FilesView) (filed : FiledDatagrams) (cut_off : List ℕ) (h : FilesHold first v filed []) → StandsWith (peer_reports [] h.files) first.contents after.contents (map sent_of h.files) (sent_of (last_file filed h.file)) cut_off
     → FilesHold first after filed cut_off
 holds_with first v after filed cut_off h stands = record {
   taken = h.taken;
@@ -30,6 +30,7 @@ holds_with first v after filed cut_off h stands = record {
   some = h.some;
   files = h.files;
   are = h.are;
+  ignored = h.ignored;
   earlier = h.earlier;
   file = h.file;
   last = h.last;
@@ -38,10 +39,10 @@ holds_with first v after filed cut_off h stands = record {
 
 holds_same : (first v after : FilesView) (filed : FiledDatagrams) → FilesHold first v filed [] → after.contents ≡ v.contents → FilesHold first after filed []
 holds_same first v after filed h is =
-    holds_with first v after filed [] h (subst (λ (o : Option Contents). Stands first.contents o (map sent_of h.files) (sent_of (last_file filed.here h.file)) []) (sym is) h.stands)
+    holds_with first v after filed [] h (subst (λ (o : Option Contents). StandsWith (peer_reports [] h.files) first.contents o (map sent_of h.files) (sent_of (last_file filed h.file)) []) (sym is) h.stands)
 
 -- a call to finish the file failed
-pub stops_turning : (first v after : FilesView) (s : PeerView) (filed : FiledDatagrams) (report : FileReport) (c : PeerTold) → IsPeer first v s filed → HasDatagram filed.here → report ≡ s.told.counts.file → c ≡ s.told
+pub stops_turning : (first v after : FilesView) (s : PeerView) (filed : FiledDatagrams) (report : FileReport) (c : PeerTold) → IsPeer first v s filed → HasDatagram filed.here → report ≡ counted_report s.told → c ≡ s.told
     → (after ≡ failing v) ⊎ (after ≡ failing (with_next v report)) → (m : List ℕ) → HasStopped NotWritten first after c filed m
 stops_turning first v after s filed report c p some reported told (inl is) m =
     record {
@@ -81,7 +82,7 @@ stops_cut first v after s t filed m q x octets front count c p taken k begins is
       stops = inl (record {
         there = inr (record {
           cut_off = front;
-          holds = holds_with first v after filed front h (stands_cut first.contents v.contents after.contents (map sent_of h.files) (sent_of (last_file filed.here h.file)) front (ap (λ (w : FilesView). w.contents) is) h.stands);
+          holds = holds_with first v after filed front h (stands_cut first.contents v.contents after.contents (peer_reports [] h.files) (map sent_of h.files) (sent_of (last_file filed h.file)) front (ap (λ (w : FilesView). w.contents) is) h.stands);
           next = u;
           datagram = refl;
           taken = taken_with filed u h.taken taken;

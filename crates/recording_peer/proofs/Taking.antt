@@ -1,39 +1,40 @@
 -- A peer while its datagrams are recorded.
-use Rattle.std.proofs.Common.{◌≡◌, ℕ, List, [], ◌∷◌, ◌++◌, map, None, refl, sym, ap, subst, ◌∙◌}
-use Rattle.std.specs.Prelude.{All}
+use Rattle.std.proofs.Common.{◌≡◌, ℕ, List, [], ◌∷◌, ◌++◌, map, None, refl, sym, ap, ap₂, subst, ◌∙◌}
+use Rattle.std.specs.Prelude.{◌+◌, All}
 use Rattle.std.proofs.lemmas.List.{map-append}
 use Rattle.std.proofs.lemmas.List.Elements.{All-nil, All-push}
 use Rattle.ipfix_message.specs.Domains.{DomainsView, History, Message, StandsFor}
 use Rattle.ipfix_session.specs.Given.{known_after, octets_of}
+use Rattle.ipfix_session.specs.Ledger.{capped}
 use Rattle.ipfix_session.proofs.MessagesTaken.{octets-append}
 use Rattle.recording_files.specs.declared.message_count.MessageCount.{MessageCount}
-use Rattle.recording_files.specs.FileReports.{file_report}
-use Rattle.recording_files.specs.Faithful as faithful
+use Rattle.recording_files.specs.declared.file_report.FileReport.{FileReport}
 use Rattle.recording_files.specs.Files.{FilesView, IsEmpty, with_more, with_next}
 use Rattle.recording_files.specs.Recordings.{Part, Writes}
 use Rattle.recording_files.specs.Recorders.{State, Keeps, Counted}
-use Rattle.recording_files.specs.Sessions.{Stands}
+use Rattle.recording_files.specs.Sessions.{StandsWith, parts}
 use Rattle.recording_files.proofs.Growing.{writes-append}
-use Rattle.recording_files.proofs.Going.{empty_part, stands_first, stands_more, stands_turned}
+use Rattle.recording_files.proofs.Going.{empty_part, stands_first, stands_more, stands_next}
 use Rattle.ipfix_message.specs.declared.record.Template.{Template}
-use Rattle.ipfix_datagrams.specs.Datagrams.{preparation_of, Represents, IsTaken}
+use Rattle.ipfix_datagrams.specs.Datagrams.{preparation_of, Represents, IsTaken, withdrawals_in}
 use Rattle.ipfix_datagrams.specs.Reaches.{reaches_of}
 use Rattle.ipfix_datagrams.specs.declared.reading.DatagramReading.{DatagramReading}
-use Rattle.recording_peer.specs.Peers.{Taken, AreTaken, HasFront, HaveFronts, PeerFile, givens, known_after_all, messages_with, given_with, all_messages, all_given, sent_of}
-use Rattle.recording_peer.specs.Recording.{PeerTold, PeerView, FiledDatagrams, none_filed, taken_before, taken_in, filed_with, finished_now, file_finished, last_file, HasDatagram, IsLastFile, FilesHold, Counts, KeepsListed, IsPeer}
+use Rattle.recording_peer.specs.Peers.{Taken, AreTaken, HasFront, HaveFronts, PeerFile, givens, known_after_all, messages_with, given_with, all_messages, all_given, sent_of, withdrawals_ignored, peer_report, peer_reports}
+use Rattle.recording_peer.specs.Recording.{PeerTold, PeerView, FiledDatagrams, none_filed, taken_before, taken_in, taken_by_file, filed_with, with_ignored, finished_now, ignored_now, ignored_still, file_finished, last_file, HasDatagram, IsLastFile, FilesHold, Counts, KeepsListed, IsPeer}
 use Rattle.recording_peer.specs.Fronts.{TookDatagram, taken_as}
-use Rattle.recording_peer.proofs.PeerFiles.{files_here, givens-append, all_given-append, all_given-push, all_messages-push, taken-push, fronts-push, taken_in-push, all_finished, now_is, in-finished, givens-finished, all_given-finished, known-push, sent_is, recorded_with}
+use Rattle.recording_peer.proofs.PeerFiles.{files_here, givens-append, all_given-append, all_given-push, all_messages-push, taken-push, fronts-push, taken_in-push, all_finished, now_is, in-finished, givens-finished, all_given-finished, known-push, peer_reports-push, ignored_is, none_still, withdrawals-taken, withdrawals-ignored, recorded_with}
 
 -- ---- the first file
 
-pub peer_first : (v : FilesView) (s : PeerView) → IsEmpty v.contents → s.ended ≡ None → Keeps s.recorder [] [] → Counted s.told.counts [] [] → s.told.advances ≡ [] → KeepsListed s.withdrawn [] → IsPeer v v s none_filed
-peer_first v s empty on keeps counted none withdrawn = record {
+pub peer_first : (v : FilesView) (s : PeerView) → IsEmpty v.contents → s.ended ≡ None → Keeps s.recorder [] [] → Counted s.told.counts [] [] → s.told.ignored ≡ 0 → s.told.advances ≡ [] → KeepsListed s.withdrawn [] → IsPeer v v s none_filed
+peer_first v s empty on keeps counted nor none withdrawn = record {
   holds = record {
     taken = tt;
     fronts = tt;
     some = All-nil HasDatagram;
     files = [];
     are = refl;
+    ignored = refl;
     earlier = tt;
     file = [];
     last = refl;
@@ -41,7 +42,7 @@ peer_first v s empty on keeps counted none withdrawn = record {
   };
   not_failed = refl;
   goes_on = on;
-  counted = record { counted = counted; noted = none };
+  counted = record { counted = counted; ignored = nor; noted = none };
   keeps = keeps;
   withdrawn = withdrawn;
 }
@@ -62,16 +63,23 @@ represents {first} {v} {s} {filed} d p same = record {
 
 -- ---- the next file
 
--- what is counted of the file is what is to be told of it
-pub reported : (first v : FilesView) (filed : FiledDatagrams) (c : PeerTold) (h : FilesHold first v filed []) → Counts c filed → c.counts.file ≡ file_report (faithful.all_given (map sent_of h.files)) (givens filed.here)
+-- what is counted of the file
+abbrev pub counted_report : PeerTold → FileReport
+counted_report c = record c.counts.file { ignored_withdrawals = c.ignored }
+
+-- is what is to be told of it
+pub last_reported : (c : PeerTold) (filed : FiledDatagrams) → Counts c filed → counted_report c ≡ peer_report (givens (taken_before filed)) filed.here filed.ignored_here
+last_reported c filed counted = ap₂ (λ (f : FileReport) (n : ℕ). record f { ignored_withdrawals = n }) counted.counted.file counted.ignored
+
+reported : (first v : FilesView) (filed : FiledDatagrams) (c : PeerTold) (h : FilesHold first v filed []) → Counts c filed → counted_report c ≡ peer_report (givens (all_finished (taken_by_file h.files))) filed.here filed.ignored_here
 reported first v filed c h counted =
-    counted.counted.file ∙ ap (λ (ms : List Message). file_report ms (givens filed.here)) (sym (sent_is h.files ∙ ap (λ (tss : List (List Taken)). givens (all_finished tss)) h.are))
+    last_reported c filed counted ∙ ap (λ (tss : List (List Taken)). peer_report (givens (all_finished tss)) filed.here filed.ignored_here) (sym h.are)
 
 -- it is finished
-pub holds_turned : (first v after : FilesView) (filed : FiledDatagrams) (c : PeerTold) → FilesHold first v filed [] → Counts c filed → HasDatagram filed.here → after.contents ≡ (with_next v c.counts.file).contents
+pub holds_turned : (first v after : FilesView) (filed : FiledDatagrams) (c : PeerTold) → FilesHold first v filed [] → Counts c filed → HasDatagram filed.here → after.contents ≡ (with_next v (counted_report c)).contents
     → FilesHold first after (file_finished filed) []
 holds_turned first v after filed c h counted some is =
-    let last = last_file filed.here h.file in
+    let last = last_file filed h.file in
     let now = now_is filed.finished filed.here some in
     record {
       taken = subst (AreTaken []) (sym (in-finished filed)) h.taken;
@@ -79,27 +87,31 @@ holds_turned first v after filed c h counted some is =
       some = subst (λ (tss : List (List Taken)). All HasDatagram tss) (sym now) (All-push HasDatagram filed.finished filed.here h.some some);
       files = h.files ++ last ∷ [];
       are = map-append (λ (f : PeerFile). f.taken) h.files (last ∷ []) ∙ ap (λ (tss : List (List Taken)). tss ++ filed.here ∷ []) h.are ∙ sym now;
+      ignored = map-append (λ (f : PeerFile). f.ignored) h.files (last ∷ []) ∙ ap (λ (mss : List (List (List ℕ))). mss ++ filed.ignored_here ∷ []) h.ignored ∙ sym (ignored_is filed.here filed.ignored filed.ignored_here some);
       earlier = recorded_with h.files filed h.file h.are h.earlier h.last;
       file = [];
       last = refl;
-      stands = subst (λ (ps : List Part). Stands first.contents after.contents ps empty_part []) (sym (map-append sent_of h.files (last ∷ [])))
-          (stands_turned first.contents v.contents after.contents (map sent_of h.files) (sent_of last) c.counts.file is (reported first v filed c h counted) h.stands);
+      stands = subst (λ (ps : List Part). StandsWith (peer_reports [] (h.files ++ last ∷ [])) first.contents after.contents ps empty_part []) (sym (map-append sent_of h.files (last ∷ [])))
+          (subst (λ (rs : List FileReport). StandsWith rs first.contents after.contents (parts (map sent_of h.files) (sent_of last)) empty_part [])
+          (ap (λ (r : FileReport). peer_reports [] h.files ++ r ∷ []) (reported first v filed c h counted) ∙ sym (peer_reports-push [] h.files last))
+          (stands_next first.contents v.contents after.contents (peer_reports [] h.files) (map sent_of h.files) (sent_of last) (counted_report c) is h.stands));
     }
 
-counts_turned : (c : PeerTold) (filed : FiledDatagrams) → Counted c.counts (givens (taken_before filed) ++ givens filed.here) [] → c.advances ≡ reaches_of (givens (taken_in filed)) → Counts c (file_finished filed)
-counts_turned c filed counted noted = record {
+counts_turned : (c : PeerTold) (filed : FiledDatagrams) → HasDatagram filed.here → Counted c.counts (givens (taken_before filed) ++ givens filed.here) [] → c.ignored ≡ 0 → c.advances ≡ reaches_of (givens (taken_in filed)) → Counts c (file_finished filed)
+counts_turned c filed some counted none noted = record {
   counted = subst (λ (ms : List Message). Counted c.counts ms []) (sym (givens-finished filed)) counted;
+  ignored = none ∙ ap (λ (ms : List (List ℕ)). capped (withdrawals_ignored [] ms)) (sym (none_still filed.here filed.ignored_here some));
   noted = noted ∙ ap (λ (ts : List Taken). reaches_of (givens ts)) (sym (in-finished filed));
 }
 
-pub peer_turned : (first v after : FilesView) (s t : PeerView) (filed : FiledDatagrams) (p : IsPeer first v s filed) → HasDatagram filed.here → after ≡ with_next v s.told.counts.file
-    → Keeps t.recorder (all_given (taken_before filed) ++ all_given filed.here) [] → Counted t.told.counts (givens (taken_before filed) ++ givens filed.here) [] → t.told.advances ≡ s.told.advances → t.ended ≡ None → t.withdrawn ≡ s.withdrawn
+pub peer_turned : (first v after : FilesView) (s t : PeerView) (filed : FiledDatagrams) (p : IsPeer first v s filed) → HasDatagram filed.here → after ≡ with_next v (counted_report s.told)
+    → Keeps t.recorder (all_given (taken_before filed) ++ all_given filed.here) [] → Counted t.told.counts (givens (taken_before filed) ++ givens filed.here) [] → t.told.ignored ≡ 0 → t.told.advances ≡ s.told.advances → t.ended ≡ None → t.withdrawn ≡ s.withdrawn
     → IsPeer first after t (file_finished filed)
-peer_turned first v after s t filed p some is keeps counted same on left = record {
+peer_turned first v after s t filed p some is keeps counted none same on left = record {
   holds = holds_turned first v after filed s.told p.holds p.counted some (ap (λ (u : FilesView). u.contents) is);
   not_failed = ap (λ (u : FilesView). u.failed) is ∙ p.not_failed;
   goes_on = on;
-  counted = counts_turned t.told filed counted (same ∙ p.counted.noted);
+  counted = counts_turned t.told filed some counted none (same ∙ p.counted.noted);
   keeps = subst (λ (ms : List Message). Keeps t.recorder ms []) (sym (all_given-finished filed)) keeps;
   withdrawn = subst (λ (ts : List Taken). KeepsListed t.withdrawn (known_after_all ts)) (sym (in-finished filed)) (subst (λ (w : List (ℕ × List (ℕ × Template))). KeepsListed w (known_after_all (taken_in filed))) (sym left) p.withdrawn);
 }
@@ -115,7 +127,9 @@ none_given (t ∷ ts) none = absurd (not_none t.front.given none)
 
 -- there is no datagram to finish
 unfinished : (filed : FiledDatagrams) → filed.here ≡ [] → file_finished filed ≡ filed
-unfinished filed none = ap (λ (ts : List Taken). record { finished = finished_now filed.finished ts; here = [] }) none ∙ ap (λ (ts : List Taken). record { finished = filed.finished; here = ts }) (sym none)
+unfinished filed none =
+    ap (λ (ts : List Taken). record { finished = finished_now filed.finished ts; here = []; ignored = ignored_now ts filed.ignored filed.ignored_here; ignored_here = ignored_still ts filed.ignored_here }) none
+    ∙ ap (λ (ts : List Taken). record { finished = filed.finished; here = ts; ignored = filed.ignored; ignored_here = filed.ignored_here }) (sym none)
 
 pub peer_unturned : (first v : FilesView) (s : PeerView) (filed : FiledDatagrams) → IsPeer first v s filed → filed.here ≡ [] → IsPeer first v s (file_finished filed)
 peer_unturned first v s filed p none = subst (IsPeer first v s) (sym (unfinished filed none)) p
@@ -150,9 +164,9 @@ givens_with here t = givens-append here (t ∷ [])
 pub peer_with : (first v after : FilesView) (s t : PeerView) (filed : FiledDatagrams) (m : List ℕ) (q : DatagramReading) (x : Message) (octets : List ℕ) (c : MessageCount) (p : IsPeer first v s filed)
     → IsTaken (known_after_all (taken_in filed)) m (preparation_of q) x → (k : TookDatagram (all_given (taken_before filed)) (all_given filed.here) t.recorder m q x octets c)
     → after ≡ with_more v octets → Counted t.told.counts (givens (taken_before filed)) (givens filed.here ++ x ∷ [])
-    → t.told.advances ≡ reaches_of (givens (taken_in filed) ++ x ∷ []) → t.ended ≡ None → KeepsListed t.withdrawn x.domains
+    → t.told.ignored ≡ capped (s.told.ignored + q.withdrawals) → q.withdrawals ≡ capped (withdrawals_in m) → t.told.advances ≡ reaches_of (givens (taken_in filed) ++ x ∷ []) → t.ended ≡ None → KeepsListed t.withdrawn x.domains
     → IsPeer first after t (filed_with filed (taken_as m (preparation_of q) k.front x))
-peer_with first v after s t filed m q x octets c p taken k is counted noted on withdrawn =
+peer_with first v after s t filed m q x octets c p taken k is counted more ignored noted on withdrawn =
     let h = p.holds in
     let u = taken_as m (preparation_of q) k.front x in
     let all : givens (taken_in (filed_with filed u)) ≡ givens (taken_in filed) ++ x ∷ [] = ap givens (taken_in-push filed u) ∙ givens-append (taken_in filed) (u ∷ []) in
@@ -163,17 +177,40 @@ peer_with first v after s t filed m q x octets c p taken k is counted noted on w
         some = h.some;
         files = h.files;
         are = h.are;
+        ignored = h.ignored;
         earlier = h.earlier;
         file = h.file ++ k.file;
         last = file_with filed m q x t.recorder octets c h.file h.last k;
-        stands = stands_more first.contents v.contents after.contents (map sent_of h.files) (sent_of (last_file filed.here h.file)) (sent_of (last_file (filed.here ++ u ∷ []) (h.file ++ k.file))) octets (ap (λ (w : FilesView). w.contents) is) (octets_with h.file k.file octets k.octets_are) h.stands;
+        stands = stands_more first.contents v.contents after.contents (peer_reports [] h.files) (map sent_of h.files) (sent_of (last_file filed h.file)) (sent_of (last_file (filed_with filed u) (h.file ++ k.file))) octets (ap (λ (w : FilesView). w.contents) is) (octets_with h.file k.file octets k.octets_are) h.stands;
       };
       not_failed = ap (λ (w : FilesView). w.failed) is ∙ p.not_failed;
       goes_on = on;
       counted = record {
         counted = subst (λ (ms : List Message). Counted t.told.counts (givens (taken_before filed)) ms) (sym (givens_with filed.here u)) counted;
+        ignored = more ∙ ap (λ (n : ℕ). capped (n + q.withdrawals)) p.counted.ignored ∙ withdrawals-taken filed.here u filed.ignored_here q.withdrawals ignored;
         noted = noted ∙ ap reaches_of (sym all);
       };
       keeps = subst (Keeps t.recorder (all_given (taken_before filed))) (sym (all_given-push filed.here u)) k.keeps;
       withdrawn = subst (KeepsListed t.withdrawn) (sym (known-push filed u)) withdrawn;
+    }
+
+-- ---- one that is ignored
+
+abbrev pub ignoring : PeerView → ℕ → PeerView
+ignoring s n = record s { told = record s.told { ignored = n } }
+
+pub peer_ignoring : (first v : FilesView) (s : PeerView) (filed : FiledDatagrams) (m : List ℕ) (n : ℕ) → IsPeer first v s filed → n ≡ capped (withdrawals_in m) → IsPeer first v (ignoring s (capped (s.told.ignored + n))) (with_ignored filed m)
+peer_ignoring first v s filed m n p is =
+    let h = p.holds in
+    record {
+      holds = record { taken = h.taken; fronts = h.fronts; some = h.some; files = h.files; are = h.are; ignored = h.ignored; earlier = h.earlier; file = h.file; last = h.last; stands = h.stands };
+      not_failed = p.not_failed;
+      goes_on = p.goes_on;
+      counted = record {
+        counted = p.counted.counted;
+        ignored = ap (λ (k : ℕ). capped (k + n)) p.counted.ignored ∙ withdrawals-ignored filed.here filed.ignored_here m n is;
+        noted = p.counted.noted;
+      };
+      keeps = p.keeps;
+      withdrawn = p.withdrawn;
     }

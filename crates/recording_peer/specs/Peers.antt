@@ -1,14 +1,17 @@
 -- The datagrams of a peer, and its files (RFC 7011, sections 8.1, 8.4 and 10.3).
-use Rattle.std.specs.Prelude.{◌≡◌, ◌≢◌, ℕ, List, [], ◌∷◌, ◌++◌, take, drop, map, flat_map}
+use Rattle.std.specs.Prelude.{◌≡◌, ◌≢◌, ℕ, ◌+◌, List, [], ◌∷◌, ◌++◌, take, drop, map, flat_map, sum_by}
 use Rattle.ipfix_wire.specs.declared.header.Header.{Header}
 use Rattle.ipfix_message.specs.Domains.{History, Message}
 use Rattle.ipfix_message.specs.declared.record.DataRecord.{DataRecord}
 use Rattle.ipfix_message.specs.declared.record.Template.{Template}
 use Rattle.ipfix_session.specs.Given.{known_after, records_in}
+use Rattle.ipfix_session.specs.Ledger.{capped}
 use Rattle.recording_files.specs.Recordings.{Part, stamp_for}
+use Rattle.recording_files.specs.FileReports.{file_report}
+use Rattle.recording_files.specs.declared.file_report.FileReport.{FileReport}
 use Rattle.recording_files.specs.Preambles.{templates_message}
 use Rattle.ipfix_message.specs.declared.stamp.Stamp.{Stamp}
-use Rattle.ipfix_datagrams.specs.Datagrams.{Preparation, IsTaken}
+use Rattle.ipfix_datagrams.specs.Datagrams.{Preparation, IsTaken, withdrawals_in}
 use Rattle.ipfix_datagrams.specs.Withdrawals.{withdrawal_message}
 use Rattle.ipfix_datagrams.specs.declared.withdrawal.TheConstants.{MOST_WITHDRAWN}
 use Rattle.ipfix_datagrams.specs.declared.withdrawn_template.WithdrawnTemplate.{WithdrawnTemplate}
@@ -94,9 +97,10 @@ HaveFronts before (t ∷ ts) = HasFront before t × HaveFronts (before ++ given_
 
 -- ---- files
 
--- a file of a peer: its datagrams, and all its messages
+-- a file of a peer: its datagrams, those that were ignored since the file before was finished, and all its messages
 pub record PeerFile : Type 0 where
   pub taken : List Taken
+  pub ignored : List (List ℕ)
   pub file : List (List ℕ)
 
 -- as a part of the session that the files are: each datagram after the messages in front of it
@@ -106,3 +110,16 @@ part_of f = record { messages = all_messages f.taken; given = all_given f.taken;
 -- as a part of what the exporter sent
 abbrev pub sent_of : PeerFile → Part
 sent_of f = record { messages = datagrams f.taken; given = givens f.taken; file = f.file }
+
+-- the withdrawals that were ignored (RFC 7011, section 8.4): those of the datagrams of a file, and those of datagrams that were ignored
+abbrev pub withdrawals_ignored : List Taken → List (List ℕ) → ℕ
+withdrawals_ignored taken ignored = sum_by withdrawals_in (datagrams taken) + sum_by withdrawals_in ignored
+
+-- the report of such a file, after messages of earlier files: what the exporter sent in it, and how many withdrawals were ignored
+abbrev pub peer_report : List Message → List Taken → List (List ℕ) → FileReport
+peer_report before taken ignored = record (file_report before (givens taken)) { ignored_withdrawals = capped (withdrawals_ignored taken ignored) }
+
+-- the reports of files in turn
+abbrev pub peer_reports : List Message → List PeerFile → List FileReport
+peer_reports before [] = []
+peer_reports before (f ∷ fs) = peer_report before f.taken f.ignored ∷ peer_reports (before ++ givens f.taken) fs

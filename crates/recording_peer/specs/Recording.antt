@@ -1,5 +1,5 @@
 -- The datagrams that a peer's recorder represents, and what it answers.
-use Rattle.std.specs.Prelude.{◌≡◌, ◌≢◌, ◌⊎◌, ℕ, List, [], ◌∷◌, ◌++◌, map, flat_map, All, MatchResult, Option, Some, None, Result, Ok, Err}
+use Rattle.std.specs.Prelude.{◌≡◌, ◌≢◌, ◌⊎◌, ℕ, true, List, [], ◌∷◌, ◌++◌, map, flat_map, All, MatchResult, Option, Some, None, Result, Ok, Err}
 use Rattle.ipfix_session.specs.declared.stop.Stop.TheVariants.{Clean}
 use Rattle.ipfix_session.specs.Given.{IsOpen, IsPrefix, octets_of, records_of, stop_of}
 use Rattle.std.specs.Map.{lookup}
@@ -9,6 +9,7 @@ use Rattle.ipfix_message.specs.Domains.{History}
 use Rattle.ipfix_message.specs.declared.record.Template.{Template}
 use Rattle.ipfix_message.specs.declared.fault.MessageFault.TheVariants.{OutOfMemory}
 use Rattle.ipfix_session.specs.Sources.{one_more}
+use Rattle.ipfix_session.specs.Ledger.{capped}
 use Rattle.recording_files.specs.declared.record_fault.RecordFault.{RecordFault}
 use Rattle.recording_files.specs.declared.record_fault.RecordFault.TheVariants.{Message as OfMessage, NotWritten}
 use Rattle.recording_files.specs.Recordings.{Recorded as AreRecorded, Writes}
@@ -17,19 +18,20 @@ use Rattle.recording_files.specs.declared.message_count.MessageCount.{MessageCou
 use Rattle.recording_files.specs.declared.file_report.FileReport.{FileReport}
 use Rattle.recording_files.specs.FileReports.{AddUp}
 use Rattle.recording_files.specs.Files.{Contents, FilesView}
-use Rattle.recording_files.specs.Sessions.{Stands, IsTold}
+use Rattle.recording_files.specs.Sessions.{StandsWith, IsReported}
 use Rattle.ipfix_datagrams.specs.declared.reach.Reach.{Reach}
 use Rattle.ipfix_datagrams.specs.Reaches.{reaches_of, told_of}
 use Rattle.ipfix_datagrams.specs.Advances.{advances_of}
-use Rattle.ipfix_datagrams.specs.Datagrams.{withdrawn_in, IsRefused}
+use Rattle.ipfix_datagrams.specs.Datagrams.{withdraws_only, withdrawn_in, IsRefused}
 use Rattle.recording_peer.specs.declared.peer_answer.PeerAnswer.{PeerAnswer}
-use Rattle.recording_peer.specs.declared.peer_answer.PeerAnswer.TheVariants.{Recorded, Refused}
+use Rattle.recording_peer.specs.declared.peer_answer.PeerAnswer.TheVariants.{Recorded, Refused, Ignored}
 use Rattle.recording_peer.specs.declared.peer_session.PeerSession.{PeerSession}
-use Rattle.recording_peer.specs.Peers.{Taken, AreTaken, HaveFronts, PeerFile, part_of, sent_of, datagrams, givens, known_after_all, all_messages, all_given, records_over_udp}
+use Rattle.recording_peer.specs.Peers.{Taken, AreTaken, HaveFronts, PeerFile, part_of, sent_of, withdrawals_ignored, peer_report, peer_reports, datagrams, givens, known_after_all, all_messages, all_given, records_over_udp}
 
--- the counts, and how far the sequence numbers of each domain reach
+-- the counts, the withdrawals that were ignored since a file was finished, and how far the sequence numbers of each domain reach
 pub record PeerTold : Type 0 where
   pub counts : Told
+  pub ignored : ℕ
   pub advances : List (ℕ × Reach)
 
 -- what contracts see of a recorder: what it keeps, the templates that were withdrawn in the files, what it counted, and why it
@@ -50,13 +52,16 @@ pub record KeepsListed (es : List (ℕ × List (ℕ × Template))) (ds : History
 
 -- ---- the files of a peer
 
--- datagrams that were taken, by their files: those of each finished file, and those of the file that isn't finished
+-- datagrams that were taken, by their files: those of each finished file, and those of the file that isn't finished; and beside them
+-- those that were ignored since the file before was finished
 pub record FiledDatagrams : Type 0 where
   pub finished : List (List Taken)
   pub here : List Taken
+  pub ignored : List (List (List ℕ))
+  pub ignored_here : List (List ℕ)
 
 abbrev pub none_filed : FiledDatagrams
-none_filed = record { finished = []; here = [] }
+none_filed = record { finished = []; here = []; ignored = []; ignored_here = [] }
 
 -- all those of finished files
 abbrev pub taken_before : FiledDatagrams → List Taken
@@ -66,17 +71,40 @@ taken_before filed = flat_map (λ ts. ts) filed.finished
 abbrev pub taken_in : FiledDatagrams → List Taken
 taken_in filed = taken_before filed ++ filed.here
 
+-- all that were ignored
+abbrev pub ignored_in : FiledDatagrams → List (List ℕ)
+ignored_in filed = flat_map (λ ms. ms) filed.ignored ++ filed.ignored_here
+
 -- one more, in that file
 abbrev pub filed_with : FiledDatagrams → Taken → FiledDatagrams
-filed_with filed t = record { finished = filed.finished; here = filed.here ++ t ∷ [] }
+filed_with filed t = record filed { here = filed.here ++ t ∷ [] }
+
+-- one more was ignored
+abbrev pub with_ignored : FiledDatagrams → List ℕ → FiledDatagrams
+with_ignored filed m = record filed { ignored_here = filed.ignored_here ++ m ∷ [] }
 
 -- that file is finished, if it has a datagram
 abbrev pub finished_now : List (List Taken) → List Taken → List (List Taken)
 finished_now finished [] = finished
 finished_now finished (t ∷ ts) = finished ++ (t ∷ ts) ∷ []
 
+-- what was ignored belongs to that file
+abbrev pub ignored_now : List Taken → List (List (List ℕ)) → List (List ℕ) → List (List (List ℕ))
+ignored_now [] ignored here = ignored
+ignored_now (t ∷ ts) ignored here = ignored ++ here ∷ []
+
+-- or to the next, if it has none
+abbrev pub ignored_still : List Taken → List (List ℕ) → List (List ℕ)
+ignored_still [] here = here
+ignored_still (t ∷ ts) here = []
+
 abbrev pub file_finished : FiledDatagrams → FiledDatagrams
-file_finished filed = record { finished = finished_now filed.finished filed.here; here = [] }
+file_finished filed = record {
+  finished = finished_now filed.finished filed.here;
+  here = [];
+  ignored = ignored_now filed.here filed.ignored filed.ignored_here;
+  ignored_here = ignored_still filed.here filed.ignored_here;
+}
 
 abbrev pub HasDatagram : List Taken → Type 0
 HasDatagram ts = ts ≢ []
@@ -85,9 +113,12 @@ HasDatagram ts = ts ≢ []
 abbrev pub taken_by_file : List PeerFile → List (List Taken)
 taken_by_file fs = map (λ f. f.taken) fs
 
+abbrev pub ignored_by_file : List PeerFile → List (List (List ℕ))
+ignored_by_file fs = map (λ f. f.ignored) fs
+
 -- the file that isn't finished
-abbrev pub last_file : List Taken → List (List ℕ) → PeerFile
-last_file here file = record { taken = here; file = file }
+abbrev pub last_file : FiledDatagrams → List (List ℕ) → PeerFile
+last_file filed file = record { taken = filed.here; ignored = filed.ignored_here; file = file }
 
 -- it has these messages: its datagrams, each after the messages in front of it
 abbrev pub IsLastFile : FiledDatagrams → List (List ℕ) → Type 0
@@ -101,17 +132,19 @@ pub record FilesHold (first after : FilesView) (filed : FiledDatagrams) (cut_off
   pub some : All HasDatagram filed.finished
   pub files : List PeerFile
   pub are : taken_by_file files ≡ filed.finished
+  pub ignored : ignored_by_file files ≡ filed.ignored
   -- the files are a recording of one session
   pub earlier : AreRecorded [] (map part_of files)
   pub file : List (List ℕ)
   pub last : IsLastFile filed file
-  -- and each was finished with a report of what the exporter sent in it
-  pub stands : Stands first.contents after.contents (map sent_of files) (sent_of (last_file filed.here file)) cut_off
+  -- and each was finished with a report of what the exporter sent in it, and of the withdrawals that were ignored
+  pub stands : StandsWith (peer_reports [] files) first.contents after.contents (map sent_of files) (sent_of (last_file filed file)) cut_off
 
--- the datagrams of finished files are counted, and those of the file that isn't finished; and of all of them it is noted how far
--- they reach
+-- the datagrams of finished files are counted, and those of the file that isn't finished, and the withdrawals that were ignored; and
+-- of all of them it is noted how far they reach
 pub record Counts (c : PeerTold) (filed : FiledDatagrams) : Type 0 where
   pub counted : Counted c.counts (givens (taken_before filed)) (givens filed.here)
+  pub ignored : c.ignored ≡ capped (withdrawals_ignored filed.here filed.ignored_here)
   pub noted : c.advances ≡ reaches_of (givens (taken_in filed))
 
 -- the recorder represents them
@@ -167,9 +200,17 @@ pub record IsRecorded (count : MessageCount) (m : List ℕ) (first after : Files
   pub counts : IsCountOf count next.given
   pub is : IsPeer first after s (filed_with filed next)
 
+-- a datagram was ignored after these: it has withdrawals alone. Only their count has changed
+pub record IsIgnored (m : List ℕ) (first before after : FilesView) (s t : PeerView) (filed : FiledDatagrams) : Type 0 where
+  pub alone : withdraws_only m ≡ true
+  pub files : after ≡ before
+  pub others : t ≡ record s { told = record s.told { ignored = t.told.ignored } }
+  pub is : IsPeer first after t (with_ignored filed m)
+
 -- what is answered of a datagram, by the files and the recorder before and after it
 abbrev pub Answers : Result PeerAnswer RecordFault → List ℕ → FilesView → FilesView → FilesView → PeerView → PeerView → FiledDatagrams → Type 0
 Answers (Ok (Recorded count)) m first before after s t filed = IsRecorded count m first after t filed
+Answers (Ok Ignored) m first before after s t filed = IsIgnored m first before after s t filed
 Answers (Ok (Refused fault)) m first before after s t filed = IsRefused (known_after_all (taken_in filed)) m fault × (t ≡ s) × (after ≡ before)
 Answers (Err fault) m first before after s t filed = (t.ended ≡ Some fault) × HasStopped fault first after t.told filed m
 
@@ -226,7 +267,8 @@ answer_of (Some fault) = Err fault
 
 -- what is told of it: its reports, and the advance in each domain of exactly the datagrams that were recorded, over all files
 pub record IsPeerTold (r : PeerSession) (filed : FiledDatagrams) : Type 0 where
-  pub session : IsTold r.session (givens (taken_before filed)) (givens filed.here)
+  pub session : IsReported r.session (givens (taken_before filed)) (givens filed.here)
+  pub last : r.session.last ≡ peer_report (givens (taken_before filed)) filed.here filed.ignored_here
   pub advances : told_of r.advances.reaches ≡ advances_of (givens (taken_in filed))
 
 -- and so of whatever was counted

@@ -11,10 +11,22 @@ use crate::fronts::take_datagram;
 use crate::peer_recorder::PeerRecorder;
 use ipfix_datagrams::{DatagramReading, keep_withdrawn};
 use ipfix_wire::Header;
-use recording_files::{FileSeries, MessageCount, RecordFault};
+use recording_files::{FileReport, FileSeries, MessageCount, RecordFault};
 use std::alloc::Global;
 
 impl PeerRecorder {
+    /// The report of the file that isn't finished.
+    pub(crate) fn file_report(&self) -> FileReport
+        ensures { result ≡ record self.now.told.counts.file {
+          ignored_withdrawals = self.now.told.ignored;
+        } }
+    {
+        FileReport {
+            ignored_withdrawals: self.ignored,
+            ..self.counts.file_report()
+        }
+    }
+
     /// Finishes the file, if it has a datagram, and begins the next. After a fault it has ended.
     pub(crate) fn turn<F: FileSeries>(&mut self, files: &mut F) -> Result<(), RecordFault>
         ensures { FinishesFile F.seen result self.old self.new files.old files.new }
@@ -22,11 +34,12 @@ impl PeerRecorder {
         if !self.recorder.has_begun() {
             return Ok(());
         }
-        let report = self.counts.file_report();
+        let report = self.file_report();
         match files.turn(&report) {
             Ok(()) => {
                 self.recorder.turn();
                 self.counts.turn();
+                self.ignored = 0;
                 Ok(())
             }
             Err(_) => {
@@ -72,6 +85,7 @@ impl PeerRecorder {
         self.advances.make_room()?;
         files.append(&self.out)?;
         self.counts.count_waiting();
+        self.ignored = self.ignored.saturating_add(reading.withdrawals);
         let header = count.header;
         self.advances
             .note(header.domain, header.sequence, count.records);

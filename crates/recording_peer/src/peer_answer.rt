@@ -10,4 +10,7 @@ pub enum PeerAnswer {
     Recorded(MessageCount),
     /// It was refused, and changed nothing.
     Refused(MessageFault),
+    /// It has withdrawals alone, which are ignored over UDP (RFC 7011, section 8.4): they are counted, and nothing
+    /// of it is kept.
+    Ignored,
 }

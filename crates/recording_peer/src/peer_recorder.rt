@@ -8,7 +8,7 @@ ghost use Rattle.recording_peer.specs.Recording.{FiledDatagrams, IsPeer, HasStop
 
 use crate::peer_answer::PeerAnswer;
 use crate::peer_session::PeerSession;
-use ipfix_datagrams::{SequenceAdvances, WithdrawnTemplates, read_datagram};
+use ipfix_datagrams::{Reading, SequenceAdvances, WithdrawnTemplates, read_datagram};
 use ipfix_message::{MessageFault, header_of};
 use recording_files::{FileSeries, RecordFault, Recorder, SessionCounts};
 use std::alloc::Global;
@@ -22,6 +22,7 @@ pub struct PeerRecorder {
     pub(crate) recorder: Recorder,
     pub(crate) withdrawn: WithdrawnTemplates,
     pub(crate) counts: SessionCounts,
+    pub(crate) ignored: u64,
     pub(crate) advances: SequenceAdvances,
     pub(crate) ended: Option<RecordFault>,
     pub(crate) out: Vec<u8>,
@@ -36,7 +37,7 @@ impl Model for PeerRecorder {
     ghost view = { λ r. record {
       recorder = r.recorder;
       withdrawn = kept r.withdrawn.entries;
-      told = record { counts = r.counts.told; advances = r.advances.reaches };
+      told = record { counts = r.counts.told; ignored = r.ignored; advances = r.advances.reaches };
       ended = r.ended;
     } };
 }
@@ -50,6 +51,7 @@ impl PeerRecorder {
             recorder: Recorder::new(alloc),
             withdrawn: BTreeMap::new(alloc),
             counts: SessionCounts::new(alloc),
+            ignored: 0,
             advances: SequenceAdvances::new(alloc),
             ended: None,
             out: Vec::new(alloc),
@@ -59,8 +61,9 @@ impl PeerRecorder {
     /// Takes a datagram. One that is read after the rules over UDP is recorded as it came, after a preamble
     /// of its domain if the file has none of the domain's messages yet and an earlier file has. If it
     /// changes templates, a message in front of it withdraws them; if it has data sets of
-    /// templates that an earlier one withdrew, messages that define them again. Any other datagram is
-    /// refused, and changes nothing. It answers what a recorded datagram adds to the counts.
+    /// templates that an earlier one withdrew, messages that define them again. It answers what a recorded
+    /// datagram adds to the counts. A datagram of withdrawals alone is ignored: only its withdrawals are counted.
+    /// Any other datagram is refused, and changes nothing.
     ///
     /// The fault is `NotWritten` where a call of the files failed, or `OutOfMemory`: then the peer has ended,
     /// and the datagrams before are whole.
@@ -83,7 +86,11 @@ impl PeerRecorder {
         };
         let domains = self.recorder.domains();
         let reading = match read_datagram(alloc, domains, &self.withdrawn, &header, datagram) {
-            Ok(reading) => reading,
+            Ok(Reading::Kept(reading)) => reading,
+            Ok(Reading::Ignored(withdrawals)) => {
+                self.ignored = self.ignored.saturating_add(withdrawals);
+                return Ok(PeerAnswer::Ignored);
+            }
             Err(fault) => return Ok(PeerAnswer::Refused(fault)),
         };
         match self.record(alloc, &header, &reading, datagram, files) {
@@ -129,18 +136,19 @@ impl PeerRecorder {
         ensures told { Tells self.told result }
         ensures ended { result.session.ended ≡ answer_of self.ended }
     {
+        let last = self.file_report();
         let PeerRecorder {
             recorder: _,
             withdrawn: _,
             counts,
+            ignored: _,
             advances,
             ended,
             out: _,
         } = self;
-        PeerSession {
-            session: counts.into_session(how_it_ended(ended)),
-            advances,
-        }
+        let mut session = counts.into_session(how_it_ended(ended));
+        session.last = last;
+        PeerSession { session, advances }
     }
 }
 

@@ -9,12 +9,12 @@ use Rattle.recording_order.specs.Arrivals.{Arrival}
 use Rattle.recording_order.specs.Windows.{WindowView}
 use Rattle.recording_order.specs.Releases.{Run, Says}
 use Rattle.recording_peer.specs.Peers.{Taken}
-use Rattle.recording_peer.specs.Recording.{FiledDatagrams, file_finished, taken_in}
+use Rattle.recording_peer.specs.Recording.{FiledDatagrams, file_finished}
 use Rattle.recording_peers.specs.declared.peer_state.PeerState.{PeerState}
 use Rattle.recording_peers.specs.declared.refusals.Refusals.{Refusals}
 use Rattle.recording_peers.specs.Happenings.{datagrams_of}
-use Rattle.recording_peers.specs.Kept.{Said, SaidSo, Settles, Recording, HasFailed, says_of, counts_said}
-use Rattle.recording_peers.specs.Calls.{Part, Follows, RunsTo, IsRunning, refused_after, one_more_refused, recorded_then, filed_then}
+use Rattle.recording_peers.specs.Kept.{Said, WasRecorded, WasRefused, WasIgnored, SaidSo, IsSettled, ignored_after, Recording, HasFailed, says_of, counts_said}
+use Rattle.recording_peers.specs.Calls.{Part, Follows, RunsTo, IsRunning, refused_after, one_more_refused, recorded_then, filed_more, filed_then}
 use Rattle.recording_peers.proofs.Growing.{Grows, prefix-both, prefix-same}
 
 -- ---- what was said
@@ -32,21 +32,33 @@ said-itself said = λ n from below. refl
 
 pub refused-append : (said more : List Said) (r : Option Refusals) → refused_after (said ++ more) r ≡ refused_after more (refused_after said r)
 refused-append [] more r = refl
-refused-append (Ok c ∷ said) more r = refused-append said more r
-refused-append (Err fault ∷ said) more r = refused-append said more (Some (one_more_refused r fault))
+refused-append (WasRecorded c ∷ said) more r = refused-append said more r
+refused-append (WasRefused fault ∷ said) more r = refused-append said more (Some (one_more_refused r fault))
+refused-append (WasIgnored m ∷ said) more r = refused-append said more r
+
+pub ignored-append : (ms : List (List ℕ)) (said more : List Said) → ignored_after ms (said ++ more) ≡ ignored_after (ignored_after ms said) more
+ignored-append ms [] more = refl
+ignored-append ms (WasRecorded c ∷ said) more = ignored-append ms said more
+ignored-append ms (WasRefused fault ∷ said) more = ignored-append ms said more
+ignored-append ms (WasIgnored m ∷ said) more = ignored-append (ms ++ m ∷ []) said more
 
 -- ---- what is recorded then
 
 pub recorded-none : (p : Recording) → recorded_then false p [] [] ≡ p
-recorded-none p = λ i. record { first = p.first; filed = record { finished = p.filed.finished; here = append-nil p.filed.here i }; said = append-nil p.said i }
+recorded-none p = λ i. record { first = p.first; filed = record p.filed { here = append-nil p.filed.here i }; said = append-nil p.said i }
 
-filed-both : (finishes : Bool) (filed : FiledDatagrams) (more then : List Taken) → filed_then finishes (filed_then false filed more) then ≡ filed_then finishes filed (more ++ then)
-filed-both false filed more then = λ i. record { finished = filed.finished; here = append_assoc filed.here more then i }
-filed-both true filed more then = λ i. file_finished (record { finished = filed.finished; here = append_assoc filed.here more then i })
+filed-more : (filed : FiledDatagrams) (more then : List Taken) (said saying : List Said) → filed_more (filed_more filed more said) then saying ≡ filed_more filed (more ++ then) (said ++ saying)
+filed-more filed more then said saying =
+    λ i. record filed { here = append_assoc filed.here more then i; ignored_here = sym (ignored-append filed.ignored_here said saying) i }
+
+filed-both : (finishes : Bool) (filed : FiledDatagrams) (more then : List Taken) (said saying : List Said)
+    → filed_then finishes (filed_then false filed more said) then saying ≡ filed_then finishes filed (more ++ then) (said ++ saying)
+filed-both false filed more then said saying = filed-more filed more then said saying
+filed-both true filed more then said saying = ap file_finished (filed-more filed more then said saying)
 
 pub recorded-both : (finishes : Bool) (p : Recording) (more then : List Taken) (said saying : List Said)
     → recorded_then finishes (recorded_then false p more said) then saying ≡ recorded_then finishes p (more ++ then) (said ++ saying)
-recorded-both finishes p more then said saying = λ i. record { first = p.first; filed = filed-both finishes p.filed more then i; said = append_assoc p.said said saying i }
+recorded-both finishes p more then said saying = λ i. record { first = p.first; filed = filed-both finishes p.filed more then said saying i; said = append_assoc p.said said saying i }
 
 pub datagrams-longer : (xs ys : List Arrival) → IsPrefix xs ys → IsPrefix (datagrams_of xs) (datagrams_of ys)
 datagrams-longer xs ys p = (datagrams_of p.0, ap datagrams_of p.1 ∙ map-append (λ (a : Arrival). a.octets) xs p.0)
@@ -179,7 +191,7 @@ module _ {F : Type 0} (seen : F → FilesView) where
       (λ p r is.
       let s = shift r is.window in
       let on = lead-of g finishes (record old { window = w }) new answer a p s.run (record {
-        recorded = record { empty = is.recorded.empty; is = is.recorded.is; settles = subst (λ xs. Settles [] (datagrams_of xs) p.said (taken_in p.filed)) (sym s.same) is.recorded.settles };
+        recorded = record { empty = is.recorded.empty; is = is.recorded.is; settles = subst (λ xs. IsSettled (datagrams_of xs) p) (sym s.same) is.recorded.settles };
         window = s.window;
       }) in
       record { more = on.more; leads = lead-shifted f g finishes new answer a.said p w r s on.more on.leads })

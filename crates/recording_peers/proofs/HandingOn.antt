@@ -1,5 +1,6 @@
 -- A datagram that is handed on to the recorder.
-use Rattle.std.proofs.Common.{◌≡◌, ℕ, suc, true, false, Some, None, Result, Ok, Err, List, [], ◌∷◌, ◌++◌, length, refl, sym, ap, subst, ◌∙◌, arith, length-append}
+use Rattle.std.proofs.Common.{◌≡◌, ℕ, suc, true, false, Some, None, Result, Ok, Err, List, [], ◌∷◌, ◌++◌, length, refl, sym, ap, subst, ◌∙◌, append_assoc, arith, length-append}
+use Rattle.std.specs.Prelude.{flat_map}
 use Rattle.std.proofs.lemmas.List.{append-nil, map-append, length-map}
 use Rattle.lru.proofs.Pairs.{slice_get-cut}
 use Rattle.ipfix_session.specs.Given.{IsPrefix}
@@ -10,16 +11,16 @@ use Rattle.recording_files.specs.Files.{FilesView}
 use Rattle.recording_order.specs.Arrivals.{Arrival}
 use Rattle.recording_order.specs.Windows.{WindowView, after_writing}
 use Rattle.recording_order.specs.Releases.{Run, Says, answered}
-use Rattle.recording_peer.specs.declared.peer_answer.PeerAnswer.TheVariants.{Recorded, Refused}
+use Rattle.recording_peer.specs.declared.peer_answer.PeerAnswer.TheVariants.{Recorded, Refused, Ignored}
 use Rattle.recording_peer.specs.Peers.{Taken}
-use Rattle.recording_peer.specs.Recording.{PeerView, FiledDatagrams, IsPeer, HasStopped, TakesDatagram, FinishesFile, filed_with, file_finished, taken_in}
-use Rattle.recording_peer.proofs.PeerFiles.{taken_in-push, in-finished}
+use Rattle.recording_peer.specs.Recording.{PeerView, FiledDatagrams, IsPeer, HasStopped, TakesDatagram, FinishesFile, filed_with, with_ignored, file_finished, taken_in, ignored_in}
+use Rattle.recording_peer.proofs.PeerFiles.{taken_in-push, in-finished, ignored-finished}
 use Rattle.recording_peers.specs.declared.peer_state.PeerState.{PeerState}
 use Rattle.recording_peers.specs.Happenings.{datagrams_of}
-use Rattle.recording_peers.specs.Kept.{Said, SaidSo, Settles, Recording, HasRecorded, HasFailed, counts_said, counts_of}
-use Rattle.recording_peers.specs.Calls.{Part, Follows, RunsTo, IsRunning, handed_on, one_more_refused, recorded_then}
+use Rattle.recording_peers.specs.Kept.{Said, WasRecorded, WasRefused, WasIgnored, SaidSo, Settles, IsSettled, ignored_after, Recording, HasRecorded, HasFailed, counts_said, counts_of}
+use Rattle.recording_peers.specs.Calls.{Part, Follows, RunsTo, IsRunning, handed_on, one_more_refused, recorded_then, filed_then}
 use Rattle.recording_peers.proofs.Growing.{Grows, grows-none}
-use Rattle.recording_peers.proofs.Following.{follows-of, recorded-none, datagrams-longer}
+use Rattle.recording_peers.proofs.Following.{follows-of, ignored-append, recorded-none, datagrams-longer}
 
 -- ---- one more is settled
 
@@ -28,15 +29,25 @@ settles-more : (before : List Taken) (ms : List (List ℕ)) (said : List Said) (
 settles-more before [] [] all m s now h one = subst (λ ts. Settles ts (m ∷ []) (s ∷ []) now) h one
 settles-more before [] (t ∷ said) all m s now h one = absurd h
 settles-more before (x ∷ ms) [] all m s now h one = absurd h
-settles-more before (x ∷ ms) (Ok c ∷ said) all m s now h one = (h.0, h.1, h.2, settles-more (before ++ h.0 ∷ []) ms said all m s now h.3 one)
-settles-more before (x ∷ ms) (Err fault ∷ said) all m s now h one = (h.0, settles-more before ms said all m s now h.1 one)
+settles-more before (x ∷ ms) (WasRecorded c ∷ said) all m s now h one = (h.0, h.1, h.2, settles-more (before ++ h.0 ∷ []) ms said all m s now h.3 one)
+settles-more before (x ∷ ms) (WasRefused fault ∷ said) all m s now h one = (h.0, settles-more before ms said all m s now h.1 one)
+settles-more before (x ∷ ms) (WasIgnored d ∷ said) all m s now h one = (h.0, h.1, settles-more before ms said all m s now h.2 one)
 
 pub settles-length : (before : List Taken) (ms : List (List ℕ)) (said : List Said) (all : List Taken) → Settles before ms said all → length said ≡ length ms
 settles-length before [] [] all h = refl
 settles-length before [] (t ∷ said) all h = absurd h
 settles-length before (x ∷ ms) [] all h = absurd h
-settles-length before (x ∷ ms) (Ok c ∷ said) all h = ap suc (settles-length (before ++ h.0 ∷ []) ms said all h.3)
-settles-length before (x ∷ ms) (Err fault ∷ said) all h = ap suc (settles-length before ms said all h.1)
+settles-length before (x ∷ ms) (WasRecorded c ∷ said) all h = ap suc (settles-length (before ++ h.0 ∷ []) ms said all h.3)
+settles-length before (x ∷ ms) (WasRefused fault ∷ said) all h = ap suc (settles-length before ms said all h.1)
+settles-length before (x ∷ ms) (WasIgnored d ∷ said) all h = ap suc (settles-length before ms said all h.2)
+
+-- those that were ignored, with the next one
+ignored-next : (p : Recording) (more : List Taken) (s : Said) → ignored_in p.filed ≡ ignored_after [] p.said → ignored_in (filed_then false p.filed more (s ∷ [])) ≡ ignored_after [] (p.said ++ s ∷ [])
+ignored-next p more (WasRecorded c) h = h ∙ sym (ignored-append [] p.said (WasRecorded c ∷ []))
+ignored-next p more (WasRefused fault) h = h ∙ sym (ignored-append [] p.said (WasRefused fault ∷ []))
+ignored-next p more (WasIgnored m) h =
+    sym (append_assoc (flat_map (λ (ms : List (List ℕ)). ms) p.filed.ignored) p.filed.ignored_here (m ∷ [])) ∙ ap (λ (ms : List (List ℕ)). ms ++ m ∷ []) h
+    ∙ sym (ignored-append [] p.said (WasIgnored m ∷ []))
 
 datagrams-push : (xs : List Arrival) (a : Arrival) → datagrams_of (xs ++ a ∷ []) ≡ datagrams_of xs ++ a.octets ∷ []
 datagrams-push xs a = map-append (λ (x : Arrival). x.octets) xs (a ∷ [])
@@ -48,7 +59,7 @@ said-next xs said s says same so =
 
 module _ {F : Type 0} (seen : F → FilesView) where
   counted : (p : Recording) (r : Run) (k : PeerState F) → IsRunning seen k p r → length p.said ≡ length r.handed_on
-  counted p r k is = settles-length [] (datagrams_of r.handed_on) p.said (taken_in p.filed) is.recorded.settles ∙ length-map r.handed_on (λ (a : Arrival). a.octets)
+  counted p r k is = settles-length [] (datagrams_of r.handed_on) p.said (taken_in p.filed) is.recorded.settles.taken ∙ length-map r.handed_on (λ (a : Arrival). a.octets)
 
   hands-on : (a : Arrival) (old new : PeerState F) (p : Recording) (r : Run) (s : Said) (more : List Taken) → IsRunning seen old p r → new.window ≡ answered r.window a (counts_said (Some s))
       → HasRecorded seen new (recorded_then false p more (s ∷ [])) (datagrams_of (r.handed_on ++ a ∷ [])) → RunsTo seen new (recorded_then false p more (s ∷ [])) (handed_on a) r
@@ -61,7 +72,14 @@ module _ {F : Type 0} (seen : F → FilesView) where
   settles-next : (a : Arrival) (old : PeerState F) (p : Recording) (r : Run) (s : Said) (now : List Taken) → IsRunning seen old p r → Settles (taken_in p.filed) (a.octets ∷ []) (s ∷ []) now
       → Settles [] (datagrams_of (r.handed_on ++ a ∷ [])) (p.said ++ s ∷ []) now
   settles-next a old p r s now is one =
-      subst (λ ms. Settles [] ms (p.said ++ s ∷ []) now) (sym (datagrams-push r.handed_on a)) (settles-more [] (datagrams_of r.handed_on) p.said (taken_in p.filed) a.octets s now is.recorded.settles one)
+      subst (λ ms. Settles [] ms (p.said ++ s ∷ []) now) (sym (datagrams-push r.handed_on a)) (settles-more [] (datagrams_of r.handed_on) p.said (taken_in p.filed) a.octets s now is.recorded.settles.taken one)
+
+  settled-next : (a : Arrival) (old : PeerState F) (p : Recording) (r : Run) (s : Said) (more : List Taken) → IsRunning seen old p r → Settles (taken_in p.filed) (a.octets ∷ []) (s ∷ []) (taken_in (filed_then false p.filed more (s ∷ [])))
+      → IsSettled (datagrams_of (r.handed_on ++ a ∷ [])) (recorded_then false p more (s ∷ []))
+  settled-next a old p r s more is one = record {
+    taken = settles-next a old p r s (taken_in (filed_then false p.filed more (s ∷ []))) is one;
+    ignored = ignored-next p more s is.recorded.settles.ignored;
+  }
 
   -- it was recorded, and noted
   pub follows-recorded : (old : PeerState F) (a : Arrival) (count : MessageCount) (t : PeerView) (fs : F) (w : WindowView) → TakesDatagram seen a.octets (Ok (Recorded count)) old.recorder t old.files fs
@@ -69,15 +87,15 @@ module _ {F : Type 0} (seen : F → FilesView) where
   follows-recorded old a count t fs w takes noted =
       let new = record old { recorder = t; files = fs; window = w } in
       let c = counts_of count in
-      follows-of seen (handed_on a) false old new (Ok tt) (Ok c ∷ []) refl refl
+      follows-of seen (handed_on a) false old new (Ok tt) (WasRecorded c ∷ []) refl refl
       (λ p r is.
       let x = takes p.first p.filed is.recorded.is in
       record {
         more = x.next ∷ [];
-        leads = hands-on a old new p r (Ok c) (x.next ∷ []) is (noted ∙ ap (λ v. after_writing v a c) is.window) (record {
+        leads = hands-on a old new p r (WasRecorded c) (x.next ∷ []) is (noted ∙ ap (λ v. after_writing v a c) is.window) (record {
           empty = is.recorded.empty;
           is = x.is;
-          settles = settles-next a old p r (Ok c) (taken_in (filed_with p.filed x.next)) is
+          settles = settled-next a old p r (WasRecorded c) (x.next ∷ []) is
               (x.next, x.datagram, record { records = sym x.counts.records; unknown_sets = sym (ap (λ o. o.unknown_sets) x.counts.passed_over) }, taken_in-push p.filed x.next);
         });
       })
@@ -87,18 +105,37 @@ module _ {F : Type 0} (seen : F → FilesView) where
       → Follows seen (handed_on a) false old (record old { recorder = t; files = fs; refused = Some (one_more_refused old.refused fault) }) (Ok tt)
   follows-refused old a fault t fs takes =
       let new = record old { recorder = t; files = fs; refused = Some (one_more_refused old.refused fault) } in
-      follows-of seen (handed_on a) false old new (Ok tt) (Err fault ∷ []) refl refl
+      follows-of seen (handed_on a) false old new (Ok tt) (WasRefused fault ∷ []) refl refl
       (λ p r is.
       let x = takes p.first p.filed is.recorded.is in
       let filed : FiledDatagrams = record p.filed { here = p.filed.here ++ [] } in
-      let same : filed ≡ p.filed = λ i. record { finished = p.filed.finished; here = append-nil p.filed.here i } in
+      let same : filed ≡ p.filed = λ i. record p.filed { here = append-nil p.filed.here i } in
       let peer : IsPeer p.first (seen fs) t p.filed = subst (λ v. IsPeer p.first v t p.filed) (sym x.2) (subst (λ s. IsPeer p.first (seen old.files) s p.filed) (sym x.1) is.recorded.is) in
       record {
         more = [];
-        leads = hands-on a old new p r (Err fault) [] is is.window (record {
+        leads = hands-on a old new p r (WasRefused fault) [] is is.window (record {
           empty = is.recorded.empty;
           is = subst (λ f. IsPeer p.first (seen fs) t f) (sym same) peer;
-          settles = subst (λ f. Settles [] (datagrams_of (r.handed_on ++ a ∷ [])) (p.said ++ Err fault ∷ []) (taken_in f)) (sym same) (settles-next a old p r (Err fault) (taken_in p.filed) is (x.0, refl));
+          settles = settled-next a old p r (WasRefused fault) [] is (x.0, ap taken_in same);
+        });
+      })
+
+  -- it was ignored, and only counted
+  pub follows-ignored : (old : PeerState F) (a : Arrival) (t : PeerView) (fs : F) → TakesDatagram seen a.octets (Ok Ignored) old.recorder t old.files fs
+      → Follows seen (handed_on a) false old (record old { recorder = t; files = fs }) (Ok tt)
+  follows-ignored old a t fs takes =
+      let new = record old { recorder = t; files = fs } in
+      follows-of seen (handed_on a) false old new (Ok tt) (WasIgnored a.octets ∷ []) refl refl
+      (λ p r is.
+      let x = takes p.first p.filed is.recorded.is in
+      let filed : FiledDatagrams = record (with_ignored p.filed a.octets) { here = p.filed.here ++ [] } in
+      let same : filed ≡ with_ignored p.filed a.octets = λ i. record (with_ignored p.filed a.octets) { here = append-nil p.filed.here i } in
+      record {
+        more = [];
+        leads = hands-on a old new p r (WasIgnored a.octets) [] is is.window (record {
+          empty = is.recorded.empty;
+          is = subst (λ f. IsPeer p.first (seen fs) t f) (sym same) x.is;
+          settles = settled-next a old p r (WasIgnored a.octets) [] is (refl, x.alone, ap taken_in same);
         });
       })
 
@@ -134,7 +171,7 @@ module _ {F : Type 0} (seen : F → FilesView) where
   follows-unnoted old a count t u fs w fault takes ends =
       let new = record old { recorder = u; files = fs; window = w } in
       let c = counts_of count in
-      follows-of seen (handed_on a) false old new (Err fault) (Ok c ∷ []) refl refl
+      follows-of seen (handed_on a) false old new (Err fault) (WasRecorded c ∷ []) refl refl
       (λ p r is.
       let x = takes p.first p.filed is.recorded.is in
       record {
@@ -145,7 +182,7 @@ module _ {F : Type 0} (seen : F → FilesView) where
           before = datagrams_of (r.handed_on ++ a ∷ []);
           next = None;
           stopped = ends.stopped p.first (seen fs) (filed_with p.filed x.next) [] x.is;
-          settles = settles-next a old p r (Ok c) (taken_in (filed_with p.filed x.next)) is
+          settles = settled-next a old p r (WasRecorded c) (x.next ∷ []) is
               (x.next, x.datagram, record { records = sym x.counts.records; unknown_sets = sym (ap (λ o. o.unknown_sets) x.counts.passed_over) }, taken_in-push p.filed x.next);
           are_first = λ says so. ([], sym (append-nil (datagrams_of (r.handed_on ++ a ∷ []))) ∙ sym (append-nil (datagrams_of (r.handed_on ++ a ∷ []) ++ [])));
         };
@@ -184,12 +221,15 @@ module _ {F : Type 0} (seen : F → FilesView) where
       follows-of seen (λ says r. r) true old new (Ok tt) [] refl refl
       (λ p r is.
       let done : Recording = record { first = p.first; filed = file_finished p.filed; said = p.said } in
-      let same : recorded_then true p [] [] ≡ done = λ i. record { first = p.first; filed = file_finished (record { finished = p.filed.finished; here = append-nil p.filed.here i }); said = append-nil p.said i } in
+      let same : recorded_then true p [] [] ≡ done = λ i. record { first = p.first; filed = file_finished (record p.filed { here = append-nil p.filed.here i }); said = append-nil p.said i } in
       let running : IsRunning seen new done r = record {
         recorded = record {
           empty = is.recorded.empty;
           is = finishes p.first p.filed is.recorded.is;
-          settles = subst (Settles [] (datagrams_of r.handed_on) p.said) (sym (in-finished p.filed)) is.recorded.settles;
+          settles = record {
+            taken = subst (Settles [] (datagrams_of r.handed_on) p.said) (sym (in-finished p.filed)) is.recorded.settles.taken;
+            ignored = ignored-finished p.filed ∙ is.recorded.settles.ignored;
+          };
         };
         window = is.window;
       } in

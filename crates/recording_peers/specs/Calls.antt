@@ -17,7 +17,7 @@ use Rattle.recording_peers.specs.declared.peer_state.PeerState.{PeerState}
 use Rattle.recording_peers.specs.declared.refusals.Refusals.{Refusals}
 use Rattle.recording_peers.specs.declared.turn.Turn.{Turn}
 use Rattle.recording_peers.specs.Happenings.{datagrams_of}
-use Rattle.recording_peers.specs.Kept.{Said, SaidSo, Recording, HasRecorded, HasFailed}
+use Rattle.recording_peers.specs.Kept.{Said, WasRecorded, WasRefused, WasIgnored, ignored_after, SaidSo, Recording, HasRecorded, HasFailed}
 
 -- ---- datagrams that are refused
 
@@ -31,8 +31,9 @@ one_more_refused r fault = record { count = one_more (untold r); last = fault }
 
 abbrev pub refused_after : List Said → Option Refusals → Option Refusals
 refused_after [] r = r
-refused_after (Ok c ∷ said) r = refused_after said r
-refused_after (Err fault ∷ said) r = refused_after said (Some (one_more_refused r fault))
+refused_after (WasRecorded c ∷ said) r = refused_after said r
+refused_after (WasRefused fault ∷ said) r = refused_after said (Some (one_more_refused r fault))
+refused_after (WasIgnored m ∷ said) r = refused_after said r
 
 -- ---- datagrams that are handed on
 
@@ -47,13 +48,17 @@ handed_on a says r = hand_on says a r.window r
 abbrev pub arriving : Arrival → Part
 arriving a says r = step says r (Came a)
 
--- more datagrams stand in the file that isn't finished; and then it is finished, if that is asked
-abbrev pub filed_then : Bool → FiledDatagrams → List Taken → FiledDatagrams
-filed_then false filed more = record filed { here = filed.here ++ more }
-filed_then true filed more = file_finished (record filed { here = filed.here ++ more })
+-- more datagrams stand in the file that isn't finished, and some were ignored
+abbrev pub filed_more : FiledDatagrams → List Taken → List Said → FiledDatagrams
+filed_more filed more said = record filed { here = filed.here ++ more; ignored_here = ignored_after filed.ignored_here said }
+
+-- and then it is finished, if that is asked
+abbrev pub filed_then : Bool → FiledDatagrams → List Taken → List Said → FiledDatagrams
+filed_then false filed more said = filed_more filed more said
+filed_then true filed more said = file_finished (filed_more filed more said)
 
 abbrev pub recorded_then : Bool → Recording → List Taken → List Said → Recording
-recorded_then finishes p more said = record { first = p.first; filed = filed_then finishes p.filed more; said = p.said ++ said }
+recorded_then finishes p more said = record { first = p.first; filed = filed_then finishes p.filed more said; said = p.said ++ said }
 
 -- ---- the counts of domains
 

@@ -24,7 +24,7 @@ fn counts_of(count: &MessageCount) -> DatagramCounts
 
 impl<F: FileSeries> PeerState<F> {
     /// Hands a datagram on to the recorder. The window notes it if it is recorded; one that is refused is
-    /// counted.
+    /// counted. Nothing is noted of one that is ignored.
     pub(crate) fn hand_on(
         &mut self,
         alloc: Global,
@@ -50,6 +50,7 @@ impl<F: FileSeries> PeerState<F> {
                 self.refused = Some(one_more(self.refused, fault));
                 Ok(())
             }
+            PeerAnswer::Ignored => Ok(()),
         }
     }
 

@@ -125,3 +125,46 @@ fn late_and_doubled_datagrams_came(rt: HostRuntime) -> Result<(), Fail> {
     assert_eq!(rt; advance_over(&rt, rt.alloc(), &datagrams), Some(expected));
     Ok(())
 }
+
+// A file with a datagram that withdraws a template, where others of withdrawals alone came before it and after it.
+fn ignored(alloc: Global) -> (PeerRecorder, MemoryFiles, bool) {
+    let mut peer = new_peer(alloc);
+    let mut files = MemoryFiles::new(alloc, 100_000);
+    let mut right = true;
+    for (datagram, is_kept) in [
+        (WITHDRAWS_ALL, false),
+        (FIRST_OF_1, true),
+        (WITHDRAWS_256, true),
+        (WITHDRAWS_ALL, false),
+    ] {
+        let answer = take(alloc, &mut peer, datagram, &mut files);
+        right = right && answer.is_ok() && (answer != Ok(Answer::Ignored)) == is_kept;
+    }
+    let finished = finish(&mut peer, &mut files);
+    let last = take(alloc, &mut peer, WITHDRAWS_ALL, &mut files);
+    right = right && finished.is_ok() && last == Ok(Answer::Ignored);
+    (peer, files, right)
+}
+
+// Nothing of them is in the file. Their withdrawals count for the file that isn't finished, with those of the
+// datagram that is in it.
+#[test]
+fn ignored_withdrawals_are_counted(rt: HostRuntime) -> Result<(), Fail> {
+    let (peer, files, right) = ignored(rt.alloc());
+    assert!(rt; right);
+    let expected = FileReport {
+        messages: 2,
+        records: 3,
+        lost: 9,
+        ignored_withdrawals: 5,
+        ..FileReport::EMPTY
+    };
+    assert_eq!(rt; files.reports.as_slice(), [expected].as_slice());
+    assert!(rt; files.unfinished.is_empty());
+    let last = FileReport {
+        ignored_withdrawals: 2,
+        ..FileReport::EMPTY
+    };
+    assert_eq!(rt; end(peer).last, last);
+    Ok(())
+}

@@ -28,6 +28,7 @@ pub fn new_peer(alloc: Global) -> PeerRecorder {
 pub enum Answer {
     Recorded(Count),
     Refused(MessageFault),
+    Ignored,
 }
 
 /// What a datagram adds to the counts: its data records, and its sets of an unknown template.
@@ -52,6 +53,7 @@ pub fn take(
             unknown_sets: count.passed_over.unknown_sets,
         })),
         Ok(PeerAnswer::Refused(fault)) => Ok(Answer::Refused(fault)),
+        Ok(PeerAnswer::Ignored) => Ok(Answer::Ignored),
         Err(fault) => Err(fault),
     }
 }

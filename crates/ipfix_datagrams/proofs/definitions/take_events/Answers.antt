@@ -1,15 +1,26 @@
-use Rattle.std.proofs.Common.{◌≡◌, ◌∷◌, [], List, Ok, arith, subst, rules}
+use Rattle.std.proofs.Common.{◌≡◌, ◌&&◌, Bool, ◌∷◌, ◌++◌, [], List, Ok, arith, sym, ap, ◌∙◌, subst, rules}
 use Rattle.ipfix_message.specs.declared.template_record.Event.{Event}
 use Rattle.ipfix_message.specs.TemplateRecords.{event_at, events_of}
 use Rattle.ipfix_message.proofs.TemplateRecords.{event_at-takes}
-use Rattle.ipfix_datagrams.proofs.FirstAndLast.{Taking, taking_more, taken_all, next_events, no_events, short_events}
+use Rattle.ipfix_datagrams.proofs.FirstAndLast.{Taking, taking_more, taken_all, defines_as, next_events, no_events, short_events}
+use Rattle.ipfix_datagrams.specs.declared.definitions.Definitions.{Definitions}
+use Rattle.ipfix_datagrams.specs.Attempts.{Defines}
+use Rattle.ipfix_datagrams.specs.Datagrams.{are_withdrawals, is_withdrawal}
+use Rattle.ipfix_datagrams.proofs.WithdrawalsAlone.{and_moves, next_withdrawals, no_withdrawals, short_withdrawals}
 use Rattle.ipfix_datagrams.proofs.definitions.take_events.Goals as goal
 
-pub returns-in_default : goal.returns-in_default
-returns-in_default c = λ es before.
+pub returns-in_default-clause-defines : goal.returns-in_default-clause-defines
+returns-in_default-clause-defines c = λ es before.
     let none = rw c.in_default.is at c.in_ok-event.ensures in
-    taken_all c.loop-rest.definitions es (events_of c.args.kind c.args.body.now).items (events_of c.args.kind c.loop-rest.rest.now).items (c.loop-rest.invariant.takes es before)
-    (no_events c.args.kind c.loop-rest.rest.now none.0 none.1)
+    let all = es ++ (events_of c.args.kind c.args.body.now).items in
+    subst (λ (d : Definitions). Defines d all) (sym c.take_rest.ensures) (defines_as c.loop-rest.definitions _ all (taken_all c.loop-rest.definitions es (events_of c.args.kind c.args.body.now).items (events_of c.args.kind c.loop-rest.rest.now).items (c.loop-rest.invariant.takes es before)
+    (no_events c.args.kind c.loop-rest.rest.now none.0 none.1)))
+
+pub returns-in_default-clause-only : goal.returns-in_default-clause-only
+returns-in_default-clause-only c =
+    let none = rw c.in_default.is at c.in_ok-event.ensures in
+    ap (λ (d : Definitions). d.withdraws_only) c.take_rest.ensures
+    ∙ sym (c.loop-rest.invariant.only ∙ ap (λ (b : Bool). b && c.loop-rest.definitions.withdraws_only) (no_withdrawals c.args.kind c.loop-rest.rest.now none.0 (search rules) none.1))
 
 pub loop-rest-smaller : goal.loop-rest-smaller
 loop-rest-smaller c =
@@ -25,11 +36,17 @@ loop-rest-preserved c =
     let all = (events_of c.args.kind c.args.body.now).items in
     record {
       takes = λ es before. taking_more c.loop-rest.definitions c.take_event.new.definitions es all (c.in-Some.event ∷ []) (events_of c.args.kind r).items
-          (subst (λ (rest : List Event). Taking c.loop-rest.definitions es all rest) (next_events c.args.kind w c.in-Some.event r is) (c.loop-rest.invariant.takes es before)) c.in_ok-take_event.ensures;
+          (subst (λ (rest : List Event). Taking c.loop-rest.definitions es all rest) (next_events c.args.kind w c.in-Some.event r is) (c.loop-rest.invariant.takes es before)) c.in_ok-take_event.ensures.defines;
+      only = c.loop-rest.invariant.only ∙ ap (λ (b : Bool). b && c.loop-rest.definitions.withdraws_only) (next_withdrawals c.args.kind w c.in-Some.event r is)
+          ∙ and_moves (is_withdrawal c.in-Some.event) (are_withdrawals c.args.kind r) c.loop-rest.definitions.withdraws_only ∙ ap (λ (b : Bool). are_withdrawals c.args.kind r && b) (sym c.in_ok-take_event.ensures.only);
       room = omega (arith, less, c.loop-rest.invariant.room);
     }
 
-pub returns : goal.returns
-returns c = λ es before.
+pub returns-clause-only : goal.returns-clause-only
+returns-clause-only c =
+    sym (c.loop-rest.invariant.only ∙ ap (λ (b : Bool). b && c.loop-rest.definitions.withdraws_only) (short_withdrawals c.args.kind c.loop-rest.rest.now (omega arith)))
+
+pub returns-clause-defines : goal.returns-clause-defines
+returns-clause-defines c = λ es before.
     taken_all c.loop-rest.definitions es (events_of c.args.kind c.args.body.now).items (events_of c.args.kind c.loop-rest.rest.now).items (c.loop-rest.invariant.takes es before)
     (short_events c.args.kind c.loop-rest.rest.now (omega arith))

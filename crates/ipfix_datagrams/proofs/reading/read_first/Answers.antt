@@ -12,7 +12,7 @@ use Rattle.ipfix_datagrams.proofs.Replacing.{ids_low}
 use Rattle.ipfix_datagrams.proofs.reading.read_first.Goals as goal
 
 pub returns-then-not-has_room-clause-reads : goal.returns-then-not-has_room-clause-reads
-returns-then-not-has_room-clause-reads c = λ ds represents. no_room_refused ds c.args.datagram.now c.args.header.now c.requires.header (c.if-not-has_room.ensures ds represents.stands)
+returns-then-not-has_room-clause-reads c = λ ds represents. no_room_refused ds c.args.datagram.now c.args.header.now c.requires.kept c.requires.header (c.if-not-has_room.ensures ds represents.stands)
 
 pub returns-in-Ok-clause-reads : goal.returns-in-Ok-clause-reads
 returns-in-Ok-clause-reads c = λ ds represents.
@@ -28,7 +28,7 @@ returns-then-not-is_change-clause-reads c = λ ds represents.
     let d = c.args.header.now.domain in
     let same : prepared_as [] (values c.new-none.result) ≡ prepared_as [] [] = ap (prepared_as []) (no_values c.new-none.result c.new-none.ensures.len) in
     let ready : CanAttempt c.args.domains.now ds d (prepared_as [] (values c.new-none.result)) = record { represents = represents; room = c.if-not-has_room.ensures ds represents.stands; can = inl same } in
-    refused_plainly ds m c.in-Err.fault c.if-not-is_change.ensures (subst (λ (p : Preparation). Fails c.in-Err.fault (given_after ds d p m)) same (c.in-Err.ensures ds ready))
+    refused_plainly ds m c.in-Err.fault c.requires.kept c.if-not-is_change.ensures (subst (λ (p : Preparation). Fails c.in-Err.fault (given_after ds d p m)) same (c.in-Err.ensures ds ready))
 
 pub attempt-requires-2-clause-ids : goal.attempt-requires-2-clause-ids
 attempt-requires-2-clause-ids c =
@@ -74,4 +74,4 @@ returns-clause-reads c = λ ds represents.
     let changes = are_changes ds m d ws first before changed c.requires.first c.in_ok-withdrawn.ensures.ordered (λ id. c.templates.ensures.found represents.fresh ds represents.stands id) c.in_ok-withdrawn.ensures.items in
     let both : prepared_as c.deref.result.now (values c.new-none.result) ≡ prepared_as ws [] = rw (c.deref.ensures.value, nor) refl in
     let again : CanAttempt c.args.domains.now ds d (prepared_as c.deref.result.now (values c.new-none.result)) = record { represents = represents; room = room; can = subst (CanPrepare ds d) (sym both) (changes_can ds m d ws changes) } in
-    refused_changed ds m h ws c.in-Err-attempt.fault c.requires.header changes (subst (λ (p : Preparation). Fails c.in-Err-attempt.fault (given_after ds d p m)) both (c.in-Err-attempt.ensures ds again))
+    refused_changed ds m h ws c.in-Err-attempt.fault c.requires.kept c.requires.header changes (subst (λ (p : Preparation). Fails c.in-Err-attempt.fault (given_after ds d p m)) both (c.in-Err-attempt.ensures ds again))

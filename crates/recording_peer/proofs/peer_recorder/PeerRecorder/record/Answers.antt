@@ -19,11 +19,11 @@ use Rattle.recording_peer.proofs.Taking.{inside_of, represents, peer_with}
 use Rattle.recording_peer.proofs.Stopping.{stops_out, stops_cut}
 use Rattle.recording_peer.proofs.peer_recorder.PeerRecorder.record.Goals as goal
 
-abbrev counts_as : Told → List (ℕ × Reach) → PeerTold
-counts_as c r = record { counts = c; advances = r }
+abbrev counts_as : Told → ℕ → List (ℕ × Reach) → PeerTold
+counts_as c n r = record { counts = c; ignored = n; advances = r }
 
-told_with : {c d : Told} {r s : List (ℕ × Reach)} → c ≡ d → r ≡ s → counts_as c r ≡ counts_as d s
-told_with e f = rw (e, f) refl
+told_with : {c d : Told} {r s : List (ℕ × Reach)} (n : ℕ) → c ≡ d → r ≡ s → counts_as c n r ≡ counts_as d n s
+told_with n e f = rw (e, f) refl
 
 pub returns-in_err-count-clause-stopped : goal.returns-in_err-count-clause-stopped
 returns-in_err-count-clause-stopped g c = λ first filed p.
@@ -32,7 +32,7 @@ returns-in_err-count-clause-stopped g c = λ first filed p.
     let read = subst (λ (ds : History). IsReadingOf ds m c.args.reading.now p.given) (files_here filed) p.read in
     let memory = c.in_err-count.ensures (all_given (taken_before filed)) (all_given filed.here) p.given now.keeps read in
     let e = err_from_is_err_and c.from_residual-in_err-count.result c.from_residual-in_err-count.ensures.1 in
-    rw (e.1, e.2) (stops_out c.in_err-count.field-0.0 first (g.F.FileSeries.seen c.args.files.now) _ filed (counts_as c.clear_waiting.new.self.told c.self.inside.advances.reaches) m memory now (told_with c.clear_waiting.ensures.told refl))
+    rw (e.1, e.2) (stops_out c.in_err-count.field-0.0 first (g.F.FileSeries.seen c.args.files.now) _ filed (counts_as c.clear_waiting.new.self.told c.self.inside.ignored c.self.inside.advances.reaches) m memory now (told_with c.self.inside.ignored c.clear_waiting.ensures.told refl))
 
 pub returns-in_err-append-clause-stopped : goal.returns-in_err-append-clause-stopped
 returns-in_err-append-clause-stopped g c = λ first filed p.
@@ -43,10 +43,10 @@ returns-in_err-append-clause-stopped g c = λ first filed p.
     let octets = c.take_datagram.new.out.items in
     let cut = c.in_err-append.ensures in
     let front : IsPrefix cut.0 octets = subst (λ (w : List ℕ). IsPrefix cut.0 w) c.deref.ensures.value cut.1 in
-    let told = told_with (c.in_ok-wait_for.ensures.told ∙ c.clear_waiting.ensures.told) c.in_ok-make_room.ensures.same in
+    let told = told_with c.self.inside.ignored (c.in_ok-wait_for.ensures.told ∙ c.clear_waiting.ensures.told) c.in_ok-make_room.ensures.same in
     let e = err_from_is_err_and c.from_residual-in_err-append.result c.from_residual-in_err-append.ensures.1 in
     rw (e.1, e.2) (stops_cut first (g.F.FileSeries.seen c.args.files.now) (g.F.FileSeries.seen c.append.new.self) _ c.take_datagram.new.recorder filed m r p.given octets cut.0 c.in_ok-count.count
-    (counts_as c.wait_for.new.self.told c.make_room.new.self.reaches) now p.read.taken k front cut.2 told)
+    (counts_as c.wait_for.new.self.told c.self.inside.ignored c.make_room.new.self.reaches) now p.read.taken k front cut.2 told)
 
 pub returns-clause-recorded : goal.returns-clause-recorded
 returns-clause-recorded g c = λ first filed p.
@@ -70,6 +70,6 @@ returns-clause-recorded g c = λ first filed p.
       next = taken_as m (preparation_of r) k.front x;
       datagram = refl;
       counts = k.counts;
-      is = peer_with first v (g.F.FileSeries.seen c.append.new.self) _ (record { recorder = c.take_datagram.new.recorder; withdrawn = kept c.keep_withdrawn.new.withdrawn.entries; told = counts_as c.count_waiting.new.self.told c.note.new.self.reaches; ended = c.self.inside.ended }) filed m r x c.take_datagram.new.out.items c.in_ok-count.count
-          now p.read.taken k (c.in_ok-append.ensures ∙ ap (with_more v) c.deref.ensures.value) counted noted now.goes_on withdrawn;
+      is = peer_with first v (g.F.FileSeries.seen c.append.new.self) _ (record { recorder = c.take_datagram.new.recorder; withdrawn = kept c.keep_withdrawn.new.withdrawn.entries; told = counts_as c.count_waiting.new.self.told c.saturating_add-self-inside.result c.note.new.self.reaches; ended = c.self.inside.ended }) filed m r x c.take_datagram.new.out.items c.in_ok-count.count
+          now p.read.taken k (c.in_ok-append.ensures ∙ ap (with_more v) c.deref.ensures.value) counted c.saturating_add-self-inside.ensures p.read.withdrawals noted now.goes_on withdrawn;
     }

@@ -2,7 +2,7 @@ use Rattle.std.proofs.Common.{ap, ◌∙◌}
 use Rattle.std.proofs.lemmas.Result.{err_from_is_err_and}
 use Rattle.recording_order.specs.Arrivals.{Arrival}
 use Rattle.recording_order.specs.Windows.{after_writing}
-use Rattle.recording_peers.proofs.HandingOn.{follows-recorded, follows-refused, follows-failed, follows-unnoted}
+use Rattle.recording_peers.proofs.HandingOn.{follows-recorded, follows-refused, follows-ignored, follows-failed, follows-unnoted}
 use Rattle.recording_peers.proofs.peer_state.PeerState.hand_on.Goals as goal
 
 pub returns-in_err-count : goal.returns-in_err-count
@@ -32,3 +32,9 @@ returns-in-Refused g c =
     rw c.one_more.ensures
     (follows-refused g.F.FileSeries.seen c.args.self.now a c.in-Refused.fault c.take.new.self c.take.new.files
     (rw c.in-Refused.is at c.in_ok-count.ensures.answers))
+
+pub returns-in-Ignored : goal.returns-in-Ignored
+returns-in-Ignored g c =
+    let a : Arrival = record { header = c.args.header.now; second = c.args.second; octets = c.args.datagram.now } in
+    follows-ignored g.F.FileSeries.seen c.args.self.now a c.take.new.self c.take.new.files
+    (rw c.in-Ignored.is at c.in_ok-count.ensures.answers)

@@ -9,7 +9,7 @@ returns-clause-session g c = record {
   recorded = record {
     empty = c.requires;
     is = c.new.ensures (g.F.FileSeries.seen c.args.files) c.requires;
-    settles = refl;
+    settles = record { taken = refl; ignored = refl };
   };
   window = ap with_counts_begun c.new-2.ensures;
 }
