@@ -1,5 +1,5 @@
 -- What is answered of a datagram.
-use Rattle.std.proofs.Common.{◌≡◌, ◌&&◌, ℕ, Bool, true, false, cond, ltb, eqb, ◌++◌, List, [], ◌∷◌, map, length, drop, Option, Result, Ok, Err, refl, sym, ap, ap₂, subst, ◌∙◌, inl, inr}
+use Rattle.std.proofs.Common.{◌≡◌, ◌&&◌, ℕ, Bool, true, false, cond, ltb, eqb, ◌++◌, List, [], ◌∷◌, map, length, drop, Option, Some, None, Result, Ok, Err, refl, sym, ap, ap₂, subst, ◌∙◌, inl, inr}
 use Rattle.std.specs.Prelude.{◌≢◌, ◌⊎◌, IsOk, is_ok, flat_map}
 use Rattle.std.specs.Ordering.{nat_cmp}
 use Rattle.std.specs.BTreeMap.{BTreeMap, get, values, IsOrdered}
@@ -14,7 +14,7 @@ use Rattle.ipfix_message.specs.declared.fault.MessageFault.TheVariants.{Template
 use Rattle.ipfix_message.specs.declared.template_record.Event.{Event}
 use Rattle.ipfix_message.specs.Faults.{fault_of}
 use Rattle.ipfix_message.specs.Outcome.{Read, ◌>>=◌, Fails}
-use Rattle.ipfix_message.specs.Domains.{DomainsView, History, Message, admit, events_in, template_for, of_wire, message_header, message_gives}
+use Rattle.ipfix_message.specs.Domains.{DomainsView, History, Message, ChangesNothing, admit, events_in, template_for, of_wire, message_header, message_gives}
 use Rattle.ipfix_message.specs.Alike.{knows}
 use Rattle.ipfix_session.specs.Ledger.{capped}
 use Rattle.ipfix_message.proofs.Reading.{not_both, fault_is}
@@ -23,7 +23,7 @@ use Rattle.ipfix_message.specs.declared.record.Template.{Template}
 use Rattle.ipfix_datagrams.specs.declared.withdrawn_template.WithdrawnTemplate.{WithdrawnTemplate}
 use Rattle.ipfix_datagrams.specs.declared.definitions.Definitions.{Definitions}
 use Rattle.ipfix_datagrams.specs.declared.reading.DatagramReading.{DatagramReading}
-use Rattle.ipfix_datagrams.specs.Datagrams.{are_sets_of_withdrawals, withdrawals_in, withdraws_only, AreTemplatesOf, Preparation, with_withdrawn, replaced, replaced_by, given_after, MayChange, Changes, again, events_of_message, first_definition, last_definition, IsPrepared, IsTaken, IsRefused, IsReadingOf, preparation_of}
+use Rattle.ipfix_datagrams.specs.Datagrams.{are_sets_of_withdrawals, withdrawals_in, withdraws_only, AreTemplatesOf, Preparation, with_withdrawn, replaced, replaced_by, given_after, MayChange, Changes, again, events_of_message, first_definition, last_definition, IsPrepared, IsTaken, IsRefused, IsReadingOf, LeavesBy, preparation_of}
 use Rattle.ipfix_datagrams.specs.Attempts.{nothing, CanDefine, CanPrepare, Defines, HasFirst, Reads, FirstReads}
 use Rattle.ipfix_datagrams.proofs.DefinedAgain.{again_knows, can_define}
 use Rattle.ipfix_datagrams.proofs.FirstAndLast.{defined_id}
@@ -88,7 +88,7 @@ no_room_refused ds m h kept good full = inr (kept, inl (no_room_gives ds m h goo
 -- ---- as it is
 
 -- nothing was withdrawn
-pub first_plainly : (ds : History) (m : List ℕ) (domain : ℕ) (ws : List WithdrawnTemplate) (after : DomainsView) → ws ≡ [] → Reads ds domain nothing m after → FirstReads ds domain m ws after
+pub first_plainly : (ds : History) (m : List ℕ) (domain : ℕ) (ws : List WithdrawnTemplate) (after : DomainsView) → ws ≡ [] → Reads ds domain nothing m after → FirstReads ds domain m ws (Some after)
 first_plainly ds m domain ws after none reads = record {
   given = reads.given;
   domain_is = reads.domain_is;
@@ -96,6 +96,19 @@ first_plainly ds m domain ws after none reads = record {
   read = ap (λ (ws : List WithdrawnTemplate). message_gives (with_withdrawn ds domain ws) m) none ∙ reads.read;
   leaves = reads.leaves;
 }
+
+-- it changes no template
+pub first_data : (ds : History) (m : List ℕ) (h : Header) (ws : List WithdrawnTemplate) → message_header m ≡ Ok h → ws ≡ [] → ChangesNothing ds m → FirstReads ds h.domain m ws None
+first_data ds m h ws good none c = record {
+  given = c.given;
+  domain_is = ap (λ (g : Header). g.domain) (header_same ds m h c.given good c.read);
+  changes = inl none;
+  read = ap (λ (vs : List WithdrawnTemplate). message_gives (with_withdrawn ds h.domain vs) m) none ∙ c.read;
+  leaves = c.same;
+}
+
+pub refused_data : (ds : History) (m : List ℕ) (f : MessageFault) → withdraws_only m ≡ false → (message_gives ds m ≡ Err f) × (f ≢ TemplateChanged) → IsRefused ds m f
+refused_data ds m f kept fails = inr (kept, inl fails)
 
 pub refused_plainly : (ds : History) (m : List ℕ) (f : MessageFault) → withdraws_only m ≡ false → f ≢ TemplateChanged → Fails f (message_gives ds m) → IsRefused ds m f
 refused_plainly ds m f kept other fails = elim (fails_or f (message_gives ds m) fails) [ inl e ↦ inl e | inr e ↦ inr (kept, inl (e, other)) ]
@@ -139,7 +152,7 @@ changes_can ds m domain ws c = elim (changes_knows ds m domain ws c) [
   | inr there ↦ inr (there, tt)
 ]
 
-pub first_changed : (ds : History) (m : List ℕ) (domain : ℕ) (ws : List WithdrawnTemplate) (after : DomainsView) → Changes ds m domain ws → Reads ds domain (prepared_as ws []) m after → FirstReads ds domain m ws after
+pub first_changed : (ds : History) (m : List ℕ) (domain : ℕ) (ws : List WithdrawnTemplate) (after : DomainsView) → Changes ds m domain ws → Reads ds domain (prepared_as ws []) m after → FirstReads ds domain m ws (Some after)
 first_changed ds m domain ws after c reads = record {
   given = reads.given;
   domain_is = reads.domain_is;
@@ -166,7 +179,7 @@ pub record HasLast (r : DatagramReading) (m : List ℕ) : Type 0 where
 
 -- ---- after templates are defined again
 
-is_prepared : (ds : History) (m : List ℕ) (domain : ℕ) (ws : List WithdrawnTemplate) (after : DomainsView) (f : FirstReads ds domain m ws after) (ts : List Template) → AreTemplatesOf (again ds m domain) ts → IsPrepared ds m (prepared_as ws ts) f.given
+is_prepared : (ds : History) (m : List ℕ) (domain : ℕ) (ws : List WithdrawnTemplate) (after : Option DomainsView) (f : FirstReads ds domain m ws after) (ts : List Template) → AreTemplatesOf (again ds m domain) ts → IsPrepared ds m (prepared_as ws ts) f.given
 is_prepared ds m domain ws after f ts are = record {
   changes = subst (λ (d : ℕ). MayChange ds m d ws) (sym f.domain_is) f.changes;
   read = subst (λ (d : ℕ). message_gives (with_withdrawn ds d ws) m ≡ Ok f.given) (sym f.domain_is) f.read;
@@ -195,9 +208,9 @@ can_prepare ds m domain ws ts some are = elim (again_knows ds m domain ts are) [
   | inr there ↦ (there, can_define ds m domain ws ts are)
 ]
 
-pub taken_again : (ds : History) (m : List ℕ) (domain : ℕ) (r : DatagramReading) (after : DomainsView) → FirstReads ds domain m r.withdrawn.items after → AreTemplatesOf (again ds m domain) (values r.defined) → Reads ds domain (preparation_of r) m r.after
+pub taken_again : (ds : History) (m : List ℕ) (domain : ℕ) (r : DatagramReading) (after : Option DomainsView) (d : DomainsView) → r.after ≡ Some d → FirstReads ds domain m r.withdrawn.items after → AreTemplatesOf (again ds m domain) (values r.defined) → Reads ds domain (preparation_of r) m d
     → withdraws_only m ≡ false → HasLast r m → (x : Message) × IsReadingOf ds m r x
-taken_again ds m domain r after f are reads kept last = (
+taken_again ds m domain r after d is f are reads kept last = (
   reads.given,
   record {
     taken = record {
@@ -206,13 +219,13 @@ taken_again ds m domain r after f are reads kept last = (
       is_prepared = is_prepared ds m domain r.withdrawn.items after f (values r.defined) are;
       read = subst (λ (d : ℕ). given_after ds d (preparation_of r) m ≡ Ok reads.given) (sym f.domain_is) reads.read;
     };
-    leaves = reads.leaves;
+    leaves = subst (λ (o : Option DomainsView). LeavesBy o ds reads.given) (sym is) reads.leaves;
     defines = last.defines;
     withdrawals = last.withdrawals;
   },
 )
 
-pub refused_again : (ds : History) (m : List ℕ) (domain : ℕ) (ws : List WithdrawnTemplate) (after : DomainsView) (ts : List Template) (fault : MessageFault) → withdraws_only m ≡ false → FirstReads ds domain m ws after → AreTemplatesOf (again ds m domain) ts
+pub refused_again : (ds : History) (m : List ℕ) (domain : ℕ) (ws : List WithdrawnTemplate) (after : Option DomainsView) (ts : List Template) (fault : MessageFault) → withdraws_only m ≡ false → FirstReads ds domain m ws after → AreTemplatesOf (again ds m domain) ts
     → Fails fault (given_after ds domain (prepared_as ws ts) m) → IsRefused ds m fault
 refused_again ds m domain ws after ts fault kept f are fails = elim (fails_or fault (given_after ds domain (prepared_as ws ts) m) fails) [
   | inl e ↦ inl e

@@ -13,7 +13,7 @@ use Rattle.ipfix_message.specs.Alike.{knows}
 use Rattle.ipfix_message.specs.Sets.{sets_of}
 use Rattle.ipfix_session.specs.Ledger.{capped}
 use Rattle.ipfix_message.specs.Domains.{DomainsView, History, Message, admit, events_in, message_gives}
-use Rattle.ipfix_datagrams.specs.Datagrams.{are_sets_of_withdrawals, events_of_set, is_withdrawal, MayChange, Preparation, Represents, Leaves, definition_of, first_definition, given_after, with_defined, with_withdrawn}
+use Rattle.ipfix_datagrams.specs.Datagrams.{are_sets_of_withdrawals, events_of_set, is_withdrawal, MayChange, Preparation, Represents, Leaves, LeavesBy, definition_of, first_definition, given_after, with_defined, with_withdrawn}
 use Rattle.ipfix_datagrams.specs.declared.definitions.Definitions.{Definitions}
 use Rattle.ipfix_datagrams.specs.declared.withdrawn_template.WithdrawnTemplate.{WithdrawnTemplate}
 
@@ -82,12 +82,12 @@ pub record Reads (ds : History) (domain : ℕ) (p : Preparation) (m : List ℕ) 
   pub leaves : Leaves after given
 
 -- it is read after the templates are withdrawn that it replaces, and none is defined
-pub record FirstReads (ds : History) (domain : ℕ) (m : List ℕ) (ws : List WithdrawnTemplate) (after : DomainsView) : Type 0 where
+pub record FirstReads (ds : History) (domain : ℕ) (m : List ℕ) (ws : List WithdrawnTemplate) (after : Option DomainsView) : Type 0 where
   pub given : Message
   pub domain_is : given.header.domain ≡ domain
   pub changes : MayChange ds m domain ws
   pub read : message_gives (with_withdrawn ds domain ws) m ≡ Ok given
-  pub leaves : Leaves after given
+  pub leaves : LeavesBy after ds given
 
 -- ---- templates that were withdrawn
 

@@ -228,6 +228,11 @@ pub record Leaves (d : DomainsView) (x : Message) : Type 0 where
   pub represents : Represents d history
   pub same : (id : ℕ) → template_for history x.header.domain id ≡ in_force x.decoding.events id
 
+-- and so if they are there; else all domains stay as they are
+abbrev pub LeavesBy : Option DomainsView → History → Message → Type 0
+LeavesBy None ds x = x.domains ≡ ds
+LeavesBy (Some d) ds x = Leaves d x
+
 -- what an answer says of the preparation
 abbrev pub preparation_of : DatagramReading → Preparation
 preparation_of r = preparation_by r.withdrawn.items r.defined
@@ -235,7 +240,7 @@ preparation_of r = preparation_by r.withdrawn.items r.defined
 -- an answer says how a datagram is taken, what it leaves, what it defines last for each id, and how many withdrawals it has
 pub record IsReadingOf (ds : History) (m : List ℕ) (r : DatagramReading) (x : Message) : Type 0 where
   pub taken : IsTaken ds m (preparation_of r) x
-  pub leaves : Leaves r.after x
+  pub leaves : LeavesBy r.after ds x
   pub defines : (id : ℕ) → get nat_cmp r.definitions id ≡ last_definition m id
   pub withdrawals : r.withdrawals ≡ capped (withdrawals_in m)
 

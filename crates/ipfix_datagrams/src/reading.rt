@@ -47,16 +47,16 @@ pub struct DatagramReading {
     pub definitions: Templates,
     /// How many withdrawals it has, up to `u64::MAX`. They are ignored.
     pub withdrawals: u64,
-    /// Its domain alone, after it.
-    pub after: Domains,
+    /// Its domain alone, after it. `None` if all domains stay as they are.
+    pub after: Option<Domains>,
 }
 
 // A datagram that was read after templates were withdrawn, and none defined: those templates, and its domain
-// alone after it.
+// alone after it; `None` if all domains stay as they are.
 #[derive(Drop)]
 struct FirstReading {
     withdrawn: Vec<WithdrawnTemplate>,
-    after: Domains,
+    after: Option<Domains>,
 }
 
 // Whether a datagram was refused since it changes a template.
@@ -69,7 +69,8 @@ fn is_change(fault: &MessageFault) -> bool
     }
 }
 
-// Reads a datagram after the templates are withdrawn that its first definitions replace, and no others defined.
+// Reads a datagram after the templates are withdrawn that its first definitions replace, and no others defined. Only
+// for one with a template set is its domain copied.
 fn read_first(
     alloc: Global,
     domains: &Domains,
@@ -85,6 +86,13 @@ fn read_first(
         (λ r. FirstReads ds header.now.domain datagram.now r.withdrawn.items r.after)
         (λ fault. IsRefused ds datagram.now fault) }
 {
+    let is_data = domains.check_data(header, datagram)?;
+    if is_data {
+        return Ok(FirstReading {
+            withdrawn: Vec::new(alloc),
+            after: None,
+        });
+    }
     if !domains.has_room(header.domain) {
         return Err(MessageFault::TooManyDomains);
     }
@@ -93,7 +101,7 @@ fn read_first(
         Ok(after) => {
             return Ok(FirstReading {
                 withdrawn: Vec::new(alloc),
-                after,
+                after: Some(after),
             });
         }
         Err(fault) => {
@@ -104,7 +112,10 @@ fn read_first(
     }
     let withdrawn = changes(alloc, first, domains.templates(header.domain))?;
     match attempt(alloc, domains, header, &withdrawn, &none, datagram) {
-        Ok(after) => Ok(FirstReading { withdrawn, after }),
+        Ok(after) => Ok(FirstReading {
+            withdrawn,
+            after: Some(after),
+        }),
         Err(fault) => Err(fault),
     }
 }
@@ -185,7 +196,7 @@ fn read_kept(
         defined,
         definitions: last,
         withdrawals,
-        after,
+        after: Some(after),
     })
 }
 

@@ -126,7 +126,10 @@ pub fn keep_withdrawn(
         → KeepsWithdrawn withdrawn.old ds → IsReadingOf ds m reading.now x
         → x.header.domain ≡ domain → OnOk result (KeepsWithdrawn withdrawn.new x.domains) }
 {
-    let after = reading.after.templates(domain);
+    let Some(domain_after) = &reading.after else {
+        return Ok(());
+    };
+    let after = domain_after.templates(domain);
     let mut kept = take_out(alloc, withdrawn, domain);
     put_before(domains.templates(domain), after, &mut kept)?;
     put_ended(&reading.definitions, after, &mut kept)?;

@@ -1,15 +1,29 @@
-use Rattle.std.proofs.Common.{◌≡◌, [], ℕ, List, refl, ap, sym, subst, ◌∙◌, inl}
+use Rattle.std.proofs.Common.{◌≡◌, [], ℕ, Bool, true, List, Ok, refl, ap, sym, subst, ◌∙◌, inl, rules}
 use Rattle.std.specs.Prelude.{All, option_copied}
 use Rattle.std.specs.BTreeMap.{values}
-use Rattle.ipfix_message.specs.Domains.{message_gives}
+use Rattle.std.proofs.lemmas.Result.{err_from_is_err_and}
+use Rattle.ipfix_message.specs.Domains.{ChangesNothing, IsChecked, message_gives}
 use Rattle.ipfix_message.specs.Outcome.{Fails}
 use Rattle.ipfix_datagrams.specs.declared.withdrawn_template.WithdrawnTemplate.{WithdrawnTemplate}
 use Rattle.ipfix_datagrams.specs.Withdrawals.{HasTemplateId}
 use Rattle.ipfix_datagrams.specs.Datagrams.{Preparation, given_after, template_in}
 use Rattle.ipfix_datagrams.specs.Attempts.{CanAttempt, CanPrepare, Reads}
-use Rattle.ipfix_datagrams.proofs.Answered.{prepared_as, no_values, no_room_refused, first_plainly, refused_plainly, changed_is, are_changes, changes_can, first_changed, refused_changed}
+use Rattle.ipfix_datagrams.proofs.Answered.{prepared_as, no_values, no_room_refused, first_plainly, first_data, refused_plainly, refused_data, changed_is, are_changes, changes_can, first_changed, refused_changed}
 use Rattle.ipfix_datagrams.proofs.Replacing.{ids_low}
 use Rattle.ipfix_datagrams.proofs.reading.read_first.Goals as goal
+
+pub returns-in_err-is_data-clause-reads : goal.returns-in_err-is_data-clause-reads
+returns-in_err-is_data-clause-reads c = λ ds represents.
+    let p = err_from_is_err_and c.from_residual.result c.from_residual.ensures.1 in
+    rw (p.1, p.2) (refused_data ds c.args.datagram.now c.in_err-is_data.field-0.0 c.requires.kept (c.in_err-is_data.ensures.checked represents.fresh ds represents.stands))
+
+pub returns-then-is_data-clause-reads : goal.returns-then-is_data-clause-reads
+returns-then-is_data-clause-reads c = λ ds represents.
+    let m = c.args.datagram.now in
+    let h = c.args.header.now in
+    let is : c.in_ok-is_data.is_data ≡ true = search rules in
+    let changes_nothing : ChangesNothing ds m = subst (λ (b : Bool). IsChecked (Ok b) ds h.domain m) is (c.in_ok-is_data.ensures.checked represents.fresh ds represents.stands) in
+    first_data ds m h c.new.result.items c.requires.header c.new.ensures.items changes_nothing
 
 pub returns-then-not-has_room-clause-reads : goal.returns-then-not-has_room-clause-reads
 returns-then-not-has_room-clause-reads c = λ ds represents. no_room_refused ds c.args.datagram.now c.args.header.now c.requires.kept c.requires.header (c.if-not-has_room.ensures ds represents.stands)
@@ -20,7 +34,7 @@ returns-in-Ok-clause-reads c = λ ds represents.
     let d = c.args.header.now.domain in
     let same : prepared_as [] (values c.new-none.result) ≡ prepared_as [] [] = ap (prepared_as []) (no_values c.new-none.result c.new-none.ensures.len) in
     let ready : CanAttempt c.args.domains.now ds d (prepared_as [] (values c.new-none.result)) = record { represents = represents; room = c.if-not-has_room.ensures ds represents.stands; can = inl same } in
-    first_plainly ds m d c.new.result.items c.in-Ok.after c.new.ensures.items (subst (λ (p : Preparation). Reads ds d p m c.in-Ok.after) same (c.in-Ok.ensures ds ready))
+    first_plainly ds m d c.new-in-Ok.result.items c.in-Ok.after c.new-in-Ok.ensures.items (subst (λ (p : Preparation). Reads ds d p m c.in-Ok.after) same (c.in-Ok.ensures ds ready))
 
 pub returns-then-not-is_change-clause-reads : goal.returns-then-not-is_change-clause-reads
 returns-then-not-is_change-clause-reads c = λ ds represents.

@@ -1,4 +1,4 @@
-use Rattle.std.proofs.Common.{◌≡◌, List, refl, ap, sym, subst, inl, inr}
+use Rattle.std.proofs.Common.{◌≡◌, List, Some, refl, ap, sym, subst, inl, inr}
 use Rattle.std.specs.BTreeMap.{values}
 use Rattle.std.proofs.lemmas.Bool.{false≢true}
 use Rattle.std.proofs.lemmas.Result.{err_from_is_err_and}
@@ -65,6 +65,6 @@ returns-clause-reads c = λ ds represents keeps.
     let can = can_prepare ds m d ws ts (some_values c.in_ok-defined.defined (λ none. false≢true (c.if-is_empty.ensures.1 none))) are in
     let same : prepared_as c.deref.result.now ts ≡ prepared_as ws ts = ap (λ (vs : List WithdrawnTemplate). prepared_as vs ts) c.deref.ensures.value in
     let ready : CanAttempt c.args.domains.now ds d (prepared_as c.deref.result.now ts) = record { represents = represents; room = admit_ok ds d can.0; can = subst (CanPrepare ds d) (sym same) (inr can) } in
-    let answer : DatagramReading = record { withdrawn = r.withdrawn; defined = c.in_ok-defined.defined; definitions = c.args.definitions.last; withdrawals = c.args.definitions.withdrawals; after = c.in_ok-after.after } in
+    let answer : DatagramReading = record { withdrawn = r.withdrawn; defined = c.in_ok-defined.defined; definitions = c.args.definitions.last; withdrawals = c.args.definitions.withdrawals; after = Some c.in_ok-after.after } in
     let last : HasLast answer m = record { defines = c.requires.defines.last; withdrawals = c.requires.defines.withdrawals } in
-    taken_again ds m d answer r.after f are (subst (λ (p : Preparation). Reads ds d p m c.in_ok-after.after) same (c.in_ok-after.ensures ds ready)) c.requires.kept last
+    taken_again ds m d answer r.after c.in_ok-after.after refl f are (subst (λ (p : Preparation). Reads ds d p m c.in_ok-after.after) same (c.in_ok-after.ensures ds ready)) c.requires.kept last

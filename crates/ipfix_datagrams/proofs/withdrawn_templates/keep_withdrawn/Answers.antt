@@ -1,20 +1,27 @@
-use Rattle.std.proofs.Common.{◌≡◌, ℕ, Option, sym, ap, ◌∙◌, cond, eqb, is_some, None}
+use Rattle.std.proofs.Common.{◌≡◌, ℕ, Option, sym, ap, ◌∙◌, cond, eqb, is_some, Some, None, subst, rules}
 use Rattle.std.specs.Prelude.{option_copied}
 use Rattle.std.specs.BTreeMap.{get}
 use Rattle.std.specs.Ordering.{nat_cmp}
 use Rattle.ipfix_message.specs.declared.record.Template.{Template}
-use Rattle.ipfix_message.specs.Domains.{template_for}
+use Rattle.ipfix_message.specs.Domains.{DomainsView, template_for}
 use Rattle.ipfix_message.specs.TemplatesInForce.{in_force}
-use Rattle.ipfix_datagrams.specs.Datagrams.{KeepsWithdrawn, preparation_of, template_at, template_in}
+use Rattle.ipfix_datagrams.specs.Datagrams.{KeepsWithdrawn, Leaves, LeavesBy, preparation_of, template_at, template_in}
 use Rattle.ipfix_datagrams.specs.Attempts.{with_ended}
 use Rattle.ipfix_datagrams.proofs.Kept.{keeps_with, on_kept}
 use Rattle.ipfix_datagrams.proofs.withdrawn_templates.keep_withdrawn.Goals as goal
+
+pub returns-in_default : goal.returns-in_default
+returns-in_default c = λ ds m x represents keeps reading same.
+    let none : c.args.reading.now.after ≡ None = search rules in
+    let stays : x.domains ≡ ds = subst (λ (o : Option DomainsView). LeavesBy o ds x) none reading.leaves in
+    rw stays keeps
 
 pub returns : goal.returns
 returns c = λ ds m x represents keeps reading same.
     let r = c.args.reading.now in
     let d = c.args.domain in
-    let leaves = reading.leaves in
+    let some : r.after ≡ Some c.in-Some.domain_after = search rules in
+    let leaves : Leaves c.in-Some.domain_after x = subst (λ (o : Option DomainsView). LeavesBy o ds x) some reading.leaves in
     let now : ℕ → Option Template = λ id. template_in (option_copied c.templates-after.result) id in
     let before : ℕ → Option Template = λ id. template_in (option_copied c.templates.result) id in
     let last : ℕ → Option Template = λ id. get nat_cmp r.definitions id in
