@@ -9,7 +9,7 @@ use cli_inputs::{RecordArguments, WITH_REASONS, listen_on};
 use network_prefixes::{PeerFilter, Prefix};
 use recording_connections::{RecordOrder, open_recordings};
 use recording_datagrams::{PeerLimits, SystemSocket};
-use report_writing::{Reason, Status, write_not_had_because};
+use report_writing::{NOTHING_MORE, Reason, Status, write_not_had_because};
 use std::io::{Stderr, Write};
 use std::net::TcpListener;
 use std::rt::Clock;
@@ -111,6 +111,7 @@ fn order_of(
         every: arguments.every,
         sessions: arguments.sessions,
         idle: arguments.idle,
+        verbosity: NOTHING_MORE,
         filter: filter_of(rt, arguments.prefixes, err)?,
     })
 }

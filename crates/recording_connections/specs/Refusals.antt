@@ -6,6 +6,7 @@ use Rattle.ipfix_session.specs.Sources.{one_more}
 use Rattle.network_prefixes.specs.Peers.{LetsIn}
 use Rattle.network_prefixes.specs.declared.peer_filter.PeerFilter.{PeerFilter}
 use Rattle.recording_lines.specs.RecordLines.{not_accepted_line, refused_line}
+use Rattle.recording_connections.specs.ConnectionLines.{turned_away_lines}
 use Rattle.recording_connections.specs.declared.shared_counts.RefusedPeers.{RefusedPeers}
 use Rattle.recording_connections.specs.declared.shared_counts.SessionNumber.{SessionNumber}
 use Rattle.recording_connections.specs.declared.shared_counts.SharedCounts.{SharedCounts}
@@ -43,5 +44,5 @@ abbrev pub not_accepted_lines : ℕ → List ℕ
 not_accepted_lines zero = []
 not_accepted_lines (suc n) = not_accepted_line (suc n)
 
-abbrev pub unserved_lines : Option RefusedPeers → ℕ → List ℕ
-unserved_lines refused not_accepted = refused_lines refused ++ not_accepted_lines not_accepted
+abbrev pub unserved_lines : Option RefusedPeers → Option RefusedPeers → ℕ → List ℕ
+unserved_lines refused turned_away not_accepted = refused_lines refused ++ (turned_away_lines turned_away ++ not_accepted_lines not_accepted)

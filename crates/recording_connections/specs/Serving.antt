@@ -62,9 +62,3 @@ IsServed {S} {F} {C} seen view asked finishes makes before after number tells =
     ((recording : Recording F C) × makes before.peer number (Ok recording)
     × IsRecorded seen view asked finishes before.source after.source recording before.peer tells)
     ⊎ ((lack : AllocError) × makes before.peer number (Err lack) × (after ≡ before) × tells (fault_line before.peer (faults.Message OutOfMemory)))
-
--- the session has the number after the last one that the shared counts had
-abbrev pub IsServedNext : {S F C : Type 0} → (S → SourceView) → (F → FilesView) → (C → ClockView) → (F → FileReport → Result (Unit {0}) NotWritten → Type 0)
-    → (SocketAddr → ℕ → Result (Recording F C) AllocError → Type 0) → Connection S → Connection S → (List ℕ → Type 0) → Type 0
-IsServedNext seen view asked finishes makes before after tells =
-    (counts : SharedCounts) × IsServed seen view asked finishes makes before after (one_more counts.sessions) tells

@@ -1,5 +1,5 @@
 -- How long a connection may be silent, and which failing read is a tick.
-use Rattle.std.specs.Prelude.{◌≡◌, ◌≤◌, ◌-◌, ◌⊎◌, Bool, false, Option, Some}
+use Rattle.std.specs.Prelude.{◌≡◌, ℕ, ◌≤◌, ◌-◌, ◌⊎◌, Bool, false, Option, Some}
 use Rattle.std.specs.Duration.{as_nanos}
 use Rattle.std.specs.Time.{instant_nanos}
 use Rattle.std.specs.declared.time.Duration.{Duration}
@@ -11,6 +11,10 @@ use Rattle.std.specs.declared.io.ErrorKind.TheVariants.{Interrupted, TimedOut, W
 abbrev pub IsTooLong : Option Duration → Option Instant → Option Instant → Type 0
 IsTooLong (Some idle) (Some heard) (Some now) = as_nanos idle ≤ instant_nanos now - instant_nanos heard
 IsTooLong idle heard now = ⊥
+
+-- no message has come whole since the connection began, for as long as that may take or longer
+abbrev pub IsOverdue : ℕ → Duration → Option Instant → Option Instant → Type 0
+IsOverdue messages limit begun now = (messages ≡ 0) × IsTooLong (Some limit) begun now
 
 -- a read that was interrupted, or reached its time limit while the silence is not too long
 abbrev pub IsTick : ErrorKind → Bool → Type 0

@@ -1,6 +1,7 @@
 //! Where connections come from.
 
-use crate::patient_reader::PatientReader;
+use crate::keepalive::keep_alive;
+use crate::patient_reader::{PatientReader, SilenceLimits};
 use ipfix_session::Source;
 use std::net::{SocketAddr, TcpListener, TcpStream};
 use std::rt::Clock;
@@ -30,12 +31,12 @@ pub trait ConnectionSource<S: Source> {
 }
 
 /// A listener of the system. A read of its connections that waits for a second is a tick, and the session
-/// of a peer that sends nothing for `idle` ends.
+/// of a peer that is silent for too long ends.
 #[derive(Drop)]
 pub struct PatientListener<'a, C: Clock> {
     pub listener: TcpListener,
     pub clock: &'a C,
-    pub idle: Option<Duration>,
+    pub silence: SilenceLimits,
 }
 
 impl<'a, C: Clock> ConnectionSource<PatientReader<'a, TcpStream, C>> for PatientListener<'a, C> {
@@ -49,8 +50,9 @@ impl<'a, C: Clock> ConnectionSource<PatientReader<'a, TcpStream, C>> for Patient
         {
             return Err(NotAccepted);
         }
+        keep_alive(&stream);
         Ok(Connection {
-            source: PatientReader::new(self.clock, stream, self.idle),
+            source: PatientReader::new(self.clock, stream, self.silence),
             peer,
         })
     }

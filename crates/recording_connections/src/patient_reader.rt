@@ -6,22 +6,35 @@ ghost use Rattle.std.specs.Duration.{as_nanos};
 ghost use Rattle.std.specs.IoError.{error_kind};
 ghost use Rattle.std.specs.Time.{instant_nanos};
 ghost use Rattle.ipfix_session.specs.Sources.{unread};
-ghost use Rattle.recording_connections.specs.Silences.{IsTick, IsTooLong};
+ghost use Rattle.recording_connections.specs.Silences.{IsOverdue, IsTick, IsTooLong};
 
-use ipfix_session::{ReadError, Source};
+use ipfix_session::{MessageCounter, ReadError, Source};
 use std::io::{self, ErrorKind, Read};
 use std::rt::Clock;
 use std::time::{Duration, Instant};
 
+/// For how long a connection may be silent.
+#[derive(Clone, Copy, Debug, PartialEq, Eq)]
+pub struct SilenceLimits {
+    /// How long it may send nothing, if there is a limit.
+    pub idle: Option<Duration>,
+    /// How long it may take, from its beginning, until it has brought a whole message.
+    pub first_message: Duration,
+}
+
 /// A source over a reader whose reads have a time limit. A read that reaches it is a tick
-/// (`ReadError::Interrupted`), unless nothing has come for `idle`: then it fails, as it does if the
-/// reader fails. Once it has shown its end it doesn't ask the reader again.
+/// (`ReadError::Interrupted`), unless nothing has come for as long as it may: then it fails, as it does if the
+/// reader fails, and if the first message is not whole in time. Once it has shown its end it doesn't ask the reader
+/// again.
 #[derive(Drop)]
 pub struct PatientReader<'a, R: Read, C: Clock> {
     reader: R,
     clock: &'a C,
-    idle: Option<Duration>,
+    silence: SilenceLimits,
+    begun: Option<Instant>,
     heard: Option<Instant>,
+    // Reads on until a message is whole.
+    messages: MessageCounter,
     reads: u64,
     failed: u64,
     ended: bool,
@@ -29,19 +42,30 @@ pub struct PatientReader<'a, R: Read, C: Clock> {
 }
 
 impl<'a, R: Read, C: Clock> PatientReader<'a, R, C> {
-    /// A source of which nothing was read. With no `idle` it waits for as long as it takes.
-    pub fn new(clock: &'a C, reader: R, idle: Option<Duration>) -> Self
+    /// A source of which nothing was read, of a connection that begins now.
+    pub fn new(clock: &'a C, reader: R, silence: SilenceLimits) -> Self
         ensures { ⟦<PatientReader<'a, R, C> as Source>⟧.seen result ≡ unread (R.remaining reader) }
     {
+        let now = Instant::now(clock).ok();
         PatientReader {
             reader,
             clock,
-            idle,
-            heard: Instant::now(clock).ok(),
+            silence,
+            begun: now,
+            heard: now,
+            messages: MessageCounter::new(),
             reads: 0,
             failed: 0,
             ended: false,
         }
+    }
+
+    // Whether the first message should be whole at this time, and isn't.
+    fn is_overdue(&self, now: Option<Instant>) -> bool
+        ensures { IsTrue result ↔ IsOverdue self.now.messages.messages
+            self.now.silence.first_message self.now.begun now }
+    {
+        self.messages.count() == 0 && is_too_long(Some(self.silence.first_message), self.begun, now)
     }
 }
 
@@ -60,21 +84,33 @@ impl<'a, R: Read, C: Clock> Source for PatientReader<'a, R, C> {
         if self.ended {
             return Ok(0);
         }
+        if self.is_overdue(Instant::now(self.clock).ok()) {
+            self.failed = self.failed.saturating_add(1);
+            return Err(ReadError::Failed);
+        }
         match self.reader.read(buffer) {
             Ok(count) => {
+                look_for_message(&mut self.messages, &buffer[..count]);
                 self.ended = count == 0 && !buffer.is_empty();
                 self.heard = Instant::now(self.clock).ok();
                 Ok(count)
             }
             Err(error) => {
                 let now = Instant::now(self.clock).ok();
-                let error = read_error(&error, is_too_long(self.idle, self.heard, now));
+                let error = read_error(&error, is_too_long(self.silence.idle, self.heard, now));
                 if error == ReadError::Failed {
                     self.failed = self.failed.saturating_add(1);
                 }
                 Err(error)
             }
         }
+    }
+}
+
+// Reads on in what came, until a message is whole.
+fn look_for_message(messages: &mut MessageCounter, piece: &[u8]) {
+    if messages.count() == 0 {
+        messages.read(piece);
     }
 }
 

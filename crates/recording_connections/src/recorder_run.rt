@@ -3,6 +3,7 @@
 use crate::shared_counts::SharedCounts;
 use network_prefixes::PeerFilter;
 use recording_folder::Folder;
+use report_writing::Verbosity;
 use std::alloc::{AllocError, Global};
 use std::num::NonZeroU64;
 use std::sync::Mutex;
@@ -17,6 +18,8 @@ pub struct RecordOrder {
     pub sessions: usize,
     /// How long a connection may send nothing.
     pub idle: Option<Duration>,
+    /// Whether the beginning and the end of each session of a connection are told, too.
+    pub verbosity: Verbosity,
     /// Which peers may send.
     pub filter: PeerFilter,
 }

@@ -1,22 +1,28 @@
-//! Threads that record one session after another.
+//! Threads that record one session after another. One of them at a time accepts connections: it then records the session, and
+//! another goes on accepting. There is one more than sessions, so that a peer that comes while all are at work is turned away.
 
-ghost use Rattle.std.specs.Prelude.{◌≡◌};
+ghost use Rattle.std.specs.Prelude.{◌≡◌, IfSome, IsSome, None};
+ghost use Rattle.ipfix_session.specs.Sources.{one_more};
 ghost use Rattle.report_writing.specs.Writing.{Tells};
 ghost use Rattle.recording_connections.specs.Refusals.{MaySend};
-ghost use Rattle.recording_connections.specs.Serving.{IsServedNext};
+ghost use Rattle.recording_connections.specs.ConnectionLines.{with_ends};
+ghost use Rattle.recording_connections.specs.Serving.{IsServed};
 
 use crate::connection::{Connection, ConnectionSource};
+use crate::connection_lines::{write_connected, write_ended};
 use crate::place::{RecordingFiles, SessionPlace};
 use crate::serving::record_connection;
-use crate::shared_counts::SharedCounts;
+use crate::session_room::SessionRoom;
+use crate::shared_counts::{SessionNumber, SharedCounts};
 use crate::unserved::write_unserved;
 use ipfix_session::Source;
 use network_prefixes::PeerFilter;
 use recording_files::PeriodClock;
 use recording_lines::{WholeLines, write_threads};
-use report_writing::{Status, WriteLines};
+use report_writing::{Status, Verbosity, WriteLines};
 use std::alloc::Global;
 use std::io::{self, Write};
+use std::net::SocketAddr;
 use std::rt::Clock;
 use std::sync::{Mutex, Wait};
 use std::thread::{self, Scope, Threads};
@@ -40,13 +46,23 @@ pub struct ConnectionRecorder<'a, L, P> {
     pub filter: &'a PeerFilter,
     /// How many sessions are recorded at once, each in a thread.
     pub sessions: usize,
+    /// Whether the beginning and the end of each session are told, too.
+    pub verbosity: Verbosity,
     /// What the threads share.
     pub shared: &'a Mutex<SharedCounts>,
 }
 
+// What the threads that accept connections share, for a run.
+#[derive(Drop)]
+struct Entrance {
+    // Whose turn it is to accept.
+    turn: Mutex<()>,
+    room: Mutex<SessionRoom>,
+}
+
 /// Records what comes over connections in threads, each of which accepts one after another. Sessions are numbered by
-/// the shared counts. Where no connection can be accepted that is written, and tried again. It ends only if no thread
-/// can be started.
+/// the shared counts. While all sessions are at work, and where no connection can be accepted, that is written. It ends only
+/// if no thread can be started.
 pub fn record_connections<
     S: Source + Send + Drop,
     F: RecordingFiles + Send,
@@ -58,13 +74,25 @@ pub fn record_connections<
 >(rt: &R, recorder: &ConnectionRecorder<L, P>, err: E) -> Status
     ensures { result ≡ Status.Failed }
 {
+    let entrance = Entrance {
+        turn: Mutex::new(()),
+        room: Mutex::new(SessionRoom::new(recorder.sessions)),
+    };
     thread::scope(
         thread::scope_env(),
         rt,
         |scope| -> Status
             ensures { result ≡ Status.Failed }
-        { run_all(scope, rt, recorder, err) },
+        { run_all(scope, rt, recorder, &entrance, err) },
     )
+}
+
+// As many threads as sessions, and one more.
+fn threads_of(sessions: usize) -> usize {
+    match sessions {
+        0 => 0,
+        _ => sessions.saturating_add(1),
+    }
 }
 
 // Starts the threads, and then writes which peers have no session.
@@ -82,28 +110,30 @@ fn run_all<
     scope: &'s Scope<'s, &'e ()>,
     rt: &'s R,
     recorder: &'s ConnectionRecorder<'s, L, P>,
+    entrance: &'s Entrance,
     err: E,
 ) -> Status
     ensures { result ≡ Status.Failed }
 {
     let mut out = WholeLines::new(err);
+    let threads = threads_of(recorder.sessions);
     let mut started: usize = 0;
-    for _ in 0..recorder.sessions {
-        let run = move || accept_forever(rt, recorder, err);
+    for _ in 0..threads {
+        let run = move || accept_forever(rt, recorder, entrance, err);
         if scope.spawn(run).is_ok() {
             started = started.saturating_add(1);
         }
     }
-    if started < recorder.sessions {
-        let _ = write_threads(started, recorder.sessions, &mut out);
+    if started < threads {
+        let _ = write_threads(started, threads, &mut out);
     }
     if started > 0 {
-        tell_forever(rt, recorder.shared, &mut out);
+        tell_forever(rt, recorder.shared, &entrance.room, &mut out);
     }
     Status::Failed
 }
 
-// Accepts a connection, serves it, and goes on with the next one.
+// Accepts a connection, records its session, and goes on with the next one.
 fn accept_forever<
     S: Source + Drop,
     F: RecordingFiles,
@@ -112,25 +142,60 @@ fn accept_forever<
     P: SessionPlace<F, C>,
     E: Write + Copy + Drop,
     R: Clock + Wait,
->(rt: &R, recorder: &ConnectionRecorder<L, P>, err: E) {
+>(rt: &R, recorder: &ConnectionRecorder<L, P>, entrance: &Entrance, err: E) {
     let mut out = WholeLines::new(err);
     for _ in rt.forever() {
-        match recorder.listener.next_connection() {
-            // At the end the connection is closed.
-            Ok(mut connection) => {
-                // (a line that can't be written stops nothing)
-                let _ = serve(rt, recorder, &mut connection, &mut out);
-            }
-            // No descriptor is free, or the connection has gone: wait, and go on.
-            Err(_) => {
-                recorder.shared.lock(rt).count_not_accepted();
-                thread::sleep(rt, Duration::from_millis(PAUSE));
+        // At the end the connection is closed.
+        if let Some(mut connection) = accept(rt, recorder, &entrance.turn) {
+            let session = admit(rt, recorder, &entrance.room, connection.peer);
+            let is_served = session.is_some();
+            // (a line that can't be written stops nothing)
+            let _ = serve(recorder, &mut connection, session, &mut out);
+            if is_served {
+                entrance.room.lock(rt).end();
             }
         }
     }
 }
 
-// Records the session of a connection, if its peer may send; of any other nothing is read and nothing written here.
+// Accepts a connection when it is this thread's turn. If none can be accepted that is counted, and it waits a moment.
+fn accept<S: Source, L: ConnectionSource<S>, P, R: Clock + Wait>(
+    rt: &R,
+    recorder: &ConnectionRecorder<L, P>,
+    turn: &Mutex<()>,
+) -> Option<Connection<S>> {
+    let _turn = turn.lock(rt);
+    match recorder.listener.next_connection() {
+        Ok(connection) => Some(connection),
+        // No descriptor is free, or the connection has gone.
+        Err(_) => {
+            recorder.shared.lock(rt).count_not_accepted();
+            thread::sleep(rt, Duration::from_millis(PAUSE));
+            None
+        }
+    }
+}
+
+// The number of a peer's session, if the peer may send and a session is free; otherwise the peer is counted.
+fn admit<L, P, R: Wait>(
+    rt: &R,
+    recorder: &ConnectionRecorder<L, P>,
+    room: &Mutex<SessionRoom>,
+    peer: SocketAddr,
+) -> Option<SessionNumber>
+    ensures may_send { IsSome result → MaySend recorder.now.filter.now peer }
+    ensures next { IfSome result (λ session. (counts : SharedCounts)
+        × (session.number ≡ one_more counts.sessions)) }
+{
+    let may_send = recorder.filter.lets_in(peer.ip());
+    if may_send && !room.lock(rt).begin(peer) {
+        return None;
+    }
+    recorder.shared.lock(rt).admit(recorder.filter, peer)
+}
+
+// Records the session of a connection that has this number, with a line at its beginning and its end if more is asked for; of
+// one that has none nothing is read and nothing written here.
 fn serve<
     S: Source,
     F: RecordingFiles,
@@ -138,39 +203,68 @@ fn serve<
     L,
     P: SessionPlace<F, C>,
     W: WriteLines,
-    R: Wait,
 >(
-    rt: &R,
     recorder: &ConnectionRecorder<L, P>,
     connection: &mut Connection<S>,
+    session: Option<SessionNumber>,
     out: &mut W,
 ) -> io::Result<()>
-    ensures unread { ¬ MaySend recorder.now.filter.now connection.old.peer
-        → connection.new ≡ connection.old }
-    ensures untold { ¬ MaySend recorder.now.filter.now connection.old.peer → out.new ≡ out.old }
-    ensures served { MaySend recorder.now.filter.now connection.old.peer
-        → IsServedNext S.seen F.seen C.asked F.finishes (P.makes recorder.now.place)
-        connection.old connection.new (Tells W.contents W.failed out.old out.new result) }
+    ensures unread { session ≡ None → connection.new ≡ connection.old }
+    ensures untold { session ≡ None → out.new ≡ out.old }
+    ensures served { IfSome session (λ session. IsServed S.seen F.seen C.asked F.finishes
+        (P.makes recorder.now.place) connection.old connection.new session.number
+        (λ lines. Tells W.contents W.failed out.old out.new result
+        (with_ends recorder.now.verbosity connection.old.peer lines))) }
 {
-    let admitted = recorder
-        .shared
-        .lock(rt)
-        .admit(recorder.filter, connection.peer);
-    match admitted {
-        Some(number) => {
-            record_connection(recorder.alloc, connection, number, &recorder.place, out)
-        }
+    match session {
+        Some(number) => serve_session(recorder, connection, number, out),
         None => Ok(()),
     }
 }
 
-// Tells once a second which peers were refused, and how often none could be accepted, if that was so.
-fn tell_forever<W: WriteLines, R: Clock + Wait>(rt: &R, shared: &Mutex<SharedCounts>, out: &mut W) {
+fn serve_session<
+    S: Source,
+    F: RecordingFiles,
+    C: PeriodClock + Drop,
+    L,
+    P: SessionPlace<F, C>,
+    W: WriteLines,
+>(
+    recorder: &ConnectionRecorder<L, P>,
+    connection: &mut Connection<S>,
+    number: SessionNumber,
+    out: &mut W,
+) -> io::Result<()>
+    ensures { IsServed S.seen F.seen C.asked F.finishes (P.makes recorder.now.place)
+        connection.old connection.new number.number
+        (λ lines. Tells W.contents W.failed out.old out.new result
+        (with_ends recorder.now.verbosity connection.old.peer lines)) }
+{
+    let peer = connection.peer;
+    let told = write_connected(recorder.verbosity, peer, out);
+    let told = told.and(record_connection(
+        recorder.alloc,
+        connection,
+        number,
+        &recorder.place,
+        out,
+    ));
+    told.and(write_ended(recorder.verbosity, peer, out))
+}
+
+// Tells once a second which peers have no session, and how often none could be accepted, if that was so.
+fn tell_forever<W: WriteLines, R: Clock + Wait>(
+    rt: &R,
+    shared: &Mutex<SharedCounts>,
+    room: &Mutex<SessionRoom>,
+    out: &mut W,
+) {
     for _ in rt.forever() {
         thread::sleep(rt, Duration::from_secs(BETWEEN_LINES));
         let refused = shared.lock(rt).take_refused();
+        let turned_away = room.lock(rt).take_turned_away();
         let not_accepted = shared.lock(rt).take_not_accepted();
         // (a line that can't be written stops nothing)
-        let _ = write_unserved(refused, not_accepted, out);
+        let _ = write_unserved(refused, turned_away, not_accepted, out);
     }
 }

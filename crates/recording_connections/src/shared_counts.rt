@@ -1,6 +1,6 @@
 //! What the threads of a recording share.
 
-ghost use Rattle.std.specs.Prelude.{◌≡◌, Some, None};
+ghost use Rattle.std.specs.Prelude.{◌≡◌, IfSome, Some, None};
 ghost use Rattle.ipfix_session.specs.Sources.{one_more};
 ghost use Rattle.recording_connections.specs.Refusals.{IsAdmitted, IsTurnedAway, MaySend, one_more_refused, refused_count};
 
@@ -72,6 +72,7 @@ impl SharedCounts {
     pub fn admit(&mut self, filter: &PeerFilter, peer: SocketAddr) -> Option<SessionNumber>
         ensures admitted { MaySend filter.now peer → IsAdmitted self.old result self.new }
         ensures refused { ¬ MaySend filter.now peer → IsTurnedAway self.old peer result self.new }
+        ensures next { IfSome result (λ session. session.number ≡ one_more self.old.sessions) }
     {
         if filter.lets_in(peer.ip()) {
             Some(self.next_session())
@@ -87,10 +88,7 @@ impl SharedCounts {
         ensures sessions { self.new.sessions ≡ self.old.sessions }
         ensures not_accepted { self.new.not_accepted ≡ self.old.not_accepted }
     {
-        self.refused = Some(RefusedPeers {
-            count: count_of(self.refused).saturating_add(1),
-            last: peer,
-        });
+        self.refused = Some(one_more_peer(self.refused, peer));
     }
 
     /// The peers that were refused since this was asked last, which are told now.
@@ -120,6 +118,16 @@ impl SharedCounts {
         ensures refused { self.new.refused ≡ self.old.refused }
     {
         mem::take(&mut self.not_accepted)
+    }
+}
+
+// One more, which is the last.
+pub(crate) fn one_more_peer(refused: Option<RefusedPeers>, peer: SocketAddr) -> RefusedPeers
+    ensures { result ≡ one_more_refused refused peer }
+{
+    RefusedPeers {
+        count: count_of(refused).saturating_add(1),
+        last: peer,
     }
 }
 

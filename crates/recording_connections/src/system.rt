@@ -2,12 +2,14 @@
 
 ghost use Rattle.std.specs.Prelude.{◌≡◌, IfOk};
 ghost use Rattle.std.specs.Arc.{arc_value};
+ghost use Rattle.std.specs.Duration.{as_nanos};
 ghost use Rattle.std.specs.Int.NonZero.{non_zero_u64_get};
 ghost use Rattle.recording_folder.specs.EndedFiles.{EndsLast};
 ghost use Rattle.recording_folder.specs.SessionNames.{IsNamed};
 ghost use Rattle.recording_folder.specs.declared.transport.Transport.TheVariants.{Connection};
 
 use crate::connection::PatientListener;
+use crate::patient_reader::SilenceLimits;
 use crate::place::{Recording, RecordingFiles, SessionPlace};
 use crate::recorder_run::RecorderRun;
 use crate::running::{ConnectionRecorder, record_connections};
@@ -25,6 +27,10 @@ use std::net::{SocketAddr, TcpListener};
 use std::rt::Clock;
 use std::sync::Wait;
 use std::thread::Threads;
+use std::time::Duration;
+
+/// How many seconds it may take until a connection has brought a whole message.
+const FIRST_MESSAGE: u64 = 60;
 
 impl<'a, R: Files, K: FileFinisher<R::File>> RecordingFiles for SessionFiles<'a, R, K> {
     ghost finishes = { λ files last result.
@@ -126,17 +132,22 @@ fn recorder_of<'a, E: Write + Copy + Drop, R>(
     listener: TcpListener,
     err: E,
 ) -> ConnectionRecorder<'a, PatientListener<'a, HostRuntime>, ConnectionFolder<'a, HostRuntime, E>>
-    ensures idle { result.listener.idle ≡ run.entry.order.now.idle }
+    ensures idle { result.listener.silence.idle ≡ run.entry.order.now.idle }
+    ensures first_message { as_nanos result.listener.silence.first_message ≡ 60000000000 }
     ensures every { result.place.place.every ≡ non_zero_u64_get run.entry.order.now.every }
     ensures filter { result.filter.now ≡ run.entry.order.now.filter }
     ensures sessions { result.sessions ≡ run.entry.order.now.sessions }
+    ensures verbosity { result.verbosity ≡ run.entry.order.now.verbosity }
 {
     ConnectionRecorder {
         alloc: run.alloc,
         listener: PatientListener {
             listener,
             clock: run.rt,
-            idle: run.order.idle,
+            silence: SilenceLimits {
+                idle: run.order.idle,
+                first_message: Duration::from_secs(FIRST_MESSAGE),
+            },
         },
         place: ConnectionFolder {
             place: SystemPlace::new(run.rt, run.folder, run.order.every.get()),
@@ -144,6 +155,7 @@ fn recorder_of<'a, E: Write + Copy + Drop, R>(
         },
         filter: &run.order.filter,
         sessions: run.order.sessions,
+        verbosity: run.order.verbosity,
         shared: run.shared,
     }
 }

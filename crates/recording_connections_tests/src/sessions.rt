@@ -6,7 +6,7 @@ use network_prefixes::PeerFilter;
 use recording_connections::{
     Connection, ConnectionRecorder, SharedCounts, record_connection, record_connections,
 };
-use report_writing::Status;
+use report_writing::{NOTHING_MORE, Status};
 use std::alloc::Global;
 use std::io;
 use std::net::{IpAddr, Ipv4Addr, SocketAddr};
@@ -113,6 +113,7 @@ fn no_threads(rt: HostRuntime) -> Result<(), Fail> {
         place: PLACE,
         filter: &filter,
         sessions: 0,
+        verbosity: NOTHING_MORE,
         shared: &Mutex::new(SharedCounts::new()),
     };
     let status = record_connections(&rt, &recorder, rt.stderr());

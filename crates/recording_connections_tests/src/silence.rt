@@ -1,7 +1,7 @@
 //! Connections that say nothing for a while.
 
 use ipfix_session::{ReadError, Source};
-use recording_connections::PatientReader;
+use recording_connections::{PatientReader, SilenceLimits};
 use std::io::{self, ErrorKind, Read};
 use std::test::*;
 use std::time::Duration;
@@ -57,11 +57,31 @@ fn ticks_and_failures(rt: HostRuntime) -> Result<(), Fail> {
             kinds: &kinds,
             reads: 0,
         };
-        let mut source = PatientReader::new(&rt, reader, idle);
+        let silence = SilenceLimits {
+            idle,
+            first_message: Duration::from_secs(3600),
+        };
+        let mut source = PatientReader::new(&rt, reader, silence);
         let mut buffer = [0; 4];
         for answer in answers {
             assert!(rt; source.read(&mut buffer) == answer);
         }
     }
+    Ok(())
+}
+
+// A connection whose first message is not whole in time fails, though octets come.
+#[test]
+fn no_message_in_time(rt: HostRuntime) -> Result<(), Fail> {
+    let reader = Halting {
+        kinds: &[],
+        reads: 0,
+    };
+    let silence = SilenceLimits {
+        idle: None,
+        first_message: Duration::from_secs(0),
+    };
+    let mut source = PatientReader::new(&rt, reader, silence);
+    assert!(rt; source.read(&mut [0; 4]) == Err(ReadError::Failed));
     Ok(())
 }

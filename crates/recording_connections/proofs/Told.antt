@@ -1,0 +1,61 @@
+-- Lines that are told one after another, and a session whose lines stand between others.
+use Rattle.std.proofs.Common.{◌≡◌, ℕ, List, ◌++◌, Option, Some, None, Result, Ok, Err, inl, inr, sym, subst}
+use Rattle.std.proofs.KnownBytes.{Appends-trans}
+use Rattle.std.specs.Prelude.{IfSome}
+use Rattle.std.specs.Result.{result_and}
+use Rattle.std.specs.declared.alloc.AllocError.{AllocError}
+use Rattle.std.specs.declared.net.socket_addr.SocketAddr.{SocketAddr}
+use Rattle.ipfix_session.specs.Sources.{SourceView, one_more}
+use Rattle.recording_files.specs.Files.{FilesView}
+use Rattle.recording_files.specs.Periods.{ClockView}
+use Rattle.recording_files.specs.declared.file_report.FileReport.{FileReport}
+use Rattle.recording_files.specs.declared.file_series.NotWritten.{NotWritten}
+use Rattle.report_writing.specs.Writing.{Tells}
+use Rattle.recording_connections.specs.Serving.{IsServed}
+use Rattle.recording_connections.specs.declared.connection.Connection.{Connection}
+use Rattle.recording_connections.specs.declared.place.Recording.{Recording}
+use Rattle.recording_connections.specs.declared.shared_counts.SessionNumber.{SessionNumber}
+use Rattle.recording_connections.specs.declared.shared_counts.SharedCounts.{SharedCounts}
+
+-- the counts before a session are some counts
+pub next-of : (before : SharedCounts) (session : Option SessionNumber) → IfSome session (λ s. s.number ≡ one_more before.sessions) → IfSome session (λ s. (counts : SharedCounts) × (s.number ≡ one_more counts.sessions))
+next-of before None next = next
+next-of before (Some s) next = (before, next)
+
+module _ {W A E : Type 0} (contents : W → Option (List ℕ)) (failed : W → Type 0) (old mid new : W) (xs ys : List ℕ) where
+  both-told : (first second : Result A E) → Tells contents failed old mid first xs → Tells contents failed mid new second ys → Tells contents failed old new (result_and first second) (xs ++ ys)
+  both-told (Ok a) (Ok b) one two = record {
+    told = Appends-trans (contents old) (contents mid) (contents new) xs ys one.told two.told;
+    failed = two.failed;
+    kept = λ had. two.kept (one.kept had);
+  }
+  both-told (Ok a) (Err e) one two = record {
+    told = two.told;
+    failed = two.failed;
+    kept = λ had. two.kept (one.kept had);
+  }
+  both-told (Err e) second one two = record {
+    told = one.told;
+    failed = two.kept one.failed;
+    kept = λ had. two.kept (one.kept had);
+  }
+
+  pub told-and : (first second result : Result A E) → result ≡ result_and first second → Tells contents failed old mid first xs → Tells contents failed mid new second ys → Tells contents failed old new result (xs ++ ys)
+  told-and first second result is one two = subst (λ (r : Result A E). Tells contents failed old new r (xs ++ ys)) (sym is) (both-told first second one two)
+
+module _ {S F C : Type 0} (seen : S → SourceView) (view : F → FilesView) (asked : C → ClockView) (finishes : F → FileReport → Result (Unit {0}) NotWritten → Type 0) (makes : SocketAddr → ℕ → Result (Recording F C) AllocError → Type 0) where
+  pub served-told : (before after : Connection S) (number : ℕ) (tells tells' : List ℕ → Type 0) → ((lines : List ℕ) → tells lines → tells' lines) → IsServed seen view asked finishes makes before after number tells → IsServed seen view asked finishes makes before after number tells'
+  served-told before after number tells tells' more (inl (recording, made, was)) = inl (
+    recording,
+    made,
+    record {
+      session = was.session;
+      written = was.written;
+      asked_last = was.asked_last;
+      recorded = was.recorded;
+      finished = was.finished;
+      is_finished = was.is_finished;
+      told = more _ was.told;
+    },
+  )
+  served-told before after number tells tells' more (inr (lack, made, same, told)) = inr (lack, made, same, more _ told)
