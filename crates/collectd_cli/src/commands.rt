@@ -7,10 +7,9 @@ use cli_inputs::{
     TcpArguments, buffered_output, check_paths, listen_on, load_table_plan, prepare_collecting,
     progress_writer, table_output, write_refused_output,
 };
-use command_collect::{CollectJob, Connections, run_files_with, run_tcp_with, write_limit};
+use command_collect::{CollectJob, Connections, Engine, run_files_with, run_tcp_with, write_limit};
 use command_dump::{DumpJob, run_dump_with, write_dump_fault};
 use command_merge::{MergeJob, run_merge_with};
-use flow_collect::Pool;
 use input_sources::{LoadedPlan, SystemFiles, SystemListener};
 use ipfix_dump::DumpFault;
 use ipfix_session::FromReader;
@@ -58,6 +57,7 @@ pub fn files<R: Clock + Threads + Wait + Sync>(
 ) -> Result<Status, Status> {
     let mut err = rt.stderr();
     let FilesArguments { collect, paths } = *arguments;
+    let engine = Engine::Links(collect.pool);
     check_paths(paths, &mut err)?;
     let Collecting {
         loaded,
@@ -70,14 +70,14 @@ pub fn files<R: Clock + Threads + Wait + Sync>(
         rt.alloc(),
         &mut files,
         paths,
-        &collect_job(&loaded, &collect),
+        &collect_job(&loaded, &collect, engine),
         progress_writer(collect.progress, &terminal, rt),
         &mut out,
         &mut CheckedWriter::new(rt.stderr()),
     );
     let verbosity = collect.table.verbosity;
     write_refused_output(verbosity, &out, &mut err);
-    write_refused_pool(status, verbosity, collect.pool, paths.len(), &mut err);
+    write_refused_engine(status, verbosity, engine, paths.len(), &mut err);
     Ok(status)
 }
 
@@ -102,6 +102,7 @@ pub fn tcp<R: Clock + Threads + Wait + Sync>(
     let verbosity = collect.table.verbosity;
     let listener = listen_on(rt, addr, verbosity, &mut err)?;
     let mut listening = SystemListener::new(listener);
+    let engine = Engine::Links(collect.pool);
     let connections = Connections {
         address: addr,
         count: sessions,
@@ -112,13 +113,13 @@ pub fn tcp<R: Clock + Threads + Wait + Sync>(
         rt.alloc(),
         &mut listening,
         &connections,
-        &collect_job(&loaded, &collect),
+        &collect_job(&loaded, &collect, engine),
         progress_writer(collect.progress, &terminal, rt),
         &mut out,
         &mut CheckedWriter::new(rt.stderr()),
     );
     write_refused_output(verbosity, &out, &mut err);
-    write_refused_pool(status, verbosity, collect.pool, sessions, &mut err);
+    write_refused_engine(status, verbosity, engine, sessions, &mut err);
     Ok(status)
 }
 
@@ -159,35 +160,39 @@ fn merge_job<'a>(loaded: &'a LoadedPlan, table: &TableArguments) -> MergeJob<'a>
     }
 }
 
-// What a run is to do with what it collects.
-fn collect_job<'a>(loaded: &'a LoadedPlan, collect: &CollectArguments) -> CollectJob<'a>
+// What a run is to do with what this engine collects.
+fn collect_job<'a>(
+    loaded: &'a LoadedPlan,
+    collect: &CollectArguments,
+    engine: Engine,
+) -> CollectJob<'a>
     // It names the plan's keys and counters by the elements that the plan was read with.
     ensures names { result.elements.now ≡ loaded.now.elements }
     ensures plan { result.plan.now ≡ loaded.now.plan }
     // The rest is as the command is told.
-    ensures pool { result.pool ≡ collect.now.pool }
+    ensures engine { result.engine ≡ engine }
     ensures output { result.output ≡ collect.now.table.output }
     ensures verbosity { result.verbosity ≡ collect.now.table.verbosity }
 {
     CollectJob {
         elements: &loaded.elements,
         plan: &loaded.plan,
-        pool: collect.pool,
+        engine,
         output: collect.table.output,
         verbosity: collect.table.verbosity,
     }
 }
 
-// What a pool and that many sessions may be, if the run failed by them: `err` has a
+// What an engine and that many sessions may be, if the run failed by them: `err` has a
 // line if `verbosity` is verbose.
-fn write_refused_pool(
+fn write_refused_engine(
     status: Status,
     verbosity: Verbosity,
-    pool: Pool,
+    engine: Engine,
     sessions: usize,
     err: &mut Stderr,
 ) {
     if status == Status::Failed {
-        let _ = write_limit(verbosity, pool, sessions, err);
+        let _ = write_limit(verbosity, engine, sessions, err);
     }
 }

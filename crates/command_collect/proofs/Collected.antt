@@ -3,7 +3,6 @@ use Rattle.std.proofs.Common.{◌≡◌, ℕ, List, [], ◌++◌, All, Option, i
 use Rattle.std.proofs.lemmas.Option.{IfSome_then}
 use Rattle.std.specs.declared.io.ErrorKind.{ErrorKind}
 use Rattle.ipfix_session.specs.Sources.{SourceView}
-use Rattle.flow_collect.specs.Refusals.{fault_of_arguments}
 use Rattle.report_writing.specs.declared.origin.Origin.{Origin}
 use Rattle.report_writing.specs.declared.verbosity.TheConstants.{NOTHING_MORE}
 use Rattle.report_writing.proofs.Ended.{never_two, one_of_four}
@@ -11,6 +10,7 @@ use Rattle.input_sources.specs.Had.{IsUnread}
 use Rattle.input_sources.specs.InputsTold.{opened_lines}
 use Rattle.output_tables.proofs.BuiltIn.{written_built_in}
 use Rattle.command_collect.specs.Collects.{Collects, CollectsJob, CollectsPlainly}
+use Rattle.command_collect.specs.Engines.{due_fault}
 use Rattle.command_collect.specs.Runs.{RunsJob, RunsPlainly}
 use Rattle.command_collect.specs.declared.job.CollectJob.{CollectJob}
 use Rattle.command_collect.proofs.LinesTold.{behind_nothing, fault_told, is_strict, plain_lines}
@@ -28,22 +28,22 @@ module _ {S W : Type 0} (seen : S → SourceView) (failure : S → Option ErrorK
   retold Told AreTold sources origins otherwise r =
       record {
         statuses = r.statuses;
-        table = λ ran. ends_so seen job.verbosity.strict job.plan.now job.pool status _ _ sources (λ c ends. (ends.0, record { ended = ends.1.ended; are_ended = ends.1.are_ended; told = otherwise _ ends.1.told })) (r.table ran);
+        table = λ ran. ends_so seen job.verbosity.strict job.plan.now job.engine status _ _ sources (λ c ends. (ends.0, record { ended = ends.1.ended; are_ended = ends.1.are_ended; told = otherwise _ ends.1.told })) (r.table ran);
         failed = λ three. fault_told (new ≡ old) _ _ _ _ Told AreTold (λ fault is. is) (λ fault is. is) otherwise (r.failed three);
-        refused = IfSome_then (fault_of_arguments job.pool (length sources)) r.refused (λ fault refused. (refused.0, refused.1, otherwise _ refused.2));
+        refused = IfSome_then (due_fault job.engine (length sources)) r.refused (λ fault refused. (refused.0, refused.1, otherwise _ refused.2));
       }
 
   -- a run that has no options
   pub runs_plainly : (AreTold : List ℕ → Type 0) (sources : List S) (origins : List Origin) → job.elements.now ≡ [] → job.verbosity ≡ NOTHING_MORE → RunsJob contents old new AreTold seen failure sources job origins status
-      → RunsPlainly contents old new AreTold seen sources job.plan.now job.pool job.output status
+      → RunsPlainly contents old new AreTold seen sources job.plan.now job.engine job.output status
   runs_plainly AreTold sources origins no_files plain r =
       record {
         statuses = r.statuses;
         table = λ ran.
-            table_short seen job.verbosity.strict job.plan.now job.pool status _ _ (is_strict job plain)
+            table_short seen job.verbosity.strict job.plan.now job.engine status _ _ (is_strict job plain)
             (λ c ends. (written_built_in job.elements.now job.plan.now job.output _ _ c.table no_files ends.0, subst AreTold (plain_lines job plain origins c.sessions.items c.table ends.1.ended ends.1.are_ended.reports) ends.1.told)) sources (r.table ran);
         failed = λ three.
-            fault_told (new ≡ old) _ _ _ _ AreTold AreTold (λ fault is. is) (not_exported_short seen job.verbosity.strict job.plan.now job.pool status job.output (new ≡ old) sources) (λ lines told. told) (r.failed three);
+            fault_told (new ≡ old) _ _ _ _ AreTold AreTold (λ fault is. is) (not_exported_short seen job.verbosity.strict job.plan.now job.engine status job.output (new ≡ old) sources) (λ lines told. told) (r.failed three);
         refused = r.refused;
       }
 
@@ -73,7 +73,7 @@ module _ {S W : Type 0} (seen : S → SourceView) (failure : S → Option ErrorK
         }
 
     -- where nothing more is told
-    pub collects_plainly : job.elements.now ≡ [] → job.verbosity ≡ NOTHING_MORE → first ≡ [] → EndsJob → CollectsPlainly seen AreHad TellsNotHad contents old new AreTold status job.plan.now job.pool job.output
+    pub collects_plainly : job.elements.now ≡ [] → job.verbosity ≡ NOTHING_MORE → first ≡ [] → EndsJob → CollectsPlainly seen AreHad TellsNotHad contents old new AreTold status job.plan.now job.engine job.output
     collects_plainly no_files plain none ends =
         record {
           statuses = ends.statuses;

@@ -5,20 +5,25 @@ use Rattle.std.specs.Option.{ForSome}
 use Rattle.ipfix_message.specs.declared.record.DataRecord.{DataRecord}
 use Rattle.ipfix_session.specs.Sources.{SourceView}
 use Rattle.flow_table.specs.Plans.{PlanValue}
-use Rattle.flow_collect.specs.Headline.{Answer, HeadlineWith, IsAddedUp, IsGivenBy}
-use Rattle.flow_collect.specs.InFull.{FullAnswer, FullHeadline, IsGivenInFull, reports_in}
-use Rattle.flow_collect.specs.declared.collected.Pool.{Pool}
+use Rattle.flow_collect.specs.Headline.{IsAddedUp, IsGivenBy, SerialAnswer}
+use Rattle.flow_collect.specs.InFull.{FullSerialAnswer, FullSerialHeadline, IsGivenInFull, reports_in}
 use Rattle.flow_collect.proofs.GivenLists.{first_each, all_whole, whole_records, whole_clean}
-use Rattle.flow_collect.proofs.InFull.{given_short, short_run}
+use Rattle.flow_collect.proofs.InFull.{given_short, short_sessions}
 use Rattle.flow_export.specs.declared.fault.ExportFault.{ExportFault}
 use Rattle.output_tables.specs.declared.output.Output.{Output}
+use Rattle.command_collect.specs.Engines.{CollectsBy}
 use Rattle.command_collect.specs.Runs.{AddsUpWhole, HaveNoFault, IsNotExported, WentWell, WritesTable}
+use Rattle.command_collect.specs.declared.engine.Engine.{Engine}
 use Rattle.command_collect.proofs.WentWell.{NoFault, no_fault_short, well_plainly}
 
+-- the same run, with reports that aren't in full
+abbrev pub short_run : {S : Type 0} → FullSerialAnswer S → SerialAnswer S
+short_run c = record { sessions = short_sessions c.sessions; sources = c.sources; table = c.table }
+
 module _ {S : Type 0} (seen : S → SourceView) where
-  pub adds_up_whole : ((s : S) → (seen s).ended ≡ true → ForSome (seen s).text (λ xs. xs ≡ [])) → (c : FullAnswer S) (sources : List S) (plan : PlanValue) (pool : Pool)
-      → FullHeadline seen sources plan pool c → All NoFault c.sessions.items → AddsUpWhole seen sources plan c.table
-  adds_up_whole at_end c sources plan pool h none = λ texts t.
+  pub adds_up_whole : ((s : S) → (seen s).ended ≡ true → ForSome (seen s).text (λ xs. xs ≡ [])) → (c : FullSerialAnswer S) (sources : List S) (plan : PlanValue)
+      → FullSerialHeadline seen sources plan c → All NoFault c.sessions.items → AddsUpWhole seen sources plan c.table
+  adds_up_whole at_end c sources plan h none = λ texts t.
       let given = given_short seen sources c.sources.items c.sessions.items h.records h.given in
       let whole = all_whole seen at_end sources c.sources.items (reports_in c.sessions.items) h.records texts given t (no_fault_short c.sessions.items none) in
       record {
@@ -26,46 +31,47 @@ module _ {S : Type 0} (seen : S → SourceView) where
         added_up = subst (λ (rs : List DataRecord). IsAddedUp plan rs c.table) (whole_records h.records texts whole) h.added_up;
       }
 
-  module _ (strict : Bool) (plan : PlanValue) (pool : Pool) (status : ℕ) where
-    abbrev pub Full : (FullAnswer S → Type 0) → List S → Type 0
-    Full Ends sources = WritesTable seen (IsGivenInFull seen) (WentWell strict) plan pool status Ends sources
+  module _ (strict : Bool) (plan : PlanValue) (engine : Engine) (status : ℕ) where
+    abbrev pub Full : (FullSerialAnswer S → Type 0) → List S → Type 0
+    Full Ends sources = WritesTable seen (IsGivenInFull seen) (WentWell strict) plan engine status Ends sources
 
-    pub writes_table : (Ends : FullAnswer S → Type 0) (sources : List S) (c : FullAnswer S)
-        → FullHeadline seen sources plan pool c → ((status ≡ 0) ↔ WentWell strict c.sessions.items c.table) → (status ≡ 0 → AddsUpWhole seen sources plan c.table) → Ends c
+    pub writes_table : (Ends : FullSerialAnswer S → Type 0) (sources : List S) (c : FullSerialAnswer S)
+        → CollectsBy engine (IsGivenInFull seen) sources plan c → ((status ≡ 0) ↔ WentWell strict c.sessions.items c.table) → (status ≡ 0 → AddsUpWhole seen sources plan c.table) → Ends c
         → Full Ends sources
     writes_table Ends sources c h status_is whole ends =
         record {
           collected = c;
-          headline = h;
-          first = λ texts t. first_each seen sources c.sources.items (reports_in c.sessions.items) h.records texts (given_short seen sources c.sources.items c.sessions.items h.records h.given) t;
+          collects = h;
+          first = λ texts t. first_each seen sources c.sources.items (reports_in c.sessions.items) h.headline.records texts (given_short seen sources c.sources.items c.sessions.items h.headline.records h.headline.given) t;
           status_is = status_is;
           whole = whole;
           ends = ends;
         }
 
     -- the same, where more is said of how it ended
-    pub ends_so : (Ends All_ends : FullAnswer S → Type 0) (sources : List S) → ((c : FullAnswer S) → Ends c → All_ends c) → Full Ends sources → Full All_ends sources
+    pub ends_so : (Ends All_ends : FullSerialAnswer S → Type 0) (sources : List S) → ((c : FullSerialAnswer S) → Ends c → All_ends c) → Full Ends sources → Full All_ends sources
     ends_so Ends All_ends sources all w =
-        record { collected = w.collected; headline = w.headline; first = w.first; status_is = w.status_is; whole = w.whole; ends = all w.collected w.ends }
+        record { collected = w.collected; collects = w.collects; first = w.first; status_is = w.status_is; whole = w.whole; ends = all w.collected w.ends }
 
     -- ---- without the rest
 
-    headline_short : (sources : List S) (c : FullAnswer S) → FullHeadline seen sources plan pool c → HeadlineWith (IsGivenBy seen) sources plan pool (short_run c)
-    headline_short sources c h =
-        record { records = h.records; received = h.received; given = given_short seen sources c.sources.items c.sessions.items h.records h.given; added_up = h.added_up }
+    collects_short : (sources : List S) (c : FullSerialAnswer S) → CollectsBy engine (IsGivenInFull seen) sources plan c → CollectsBy engine (IsGivenBy seen) sources plan (short_run c)
+    collects_short sources c b =
+        let h = b.headline in
+        record { headline = record { records = h.records; given = given_short seen sources c.sources.items c.sessions.items h.records h.given; added_up = h.added_up }; came = b.came }
 
     pub not_exported_short : (output : Output) (IsUntouched : Type 0) (sources : List S) (fault : ExportFault)
-        → IsNotExported seen (IsGivenInFull seen) plan pool output IsUntouched sources fault → IsNotExported seen (IsGivenBy seen) plan pool output IsUntouched sources fault
+        → IsNotExported seen (IsGivenInFull seen) plan engine output IsUntouched sources fault → IsNotExported seen (IsGivenBy seen) plan engine output IsUntouched sources fault
     not_exported_short output IsUntouched sources fault n =
-        record { collected = short_run n.collected; headline = headline_short sources n.collected n.headline; not_written = n.not_written }
+        record { collected = short_run n.collected; collects = collects_short sources n.collected n.collects; not_written = n.not_written }
 
-    pub table_short : (Ends : FullAnswer S → Type 0) (Short : Answer S → Type 0) → strict ≡ false → ((c : FullAnswer S) → Ends c → Short (short_run c))
-        → (sources : List S) → Full Ends sources → WritesTable seen (IsGivenBy seen) HaveNoFault plan pool status Short sources
-    unfolding headline_short
+    pub table_short : (Ends : FullSerialAnswer S → Type 0) (Short : SerialAnswer S → Type 0) → strict ≡ false → ((c : FullSerialAnswer S) → Ends c → Short (short_run c))
+        → (sources : List S) → Full Ends sources → WritesTable seen (IsGivenBy seen) HaveNoFault plan engine status Short sources
+    unfolding collects_short
     table_short Ends Short plain shorter sources w =
         record {
           collected = short_run w.collected;
-          headline = headline_short sources w.collected w.headline;
+          collects = collects_short sources w.collected w.collects;
           first = w.first;
           status_is = well_plainly status strict w.collected.sessions.items w.collected.table plain w.status_is;
           whole = w.whole;

@@ -1,16 +1,18 @@
--- Arguments and pools that have a fault.
-use Rattle.std.proofs.Common.{◌≡◌, ℕ, Bool, true, false, Option, Some, None, Result, Ok, Err, length, refl, sym, ap, ◌∙◌, subst}
+-- Arguments and engines that have a fault.
+use Rattle.std.proofs.Common.{◌≡◌, ℕ, Bool, true, false, List, Option, Some, None, Result, Ok, Err, length, refl, sym, ap, ◌∙◌, subst}
 use Rattle.std.proofs.lemmas.Option.{IfSome_then}
 use Rattle.std.specs.Prelude.{◌||◌, is_some, if◌then◌else◌, ◌==◌, nat_lt, IfSome, IfNone, Vec, vec_len}
 use Rattle.ipfix_session.specs.Sources.{SourceView}
 use Rattle.flow_table.specs.Plans.{PlanValue}
-use Rattle.flow_collect.specs.Refusals.{fault_of_arguments, HasFaults, IsLate}
-use Rattle.flow_collect.specs.declared.collected.Pool.{Pool}
+use Rattle.flow_collect.specs.Refusals.{HasFaultsOf, IsLate}
 use Rattle.flow_collect.specs.declared.fault.CollectFault.{CollectFault}
 use Rattle.flow_collect.specs.declared.fault.CollectFault.TheVariants.{Workers, Sessions, Link}
 use Rattle.flow_collect.specs.declared.collected.TheConstants.{MAX_WORKERS, MAX_SESSIONS}
 use Rattle.flow_link.specs.declared.making.TheConstants.{MAX_CAPACITY}
+use Rattle.command_collect.specs.Engines.{due_fault, fault_of_engine}
 use Rattle.command_collect.specs.Runs.{IsCollectFault}
+use Rattle.command_collect.specs.declared.engine.Engine.{Engine}
+use Rattle.command_collect.specs.declared.engine.Engine.TheVariants.{Links, Lots}
 
 faults_too : (workers sessions link : Bool) (w s l : CollectFault) → is_some (if workers then Some w else (if false then Some s else (if link then Some l else None))) ≡ true
     → is_some (if workers then Some w else (if sessions then Some s else (if link then Some l else None))) ≡ true
@@ -18,15 +20,17 @@ faults_too true sessions link w s l some = refl
 faults_too false true link w s l some = refl
 faults_too false false link w s l some = some
 
-pub still_refused : (pool : Pool) (n : ℕ) → is_some (fault_of_arguments pool 1) ≡ true → is_some (fault_of_arguments pool n) ≡ true
-still_refused pool n some =
+pub still_refused : (engine : Engine) (n : ℕ) → is_some (fault_of_engine engine) ≡ true → is_some (due_fault engine n) ≡ true
+still_refused (Links pool) n some =
     faults_too ((pool.workers == 0) || nat_lt MAX_WORKERS pool.workers) ((n == 0) || nat_lt MAX_SESSIONS n) ((pool.capacity == 0) || nat_lt MAX_CAPACITY pool.capacity) Workers Sessions Link some
+still_refused (Lots lots) n some =
+    faults_too ((lots == 0) || nat_lt MAX_WORKERS lots) (n == 0) false Workers Sessions Link some
 
 -- the same, of what was answered
-pub early_same : (pool : Pool) (n : ℕ) (first answer : Option CollectFault) (fault : CollectFault) → first ≡ Some fault → first ≡ fault_of_arguments pool 1 → answer ≡ fault_of_arguments pool n → is_some answer ≡ is_some (fault_of_arguments pool 1)
-early_same pool n first answer fault is one other =
-    let refused : is_some (fault_of_arguments pool 1) ≡ true = subst (λ (o : Option CollectFault). is_some o ≡ true) (sym is ∙ one) refl in
-    let still : is_some answer ≡ true = rw other (still_refused pool n refused) in
+pub early_same : (engine : Engine) (n : ℕ) (first answer : Option CollectFault) (fault : CollectFault) → first ≡ Some fault → first ≡ fault_of_engine engine → answer ≡ due_fault engine n → is_some answer ≡ is_some (fault_of_engine engine)
+early_same engine n first answer fault is one other =
+    let refused : is_some (fault_of_engine engine) ≡ true = subst (λ (o : Option CollectFault). is_some o ≡ true) (sym is ∙ one) refl in
+    let still : is_some answer ≡ true = rw other (still_refused engine n refused) in
     still ∙ sym refused
 
 pub shown : {X : Type 0} (o answer : Option X) → answer ≡ o → IfSome answer (λ x. o ≡ Some x)
@@ -53,12 +57,12 @@ not_if_none (Some x) P none = absurd (cc none)
 -- ---- what was answered
 
 -- the fault that was answered is the one that there is
-pub collect_fault : {S X Z : Type 0} (seen : S → SourceView) (sources : Vec S Z) (plan : PlanValue) (pool : Pool) (fault : CollectFault) → vec_len sources ≡ length sources.items
-    → HasFaults {X = X} seen sources plan pool (Err fault) → IsCollectFault seen sources.items plan pool fault
-collect_fault {X = X} seen sources plan pool fault same has =
+pub collect_fault : {S X Z : Type 0} (seen : S → SourceView) (sources : Vec S Z) (plan : PlanValue) (engine : Engine) (fault : CollectFault) → vec_len sources ≡ length sources.items
+    → HasFaultsOf {X = X} (due_fault engine (vec_len sources)) seen sources.items plan (Err fault) → IsCollectFault seen sources.items plan engine fault
+collect_fault {X = X} seen sources plan engine fault same has =
     record {
-      arguments = IfSome_then (fault_of_arguments pool (length sources.items)) (subst (λ (n : ℕ). IfSome (fault_of_arguments pool n) (λ due. ◌≡◌ {A = Result X CollectFault} (Err fault) (Err due))) same has.arguments) (λ due is. cc is);
-      others = subst (λ (n : ℕ). IfNone (fault_of_arguments pool n) (IsLate fault)) same has.others;
+      arguments = IfSome_then (due_fault engine (length sources.items)) (subst (λ (n : ℕ). IfSome (due_fault engine n) (λ due. ◌≡◌ {A = Result X CollectFault} (Err fault) (Err due))) same has.arguments) (λ due is. cc is);
+      others = subst (λ (n : ℕ). IfNone (due_fault engine n) (IsLate fault)) same has.others;
       too_large = λ is. has.too_large (ap Err is);
     }
 
@@ -67,7 +71,27 @@ pub refusal_told : (due : Option CollectFault) (fault : CollectFault) (Status Un
 refusal_told due fault Status Untouched Told is status untouched told = IfSome_then due is (λ x same. (status, untouched, subst Told same told))
 
 -- and there is none where none was answered
-pub not_refused : {S X Z : Type 0} (seen : S → SourceView) (sources : Vec S Z) (plan : PlanValue) (pool : Pool) (collected : X) (P : CollectFault → Type 0) → vec_len sources ≡ length sources.items
-    → HasFaults seen sources plan pool (Ok collected) → IfSome (fault_of_arguments pool (length sources.items)) P
-not_refused {X = X} seen sources plan pool collected P same has =
-    IfSome_then (fault_of_arguments pool (length sources.items)) (subst (λ (n : ℕ). IfSome (fault_of_arguments pool n) (λ due. ◌≡◌ {A = Result X CollectFault} (Ok collected) (Err due))) same has.arguments) (λ due is. absurd (cc is))
+pub not_refused : {S X Z : Type 0} (seen : S → SourceView) (sources : Vec S Z) (plan : PlanValue) (engine : Engine) (collected : X) (P : CollectFault → Type 0) → vec_len sources ≡ length sources.items
+    → HasFaultsOf (due_fault engine (vec_len sources)) seen sources.items plan (Ok collected) → IfSome (due_fault engine (length sources.items)) P
+not_refused {X = X} seen sources plan engine collected P same has =
+    IfSome_then (due_fault engine (length sources.items)) (subst (λ (n : ℕ). IfSome (due_fault engine n) (λ due. ◌≡◌ {A = Result X CollectFault} (Ok collected) (Err due))) same has.arguments) (λ due is. absurd (cc is))
+
+the_fault : {X : Type 0} {e f : CollectFault} → ◌≡◌ {A = Result X CollectFault} (Err e) (Err f) → e ≡ f
+the_fault is = cc is
+
+-- another answer of the same kind has the same faults
+pub faults_if_had : {S X Y : Type 0} (due : Option CollectFault) (seen : S → SourceView) (sources : List S) (plan : PlanValue) (x : X) (y : Y) → HasFaultsOf due seen sources plan (Ok x) → HasFaultsOf due seen sources plan (Ok y)
+faults_if_had {X = X} {Y = Y} due seen sources plan x y has =
+    record {
+      arguments = IfSome_then due has.arguments (λ fault is. absurd (cc is));
+      others = even_if_none due (Unit {0}) tt;
+      too_large = λ is. absurd (cc is);
+    }
+
+pub faults_if_not_had : {S X Y : Type 0} (due : Option CollectFault) (seen : S → SourceView) (sources : List S) (plan : PlanValue) (fault : CollectFault) → HasFaultsOf {X = X} due seen sources plan (Err fault) → HasFaultsOf {X = Y} due seen sources plan (Err fault)
+faults_if_not_had {X = X} {Y = Y} due seen sources plan fault has =
+    record {
+      arguments = IfSome_then due has.arguments (λ x is. ap Err (the_fault is));
+      others = has.others;
+      too_large = λ is. has.too_large (ap Err (the_fault is));
+    }

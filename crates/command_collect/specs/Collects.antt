@@ -13,16 +13,16 @@ use Rattle.report_writing.specs.declared.status.Status.TheVariants.{Well, Sessio
 use Rattle.report_writing.specs.declared.verbosity.TheConstants.{NOTHING_MORE}
 use Rattle.report_writing.specs.declared.verbosity.Verbosity.{Verbosity}
 use Rattle.flow_table.specs.Plans.{PlanValue}
-use Rattle.flow_collect.specs.Refusals.{fault_of_arguments}
-use Rattle.flow_collect.specs.declared.collected.Pool.{Pool}
 use Rattle.report_writing.specs.declared.origin.Origin.{Origin}
 use Rattle.report_writing.specs.declared.reason.Reason.{Reason}
 use Rattle.input_sources.specs.Had.{AreAccepted, PathsAreOpened}
 use Rattle.input_sources.specs.Origins.{AreFiles, ArePeers}
 use Rattle.output_tables.specs.declared.output.Output.{Output}
-use Rattle.command_collect.specs.Runs.{fault_of_pool, RunsJob, RunsPlainly, RunsSources}
+use Rattle.command_collect.specs.Runs.{RunsJob, RunsPlainly, RunsSources}
 use Rattle.command_collect.specs.CollectLines.{collect_fault_line}
+use Rattle.command_collect.specs.Engines.{due_fault, fault_of_engine}
 use Rattle.command_collect.specs.Told.{TellsBehind, TellsNotAccepted, TellsNotOpened}
+use Rattle.command_collect.specs.declared.engine.Engine.{Engine}
 use Rattle.command_collect.specs.declared.job.CollectJob.{CollectJob}
 use Rattle.command_collect.specs.declared.job.Connections.{Connections}
 
@@ -35,18 +35,18 @@ pub record Collects (status : ℕ) (IsUntouched Ran TellsNotHad : Type 0) : Type
   pub not_had : status ≡ number_of NotOpened → IsUntouched
   pub stopped : status ≡ number_of NotOpened → TellsNotHad
 
--- a pool that has a fault with however many sources is refused: the fault that it has with so many is told, and nothing is written
-abbrev pub RefusesPool : Pool → ℕ → ℕ → Type 0 → (List ℕ → Type 0) → Type 0
-RefusesPool pool count status IsUntouched AreTold =
-    IfSome (fault_of_pool pool) (λ any. (status ≡ number_of Failed) × IsUntouched × IfSome (fault_of_arguments pool count) (λ fault. AreTold (collect_fault_line fault)))
+-- an engine that has a fault with however many sources is refused: the fault that it has with so many is told, and nothing is written
+abbrev pub RefusesEngine : Engine → ℕ → ℕ → Type 0 → (List ℕ → Type 0) → Type 0
+RefusesEngine engine count status IsUntouched AreTold =
+    IfSome (fault_of_engine engine) (λ any. (status ≡ number_of Failed) × IsUntouched × IfSome (due_fault engine count) (λ fault. AreTold (collect_fault_line fault)))
 
 -- with how sources are had, and how it is told that they aren't
 module _ {S W : Type 0} (seen : S → SourceView) (AreHad : List S → Type 0) (TellsNotHad : Type 0) (contents : W → Option (List ℕ)) (old new : W) (AreTold : List ℕ → Type 0) (status : ℕ) where
   -- the table of the sources was written, and nothing else; the lines of their sessions and of the table's counts were told,
   -- and nothing else; and at a failure the line of the fault alone
-  abbrev pub CollectsPlainly : PlanValue → Pool → Output → Type 0
-  CollectsPlainly plan pool output =
-      Collects status (new ≡ old) (RunsSources seen AreHad (λ sources. RunsPlainly contents old new AreTold seen sources plan pool output status)) TellsNotHad
+  abbrev pub CollectsPlainly : PlanValue → Engine → Output → Type 0
+  CollectsPlainly plan engine output =
+      Collects status (new ≡ old) (RunsSources seen AreHad (λ sources. RunsPlainly contents old new AreTold seen sources plan engine output status)) TellsNotHad
 
   -- the same of a job, by the names that elements have under its files, and told in full: after the first lines, with origins
   abbrev pub CollectsJob : (S → Option ErrorKind) → CollectJob → (List S → List Origin → Type 0) → List ℕ → Type 0
@@ -64,9 +64,9 @@ module _ {S O W : Type 0} (seen : S → SourceView) (opens : O → List ℕ → 
   abbrev TellsPath : Verbosity → Type 0
   TellsPath verbosity = TellsNotOpened (sizes before) (refuses before) (map (λ (path : Bor (List ℕ)). path.now) paths) verbosity AreTold
 
-  abbrev pub CollectsFilesPlainly : ℕ → PlanValue → Pool → Output → Type 0
-  CollectsFilesPlainly status plan pool output =
-      CollectsPlainly seen WereOpened (TellsPath NOTHING_MORE) contents old new AreTold status plan pool output
+  abbrev pub CollectsFilesPlainly : ℕ → PlanValue → Engine → Output → Type 0
+  CollectsFilesPlainly status plan engine output =
+      CollectsPlainly seen WereOpened (TellsPath NOTHING_MORE) contents old new AreTold status plan engine output
 
   abbrev pub CollectsFiles : (S → Option ErrorKind) → Status → CollectJob → Type 0
   CollectsFiles failure status job =
@@ -78,9 +78,9 @@ module _ {S L : Type 0} (seen : S → SourceView) (gives : L → Option Duration
   abbrev AreConnections : Option Duration → ℕ → List S → Type 0
   AreConnections idle count sources = AreAccepted (gives before idle) count (coming before) (coming after) sources
 
-  abbrev pub CollectsConnectionsPlainly : {W : Type 0} → Option Duration → ℕ → List ℕ → (W → Option (List ℕ)) → W → W → (List ℕ → Type 0) → ℕ → PlanValue → Pool → Output → Type 0
-  CollectsConnectionsPlainly idle count address contents old new AreTold status plan pool output =
-      CollectsPlainly seen (AreConnections idle count) (TellsNotAccepted (is_of before) (refuses before) NOTHING_MORE [] address AreTold) contents old new AreTold status plan pool output
+  abbrev pub CollectsConnectionsPlainly : {W : Type 0} → Option Duration → ℕ → List ℕ → (W → Option (List ℕ)) → W → W → (List ℕ → Type 0) → ℕ → PlanValue → Engine → Output → Type 0
+  CollectsConnectionsPlainly idle count address contents old new AreTold status plan engine output =
+      CollectsPlainly seen (AreConnections idle count) (TellsNotAccepted (is_of before) (refuses before) NOTHING_MORE [] address AreTold) contents old new AreTold status plan engine output
 
   abbrev pub CollectsConnections : {W : Type 0} → Connections → (W → Option (List ℕ)) → W → W → (List ℕ → Type 0) → (S → Option ErrorKind) → Status → CollectJob → Type 0
   CollectsConnections to contents old new AreTold failure status job =
@@ -88,9 +88,9 @@ module _ {S L : Type 0} (seen : S → SourceView) (gives : L → Option Duration
       let TellsNone = TellsNotAccepted (is_of before) (refuses before) job.verbosity first to.address.now AreTold in
       CollectsJob seen (AreConnections to.idle to.count) TellsNone contents old new AreTold (number_of status) failure job (ArePeers (is_of before)) first
 
--- a fact that holds if a pool has no fault
-abbrev pub IfPoolFits : Pool → Type 0 → Type 0
-IfPoolFits pool P = IfNone (fault_of_pool pool) P
+-- a fact that holds if an engine has no fault with however many sources
+abbrev pub IfEngineFits : Engine → Type 0 → Type 0
+IfEngineFits engine P = IfNone (fault_of_engine engine) P
 
 -- a fact that holds if there is to be a connection that has a limit of no time
 abbrev pub IfNoTime : Connections → Type 0 → Type 0

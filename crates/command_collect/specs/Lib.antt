@@ -1,6 +1,7 @@
 -- What public contracts cite.
 pub mod CollectLines
 pub mod Told
+pub mod Engines
 pub mod Runs
 pub mod Collects
 pub mod Limits

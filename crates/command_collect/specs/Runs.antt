@@ -17,12 +17,11 @@ use Rattle.report_sessions.specs.Spotless.{IsSpotless}
 use Rattle.flow_table.specs.AddedUp.{rows_in}
 use Rattle.flow_table.specs.Plans.{PlanValue}
 use Rattle.flow_table.specs.declared.table.Table.{Table}
-use Rattle.flow_collect.specs.Headline.{HeadlineWith, IsAddedUp, IsGivenBy}
-use Rattle.flow_collect.specs.InFull.{IsGivenInFull}
-use Rattle.flow_collect.specs.Refusals.{fault_of_arguments, AreTooLarge, IsLate}
+use Rattle.flow_collect.specs.Headline.{IsAddedUp, IsGivenBy, SerialAnswer}
+use Rattle.flow_collect.specs.InFull.{FullSerialAnswer, IsGivenInFull}
+use Rattle.flow_collect.specs.Refusals.{AreTooLarge, IsLate}
 use Rattle.flow_collect.specs.Texts.{AreTexts, HasNoFault}
-use Rattle.flow_collect.specs.declared.collected.Collected.{Collected}
-use Rattle.flow_collect.specs.declared.collected.Pool.{Pool}
+use Rattle.flow_collect.specs.declared.collected.Serial.{Serial}
 use Rattle.flow_collect.specs.declared.fault.CollectFault.{CollectFault}
 use Rattle.flow_collect.specs.declared.fault.CollectFault.TheVariants.{SumTooLarge}
 use Rattle.flow_export.specs.declared.fault.ExportFault.{ExportFault}
@@ -30,12 +29,10 @@ use Rattle.input_sources.specs.Had.{IsUnread}
 use Rattle.output_tables.specs.TableTexts.{IsNotWritten, Writes}
 use Rattle.output_tables.specs.declared.output.Output.{Output}
 use Rattle.command_collect.specs.CollectLines.{collect_fault_line}
+use Rattle.command_collect.specs.Engines.{due_fault, CollectsBy}
 use Rattle.command_collect.specs.Told.{run_lines, TellsFault}
+use Rattle.command_collect.specs.declared.engine.Engine.{Engine}
 use Rattle.command_collect.specs.declared.job.CollectJob.{CollectJob}
-
--- the fault that a pool has with however many sources
-abbrev pub fault_of_pool : Pool → Option CollectFault
-fault_of_pool pool = fault_of_arguments pool 1
 
 -- all was well: no session has a fault,
 abbrev pub HaveNoFault : List SessionReport → Table → Type 0
@@ -59,28 +56,28 @@ module _ {S : Type 0} (seen : S → SourceView) where
   -- by what a worker gets, as in the headline
   module _ {R : Type 0} (Gets : S → S → R → List DataRecord → Type 0) where
     -- what was collected ended as the last fact says it; the status says that all was well exactly if it was
-    pub record WritesTable (IsWell : List R → Table → Type 0) (plan : PlanValue) (pool : Pool) (status : ℕ) (Ends : Collected S R Table → Type 0) (sources : List S) : Type 0 where
+    pub record WritesTable (IsWell : List R → Table → Type 0) (plan : PlanValue) (engine : Engine) (status : ℕ) (Ends : Serial S R Table → Type 0) (sources : List S) : Type 0 where
       -- what the headline says
-      pub collected : Collected S R Table
-      pub headline : HeadlineWith Gets sources plan pool collected
+      pub collected : Serial S R Table
+      pub collects : CollectsBy engine Gets sources plan collected
       -- the records of each session are the first of those that its source's whole text gives
-      pub first : (texts : List (List ℕ)) → AreTexts seen sources texts → AllZip (λ q t. IsPrefix q (records_of t)) headline.records texts
+      pub first : (texts : List (List ℕ)) → AreTexts seen sources texts → AllZip (λ q t. IsPrefix q (records_of t)) collects.headline.records texts
       pub status_is : (status ≡ number_of Well) ↔ IsWell collected.sessions.items collected.table
       -- then the table is that of the whole texts
       pub whole : status ≡ number_of Well → AddsUpWhole sources plan collected.table
       pub ends : Ends collected
 
     -- all was collected, and the table that it gave wasn't written for this reason
-    pub record IsNotExported (plan : PlanValue) (pool : Pool) (output : Output) (IsUntouched : Type 0) (sources : List S) (fault : ExportFault) : Type 0 where
-      pub collected : Collected S R Table
-      pub headline : HeadlineWith Gets sources plan pool collected
+    pub record IsNotExported (plan : PlanValue) (engine : Engine) (output : Output) (IsUntouched : Type 0) (sources : List S) (fault : ExportFault) : Type 0 where
+      pub collected : Serial S R Table
+      pub collects : CollectsBy engine Gets sources plan collected
       pub not_written : IsNotWritten output (length (rows_in collected.table)) IsUntouched fault
 
   -- nothing may be collected from these sources for this reason: it is the fault that the arguments have, if they have one;
   -- else one that comes late, and only if the records of the sources' whole texts are too large that a sum is
-  pub record IsCollectFault (sources : List S) (plan : PlanValue) (pool : Pool) (fault : CollectFault) : Type 0 where
-    pub arguments : IfSome (fault_of_arguments pool (length sources)) (λ due. fault ≡ due)
-    pub others : IfNone (fault_of_arguments pool (length sources)) (IsLate fault)
+  pub record IsCollectFault (sources : List S) (plan : PlanValue) (engine : Engine) (fault : CollectFault) : Type 0 where
+    pub arguments : IfSome (due_fault engine (length sources)) (λ due. fault ≡ due)
+    pub others : IfNone (due_fault engine (length sources)) (IsLate fault)
     pub too_large : fault ≡ SumTooLarge → AreTooLarge seen plan sources
 
   -- sources were had as the first fact says it, none of which was read before, and they were run as the last one says it
@@ -91,31 +88,31 @@ module _ {S : Type 0} (seen : S → SourceView) where
     pub runs : RunsThem sources
 
 -- what the status of a run says of so many sources
-pub record Runs (pool : Pool) (count status : ℕ) (IsUntouched WritesIt TellsFailed : Type 0) (AreTold : List ℕ → Type 0) : Type 0 where
+pub record Runs (engine : Engine) (count status : ℕ) (IsUntouched WritesIt TellsFailed : Type 0) (AreTold : List ℕ → Type 0) : Type 0 where
   pub statuses : (status ≡ number_of Well) ⊎ (status ≡ number_of SessionFault) ⊎ (status ≡ number_of Failed)
   pub table : status ≢ number_of Failed → WritesIt
   -- the line of a fault alone was told, which is the one that there was
   pub failed : status ≡ number_of Failed → TellsFailed
   -- nothing was collected if the arguments have a fault, and that is reported
-  pub refused : IfSome (fault_of_arguments pool count) (λ fault. (status ≡ number_of Failed) × IsUntouched × AreTold (collect_fault_line fault))
+  pub refused : IfSome (due_fault engine count) (λ fault. (status ≡ number_of Failed) × IsUntouched × AreTold (collect_fault_line fault))
 
 -- the table was written to a writer, and nothing else; the lines of the sessions and of the table's counts were told, and
 -- nothing else
 module _ {W : Type 0} (contents : W → Option (List ℕ)) (old new : W) (AreTold : List ℕ → Type 0) where
-  abbrev pub WritesAndTells : {S : Type 0} → PlanValue → Output → Collected S SessionReport Table → Type 0
+  abbrev pub WritesAndTells : {S : Type 0} → PlanValue → Output → SerialAnswer S → Type 0
   WritesAndTells plan output c =
       Writes [] plan output (contents old) (contents new) c.table × AreTold (report_lines c.sessions.items ++ tally_line c.table.tally)
 
   -- how a run ended that has no options,
-  abbrev pub RunsPlainly : {S : Type 0} → (S → SourceView) → List S → PlanValue → Pool → Output → ℕ → Type 0
-  RunsPlainly seen sources plan pool output status =
-      Runs pool (length sources) status (new ≡ old)
-      (WritesTable seen (IsGivenBy seen) HaveNoFault plan pool status (WritesAndTells plan output) sources)
-      (TellsFault (new ≡ old) (IsCollectFault seen sources plan pool) (IsNotExported seen (IsGivenBy seen) plan pool output (new ≡ old) sources) AreTold) AreTold
+  abbrev pub RunsPlainly : {S : Type 0} → (S → SourceView) → List S → PlanValue → Engine → Output → ℕ → Type 0
+  RunsPlainly seen sources plan engine output status =
+      Runs engine (length sources) status (new ≡ old)
+      (WritesTable seen (IsGivenBy seen) HaveNoFault plan engine status (WritesAndTells plan output) sources)
+      (TellsFault (new ≡ old) (IsCollectFault seen sources plan engine) (IsNotExported seen (IsGivenBy seen) plan engine output (new ≡ old) sources) AreTold) AreTold
 
   -- the table was written by the names that elements have under the files of a job; the sessions were told in full, each with
   -- the reason that its own source answered, and nothing else
-  abbrev pub WritesAndTellsJob : {S : Type 0} → (S → Option ErrorKind) → CollectJob → List Origin → Collected S FullReport Table → Type 0
+  abbrev pub WritesAndTellsJob : {S : Type 0} → (S → Option ErrorKind) → CollectJob → List Origin → FullSerialAnswer S → Type 0
   WritesAndTellsJob failure job origins c =
       Writes job.elements.now job.plan.now job.output (contents old) (contents new) c.table
       × TellsEnded failure c.sources.items c.sessions.items (run_lines job origins c.table) AreTold
@@ -123,6 +120,6 @@ module _ {W : Type 0} (contents : W → Option (List ℕ)) (old new : W) (AreTol
   -- and how one ended with a job
   abbrev pub RunsJob : {S : Type 0} → (S → SourceView) → (S → Option ErrorKind) → List S → CollectJob → List Origin → ℕ → Type 0
   RunsJob seen failure sources job origins status =
-      Runs job.pool (length sources) status (new ≡ old)
-      (WritesTable seen (IsGivenInFull seen) (WentWell job.verbosity.strict) job.plan.now job.pool status (WritesAndTellsJob failure job origins) sources)
-      (TellsFault (new ≡ old) (IsCollectFault seen sources job.plan.now job.pool) (IsNotExported seen (IsGivenInFull seen) job.plan.now job.pool job.output (new ≡ old) sources) AreTold) AreTold
+      Runs job.engine (length sources) status (new ≡ old)
+      (WritesTable seen (IsGivenInFull seen) (WentWell job.verbosity.strict) job.plan.now job.engine status (WritesAndTellsJob failure job origins) sources)
+      (TellsFault (new ≡ old) (IsCollectFault seen sources job.plan.now job.engine) (IsNotExported seen (IsGivenInFull seen) job.plan.now job.engine job.output (new ≡ old) sources) AreTold) AreTold

@@ -3,14 +3,14 @@
 ghost use Rattle.std.specs.Prelude.{List, ◌≡◌, ◌⊎◌, ◌↔◌, All, IsTrue};
 ghost use Rattle.report_writing.specs.Writing.{Tells};
 ghost use Rattle.flow_table.specs.Plans.{PlanValue};
-ghost use Rattle.flow_collect.specs.InFull.{FullHeadline};
+ghost use Rattle.flow_collect.specs.InFull.{FullSerialHeadline};
 ghost use Rattle.flow_collect.specs.Texts.{HasNoFault};
 ghost use Rattle.report_sessions.specs.EndedSessions.{TellsEnded};
 ghost use Rattle.command_collect.specs.Runs.{AddsUpWhole, WentWell};
 ghost use Rattle.command_collect.specs.Told.{run_lines, table_told};
 
 use crate::job::CollectJob;
-use flow_collect::{Collected, Pool};
+use flow_collect::Serial;
 use flow_table::FlatTable;
 use ipfix_session::{FullReport, Source};
 use report_sessions::{is_spotless, write_missing, write_tally, write_told_reports};
@@ -18,12 +18,12 @@ use report_writing::{Origin, Status, WriteLines};
 use std::io;
 
 /// How a run ended whose table is written.
-pub fn status_of<S: Source>(strict: bool, collected: &Collected<S, FullReport, FlatTable>) -> Status
+pub fn status_of<S: Source>(strict: bool, collected: &Serial<S, FullReport, FlatTable>) -> Status
     ensures ends { (result ≡ Status.Well) ⊎ (result ≡ Status.SessionFault) }
     ensures well { (result ≡ Status.Well)
         ↔ WentWell strict collected.now.sessions.items collected.now.table }
-    ensures whole { (sources : List S) (plan : PlanValue) (pool : Pool)
-        → FullHeadline S.seen sources plan pool collected.now
+    ensures whole { (sources : List S) (plan : PlanValue)
+        → FullSerialHeadline S.seen sources plan collected.now
         → WentWell strict collected.now.sessions.items collected.now.table
         → AddsUpWhole S.seen sources plan collected.now.table }
 {
@@ -68,7 +68,7 @@ fn have_no_fault(reports: &[FullReport]) -> bool
 pub fn tell<S: Source, E: WriteLines>(
     job: &CollectJob,
     origins: &[Origin],
-    collected: &Collected<S, FullReport, FlatTable>,
+    collected: &Serial<S, FullReport, FlatTable>,
     err: &mut E,
 ) -> io::Result<()>
     ensures { TellsEnded S.failure collected.now.sources.items collected.now.sessions.items

@@ -2,8 +2,8 @@
 
 ghost use Rattle.std.specs.Prelude.{◌≡◌};
 
+use crate::engine::Engine;
 use element_registry::Elements;
-use flow_collect::Pool;
 use flow_table::Plan;
 use output_tables::Output;
 use report_writing::{NOTHING_MORE, Verbosity};
@@ -16,8 +16,8 @@ pub struct CollectJob<'a> {
     pub elements: &'a Elements,
     /// The intervals, keys and counters of the table.
     pub plan: &'a Plan,
-    /// How many workers add up what the sessions read, and the room of their links.
-    pub pool: Pool,
+    /// What collects.
+    pub engine: Engine,
     /// How the table is written.
     pub output: Output,
     /// What is told beside the lines that always stand.
@@ -26,17 +26,17 @@ pub struct CollectJob<'a> {
 
 impl<'a> CollectJob<'a> {
     /// One that tells nothing more.
-    pub fn plain(elements: &'a Elements, plan: &'a Plan, pool: Pool, output: Output) -> Self
+    pub fn plain(elements: &'a Elements, plan: &'a Plan, engine: Engine, output: Output) -> Self
         ensures elements { result.elements.now ≡ elements.now }
         ensures plan { result.plan.now ≡ plan.now }
-        ensures pool { result.pool ≡ pool }
+        ensures engine { result.engine ≡ engine }
         ensures output { result.output ≡ output }
         ensures verbosity { result.verbosity ≡ NOTHING_MORE }
     {
         CollectJob {
             elements,
             plan,
-            pool,
+            engine,
             output,
             verbosity: NOTHING_MORE,
         }

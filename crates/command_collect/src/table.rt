@@ -6,9 +6,10 @@ ghost use Rattle.command_collect.specs.Runs.{RunsJob, RunsPlainly};
 
 use crate::collect_fault::write_collect_fault;
 use crate::ending::{status_of, tell};
+use crate::engine::Engine;
 use crate::job::CollectJob;
 use element_registry::Elements;
-use flow_collect::{OpenGate, Pool, collect_flat};
+use flow_collect::Pool;
 use flow_table::Plan;
 use ipfix_session::Source;
 use output_tables::{Output, export, write_export_fault};
@@ -40,11 +41,12 @@ pub fn run<S: Source + Send + Drop, W: Write, E: WriteLines, R: Threads + Wait +
     // well exactly if no session had a fault: then the table is that of all whole texts, and each of them ends
     // with a whole message.
     ensures runs { RunsPlainly W.contents out.old out.new
-        (AreToldTo E.contents E.failed err.old err.new) S.seen sources.items plan.now pool output result }
+        (AreToldTo E.contents E.failed err.old err.new) S.seen sources.items plan.now (Engine.Links pool) output
+        result }
     ensures kept { E.failed err.old → E.failed err.new }
 {
     let elements = Elements::built_in(alloc);
-    let job = CollectJob::plain(&elements, plan, pool, output);
+    let job = CollectJob::plain(&elements, plan, Engine::Links(pool), output);
     run_with(rt, alloc, sources, &[], &job, out, err).number()
 }
 
@@ -68,7 +70,7 @@ pub fn run_with<S: Source + Send + Drop, W: Write, E: WriteLines, R: Threads + W
         origins.now (number_of result) }
     ensures kept { E.failed err.old → E.failed err.new }
 {
-    let collected = match collect_flat(rt, alloc, sources, job.plan, job.pool, &OpenGate) {
+    let collected = match job.engine.collect(rt, alloc, sources, job.plan) {
         Ok(collected) => collected,
         Err(fault) => {
             let _ = write_collect_fault(fault, err);

@@ -5,8 +5,8 @@ ghost use Rattle.input_sources.specs.Had.{IsUnread};
 
 use super::sessions::{BY_SOURCE, CSV, POOL};
 use collectd::{
-    Accepted, CollectJob, Connections, Listener, MergeJob, OpenSource, Opened, Reason, Status,
-    Verbosity, run_files, run_files_with, run_merge_with, run_tcp, run_tcp_with,
+    Accepted, CollectJob, Connections, Engine, Listener, MergeJob, OpenSource, Opened, Reason,
+    Status, Verbosity, run_files, run_files_with, run_merge_with, run_tcp, run_tcp_with,
 };
 use element_registry::Elements;
 use flow_collect::Pool;
@@ -26,10 +26,10 @@ use worked_examples::values::{EXPORT_ROW, EXPORT_TEMPLATE};
 
 const NO_PROGRESS: Option<Sink> = None;
 
-const NO_WORKERS: Pool = Pool {
+const NO_WORKERS: Engine = Engine::Links(Pool {
     workers: 0,
     capacity: 64,
-};
+});
 
 const VERBOSE: Verbosity = Verbosity {
     verbose: true,
@@ -182,7 +182,7 @@ fn run_told<R: Clock + Threads + Wait + Sync>(
     rt: &R,
     alloc: Global,
     paths: &[&str],
-    pool: Pool,
+    engine: Engine,
     verbosity: Verbosity,
 ) -> Result<Vec<u8>, Fail> {
     let mut inputs = Inputs::new(alloc);
@@ -192,7 +192,7 @@ fn run_told<R: Clock + Threads + Wait + Sync>(
     let job = CollectJob {
         elements: &elements,
         plan: &plan,
-        pool,
+        engine,
         output: CSV,
         verbosity,
     };
@@ -215,7 +215,9 @@ fn tells_files_by_their_names(rt: HostRuntime) -> Result<(), Fail> {
         verbose: true,
         strict: true,
     };
-    let text = run_told(&rt, rt.alloc(), &["flows", "cut"], POOL, verbosity)?;
+    let paths = ["flows", "cut"];
+    let over_links = run_told(&rt, rt.alloc(), &paths, Engine::Links(POOL), verbosity)?;
+    let in_lots = run_told(&rt, rt.alloc(), &paths, Engine::Lots(2), verbosity)?;
     let want = b"start,end,sourceIPv4Address,octetDeltaCount,flows
 0,59999,192.0.2.1,4500,3
 collectd: session 1 \"flows\": opened
@@ -226,7 +228,8 @@ collectd: session 2 \"cut\": fault 15 ReadFailed: message 2 octet 68
 collectd: session 2 \"cut\": ended: messages 1 octets 68 records 1
 collectd: records: used 3 options 0 untimed 0 backward 0 unkeyed 0 too_long 0
 1";
-    assert_eq!(rt; text.as_slice(), want.as_slice());
+    assert_eq!(rt; over_links.as_slice(), want.as_slice());
+    assert_eq!(rt; in_lots.as_slice(), want.as_slice());
     Ok(())
 }
 
@@ -330,7 +333,7 @@ fn tells_connections_by_their_peers(rt: HostRuntime) -> Result<(), Fail> {
     let elements = Elements::built_in(rt.alloc());
     let job = CollectJob {
         verbosity,
-        ..CollectJob::plain(&elements, &plan, POOL, CSV)
+        ..CollectJob::plain(&elements, &plan, Engine::Links(POOL), CSV)
     };
     let connections = Connections {
         address: "peers",

@@ -15,7 +15,7 @@ use std::rt::Clock;
 use std::sync::Wait;
 use std::thread::Threads;
 
-/// Accepts the connections and runs them, whatever the pool.
+/// Accepts the connections and runs them, whatever the engine.
 pub fn run_connections<
     S: Source + Send + Drop,
     L: Listener<S>,

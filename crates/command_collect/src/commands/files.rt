@@ -3,6 +3,7 @@
 ghost use Rattle.report_writing.specs.Told.{AreToldTo};
 ghost use Rattle.command_collect.specs.Collects.{CollectsFiles, CollectsFilesPlainly};
 
+use crate::engine::Engine;
 use crate::job::CollectJob;
 use crate::table::run_with;
 use element_registry::Elements;
@@ -46,16 +47,16 @@ pub fn run_files<
     // or each file that was had was told, and then the path that can't be opened.
     ensures collects { CollectsFilesPlainly S.seen O.opens O.sizes O.refuses O.coming files.old files.new
         paths.now W.contents out.old out.new (AreToldTo E.contents E.failed err.old err.new) result
-        plan.now pool output }
+        plan.now (Engine.Links pool) output }
     ensures kept { E.failed err.old → E.failed err.new }
 {
     let elements = Elements::built_in(alloc);
-    let job = CollectJob::plain(&elements, plan, pool, output);
+    let job = CollectJob::plain(&elements, plan, Engine::Links(pool), output);
     run_files_with(rt, alloc, files, paths, &job, progress, out, err).number()
 }
 
-/// Does as [`run_files`], and tells more if `job.verbosity` asks for it, as [`run_with`]: in verbose lines each file that is opened, and the system's reason after one that can't be. If the pool
-/// or the number of files has a fault, all files are opened first and none is read, and it ends with `Failed`.
+/// Does as [`run_files`], and tells more if `job.verbosity` asks for it, as [`run_with`]: in verbose lines each file that is opened, and the system's reason after one that can't be. If the
+/// engine or the number of files has a fault, all files are opened first and none is read, and it ends with `Failed`.
 pub fn run_files_with<
     S: Source + Send + Drop,
     O: OpenSource<S>,

@@ -4,12 +4,13 @@ ghost use Rattle.std.specs.Prelude.{◌≡◌, ◌<◌, IfSome};
 ghost use Rattle.std.specs.Duration.{as_nanos};
 ghost use Rattle.report_writing.specs.Statuses.{number_of};
 ghost use Rattle.report_writing.specs.Told.{AreToldTo};
-ghost use Rattle.command_collect.specs.Runs.{fault_of_pool};
-ghost use Rattle.command_collect.specs.Collects.{CollectsConnections, CollectsConnectionsPlainly, IfNoTime, IfPoolFits, RefusesPool};
+ghost use Rattle.command_collect.specs.Engines.{fault_of_engine};
+ghost use Rattle.command_collect.specs.Collects.{CollectsConnections, CollectsConnectionsPlainly, IfNoTime, IfEngineFits, RefusesEngine};
 
 use super::connections::run_connections;
 use crate::collect_fault::write_collect_fault;
 use crate::early::refused_early;
+use crate::engine::Engine;
 use crate::job::{CollectJob, Connections};
 use element_registry::Elements;
 use flow_collect::Pool;
@@ -60,7 +61,8 @@ pub fn run_tcp<
     // was had was told, and then the address that gives none.
     ensures collects { CollectsConnectionsPlainly S.seen L.gives L.is_of L.refuses L.coming listener.old
         listener.new idle count addr.now W.contents out.old out.new
-        (AreToldTo E.contents E.failed err.old err.new) result plan.now pool output }
+        (AreToldTo E.contents E.failed err.old err.new) result plan.now
+        (Engine.Links pool) output }
     ensures closed { L.is_closed listener.new }
     // No connection can have a limit of no time.
     ensures no_time { IfSome idle
@@ -68,7 +70,7 @@ pub fn run_tcp<
     ensures kept { E.failed err.old → E.failed err.new }
 {
     let elements = Elements::built_in(alloc);
-    let job = CollectJob::plain(&elements, plan, pool, output);
+    let job = CollectJob::plain(&elements, plan, Engine::Links(pool), output);
     let connections = Connections {
         address: addr,
         count,
@@ -79,7 +81,7 @@ pub fn run_tcp<
 
 /// Does as [`run_tcp`], and tells more if `job.verbosity` asks for it, as
 /// [`run_with`](crate::run_with): in verbose lines that it waits for connections, each that is accepted,
-/// and the system's reason after one that can't be. If the pool has a fault, no connection is accepted, and it
+/// and the system's reason after one that can't be. If the engine has a fault, no connection is accepted, and it
 /// ends with `Failed`.
 #[tactic(auto, using(crate::proofs::Refused::whatever, crate::proofs::Refused::even_if_none, crate::proofs::Refused::not_if_some, crate::proofs::Refused::not_if_none))]
 pub fn run_tcp_with<
@@ -101,23 +103,23 @@ pub fn run_tcp_with<
 ) -> Status
     // So many connections with this limit were accepted and run, as `run_with` says it, and no others; or
     // each that was had was told, and then the address that gives none.
-    ensures collects { IfPoolFits job.now.pool
+    ensures collects { IfEngineFits job.now.engine
         (CollectsConnections S.seen L.gives L.is_of L.refuses L.coming listener.old listener.new
         connections.now W.contents out.old out.new (AreToldTo E.contents E.failed err.old err.new)
         S.failure result job.now) }
     ensures closed { L.is_closed listener.new }
     // No connection can have a limit of no time.
-    ensures no_time { IfPoolFits job.now.pool
+    ensures no_time { IfEngineFits job.now.engine
         (IfNoTime connections.now (result ≡ Status.NotOpened)) }
-    // A pool that has a fault is refused, and the fault that it has is told.
-    ensures pool { RefusesPool job.now.pool connections.now.count (number_of result) (out.new ≡ out.old)
+    // An engine that has a fault is refused, and the fault that it has is told.
+    ensures engine { RefusesEngine job.now.engine connections.now.count (number_of result) (out.new ≡ out.old)
         (AreToldTo E.contents E.failed err.old err.new) }
     // And then no connection was accepted.
-    ensures unaccepted { IfSome (fault_of_pool job.now.pool)
+    ensures unaccepted { IfSome (fault_of_engine job.now.engine)
         (λ any. L.coming listener.new ≡ L.coming listener.old) }
     ensures kept { E.failed err.old → E.failed err.new }
 {
-    if let Some(fault) = refused_early(job.pool, connections.count) {
+    if let Some(fault) = refused_early(job.engine, connections.count) {
         listener.close();
         let _ = write_collect_fault(fault, err);
         return Status::Failed;

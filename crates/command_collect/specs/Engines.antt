@@ -1,0 +1,32 @@
+-- What collects, and what the headline says by it.
+use Rattle.std.specs.Prelude.{ℕ, List, Option}
+use Rattle.std.specs.List.{AllZip}
+use Rattle.ipfix_message.specs.declared.record.DataRecord.{DataRecord}
+use Rattle.flow_link.specs.declared.settled.Settled.{Settled}
+use Rattle.flow_table.specs.Plans.{PlanValue}
+use Rattle.flow_table.specs.declared.table.Table.{Table}
+use Rattle.flow_collect.specs.Headline.{IsReceived, SerialHeadlineWith}
+use Rattle.flow_collect.specs.Refusals.{fault_of_arguments, fault_of_lots}
+use Rattle.flow_collect.specs.declared.collected.Serial.{Serial}
+use Rattle.flow_collect.specs.declared.fault.CollectFault.{CollectFault}
+use Rattle.command_collect.specs.declared.engine.Engine.{Engine}
+use Rattle.command_collect.specs.declared.engine.Engine.TheVariants.{Links, Lots}
+
+-- the first fault that it has with so many sources
+abbrev pub due_fault : Engine → ℕ → Option CollectFault
+due_fault (Links pool) sources = fault_of_arguments pool sources
+due_fault (Lots lots) sources = fault_of_lots lots sources
+
+-- and the one that it has with however many
+abbrev pub fault_of_engine : Engine → Option CollectFault
+fault_of_engine engine = due_fault engine 1
+
+-- where there are links, the workers received exactly these records over them
+abbrev pub CameOver : Engine → List (List DataRecord) → Type 0
+CameOver (Links pool) records = (links : List Settled) × AllZip (IsReceived pool.capacity) links records
+CameOver (Lots lots) records = Unit {0}
+
+-- the headline, and over links what was received
+pub record CollectsBy {S R : Type 0} (engine : Engine) (Gets : S → S → R → List DataRecord → Type 0) (sources : List S) (plan : PlanValue) (s : Serial S R Table) : Type 0 where
+  pub headline : SerialHeadlineWith Gets sources plan s
+  pub came : CameOver engine headline.records

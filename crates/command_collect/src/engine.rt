@@ -1,0 +1,97 @@
+//! What collects: sessions side by side over links, or lots of sessions one after another.
+
+ghost use Rattle.std.specs.Prelude.{◌≡◌, IfOk, vec_len};
+ghost use Rattle.flow_table.specs.Fitting.{FitsPlan};
+ghost use Rattle.flow_collect.specs.InFull.{IsGivenInFull};
+ghost use Rattle.flow_collect.specs.Refusals.{HasFaults, HasFaultsOf};
+ghost use Rattle.command_collect.specs.Engines.{due_fault, CollectsBy};
+
+use flow_collect::{
+    CollectFault, Collected, OpenGate, Pool, Serial, collect_direct, collect_flat, direct_refusal,
+    refusal,
+};
+use flow_table::{FlatTable, Plan};
+use ipfix_session::{FullReport, Source};
+use std::alloc::Global;
+use std::sync::Wait;
+use std::thread::Threads;
+
+/// What collects.
+#[derive(Clone, Copy, Debug, PartialEq, Eq)]
+pub enum Engine {
+    /// A thread for each session, which sends over a link of its own to one of the workers of a pool.
+    Links(Pool),
+    /// That many lots of sessions, which one thread reads one after another: there are no links, and any number of
+    /// sessions.
+    Lots(usize),
+}
+
+impl Engine {
+    /// The first fault that it has with so many sessions, if it has one. Collecting answers it before anything is
+    /// read.
+    pub fn refusal(self, sessions: usize) -> Option<CollectFault>
+        ensures { result ≡ due_fault self sessions }
+    {
+        match self {
+            Engine::Links(pool) => refusal(pool, sessions),
+            Engine::Lots(lots) => direct_refusal(lots, sessions),
+        }
+    }
+
+    /// Collects by it, with each report in full.
+    pub fn collect<S: Source + Send + Drop, R: Threads + Wait + Sync>(
+        self,
+        rt: &R,
+        alloc: Global,
+        sources: Vec<S>,
+        plan: &Plan,
+    ) -> Result<Serial<S, FullReport, FlatTable>, CollectFault>
+        ensures ok { IfOk result (CollectsBy self (IsGivenInFull S.seen) sources.items plan.now) }
+        ensures fits { IfOk result (λ s. FitsPlan plan.now s.table) }
+        ensures faults { HasFaultsOf (due_fault self (vec_len sources)) S.seen sources.items plan.now
+            result }
+    {
+        match self {
+            Engine::Links(pool) => collect_over_links(rt, alloc, sources, plan, pool),
+            Engine::Lots(lots) => collect_direct(rt, alloc, sources, plan, lots),
+        }
+    }
+}
+
+// What was collected over links, without them.
+fn collect_over_links<S: Source + Send + Drop, R: Threads + Wait + Sync>(
+    rt: &R,
+    alloc: Global,
+    sources: Vec<S>,
+    plan: &Plan,
+    pool: Pool,
+) -> Result<Serial<S, FullReport, FlatTable>, CollectFault>
+    ensures ok { IfOk result (CollectsBy (Engine.Links pool) (IsGivenInFull S.seen) sources.items plan.now) }
+    ensures fits { IfOk result (λ s. FitsPlan plan.now s.table) }
+    ensures faults { HasFaults S.seen sources plan.now pool result }
+{
+    match collect_flat(rt, alloc, sources, plan, pool, &OpenGate) {
+        Ok(collected) => Ok(without_links(collected)),
+        Err(fault) => Err(fault),
+    }
+}
+
+fn without_links<S: Drop>(
+    collected: Collected<S, FullReport, FlatTable>,
+) -> Serial<S, FullReport, FlatTable>
+    ensures sessions { result.sessions ≡ collected.sessions }
+    ensures sources { result.sources ≡ collected.sources }
+    ensures table { result.table ≡ collected.table }
+{
+    let Collected {
+        sessions,
+        sources,
+        table,
+        ..
+    } = collected;
+    Serial {
+        sessions,
+        sources,
+        table,
+    }
+}
