@@ -58,7 +58,9 @@ module _ (chosen : Chosen) where
 
   pub record IsFiles (told : FilesArguments) : Type 0 where
     pub collect : IsCollect told.collect
+    pub direct : IsFlagGiven chosen (codes "direct") told.direct
     pub files : map (λ path. path.now) told.paths.now ≡ texts_given chosen (codes "file")
+    pub list : option_map (λ list. list.now) told.list ≡ text_given chosen (codes "files-from")
 
   pub record IsTcp (told : TcpArguments) : Type 0 where
     pub collect : IsCollect told.collect

@@ -6,9 +6,10 @@ ghost use Rattle.cli_words.specs.Arguments.{OneNumber, reading_of};
 
 use crate::formats::{dump_form, table_format};
 use cli_words::{
-    Argument, Chosen, DUMP_FORMAT, ELEMENTS, EVERY, FAULT, FLOW_FILES, FOLDER, FROM, IDLE, INTO,
-    LISTEN, PEERS, PLAN, PROGRESS, RECORD_IDLE, RECORD_LISTEN, RECORD_SESSIONS, REORDER, RING,
-    SESSIONS, STRICT, Subcommand, TABLE_FILES, TABLE_FORMAT, TIME, UDP, VERBOSE, WORD, WORKERS,
+    Argument, Chosen, DIRECT, DUMP_FORMAT, ELEMENTS, EVERY, FAULT, FILES_FROM, FLOW_FILES, FOLDER,
+    FROM, IDLE, INTO, LISTEN, PEERS, PLAN, PROGRESS, RECORD_IDLE, RECORD_LISTEN, RECORD_SESSIONS,
+    REORDER, RING, SESSIONS, STRICT, Subcommand, TABLE_FILES, TABLE_FORMAT, TIME, UDP, VERBOSE,
+    WORD, WORKERS,
 };
 use flow_collect::Pool;
 use ipfix_dump::Form;
@@ -72,7 +73,11 @@ pub enum ShowProgress {
 #[derive(Clone, Copy)]
 pub struct FilesArguments<'m, 'w> {
     pub collect: CollectArguments<'m, 'w>,
+    /// Whether there are lots of files and no links.
+    pub direct: bool,
+    /// The paths that were given as words, and that of the list of further ones, if there is one.
     pub paths: &'m [&'w str],
+    pub list: Option<&'w str>,
 }
 
 /// What `tcp` is told.
@@ -217,7 +222,9 @@ fn read_files<'m, 'w>(chosen: Chosen<'m, 'w>) -> Option<FilesArguments<'m, 'w>>
 {
     Some(FilesArguments {
         collect: read_collect(chosen)?,
+        direct: chosen.is_given(DIRECT),
         paths: chosen.texts(FLOW_FILES),
+        list: chosen.text(FILES_FROM),
     })
 }
 

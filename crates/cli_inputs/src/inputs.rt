@@ -9,7 +9,7 @@ use input_sources::{LoadedPlan, WithReason, load_plan};
 use output_tables::write_export_fault;
 use report_writing::{CheckedWriter, Status};
 use std::fs::File;
-use std::io::{BufWriter, Stderr, Stdout, Write};
+use std::io::{BufWriter, Stderr, Stdout};
 
 /// The octets that are gathered before they are written.
 const OUTPUT_BUFFER: usize = 1 << 16;
@@ -90,29 +90,4 @@ pub fn progress_writer<'a>(
         ShowProgress::OnTerminal => terminal.as_ref().map(ProgressOutput::Terminal),
         ShowProgress::OnStandardError => Some(ProgressOutput::StandardError(rt.stderr())),
     }
-}
-
-/// Sees to it that standard input is one of the files at most once. If it isn't, `err` has a line.
-pub fn check_paths(paths: &[&str], err: &mut Stderr) -> Result<(), Status> {
-    if stands_twice(paths, "-") {
-        let _ = writeln!(
-            err,
-            "error: standard input ('-') can be one of the files only once"
-        );
-        return Err(Status::NotOpened);
-    }
-    Ok(())
-}
-
-fn stands_twice(words: &[&str], word: &str) -> bool {
-    let mut found = false;
-    for other in words {
-        if *other == word {
-            if found {
-                return true;
-            }
-            found = true;
-        }
-    }
-    false
 }

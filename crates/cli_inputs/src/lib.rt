@@ -4,6 +4,7 @@
 mod arguments;
 mod formats;
 mod inputs;
+mod listed_files;
 mod listening;
 mod progress_output;
 mod refused;
@@ -15,9 +16,9 @@ pub use arguments::{
     TcpArguments, read_arguments,
 };
 pub use inputs::{
-    Collecting, buffered_output, check_paths, load_table_plan, prepare_collecting, progress_writer,
-    table_output,
+    Collecting, buffered_output, load_table_plan, prepare_collecting, progress_writer, table_output,
 };
+pub use listed_files::{all_paths, check_paths, read_list};
 pub use listening::listen_on;
 pub use progress_output::ProgressOutput;
 pub use refused::{WITH_REASONS, write_refused_output};

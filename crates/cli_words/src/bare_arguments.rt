@@ -1,12 +1,13 @@
 //! The arguments that stand bare.
 
 use crate::arguments::{Argument, Due, Takes};
+use crate::options::FILES_FROM_WORD;
 
 /// The files that `files` reads.
 pub const FLOW_FILES: Argument = Argument {
     word: "file",
     takes: Takes::Bares("FILE"),
-    due: Due::Always,
+    due: Due::Without(FILES_FROM_WORD),
     help: "A file of IPFIX messages; each file is a session, and '-' is standard input",
 };
 

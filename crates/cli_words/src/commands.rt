@@ -7,8 +7,8 @@ use crate::listen_options::{
     SESSIONS, UDP,
 };
 use crate::options::{
-    DUMP_FORMAT, ELEMENTS, MERGE_STRICT, PLAN, PROGRESS, RING, STRICT, TABLE_FORMAT, TIME, VERBOSE,
-    WORKERS,
+    DIRECT, DUMP_FORMAT, ELEMENTS, FILES_FROM, MERGE_STRICT, PLAN, PROGRESS, RING, STRICT,
+    TABLE_FORMAT, TIME, VERBOSE, WORKERS,
 };
 
 /// A command.
@@ -48,7 +48,7 @@ pub const FILES: CommandWords = CommandWords {
     about: "Aggregates the flows in files and writes their table",
     example: "Example:\n  collectd files --plan plan.toml --workers 4 one.ipfix two.ipfix > table.csv",
     shared: &COLLECTING,
-    own: &[FLOW_FILES],
+    own: &[DIRECT, FILES_FROM, FLOW_FILES],
 };
 
 pub const TCP: CommandWords = CommandWords {

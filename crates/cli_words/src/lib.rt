@@ -21,7 +21,8 @@ pub use listen_options::{
     SESSIONS, UDP,
 };
 pub use options::{
-    DUMP_FORMAT, ELEMENTS, PLAN, PROGRESS, RING, STRICT, TABLE_FORMAT, TIME, VERBOSE, WORKERS,
+    DIRECT, DUMP_FORMAT, ELEMENTS, FILES_FROM, PLAN, PROGRESS, RING, STRICT, TABLE_FORMAT, TIME,
+    VERBOSE, WORKERS,
 };
 pub use showing::show;
 pub use subcommands::Subcommand;

@@ -3,6 +3,9 @@
 use crate::arguments::{Argument, Due, LARGEST, Takes};
 use crate::format_words::{DUMP_FORMAT_DEFAULT, DUMP_FORMATS, TABLE_FORMAT_DEFAULT, TABLE_FORMATS};
 
+/// The word of the option that stands for the files that `files` reads.
+pub const FILES_FROM_WORD: &str = "files-from";
+
 pub const PLAN: Argument = Argument {
     word: "plan",
     takes: Takes::Text("P"),
@@ -29,6 +32,20 @@ pub const RING: Argument = Argument {
     takes: Takes::Number("C", 0, LARGEST),
     due: Due::Default("64"),
     help: "How many records may wait between a session and its worker, 1 to 65536; 1024 is faster, 64 takes the least memory",
+};
+
+pub const DIRECT: Argument = Argument {
+    word: "direct",
+    takes: Takes::Nothing(None),
+    due: Due::Never,
+    help: "Read any number of files, one after another in each thread of --workers; --ring changes nothing",
+};
+
+pub const FILES_FROM: Argument = Argument {
+    word: FILES_FROM_WORD,
+    takes: Takes::Text("LIST"),
+    due: Due::Never,
+    help: "A file with the names of more files, one a line; '-' is standard input",
 };
 
 /// How a data record is written.

@@ -1,20 +1,24 @@
 //! The commands. Each answers how it ended; an error says how if the library was not called.
 
-ghost use Rattle.std.specs.Prelude.{◌≡◌};
+ghost use Rattle.std.specs.Prelude.{◌≡◌, MatchBool};
 
 use cli_inputs::{
-    CollectArguments, Collecting, DumpArguments, FilesArguments, MergeArguments, TableArguments,
-    TcpArguments, buffered_output, check_paths, listen_on, load_table_plan, prepare_collecting,
-    progress_writer, table_output, write_refused_output,
+    CollectArguments, Collecting, DumpArguments, FilesArguments, MergeArguments, ProgressOutput,
+    TableArguments, TcpArguments, all_paths, buffered_output, check_paths, listen_on,
+    load_table_plan, prepare_collecting, progress_writer, read_list, table_output,
+    write_refused_output,
 };
-use command_collect::{CollectJob, Connections, Engine, run_files_with, run_tcp_with, write_limit};
+use command_collect::{
+    CollectJob, Connections, Engine, run_files_with, run_tcp_with, write_collect_fault, write_limit,
+};
 use command_dump::{DumpJob, run_dump_with, write_dump_fault};
 use command_merge::{MergeJob, run_merge_with};
-use input_sources::{LoadedPlan, SystemFiles, SystemListener};
+use flow_collect::{CollectFault, Pool};
+use input_sources::{FilesInTurn, LoadedPlan, OpenSource, SystemFiles, SystemListener, WithReason};
 use ipfix_dump::DumpFault;
-use ipfix_session::FromReader;
+use ipfix_session::{FromReader, Source};
 use report_writing::{CheckedWriter, Origin, Status, Verbosity};
-use std::io::Stderr;
+use std::io::{BufWriter, Stderr, Stdout};
 use std::rt::Clock;
 use std::sync::Wait;
 use std::thread::Threads;
@@ -56,29 +60,71 @@ pub fn files<R: Clock + Threads + Wait + Sync>(
     arguments: &FilesArguments,
 ) -> Result<Status, Status> {
     let mut err = rt.stderr();
-    let FilesArguments { collect, paths } = *arguments;
-    let engine = Engine::Links(collect.pool);
-    check_paths(paths, &mut err)?;
+    let FilesArguments {
+        collect,
+        direct,
+        paths,
+        list,
+    } = *arguments;
+    let verbosity = collect.table.verbosity;
+    let listed = read_list(rt, list, verbosity, &mut err)?;
+    let Ok(paths) = all_paths(rt.alloc(), paths, listed.as_str()) else {
+        let _ = write_collect_fault(CollectFault::OutOfMemory, &mut err);
+        return Err(Status::Failed);
+    };
+    check_paths(&paths, list, &mut err)?;
     let Collecting {
         loaded,
         mut out,
         terminal,
     } = prepare_collecting(rt, &collect, &mut err)?;
-    let mut files = SystemFiles::new(rt);
-    let status = run_files_with(
-        threads,
-        rt.alloc(),
-        &mut files,
-        paths,
-        &collect_job(&loaded, &collect, engine),
-        progress_writer(collect.progress, &terminal, rt),
-        &mut out,
-        &mut CheckedWriter::new(rt.stderr()),
-    );
-    let verbosity = collect.table.verbosity;
+    let engine = engine_of(direct, collect.pool);
+    let job = collect_job(&loaded, &collect, engine);
+    let progress = progress_writer(collect.progress, &terminal, rt);
+    let status = if direct {
+        let mut files = FilesInTurn::new(rt, rt.alloc());
+        collect_files(threads, rt, &mut files, &paths, &job, progress, &mut out)
+    } else {
+        let mut files = SystemFiles::new(rt);
+        collect_files(threads, rt, &mut files, &paths, &job, progress, &mut out)
+    };
     write_refused_output(verbosity, &out, &mut err);
     write_refused_engine(status, verbosity, engine, paths.len(), &mut err);
     Ok(status)
+}
+
+// Collects from the files of these paths, with standard error for what is told.
+fn collect_files<S: Source + Send + Drop, O: OpenSource<S>, R: Clock + Threads + Wait + Sync>(
+    threads: &R,
+    rt: &HostRuntime,
+    files: &mut O,
+    paths: &[&str],
+    job: &CollectJob,
+    progress: Option<ProgressOutput>,
+    out: &mut BufWriter<WithReason<Stdout>>,
+) -> Status {
+    let mut err = CheckedWriter::new(rt.stderr());
+    run_files_with(
+        threads,
+        rt.alloc(),
+        files,
+        paths,
+        job,
+        progress,
+        out,
+        &mut err,
+    )
+}
+
+// What collects from files.
+fn engine_of(direct: bool, pool: Pool) -> Engine
+    ensures { MatchBool direct (result ≡ Engine.Lots pool.workers) (result ≡ Engine.Links pool) }
+{
+    if direct {
+        Engine::Lots(pool.workers)
+    } else {
+        Engine::Links(pool)
+    }
 }
 
 /// `collectd tcp`: the table of the sessions that come over connections to standard output.
@@ -127,7 +173,7 @@ pub fn tcp<R: Clock + Threads + Wait + Sync>(
 pub fn merge(rt: &HostRuntime, arguments: &MergeArguments) -> Result<Status, Status> {
     let mut err = rt.stderr();
     let MergeArguments { table, paths } = *arguments;
-    check_paths(paths, &mut err)?;
+    check_paths(paths, None, &mut err)?;
     let loaded = load_table_plan(rt, &table).ok_or(Status::NotOpened)?;
     let mut out = table_output(rt, &mut err)?;
     let mut files = SystemFiles::new(rt);

@@ -129,7 +129,7 @@ impl RunFault {
             Elements(ElementsFault::TooMany) => "Leave out those that no exporter sends.",
             Collect(CollectFault::Workers) => "Take no more than there are sessions or processors.",
             Collect(CollectFault::Sessions) =>
-                "Give up to 64 files to a run, and merge the tables of several runs.",
+                "Give files to a run with --direct, or up to 64 to a run, and merge the tables of several runs.",
             Collect(CollectFault::Link) => "Leave it out, or take 1024.",
             Collect(CollectFault::NoThread) =>
                 "Allow the process more threads or memory, or take fewer sessions and workers.",

@@ -21,6 +21,8 @@ complete -c collectd -n '__fish_seen_subcommand_from files merge' -F
 complete -c collectd -n '__fish_seen_subcommand_from files tcp merge' -l plan -r -F -d 'The plan of the aggregation'
 complete -c collectd -n '__fish_seen_subcommand_from files tcp' -l workers -x -d 'How many threads aggregate, 1 to 16'
 complete -c collectd -n '__fish_seen_subcommand_from files tcp' -l ring -x -d 'How many records may wait for a worker'
+complete -c collectd -n '__fish_seen_subcommand_from files' -l direct -d 'Read any number of files, one after another in each thread'
+complete -c collectd -n '__fish_seen_subcommand_from files' -l files-from -r -F -d 'A file with the names of more files'
 complete -c collectd -n '__fish_seen_subcommand_from files tcp merge' -l format -x -a 'csv ipfix json' -d 'How the table is written'
 complete -c collectd -n '__fish_seen_subcommand_from files tcp merge' -l time -x -d 'The export time in the messages of ipfix'
 complete -c collectd -n '__fish_seen_subcommand_from files tcp' -l progress -d 'Show how much each session has read'
