@@ -86,11 +86,13 @@ impl RunFault {
             PlanText(PlanTextFault::NotToml) =>
                 "The next line on standard error says in which line of the file, counted from 1.",
             PlanText(PlanTextFault::UnknownField) =>
-                "The keys are interval_ms, method, max_spread, keys and counters. Remove any other.",
+                "The keys are interval_ms, method, max_spread, keys, counters, times and totals. Remove any\n\
+                other.",
             PlanText(PlanTextFault::Missing) =>
-                "interval_ms, method, keys and counters are required; max_spread is not.",
+                "interval_ms, method, keys and counters are required; max_spread, times and totals are not.",
             PlanText(PlanTextFault::WrongKind) =>
-                "Numbers have no quotation marks, method is a text, keys and counters are arrays of texts.",
+                "Numbers have no quotation marks, method, times and totals are texts, keys and counters are\n\
+                arrays of texts.",
             PlanText(PlanTextFault::UnknownElement) =>
                 "`collectd elements` lists the names. Their case matters, and only keys have prefixes.",
             PlanText(PlanTextFault::Plan(_)) =>
@@ -102,16 +104,18 @@ impl RunFault {
                 "`collectd elements` marks the elements that can be keys; with --elements also those of\n\
                 files. Times, octets and elements without a type can't. Leave it out.",
             Plan(PlanFault::Prefix) | Row(RowFault::Prefix) =>
-                "A prefix is 0 to 32 bits of an IPv4 address. Merge tables that have the same prefixes.",
+                "A prefix is 0 to 32 bits of an IPv4 address, or 0 to 128 of an IPv6 address. Merge tables that\n\
+                have the same prefixes.",
             Plan(PlanFault::CounterCount) => "Name 1 to 4 counters. Make a second table for more.",
             Plan(PlanFault::CounterKind) =>
                 "Counters are octetDeltaCount, packetDeltaCount, deltaFlowCount, postOctetDeltaCount,\n\
                 postPacketDeltaCount, droppedOctetDeltaCount and droppedPacketDeltaCount; with --elements\n\
                 also the delta counters of files. Totals are no counters: flows would be counted again\n\
-                and again.",
+                and again. Where each record says all of a flow, totals = \"as-deltas\" lets octetTotalCount\n\
+                (e0.85) and packetTotalCount (e0.86) be counters.",
             Plan(PlanFault::Repeated) =>
-                "Leave one of them out. A key with a prefix also counts as sourceIPv4Prefix or\n\
-                destinationIPv4Prefix.",
+                "Leave one of them out. A key with a prefix also counts as sourceIPv4Prefix,\n\
+                destinationIPv4Prefix, sourceIPv6Prefix or destinationIPv6Prefix.",
             Elements(ElementsFault::NotCsv) =>
                 "The same line says in which line of the file the row begins.",
             Elements(ElementsFault::Column(_)) =>

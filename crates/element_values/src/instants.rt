@@ -8,7 +8,8 @@ use byteorder::{BigEndian, ByteOrder};
 /// The seconds from 1900 to 1970.
 const SECONDS_TO_1970: u32 = 2_208_988_800;
 
-/// Microseconds since 1970, rounded down. The lowest 11 bits of the fraction are not read.
+/// The microseconds since 1970 that 8 octets are, rounded down; `None` for another length. The lowest 11
+/// bits of the fraction are not read (RFC 7011, section 6.1.9).
 pub fn read_micros(octets: &[u8]) -> Option<u64>
     ensures { result ≡ micros_in octets.now }
 {
@@ -16,7 +17,8 @@ pub fn read_micros(octets: &[u8]) -> Option<u64>
     Some(u64::from(seconds) * 1_000_000 + u64::from(fraction / 2048) * 1_000_000 / 2_097_152)
 }
 
-/// Nanoseconds since 1970, rounded down.
+/// The nanoseconds since 1970 that 8 octets are, rounded down; `None` for another length (RFC 7011,
+/// section 6.1.10).
 pub fn read_nanos(octets: &[u8]) -> Option<u64>
     ensures { result ≡ nanos_in octets.now }
 {

@@ -7,5 +7,6 @@ mod numbers;
 mod strings;
 mod text;
 
+pub use instants::{read_micros, read_nanos};
 pub use json::write_json_value;
 pub use text::write_value;

@@ -54,12 +54,14 @@ AreKeyKinds kinds = list_all is_key_kind kinds ≡ true
 abbrev CountersOf : List ElementId → Type 0
 CountersOf counters = list_all is_value counters ≡ true
 
-prefix_small : (b : Bool) → cond b 44 45 < 2 ^ 15
-prefix_small true = omega arith
-prefix_small false = omega arith
+prefix_small : (a b c : Bool) → cond a 44 (cond b 45 (cond c 170 169)) < 2 ^ 15
+prefix_small true b c = omega arith
+prefix_small false true c = omega arith
+prefix_small false false true = omega arith
+prefix_small false false false = omega arith
 
 exported_number : (e : ElementId) (b : Bool) → e.number < 2 ^ 15 → (cond b (prefix_element e) e).number < 2 ^ 15
-exported_number e true small = prefix_small (eqb e.number 8)
+exported_number e true small = prefix_small (eqb e.number 8) (eqb e.number 12) (eqb e.number 27)
 exported_number e false small = small
 
 exported_pen : (e : ElementId) (b : Bool) → e.pen < 2 ^ 32 → (cond b (prefix_element e) e).pen < 2 ^ 32

@@ -1,7 +1,6 @@
 //! Rows read from data records (RFC 7011, section 3.4.3).
 
-ghost use Rattle.std.specs.Prelude.{◌≡◌, ℕ, true, false, None, length, All, IfOk, IfErr, IfSome};
-ghost use Rattle.flow_table.specs.Plans.{HasPrefix};
+ghost use Rattle.std.specs.Prelude.{◌≡◌, ℕ, true, false, None, length, IfOk, IfErr, IfSome};
 ghost use Rattle.flow_table.specs.Reading.{projected};
 ghost use Rattle.flow_table.specs.SameTables.{value_of};
 ghost use Rattle.flow_merge.specs.InnerReading.{values_in};
@@ -10,8 +9,8 @@ ghost use Rattle.flow_merge.specs.RowRecords.{AreProjected, IsOfTemplate, IsRowR
 
 use crate::row_fault::RowFault;
 use crate::told_values::{ToldValues, read_values};
-use flow_table::{Key, Plan, Row, TIME_LIMIT};
-use ipfix_elements::{Cell, mask};
+use flow_table::{Key, Plan, Row, TIME_LIMIT, project};
+use ipfix_elements::Cell;
 use ipfix_message::DataRecord;
 use ipfix_wire::FIRST_TEMPLATE_ID;
 use std::alloc::Global;
@@ -66,8 +65,7 @@ fn interval_of(plan: &Plan, told: &ToldValues) -> Option<u64>
 
 // Whether no cell has bits after the prefix of its key.
 fn are_projected(keys: &[Key], cells: &[Cell]) -> bool
-    requires prefixes { All HasPrefix keys.now }
-    requires each { length keys.now ≡ length cells.now }
+    requires { length keys.now ≡ length cells.now }
     ensures yes { result ≡ true → AreProjected keys.now cells.now }
     ensures no { result ≡ false → AreProjected keys.now cells.now → ⊥ }
 {
@@ -81,12 +79,8 @@ fn are_projected(keys: &[Key], cells: &[Cell]) -> bool
 
 // Whether a cell has no bits after the prefix of its key.
 fn is_projected(key: Key, cell: Cell) -> bool
-    requires { HasPrefix key }
     ensures yes { result ≡ true → projected key.prefix cell ≡ cell }
     ensures no { result ≡ false → projected key.prefix cell ≡ cell → ⊥ }
 {
-    match (cell, key.prefix) {
-        (Cell::Ipv4(address), Some(bits)) => mask(address, bits) == address,
-        _ => true,
-    }
+    project(key.prefix, cell) == cell
 }

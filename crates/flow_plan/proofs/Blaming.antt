@@ -10,11 +10,12 @@ use Rattle.std.proofs.lemmas.List.{length-map}
 use Rattle.std.proofs.lemmas.Option.{none-some, same_Some}
 use Rattle.ipfix_wire.specs.declared.specifier.ElementId.{ElementId}
 use Rattle.element_registry.specs.Registries.{Known}
+use Rattle.flow_table.specs.declared.choices.Choices.{Choices}
 use Rattle.flow_table.specs.declared.key.Key.{Key}
 use Rattle.flow_table.specs.declared.plan.TheConstants.{MAX_KEYS, MAX_COUNTERS, MAX_SPREAD}
 use Rattle.flow_table.specs.declared.plan_fault.PlanFault.{PlanFault}
 use Rattle.flow_table.specs.declared.plan_fault.PlanFault.TheVariants.{Length, Spread, KeyCount, KeyKind, Prefix, CounterCount, CounterKind, Repeated, OutOfMemory}
-use Rattle.flow_table.specs.Plans.{is_between, is_prefix_of, exported_element, has_twice, or_else, fault_unless, is_key, is_counter, first_fault}
+use Rattle.flow_table.specs.Plans.{is_between, is_prefix_of, exported_element, has_twice, or_else, fault_unless, is_key, may_count, chosen_fault}
 use Rattle.flow_plan.specs.declared.error.PlanKey.{PlanKey}
 use Rattle.flow_plan.specs.declared.error.PlanPlace.{PlanPlace}
 use Rattle.flow_plan.specs.declared.error.PlanPlace.TheVariants.{Value, Count, Text}
@@ -67,10 +68,10 @@ have_prefixes keys = list_all (λ k. is_prefix_of k.element k.prefix) keys
 abbrev are_apart : List Key → List ElementId → Bool
 are_apart keys counters = not (has_twice (map (λ k. k.element) keys ++ counters) || has_twice (map exported_element keys ++ counters))
 
-test_fails : (known : List Known) (fault : PlanFault) (len : ℕ) (keys : List Key) (counters : List ElementId) (spread : ℕ) → first_fault known len keys counters spread ≡ Some fault
+test_fails : (known : List Known) (choices : Choices) (fault : PlanFault) (len : ℕ) (keys : List Key) (counters : List ElementId) (spread : ℕ) → chosen_fault known choices len keys counters spread ≡ Some fault
     → test_of fault (nat_lt 0 len) (is_between 1 MAX_SPREAD spread) (nat_le (length keys) MAX_KEYS) (are_keys known keys) (have_prefixes keys)
-    (is_between 1 MAX_COUNTERS (length counters)) (list_all (is_counter known) counters) (are_apart keys counters) ≡ false
-test_fails known fault len keys counters spread is = fails fault _ _ _ _ _ _ _ _ is
+    (is_between 1 MAX_COUNTERS (length counters)) (list_all (may_count known choices.totals) counters) (are_apart keys counters) ≡ false
+test_fails known choices fault len keys counters spread is = fails fault _ _ _ _ _ _ _ _ is
 
 -- ---- the first that fails a test
 
@@ -130,28 +131,28 @@ within f texts xs place o n named is found chosen =
 
 -- ---- the first that has the fault
 
-pub key_found : (known : List Known) (len : ℕ) (keys : List Key) (counters : List ElementId) (spread : ℕ) (fault : PlanFault) → fault ≡ KeyKind
-    → (fault ≢ OutOfMemory → first_fault known len keys counters spread ≡ Some fault) → (i : ℕ) × (position_from (is_unfit_key known) 0 keys ≡ Some i) × (i < length keys)
-key_found known len keys counters spread fault is first =
-    let fits : first_fault known len keys counters spread ≡ Some KeyKind = first (λ e. let d : KeyKind ≡ OutOfMemory = sym is ∙ e in cc) ∙ ap (λ (f : PlanFault). Some f) is in
-    first_failing (λ k. is_key known k.element) keys (test_fails known KeyKind len keys counters spread fits)
+pub key_found : (known : List Known) (choices : Choices) (len : ℕ) (keys : List Key) (counters : List ElementId) (spread : ℕ) (fault : PlanFault) → fault ≡ KeyKind
+    → (fault ≢ OutOfMemory → chosen_fault known choices len keys counters spread ≡ Some fault) → (i : ℕ) × (position_from (is_unfit_key known) 0 keys ≡ Some i) × (i < length keys)
+key_found known choices len keys counters spread fault is first =
+    let fits : chosen_fault known choices len keys counters spread ≡ Some KeyKind = first (λ e. let d : KeyKind ≡ OutOfMemory = sym is ∙ e in cc) ∙ ap (λ (f : PlanFault). Some f) is in
+    first_failing (λ k. is_key known k.element) keys (test_fails known choices KeyKind len keys counters spread fits)
 
-pub prefix_found : (known : List Known) (len : ℕ) (keys : List Key) (counters : List ElementId) (spread : ℕ) (fault : PlanFault) → fault ≡ Prefix
-    → (fault ≢ OutOfMemory → first_fault known len keys counters spread ≡ Some fault) → (i : ℕ) × (position_from is_unfit_prefix 0 keys ≡ Some i) × (i < length keys)
-prefix_found known len keys counters spread fault is first =
-    let fits : first_fault known len keys counters spread ≡ Some Prefix = first (λ e. let d : Prefix ≡ OutOfMemory = sym is ∙ e in cc) ∙ ap (λ (f : PlanFault). Some f) is in
-    first_failing (λ k. is_prefix_of k.element k.prefix) keys (test_fails known Prefix len keys counters spread fits)
+pub prefix_found : (known : List Known) (choices : Choices) (len : ℕ) (keys : List Key) (counters : List ElementId) (spread : ℕ) (fault : PlanFault) → fault ≡ Prefix
+    → (fault ≢ OutOfMemory → chosen_fault known choices len keys counters spread ≡ Some fault) → (i : ℕ) × (position_from is_unfit_prefix 0 keys ≡ Some i) × (i < length keys)
+prefix_found known choices len keys counters spread fault is first =
+    let fits : chosen_fault known choices len keys counters spread ≡ Some Prefix = first (λ e. let d : Prefix ≡ OutOfMemory = sym is ∙ e in cc) ∙ ap (λ (f : PlanFault). Some f) is in
+    first_failing (λ k. is_prefix_of k.element k.prefix) keys (test_fails known choices Prefix len keys counters spread fits)
 
-pub counter_found : (known : List Known) (len : ℕ) (keys : List Key) (counters : List ElementId) (spread : ℕ) (fault : PlanFault) → fault ≡ CounterKind
-    → (fault ≢ OutOfMemory → first_fault known len keys counters spread ≡ Some fault) → (i : ℕ) × (position_from (is_unfit_counter known) 0 counters ≡ Some i) × (i < length counters)
-counter_found known len keys counters spread fault is first =
-    let fits : first_fault known len keys counters spread ≡ Some CounterKind = first (λ e. let d : CounterKind ≡ OutOfMemory = sym is ∙ e in cc) ∙ ap (λ (f : PlanFault). Some f) is in
-    first_failing (is_counter known) counters (test_fails known CounterKind len keys counters spread fits)
+pub counter_found : (known : List Known) (choices : Choices) (len : ℕ) (keys : List Key) (counters : List ElementId) (spread : ℕ) (fault : PlanFault) → fault ≡ CounterKind
+    → (fault ≢ OutOfMemory → chosen_fault known choices len keys counters spread ≡ Some fault) → (i : ℕ) × (position_from (is_unfit_counter known choices.totals) 0 counters ≡ Some i) × (i < length counters)
+counter_found known choices len keys counters spread fault is first =
+    let fits : chosen_fault known choices len keys counters spread ≡ Some CounterKind = first (λ e. let d : CounterKind ≡ OutOfMemory = sym is ∙ e in cc) ∙ ap (λ (f : PlanFault). Some f) is in
+    first_failing (may_count known choices.totals) counters (test_fails known choices CounterKind len keys counters spread fits)
 
 -- ---- the text at the place that is blamed
 
 blames : (known : List Known) (f : Fields) (fault : PlanFault) (keys : List Key) (counters : List ElementId) (key : PlanKey) (n : ℕ) (place : PlanPlace) → NamesAll known f keys counters
-    → blamed known fault keys counters ≡ Some (key, n) → IsTextAt key (texts_at key f) n place → IsPlace known f fault place
+    → blamed known f.choices.totals fault keys counters ≡ Some (key, n) → IsTextAt key (texts_at key f) n place → IsPlace known f fault place
 blames known f fault keys counters key n (Text k text) named is here =
     subst (λ x. IsPlace known f fault (Text x text)) here.0 (keys, counters, n, named, is, here.1)
 blames known f fault keys counters key n (Value k) named is here = absurd here

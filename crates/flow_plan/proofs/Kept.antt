@@ -12,7 +12,7 @@ use Rattle.element_registry.specs.Registries.{Known, element_by_name}
 use Rattle.element_registry.proofs.Registered.{before}
 use Rattle.flow_table.specs.declared.key.Key.{Key}
 use Rattle.flow_table.specs.declared.plan_fault.PlanFault.{PlanFault}
-use Rattle.flow_table.specs.Plans.{PlanValue, plan_value, first_fault}
+use Rattle.flow_table.specs.Plans.{PlanValue, chosen_plan, chosen_fault}
 use Rattle.flow_table.proofs.MadePlans.{kept_fault, kept_plan}
 use Rattle.flow_plan.specs.declared.fault.PlanTextFault.{PlanTextFault}
 use Rattle.flow_plan.specs.declared.fault.PlanTextFault.TheVariants.{NotToml, UnknownField, UnknownElement}
@@ -80,12 +80,12 @@ passed plan p (Some fault) h = absurd cc
 
 -- the plan of the fields but for their texts
 abbrev made : List Known → Fields → List Key → List ElementId → Read PlanValue
-made known f ks cs = checked (plan_value known f.length f.method ks cs f.max_spread) (first_fault known f.length ks cs f.max_spread)
+made known f ks cs = checked (chosen_plan known f.choices f.length f.method ks cs f.max_spread) (chosen_fault known f.choices f.length ks cs f.max_spread)
 
 made_kept : (known : List Known) (f : Fields) (ks : List Key) (cs : List ElementId) (p : PlanValue) → made [] f ks cs ≡ Ok p → made known f ks cs ≡ Ok p
 made_kept known f ks cs p h =
-    let none = passed (plan_value [] f.length f.method ks cs f.max_spread) p (first_fault [] f.length ks cs f.max_spread) h in
-    ap₂ checked (kept_plan known f.length f.method ks cs f.max_spread none) (kept_fault known f.length ks cs f.max_spread none ∙ sym none) ∙ h
+    let none = passed (chosen_plan [] f.choices f.length f.method ks cs f.max_spread) p (chosen_fault [] f.choices f.length ks cs f.max_spread) h in
+    ap₂ checked (kept_plan known f.choices f.length f.method ks cs f.max_spread none) (kept_fault known f.choices f.length ks cs f.max_spread none ∙ sym none) ∙ h
 
 fields_kept : (known : List Known) (p : PlanValue) (f : Fields) → plan_of_fields [] f ≡ Ok p → plan_of_fields known f ≡ Ok p
 fields_kept known p f h =

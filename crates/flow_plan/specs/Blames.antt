@@ -3,10 +3,11 @@ use Rattle.std.specs.Prelude.{◌≡◌, ℕ, ◌+◌, ◌-◌, ◌||◌, nat_lt
 use Rattle.std.specs.List.{list_any, position_from}
 use Rattle.ipfix_wire.specs.declared.specifier.ElementId.{ElementId}
 use Rattle.element_registry.specs.Registries.{Known}
+use Rattle.flow_table.specs.declared.choices.Totals.{Totals}
 use Rattle.flow_table.specs.declared.key.Key.{Key}
 use Rattle.flow_table.specs.declared.plan_fault.PlanFault.{PlanFault}
 use Rattle.flow_table.specs.declared.plan_fault.PlanFault.TheVariants.{Length, Spread, KeyCount, KeyKind, Prefix, CounterCount, CounterKind, Repeated}
-use Rattle.flow_table.specs.Plans.{is_prefix_of, same_element, exported_element, is_key, is_counter}
+use Rattle.flow_table.specs.Plans.{is_prefix_of, same_element, exported_element, is_key, may_count}
 use Rattle.flow_plan.specs.declared.error.PlanKey.{PlanKey}
 use Rattle.flow_plan.specs.declared.error.PlanKey.TheVariants.{IntervalMs, MaxSpread, Keys, Counters}
 use Rattle.flow_plan.specs.declared.error.PlanPlace.{PlanPlace}
@@ -35,8 +36,8 @@ is_unfit_key known k = not (is_key known k.element)
 abbrev pub is_unfit_prefix : Key → Bool
 is_unfit_prefix k = not (is_prefix_of k.element k.prefix)
 
-abbrev pub is_unfit_counter : List Known → ElementId → Bool
-is_unfit_counter known e = not (is_counter known e)
+abbrev pub is_unfit_counter : List Known → Totals → ElementId → Bool
+is_unfit_counter known totals e = not (may_count known totals e)
 
 -- whether two keys have one element, in the records that are read or in those that are exported
 abbrev pub has_one_element : Key → Key → Bool
@@ -56,12 +57,12 @@ abbrev pub place_after : ℕ → ℕ → PlanKey × ℕ
 place_after count n = if nat_lt n count then (Keys, n) else (Counters, n - count)
 
 -- the place of the first element that has the fault: its key, and which of the key's elements it is, counted from 0
-abbrev pub blamed : List Known → PlanFault → List Key → List ElementId → Option (PlanKey × ℕ)
-blamed known KeyKind keys counters = option_map (λ n. (Keys, n)) (position_from (is_unfit_key known) 0 keys)
-blamed known Prefix keys counters = option_map (λ n. (Keys, n)) (position_from is_unfit_prefix 0 keys)
-blamed known CounterKind keys counters = option_map (λ n. (Counters, n)) (position_from (is_unfit_counter known) 0 counters)
-blamed known Repeated keys counters = option_map (place_after (length keys)) (again_from [] 0 (elements_of keys counters))
-blamed known _ keys counters = None
+abbrev pub blamed : List Known → Totals → PlanFault → List Key → List ElementId → Option (PlanKey × ℕ)
+blamed known totals KeyKind keys counters = option_map (λ n. (Keys, n)) (position_from (is_unfit_key known) 0 keys)
+blamed known totals Prefix keys counters = option_map (λ n. (Keys, n)) (position_from is_unfit_prefix 0 keys)
+blamed known totals CounterKind keys counters = option_map (λ n. (Counters, n)) (position_from (is_unfit_counter known totals) 0 counters)
+blamed known totals Repeated keys counters = option_map (place_after (length keys)) (again_from [] 0 (elements_of keys counters))
+blamed known totals _ keys counters = None
 
 -- ---- their texts
 
@@ -78,7 +79,7 @@ NamesAll known f keys counters = (keys_in known f.keys ≡ Ok keys) × (counters
 -- this text of this key is the first that has the fault
 abbrev pub IsBlamed : List Known → Fields → PlanFault → PlanKey → List ℕ → Type 0
 IsBlamed known f fault key text =
-    (keys : List Key) × (counters : List ElementId) × (n : ℕ) × NamesAll known f keys counters × (blamed known fault keys counters ≡ Some (key, n))
+    (keys : List Key) × (counters : List ElementId) × (n : ℕ) × NamesAll known f keys counters × (blamed known f.choices.totals fault keys counters ≡ Some (key, n))
     × (slice_get (texts_at key f) n ≡ Some text)
 
 -- the value, the number of elements, or the text, that gives a document's values this fault

@@ -6,15 +6,15 @@ use Rattle.toml.specs.Data.{Data, Members, no_members, member, get_member}
 use Rattle.toml.specs.Parse.{parse_document}
 use Rattle.toml.specs.Errors.{IsMemory, IsWithin, span_start}
 use Rattle.element_registry.specs.Registries.{Known, element_by_name}
-use Rattle.flow_table.specs.Plans.{PlanValue}
+use Rattle.flow_table.specs.Plans.{PlanValue, basic}
 use Rattle.flow_plan.specs.declared.fault.PlanTextFault.{PlanTextFault}
 use Rattle.flow_plan.specs.declared.fault.PlanTextFault.TheVariants as faults
 use Rattle.flow_plan.specs.declared.error.PlanKey.{PlanKey}
-use Rattle.flow_plan.specs.declared.error.PlanKey.TheVariants.{IntervalMs, Method, MaxSpread, Keys, Counters}
+use Rattle.flow_plan.specs.declared.error.PlanKey.TheVariants.{IntervalMs, Method, MaxSpread, Keys, Counters, Times, Totals}
 use Rattle.flow_plan.specs.declared.error.PlanTextError.{PlanTextError}
 use Rattle.flow_plan.specs.declared.error.PlanTextError.TheVariants.{NotUtf8, NotToml, UnknownField, Missing, WrongKind, UnknownElement, Plan, OutOfMemory}
 use Rattle.flow_plan.specs.Faults.{Fails}
-use Rattle.flow_plan.specs.PlanTexts.{Fields, fields_of, is_field, required, optional, small_number, method, texts, key_named, plan_of_text}
+use Rattle.flow_plan.specs.PlanTexts.{Fields, fields_of, is_field, required, optional, small_number, method, texts, times_in, key_named, plan_of_text}
 use Rattle.flow_plan.specs.Blames.{IsPlace}
 
 -- the fault, without its place
@@ -34,6 +34,8 @@ key_name Method = codes "method"
 key_name MaxSpread = codes "max_spread"
 key_name Keys = codes "keys"
 key_name Counters = codes "counters"
+key_name Times = codes "times"
+key_name Totals = codes "totals"
 
 -- ---- lines and columns
 
@@ -78,7 +80,9 @@ refused_key d =
     else if is_err (required method (get_member (codes "method") d)) then Method
     else if is_err (optional 4096 small_number (get_member (codes "max_spread") d)) then MaxSpread
     else if is_err (required texts (get_member (codes "keys") d)) then Keys
-    else Counters
+    else if is_err (required texts (get_member (codes "counters") d)) then Counters
+    else if is_err (optional basic.times times_in (get_member (codes "times") d)) then Times
+    else Totals
 
 -- ---- texts that name no element
 

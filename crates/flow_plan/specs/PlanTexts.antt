@@ -9,10 +9,15 @@ use Rattle.toml.specs.Parse.{parse_document}
 use Rattle.ipfix_wire.specs.declared.specifier.ElementId.{ElementId}
 use Rattle.element_registry.specs.Registries.{Known, element_by_name}
 use Rattle.flow_table.specs.declared.key.Key.{Key}
+use Rattle.flow_table.specs.declared.choices.Choices.{Choices}
+use Rattle.flow_table.specs.declared.choices.Times.{Times}
+use Rattle.flow_table.specs.declared.choices.Times.TheVariants as times
+use Rattle.flow_table.specs.declared.choices.Totals.{Totals}
+use Rattle.flow_table.specs.declared.choices.Totals.TheVariants.{Refused, AsDeltas}
 use Rattle.flow_table.specs.declared.method.Method.{Method}
 use Rattle.flow_table.specs.declared.method.Method.TheVariants.{Start, End, Mid, Uniform, Proportional}
 use Rattle.flow_table.specs.declared.plan_fault.PlanFault.{PlanFault}
-use Rattle.flow_table.specs.Plans.{PlanValue, plan_value, first_fault}
+use Rattle.flow_table.specs.Plans.{PlanValue, basic, chosen_plan, chosen_fault}
 use Rattle.flow_plan.specs.declared.fault.PlanTextFault.TheVariants as faults
 use Rattle.flow_plan.specs.Faults.{Read, ◌>>=◌}
 
@@ -21,7 +26,7 @@ use Rattle.flow_plan.specs.Faults.{Read, ◌>>=◌}
 -- a plan has these and no others
 abbrev pub is_field : List ℕ → Bool
 is_field name =
-    list_any (bytes_eq name) (codes "interval_ms" ∷ codes "method" ∷ codes "max_spread" ∷ codes "keys" ∷ codes "counters" ∷ [])
+    list_any (bytes_eq name) (codes "interval_ms" ∷ codes "method" ∷ codes "max_spread" ∷ codes "keys" ∷ codes "counters" ∷ codes "times" ∷ codes "totals" ∷ [])
 
 abbrev pub has_known_fields : Members → Bool
 has_known_fields no_members = true
@@ -46,6 +51,26 @@ method_named name =
 abbrev pub method : Data → Option Method
 method (string name) = method_named name
 method _ = None
+
+abbrev pub times_named : List ℕ → Option Times
+times_named name =
+    if bytes_eq name (codes "basic") then Some times.Basic
+    else if bytes_eq name (codes "all") then Some times.All
+    else None
+
+abbrev pub times_in : Data → Option Times
+times_in (string name) = times_named name
+times_in _ = None
+
+abbrev pub totals_named : List ℕ → Option Totals
+totals_named name =
+    if bytes_eq name (codes "refused") then Some Refused
+    else if bytes_eq name (codes "as-deltas") then Some AsDeltas
+    else None
+
+abbrev pub totals_in : Data → Option Totals
+totals_in (string name) = totals_named name
+totals_in _ = None
 
 -- items that are texts and nothing else
 abbrev pub texts_in : Items → Option (List (List ℕ))
@@ -113,9 +138,11 @@ pub record Fields : Type 0 where
   pub max_spread : ℕ
   pub keys : List (List ℕ)
   pub counters : List (List ℕ)
+  pub choices : Choices
 
-abbrev pub fields : ℕ → Method → ℕ → List (List ℕ) → List (List ℕ) → Fields
-fields length method max_spread keys counters = record { length = length; method = method; max_spread = max_spread; keys = keys; counters = counters }
+abbrev pub fields : ℕ → Method → ℕ → List (List ℕ) → List (List ℕ) → Choices → Fields
+fields length method max_spread keys counters choices =
+    record { length = length; method = method; max_spread = max_spread; keys = keys; counters = counters; choices = choices }
 
 -- the keys of a document in the order of the faults
 abbrev pub fields_of : Members → Read Fields
@@ -125,7 +152,9 @@ fields_of d =
     optional 4096 small_number (get_member (codes "max_spread") d) >>= λ max_spread.
     required texts (get_member (codes "keys") d) >>= λ keys.
     required texts (get_member (codes "counters") d) >>= λ counters.
-    Ok (fields length method max_spread keys counters)
+    optional basic.times times_in (get_member (codes "times") d) >>= λ times.
+    optional basic.totals totals_in (get_member (codes "totals") d) >>= λ totals.
+    Ok (fields length method max_spread keys counters (record { times = times; totals = totals }))
 
 -- a plan that no fault fits
 abbrev pub checked : PlanValue → Option PlanFault → Read PlanValue
@@ -136,7 +165,7 @@ abbrev pub plan_of_fields : List Known → Fields → Read PlanValue
 plan_of_fields known f =
     keys_in known f.keys >>= λ keys.
     counters_in known f.counters >>= λ counters.
-    checked (plan_value known f.length f.method keys counters f.max_spread) (first_fault known f.length keys counters f.max_spread)
+    checked (chosen_plan known f.choices f.length f.method keys counters f.max_spread) (chosen_fault known f.choices f.length keys counters f.max_spread)
 
 abbrev pub plan_of_document : List Known → Members → Read PlanValue
 plan_of_document known d = if has_known_fields d then fields_of d >>= plan_of_fields known else Err faults.UnknownField

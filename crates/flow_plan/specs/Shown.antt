@@ -25,7 +25,7 @@ abbrev pub texts_of : Vec (Bor (List ℕ)) Global → List (List ℕ)
 texts_of texts = shown_all texts.items
 
 abbrev pub shown : Fields → plan.Fields
-shown f = plan.fields f.length f.method f.max_spread (texts_of f.keys) (texts_of f.counters)
+shown f = plan.fields f.length f.method f.max_spread (texts_of f.keys) (texts_of f.counters) f.choices
 
 -- what a function answered, seen by view, is what reading gives, and this is told of an error
 abbrev pub GivesOr : {X Y : Type 0} → (X → Y) → (PlanTextError → Type 0) → Result X PlanTextError → Read Y → Type 0

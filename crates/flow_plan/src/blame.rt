@@ -2,7 +2,7 @@
 
 ghost use Rattle.std.specs.Prelude.{◌≡◌, ◌≢◌, ◌<◌, Some, IfOk, length};
 ghost use Rattle.std.specs.List.{position_from};
-ghost use Rattle.flow_table.specs.Plans.{repeat_fault, first_fault};
+ghost use Rattle.flow_table.specs.Plans.{repeat_fault, chosen_fault};
 ghost use Rattle.flow_plan.specs.Blames.{is_unfit_prefix, is_unfit_counter, is_unfit_key, IsPlace, NamesAll};
 ghost use Rattle.flow_plan.specs.Shown.{shown, shown_all, IsTextAt};
 
@@ -10,7 +10,7 @@ use crate::error::{PlanKey, PlanPlace};
 use crate::fields::Fields;
 use crate::repeats::first_repeat;
 use element_registry::Elements;
-use flow_table::{Key, PlanFault, is_counter, is_key, is_prefix_of};
+use flow_table::{Key, PlanFault, Totals, is_key, is_prefix_of, may_count};
 use ipfix_wire::ElementId;
 use std::alloc::{AllocError, Global};
 
@@ -26,7 +26,7 @@ pub fn place_of(
 ) -> Result<PlanPlace, AllocError>
     requires named { NamesAll elements.now (shown fields.now) keys.now counters.now }
     requires first { fault ≢ PlanFault.OutOfMemory
-        → first_fault elements.now fields.now.length keys.now counters.now
+        → chosen_fault elements.now fields.now.choices fields.now.length keys.now counters.now
         fields.now.max_spread ≡ Some fault }
     ensures { IfOk result (IsPlace elements.now (shown fields.now) fault) }
 {
@@ -54,7 +54,7 @@ pub fn place_of(
             text_at(alloc, PlanKey::Keys, &fields.keys, index)
         }
         PlanFault::CounterKind => {
-            let index = unfit_counter(elements, counters).unwrap();
+            let index = unfit_counter(elements, fields.choices.totals, counters).unwrap();
             text_at(alloc, PlanKey::Counters, &fields.counters, index)
         }
         PlanFault::Repeated => repeated_text(alloc, elements, fields, keys, counters),
@@ -119,10 +119,10 @@ fn unfit_prefix(keys: &[Key]) -> Option<usize>
 }
 
 // The place of the first element that may be no counter.
-fn unfit_counter(elements: &Elements, counters: &[ElementId]) -> Option<usize>
-    ensures { result ≡ position_from (is_unfit_counter elements.now) 0 counters.now }
+fn unfit_counter(elements: &Elements, totals: Totals, counters: &[ElementId]) -> Option<usize>
+    ensures { result ≡ position_from (is_unfit_counter elements.now totals) 0 counters.now }
 {
     counters
         .iter()
-        .position(|counter| !is_counter(elements, *counter))
+        .position(|counter| !may_count(elements, totals, *counter))
 }

@@ -22,6 +22,10 @@ pub enum PlanKey {
     Keys,
     /// The elements that are added up.
     Counters,
+    /// Which elements say when a flow starts and ends.
+    Times,
+    /// What becomes of totals.
+    Totals,
 }
 
 impl PlanKey {
@@ -35,6 +39,8 @@ impl PlanKey {
             PlanKey::MaxSpread => "max_spread",
             PlanKey::Keys => "keys",
             PlanKey::Counters => "counters",
+            PlanKey::Times => "times",
+            PlanKey::Totals => "totals",
         }
     }
 }

@@ -3,13 +3,14 @@
 ghost use Rattle.std.specs.Prelude.{◌≡◌, string_bytes, IfOk};
 ghost use Rattle.std.specs.Option.{option_map};
 ghost use Rattle.toml.specs.View.{table_view, view};
-ghost use Rattle.flow_plan.specs.PlanTexts.{is_field as is_field_name, fields_of, required, optional, small_number, method, texts};
+ghost use Rattle.flow_plan.specs.PlanTexts.{is_field as is_field_name, fields_of, required, optional, small_number, method, texts, times_in as times_of, totals_in as totals_of};
 ghost use Rattle.flow_plan.specs.Places.{refused_key, unknown_field as unknown_in, value_of};
 ghost use Rattle.flow_plan.specs.Shown.{shown, texts_of, GivesOr, IsOfKey, ReadsValue};
+ghost use Rattle.flow_table.specs.Plans.{basic};
 ghost use Rattle.flow_plan.specs.declared.error.PlanKey.TheVariants.{MaxSpread};
 
 use crate::error::{PlanKey, PlanTextError};
-use flow_table::{MAX_SPREAD, Method};
+use flow_table::{Choices, MAX_SPREAD, Method, Times, Totals};
 use std::alloc::{AllocError, Global};
 use toml::{Table, Value};
 
@@ -21,6 +22,7 @@ pub struct Fields<'a> {
     pub max_spread: u32,
     pub keys: Vec<&'a str>,
     pub counters: Vec<&'a str>,
+    pub choices: Choices,
 }
 
 /// The first key of a document that plans don't have.
@@ -36,7 +38,7 @@ fn is_field(name: &str) -> bool
 {
     matches!(
         name,
-        "interval_ms" | "method" | "max_spread" | "keys" | "counters"
+        "interval_ms" | "method" | "max_spread" | "keys" | "counters" | "times" | "totals"
     )
 }
 
@@ -51,12 +53,15 @@ pub fn read_fields(alloc: Global, table: &Table) -> Result<Fields<'_>, PlanTextE
     let max_spread = max_spread(table)?;
     let keys = texts_at(alloc, table, PlanKey::Keys)?;
     let counters = texts_at(alloc, table, PlanKey::Counters)?;
+    let times = times_at(table)?;
+    let totals = totals_at(table)?;
     Ok(Fields {
         length,
         method,
         max_spread,
         keys,
         counters,
+        choices: Choices { times, totals },
     })
 }
 
@@ -97,6 +102,30 @@ fn method_at(table: &Table) -> Result<Method, PlanTextError>
     }
 }
 
+// Which elements say times: a value that may be missing.
+fn times_at(table: &Table) -> Result<Times, PlanTextError>
+    ensures { ReadsValue (λ t. t) PlanKey.Times (table_view table.now)
+        (optional basic.times times_of) result }
+{
+    let key = PlanKey::Times;
+    match value_at(table, key) {
+        Some(value) => times_in(value).ok_or(PlanTextError::WrongKind { key }),
+        None => Ok(Choices::BASIC.times),
+    }
+}
+
+// What becomes of totals: a value that may be missing.
+fn totals_at(table: &Table) -> Result<Totals, PlanTextError>
+    ensures { ReadsValue (λ t. t) PlanKey.Totals (table_view table.now)
+        (optional basic.totals totals_of) result }
+{
+    let key = PlanKey::Totals;
+    match value_at(table, key) {
+        Some(value) => totals_in(value).ok_or(PlanTextError::WrongKind { key }),
+        None => Ok(Choices::BASIC.totals),
+    }
+}
+
 fn texts_at(alloc: Global, table: &Table, key: PlanKey) -> Result<Vec<&str>, PlanTextError>
     ensures { ReadsValue texts_of key (table_view table.now) (required texts) result }
 {
@@ -122,6 +151,26 @@ fn method_in(value: &Value) -> Option<Method>
         Some("mid") => Some(Method::Mid),
         Some("uniform") => Some(Method::Uniform),
         Some("proportional") => Some(Method::Proportional),
+        _ => None,
+    }
+}
+
+fn times_in(value: &Value) -> Option<Times>
+    ensures { result ≡ times_of (view value.now) }
+{
+    match value.as_str() {
+        Some("basic") => Some(Times::Basic),
+        Some("all") => Some(Times::All),
+        _ => None,
+    }
+}
+
+fn totals_in(value: &Value) -> Option<Totals>
+    ensures { result ≡ totals_of (view value.now) }
+{
+    match value.as_str() {
+        Some("refused") => Some(Totals::Refused),
+        Some("as-deltas") => Some(Totals::AsDeltas),
         _ => None,
     }
 }

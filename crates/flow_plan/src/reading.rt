@@ -32,6 +32,8 @@ use toml::Table;
 /// | `max_spread` | an integer, 0 to 4294967295; 4096 if it is missing |
 /// | `keys` | an array of names of elements, each alone or as `NAME/BITS` with a prefix of 0 to 255 bits |
 /// | `counters` | an array of names of elements |
+/// | `times` | `"basic"`, or `"all"`: [`Times`](flow_table::Times); `"basic"` if it is missing |
+/// | `totals` | `"refused"`, or `"as-deltas"`: [`Totals`](flow_table::Totals); `"refused"` if it is missing |
 pub fn read_plan(alloc: Global, text: &str) -> Result<Plan, PlanTextFault>
     ensures ok { IfOk result (λ plan. plan_of_text [] text.now ≡ Ok plan) }
     ensures fault { IfErr result (λ fault. Fails fault (plan_of_text [] text.now)) }
@@ -113,6 +115,7 @@ fn make_plan(alloc: Global, elements: &Elements, fields: &Fields) -> Result<Plan
         &keys,
         &counters,
         fields.max_spread,
+        fields.choices,
     ) {
         Ok(plan) => Ok(plan),
         Err(fault) => Err(PlanTextError::Plan {

@@ -3,7 +3,7 @@
 use crate::tests::plan_with;
 use element_registry::{Elements, ElementsFault, add_file};
 use flow_plan::{PlanPlace, PlanTextError, PlanTextFault, read_plan, read_plan_with};
-use flow_table::{Key, Method, Plan};
+use flow_table::{Choices, Key, Method, Plan};
 use ipfix_wire::ElementId;
 use std::alloc::{AllocError, Global};
 use std::test::*;
@@ -55,6 +55,7 @@ fn reads_elements_of_a_file(rt: HostRuntime) -> Result<(), Fail> {
         &keys,
         &counters,
         4096,
+        Choices::BASIC,
     )?;
     assert!(rt; plan == want);
     Ok(())

@@ -155,6 +155,21 @@ fn refuses_values(rt: HostRuntime) -> Result<(), Fail> {
         ),
         ("", "", "", "Plan: 0 CounterCount"),
         ("max_spread = 0", "", "", "Plan: 0 Spread"),
+        ("times = 'none'", "", "1", "WrongKind: 0 counters"),
+        (
+            "totals = 1\ntimes = 'none'",
+            "",
+            "'vlanId'",
+            "WrongKind: 0 times",
+        ),
+        (
+            "totals = 'deltas'\ntimes = 'all'",
+            "",
+            "'vlanId'",
+            "WrongKind: 0 totals",
+        ),
+        ("totals = 'as-deltas'", "", "'e0.85'", "none"),
+        ("totals = 'refused'", "", "'e0.85'", "Plan: 0 CounterKind"),
     ] {
         let fault = fault_with(rt.alloc(), more, keys, counters)?;
         assert_eq!(rt; fault.as_str(), want);
@@ -174,6 +189,7 @@ fn reads_prefixes(rt: HostRuntime) -> Result<(), Fail> {
         ("'sourceTransportPort/8'", "Plan: 0 Prefix"),
         ("'e0.8/0'", "none"),
         ("'destinationIPv4Address/32'", "none"),
+        ("'sourceIPv6Address/0', 'e0.28/128'", "none"),
     ] {
         let fault = fault_with(rt.alloc(), "", key, "'octetDeltaCount'")?;
         assert_eq!(rt; fault.as_str(), want);

@@ -32,9 +32,9 @@ fn tells_what_makes_no_plan(rt: HostRuntime) -> Result<(), Fail> {
         ),
         (
             "",
-            "'vlanId', 'sourceIPv6Address/64', 'vlanId/1'",
+            "'vlanId', 'sourceIPv6Address/129', 'vlanId/1'",
             octets,
-            "sourceIPv6Address/64 of keys",
+            "sourceIPv6Address/129 of keys",
         ),
         ("", "", "'e0.1', 'vlanId', 'e0.8'", "vlanId of counters"),
         ("", "'vlanId', 'e0.8', 'e0.58'", octets, "e0.58 of keys"),

@@ -12,14 +12,10 @@ use Rattle.flow_table.specs.Readings.{HasCell}
 use Rattle.flow_table.specs.Words.{cell_words}
 use Rattle.flow_table.proofs.Fits.{IsOctets, number_fits, projected_fits}
 
--- a prefix leaves all that is no IPv4 address
+-- a prefix leaves all that is no address of IP
 number_whole : (prefix : Option ℕ) (n : ℕ) → projected prefix (Number n) ≡ Number n
 number_whole None n = refl
 number_whole (Some bits) n = refl
-
-ipv6_whole : (prefix : Option ℕ) (address : List ℕ) → projected prefix (Ipv6 address) ≡ Ipv6 address
-ipv6_whole None address = refl
-ipv6_whole (Some bits) address = refl
 
 mac_whole : (prefix : Option ℕ) (address : List ℕ) → projected prefix (Mac address) ≡ Mac address
 mac_whole None address = refl
@@ -47,10 +43,16 @@ has_ipv4 prefix octets address kept words same long is are =
       are = are;
     }
 
-pub has_ipv6 : (prefix : Option ℕ) (octets address words : List ℕ) → address ≡ octets → length octets ≡ 16 → cell_words kinds.Ipv6 (Ipv6 address) ≡ Some words
+pub has_ipv6 : (prefix : Option ℕ) (octets address kept words : List ℕ) → address ≡ octets → length octets ≡ 16 → Ipv6 kept ≡ projected prefix (Ipv6 address) → cell_words kinds.Ipv6 (Ipv6 kept) ≡ Some words
     → HasCell kinds.Ipv6 (option_map (projected prefix) (cell_in kinds.Ipv6 octets)) words
-has_ipv6 prefix octets address words same long are =
-    has_whole kinds.Ipv6 prefix (cell_in kinds.Ipv6 octets) (Ipv6 octets) words (rw long refl) (ipv6_whole prefix octets) long (ap (λ (a : List ℕ). cell_words kinds.Ipv6 (Ipv6 a)) (sym same) ∙ are)
+has_ipv6 prefix octets address kept words same long is are =
+    let whole : Ipv6 kept ≡ projected prefix (Ipv6 octets) = is ∙ ap (λ (a : List ℕ). projected prefix (Ipv6 a)) same in
+    record {
+      cell = Ipv6 kept;
+      is = rw long (ap (λ (cell : Cell). Some cell) (sym whole));
+      fits = subst (IsCellOf kinds.Ipv6) (sym whole) (projected_fits kinds.Ipv6 prefix (Ipv6 octets) long);
+      are = are;
+    }
 
 pub has_mac : (prefix : Option ℕ) (octets address words : List ℕ) → address ≡ octets → length octets ≡ 6 → cell_words kinds.Mac (Mac address) ≡ Some words
     → HasCell kinds.Mac (option_map (projected prefix) (cell_in kinds.Mac octets)) words

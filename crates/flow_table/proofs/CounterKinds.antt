@@ -1,5 +1,5 @@
 -- Each counter of a plan has the kind of unsigned64.
-use Rattle.std.proofs.Common.{◌≡◌, ◌&&◌, ◌||◌, true, List, [], ◌∷◌, find, Option, Some, None, is_none, refl, sym, ap, ◌∙◌, inl, inr}
+use Rattle.std.proofs.Common.{◌≡◌, ◌&&◌, ◌||◌, Bool, true, false, List, [], ◌∷◌, find, Option, Some, None, is_none, refl, sym, ap, ◌∙◌, inl, inr}
 use Rattle.std.specs.Prelude.{All}
 use Rattle.std.specs.List.{list_all, list_any}
 use Rattle.std.specs.Option.{option_map_or}
@@ -12,7 +12,8 @@ use Rattle.ipfix_elements.specs.declared.kind.Width.TheVariants.{Eight}
 use Rattle.element_registry.specs.Registries.{Known, IsRegistry, element_kind, is_of}
 use Rattle.element_registry.specs.declared.kind.ElementKind.{ElementKind}
 use Rattle.element_registry.specs.declared.kind.ElementKind.TheVariants.{Plain}
-use Rattle.flow_table.specs.Plans.{PlanValue, first_fault_of, is_built_in_counter, is_counter, is_delta_of, is_element, is_unsigned64}
+use Rattle.flow_table.specs.declared.choices.Totals.{Totals}
+use Rattle.flow_table.specs.Plans.{PlanValue, first_fault_of, is_built_in_counter, is_counter, is_taken_total, may_count, is_delta_of, is_element, is_unsigned64}
 use Rattle.flow_table.proofs.Counting.{counts, counts_once}
 use Rattle.flow_table.proofs.MadePlans.{counters_counted, Each, has_number}
 
@@ -47,12 +48,24 @@ counter_of_eight known good e counter = elim (cases_Bool (is_built_in_counter e)
       ∙ of_entry (find (is_of e) known) (sym (counts_once e known good) ∙ both.1)
 ]
 
-of_one_kind : (known : List Known) → IsRegistry known → (counters : List ElementId) → list_all (is_counter known) counters ≡ true → All (λ c. element_kind known c ≡ Plain (Unsigned Eight)) counters
-unfolding IsOfEight
-of_one_kind known good [] all = All-nil (IsOfEight known)
-of_one_kind known good (c ∷ counters) all =
-    let both = and_parts (is_counter known c) (list_all (is_counter known) counters) all in
-    All-cons (IsOfEight known) c counters (counter_of_eight known good c both.0) (of_one_kind known good counters both.1)
+-- a counter that isn't a total taken as a delta
+abbrev HasKind : List Known → Totals → ElementId → Type 0
+HasKind known totals e = is_taken_total totals e ≡ false → IsOfEight known e
 
-pub counters_of_plan : (known : List Known) (plan : PlanValue) → IsRegistry known → first_fault_of known plan ≡ None → All (λ c. element_kind known c ≡ Plain (Unsigned Eight)) plan.counters
-counters_of_plan known plan good none = of_one_kind known good plan.counters (counters_counted known plan none)
+count_of_eight : (known : List Known) → IsRegistry known → (totals : Totals) (e : ElementId) → may_count known totals e ≡ true → HasKind known totals e
+count_of_eight known good totals e counts other = counter_of_eight known good e (sym (or-false (is_counter known e)) ∙ ap (λ b. is_counter known e || b) (sym other) ∙ counts)
+  where
+    or-false : (b : Bool) → (b || false) ≡ b
+    or-false true = refl
+    or-false false = refl
+
+of_one_kind : (known : List Known) → IsRegistry known → (totals : Totals) (counters : List ElementId) → list_all (may_count known totals) counters ≡ true → All (HasKind known totals) counters
+of_one_kind known good totals [] all = All-nil (HasKind known totals)
+of_one_kind known good totals (c ∷ counters) all =
+    let both = and_parts (may_count known totals c) (list_all (may_count known totals) counters) all in
+    All-cons (HasKind known totals) c counters (count_of_eight known good totals c both.0) (of_one_kind known good totals counters both.1)
+
+pub counters_of_plan : (known : List Known) (plan : PlanValue) → IsRegistry known → first_fault_of known plan ≡ None
+    → All (λ c. is_taken_total plan.choices.totals c ≡ false → element_kind known c ≡ Plain (Unsigned Eight)) plan.counters
+unfolding IsOfEight
+counters_of_plan known plan good none = of_one_kind known good plan.choices.totals plan.counters (counters_counted known plan none)

@@ -97,7 +97,6 @@ cell_fits Octets octets cell ok small h = absurd cc
 pub projected_fits : (kind : Kind) (prefix : Option ℕ) (cell : Cell) → IsCellOf kind cell → IsCellOf kind (projected prefix cell)
 projected_fits kind None cell h = h
 projected_fits kind (Some bits) (cells.Number n) h = h
-projected_fits kind (Some bits) (cells.Ipv6 address) h = h
 projected_fits kind (Some bits) (cells.Mac address) h = h
 projected_fits Ipv4 (Some bits) (cells.Ipv4 address) h = refl
 projected_fits (Unsigned width) (Some bits) (cells.Ipv4 address) h = h
@@ -106,6 +105,13 @@ projected_fits Mac (Some bits) (cells.Ipv4 address) h = h
 projected_fits Seconds (Some bits) (cells.Ipv4 address) h = h
 projected_fits Millis (Some bits) (cells.Ipv4 address) h = h
 projected_fits Octets (Some bits) (cells.Ipv4 address) h = h
+projected_fits Ipv6 (Some bits) (cells.Ipv6 address) h = refl
+projected_fits (Unsigned width) (Some bits) (cells.Ipv6 address) h = h
+projected_fits Ipv4 (Some bits) (cells.Ipv6 address) h = h
+projected_fits Mac (Some bits) (cells.Ipv6 address) h = h
+projected_fits Seconds (Some bits) (cells.Ipv6 address) h = h
+projected_fits Millis (Some bits) (cells.Ipv6 address) h = h
+projected_fits Octets (Some bits) (cells.Ipv6 address) h = h
 
 -- ---- keys
 
@@ -163,14 +169,14 @@ pub contributes_at : (plan : PlanValue) (k : ℕ) (key : List Cell) (r : DataRec
     → (class_of plan r ≡ classes.Used) × (k * plan.length < 2 ^ 50) × (key_of plan r ≡ Some key)
 unfolding contributes
 contributes_at plan k key r h =
-    let given = and_parts (is_class classes.Used (class_of plan r) && list_any (nat_eq k) (covers plan (begin_of r) (finish_of r))) (is_key key (key_of plan r)) h in
-    let used = and_parts (is_class classes.Used (class_of plan r)) (list_any (nat_eq k) (covers plan (begin_of r) (finish_of r))) given.0 in
+    let given = and_parts (is_class classes.Used (class_of plan r) && list_any (nat_eq k) (covers plan (begin_of plan r) (finish_of plan r))) (is_key key (key_of plan r)) h in
+    let used = and_parts (is_class classes.Used (class_of plan r)) (list_any (nat_eq k) (covers plan (begin_of plan r) (finish_of plan r))) given.0 in
     let class = is_used_class (class_of plan r) used.0 in
     let flow = used_as plan r class in
     let is = flow.3 in
-    let from : begin_of r ≡ flow.0 = ap (λ (o : Option ℕ). unwrap_or o 0) is.start in
-    let to : finish_of r ≡ flow.1 = ap (λ (o : Option ℕ). unwrap_or o 0) is.end in
-    let in_it : list_any (nat_eq k) (covers plan flow.0 flow.1) ≡ true = same_covers plan k (begin_of r) (finish_of r) flow.0 flow.1 from to used.1 in
+    let from : begin_of plan r ≡ flow.0 = ap (λ (o : Option ℕ). unwrap_or o 0) is.start in
+    let to : finish_of plan r ≡ flow.1 = ap (λ (o : Option ℕ). unwrap_or o 0) is.end in
+    let in_it : list_any (nat_eq k) (covers plan flow.0 flow.1) ≡ true = same_covers plan k (begin_of plan r) (finish_of plan r) flow.0 flow.1 from to used.1 in
     let begin : k * plan.length ≤ flow.1 = begins_in_time plan.method k plan.length flow.0 flow.1 is.forward in_it in
     (class, omega (arith, begin, is.in_time), has_key key (key_of plan r) given.1)
 

@@ -129,8 +129,8 @@ pub missing_small : (plan : PlanValue) (rs : List DataRecord) → (IsTooLarge pl
 unfolding missing_of
 missing_small plan rs small =
     record {
-      start = omega (arith, in_class plan classes.Untimed (λ r. is_none (start_of r)) rs, count_small plan rs classes.Untimed small);
-      end = omega (arith, in_class plan classes.Untimed (λ r. is_some (start_of r)) rs, count_small plan rs classes.Untimed small);
+      start = omega (arith, in_class plan classes.Untimed (λ r. is_none (start_of plan.choices.times r)) rs, count_small plan rs classes.Untimed small);
+      end = omega (arith, in_class plan classes.Untimed (λ r. is_some (start_of plan.choices.times r)) rs, count_small plan rs classes.Untimed small);
       keys = all_map (λ n. n < 2 ^ 64) (λ k. how_many (lacks_key plan k) rs) (λ k. omega (arith, in_class plan classes.Unkeyed (λ r. is_place k (first_without plan.keys plan.kinds r)) rs, count_small plan rs classes.Unkeyed small)) (range_with_len 0 MAX_KEYS);
       counters = all_map (λ n. n < 2 ^ 64) (λ c. how_many (lacks_counter plan c) rs) (λ c. omega (arith, in_class plan classes.Used (λ r. is_absent_at plan.counters c r) rs, count_small plan rs classes.Used small)) (range_with_len 0 MAX_COUNTERS);
     }
@@ -144,7 +144,7 @@ one_of_test test r = elim (test r) as (λ b. length (cond b (r ∷ []) []) ≡ c
 -- what one record of a class lacks
 abbrev of_class : PlanValue → DataRecord → Class → Missing
 of_class plan r class =
-    missing (cond (is_class classes.Untimed class && is_none (start_of r)) 1 0) (cond (is_class classes.Untimed class && is_some (start_of r)) 1 0)
+    missing (cond (is_class classes.Untimed class && is_none (start_of plan.choices.times r)) 1 0) (cond (is_class classes.Untimed class && is_some (start_of plan.choices.times r)) 1 0)
     (by_place MAX_KEYS (λ k. cond (is_class classes.Unkeyed class && is_place k (first_without plan.keys plan.kinds r)) 1 0))
     (by_place MAX_COUNTERS (λ c. cond (is_class classes.Used class && is_absent_at plan.counters c r) 1 0))
 
@@ -171,7 +171,7 @@ left_missing plan r WithoutStart is =
     ∙ ap (λ (o : Option ℕ). missing (cond (is_none o) 1 0) (cond (is_some o) 1 0) (by_place MAX_KEYS (λ k. 0)) (by_place MAX_COUNTERS (λ c. 0))) is.lacks
 left_missing plan r WithoutEnd is =
     of_this_class plan r classes.Untimed is.class
-    ∙ same_missing _ _ _ _ _ _ _ _ (no_start (start_of r) is.lacks) (ap (λ (b : Bool). cond b 1 0) is.lacks) refl refl
+    ∙ same_missing _ _ _ _ _ _ _ _ (no_start (start_of plan.choices.times r) is.lacks) (ap (λ (b : Bool). cond b 1 0) is.lacks) refl refl
 left_missing plan r Backward is = of_this_class plan r classes.Backward is.class
 left_missing plan r (WithoutKey place) is =
     of_this_class plan r classes.Unkeyed is.class
@@ -368,7 +368,7 @@ either a o (r ∷ rs) = one_each r (filter (λ q. a q && is_none (o q)) rs) (fil
 
 pub times_add_up : (plan : PlanValue) (rs : List DataRecord) → (missing_of plan rs).start + (missing_of plan rs).end ≡ (tally_of plan rs).untimed
 unfolding missing_of how_many count_of
-times_add_up plan rs = either (λ r. is_class classes.Untimed (class_of plan r)) start_of rs
+times_add_up plan rs = either (λ r. is_class classes.Untimed (class_of plan r)) (start_of plan.choices.times) rs
 
 pub counters_within : (plan : PlanValue) (rs : List DataRecord) → All (λ n. n ≤ (tally_of plan rs).used) (missing_of plan rs).counters
 unfolding missing_of
@@ -471,7 +471,7 @@ of_scope true class x is h = cc h
 of_scope false class x is h = is h
 
 keyless : (plan : PlanValue) (r : DataRecord) → is_class classes.Unkeyed (class_of plan r) ≡ true → is_none (key_of plan r) ≡ true
-keyless plan r h = of_scope (nat_lt 0 r.scope) (flow_class plan r (start_of r) (end_of r)) (is_none (key_of plan r)) (of_flow plan r (start_of r) (end_of r)) h
+keyless plan r h = of_scope (nat_lt 0 r.scope) (flow_class plan r (start_of plan.choices.times r) (end_of plan.choices.times r)) (is_none (key_of plan r)) (of_flow plan r (start_of plan.choices.times r) (end_of plan.choices.times r)) h
 
 pub keys_add_up : (plan : PlanValue) (rs : List DataRecord) → IsPlan plan → sum (missing_of plan rs).keys ≡ (tally_of plan rs).unkeyed
 unfolding missing_of how_many count_of

@@ -14,6 +14,7 @@ pub mod FlowIntervals
 pub mod UsedFlows
 pub mod Fits
 pub mod KeyCells
+pub mod Masks
 pub mod CellsRead
 pub mod Runs
 pub mod Kept

@@ -2,7 +2,7 @@
 use Rattle.std.proofs.Common.{◌≡◌, ℕ, Bool, true, false, eqb, nat_lt, nat_le, ◌||◌, ◌&&◌, not, List, [], ◌∷◌, length, map, find, Option, Some, None, is_none, refl, sym, ap, ap₂, subst, ◌∙◌, inl, inr}
 use Rattle.std.specs.List.{list_all, list_any}
 use Rattle.std.specs.Option.{option_map_or}
-use Rattle.std.proofs.lemmas.Bool.{false≢true, cases_Bool, and_parts, and_from, eqb-true}
+use Rattle.std.proofs.lemmas.Bool.{false≢true, cases_Bool, or_cases, and_parts, and_from, eqb-true}
 use Rattle.std.proofs.lemmas.List.{length-map}
 use Rattle.std.proofs.lemmas.List.Folds.{list_all-map}
 use Rattle.ipfix_wire.specs.declared.specifier.ElementId.{ElementId}
@@ -11,12 +11,15 @@ use Rattle.ipfix_elements.specs.declared.kind.Kind.{Kind}
 use Rattle.ipfix_elements.specs.declared.kind.Kind.TheVariants.{Octets}
 use Rattle.element_registry.specs.Registries.{Known, is_of}
 use Rattle.element_registry.specs.declared.kind.ElementKind.TheVariants.{Plain}
+use Rattle.flow_table.specs.declared.choices.Choices.{Choices}
+use Rattle.flow_table.specs.declared.choices.Totals.{Totals}
+use Rattle.flow_table.specs.declared.choices.Totals.TheVariants.{Refused, AsDeltas}
 use Rattle.flow_table.specs.declared.key.Key.{Key}
 use Rattle.flow_table.specs.declared.key.Side.TheVariants.{Read, Exported}
 use Rattle.flow_table.specs.declared.method.Method.{Method}
 use Rattle.flow_table.specs.declared.plan_fault.PlanFault.{PlanFault}
 use Rattle.flow_table.specs.declared.plan_fault.PlanFault.TheVariants.{KeyCount, KeyKind, Prefix, CounterCount, CounterKind}
-use Rattle.flow_table.specs.Plans.{PlanValue, IsPlan, first_fault_of, plan_value, plan_with, field_kind, key_kind, kinds_of, is_between, is_element, is_time, is_value, is_key, is_key_kind, is_built_in_counter, is_counter, is_delta_of, is_prefix_of, has_twice, elements_in, or_else, fault_unless, length_fault, spread_fault, repeat_fault, first_fault}
+use Rattle.flow_table.specs.Plans.{PlanValue, IsPlan, first_fault_of, chosen_fault, chosen_plan, plan_with, field_kind, key_kind, kinds_of, is_between, is_element, is_time, is_value, is_key, is_key_kind, is_built_in_counter, is_counter, is_delta_of, is_prefix_of, has_twice, elements_in, or_else, fault_unless, length_fault, spread_fault, repeat_fault, is_taken_total, may_count}
 
 -- ---- lists
 
@@ -130,6 +133,28 @@ counter_is_value known e counter = elim (cases_Bool (is_built_in_counter e)) [
       no_time e both.0 (λ time. not_both (is_none (entry_of e)) (has_number BuiltIn (150 ∷ 151 ∷ 152 ∷ 153 ∷ []) e times_built_in time) free)
 ]
 
+taken_totals_are_values : Each (λ n. IsValue (iana n)) (85 ∷ 86 ∷ [])
+unfolding IsValue
+taken_totals_are_values = (refl, (refl, tt))
+
+taken_total_is_value : (totals : Totals) (e : ElementId) → is_taken_total totals e ≡ true → is_value e ≡ true
+unfolding IsValue
+taken_total_is_value Refused e taken = absurd (false≢true taken)
+taken_total_is_value AsDeltas e taken = has_number IsValue (85 ∷ 86 ∷ []) e taken_totals_are_values taken
+
+may_count_is_value : (known : List Known) (totals : Totals) (e : ElementId) → may_count known totals e ≡ true → is_value e ≡ true
+may_count_is_value known totals e counts =
+    elim (or_cases (is_counter known e) (is_taken_total totals e) counts) as (λ _. is_value e ≡ true)
+    [ inl counter ↦ counter_is_value known e counter | inr taken ↦ taken_total_is_value totals e taken ]
+
+or_grows : (a b c : Bool) → (a ≡ true → b ≡ true) → (a || c) ≡ true → (b || c) ≡ true
+or_grows a true c grows h = refl
+or_grows true false c grows h = absurd (false≢true (grows refl))
+or_grows false false c grows h = h
+
+kept_count : (known : List Known) (totals : Totals) (e : ElementId) → may_count [] totals e ≡ true → may_count known totals e ≡ true
+kept_count known totals e h = or_grows (is_counter [] e) (is_counter known e) (is_taken_total totals e) (kept_counter known e) h
+
 -- ---- faults by the tests of kinds
 
 -- the first fault, by whether the elements may be keys, and counters
@@ -153,24 +178,24 @@ passed_test true fault h = refl
 passed_test false fault h = absurd cc
 
 -- the tests that arguments pass
-record PassedTests (known : List Known) (len : ℕ) (keys : List Key) (counters : List ElementId) (max_spread : ℕ) : Type 0 where
+record PassedTests (known : List Known) (choices : Choices) (len : ℕ) (keys : List Key) (counters : List ElementId) (max_spread : ℕ) : Type 0 where
   positive : nat_lt 0 len ≡ true
   spread : is_between 1 4096 max_spread ≡ true
   few : nat_le (length keys) 8 ≡ true
   kinds : list_all (λ k. is_key known k.element) keys ≡ true
   prefixes : list_all (λ k. is_prefix_of k.element k.prefix) keys ≡ true
   some : is_between 1 4 (length counters) ≡ true
-  counted : list_all (is_counter known) counters ≡ true
+  counted : list_all (may_count known choices.totals) counters ≡ true
   apart : not (has_twice (elements_in Read keys counters) || has_twice (elements_in Exported keys counters)) ≡ true
 
-passed_tests : (known : List Known) (len : ℕ) (keys : List Key) (counters : List ElementId) (max_spread : ℕ)
-    → first_fault known len keys counters max_spread ≡ None → PassedTests known len keys counters max_spread
-passed_tests known len keys counters max_spread h =
+passed_tests : (known : List Known) (choices : Choices) (len : ℕ) (keys : List Key) (counters : List ElementId) (max_spread : ℕ)
+    → chosen_fault known choices len keys counters max_spread ≡ None → PassedTests known choices len keys counters max_spread
+passed_tests known choices len keys counters max_spread h =
     let few = fault_unless (nat_le (length keys) 8) KeyCount in
     let kind = fault_unless (list_all (λ k. is_key known k.element) keys) KeyKind in
     let prefix = fault_unless (list_all (λ k. is_prefix_of k.element k.prefix) keys) Prefix in
     let some = fault_unless (is_between 1 4 (length counters)) CounterCount in
-    let count = fault_unless (list_all (is_counter known) counters) CounterKind in
+    let count = fault_unless (list_all (may_count known choices.totals) counters) CounterKind in
     let rest = repeat_fault keys counters in
     let of_keys = or_else few (or_else kind prefix) in
     let of_counters = or_else some count in
@@ -192,16 +217,16 @@ passed_tests known len keys counters max_spread h =
       apart = passed_test _ _ last.1;
     }
 
-pub counters_counted : (known : List Known) (plan : PlanValue) → first_fault_of known plan ≡ None → list_all (is_counter known) plan.counters ≡ true
-counters_counted known plan none = (passed_tests known plan.length plan.keys plan.counters plan.max_spread none).counted
+pub counters_counted : (known : List Known) (plan : PlanValue) → first_fault_of known plan ≡ None → list_all (may_count known plan.choices.totals) plan.counters ≡ true
+counters_counted known plan none = (passed_tests known plan.choices plan.length plan.keys plan.counters plan.max_spread none).counted
 
 -- ---- plans
 
-pub is_plan : (known : List Known) (len : ℕ) (method : Method) (keys : List Key) (counters : List ElementId) (max_spread : ℕ)
-    → first_fault known len keys counters max_spread ≡ None → IsPlan (plan_value known len method keys counters max_spread)
-is_plan known len method keys counters max_spread h =
+pub is_plan : (known : List Known) (choices : Choices) (len : ℕ) (method : Method) (keys : List Key) (counters : List ElementId) (max_spread : ℕ)
+    → chosen_fault known choices len keys counters max_spread ≡ None → IsPlan (chosen_plan known choices len method keys counters max_spread)
+is_plan known choices len method keys counters max_spread h =
     let may_be : Key → Bool = λ k. is_key known k.element in
-    let tests = passed_tests known len keys counters max_spread h in
+    let tests = passed_tests known choices len keys counters max_spread h in
     record {
       positive = tests.positive;
       spread = tests.spread;
@@ -212,27 +237,27 @@ is_plan known len method keys counters max_spread h =
       values = all_weaker may_be (λ k. is_value k.element) (λ k. key_is_value known k.element) keys tests.kinds;
       prefixes = tests.prefixes;
       some = tests.some;
-      counters = all_weaker (is_counter known) is_value (counter_is_value known) counters tests.counted;
+      counters = all_weaker (may_count known choices.totals) is_value (may_count_is_value known choices.totals) counters tests.counted;
       apart = tests.apart;
     }
 
 -- ---- files change none of built-in elements
 
-pub kept_fault : (known : List Known) (len : ℕ) (keys : List Key) (counters : List ElementId) (max_spread : ℕ)
-    → first_fault [] len keys counters max_spread ≡ None → first_fault known len keys counters max_spread ≡ None
-kept_fault known len keys counters max_spread h =
-    let tests = passed_tests [] len keys counters max_spread h in
+pub kept_fault : (known : List Known) (choices : Choices) (len : ℕ) (keys : List Key) (counters : List ElementId) (max_spread : ℕ)
+    → chosen_fault [] choices len keys counters max_spread ≡ None → chosen_fault known choices len keys counters max_spread ≡ None
+kept_fault known choices len keys counters max_spread h =
+    let tests = passed_tests [] choices len keys counters max_spread h in
     let of_keys = all_weaker (λ (k : Key). is_key [] k.element) (λ k. is_key known k.element) (λ k. kept_key known k.element) keys tests.kinds in
-    let of_counters = all_weaker (is_counter []) (is_counter known) (kept_counter known) counters tests.counted in
+    let of_counters = all_weaker (may_count [] choices.totals) (may_count known choices.totals) (kept_count known choices.totals) counters tests.counted in
     ap₂ (fault_by len keys counters max_spread) (of_keys ∙ sym tests.kinds) (of_counters ∙ sym tests.counted) ∙ h
 
-pub kept_kinds : (known : List Known) (len : ℕ) (keys : List Key) (counters : List ElementId) (max_spread : ℕ)
-    → first_fault [] len keys counters max_spread ≡ None → kinds_of known keys ≡ kinds_of [] keys
-kept_kinds known len keys counters max_spread h =
-    let tests = passed_tests [] len keys counters max_spread h in
+pub kept_kinds : (known : List Known) (choices : Choices) (len : ℕ) (keys : List Key) (counters : List ElementId) (max_spread : ℕ)
+    → chosen_fault [] choices len keys counters max_spread ≡ None → kinds_of known keys ≡ kinds_of [] keys
+kept_kinds known choices len keys counters max_spread h =
+    let tests = passed_tests [] choices len keys counters max_spread h in
     all_mapped (λ (k : Key). key_kind known k.element) (λ (k : Key). key_kind [] k.element) (λ k. is_key [] k.element) (λ k. kept_kind known k.element) keys tests.kinds
 
-pub kept_plan : (known : List Known) (len : ℕ) (method : Method) (keys : List Key) (counters : List ElementId) (max_spread : ℕ)
-    → first_fault [] len keys counters max_spread ≡ None → plan_value known len method keys counters max_spread ≡ plan_value [] len method keys counters max_spread
-kept_plan known len method keys counters max_spread h =
-    ap (λ (kinds : List Kind). plan_with len method keys kinds counters max_spread) (kept_kinds known len keys counters max_spread h)
+pub kept_plan : (known : List Known) (choices : Choices) (len : ℕ) (method : Method) (keys : List Key) (counters : List ElementId) (max_spread : ℕ)
+    → chosen_fault [] choices len keys counters max_spread ≡ None → chosen_plan known choices len method keys counters max_spread ≡ chosen_plan [] choices len method keys counters max_spread
+kept_plan known choices len method keys counters max_spread h =
+    ap (λ (kinds : List Kind). plan_with len method keys kinds counters max_spread choices) (kept_kinds known choices len keys counters max_spread h)

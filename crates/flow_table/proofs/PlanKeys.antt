@@ -1,23 +1,18 @@
 -- What holds of the keys and counters of a plan.
-use Rattle.std.proofs.Common.{◌≡◌, Bool, true, false, nat_le, ◌||◌, not, List, [], ◌∷◌, ◌++◌, map, Some, All, refl}
+use Rattle.std.proofs.Common.{◌≡◌, Bool, true, false, ◌||◌, not, List, [], ◌∷◌, ◌++◌, map, All, refl}
 use Rattle.std.specs.List.{list_all, AllPass}
 use Rattle.flow_table.specs.declared.key.Side.TheVariants.{Read, Exported}
 use Rattle.std.proofs.lemmas.List.Sums.{AllPass-from_list_all}
-use Rattle.std.proofs.lemmas.Bool.{and_parts, leb-true}
+use Rattle.std.proofs.lemmas.Bool.{and_parts}
 use Rattle.std.proofs.lemmas.List.Elements.{All-nil, All-cons}
 use Rattle.flow_table.specs.declared.key.Key.{Key}
 use Rattle.flow_table.specs.Plans.{PlanValue, IsPlan, HasPrefix, is_prefix_of, is_key_kind, is_value, has_twice, elements_in, exported_element}
-
-has_prefix : (k : Key) → is_prefix_of k.element k.prefix ≡ true → HasPrefix k
-has_prefix k h bits e =
-    let test : is_prefix_of k.element (Some bits) ≡ true = rw e at h in
-    leb-true bits 32 (and_parts _ (nat_le bits 32) test).1
 
 have_prefixes : (ks : List Key) → list_all (λ k. is_prefix_of k.element k.prefix) ks ≡ true → All HasPrefix ks
 have_prefixes [] h = All-nil HasPrefix
 have_prefixes (k ∷ ks) h =
     let both = and_parts (is_prefix_of k.element k.prefix) (list_all (λ k. is_prefix_of k.element k.prefix) ks) h in
-    All-cons HasPrefix k ks (has_prefix k both.0) (have_prefixes ks both.1)
+    All-cons HasPrefix k ks both.0 (have_prefixes ks both.1)
 
 pub prefixes_of_plan : (p : PlanValue) → IsPlan p → All HasPrefix p.keys
 prefixes_of_plan p h = have_prefixes p.keys h.prefixes

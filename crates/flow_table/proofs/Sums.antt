@@ -218,7 +218,7 @@ shared plan r s e key k used (c ∷ cs) =
     ap (λ (n : ℕ). n ∷ map (λ d. sum_by (share_of plan k d) (r ∷ [])) cs) (first c)
     ∙ ap (λ (ns : List ℕ). share plan s e (counter_of c r) k ∷ ns) (shared plan r s e key k used cs)
   where
-    first : (c : ElementId) → 0 + share plan (begin_of r) (finish_of r) (counter_of c r) k ≡ share plan s e (counter_of c r) k
+    first : (c : ElementId) → 0 + share plan (begin_of plan r) (finish_of plan r) (counter_of c r) k ≡ share plan s e (counter_of c r) k
     first c = rw (used.start, used.end) (omega arith)
 
 gives : (plan : PlanValue) (r : DataRecord) (s e : ℕ) (key : List Cell) (k : ℕ) (q : List Cell) → IsUsed plan r s e key → contributes plan k q r ≡ (list_any (nat_eq k) (covers plan s e) && is_same_key q key)

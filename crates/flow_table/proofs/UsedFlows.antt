@@ -8,6 +8,11 @@ use Rattle.std.proofs.Math.Nat.{div-mul-le_self, mul-le-mul_right, mul-zero}
 use Rattle.ipfix_elements.specs.declared.iana.TheConstants.{FLOW_END_SECONDS, FLOW_END_MILLISECONDS}
 use Rattle.ipfix_elements.specs.declared.cell.Cell.{Cell}
 use Rattle.ipfix_message.specs.declared.record.DataRecord.{DataRecord}
+use Rattle.element_values.specs.Instants.{micros_in, nanos_in}
+use Rattle.ipfix_message.specs.Fields.{octets_of}
+use Rattle.flow_table.specs.declared.choices.Times.{Times}
+use Rattle.flow_table.specs.declared.choices.Times.TheVariants as times
+use Rattle.flow_table.specs.declared.times.TheConstants.{FLOW_END_MICROSECONDS, FLOW_END_NANOSECONDS, FLOW_END_DELTA_MICROSECONDS}
 use Rattle.flow_table.specs.declared.class.Class.{Class}
 use Rattle.flow_table.specs.declared.class.Class.TheVariants.{Options, Backward, Unkeyed, TooLong, Used}
 use Rattle.flow_table.specs.declared.method.Method.{Method}
@@ -15,7 +20,7 @@ use Rattle.flow_table.specs.declared.method.Method.TheVariants.{Start, End, Mid,
 use Rattle.flow_table.specs.Intervals.{covered_by, covers_by}
 use Rattle.flow_table.specs.Plans.{PlanValue}
 use Rattle.ipfix_elements.specs.Elements.{iana, kind_of}
-use Rattle.flow_table.specs.Reading.{number_as, time_in, time_of, start_of, end_of, key_of, is_too_long, flow_class, class_of, IsUsed}
+use Rattle.flow_table.specs.Reading.{number_as, time_in, time_of, time_before, micros_time, nanos_time, delta_time, fine_time, unsigned32_of, duration_of, basic_end, told_start, end_by_duration, fine_end, basic_start, other_start, other_end, start_of, end_of, key_of, is_too_long, flow_class, class_of, IsUsed}
 use Rattle.flow_table.proofs.UsedRecords.{is_used}
 
 -- ---- times
@@ -40,11 +45,46 @@ or_small : (o p : Option ℕ) → ForSome o (λ u. u < 2 ^ 50) → ForSome p (λ
 or_small None p h k = k
 or_small (Some t) p h k = h
 
-end_small : (r : DataRecord) → ForSome (end_of r) (λ u. u < 2 ^ 50)
-unfolding end_of
-end_small r =
+within_small : (o : Option ℕ) (f : ℕ → ℕ) → ForSome (option_and_then (λ n. time_in (f n)) o) (λ u. u < 2 ^ 50)
+within_small None f u e = cc
+within_small (Some n) f u e = time_in-small (f n) u e
+
+basic_small : (r : DataRecord) → ForSome (basic_end r) (λ u. u < 2 ^ 50)
+basic_small r =
     or_small (time_of (iana FLOW_END_MILLISECONDS) 1 r) (time_of (iana FLOW_END_SECONDS) 1000 r) (some_time (number_as (kind_of (iana FLOW_END_MILLISECONDS)) (iana FLOW_END_MILLISECONDS) r) 1)
     (some_time (number_as (kind_of (iana FLOW_END_SECONDS)) (iana FLOW_END_SECONDS) r) 1000)
+
+fine_small : (micros nanos delta : ℕ) (r : DataRecord) → ForSome (fine_time micros nanos delta r) (λ u. u < 2 ^ 50)
+fine_small micros nanos delta r =
+    or_small (micros_time (iana micros) r) (option_or (nanos_time (iana nanos) r) (delta_time (iana delta) r))
+    (within_small (option_and_then micros_in (octets_of (iana micros) r.fields)) (λ n. n / 1000))
+    (or_small (nanos_time (iana nanos) r) (delta_time (iana delta) r)
+    (within_small (option_and_then nanos_in (octets_of (iana nanos) r.fields)) (λ n. n / 1000000))
+    (within_small (option_and_then (time_before (r.export_time * 1000000)) (unsigned32_of (iana delta) r)) (λ n. n / 1000)))
+
+after_small : (o d : Option ℕ) → ForSome (option_and_then (λ start. option_and_then (λ long. time_in (start + long)) d) o) (λ u. u < 2 ^ 50)
+after_small None d u e = cc
+after_small (Some start) d u e = within_small d (λ long. start + long) u e
+
+end_small : (choice : Times) (r : DataRecord) → ForSome (end_of choice r) (λ u. u < 2 ^ 50)
+unfolding end_of
+end_small times.Basic r = basic_small r
+end_small times.All r =
+    or_small (basic_end r) (other_end r) (basic_small r)
+    (or_small (fine_end r) (end_by_duration r) (fine_small FLOW_END_MICROSECONDS FLOW_END_NANOSECONDS FLOW_END_DELTA_MICROSECONDS r)
+    (after_small (told_start r) (duration_of r)))
+
+first_stays : (o p : Option ℕ) (time : ℕ) → o ≡ Some time → option_or o p ≡ Some time
+first_stays None p time h = absurd cc
+first_stays (Some t) p time h = h
+
+pub start_stays : (r : DataRecord) (time : ℕ) → start_of times.Basic r ≡ Some time → start_of times.All r ≡ Some time
+unfolding start_of
+start_stays r time h = first_stays (basic_start r) (other_start r) time h
+
+pub end_stays : (r : DataRecord) (time : ℕ) → end_of times.Basic r ≡ Some time → end_of times.All r ≡ Some time
+unfolding end_of
+end_stays r time h = first_stays (basic_end r) (other_end r) time h
 
 -- ---- a used record
 
@@ -61,7 +101,7 @@ otherwise : {X : Type 0} (b : Bool) (x y z : X) → cond b x y ≡ z → (x ≡ 
 otherwise true x y z h other = absurd (other h)
 otherwise false x y z h other = (refl, h)
 
-flow_used : (plan : PlanValue) (r : DataRecord) (s e : Option ℕ) → r.scope ≤ 0 → start_of r ≡ s → end_of r ≡ e → flow_class plan r s e ≡ Used → UsedAs plan r
+flow_used : (plan : PlanValue) (r : DataRecord) (s e : Option ℕ) → r.scope ≤ 0 → start_of plan.choices.times r ≡ s → end_of plan.choices.times r ≡ e → flow_class plan r s e ≡ Used → UsedAs plan r
 flow_used plan r None e plain start end h = absurd cc
 flow_used plan r (Some s) None plain start end h = absurd cc
 flow_used plan r (Some s) (Some e) plain start end h =
@@ -70,12 +110,12 @@ flow_used plan r (Some s) (Some e) plain start end h =
     let keyed = otherwise (is_none (key_of plan r)) Unkeyed last Used forward.1 (λ q. cc) in
     let short = otherwise (is_too_long plan s e) TooLong Used Used keyed.1 (λ q. cc) in
     let key = some_key (key_of plan r) keyed.0 in
-    (s, e, key.0, is_used plan r s e key.0 plain start end (ltb-false e s forward.0) (end_small r e end) key.1 short.0)
+    (s, e, key.0, is_used plan r s e key.0 plain start end (ltb-false e s forward.0) (end_small plan.choices.times r e end) key.1 short.0)
 
 pub used_as : (plan : PlanValue) (r : DataRecord) → class_of plan r ≡ Used → UsedAs plan r
 used_as plan r h =
-    let flow = otherwise (ltb 0 r.scope) Options (flow_class plan r (start_of r) (end_of r)) Used h (λ q. cc) in
-    flow_used plan r (start_of r) (end_of r) (ltb-false 0 r.scope flow.0) refl refl flow.1
+    let flow = otherwise (ltb 0 r.scope) Options (flow_class plan r (start_of plan.choices.times r) (end_of plan.choices.times r)) Used h (λ q. cc) in
+    flow_used plan r (start_of plan.choices.times r) (end_of plan.choices.times r) (ltb-false 0 r.scope flow.0) refl refl flow.1
 
 -- ---- intervals
 

@@ -7,7 +7,7 @@ use Rattle.flow_table.specs.declared.class.Class.TheVariants.{TooLong}
 use Rattle.flow_table.specs.Plans.{PlanValue}
 use Rattle.flow_table.specs.Reading.{class_of, start_of, end_of, key_of, is_too_long, IsUsed}
 
-pub is_used : (plan : PlanValue) (r : DataRecord) (s e : ℕ) (key : List Cell) → r.scope ≤ 0 → start_of r ≡ Some s → end_of r ≡ Some e → s ≤ e → e < 2 ^ 50 → key_of plan r ≡ Some key → is_too_long plan s e ≡ false → IsUsed plan r s e key
+pub is_used : (plan : PlanValue) (r : DataRecord) (s e : ℕ) (key : List Cell) → r.scope ≤ 0 → start_of plan.choices.times r ≡ Some s → end_of plan.choices.times r ≡ Some e → s ≤ e → e < 2 ^ 50 → key_of plan r ≡ Some key → is_too_long plan s e ≡ false → IsUsed plan r s e key
 is_used plan r s e key plain start end forward in_time cells in_spread =
     record {
       used = rw (le-ltb 0 r.scope plain, start, end, le-ltb e s forward, cells, in_spread);
@@ -19,5 +19,5 @@ is_used plan r s e key plain start end forward in_time cells in_spread =
       in_spread = in_spread;
     }
 
-pub is_left_too_long : (plan : PlanValue) (r : DataRecord) (s e : ℕ) (key : List Cell) → r.scope ≤ 0 → start_of r ≡ Some s → end_of r ≡ Some e → s ≤ e → key_of plan r ≡ Some key → is_too_long plan s e ≡ true → class_of plan r ≡ TooLong
+pub is_left_too_long : (plan : PlanValue) (r : DataRecord) (s e : ℕ) (key : List Cell) → r.scope ≤ 0 → start_of plan.choices.times r ≡ Some s → end_of plan.choices.times r ≡ Some e → s ≤ e → key_of plan r ≡ Some key → is_too_long plan s e ≡ true → class_of plan r ≡ TooLong
 is_left_too_long plan r s e key plain start end forward cells long = rw (le-ltb 0 r.scope plain, start, end, le-ltb e s forward, cells, long) refl

@@ -41,8 +41,8 @@ missing_in TooLong = times_and_keys 0 0 (λ k. 0)
 -- what is lacking, where the class doesn't say it
 abbrev pub Lacks : PlanValue → DataRecord → LeftOut → Type 0
 Lacks plan r Options = Unit {0}
-Lacks plan r WithoutStart = start_of r ≡ None
-Lacks plan r WithoutEnd = is_some (start_of r) ≡ true
+Lacks plan r WithoutStart = start_of plan.choices.times r ≡ None
+Lacks plan r WithoutEnd = is_some (start_of plan.choices.times r) ≡ true
 Lacks plan r Backward = Unit {0}
 Lacks plan r (WithoutKey place) = first_without plan.keys plan.kinds r ≡ Some place
 Lacks plan r TooLong = Unit {0}

@@ -2,6 +2,7 @@
 pub mod Plans
 pub mod PlanFaults
 pub mod Intervals
+pub mod Networks
 pub mod Reading
 pub mod Missing
 pub mod Tables

@@ -18,11 +18,11 @@ how_many test rs = length (filter test rs)
 
 -- an untimed record without a start
 abbrev pub lacks_start : PlanValue → DataRecord → Bool
-lacks_start plan r = is_class Untimed (class_of plan r) && is_none (start_of r)
+lacks_start plan r = is_class Untimed (class_of plan r) && is_none (start_of plan.choices.times r)
 
 -- an untimed record with a start: without an end
 abbrev pub lacks_end : PlanValue → DataRecord → Bool
-lacks_end plan r = is_class Untimed (class_of plan r) && is_some (start_of r)
+lacks_end plan r = is_class Untimed (class_of plan r) && is_some (start_of plan.choices.times r)
 
 -- the place of the first key that a record has no cell of, from 0
 abbrev pub first_without : List Key → List Kind → DataRecord → Option ℕ

@@ -1,8 +1,7 @@
 -- Plans of an aggregation (RFC 7015, section 5), and what makes arguments no plan. Their elements are built in, or known
 -- from files.
-use Rattle.std.specs.Prelude.{◌≡◌, ℕ, ◌≤◌, ◌^◌, ◌==◌, ◌&&◌, ◌||◌, not, Bool, true, false, nat_lt, nat_le, List, [], ◌∷◌, ◌++◌, length, map, zip, Option, Some, None, is_some, is_none, if◌then◌else◌}
+use Rattle.std.specs.Prelude.{◌≡◌, ℕ, ◌^◌, ◌==◌, ◌&&◌, ◌||◌, not, Bool, true, false, nat_lt, nat_le, List, [], ◌∷◌, ◌++◌, length, map, zip, Option, Some, None, is_some, is_none, if◌then◌else◌}
 use Rattle.std.specs.List.{list_any, list_all}
-use Rattle.std.specs.Option.{ForSome}
 use Rattle.ipfix_wire.specs.declared.specifier.ElementId.{ElementId}
 use Rattle.ipfix_elements.specs.declared.iana.TheConstants.{OCTET_DELTA_COUNT, PACKET_DELTA_COUNT, DELTA_FLOW_COUNT, POST_OCTET_DELTA_COUNT, POST_PACKET_DELTA_COUNT, DROPPED_OCTET_DELTA_COUNT, DROPPED_PACKET_DELTA_COUNT, SOURCE_IPV4_ADDRESS, DESTINATION_IPV4_ADDRESS, SOURCE_IPV4_PREFIX, DESTINATION_IPV4_PREFIX, FLOW_START_SECONDS, FLOW_END_SECONDS, FLOW_START_MILLISECONDS, FLOW_END_MILLISECONDS}
 use Rattle.ipfix_elements.specs.Elements.{entry_of}
@@ -12,16 +11,23 @@ use Rattle.ipfix_elements.specs.declared.kind.Width.TheVariants.{One, Eight}
 use Rattle.element_registry.specs.Registries.{Known, element_kind, is_of}
 use Rattle.element_registry.specs.declared.kind.ElementKind.{ElementKind}
 use Rattle.element_registry.specs.declared.kind.ElementKind.TheVariants.{Plain, Boolean, Signed, Micros, Nanos, Text}
+use Rattle.flow_table.specs.declared.choices.Choices.{Choices}
+use Rattle.flow_table.specs.declared.choices.Times.TheVariants as times
+use Rattle.flow_table.specs.declared.choices.Totals.{Totals}
+use Rattle.flow_table.specs.declared.choices.Totals.TheVariants.{Refused, AsDeltas}
 use Rattle.flow_table.specs.declared.method.Method.{Method}
 use Rattle.flow_table.specs.declared.key.Key.{Key}
 use Rattle.flow_table.specs.declared.key.Side.{Side}
 use Rattle.flow_table.specs.declared.key.Side.TheVariants.{Read, Exported}
 use Rattle.flow_table.specs.declared.plan.TheConstants.{MAX_KEYS, MAX_COUNTERS, MAX_SPREAD}
+use Rattle.flow_table.specs.declared.key.TheConstants.{SOURCE_IPV6_ADDRESS, DESTINATION_IPV6_ADDRESS, SOURCE_IPV6_PREFIX, DESTINATION_IPV6_PREFIX}
+use Rattle.flow_table.specs.declared.roles.TheConstants.{OCTET_TOTAL_COUNT, PACKET_TOTAL_COUNT}
 use Rattle.flow_table.specs.declared.plan_fault.PlanFault.{PlanFault}
 use Rattle.flow_table.specs.declared.plan_fault.PlanFault.TheVariants.{Length, Spread, KeyCount, KeyKind, Prefix, CounterCount, CounterKind, Repeated}
 
 -- the length of an interval in milliseconds, how a flow's counters are distributed, the keys of the table, the kinds
--- that their fields are read by, its counters, and the most intervals that a flow may cover if it is spread over them
+-- that their fields are read by, its counters, the most intervals that a flow may cover if it is spread over them, and
+-- what the plan chooses
 pub record PlanValue : Type 0 where
   pub length : ℕ
   pub method : Method
@@ -29,6 +35,7 @@ pub record PlanValue : Type 0 where
   pub kinds : List Kind
   pub counters : List ElementId
   pub max_spread : ℕ
+  pub choices : Choices
 
 -- the kind that a key is read by: a truth value is a number of one octet, whichever it is (1 and 2 are those of RFC 7011,
 -- section 6.1.5), and what has a sign, is a time or a text is no key
@@ -46,13 +53,28 @@ key_kind known e = field_kind (element_kind known e)
 abbrev pub kinds_of : List Known → List Key → List Kind
 kinds_of known keys = map (λ k. key_kind known k.element) keys
 
-abbrev pub plan_with : ℕ → Method → List Key → List Kind → List ElementId → ℕ → PlanValue
-plan_with length method keys kinds counters max_spread =
-    record { length = length; method = method; keys = keys; kinds = kinds; counters = counters; max_spread = max_spread }
+-- what holds of a plan that chooses nothing
+abbrev pub basic : Choices
+basic = record { times = times.Basic; totals = Refused }
+
+abbrev pub plan_with : ℕ → Method → List Key → List Kind → List ElementId → ℕ → Choices → PlanValue
+plan_with length method keys kinds counters max_spread choices = record {
+  length = length;
+  method = method;
+  keys = keys;
+  kinds = kinds;
+  counters = counters;
+  max_spread = max_spread;
+  choices = choices;
+}
 
 -- a plan whose elements are built in or known from files
+abbrev pub chosen_plan : List Known → Choices → ℕ → Method → List Key → List ElementId → ℕ → PlanValue
+chosen_plan known choices length method keys counters max_spread = plan_with length method keys (kinds_of known keys) counters max_spread choices
+
+-- one that chooses nothing
 abbrev pub plan_value : List Known → ℕ → Method → List Key → List ElementId → ℕ → PlanValue
-plan_value known length method keys counters max_spread = plan_with length method keys (kinds_of known keys) counters max_spread
+plan_value known length method keys counters max_spread = chosen_plan known basic length method keys counters max_spread
 
 -- the keys of a plan, each with its kind
 abbrev pub keys_and_kinds : PlanValue → List (Key × Kind)
@@ -85,14 +107,15 @@ is_key_kind kinds.Octets = false
 abbrev pub is_key : List Known → ElementId → Bool
 is_key known e = is_element e && is_key_kind (key_kind known e)
 
--- the IPv4 addresses of a flow's ends may have a prefix of up to 32 bits
+-- the addresses of a flow's ends may have a prefix, of up to 32 bits for IPv4 and 128 for IPv6
 abbrev pub is_prefix_of : ElementId → Option ℕ → Bool
 is_prefix_of e None = true
-is_prefix_of e (Some bits) = is_of_iana (SOURCE_IPV4_ADDRESS ∷ DESTINATION_IPV4_ADDRESS ∷ []) e && nat_le bits 32
+is_prefix_of e (Some bits) =
+    (is_of_iana (SOURCE_IPV4_ADDRESS ∷ DESTINATION_IPV4_ADDRESS ∷ []) e && nat_le bits 32)
+    || (is_of_iana (SOURCE_IPV6_ADDRESS ∷ DESTINATION_IPV6_ADDRESS ∷ []) e && nat_le bits 128)
 
--- an IPv4 address has 32 bits
 abbrev pub HasPrefix : Key → Type 0
-HasPrefix k = ForSome k.prefix (λ bits. bits ≤ 32)
+HasPrefix k = is_prefix_of k.element k.prefix ≡ true
 
 -- the delta counters of octets, packets and flows
 abbrev pub is_built_in_counter : ElementId → Bool
@@ -113,9 +136,25 @@ is_delta_of e k = is_of e k && (k.is_delta && is_unsigned64 k.kind)
 abbrev pub is_counter : List Known → ElementId → Bool
 is_counter known e = is_built_in_counter e || (is_element e && (is_none (entry_of e) && list_any (is_delta_of e) known))
 
+-- a total that is taken as a delta: octetTotalCount or packetTotalCount (RFC 7012, section 3.2.4)
+abbrev pub is_taken_total : Totals → ElementId → Bool
+is_taken_total Refused e = false
+is_taken_total AsDeltas e = is_of_iana (OCTET_TOTAL_COUNT ∷ PACKET_TOTAL_COUNT ∷ []) e
+
+-- what may be a counter of a plan
+abbrev pub may_count : List Known → Totals → ElementId → Bool
+may_count known totals e = is_counter known e || is_taken_total totals e
+
 -- the element of a prefix of an address
+abbrev pub prefix_number : ℕ → ℕ
+prefix_number address =
+    if address == SOURCE_IPV4_ADDRESS then SOURCE_IPV4_PREFIX
+    else if address == DESTINATION_IPV4_ADDRESS then DESTINATION_IPV4_PREFIX
+    else if address == SOURCE_IPV6_ADDRESS then SOURCE_IPV6_PREFIX
+    else DESTINATION_IPV6_PREFIX
+
 abbrev pub prefix_element : ElementId → ElementId
-prefix_element e = record { pen = 0; number = if e.number == SOURCE_IPV4_ADDRESS then SOURCE_IPV4_PREFIX else DESTINATION_IPV4_PREFIX }
+prefix_element e = record { pen = 0; number = prefix_number e.number }
 
 -- the element that a key is exported as
 abbrev pub exported_element : Key → ElementId
@@ -156,27 +195,31 @@ key_fault known keys =
     (or_else (fault_unless (list_all (λ k. is_key known k.element) keys) KeyKind)
     (fault_unless (list_all (λ k. is_prefix_of k.element k.prefix) keys) Prefix))
 
-abbrev pub counter_fault : List Known → List ElementId → Option PlanFault
-counter_fault known counters =
+abbrev pub counter_fault : List Known → Totals → List ElementId → Option PlanFault
+counter_fault known totals counters =
     or_else (fault_unless (is_between 1 MAX_COUNTERS (length counters)) CounterCount)
-    (fault_unless (list_all (is_counter known) counters) CounterKind)
+    (fault_unless (list_all (may_count known totals) counters) CounterKind)
 
 -- no element may stand twice, neither in the records that are read nor in those that are exported
 abbrev pub repeat_fault : List Key → List ElementId → Option PlanFault
 repeat_fault keys counters = fault_unless (not (has_twice (elements_in Read keys counters) || has_twice (elements_in Exported keys counters))) Repeated
 
 -- the first fault that fits arguments
-abbrev pub first_fault : List Known → ℕ → List Key → List ElementId → ℕ → Option PlanFault
-first_fault known length keys counters max_spread =
+abbrev pub chosen_fault : List Known → Choices → ℕ → List Key → List ElementId → ℕ → Option PlanFault
+chosen_fault known choices length keys counters max_spread =
     or_else (length_fault length)
     (or_else (spread_fault max_spread)
     (or_else (key_fault known keys)
-    (or_else (counter_fault known counters)
+    (or_else (counter_fault known choices.totals counters)
     (repeat_fault keys counters))))
+
+-- that of a plan that chooses nothing
+abbrev pub first_fault : List Known → ℕ → List Key → List ElementId → ℕ → Option PlanFault
+first_fault known length keys counters max_spread = chosen_fault known basic length keys counters max_spread
 
 -- the first fault that fits what a plan says, whatever kinds it has
 abbrev pub first_fault_of : List Known → PlanValue → Option PlanFault
-first_fault_of known plan = first_fault known plan.length plan.keys plan.counters plan.max_spread
+first_fault_of known plan = chosen_fault known plan.choices plan.length plan.keys plan.counters plan.max_spread
 
 -- ---- what holds of every plan
 

@@ -1,5 +1,5 @@
 -- Data records read under a plan: start and end, key, counters and class (RFC 7015, section 5).
-use Rattle.std.specs.Prelude.{◌≡◌, ℕ, ◌*◌, ◌^◌, ◌<◌, ◌≤◌, ◌&&◌, Bool, true, false, nat_lt, if◌then◌else◌, List, [], ◌∷◌, Option, Some, None, is_none, unwrap_or, option_map, option_and_then}
+use Rattle.std.specs.Prelude.{◌≡◌, ℕ, ◌+◌, ◌-◌, ◌*◌, ◌/◌, ◌^◌, ◌<◌, ◌≤◌, ◌&&◌, Bool, true, false, nat_lt, nat_le, if◌then◌else◌, List, [], ◌∷◌, Option, Some, None, is_none, unwrap_or, option_map, option_and_then}
 use Rattle.std.specs.Option.{option_or}
 use Rattle.ipfix_wire.specs.declared.specifier.ElementId.{ElementId}
 use Rattle.ipfix_elements.specs.declared.cell.Cell.{Cell}
@@ -7,18 +7,23 @@ use Rattle.ipfix_elements.specs.declared.cell.Cell.TheVariants.{Number, Ipv4, Ip
 use Rattle.ipfix_elements.specs.declared.iana.TheConstants.{FLOW_START_SECONDS, FLOW_END_SECONDS, FLOW_START_MILLISECONDS, FLOW_END_MILLISECONDS}
 use Rattle.ipfix_elements.specs.declared.kind.Kind.{Kind}
 use Rattle.ipfix_elements.specs.declared.kind.Kind.TheVariants.{Unsigned}
-use Rattle.ipfix_elements.specs.declared.kind.Width.TheVariants.{Eight}
+use Rattle.ipfix_elements.specs.declared.kind.Width.TheVariants.{Four, Eight}
 use Rattle.ipfix_elements.specs.Elements.{iana, kind_of}
 use Rattle.ipfix_elements.specs.Prefixes.{masked}
 use Rattle.ipfix_elements.specs.Values.{number_in, cell_in}
+use Rattle.element_values.specs.Instants.{micros_in, nanos_in}
 use Rattle.ipfix_message.specs.Fields.{octets_of}
 use Rattle.ipfix_message.specs.declared.record.DataRecord.{DataRecord}
+use Rattle.flow_table.specs.declared.choices.Times.{Times}
+use Rattle.flow_table.specs.declared.choices.Times.TheVariants as times
 use Rattle.flow_table.specs.declared.class.Class.{Class}
 use Rattle.flow_table.specs.declared.class.Class.TheVariants.{Options, Untimed, Backward, Unkeyed, TooLong, Used}
 use Rattle.flow_table.specs.declared.key.Key.{Key}
 use Rattle.flow_table.specs.declared.method.Method.{Method}
 use Rattle.flow_table.specs.declared.method.Method.TheVariants as methods
+use Rattle.flow_table.specs.declared.times.TheConstants.{FLOW_START_MICROSECONDS, FLOW_END_MICROSECONDS, FLOW_START_NANOSECONDS, FLOW_END_NANOSECONDS, FLOW_START_DELTA_MICROSECONDS, FLOW_END_DELTA_MICROSECONDS, FLOW_DURATION_MILLISECONDS, FLOW_DURATION_MICROSECONDS}
 use Rattle.flow_table.specs.Intervals.{spread}
+use Rattle.flow_table.specs.Networks.{masked_ipv6}
 use Rattle.flow_table.specs.Plans.{PlanValue}
 
 -- ---- numbers
@@ -41,26 +46,100 @@ counter_of element r = unwrap_or (number_of element r) 0
 abbrev pub time_in : ℕ → Option ℕ
 time_in t = if nat_lt t (2 ^ 50) then Some t else None
 
--- the time in ms that an element tells in so many of them
+-- the time in ms that an element says in so many of them
 abbrev pub time_of : ElementId → ℕ → DataRecord → Option ℕ
 time_of element unit r = option_and_then (λ n. time_in (n * unit)) (number_as (kind_of element) element r)
 
--- the start: in milliseconds, or else in seconds
-unfoldable pub start_of : DataRecord → Option ℕ
-start_of r = option_or (time_of (iana FLOW_START_MILLISECONDS) 1 r) (time_of (iana FLOW_START_SECONDS) 1000 r)
+-- the time in milliseconds, or else in seconds, by the numbers of two elements (RFC 7011, sections 6.1.7 and 6.1.8)
+abbrev pub basic_time : ℕ → ℕ → DataRecord → Option ℕ
+basic_time millis seconds r = option_or (time_of (iana millis) 1 r) (time_of (iana seconds) 1000 r)
 
--- the end: in milliseconds, or else in seconds
-unfoldable pub end_of : DataRecord → Option ℕ
-end_of r = option_or (time_of (iana FLOW_END_MILLISECONDS) 1 r) (time_of (iana FLOW_END_SECONDS) 1000 r)
+abbrev pub basic_start : DataRecord → Option ℕ
+basic_start r = basic_time FLOW_START_MILLISECONDS FLOW_START_SECONDS r
+
+abbrev pub basic_end : DataRecord → Option ℕ
+basic_end r = basic_time FLOW_END_MILLISECONDS FLOW_END_SECONDS r
+
+-- ---- times of every kind, in ms and rounded down
+
+-- the time that an element says in microseconds (RFC 7011, section 6.1.9)
+abbrev pub micros_time : ElementId → DataRecord → Option ℕ
+micros_time element r = option_and_then (λ n. time_in (n / 1000)) (option_and_then micros_in (octets_of element r.fields))
+
+-- the time that an element says in nanoseconds (RFC 7011, section 6.1.10)
+abbrev pub nanos_time : ElementId → DataRecord → Option ℕ
+nanos_time element r = option_and_then (λ n. time_in (n / 1000000)) (option_and_then nanos_in (octets_of element r.fields))
+
+-- an unsigned32, in up to 4 octets (RFC 7011, section 6.2)
+abbrev pub unsigned32_of : ElementId → DataRecord → Option ℕ
+unsigned32_of element r = number_as (Unsigned Four) element r
+
+-- so long before a time; none, if that is before 1970
+abbrev pub time_before : ℕ → ℕ → Option ℕ
+time_before time long = if nat_le long time then Some (time - long) else None
+
+-- the time that an element says in microseconds before the export time of the record's message, which is in seconds
+abbrev pub delta_time : ElementId → DataRecord → Option ℕ
+delta_time element r = option_and_then (λ n. time_in (n / 1000)) (option_and_then (time_before (r.export_time * 1000000)) (unsigned32_of element r))
+
+-- the first of the three, by the numbers of their elements
+abbrev pub fine_time : ℕ → ℕ → ℕ → DataRecord → Option ℕ
+fine_time micros nanos delta r = option_or (micros_time (iana micros) r) (option_or (nanos_time (iana nanos) r) (delta_time (iana delta) r))
+
+abbrev pub fine_start : DataRecord → Option ℕ
+fine_start r = fine_time FLOW_START_MICROSECONDS FLOW_START_NANOSECONDS FLOW_START_DELTA_MICROSECONDS r
+
+abbrev pub fine_end : DataRecord → Option ℕ
+fine_end r = fine_time FLOW_END_MICROSECONDS FLOW_END_NANOSECONDS FLOW_END_DELTA_MICROSECONDS r
+
+-- the start, and the end, that an element says
+abbrev pub told_start : DataRecord → Option ℕ
+told_start r = option_or (basic_start r) (fine_start r)
+
+abbrev pub told_end : DataRecord → Option ℕ
+told_end r = option_or (basic_end r) (fine_end r)
+
+-- how long a flow lasts: in milliseconds, or else in microseconds
+abbrev pub duration_of : DataRecord → Option ℕ
+duration_of r =
+    option_or (unsigned32_of (iana FLOW_DURATION_MILLISECONDS) r)
+    (option_map (λ n. n / 1000) (unsigned32_of (iana FLOW_DURATION_MICROSECONDS) r))
+
+-- the end that an element says, less the duration
+abbrev pub start_by_duration : DataRecord → Option ℕ
+start_by_duration r = option_and_then (λ end. option_and_then (time_before end) (duration_of r)) (told_end r)
+
+-- the start that an element says, plus the duration
+abbrev pub end_by_duration : DataRecord → Option ℕ
+end_by_duration r = option_and_then (λ start. option_and_then (λ long. time_in (start + long)) (duration_of r)) (told_start r)
+
+-- of a flow that says none in milliseconds or seconds
+abbrev pub other_start : DataRecord → Option ℕ
+other_start r = option_or (fine_start r) (start_by_duration r)
+
+abbrev pub other_end : DataRecord → Option ℕ
+other_end r = option_or (fine_end r) (end_by_duration r)
+
+-- ---- start and end
+
+-- the start: the first of these that is a time. What has another length, is before 1970, or is 2^50 ms or more, is none.
+unfoldable pub start_of : Times → DataRecord → Option ℕ
+start_of times.Basic r = basic_start r
+start_of times.All r = option_or (basic_start r) (other_start r)
+
+-- the end, likewise
+unfoldable pub end_of : Times → DataRecord → Option ℕ
+end_of times.Basic r = basic_end r
+end_of times.All r = option_or (basic_end r) (other_end r)
 
 -- ---- keys (RFC 7015, section 5.2)
 
--- an IPv4 address projected to its prefix, if the key has one
+-- an address projected to its prefix, if the key has one
 abbrev pub projected : Option ℕ → Cell → Cell
 projected None cell = cell
 projected (Some bits) (Number n) = Number n
 projected (Some bits) (Ipv4 address) = Ipv4 (masked address bits)
-projected (Some bits) (Ipv6 address) = Ipv6 address
+projected (Some bits) (Ipv6 address) = Ipv6 (masked_ipv6 address bits)
 projected (Some bits) (Mac address) = Mac address
 
 -- the cell in the first field of a key's element, by the key's kind
@@ -101,7 +180,7 @@ flow_class plan r (Some s) (Some e) =
 
 -- the first class that fits
 abbrev pub class_of : PlanValue → DataRecord → Class
-class_of plan r = if nat_lt 0 r.scope then Options else flow_class plan r (start_of r) (end_of r)
+class_of plan r = if nat_lt 0 r.scope then Options else flow_class plan r (start_of plan.choices.times r) (end_of plan.choices.times r)
 
 abbrev pub is_class : Class → Class → Bool
 is_class Options Options = true
@@ -115,8 +194,8 @@ is_class a b = false
 -- a used record, from s to e and with this key
 pub record IsUsed (plan : PlanValue) (r : DataRecord) (s e : ℕ) (key : List Cell) : Type 0 where
   pub used : class_of plan r ≡ Used
-  pub start : start_of r ≡ Some s
-  pub end : end_of r ≡ Some e
+  pub start : start_of plan.choices.times r ≡ Some s
+  pub end : end_of plan.choices.times r ≡ Some e
   pub cells : key_of plan r ≡ Some key
   pub forward : s ≤ e
   pub in_time : e < 2 ^ 50

@@ -9,11 +9,16 @@ use Rattle.ipfix_wire.specs.declared.specifier.ElementId.{ElementId}
 use Rattle.ipfix_elements.specs.declared.kind.Kind.{Kind}
 use Rattle.ipfix_elements.specs.declared.kind.Kind.TheVariants.{Unsigned, Ipv4, Ipv6, Mac, Seconds, Millis, Octets}
 use Rattle.ipfix_elements.specs.declared.kind.Width.TheVariants.{One, Two, Four, Eight}
+use Rattle.flow_table.specs.declared.choices.Choices.{Choices}
+use Rattle.flow_table.specs.declared.choices.Times.{Times}
+use Rattle.flow_table.specs.declared.choices.Times.TheVariants as times
+use Rattle.flow_table.specs.declared.choices.Totals.{Totals}
+use Rattle.flow_table.specs.declared.choices.Totals.TheVariants.{Refused, AsDeltas}
 use Rattle.flow_table.specs.declared.method.Method.{Method}
 use Rattle.flow_table.specs.declared.method.Method.TheVariants.{Start, End, Mid, Uniform, Proportional}
 use Rattle.flow_table.specs.declared.key.Key.{Key}
 use Rattle.flow_table.specs.Plans.{PlanValue, same_element}
-use Rattle.flow_table.specs.SamePlans.{method_number, same_method, same_key, kind_number, same_kind, same_plan}
+use Rattle.flow_table.specs.SamePlans.{times_number, totals_number, same_choices, method_number, same_method, same_key, kind_number, same_kind, same_plan}
 
 -- ---- a test that tells what is equal
 
@@ -98,6 +103,33 @@ methods_tell = record {
   same = λ x y h. sym (method_there x) ∙ ap method_at (numbers_tell.same _ _ h) ∙ method_there y;
 }
 
+abbrev times_at : ℕ → Times
+times_at zero = times.Basic
+times_at (suc n) = times.All
+
+times_there : (t : Times) → times_at (times_number t) ≡ t
+times_there times.Basic = refl
+times_there times.All = refl
+
+abbrev totals_at : ℕ → Totals
+totals_at zero = Refused
+totals_at (suc n) = AsDeltas
+
+totals_there : (t : Totals) → totals_at (totals_number t) ≡ t
+totals_there Refused = refl
+totals_there AsDeltas = refl
+
+choices_from : (a b : Choices) → a.times ≡ b.times → a.totals ≡ b.totals → a ≡ b
+choices_from a b h i = rw (h, i) refl
+
+choices_tell : Tells same_choices
+choices_tell = record {
+  found = λ x. both _ _ (numbers_tell.found (times_number x.times)) (numbers_tell.found (totals_number x.totals));
+  same = λ x y h.
+      choices_from x y (sym (times_there x.times) ∙ ap times_at (numbers_tell.same _ _ (left _ _ h)) ∙ times_there y.times)
+      (sym (totals_there x.totals) ∙ ap totals_at (numbers_tell.same _ _ (right (times_number x.times == times_number y.times) _ h)) ∙ totals_there y.totals);
+}
+
 key_from : (a b : Key) → a.element ≡ b.element → a.prefix ≡ b.prefix → a ≡ b
 key_from a b h i = rw (h, i) refl
 
@@ -137,30 +169,33 @@ kinds_tell = record {
   same = λ x y h. sym (kind_there x) ∙ ap kind_at (numbers_tell.same _ _ h) ∙ kind_there y;
 }
 
-plan_from : (a b : PlanValue) → a.length ≡ b.length → a.method ≡ b.method → a.keys ≡ b.keys → a.kinds ≡ b.kinds → a.counters ≡ b.counters → a.max_spread ≡ b.max_spread → a ≡ b
-plan_from a b h i j k l m = rw (h, i, j, k, l, m) refl
+plan_from : (a b : PlanValue) → a.length ≡ b.length → a.method ≡ b.method → a.keys ≡ b.keys → a.kinds ≡ b.kinds → a.counters ≡ b.counters → a.max_spread ≡ b.max_spread → a.choices ≡ b.choices → a ≡ b
+plan_from a b h i j k l m n = rw (h, i, j, k, l, m, n) refl
 
 plans_tell : Tells same_plan
 plans_tell = record { found = found; same = same } where
   found : (x : PlanValue) → same_plan x x ≡ true
   found x =
-      both _ _ ((lists_tell same_kind kinds_tell).found x.kinds)
+      both _ _ (choices_tell.found x.choices)
+      (both _ _ ((lists_tell same_kind kinds_tell).found x.kinds)
       (both _ _ (numbers_tell.found x.length)
       (both _ _ (methods_tell.found x.method)
       (both _ _ ((lists_tell same_key keys_tell).found x.keys)
-      (both _ _ ((lists_tell same_element elements_tell).found x.counters) (numbers_tell.found x.max_spread)))))
+      (both _ _ ((lists_tell same_element elements_tell).found x.counters) (numbers_tell.found x.max_spread))))))
 
   same : (x y : PlanValue) → same_plan x y ≡ true → x ≡ y
   same x y h =
-      let after_kinds = right (pointwise same_kind x.kinds y.kinds) _ h in
+      let after_choices = right (same_choices x.choices y.choices) _ h in
+      let after_kinds = right (pointwise same_kind x.kinds y.kinds) _ after_choices in
       let after_length = right (x.length == y.length) _ after_kinds in
       let after_method = right (same_method x.method y.method) _ after_length in
       let after_keys = right (pointwise same_key x.keys y.keys) _ after_method in
       plan_from x y (numbers_tell.same _ _ (left _ _ after_kinds)) (methods_tell.same _ _ (left _ _ after_length))
       ((lists_tell same_key keys_tell).same _ _ (left _ _ after_method))
-      ((lists_tell same_kind kinds_tell).same _ _ (left _ _ h))
+      ((lists_tell same_kind kinds_tell).same _ _ (left _ _ after_choices))
       ((lists_tell same_element elements_tell).same _ _ (left _ _ after_keys))
       (numbers_tell.same _ _ (right (pointwise same_element x.counters y.counters) _ after_keys))
+      (choices_tell.same _ _ (left _ _ h))
 
 -- ---- so it is an equivalence
 

@@ -5,6 +5,11 @@ use Rattle.std.specs.Cmp.Lexicographic.{pointwise}
 use Rattle.ipfix_elements.specs.declared.kind.Kind.{Kind}
 use Rattle.ipfix_elements.specs.declared.kind.Kind.TheVariants.{Unsigned, Ipv4, Ipv6, Mac, Seconds, Millis, Octets}
 use Rattle.ipfix_elements.specs.declared.kind.Width.TheVariants.{One, Two, Four, Eight}
+use Rattle.flow_table.specs.declared.choices.Choices.{Choices}
+use Rattle.flow_table.specs.declared.choices.Times.{Times}
+use Rattle.flow_table.specs.declared.choices.Times.TheVariants as times
+use Rattle.flow_table.specs.declared.choices.Totals.{Totals}
+use Rattle.flow_table.specs.declared.choices.Totals.TheVariants.{Refused, AsDeltas}
 use Rattle.flow_table.specs.declared.method.Method.{Method}
 use Rattle.flow_table.specs.declared.method.Method.TheVariants.{Start, End, Mid, Uniform, Proportional}
 use Rattle.flow_table.specs.declared.key.Key.{Key}
@@ -20,6 +25,17 @@ method_number Proportional = 4
 
 abbrev pub same_method : Method → Method → Bool
 same_method a b = method_number a == method_number b
+
+abbrev pub times_number : Times → ℕ
+times_number times.Basic = 0
+times_number times.All = 1
+
+abbrev pub totals_number : Totals → ℕ
+totals_number Refused = 0
+totals_number AsDeltas = 1
+
+abbrev pub same_choices : Choices → Choices → Bool
+same_choices a b = (times_number a.times == times_number b.times) && (totals_number a.totals == totals_number b.totals)
 
 abbrev pub same_key : Key → Key → Bool
 same_key a b = same_element a.element b.element && option_eq ◌==◌ a.prefix b.prefix
@@ -46,4 +62,4 @@ same_parts a b =
     && (pointwise same_element a.counters b.counters && (a.max_spread == b.max_spread))))
 
 abbrev pub same_plan : PlanValue → PlanValue → Bool
-same_plan a b = pointwise same_kind a.kinds b.kinds && same_parts a b
+same_plan a b = same_choices a.choices b.choices && (pointwise same_kind a.kinds b.kinds && same_parts a b)

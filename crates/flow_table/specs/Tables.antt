@@ -38,11 +38,11 @@ tally_of plan rs = record {
 -- ---- the flows of an interval and a key
 
 -- the start and the end of a record that has both
-abbrev pub begin_of : DataRecord → ℕ
-begin_of r = unwrap_or (start_of r) 0
+abbrev pub begin_of : PlanValue → DataRecord → ℕ
+begin_of plan r = unwrap_or (start_of plan.choices.times r) 0
 
-abbrev pub finish_of : DataRecord → ℕ
-finish_of r = unwrap_or (end_of r) 0
+abbrev pub finish_of : PlanValue → DataRecord → ℕ
+finish_of plan r = unwrap_or (end_of plan.choices.times r) 0
 
 -- keys are compared cell by cell
 abbrev pub key_cmp : List Cell → List Cell → Ordering
@@ -54,11 +54,11 @@ is_key key (Some found) = is_eq (key_cmp key found)
 
 -- a record contributes to an interval and a key if it is used, is given to the interval, and has the key
 unfoldable pub contributes : PlanValue → ℕ → List Cell → DataRecord → Bool
-contributes plan k key r = is_class Used (class_of plan r) && list_any (nat_eq k) (covers plan (begin_of r) (finish_of r)) && is_key key (key_of plan r)
+contributes plan k key r = is_class Used (class_of plan r) && list_any (nat_eq k) (covers plan (begin_of plan r) (finish_of plan r)) && is_key key (key_of plan r)
 
 -- what an interval gets of a record's counter
 unfoldable pub share_of : PlanValue → ℕ → ElementId → DataRecord → ℕ
-share_of plan k c r = share plan (begin_of r) (finish_of r) (counter_of c r) k
+share_of plan k c r = share plan (begin_of plan r) (finish_of plan r) (counter_of c r) k
 
 -- the sum of the shares of a counter over all records that contribute to an interval and a key
 unfoldable pub sum_at : PlanValue → List DataRecord → ℕ → List Cell → ElementId → ℕ

@@ -5,10 +5,11 @@ ghost use Rattle.std.specs.List.{list_all, list_any};
 ghost use Rattle.flow_table.specs.Plans as plans;
 ghost use Rattle.flow_table.specs.Plans.{same_element, element_in, elements_in};
 
+use crate::choices::{Choices, Totals};
 use crate::key::{Key, Side};
 use crate::plan::{MAX_COUNTERS, MAX_KEYS, MAX_SPREAD};
 use crate::plan_fault::PlanFault;
-use crate::roles::{is_counter, is_key, is_prefix_of};
+use crate::roles::{is_key, is_prefix_of, may_count};
 use element_registry::Elements;
 use ipfix_wire::ElementId;
 
@@ -26,12 +27,12 @@ fn have_prefixes(keys: &[Key]) -> bool
     keys.iter().all(|key| is_prefix_of(key.element, key.prefix))
 }
 
-fn are_counters(elements: &Elements, counters: &[ElementId]) -> bool
-    ensures { result ≡ list_all (plans.is_counter elements.now) counters.now }
+fn are_counters(elements: &Elements, totals: Totals, counters: &[ElementId]) -> bool
+    ensures { result ≡ list_all (plans.may_count elements.now totals) counters.now }
 {
     counters
         .iter()
-        .all(|counter| is_counter(elements, *counter))
+        .all(|counter| may_count(elements, totals, *counter))
 }
 
 fn has_twice(mut elements: &[ElementId]) -> bool
@@ -89,13 +90,13 @@ fn key_fault(elements: &Elements, keys: &[Key]) -> Option<PlanFault>
     None
 }
 
-fn counter_fault(elements: &Elements, counters: &[ElementId]) -> Option<PlanFault>
-    ensures { result ≡ plans.counter_fault elements.now counters.now }
+fn counter_fault(elements: &Elements, totals: Totals, counters: &[ElementId]) -> Option<PlanFault>
+    ensures { result ≡ plans.counter_fault elements.now totals counters.now }
 {
     if counters.is_empty() || counters.len() > MAX_COUNTERS {
         return Some(PlanFault::CounterCount);
     }
-    if !are_counters(elements, counters) {
+    if !are_counters(elements, totals, counters) {
         return Some(PlanFault::CounterKind);
     }
     None
@@ -108,8 +109,10 @@ pub fn first_fault(
     keys: &[Key],
     counters: &[ElementId],
     max_spread: u32,
+    choices: Choices,
 ) -> Option<PlanFault>
-    ensures { result ≡ plans.first_fault elements.now length keys.now counters.now max_spread }
+    ensures { result
+        ≡ plans.chosen_fault elements.now choices length keys.now counters.now max_spread }
 {
     if length == 0 {
         return Some(PlanFault::Length);
@@ -120,7 +123,7 @@ pub fn first_fault(
     if let Some(fault) = key_fault(elements, keys) {
         return Some(fault);
     }
-    if let Some(fault) = counter_fault(elements, counters) {
+    if let Some(fault) = counter_fault(elements, choices.totals, counters) {
         return Some(fault);
     }
     if is_repeated(keys, counters, Side::Read) || is_repeated(keys, counters, Side::Exported) {

@@ -1,18 +1,17 @@
 //! The words of a record's key, read from the octets of its fields.
 
-ghost use Rattle.std.specs.Prelude.{◌≡◌, ◌≤◌, true, All, IfOk, length, option_map};
+ghost use Rattle.std.specs.Prelude.{◌≡◌, true, IfOk, length, option_map};
 ghost use Rattle.std.specs.List.{AllPass};
-ghost use Rattle.std.specs.Option.{ForSome};
 ghost use Rattle.ipfix_elements.specs.Values.{cell_in};
-ghost use Rattle.ipfix_elements.specs.declared.cell.Cell.TheVariants as cells;
 ghost use Rattle.flow_table.specs.Missing.{first_without};
-ghost use Rattle.flow_table.specs.Plans.{HasPrefix, is_key_kind};
+ghost use Rattle.flow_table.specs.Plans.{is_key_kind};
 ghost use Rattle.flow_table.specs.Reading.{cell_of, projected};
 ghost use Rattle.flow_table.specs.Readings.{ReadsCell, ReadsKey};
 
 use crate::key::Key;
+use crate::networks::{ipv4_network, ipv6_network};
 use crate::words::{CellWords, ipv4_word, ipv6_words, mac_word, push_words};
-use ipfix_elements::{Kind, mask, read_number};
+use ipfix_elements::{Kind, read_number};
 use ipfix_message::DataRecord;
 use std::alloc::AllocError;
 
@@ -23,7 +22,6 @@ pub fn read_key(
     data_record: &DataRecord,
     words: &mut Vec<u64>,
 ) -> Result<Option<usize>, AllocError>
-    requires prefixes { All HasPrefix keys.now }
     requires beside { length kinds.now ≡ length keys.now }
     requires comparable { AllPass is_key_kind kinds.now }
     ensures place { IfOk result (λ place. place ≡ first_without keys.now kinds.now data_record.now) }
@@ -42,40 +40,30 @@ pub fn read_key(
 // The words of a key, if the record has it.
 #[tactic(auto, unfolding(crate::specs::Reading::cell_of))]
 fn read_words_of(key: Key, kind: Kind, data_record: &DataRecord) -> Option<CellWords>
-    requires prefix { HasPrefix key }
-    requires comparable { is_key_kind kind ≡ true }
+    requires { is_key_kind kind ≡ true }
     ensures { ReadsCell kind (cell_of key kind data_record.now) result }
 {
     let octets = data_record.fields.find(key.element)?;
     words_in(kind, key.prefix, octets)
 }
 
-// The words of what octets are, by a kind of keys: of an IPv4 address with its prefix alone, if there is one.
+// The words of what octets are, by a kind of keys: of an address with its prefix alone, if there is one.
 #[inline(always)]
 fn words_in(kind: Kind, prefix: Option<u8>, octets: &[u8]) -> Option<CellWords>
-    requires prefix { ForSome prefix (λ bits. bits ≤ 32) }
-    requires comparable { is_key_kind kind ≡ true }
+    requires { is_key_kind kind ≡ true }
     ensures { ReadsCell kind (option_map (projected prefix) (cell_in kind octets.now)) result }
 {
     match kind {
         Kind::Unsigned(_) => Some(CellWords::One(read_number(kind, octets)?)),
         Kind::Ipv4 => {
             let address = <[u8; 4]>::try_from(octets).ok()?;
-            Some(CellWords::One(ipv4_word(&project(prefix, address))))
+            Some(CellWords::One(ipv4_word(&ipv4_network(prefix, address))))
         }
-        Kind::Ipv6 => Some(ipv6_words(&<[u8; 16]>::try_from(octets).ok()?)),
+        Kind::Ipv6 => {
+            let address = <[u8; 16]>::try_from(octets).ok()?;
+            Some(ipv6_words(&ipv6_network(prefix, address)))
+        }
         Kind::Mac => Some(CellWords::One(mac_word(&<[u8; 6]>::try_from(octets).ok()?))),
         Kind::Seconds | Kind::Millis | Kind::Octets => None,
-    }
-}
-
-// An IPv4 address with its prefix alone, if there is one.
-fn project(prefix: Option<u8>, address: [u8; 4]) -> [u8; 4]
-    requires { ForSome prefix (λ bits. bits ≤ 32) }
-    ensures { cells.Ipv4 result ≡ projected prefix (cells.Ipv4 address) }
-{
-    match prefix {
-        Some(bits) => mask(address, bits),
-        None => address,
     }
 }

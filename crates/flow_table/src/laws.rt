@@ -1,7 +1,7 @@
 //! Laws of plans and of tables: a list of records has one table, which is the same for every order of
 //! the list and fits its plan.
 
-ghost use Rattle.std.specs.Prelude.{◌≡◌, ◌+◌, ◌++◌, ◌↔◌, true, ◌<◌, ◌≤◌, ℕ, List, [], None, All, IsPermutation, flat_map, sum, sum_by};
+ghost use Rattle.std.specs.Prelude.{◌≡◌, ◌+◌, ◌++◌, ◌↔◌, true, false, ◌<◌, ◌≤◌, ℕ, List, [], None, Some, All, IsPermutation, flat_map, sum, sum_by};
 ghost use Rattle.std.specs.List.{AllZip};
 ghost use Rattle.ipfix_message.specs.DataRecords.{HasOctets};
 ghost use Rattle.ipfix_message.specs.declared.record.DataRecord.{DataRecord};
@@ -14,7 +14,9 @@ ghost use Rattle.ipfix_elements.specs.declared.kind.Kind.TheVariants.{Unsigned};
 ghost use Rattle.ipfix_elements.specs.declared.kind.Width.TheVariants.{Eight};
 ghost use Rattle.element_registry.specs.Registries.{Known, IsRegistry, element_kind};
 ghost use Rattle.element_registry.specs.declared.kind.ElementKind.TheVariants.{Plain};
-ghost use Rattle.flow_table.specs.Plans.{PlanValue, IsPlan, first_fault_of, kinds_of};
+ghost use Rattle.flow_table.specs.Plans.{PlanValue, IsPlan, first_fault_of, is_taken_total, kinds_of};
+ghost use Rattle.flow_table.specs.Reading.{start_of, end_of};
+ghost use Rattle.flow_table.specs.declared.choices.Times.TheVariants as times;
 ghost use Rattle.flow_table.specs.SameTables.{IsSameTable};
 ghost use Rattle.flow_table.specs.Tables.{IsTable, IsTooLarge, tally_of};
 ghost use Rattle.flow_table.specs.declared.table.Table.{Table};
@@ -36,18 +38,28 @@ pub fn built_in_plans_stay()
         → first_fault_of [] plan ≡ None → kinds_of known plan.keys ≡ kinds_of [] plan.keys }
 {}
 
+/// A flow that has a start, or an end, in milliseconds or seconds has the same where times of every kind
+/// are read.
+pub fn basic_times_stay()
+    ensures start { (r : DataRecord) (time : ℕ) → start_of times.Basic r ≡ Some time
+        → start_of times.All r ≡ Some time }
+    ensures end { (r : DataRecord) (time : ℕ) → end_of times.Basic r ≡ Some time
+        → end_of times.All r ≡ Some time }
+{}
+
 /// Whatever no fault fits, with the kinds of its keys, is a plan.
 pub fn faultless_plans()
     ensures { (known : List Known) (plan : PlanValue) → plan.kinds ≡ kinds_of known plan.keys
         → first_fault_of known plan ≡ None → IsPlan plan }
 {}
 
-/// Each counter of a plan is an unsigned64, and so has the kind by which all counters are read, whatever
-/// files say.
+/// Each counter of a plan, but a total that is taken as a delta, is an unsigned64, and so has the kind by
+/// which all counters are read, whatever files say.
 pub fn counters_have_one_kind()
     ensures { (known : List Known) (plan : PlanValue) → IsRegistry known
         → first_fault_of known plan ≡ None
-        → All (λ c. element_kind known c ≡ Plain (Unsigned Eight)) plan.counters }
+        → All (λ c. is_taken_total plan.choices.totals c ≡ false
+        → element_kind known c ≡ Plain (Unsigned Eight)) plan.counters }
 {}
 
 /// By every method the shares of the intervals that a flow covers add up to its counter (RFC 7015,

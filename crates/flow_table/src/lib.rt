@@ -4,6 +4,7 @@
 
 mod adding;
 mod checking;
+mod choices;
 mod class;
 mod finishing;
 mod flat_table;
@@ -15,6 +16,7 @@ mod left_out;
 mod merging;
 mod method;
 mod missing;
+mod networks;
 mod partial;
 mod plan;
 mod plan_fault;
@@ -32,15 +34,17 @@ mod tally;
 mod times;
 mod words;
 
+pub use choices::{Choices, Times, Totals};
 pub use class::Class;
 pub use flat_table::FlatTable;
 pub use key::Key;
 pub use method::Method;
 pub use missing::Missing;
+pub use networks::project;
 pub use partial::Partial;
 pub use plan::{MAX_COUNTERS, MAX_KEYS, MAX_SPREAD, Plan};
 pub use plan_fault::PlanFault;
-pub use roles::{is_counter, is_key, is_prefix_of};
+pub use roles::{is_counter, is_key, is_prefix_of, may_count};
 pub use row_totals::RowTotals;
 pub use sharing::share;
 pub use table::{Row, Table};

@@ -1,6 +1,7 @@
 //! Plans of an aggregation.
 
 use crate::checking::first_fault;
+use crate::choices::Choices;
 use crate::key::Key;
 use crate::method::Method;
 use crate::plan_fault::PlanFault;
@@ -24,7 +25,8 @@ pub const MAX_SPREAD: u32 = 4096;
 
 /// How data records are aggregated (RFC 7015, section 5): the length of an interval in milliseconds,
 /// how a flow's counters are distributed among intervals, the keys and the counters of the table,
-/// and the most intervals that a flow may cover if its counters are spread over them.
+/// the most intervals that a flow may cover if its counters are spread over them, and what a plan may
+/// choose.
 #[derive(Debug, Drop)]
 pub struct Plan {
     length: u32,
@@ -33,6 +35,7 @@ pub struct Plan {
     kinds: Vec<Kind>,
     counters: Vec<ElementId>,
     max_spread: u32,
+    choices: Choices,
 }
 
 impl Model for Plan {
@@ -40,15 +43,15 @@ impl Model for Plan {
 
     ghost Value = { PlanValue };
 
-    ghost view = { λ p. plan_with p.length p.method p.keys.items p.kinds.items p.counters.items p.max_spread };
+    ghost view = { λ p. plan_with p.length p.method p.keys.items p.kinds.items p.counters.items p.max_spread p.choices };
 
-    ghost invariant = { λ p. IsPlan (plan_with p.length p.method p.keys.items p.kinds.items p.counters.items p.max_spread) };
+    ghost invariant = { λ p. IsPlan (plan_with p.length p.method p.keys.items p.kinds.items p.counters.items p.max_spread p.choices) };
 }
 
 impl Plan {
     ghost use Rattle.std.specs.Prelude.{◌≡◌, ◌≢◌, ◌≤◌, ◌<◌, [], Some, None, length, All, IfOk, IfErr, OnOk, IsErrOf};
     ghost use Rattle.std.specs.List.{AllPass};
-    ghost use Rattle.flow_table.specs.Plans.{IsPlan, HasPrefix, is_value, is_key_kind, plan_value, first_fault};
+    ghost use Rattle.flow_table.specs.Plans.{IsPlan, HasPrefix, is_value, is_key_kind, chosen_fault, chosen_plan, plan_value, first_fault};
 
     /// The plan of the arguments, or the first fault that fits them, in this order: `Length`,
     /// `Spread`, `KeyCount`, `KeyKind`, `Prefix`, `CounterCount`, `CounterKind`, `Repeated`.
@@ -73,12 +76,22 @@ impl Plan {
             → first_fault [] length keys.now counters.now max_spread ≡ None }
     {
         let elements = Elements::built_in(alloc);
-        Plan::with_elements(alloc, &elements, length, method, keys, counters, max_spread)
+        Plan::with_elements(
+            alloc,
+            &elements,
+            length,
+            method,
+            keys,
+            counters,
+            max_spread,
+            Choices::BASIC,
+        )
     }
 
     /// The plan of the arguments, whose elements may be built in or known from files, or the first
     /// fault that fits them, in the order of [`Plan::new`]. A truth value may be a key: it is read
-    /// as a number of one octet. A counter of a file is an unsigned number and a delta counter.
+    /// as a number of one octet. A counter of a file is an unsigned number and a delta counter; a total may
+    /// be one by choice.
     /// `OutOfMemory` comes only if no fault fits.
     pub fn with_elements(
         alloc: Global,
@@ -88,17 +101,18 @@ impl Plan {
         keys: &[Key],
         counters: &[ElementId],
         max_spread: u32,
+        choices: Choices,
     ) -> Result<Plan, PlanFault>
         ensures ok { IfOk result (λ plan. plan
-            ≡ plan_value elements.now length method keys.now counters.now max_spread) }
+            ≡ chosen_plan elements.now choices length method keys.now counters.now max_spread) }
         ensures faultless { OnOk result
-            (first_fault elements.now length keys.now counters.now max_spread ≡ None) }
+            (chosen_fault elements.now choices length keys.now counters.now max_spread ≡ None) }
         ensures fault { IfErr result (λ fault. fault ≢ PlanFault.OutOfMemory
-            → first_fault elements.now length keys.now counters.now max_spread ≡ Some fault) }
+            → chosen_fault elements.now choices length keys.now counters.now max_spread ≡ Some fault) }
         ensures memory { IsErrOf result PlanFault.OutOfMemory
-            → first_fault elements.now length keys.now counters.now max_spread ≡ None }
+            → chosen_fault elements.now choices length keys.now counters.now max_spread ≡ None }
     {
-        if let Some(fault) = first_fault(elements, length, keys, counters, max_spread) {
+        if let Some(fault) = first_fault(elements, length, keys, counters, max_spread, choices) {
             return Err(fault);
         }
         let keys = keys.to_vec(alloc)?;
@@ -111,6 +125,7 @@ impl Plan {
             kinds,
             counters,
             max_spread,
+            choices,
         })
     }
 
@@ -180,6 +195,13 @@ impl Plan {
         self.max_spread
     }
 
+    /// What the plan chooses.
+    pub fn choices(&self) -> Choices
+        ensures { result ≡ self.now.choices }
+    {
+        self.choices
+    }
+
     /// A copy of the plan.
     pub fn copy(&self, alloc: Global) -> Result<Plan, AllocError>
         ensures { IfOk result (λ copy. copy ≡ self.now) }
@@ -191,6 +213,7 @@ impl Plan {
             kinds: self.kinds.to_vec(alloc)?,
             counters: self.counters.to_vec(alloc)?,
             max_spread: self.max_spread,
+            choices: self.choices,
         })
     }
 }

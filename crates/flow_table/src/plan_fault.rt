@@ -23,8 +23,8 @@ pub enum PlanFault {
     /// 32767.
     #[error("a key is neither a number nor an address")]
     KeyKind,
-    /// A key has a prefix, and its element is no IPv4 address of a flow's ends or the prefix is above
-    /// 32.
+    /// A key has a prefix, and its element is no address of a flow's ends, or the prefix is above 32 for
+    /// IPv4 or above 128 for IPv6.
     #[error("a key cannot have that prefix")]
     Prefix,
     /// There are no counters, or more than [`MAX_COUNTERS`](crate::MAX_COUNTERS).

@@ -41,10 +41,11 @@ pub(crate) fn read(
     if data_record.scope > 0 {
         return Ok(Reading::Left(LeftOut::Options));
     }
-    let Some(start) = start_of(data_record) else {
+    let times = plan.choices().times;
+    let Some(start) = start_of(times, data_record) else {
         return Ok(Reading::Left(LeftOut::WithoutStart));
     };
-    let Some(end) = end_of(data_record) else {
+    let Some(end) = end_of(times, data_record) else {
         return Ok(Reading::Left(LeftOut::WithoutEnd));
     };
     if end < start {

@@ -4,7 +4,8 @@ ghost use Rattle.std.specs.Prelude.{◌≡◌, IfOk};
 ghost use Rattle.std.specs.List.{list_any};
 ghost use Rattle.flow_table.specs.Plans as plans;
 
-use crate::key::Key;
+use crate::choices::Totals;
+use crate::key::{DESTINATION_IPV6_ADDRESS, Key, SOURCE_IPV6_ADDRESS};
 use element_registry::{ElementKind, Elements};
 use ipfix_elements::{Kind, Width, iana, name_of};
 use ipfix_wire::ElementId;
@@ -14,8 +15,11 @@ use std::alloc::{AllocError, Global};
 /// section 3.2).
 const NUMBER_LIMIT: u16 = 1 << 15;
 
-/// The addresses that may have a prefix.
-const ADDRESSES: [u16; 2] = [iana::SOURCE_IPV4_ADDRESS, iana::DESTINATION_IPV4_ADDRESS];
+/// The addresses of IPv4 that may have a prefix.
+const IPV4_ADDRESSES: [u16; 2] = [iana::SOURCE_IPV4_ADDRESS, iana::DESTINATION_IPV4_ADDRESS];
+
+/// The addresses of IPv6 that may have a prefix.
+const IPV6_ADDRESSES: [u16; 2] = [SOURCE_IPV6_ADDRESS, DESTINATION_IPV6_ADDRESS];
 
 /// The delta counters of octets, packets and flows.
 const COUNTERS: [u16; 7] = [
@@ -27,6 +31,15 @@ const COUNTERS: [u16; 7] = [
     iana::DROPPED_OCTET_DELTA_COUNT,
     iana::DROPPED_PACKET_DELTA_COUNT,
 ];
+
+/// Number of octetTotalCount.
+const OCTET_TOTAL_COUNT: u16 = 85;
+
+/// Number of packetTotalCount.
+const PACKET_TOTAL_COUNT: u16 = 86;
+
+/// The totals that may be added up by choice.
+const TOTALS: [u16; 2] = [OCTET_TOTAL_COUNT, PACKET_TOTAL_COUNT];
 
 fn is_element(element: ElementId) -> bool
     ensures { result ≡ plans.is_element element }
@@ -79,14 +92,17 @@ pub fn is_key(elements: &Elements, element: ElementId) -> bool
     is_element(element) && is_key_kind(key_kind(elements, element))
 }
 
-/// Whether a key of the element may have the prefix: the IPv4 addresses of a flow's ends may, of up to
-/// 32 bits.
+/// Whether a key of the element may have the prefix: the addresses of a flow's ends may, of up to 32 bits
+/// for IPv4 and 128 for IPv6.
 pub fn is_prefix_of(element: ElementId, prefix: Option<u8>) -> bool
     ensures { result ≡ plans.is_prefix_of element prefix }
 {
     match prefix {
         None => true,
-        Some(bits) => element.pen == 0 && ADDRESSES.contains(&element.number) && bits <= 32,
+        Some(bits) => {
+            element.pen == 0 && IPV4_ADDRESSES.contains(&element.number) && bits <= 32
+                || element.pen == 0 && IPV6_ADDRESSES.contains(&element.number) && bits <= 128
+        }
     }
 }
 
@@ -120,4 +136,22 @@ pub fn is_counter(elements: &Elements, element: ElementId) -> bool
 {
     is_built_in_counter(element)
         || is_element(element) && name_of(element).is_none() && is_delta(elements, element)
+}
+
+// Whether the element is a total that is taken as a delta.
+fn is_taken_total(totals: Totals, element: ElementId) -> bool
+    ensures { result ≡ plans.is_taken_total totals element }
+{
+    match totals {
+        Totals::Refused => false,
+        Totals::AsDeltas => element.pen == 0 && TOTALS.contains(&element.number),
+    }
+}
+
+/// Whether an element may be a counter of a plan with this choice: a counter, as [`is_counter`] says, or
+/// a total that is taken as a delta.
+pub fn may_count(elements: &Elements, totals: Totals, element: ElementId) -> bool
+    ensures { result ≡ plans.may_count elements.now totals element }
+{
+    is_counter(elements, element) || is_taken_total(totals, element)
 }

@@ -5,7 +5,7 @@ use Rattle.element_registry.specs.Registries.{Known}
 use Rattle.flow_table.specs.declared.plan_fault.PlanFault.{PlanFault}
 use Rattle.flow_table.specs.declared.plan_fault.PlanFault.TheVariants.{Length, Spread, KeyCount, KeyKind, Prefix, CounterCount, CounterKind, Repeated, OutOfMemory}
 use Rattle.flow_plan.specs.declared.error.PlanKey.{PlanKey}
-use Rattle.flow_plan.specs.declared.error.PlanKey.TheVariants.{IntervalMs, Method, MaxSpread, Keys, Counters}
+use Rattle.flow_plan.specs.declared.error.PlanKey.TheVariants.{IntervalMs, Method, MaxSpread, Keys, Counters, Times, Totals}
 use Rattle.flow_plan.specs.declared.error.PlanPlace.{PlanPlace}
 use Rattle.flow_plan.specs.declared.error.PlanPlace.TheVariants.{Value, Count, Text}
 use Rattle.flow_plan.specs.declared.error.PlanTextError.{PlanTextError}
@@ -34,6 +34,8 @@ kind_words Method = codes "not \"start\", \"end\", \"mid\", \"uniform\" or \"pro
 kind_words MaxSpread = codes "not an integer from 1 to 4096"
 kind_words Keys = codes "not an array of texts"
 kind_words Counters = codes "not an array of texts"
+kind_words Times = codes "not \"basic\" or \"all\""
+kind_words Totals = codes "not \"refused\" or \"as-deltas\""
 
 -- what a plan of built-in elements allows, where it has this fault
 abbrev pub built_in_words : PlanFault → List ℕ
@@ -41,19 +43,19 @@ built_in_words Length = codes "must be 1 to 4294967295"
 built_in_words Spread = codes "must be 1 to 4096"
 built_in_words KeyCount = codes "at most 8"
 built_in_words KeyKind = codes ": only elements known as unsigned numbers or addresses (IPv4, IPv6, MAC) may be keys"
-built_in_words Prefix = codes ": only IPv4 addresses take a prefix, 0 to 32"
+built_in_words Prefix = codes ": only IPv4 addresses take a prefix, 0 to 32, and IPv6 addresses, 0 to 128"
 built_in_words CounterCount = codes "must be 1 to 4"
 built_in_words CounterKind =
-    codes ": only octetDeltaCount, packetDeltaCount, deltaFlowCount, postOctetDeltaCount, postPacketDeltaCount, droppedOctetDeltaCount and droppedPacketDeltaCount may be counters"
+    codes ": only octetDeltaCount, packetDeltaCount, deltaFlowCount, postOctetDeltaCount, postPacketDeltaCount, droppedOctetDeltaCount and droppedPacketDeltaCount may be counters, and with totals = \"as-deltas\" octetTotalCount (e0.85) and packetTotalCount (e0.86)"
 built_in_words Repeated = codes " stands twice"
 built_in_words OutOfMemory = codes ": out of memory"
 
 -- the same of a plan that may name elements of files, too, of which the semantics say what may be added up (RFC 7012, section 3.2)
 abbrev pub file_words : PlanFault → List ℕ
 file_words KeyKind = codes ": only elements known as unsigned numbers, addresses (IPv4, IPv6, MAC) or booleans may be keys"
-file_words Prefix = codes ": only sourceIPv4Address and destinationIPv4Address take a prefix, 0 to 32"
+file_words Prefix = codes ": only sourceIPv4Address and destinationIPv4Address take a prefix, 0 to 32, and sourceIPv6Address and destinationIPv6Address, 0 to 128"
 file_words CounterKind =
-    codes ": only octetDeltaCount, packetDeltaCount, deltaFlowCount, postOctetDeltaCount, postPacketDeltaCount, droppedOctetDeltaCount, droppedPacketDeltaCount and elements of files with an unsigned type and the semantics deltaCounter may be counters; a total is none: adding a flow's totals up counts it twice"
+    codes ": only octetDeltaCount, packetDeltaCount, deltaFlowCount, postOctetDeltaCount, postPacketDeltaCount, droppedOctetDeltaCount, droppedPacketDeltaCount and elements of files with an unsigned type and the semantics deltaCounter may be counters, and with totals = \"as-deltas\" octetTotalCount (e0.85) and packetTotalCount (e0.86); another total is none: adding a flow's totals up counts it twice"
 file_words fault = built_in_words fault
 
 -- by what is known of files

@@ -28,10 +28,11 @@ fn built_in_words(fault: PlanFault) -> &'static str
         PlanFault::KeyKind => {
             ": only elements known as unsigned numbers or addresses (IPv4, IPv6, MAC) may be keys"
         }
-        PlanFault::Prefix => ": only IPv4 addresses take a prefix, 0 to 32",
+        PlanFault::Prefix =>
+            ": only IPv4 addresses take a prefix, 0 to 32, and IPv6 addresses, 0 to 128",
         PlanFault::CounterCount => "must be 1 to 4",
         PlanFault::CounterKind => {
-            ": only octetDeltaCount, packetDeltaCount, deltaFlowCount, postOctetDeltaCount, postPacketDeltaCount, droppedOctetDeltaCount and droppedPacketDeltaCount may be counters"
+            ": only octetDeltaCount, packetDeltaCount, deltaFlowCount, postOctetDeltaCount, postPacketDeltaCount, droppedOctetDeltaCount and droppedPacketDeltaCount may be counters, and with totals = \"as-deltas\" octetTotalCount (e0.85) and packetTotalCount (e0.86)"
         }
         PlanFault::Repeated => " stands twice",
         PlanFault::OutOfMemory => ": out of memory",
@@ -47,10 +48,10 @@ fn file_words(fault: PlanFault) -> &'static str
             ": only elements known as unsigned numbers, addresses (IPv4, IPv6, MAC) or booleans may be keys"
         }
         PlanFault::Prefix => {
-            ": only sourceIPv4Address and destinationIPv4Address take a prefix, 0 to 32"
+            ": only sourceIPv4Address and destinationIPv4Address take a prefix, 0 to 32, and sourceIPv6Address and destinationIPv6Address, 0 to 128"
         }
         PlanFault::CounterKind => {
-            ": only octetDeltaCount, packetDeltaCount, deltaFlowCount, postOctetDeltaCount, postPacketDeltaCount, droppedOctetDeltaCount, droppedPacketDeltaCount and elements of files with an unsigned type and the semantics deltaCounter may be counters; a total is none: adding a flow's totals up counts it twice"
+            ": only octetDeltaCount, packetDeltaCount, deltaFlowCount, postOctetDeltaCount, postPacketDeltaCount, droppedOctetDeltaCount, droppedPacketDeltaCount and elements of files with an unsigned type and the semantics deltaCounter may be counters, and with totals = \"as-deltas\" octetTotalCount (e0.85) and packetTotalCount (e0.86); another total is none: adding a flow's totals up counts it twice"
         }
         _ => built_in_words(fault),
     }
@@ -65,5 +66,7 @@ pub fn kind_words(key: PlanKey) -> &'static str
         PlanKey::MaxSpread => "not an integer from 1 to 4096",
         PlanKey::Method => "not \"start\", \"end\", \"mid\", \"uniform\" or \"proportional\"",
         PlanKey::Keys | PlanKey::Counters => "not an array of texts",
+        PlanKey::Times => "not \"basic\" or \"all\"",
+        PlanKey::Totals => "not \"refused\" or \"as-deltas\"",
     }
 }

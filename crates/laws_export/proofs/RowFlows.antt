@@ -109,7 +109,7 @@ row_flow plan time row is whole fits in_time small =
     record {
       last = last_of plan row;
       used = is_used (by_start plan) r (first_of plan row) (last_of plan row) row.key (omega arith)
-          (start_again plan time row (omega (arith, forward, in_time))) (end_again plan time row in_time) forward in_time
+          (start_again plan.choices.times plan time row (omega (arith, forward, in_time))) (end_again plan.choices.times plan time row in_time) forward in_time
           (cells_read plan.keys plan.kinds row.key r fits.key.beside fits.key.fit whole (All-left (IsFound (row_fields plan row)) keys counters found)) refl;
       sums = counters_read plan.counters row.sums r fits.sums small (All-right (IsFound (row_fields plan row)) keys counters found);
     }

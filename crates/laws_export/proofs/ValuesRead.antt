@@ -23,6 +23,9 @@ use Rattle.ipfix_message.specs.declared.record.DataRecord.{DataRecord}
 use Rattle.flow_table.specs.declared.key.Key.{Key}
 use Rattle.flow_table.specs.Plans.{PlanValue}
 use Rattle.flow_table.specs.Fitting.{IsCellOf}
+use Rattle.flow_table.specs.declared.choices.Times.{Times}
+use Rattle.flow_table.specs.declared.choices.Times.TheVariants as times
+use Rattle.flow_table.proofs.UsedFlows.{start_stays, end_stays}
 use Rattle.flow_table.specs.Reading.{start_of, end_of, time_in, time_of, number_of, cell_of, cells_of, counter_of}
 use Rattle.flow_table.specs.SameTables.{RowValue}
 use Rattle.flow_export.specs.CsvText.{first_of, last_of}
@@ -72,13 +75,22 @@ time_again n small =
     let same : n * 1 ≡ n = omega arith in
     ap (λ (o : Option ℕ). option_and_then (λ m. time_in (m * 1)) o) (millis_again n (omega (arith, small))) ∙ rw (same, lt-ltb n (2 ^ 50) small) refl
 
-pub start_again : (plan : PlanValue) (time : ℕ) (row : RowValue) → first_of plan row < 2 ^ 50 → start_of (row_record plan time row) ≡ Some (first_of plan row)
+basic_start_again : (plan : PlanValue) (time : ℕ) (row : RowValue) → first_of plan row < 2 ^ 50 → start_of times.Basic (row_record plan time row) ≡ Some (first_of plan row)
 unfolding start_of elements
-start_again plan time row small = ap (λ (o : Option ℕ). option_or o (time_of (iana 150) 1000 (row_record plan time row))) (time_again (first_of plan row) small)
+basic_start_again plan time row small = ap (λ (o : Option ℕ). option_or o (time_of (iana 150) 1000 (row_record plan time row))) (time_again (first_of plan row) small)
 
-pub end_again : (plan : PlanValue) (time : ℕ) (row : RowValue) → last_of plan row < 2 ^ 50 → end_of (row_record plan time row) ≡ Some (last_of plan row)
+basic_end_again : (plan : PlanValue) (time : ℕ) (row : RowValue) → last_of plan row < 2 ^ 50 → end_of times.Basic (row_record plan time row) ≡ Some (last_of plan row)
 unfolding end_of elements
-end_again plan time row small = ap (λ (o : Option ℕ). option_or o (time_of (iana 151) 1000 (row_record plan time row))) (time_again (last_of plan row) small)
+basic_end_again plan time row small = ap (λ (o : Option ℕ). option_or o (time_of (iana 151) 1000 (row_record plan time row))) (time_again (last_of plan row) small)
+
+-- rows have their times in milliseconds, which every plan reads first
+pub start_again : (choice : Times) (plan : PlanValue) (time : ℕ) (row : RowValue) → first_of plan row < 2 ^ 50 → start_of choice (row_record plan time row) ≡ Some (first_of plan row)
+start_again times.Basic plan time row small = basic_start_again plan time row small
+start_again times.All plan time row small = start_stays (row_record plan time row) (first_of plan row) (basic_start_again plan time row small)
+
+pub end_again : (choice : Times) (plan : PlanValue) (time : ℕ) (row : RowValue) → last_of plan row < 2 ^ 50 → end_of choice (row_record plan time row) ≡ Some (last_of plan row)
+end_again times.Basic plan time row small = basic_end_again plan time row small
+end_again times.All plan time row small = end_stays (row_record plan time row) (last_of plan row) (basic_end_again plan time row small)
 
 -- ---- keys
 

@@ -16,6 +16,8 @@ use Rattle.element_registry.specs.Registries.{Known, element_kind}
 use Rattle.element_registry.specs.declared.kind.ElementKind.TheVariants.{Plain}
 use Rattle.element_registry.specs.declared.kind.ElementKind.{ElementKind}
 use Rattle.element_values.specs.FieldTexts.{element_json, element_text, misfit_text}
+use Rattle.flow_table.specs.declared.choices.Totals.{Totals}
+use Rattle.flow_table.specs.Plans.{is_taken_total}
 use Rattle.laws_json.specs.Counters.{has_mark, IsReadAlike, SaysWhatCounts}
 use Rattle.laws_json.proofs.Tests.{decimal_passes}
 
@@ -50,6 +52,8 @@ says known e of octets =
       absent = ap has_mark text ∙ mark_of counted octets;
     }
 
-pub read_alike : (known : List Known) (counters : List ElementId) → All (λ c. element_kind known c ≡ Plain (Unsigned Eight)) counters → All (IsReadAlike known) counters
-read_alike known counters =
-    All-weaker (λ c. element_kind known c ≡ Plain (Unsigned Eight)) (IsReadAlike known) (λ e of r octets found. rw found (says known e of octets)) counters
+pub read_alike : (known : List Known) (totals : Totals) (counters : List ElementId) → All (λ c. is_taken_total totals c ≡ false → element_kind known c ≡ Plain (Unsigned Eight)) counters
+    → All (λ c. is_taken_total totals c ≡ false → IsReadAlike known c) counters
+read_alike known totals counters =
+    All-weaker (λ c. is_taken_total totals c ≡ false → element_kind known c ≡ Plain (Unsigned Eight)) (λ c. is_taken_total totals c ≡ false → IsReadAlike known c)
+    (λ e of other r octets found. rw found (says known e (of other) octets)) counters

@@ -15,6 +15,7 @@ use Rattle.ipfix_elements.specs.declared.cell.Cell.TheVariants.{Number, Ipv4, Ip
 use Rattle.ipfix_message.specs.Fields.{octets_of}
 use Rattle.ipfix_message.specs.declared.record.DataRecord.{DataRecord}
 use Rattle.flow_table.specs.declared.key.Key.{Key}
+use Rattle.flow_table.specs.Networks.{masked_ipv6}
 use Rattle.flow_table.specs.Reading.{projected, cell_of, cells_of}
 use Rattle.flow_merge.specs.RowRecords.{AreProjected}
 
@@ -43,25 +44,31 @@ cut_multiple m k j =
     let is : m * p % 2 ^ (j + k) ≡ times * p = mod-pow-add (m * p) j k ∙ ap (λ (r : ℕ). times * p + r) (mul-mod_left m p) ∙ add-zero (times * p) in
     ap (λ (n : ℕ). n / p * p) is ∙ ap (λ (n : ℕ). n * p) (mul-div_cancel times positive) ∙ sym is
 
-masked_kept : (x k j : ℕ) → j + k ≡ 32 → big_bytes 4 (x / 2 ^ k * 2 ^ k % 256 ^ 4 / 2 ^ k * 2 ^ k) ≡ big_bytes 4 (x / 2 ^ k * 2 ^ k)
-masked_kept x k j sum =
+masked_kept : (w x k j : ℕ) → 2 ^ (j + k) ≡ 256 ^ w → big_bytes w (x / 2 ^ k * 2 ^ k % 256 ^ w / 2 ^ k * 2 ^ k) ≡ big_bytes w (x / 2 ^ k * 2 ^ k)
+masked_kept w x k j square =
     let n = x / 2 ^ k * 2 ^ k in
-    let square : 2 ^ (j + k) ≡ 256 ^ 4 = ap (λ (w : ℕ). 2 ^ w) sum in
-    let cut : n % 256 ^ 4 / 2 ^ k * 2 ^ k ≡ n % 256 ^ 4 = subst (λ (s : ℕ). n % s / 2 ^ k * 2 ^ k ≡ n % s) square (cut_multiple (x / 2 ^ k) k j) in
-    ap (big_bytes 4) cut ∙ sym (bytes_below 4 (n / 256 ^ 4) (n % 256 ^ 4)) ∙ ap (big_bytes 4) (div-add-mod' n (256 ^ 4))
+    let cut : n % 256 ^ w / 2 ^ k * 2 ^ k ≡ n % 256 ^ w = subst (λ (s : ℕ). n % s / 2 ^ k * 2 ^ k ≡ n % s) square (cut_multiple (x / 2 ^ k) k j) in
+    ap (big_bytes w) cut ∙ sym (bytes_below w (n / 256 ^ w) (n % 256 ^ w)) ∙ ap (big_bytes w) (div-add-mod' n (256 ^ w))
 
 masked_again : (address : List ℕ) (bits : ℕ) → masked (masked address bits) bits ≡ masked address bits
 masked_again address bits =
     let k = 32 - bits in
     let n = big_number 4 address in
     let sum : 32 - k + k ≡ 32 = omega arith in
-    ap (λ (m : ℕ). big_bytes 4 (m / 2 ^ k * 2 ^ k)) (big_from-bytes 4 (n / 2 ^ k * 2 ^ k) []) ∙ masked_kept n k (32 - k) sum
+    ap (λ (m : ℕ). big_bytes 4 (m / 2 ^ k * 2 ^ k)) (big_from-bytes 4 (n / 2 ^ k * 2 ^ k) []) ∙ masked_kept 4 n k (32 - k) (ap (λ (w : ℕ). 2 ^ w) sum)
+
+masked_ipv6_again : (address : List ℕ) (bits : ℕ) → masked_ipv6 (masked_ipv6 address bits) bits ≡ masked_ipv6 address bits
+masked_ipv6_again address bits =
+    let k = 128 - bits in
+    let n = big_number 16 address in
+    let sum : 128 - k + k ≡ 128 = omega arith in
+    ap (λ (m : ℕ). big_bytes 16 (m / 2 ^ k * 2 ^ k)) (big_from-bytes 16 (n / 2 ^ k * 2 ^ k) []) ∙ masked_kept 16 n k (128 - k) (ap (λ (w : ℕ). 2 ^ w) sum)
 
 projected_again : (prefix : Option ℕ) (cell : Cell) → projected prefix (projected prefix cell) ≡ projected prefix cell
 projected_again None cell = refl
 projected_again (Some bits) (Number n) = refl
 projected_again (Some bits) (Ipv4 address) = ap (λ (a : List ℕ). Ipv4 a) (masked_again address bits)
-projected_again (Some bits) (Ipv6 address) = refl
+projected_again (Some bits) (Ipv6 address) = ap (λ (a : List ℕ). Ipv6 a) (masked_ipv6_again address bits)
 projected_again (Some bits) (Mac address) = refl
 
 -- ---- a key

@@ -7,7 +7,7 @@ ghost use Rattle.flow_export.specs.AnyTables.{table_in};
 use super::tables::{flat_of_minutes, table_of_minutes};
 use element_registry::{Elements, ElementsFault, add_file};
 use flow_export::{AnyTable, ExportFault, TableText, write_table};
-use flow_table::{Key, Method, Plan, PlanFault};
+use flow_table::{Choices, Key, Method, Plan, PlanFault};
 use ipfix_wire::ElementId;
 use std::alloc::Global;
 use std::test::Fail;
@@ -48,6 +48,7 @@ fn by_source(alloc: Global, elements: &Elements) -> Result<Plan, PlanFault> {
         &[source],
         &[site_octets],
         4096,
+        Choices::BASIC,
     )
 }
 

@@ -41,7 +41,7 @@ fn same_kinds(mut a: &[Kind], mut b: &[Kind]) -> bool
     b.is_empty()
 }
 
-// Whether all but the kinds are the same.
+// Whether all but the kinds and what is chosen are the same.
 fn have_same_parts(a: &Plan, b: &Plan) -> bool
     ensures { result ≡ same_parts a.now b.now }
 {
@@ -62,7 +62,9 @@ impl PartialEq for Plan {
     ghost laws = { partial_equiv_from_equiv same_plan_laws };
 
     fn eq(&self, other: &Plan) -> bool {
-        same_kinds(&self.kinds, &other.kinds) && have_same_parts(self, other)
+        self.choices == other.choices
+            && same_kinds(&self.kinds, &other.kinds)
+            && have_same_parts(self, other)
     }
 }
 

@@ -3,7 +3,7 @@
 ghost use Rattle.std.specs.Prelude.{◌<◌, ◌^◌, length};
 
 use element_registry::{ElementKind, Elements, ElementsFault, Entry, add_file};
-use flow_table::{Key, Method, Partial, Plan, PlanFault, Row};
+use flow_table::{Choices, Key, Method, Partial, Plan, PlanFault, Row};
 use ipfix_elements::{Cell, Kind, Width, name_of};
 use ipfix_message::{DataRecord, Fields};
 use ipfix_wire::ElementId;
@@ -66,6 +66,7 @@ fn plan_of(
         &[key],
         &[counter],
         4096,
+        Choices::BASIC,
     )
 }
 

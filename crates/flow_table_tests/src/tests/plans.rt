@@ -144,9 +144,15 @@ fn a_plan_keeps_its_arguments(rt: HostRuntime) -> Result<(), Fail> {
 
 #[test]
 fn a_prefix_is_exported_as_its_own_element(rt: HostRuntime) -> Result<(), Fail> {
-    let pairs = [(8, None), NETWORK, (12, Some(24))];
+    let pairs = [
+        (8, None),
+        NETWORK,
+        (12, Some(24)),
+        (27, Some(48)),
+        (28, Some(0)),
+    ];
     let keys = keys_of(rt.alloc(), &pairs)?;
-    for (key, number) in keys.iter().zip([8, 44, 45]) {
+    for (key, number) in keys.iter().zip([8, 44, 45, 170, 169]) {
         assert_eq!(rt; key.exported_element().number, number);
     }
     Ok(())
