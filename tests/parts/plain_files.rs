@@ -105,6 +105,8 @@ fn exported(key: &Key) -> Element {
     let number = match (key.prefix, key.element.number) {
         (Some(_), 8) => 44,
         (Some(_), 12) => 45,
+        (Some(_), 27) => 170,
+        (Some(_), 28) => 169,
         (_, number) => number,
     };
     Element { pen: key.element.pen, number }
@@ -118,12 +120,16 @@ fn repeated(read: &[Element], written: &[Element]) -> Option<usize> {
 /// The fault of a plan whose keys and counters have these names.
 fn fault_of(plan: &Plan, keys: &[&str], counters: &[&str]) -> Option<PlanFault> {
     let is_key = |key: &Key| matches!(key.element.kind(), Kind::Unsigned(_) | Kind::Ipv4 | Kind::Ipv6 | Kind::Mac);
-    let has_prefix = |key: &Key| key.element.pen == 0 && matches!(key.element.number, 8 | 12);
+    let most_bits = |key: &Key| match (key.element.pen, key.element.number) {
+        (0, 8 | 12) => Some(32),
+        (0, 27 | 28) => Some(128),
+        _ => None,
+    };
     let is_counter = |element: &Element| element.pen == 0 && [1, 2, 3, 23, 24, 132, 133].contains(&element.number);
     let read: Vec<Element> = plan.keys.iter().map(|key| key.element).chain(plan.counters.iter().copied()).collect();
     let written: Vec<Element> = plan.keys.iter().map(exported).chain(plan.counters.iter().copied()).collect();
     let bad_key = plan.keys.iter().position(|key| !is_key(key));
-    let bad_prefix = plan.keys.iter().position(|key| key.prefix.is_some_and(|bits| bits > 32 || !has_prefix(key)));
+    let bad_prefix = plan.keys.iter().position(|key| key.prefix.is_some_and(|bits| most_bits(key).is_none_or(|most| bits > most)));
     let bad_counter = plan.counters.iter().position(|element| !is_counter(element));
     let (name, key, words) = if plan.length == 0 {
         ("6 Plan: fault 1 Length", "interval_ms", "must be 1 to 4294967295".to_string())
@@ -135,12 +141,13 @@ fn fault_of(plan: &Plan, keys: &[&str], counters: &[&str]) -> Option<PlanFault> 
         let words = "only elements known as unsigned numbers or addresses (IPv4, IPv6, MAC) may be keys";
         ("6 Plan: fault 4 KeyKind", "keys", format!("\"{}\": {words}", keys[at]))
     } else if let Some(at) = bad_prefix {
-        ("6 Plan: fault 9 Prefix", "keys", format!("\"{}\": only IPv4 addresses take a prefix, 0 to 32", keys[at]))
+        ("6 Plan: fault 9 Prefix", "keys", format!("\"{}\": only IPv4 addresses take a prefix, 0 to 32, and IPv6 addresses, 0 to 128", keys[at]))
     } else if !(1..=4).contains(&plan.counters.len()) {
         ("6 Plan: fault 5 CounterCount", "counters", format!("{} elements, must be 1 to 4", counters.len()))
     } else if let Some(at) = bad_counter {
         let words = "only octetDeltaCount, packetDeltaCount, deltaFlowCount, postOctetDeltaCount, postPacketDeltaCount, \
-                     droppedOctetDeltaCount and droppedPacketDeltaCount may be counters";
+                     droppedOctetDeltaCount and droppedPacketDeltaCount may be counters, and with totals = \"as-deltas\" \
+                     octetTotalCount (e0.85) and packetTotalCount (e0.86)";
         ("6 Plan: fault 6 CounterKind", "counters", format!("\"{}\": {words}", counters[at]))
     } else if let Some(at) = repeated(&read, &written) {
         let (key, text) = match at.checked_sub(keys.len()) {
@@ -201,6 +208,11 @@ fn cell_of(key: &Key, text: &str) -> Cell {
         _ => text.parse().expect("a number"),
     };
     match key.prefix {
+        Some(bits) if matches!(key.element.kind(), Kind::Ipv6) => {
+            let network = if bits == 0 { 0 } else { number >> (128 - bits) << (128 - bits) };
+            let groups: Vec<String> = (0..8).map(|at| format!("{:04x}", network >> (112 - 16 * at) & 0xffff)).collect();
+            (network, groups.join(":"))
+        }
         Some(bits) => {
             let network = (u64::from(number as u32) >> (32 - bits) << (32 - bits)) as u32;
             let [a, b, c, d] = network.to_be_bytes();
