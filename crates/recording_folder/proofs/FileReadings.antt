@@ -3,26 +3,18 @@ use Rattle.std.proofs.Common.{◌≡◌, ℕ, ◌<◌, List, [], ◌++◌, lengt
 use Rattle.std.specs.Io.KnownBytes.{Keeps, Consumes, IsAtEnd, ReadConsumes}
 use Rattle.std.proofs.lemmas.List.{append-nil}
 use Rattle.std.proofs.lemmas.Option.{none-some, same_Some}
-use Rattle.ipfix_message.specs.declared.fault.MessageFault.TheVariants.{OutOfMemory}
-use Rattle.ipfix_session.specs.declared.fault.SessionFault.{SessionFault}
-use Rattle.ipfix_session.specs.declared.fault.SessionFault.TheVariants as faults
-use Rattle.ipfix_session.specs.Feeding.{State, StandsForText, Feeds}
-use Rattle.ipfix_session.specs.Sinks.{SinkView}
+use Rattle.std.specs.Prelude.{OnOk}
+use Rattle.ipfix_session.specs.MessageCounts.{HasRead}
+use Rattle.recording_resumption.specs.Readings.{HasReadSession}
 use Rattle.recording_folder.specs.declared.file_reading.FileReading.{FileReading}
 use Rattle.recording_folder.specs.FileReadings.{HasReadFile, IsReading}
 
 -- ---- a piece
 
--- a session that was fed a piece stands for the longer text, unless memory ran out; its sink takes every record
-pub fed : {K : Type 0} (view : SinkView K) (r : Result (Unit {0}) SessionFault) (text piece : List ℕ) (before after : K) (s : State) → ((k : K) → view.refused k ≡ 0)
-    → (r ≡ Err (faults.Message OutOfMemory) → ⊥) → Feeds view r text piece before after s → StandsForText s (text ++ piece)
-fed view (Ok x) text piece before after s none had f = f.1.stands
-fed view (Err (faults.Message OutOfMemory)) text piece before after s none had f = absurd (had refl)
-fed view (Err (faults.Message e)) text piece before after s none had f = f.1.stands
-fed view (Err faults.SinkClosed) text piece before after s none had f = absurd (omega (arith, f.back, none after, none f.last))
-fed view (Err faults.Truncated) text piece before after s none had f = absurd f
-fed view (Err faults.ReadFailed) text piece before after s none had f = absurd f
-fed view (Err faults.TooManyReads) text piece before after s none had f = absurd f
+-- it was read, unless memory ran out
+pub taken : {E : Type 0} (r : Result (Unit {0}) E) (f : FileReading) (text : List ℕ) → HasRead f.whole text → OnOk r (HasReadSession f.session text) → OnOk r (HasReadFile text f)
+taken (Ok x) f text whole session = record { whole = whole; session = session }
+taken (Err e) f text whole session = tt
 
 -- ---- the reads of a file
 

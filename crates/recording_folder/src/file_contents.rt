@@ -6,17 +6,20 @@ ghost use Rattle.recording_folder.specs.FileContents.{AreContents};
 use crate::file_reading::FileReading;
 use ipfix_session::READ_SIZE;
 use recording_files::FileReport;
+use recording_resumption::EarlierSession;
 use std::alloc::Global;
 use std::io::{self, ErrorKind, Read};
 
 /// What a file has, read by itself as a session. The numbers stop at `u64::MAX`.
-#[derive(Clone, Copy, Debug, PartialEq, Eq)]
+#[derive(Drop)]
 pub struct FileContents {
     /// How many of its octets are whole messages, one after another from its front.
     pub whole: u64,
     /// What its messages give, up to the first that has a fault. The recorder's own are counted, too: preambles, withdrawals,
     /// and templates that are defined again.
     pub report: FileReport,
+    /// What a session that goes on needs: the templates that are in force at its end, and the last message of each domain.
+    pub session: EarlierSession,
 }
 
 /// Reads a file to its end, once. It holds at most a message and a piece. An `Err` is the reader's, or memory that

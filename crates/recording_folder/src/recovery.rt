@@ -116,7 +116,11 @@ fn settle<R: Files + Alloc<A = Global>>(
         return Err(io::Error::from(ErrorKind::InvalidInput));
     }
     let mut file = OpenOptions::new().read(true).write(true).open(rt, path)?;
-    let FileContents { whole, report } = read_contents(rt.alloc(), &mut file)?;
+    let FileContents {
+        whole,
+        report,
+        session: _,
+    } = read_contents(rt.alloc(), &mut file)?;
     let more = file.metadata()?.len().saturating_sub(whole);
     if whole == 0 {
         fs::remove_file(rt, path)?;

@@ -1,11 +1,6 @@
-use Rattle.std.proofs.Common.{refl, sym, ◌∙◌}
-use Rattle.std.proofs.lemmas.Bool.{false≢true}
-use Rattle.recording_folder.proofs.FileReadings.{fed}
+use Rattle.std.proofs.Common.{◌++◌}
+use Rattle.recording_folder.proofs.FileReadings.{taken}
 use Rattle.recording_folder.proofs.file_reading.FileReading.take.Goals as goal
 
 pub returns : goal.returns
-returns c = λ text has.
-    record {
-      whole = c.read.ensures text has.whole;
-      session = fed _ c.feed-fed.result text c.args.piece.now _ _ c.feed-fed.new.self (λ k. refl) (λ e. false≢true (sym c.if-is_out_of_memory.false ∙ c.is_out_of_memory.ensures.1 e)) (c.feed-fed.ensures.feeds text has.session);
-    }
+returns c = λ text has. taken c.read-2.result (record { whole = c.read.new.self; session = c.read-2.new.self }) (text ++ c.args.piece.now) (c.read.ensures text has.whole) (c.read-2.ensures text has.session)
