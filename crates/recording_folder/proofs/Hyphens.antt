@@ -16,11 +16,12 @@ use Rattle.std.specs.Str.{NoCharPasses}
 use Rattle.std.proofs.lemmas.Option.{none-some, same_Some}
 use Rattle.std.proofs.Math.Seq.{get_or-append_seam}
 use Rattle.recording_folder.specs.SessionNames.{HasNoHyphen, hyphened, address_name, name_of_session, number_text, session_text}
+use Rattle.recording_folder.specs.declared.session_names.SessionName.{SessionName}
 use Rattle.recording_folder.specs.declared.transport.Transport.{Transport}
 use Rattle.recording_folder.specs.declared.transport.Transport.TheVariants.{Connection, Datagrams}
 use Rattle.recording_folder.specs.UnfinishedNames.{name_of_unfinished}
 
-digits : IsNumeralModel (AllDigits 10) (digits_value 10)
+pub digits : IsNumeralModel (AllDigits 10) (digits_value 10)
 digits = numerals_by_value (AllDigits 10) tells_digits
 
 -- a decimal number has none
@@ -54,7 +55,7 @@ last_parts text (Some x) h = (
 )
 
 -- there is one
-one_split : (front other back rest : List ℕ) → HasNoHyphen back → HasNoHyphen rest → hyphened front back ≡ hyphened other rest → (front ≡ other) × (back ≡ rest)
+pub one_split : (front other back rest : List ℕ) → HasNoHyphen back → HasNoHyphen rest → hyphened front back ≡ hyphened other rest → (front ≡ other) × (back ≡ rest)
 one_split [] [] back rest none no_more is = (refl, ap (drop 1) is)
 one_split [] (b ∷ other) back rest none no_more is = absurd (no_seam back other rest none (ap (drop 1) is))
 one_split (b ∷ front) [] back rest none no_more is = absurd (no_seam rest front back no_more (sym (ap (drop 1) is)))
@@ -82,9 +83,9 @@ one_number Datagrams Connection number next small fits is = absurd (no_letter ne
 one_number Datagrams Datagrams number next small fits is = (refl, decimal_injective number next small fits (ap (drop 1) is))
 
 -- where none is read after the letter, or without it
-pub none_after_letter : (text digits : List ℕ) → text ≡ 117 ∷ digits → ((n : ℕ) → n < 2 ^ 64 → digits ≢ decimal n) → (transport : Transport) (n : ℕ) → n < 2 ^ 64 → text ≢ number_text transport n
-none_after_letter text digits is none Connection n small e = no_letter n digits small (sym e ∙ is)
-none_after_letter text digits is none Datagrams n small e = none n small (ap (drop 1) (sym is ∙ e))
+pub none_after_letter : (text rest : List ℕ) → text ≡ 117 ∷ rest → ((n : ℕ) → n < 2 ^ 64 → rest ≢ decimal n) → (transport : Transport) (n : ℕ) → n < 2 ^ 64 → text ≢ number_text transport n
+none_after_letter text rest is none Connection n small e = no_letter n rest small (sym e ∙ is)
+none_after_letter text rest is none Datagrams n small e = none n small (ap (drop 1) (sym is ∙ e))
 
 pub none_without_letter : (text : List ℕ) → ((rest : List ℕ) → text ≢ 117 ∷ rest) → ((n : ℕ) → n < 2 ^ 64 → text ≢ decimal n) → (transport : Transport) (n : ℕ) → n < 2 ^ 64 → text ≢ number_text transport n
 none_without_letter text other none Connection n small e = none n small e
@@ -93,11 +94,11 @@ none_without_letter text other none Datagrams n small e = other (decimal n) e
 -- ---- the names of sessions
 
 -- an address and a port, and then the number
-before_number : (address : List ℕ) (port : ℕ) (transport : Transport) (number : ℕ) → session_text address port transport number ≡ hyphened (hyphened address (decimal port)) (number_text transport number)
+pub before_number : (address : List ℕ) (port : ℕ) (transport : Transport) (number : ℕ) → session_text address port transport number ≡ hyphened (hyphened address (decimal port)) (number_text transport number)
 before_number address port transport number = sym (append_assoc address (45 ∷ decimal port) (45 ∷ number_text transport number))
 
 -- what stands before and after the last hyphen of a name
-pub name_parts : (name peer rest address : List ℕ) (port : ℕ) (transport : Transport) (number : ℕ) → (name ≡ hyphened peer rest) × HasNoHyphen rest → number < 2 ^ 64 → name ≡ session_text address port transport number
+name_parts : (name peer rest address : List ℕ) (port : ℕ) (transport : Transport) (number : ℕ) → (name ≡ hyphened peer rest) × HasNoHyphen rest → number < 2 ^ 64 → name ≡ session_text address port transport number
     → (peer ≡ hyphened address (decimal port)) × (rest ≡ number_text transport number)
 name_parts name peer rest address port transport number split small is =
     one_split peer (hyphened address (decimal port)) rest (number_text transport number) split.1 (number_has_no_hyphen transport number small) (sym split.0 ∙ is ∙ before_number address port transport number)
@@ -105,6 +106,21 @@ name_parts name peer rest address port transport number split small is =
 -- and before that the port follows one
 pub port_is : (peer front digits address : List ℕ) (port : ℕ) → (peer ≡ hyphened front digits) × HasNoHyphen digits → port < 2 ^ 16 → peer ≡ hyphened address (decimal port) → digits ≡ decimal port
 port_is peer front digits address port split small is = (one_split front address digits (decimal port) split.1 (no_hyphen port (omega (arith, small))) (sym split.0 ∙ is)).1
+
+-- what is read of both parts is read of the name
+abbrev IsReadOf : List ℕ → List ℕ → Option SessionName → Type 0
+IsReadOf peer rest r = MatchOption r
+    ((address : List ℕ) (port : ℕ) (transport : Transport) (number : ℕ) → port < 2 ^ 16 → number < 2 ^ 64 → peer ≡ hyphened address (decimal port) → rest ≢ number_text transport number)
+    (λ told. (peer ≡ hyphened told.address.now (decimal told.port)) × (rest ≡ number_text told.transport told.number))
+
+pub session_read : (name peer rest : List ℕ) (r : Option SessionName) → (name ≡ hyphened peer rest) × HasNoHyphen rest → IsReadOf peer rest r
+    → MatchOption r ((address : List ℕ) (port : ℕ) (transport : Transport) (number : ℕ) → port < 2 ^ 16 → number < 2 ^ 64 → name ≢ session_text address port transport number)
+    (λ told. name ≡ session_text told.address.now told.port told.transport told.number)
+session_read name peer rest None split none = λ address port transport number p n is.
+    let parts = name_parts name peer rest address port transport number split n is in
+    none address port transport number p n parts.0 parts.1
+session_read name peer rest (Some told) split is =
+    split.0 ∙ ap (λ (front : List ℕ). hyphened front rest) is.0 ∙ ap (hyphened (hyphened told.address.now (decimal told.port))) is.1 ∙ sym (before_number told.address.now told.port told.transport told.number)
 
 -- what a name says
 pub one_session : (address other : List ℕ) (port next_port : ℕ) (transport over : Transport) (number next : ℕ) → port < 2 ^ 16 → next_port < 2 ^ 16 → number < 2 ^ 64 → next < 2 ^ 64

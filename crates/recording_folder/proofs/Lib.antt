@@ -1,3 +1,4 @@
 pub mod Hyphens
+pub mod FinishedNames
 pub mod FullReports
 pub mod FileReadings

@@ -2,6 +2,7 @@
 pub mod PeriodNames
 pub mod SessionNames
 pub mod UnfinishedNames
+pub mod FinishedNames
 pub mod FileContents
 pub mod EndedFiles
 pub mod FolderFaults

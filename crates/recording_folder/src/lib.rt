@@ -7,6 +7,7 @@ mod ended_file;
 mod file_contents;
 mod file_reading;
 mod filed_session;
+mod finished_names;
 mod folder;
 mod full_reports;
 mod lack;
@@ -26,6 +27,7 @@ mod unfinished_names;
 
 pub use ended_file::{EndedFile, FileFinisher, FolderFinisher};
 pub use file_contents::{FileContents, read_contents};
+pub use finished_names::{FinishedName, read_finished_name};
 pub use folder::{Folder, FolderFault, open_folder, reopen_folder};
 pub use period::{CALENDAR_END, Period, period_of};
 pub use period_names::period_name;

@@ -1,5 +1,9 @@
 //! Giving a file its final name.
 
+ghost use Rattle.std.specs.Prelude.{◌≡◌, ◌++◌, codes, IfOk};
+ghost use Rattle.std.specs.String.{string_bytes};
+ghost use Rattle.recording_folder.specs.FinishedNames.{name_of_finished};
+
 use crate::folder::{Folder, path_in};
 use crate::period::Period;
 use crate::period_names::period_name;
@@ -92,12 +96,10 @@ fn remove_first_name<R: Files>(rt: &R, unfinished: &str) -> io::Result<()> {
 }
 
 // The path of a session's file; where it was taken before, that of the next number.
-fn final_path(
-    alloc: Global,
-    folder: &str,
-    session: &str,
-    number: u64,
-) -> Result<String, AllocError> {
+fn final_path(alloc: Global, folder: &str, session: &str, number: u64) -> Result<String, AllocError>
+    ensures { IfOk result (λ path. string_bytes path
+        ≡ folder.now ++ (codes "/" ++ name_of_finished session.now number)) }
+{
     if number == 1 {
         format!(in alloc; "{folder}/{session}.ipfix")
     } else {

@@ -55,7 +55,19 @@ pub fn read_session_name(name: &str) -> Option<SessionName<'_>>
         (λ told. name.now ≡ session_text told.address.now told.port told.transport told.number) }
 {
     let (peer, rest) = split_last(name)?;
-    let (transport, number) = read_number(rest)?;
+    read_parts(peer, rest)
+}
+
+/// What the two parts of a name say, before and after its last hyphen.
+pub(crate) fn read_parts<'a>(peer: &'a str, number: &str) -> Option<SessionName<'a>>
+    ensures { MatchOption result
+        ((address : List ℕ) (port : ℕ) (transport : Transport) (number_is : ℕ)
+        → port < 2 ^ 16 → number_is < 2 ^ 64 → peer.now ≡ hyphened address (decimal port)
+        → number.now ≢ number_text transport number_is)
+        (λ told. (peer.now ≡ hyphened told.address.now (decimal told.port))
+        × (number.now ≡ number_text told.transport told.number)) }
+{
+    let (transport, number) = read_number(number)?;
     let (address, digits) = split_last(peer)?;
     let port = port_number(digits)?;
     Some(SessionName {
@@ -66,8 +78,8 @@ pub fn read_session_name(name: &str) -> Option<SessionName<'_>>
     })
 }
 
-// What stands before and after the last hyphen.
-fn split_last(text: &str) -> Option<(&str, &str)>
+/// What stands before and after the last hyphen.
+pub(crate) fn split_last(text: &str) -> Option<(&str, &str)>
     ensures { MatchOption result
         ((front back : List ℕ) → text.now ≢ hyphened front back)
         (λ parts. (text.now ≡ hyphened parts.0.now parts.1.now) × HasNoHyphen parts.1.now) }
