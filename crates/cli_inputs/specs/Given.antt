@@ -1,5 +1,5 @@
 -- What a command is told is what was given for its arguments: no value of one stands for that of another.
-use Rattle.std.specs.Prelude.{◌≡◌, ◌*◌, ℕ, List, Option, Some, nat_eq, if◌then◌else◌, option_map, map, codes}
+use Rattle.std.specs.Prelude.{◌≡◌, ◌*◌, false, ℕ, List, Option, Some, nat_eq, if◌then◌else◌, option_map, map, codes}
 use Rattle.std.specs.Duration.{as_nanos}
 use Rattle.std.specs.declared.time.Duration.{Duration}
 use Rattle.std.specs.Int.NonZero.{non_zero_u64_get, non_zero_usize_get}
@@ -78,6 +78,8 @@ module _ (chosen : Chosen) where
     pub reorder : IsNumberGiven chosen (codes "reorder") (Some told.reorder)
     pub prefixes : map (λ prefix. prefix.now) told.prefixes.now ≡ texts_given chosen (codes "from")
     pub idle : IsDurationGiven (codes "idle") told.idle
+    pub verbose : IsFlagGiven chosen (codes "verbose") told.verbosity.verbose
+    pub strict : told.verbosity.strict ≡ false
 
   pub record IsFinish (told : FinishArguments) : Type 0 where
     pub folder : text_given chosen (codes "folder") ≡ Some told.folder.now

@@ -8,8 +8,8 @@ use crate::formats::{dump_form, table_format};
 use cli_words::{
     Argument, Chosen, DIRECT, DUMP_FORMAT, ELEMENTS, EVERY, FAULT, FILES_FROM, FLOW_FILES, FOLDER,
     FROM, IDLE, INTO, LISTEN, PEERS, PLAN, PROGRESS, RECORD_IDLE, RECORD_LISTEN, RECORD_SESSIONS,
-    REORDER, RING, SESSIONS, STRICT, Subcommand, TABLE_FILES, TABLE_FORMAT, TIME, UDP, VERBOSE,
-    WORD, WORKERS,
+    RECORD_VERBOSE, REORDER, RING, SESSIONS, STRICT, Subcommand, TABLE_FILES, TABLE_FORMAT, TIME, UDP,
+    VERBOSE, WORD, WORKERS,
 };
 use flow_collect::Pool;
 use ipfix_dump::Form;
@@ -109,6 +109,8 @@ pub struct RecordArguments<'m, 'w> {
     pub prefixes: &'m [&'w str],
     /// How long a peer may send nothing, if that was given.
     pub idle: Option<Duration>,
+    /// Whether the beginning and the end of each connection are told, too.
+    pub verbosity: Verbosity,
 }
 
 /// What `finish` is told.
@@ -259,6 +261,10 @@ fn read_record<'m, 'w>(chosen: Chosen<'m, 'w>) -> Option<RecordArguments<'m, 'w>
         reorder: u64::from(reorder),
         prefixes: chosen.texts(FROM),
         idle: read_duration(chosen, RECORD_IDLE),
+        verbosity: Verbosity {
+            verbose: chosen.is_given(RECORD_VERBOSE),
+            strict: false,
+        },
     })
 }
 

@@ -3,8 +3,8 @@
 use crate::arguments::Argument;
 use crate::bare_arguments::{FAULT, FLOW_FILES, FOLDER, TABLE_FILES, WORD};
 use crate::listen_options::{
-    EVERY, FROM, IDLE, INTO, LISTEN, PEERS, RECORD_IDLE, RECORD_LISTEN, RECORD_SESSIONS, REORDER,
-    SESSIONS, UDP,
+    EVERY, FROM, IDLE, INTO, LISTEN, PEERS, RECORD_IDLE, RECORD_LISTEN, RECORD_SESSIONS,
+    RECORD_VERBOSE, REORDER, SESSIONS, UDP,
 };
 use crate::options::{
     DIRECT, DUMP_FORMAT, ELEMENTS, FILES_FROM, MERGE_STRICT, PLAN, PROGRESS, RING, STRICT,
@@ -77,6 +77,7 @@ pub const RECORD: CommandWords = CommandWords {
         REORDER,
         FROM,
         RECORD_IDLE,
+        RECORD_VERBOSE,
     ],
 };
 

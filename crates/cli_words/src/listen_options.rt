@@ -1,6 +1,7 @@
 //! The options of the commands that peers send to.
 
 use crate::arguments::{Argument, Due, LARGEST, Takes};
+use crate::options::VERBOSE_WORD;
 
 // The words of the options of which `record` needs one at least.
 const LISTEN_WORD: &str = "listen";
@@ -65,9 +66,9 @@ pub const EVERY: Argument = Argument {
 /// How many connections `record` has at once.
 pub const RECORD_SESSIONS: Argument = Argument {
     word: "sessions",
-    takes: Takes::Number("N", 1, 64),
-    due: Due::Default("64"),
-    help: "How many connections are recorded at once, 1 to 64; more wait until one ends",
+    takes: Takes::Number("N", 1, 1024),
+    due: Due::Default("256"),
+    help: "How many connections are recorded at once, 1 to 1024; one more is closed at once",
 };
 
 pub const PEERS: Argument = Argument {
@@ -90,6 +91,14 @@ pub const FROM: Argument = Argument {
     takes: Takes::Texts("PREFIX"),
     due: Due::Never,
     help: "Which peers may send: an address or a prefix, as 192.0.2.0/24; may be repeated; by default all",
+};
+
+/// Whether `record` says more.
+pub const RECORD_VERBOSE: Argument = Argument {
+    word: VERBOSE_WORD,
+    takes: Takes::Nothing(Some('v')),
+    due: Due::Never,
+    help: "Print more on standard error: each connection that begins, and each that ends",
 };
 
 /// For how long a peer of `record` may be silent.

@@ -78,8 +78,11 @@ pub const PROGRESS: Argument = Argument {
     help: "Show on the terminal how much each session has read; given twice, on standard error",
 };
 
+// The word of an option that prints other lines for `record`.
+pub(crate) const VERBOSE_WORD: &str = "verbose";
+
 pub const VERBOSE: Argument = Argument {
-    word: "verbose",
+    word: VERBOSE_WORD,
     takes: Takes::Nothing(Some('v')),
     due: Due::Never,
     help: "Print more on standard error: what was opened, what was not counted, where faults are, and why",

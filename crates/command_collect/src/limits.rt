@@ -8,7 +8,7 @@ ghost use Rattle.report_writing.specs.Writing.{Tells};
 
 use crate::engine::Engine;
 use flow_collect::CollectFault;
-use report_writing::{NOTHING_MORE, Verbosity, WriteLines};
+use report_writing::{Verbosity, WriteLines};
 use std::io;
 
 /// Writes what is allowed, after the fault, if `verbosity` is verbose and a run with this engine and so

@@ -1,2 +1,3 @@
 -- What inner functions cite.
+pub mod Beginning
 pub mod Finishing

@@ -2,6 +2,8 @@
 //! connections and datagrams side by side.
 #![tactic(auto)]
 
+mod beginning;
+mod descriptors;
 mod finishing;
 mod folder_line;
 mod recording;

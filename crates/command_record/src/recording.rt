@@ -3,15 +3,19 @@
 ghost use Rattle.std.specs.Prelude.{◌≡◌, ◌/◌, IfOk, MatchOption};
 ghost use Rattle.std.specs.Duration.{as_nanos};
 
+use crate::beginning::{Intake, write_beginning};
+use crate::descriptors::{descriptor_limit, peers_within, write_descriptors};
 use crate::folder_line::tell_folder;
 use crate::system::{Sockets, run_recorder};
 use cli_inputs::{RecordArguments, WITH_REASONS, listen_on};
 use network_prefixes::{PeerFilter, Prefix};
 use recording_connections::{RecordOrder, open_recordings};
 use recording_datagrams::{PeerLimits, SystemSocket};
-use report_writing::{NOTHING_MORE, Reason, Status, write_not_had_because};
+use recording_lines::WholeLines;
+use report_writing::{Reason, Status, write_not_had_because};
 use std::io::{Stderr, Write};
 use std::net::TcpListener;
+use std::num::NonZeroUsize;
 use std::rt::Clock;
 use std::sync::Wait;
 use std::thread::Threads;
@@ -32,16 +36,22 @@ pub fn record<R: Clock + Threads + Wait + Sync>(
         socket: open_socket(rt, arguments.udp, &mut err)?,
     };
     match open_recordings(rt, rt.alloc(), arguments.into, err) {
-        Ok(folder) => Ok(run_recorder(
-            threads,
-            rt,
-            rt.alloc(),
-            sockets,
-            &folder,
-            &order,
-            limits_of(arguments),
-            err,
-        )),
+        Ok(folder) => {
+            let limits = limits_of(arguments, peers_of(arguments, err));
+            let mut lines = WholeLines::new(err);
+            let intake = intake_of(&sockets, &order, &limits);
+            let _ = write_beginning(arguments.into, intake, &mut lines);
+            Ok(run_recorder(
+                threads,
+                rt,
+                rt.alloc(),
+                sockets,
+                &folder,
+                &order,
+                limits,
+                err,
+            ))
+        }
         Err(fault) => {
             tell_folder(arguments.into, &fault, &mut err);
             Err(Status::NotOpened)
@@ -80,15 +90,50 @@ fn open_socket(
     }
 }
 
+// How many peers that send datagrams are kept: as many as are asked for, or as there are descriptors for. If those are fewer,
+// `err` has a line.
+fn peers_of(arguments: &RecordArguments, err: Stderr) -> NonZeroUsize {
+    let (Some(_), Some(limit)) = (arguments.udp, descriptor_limit()) else {
+        return arguments.peers;
+    };
+    let sessions = match arguments.listen {
+        Some(_) => arguments.sessions,
+        None => 0,
+    };
+    let sessions = u32::try_from(sessions).unwrap_or(u32::MAX);
+    let within = peers_within(limit, sessions, arguments.peers);
+    if within.get() < arguments.peers.get() {
+        let (within, peers) = (within.get(), arguments.peers.get());
+        let _ = write_descriptors(limit, within, peers, &mut WholeLines::new(err));
+    }
+    within
+}
+
+// What a run takes, and where.
+fn intake_of(sockets: &Sockets, order: &RecordOrder, limits: &PeerLimits) -> Intake {
+    Intake {
+        listen: match &sockets.listener {
+            Some(listener) => listener.local_addr().ok(),
+            None => None,
+        },
+        udp: match &sockets.socket {
+            Some(socket) => socket.local_addr().ok(),
+            None => None,
+        },
+        sessions: sockets.listener.as_ref().map(|_| order.sessions),
+        peers: sockets.socket.as_ref().map(|_| limits.most.get()),
+    }
+}
+
 // How many peers that send datagrams are kept, how long each may be silent, and for how long a datagram waits.
-fn limits_of(arguments: &RecordArguments) -> PeerLimits
-    ensures most { result.most ≡ arguments.now.peers }
+fn limits_of(arguments: &RecordArguments, peers: NonZeroUsize) -> PeerLimits
+    ensures most { result.most ≡ peers }
     ensures idle { MatchOption arguments.now.idle (result.idle ≡ IDLE)
         (λ limit. result.idle ≡ as_nanos limit / 1000000000) }
     ensures reorder { result.reorder ≡ arguments.now.reorder }
 {
     PeerLimits {
-        most: arguments.peers,
+        most: peers,
         idle: match arguments.idle {
             Some(limit) => limit.as_secs(),
             None => IDLE,
@@ -106,12 +151,13 @@ fn order_of(
     ensures every { IfOk result (λ order. order.every ≡ arguments.now.every) }
     ensures sessions { IfOk result (λ order. order.sessions ≡ arguments.now.sessions) }
     ensures idle { IfOk result (λ order. order.idle ≡ arguments.now.idle) }
+    ensures verbosity { IfOk result (λ order. order.verbosity ≡ arguments.now.verbosity) }
 {
     Ok(RecordOrder {
         every: arguments.every,
         sessions: arguments.sessions,
         idle: arguments.idle,
-        verbosity: NOTHING_MORE,
+        verbosity: arguments.verbosity,
         filter: filter_of(rt, arguments.prefixes, err)?,
     })
 }

@@ -6,6 +6,7 @@ use recording_connections::{RecordOrder, RecorderRun, SharedCounts, run_record};
 use recording_datagrams::{PeerLimits, SystemSocket, run_datagrams};
 use recording_folder::Folder;
 use recording_lines::{WholeLines, write_threads};
+use recording_log::{LineQueue, LineSender, WaitingLines};
 use report_writing::Status;
 use std::alloc::Global;
 use std::io::Write;
@@ -22,8 +23,9 @@ pub struct Sockets {
 }
 
 /// Records in a folder what comes through the sockets, for ever: connections in as many threads as the order
-/// says, and all datagrams in one, beside which others finish the files of peers. It ends only if no thread can be
-/// started.
+/// says, and all datagrams in one, beside which others finish the files of peers. Their lines wait in a queue for a thread
+/// that writes them, so that nobody waits for who reads them; without that thread each is written where it arises. It ends
+/// only if no thread can be started.
 pub fn run_recorder<E: Write + Copy + Send + Sync + Drop, R: Clock + Threads + Wait + Sync>(
     threads: &R,
     rt: &HostRuntime,
@@ -45,6 +47,72 @@ pub fn run_recorder<E: Write + Copy + Send + Sync + Drop, R: Clock + Threads + W
         order,
         shared: &shared,
     };
+    match (LineQueue::new(alloc), WaitingLines::new(alloc)) {
+        (Ok(queue), Ok(log)) => run_beside_writer(run, sockets, limits, &queue, log, err),
+        _ => run_sockets(run, sockets, limits, err),
+    }
+}
+
+// Starts the thread that writes the lines of a queue, and records beside it. At the end the rest of the lines is written.
+fn run_beside_writer<E: Write + Copy + Send + Sync + Drop, R: Clock + Threads + Wait + Sync>(
+    run: RecorderRun<R>,
+    sockets: Sockets,
+    limits: PeerLimits,
+    queue: &LineQueue,
+    log: WaitingLines,
+    err: E,
+) -> Status
+    ensures { result ≡ Status.Failed }
+{
+    let RecorderRun {
+        threads,
+        rt,
+        alloc,
+        folder,
+        order,
+        shared,
+    } = run;
+    thread::scope(
+        thread::scope_env(),
+        threads,
+        |scope| -> Status
+            ensures { result ≡ Status.Failed }
+        {
+            let run = RecorderRun {
+                threads,
+                rt,
+                alloc,
+                folder,
+                order,
+                shared,
+            };
+            let write_out = move || {
+                let mut err = err;
+                queue.write_out(threads, log, &mut err);
+            };
+            if scope.spawn(write_out).is_err() {
+                return run_sockets(run, sockets, limits, err);
+            }
+            let lines = LineSender {
+                queue,
+                waiting: threads,
+            };
+            let status = run_sockets(run, sockets, limits, lines);
+            queue.close(threads);
+            status
+        },
+    )
+}
+
+// Records what comes through the sockets.
+fn run_sockets<E: Write + Copy + Send + Sync + Drop, R: Clock + Threads + Wait + Sync>(
+    run: RecorderRun<R>,
+    sockets: Sockets,
+    limits: PeerLimits,
+    err: E,
+) -> Status
+    ensures { result ≡ Status.Failed }
+{
     let Sockets { listener, socket } = sockets;
     match (listener, socket) {
         (Some(listener), Some(socket)) => run_both(run, listener, socket, limits, err),

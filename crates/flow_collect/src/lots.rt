@@ -1,9 +1,9 @@
 //! Lots: sources that are driven one after another on one thread, and the tables of lots, merged.
 
-ghost use Rattle.std.specs.Prelude.{◌≡◌, ◌≤◌, List, IfOk, OnOk};
+ghost use Rattle.std.specs.Prelude.{◌≡◌, ◌≤◌, IfOk, OnOk};
 ghost use Rattle.std.specs.Thread.{IsSync};
 ghost use Rattle.ipfix_message.specs.declared.record.DataRecord.{DataRecord};
-ghost use Rattle.flow_table.specs.Partials.{StandsFor, plan_of};
+ghost use Rattle.flow_table.specs.Partials.{plan_of};
 ghost use Rattle.flow_collect.specs.Serials.{LotRan, MergesLots};
 
 use flow_table::{Partial, Plan, TableFault};

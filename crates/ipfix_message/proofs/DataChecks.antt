@@ -1,11 +1,11 @@
 -- Sets that are only checked.
-use Rattle.std.proofs.Common.{◌≡◌, ℕ, ◌<◌, ◌≤◌, Bool, true, false, eqb, ltb, List, [], ◌∷◌, ◌++◌, length, map, Option, Some, None, Result, Ok, Err, refl, sym, ap, subst, ◌∙◌, arith, cond, not}
+use Rattle.std.proofs.Common.{◌≡◌, ℕ, ◌<◌, ◌≤◌, Bool, true, false, eqb, ltb, List, [], ◌∷◌, ◌++◌, length, map, Some, None, Result, Ok, Err, refl, sym, ap, subst, ◌∙◌, arith, cond}
 use Rattle.std.specs.Prelude.{◌≢◌, ◌||◌, IsOk, MatchResult}
 use Rattle.std.specs.List.{list_any}
 use Rattle.std.proofs.lemmas.Bool.{lt-ltb, le-ltb, eq-eqb}
 use Rattle.ipfix_wire.specs.declared.header.Header.{Header}
 use Rattle.ipfix_wire.specs.declared.specifier.Spec.{Spec}
-use Rattle.ipfix_wire.specs.InTurn.{Parts, parts_of}
+use Rattle.ipfix_wire.specs.InTurn.{Parts}
 use Rattle.ipfix_wire.proofs.Choices.{different}
 use Rattle.ipfix_wire.proofs.Parts.{parts_of-next, parts_of-none}
 use Rattle.ipfix_message.specs.declared.fault.MessageFault.{MessageFault}
@@ -15,7 +15,7 @@ use Rattle.ipfix_message.specs.DataRecords.{records_of_body, record_of}
 use Rattle.ipfix_message.specs.Fields.{Field}
 use Rattle.ipfix_message.specs.SpelledFields.{least, fields_at}
 use Rattle.ipfix_message.specs.Outcome.{◌>>=◌, map_read, Fails}
-use Rattle.ipfix_message.specs.Sets.{Set, next_set, sets_of, fault_after_sets, is_template_set, has_template_set}
+use Rattle.ipfix_message.specs.Sets.{Set, next_set, fault_after_sets, is_template_set, has_template_set}
 use Rattle.ipfix_message.specs.Messages.{Decoding, one_skipped, one_unknown, data_in, set_gives, sets_from}
 use Rattle.ipfix_message.specs.TemplatesInForce.{in_force}
 use Rattle.ipfix_message.specs.Held.{Agrees, Checks}

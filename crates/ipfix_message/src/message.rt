@@ -1,6 +1,6 @@
 //! A message: its header, its domain and its sets (RFC 7011, section 3.1).
 
-ghost use Rattle.std.specs.Prelude.{◌≡◌, ◌≤◌, ◌+◌, nat_eq, List, length, drop, Ok, IsOk, IsErrOf, OnOk, IsSome};
+ghost use Rattle.std.specs.Prelude.{◌≡◌, ◌≤◌, ◌+◌, nat_eq, length, drop, Ok, IsOk, IsErrOf, OnOk, IsSome};
 ghost use Rattle.indexmap.specs.IndexMap.{get};
 ghost use Rattle.ipfix_message.specs.Domains;
 ghost use Rattle.ipfix_message.specs.Domains.{History, StandsFor, Decodes, IsAdmitted, message_gives, passed_over_of};

@@ -3,7 +3,7 @@ use Rattle.std.specs.Prelude.{◌≡◌, ◌⊎◌, ℕ, List, [], ◌++◌, Res
 use Rattle.std.specs.declared.alloc.AllocError.{AllocError}
 use Rattle.std.specs.declared.net.socket_addr.SocketAddr.{SocketAddr}
 use Rattle.ipfix_message.specs.declared.fault.MessageFault.TheVariants.{OutOfMemory}
-use Rattle.ipfix_session.specs.Sources.{SourceView, one_more}
+use Rattle.ipfix_session.specs.Sources.{SourceView}
 use Rattle.ipfix_session.specs.declared.driver.TheConstants.{READ_LIMIT}
 use Rattle.recording_files.specs.Faults.{number_of, name_of}
 use Rattle.recording_files.specs.Files.{FilesView}
@@ -17,7 +17,6 @@ use Rattle.recording_files.specs.declared.recorded_session.RecordedSession.{Reco
 use Rattle.recording_lines.specs.RecordLines.{peer_fault_line, peer_loss_lines}
 use Rattle.recording_connections.specs.declared.connection.Connection.{Connection}
 use Rattle.recording_connections.specs.declared.place.Recording.{Recording}
-use Rattle.recording_connections.specs.declared.shared_counts.SharedCounts.{SharedCounts}
 
 abbrev pub fault_line : SocketAddr → RecordFault → List ℕ
 fault_line peer fault = peer_fault_line peer (number_of fault) (name_of fault)

@@ -5,7 +5,7 @@ ghost use Rattle.std.specs.IoError.{error_kind};
 
 use recording_peers::{Datagram, DatagramSource, NoDatagram};
 use std::io::{self, ErrorKind};
-use std::net::{Net, ToSocketAddrs, UdpSocket};
+use std::net::{Net, SocketAddr, ToSocketAddrs, UdpSocket};
 use std::time::Duration;
 
 /// How many seconds a call waits before it is a tick.
@@ -23,6 +23,11 @@ impl SystemSocket {
         let socket = UdpSocket::bind(rt, address)?;
         socket.set_read_timeout(Some(Duration::from_secs(TICK)))?;
         Ok(SystemSocket { socket })
+    }
+
+    /// The address at which it takes datagrams.
+    pub fn local_addr(&self) -> io::Result<SocketAddr> {
+        self.socket.local_addr()
     }
 }
 

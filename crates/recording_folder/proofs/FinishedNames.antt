@@ -1,5 +1,5 @@
 -- The names of finished files, and what is read of them.
-use Rattle.std.proofs.Common.{◌≡◌, ℕ, Bool, true, false, ◌<◌, ◌≤◌, ◌^◌, List, [], ◌∷◌, ◌++◌, length, get_or, zero, suc, Option, Some, None, refl, sym, ap, ◌∙◌, append_assoc, arith, inl, inr}
+use Rattle.std.proofs.Common.{◌≡◌, ℕ, Bool, true, false, ◌<◌, ◌^◌, List, [], ◌∷◌, ◌++◌, length, get_or, zero, suc, Option, Some, None, refl, sym, ap, ◌∙◌, append_assoc, arith, inl, inr}
 use denote.Bor.{Bor}
 use Rattle.std.specs.Prelude.{◌≢◌, ◌⊎◌, codes, not}
 use Rattle.std.specs.Fmt.{decimal}

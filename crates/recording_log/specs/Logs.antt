@@ -1,5 +1,5 @@
 -- Lines that wait to be written, and lines that had no room.
-use Rattle.std.specs.Prelude.{ℕ, zero, suc, ◌+◌, nat_lt, nat_le, ◌==◌, Bool, ◌&&◌, if◌then◌else◌, List, [], ◌∷◌, ◌++◌, length, codes, decimal}
+use Rattle.std.specs.Prelude.{ℕ, zero, suc, ◌+◌, nat_lt, nat_le, ◌==◌, Bool, ◌&&◌, if◌then◌else◌, List, [], ◌++◌, length, codes, decimal}
 use Rattle.ipfix_session.specs.Sources.{one_more}
 use Rattle.recording_log.specs.declared.waiting_lines.TheConstants.{MOST_LINES, MOST_OCTETS}
 
@@ -28,11 +28,6 @@ with_dropped log = record log { dropped = one_more log.dropped }
 -- a line is added if it has room, and counted if it has none
 abbrev pub pushed : LogView → List ℕ → LogView
 pushed log line = if has_room log line then with_line log line else with_dropped log
-
--- lines that come one after another
-pub after_lines : LogView → List (List ℕ) → LogView
-after_lines log [] = log
-after_lines log (line ∷ lines) = after_lines (pushed log line) lines
 
 -- ---- what is written of them
 

@@ -9,7 +9,7 @@ use Rattle.ipfix_session.specs.Given.{records_in, records_of, stop_of, octets_of
 use Rattle.ipfix_session.proofs.MessagesTaken.{octets-append}
 use Rattle.recording_files.specs.Recordings.{Part}
 use Rattle.recording_files.specs.Faithful as faithful
-use Rattle.recording_files.specs.Faithful.{IsReadAlone, IsFaithful, all_files}
+use Rattle.recording_files.specs.Faithful.{IsFaithful, all_files}
 use Rattle.recording_files.specs.Files.{Contents, FilesView, all_of}
 use Rattle.recording_files.specs.Sessions.{file_octets}
 use Rattle.recording_files.proofs.Together.{is_faithful}

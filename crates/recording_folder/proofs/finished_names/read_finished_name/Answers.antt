@@ -1,4 +1,3 @@
-use Rattle.std.proofs.Common.{◌++◌, ◌∷◌}
 use Rattle.recording_folder.specs.FinishedNames.{copy_text}
 use Rattle.recording_folder.specs.SessionNames.{number_text}
 use Rattle.recording_folder.proofs.FinishedNames.{at_hyphen, dot_found, dot_parts, has_hyphen, name_is, not_dotted, number_no_dot}

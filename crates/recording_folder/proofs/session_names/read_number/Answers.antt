@@ -1,5 +1,4 @@
-use Rattle.std.proofs.Common.{sym, subst, ap, arith, Option, Some, None, List, ℕ, ◌∷◌, ◌≡◌}
-use Rattle.std.specs.Prelude.{◌≢◌, MatchOption}
+use Rattle.std.proofs.Common.{arith, Some, None}
 use Rattle.std.proofs.lemmas.Str.Pattern.{strip_prefix_char}
 use Rattle.recording_folder.proofs.Hyphens.{none_after_letter, none_without_letter}
 use Rattle.recording_folder.proofs.session_names.read_number.Goals as goal

@@ -1,0 +1,40 @@
+-- What is told when a run of the recorder begins, and how many peers there are descriptors for.
+use Rattle.std.specs.Prelude.{ℕ, ◌+◌, ◌-◌, ◌*◌, ◌/◌, min, max, List, [], ◌++◌, Option, Some, None, codes, decimal}
+use Rattle.std.specs.Net.Text.{socket_text}
+use Rattle.std.specs.declared.net.socket_addr.SocketAddr.{SocketAddr}
+
+-- ---- the first line
+
+unfoldable pub folder_text : List ℕ → List ℕ
+folder_text folder = codes "collectd: recording: " ++ folder
+
+unfoldable pub address_text : List ℕ → SocketAddr → List ℕ
+address_text word address = codes " " ++ (word ++ (codes " " ++ socket_text address))
+
+unfoldable pub most_text : List ℕ → ℕ → List ℕ
+most_text word most = codes " " ++ (word ++ (codes " " ++ decimal most))
+
+-- what isn't in use has no part
+abbrev pub address_part : List ℕ → Option SocketAddr → List ℕ
+address_part word None = []
+address_part word (Some address) = address_text word address
+
+abbrev pub most_part : List ℕ → Option ℕ → List ℕ
+most_part word None = []
+most_part word (Some most) = most_text word most
+
+abbrev pub addresses_text : Option SocketAddr → Option SocketAddr → List ℕ
+addresses_text listen udp = address_part (codes "listen") listen ++ address_part (codes "udp") udp
+
+abbrev pub most_texts : Option ℕ → Option ℕ → List ℕ
+most_texts sessions peers = most_part (codes "sessions") sessions ++ (most_part (codes "peers") peers ++ codes "\n")
+
+-- ---- descriptors
+
+-- a session needs three, a peer one, and a second one while a period ends; the rest of the run needs 32
+abbrev pub peers_within : ℕ → ℕ → ℕ → ℕ
+peers_within limit sessions peers = min peers (max ((limit - (3 * sessions + 32)) / 2) 1)
+
+unfoldable pub descriptors_line : ℕ → ℕ → ℕ → List ℕ
+descriptors_line limit within peers =
+    codes "collectd: record: descriptors " ++ (decimal limit ++ (codes ": peers " ++ (decimal within ++ (codes " of " ++ (decimal peers ++ codes "\n")))))

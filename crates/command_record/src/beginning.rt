@@ -1,0 +1,116 @@
+//! The line of a run that begins.
+
+ghost use Rattle.std.specs.Prelude.{◌++◌, codes};
+ghost use Rattle.report_writing.specs.Writing.{Tells};
+ghost use Rattle.command_record.specs.Beginning.{address_part, address_text, addresses_text, folder_text, most_part, most_text, most_texts};
+
+use report_writing::WriteLines;
+use std::io;
+use std::net::SocketAddr;
+
+/// What a run takes, and where. What isn't in use has no part.
+#[derive(Clone, Copy)]
+pub(crate) struct Intake {
+    /// Where it accepts connections.
+    pub listen: Option<SocketAddr>,
+    /// Where it receives datagrams.
+    pub udp: Option<SocketAddr>,
+    /// How many sessions of connections it records at once.
+    pub sessions: Option<usize>,
+    /// How many peers that send datagrams it keeps.
+    pub peers: Option<usize>,
+}
+
+/// Writes where a run records, and what it takes.
+pub(crate) fn write_beginning<W: WriteLines>(
+    folder: &str,
+    intake: Intake,
+    out: &mut W,
+) -> io::Result<()>
+    ensures { Tells W.contents W.failed out.old out.new result (folder_text folder.now
+        ++ (addresses_text intake.listen intake.udp ++ most_texts intake.sessions intake.peers)) }
+{
+    write_folder(folder, out)?;
+    write_intake(intake, out)
+}
+
+#[tactic(auto, unfolding(crate::specs::Beginning::folder_text))]
+fn write_folder<W: WriteLines>(folder: &str, out: &mut W) -> io::Result<()>
+    ensures { Tells W.contents W.failed out.old out.new result (folder_text folder.now) }
+{
+    write!(out, "collectd: recording: {folder}")
+}
+
+fn write_intake<W: WriteLines>(intake: Intake, out: &mut W) -> io::Result<()>
+    ensures { Tells W.contents W.failed out.old out.new result
+        (addresses_text intake.listen intake.udp ++ most_texts intake.sessions intake.peers) }
+{
+    write_addresses(intake.listen, intake.udp, out)?;
+    write_most(intake.sessions, intake.peers, out)
+}
+
+fn write_addresses<W: WriteLines>(
+    listen: Option<SocketAddr>,
+    udp: Option<SocketAddr>,
+    out: &mut W,
+) -> io::Result<()>
+    ensures { Tells W.contents W.failed out.old out.new result (addresses_text listen udp) }
+{
+    write_address("listen", listen, out)?;
+    write_address("udp", udp, out)
+}
+
+fn write_address<W: WriteLines>(
+    word: &str,
+    address: Option<SocketAddr>,
+    out: &mut W,
+) -> io::Result<()>
+    ensures { Tells W.contents W.failed out.old out.new result (address_part word.now address) }
+{
+    match address {
+        None => Ok(()),
+        Some(address) => write_address_text(word, address, out),
+    }
+}
+
+#[tactic(auto, unfolding(crate::specs::Beginning::address_text))]
+fn write_address_text<W: WriteLines>(word: &str, address: SocketAddr, out: &mut W) -> io::Result<()>
+    ensures { Tells W.contents W.failed out.old out.new result (address_text word.now address) }
+{
+    write!(out, " {word} {address}")
+}
+
+fn write_most<W: WriteLines>(
+    sessions: Option<usize>,
+    peers: Option<usize>,
+    out: &mut W,
+) -> io::Result<()>
+    ensures { Tells W.contents W.failed out.old out.new result (most_texts sessions peers) }
+{
+    write_most_part("sessions", sessions, out)?;
+    write_last(peers, out)
+}
+
+fn write_last<W: WriteLines>(peers: Option<usize>, out: &mut W) -> io::Result<()>
+    ensures { Tells W.contents W.failed out.old out.new result
+        (most_part (codes "peers") peers ++ codes "\n") }
+{
+    write_most_part("peers", peers, out)?;
+    out.write_all(b"\n")
+}
+
+fn write_most_part<W: WriteLines>(word: &str, most: Option<usize>, out: &mut W) -> io::Result<()>
+    ensures { Tells W.contents W.failed out.old out.new result (most_part word.now most) }
+{
+    match most {
+        None => Ok(()),
+        Some(most) => write_most_text(word, most, out),
+    }
+}
+
+#[tactic(auto, unfolding(crate::specs::Beginning::most_text))]
+fn write_most_text<W: WriteLines>(word: &str, most: usize, out: &mut W) -> io::Result<()>
+    ensures { Tells W.contents W.failed out.old out.new result (most_text word.now most) }
+{
+    write!(out, " {word} {most}")
+}
