@@ -2,3 +2,4 @@ pub mod Hyphens
 pub mod FinishedNames
 pub mod FullReports
 pub mod FileReadings
+pub mod PeerFiles

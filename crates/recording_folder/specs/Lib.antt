@@ -3,6 +3,7 @@ pub mod PeriodNames
 pub mod SessionNames
 pub mod UnfinishedNames
 pub mod FinishedNames
+pub mod PeerFiles
 pub mod FileContents
 pub mod EndedFiles
 pub mod FolderFaults
