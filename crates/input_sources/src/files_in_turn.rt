@@ -6,28 +6,26 @@ use crate::opening::{OpenSource, Opened, name_of_file, size_of};
 use ipfix_session::FromReader;
 use report_writing::Reason;
 use std::alloc::Global;
-use std::fs::{self, OpenFile};
+use std::fs::{self, File, OpenFile};
 use std::io::{self, ErrorKind, Read};
-use std::rt::Files;
 
 /// The files of the system, of which any number can be had: each is opened, so that it is known that it can be, and
 /// closed; it is opened again at its first read, and closed at its end or when a read fails. One that is no regular file,
 /// as a pipe or a terminal, stays open from the first. The path `-` is standard input.
 #[derive(Drop)]
-pub struct FilesInTurn<'r, R> {
-    rt: &'r R,
+pub struct FilesInTurn<'r> {
+    rt: &'r HostRuntime,
     alloc: Global,
 }
 
-impl<'r, R> FilesInTurn<'r, R> {
+impl<'r> FilesInTurn<'r> {
     /// None of them is opened yet.
-    pub fn new(rt: &'r R, alloc: Global) -> Self {
+    pub fn new(rt: &'r HostRuntime, alloc: Global) -> Self {
         FilesInTurn { rt, alloc }
     }
 }
 
-impl<'r, F: Read + OpenFile + Drop, R: Files<File = F>> OpenSource<FromReader<FileInTurn<'r, F, R>>>
-    for FilesInTurn<'r, R> {
+impl<'r> OpenSource<FromReader<FileInTurn<'r>>> for FilesInTurn<'r> {
     ghost opens = { λ _ _ _. ⊤ };
 
     ghost sizes = { λ _ _ _. ⊤ };
@@ -36,10 +34,7 @@ impl<'r, F: Read + OpenFile + Drop, R: Files<File = F>> OpenSource<FromReader<Fi
 
     ghost coming = { λ _. None };
 
-    fn open_source(
-        &mut self,
-        path: &str,
-    ) -> Result<Opened<FromReader<FileInTurn<'r, F, R>>>, Reason> {
+    fn open_source(&mut self, path: &str) -> Result<Opened<FromReader<FileInTurn<'r>>>, Reason> {
         let Ok(name) = String::from_str(self.alloc, name_of_file(path)) else {
             return Err(Reason::OutOfMemory);
         };
@@ -62,23 +57,23 @@ impl<'r, F: Read + OpenFile + Drop, R: Files<File = F>> OpenSource<FromReader<Fi
 
 /// A file that is open only while it is read.
 #[derive(Drop)]
-pub struct FileInTurn<'r, F, R> {
-    rt: &'r R,
+pub struct FileInTurn<'r> {
+    rt: &'r HostRuntime,
     name: String,
-    turn: Turn<F>,
+    turn: Turn,
 }
 
 // Whether it is a file's turn.
 #[derive(Drop)]
-enum Turn<F> {
+enum Turn {
     Coming,
-    Open(F),
+    Open(File),
     Over,
 }
 
-impl<F: OpenFile + Drop> Turn<F> {
+impl Turn {
     // Of a file that was opened. A regular file is closed.
-    fn of(file: F) -> Self {
+    fn of(file: File) -> Self {
         match file.metadata() {
             Ok(metadata) if metadata.is_file() => Turn::Coming,
             _ => Turn::Open(file),
@@ -86,7 +81,7 @@ impl<F: OpenFile + Drop> Turn<F> {
     }
 }
 
-impl<'r, F: Read + OpenFile + Drop, R: Files<File = F>> Read for FileInTurn<'r, F, R> {
+impl<'r> Read for FileInTurn<'r> {
     fn read(&mut self, buffer: &mut [u8]) -> io::Result<usize> {
         if let Turn::Coming = self.turn {
             self.turn = Turn::Open(fs::open(self.rt, self.name.as_str())?);
