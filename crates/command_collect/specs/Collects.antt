@@ -89,8 +89,8 @@ module _ {S L : Type 0} (seen : S → SourceView) (gives : L → Option Duration
       CollectsJob seen (AreConnections to.idle to.count) TellsNone contents old new AreTold (number_of status) failure job (ArePeers (is_of before)) first
 
 -- a fact that holds if an engine has no fault with however many sources
-abbrev pub IfEngineFits : Engine → Type 0 → Type 0
-IfEngineFits engine P = IfNone (fault_of_engine engine) P
+abbrev pub IfFits : Engine → Type 0 → Type 0
+IfFits engine P = IfNone (fault_of_engine engine) P
 
 -- a fact that holds if there is to be a connection that has a limit of no time
 abbrev pub IfNoTime : Connections → Type 0 → Type 0

@@ -3,7 +3,7 @@ use Rattle.std.specs.Prelude.{◌≡◌, ◌≢◌, ◌⊎◌, ◌↔◌, ℕ, B
 use Rattle.std.specs.List.{AllZip, flat_map}
 use Rattle.std.specs.declared.io.ErrorKind.{ErrorKind}
 use Rattle.ipfix_message.specs.declared.record.DataRecord.{DataRecord}
-use Rattle.ipfix_session.specs.Given.{records_of, stop_of, IsPrefix}
+use Rattle.ipfix_session.specs.Given.{records_of, stop_of}
 use Rattle.ipfix_session.specs.Sources.{SourceView}
 use Rattle.ipfix_session.specs.declared.report.FullReport.{FullReport}
 use Rattle.ipfix_session.specs.declared.report.SessionReport.{SessionReport}
@@ -20,7 +20,7 @@ use Rattle.flow_table.specs.declared.table.Table.{Table}
 use Rattle.flow_collect.specs.Headline.{IsAddedUp, IsGivenBy, SerialAnswer}
 use Rattle.flow_collect.specs.InFull.{FullSerialAnswer, IsGivenInFull}
 use Rattle.flow_collect.specs.Refusals.{AreTooLarge, IsLate}
-use Rattle.flow_collect.specs.Texts.{AreTexts, HasNoFault}
+use Rattle.flow_collect.specs.Texts.{AreFirstOf, AreTexts, HasNoFault}
 use Rattle.flow_collect.specs.declared.collected.Serial.{Serial}
 use Rattle.flow_collect.specs.declared.fault.CollectFault.{CollectFault}
 use Rattle.flow_collect.specs.declared.fault.CollectFault.TheVariants.{SumTooLarge}
@@ -61,7 +61,7 @@ module _ {S : Type 0} (seen : S → SourceView) where
       pub collected : Serial S R Table
       pub collects : CollectsBy engine Gets sources plan collected
       -- the records of each session are the first of those that its source's whole text gives
-      pub first : (texts : List (List ℕ)) → AreTexts seen sources texts → AllZip (λ q t. IsPrefix q (records_of t)) collects.headline.records texts
+      pub first : (texts : List (List ℕ)) → AreTexts seen sources texts → AreFirstOf collects.headline.records texts
       pub status_is : (status ≡ number_of Well) ↔ IsWell collected.sessions.items collected.table
       -- then the table is that of the whole texts
       pub whole : status ≡ number_of Well → AddsUpWhole sources plan collected.table

@@ -1,8 +1,9 @@
 -- The lines of connections: those that come while all sessions are at work, and those that begin and end.
-use Rattle.std.specs.Prelude.{ℕ, List, [], ◌++◌, Option, Some, None, codes, decimal}
+use Rattle.std.specs.Prelude.{ℕ, List, [], ◌++◌, Option, Some, None, Result, codes, decimal}
 use Rattle.std.specs.Net.Text.{socket_text}
 use Rattle.std.specs.declared.net.socket_addr.SocketAddr.{SocketAddr}
 use Rattle.report_writing.specs.OpeningLines.{if_verbose}
+use Rattle.report_writing.specs.Writing.{Tells}
 use Rattle.report_writing.specs.declared.verbosity.Verbosity.{Verbosity}
 use Rattle.recording_connections.specs.declared.shared_counts.RefusedPeers.{RefusedPeers}
 
@@ -13,13 +14,14 @@ abbrev pub turned_away_lines : Option RefusedPeers → List ℕ
 turned_away_lines None = []
 turned_away_lines (Some peers) = turned_away_line peers.count peers.last
 
-unfoldable pub connected_line : SocketAddr → List ℕ
-connected_line peer = codes "collectd: session " ++ (socket_text peer ++ codes ": connected\n")
-
-unfoldable pub ended_line : SocketAddr → List ℕ
-ended_line peer = codes "collectd: session " ++ (socket_text peer ++ codes ": ended\n")
+unfoldable pub event_line : SocketAddr → List ℕ → List ℕ
+event_line peer event = codes "collectd: session " ++ (socket_text peer ++ (codes ": " ++ (event ++ codes "\n")))
 
 -- the lines of a session, between those of its beginning and its end, which are told only where more is asked for
 abbrev pub with_ends : Verbosity → SocketAddr → List ℕ → List ℕ
 with_ends verbosity peer lines =
-    (if_verbose verbosity (connected_line peer) ++ lines) ++ if_verbose verbosity (ended_line peer)
+    (if_verbose verbosity (event_line peer (codes "connected")) ++ lines) ++ if_verbose verbosity (event_line peer (codes "ended"))
+
+-- such lines were told to a writer
+abbrev pub TellsEnds : {W A E : Type 0} → (W → Option (List ℕ)) → (W → Type 0) → W → W → Result A E → Verbosity → SocketAddr → List ℕ → Type 0
+TellsEnds contents failed old new result verbosity peer lines = Tells contents failed old new result (with_ends verbosity peer lines)

@@ -1,7 +1,7 @@
 //! The lines of connections.
 
 ghost use Rattle.report_writing.specs.Writing.{Tells};
-ghost use Rattle.recording_connections.specs.ConnectionLines.{connected_line, ended_line, turned_away_line, turned_away_lines};
+ghost use Rattle.recording_connections.specs.ConnectionLines.{event_line, turned_away_line, turned_away_lines};
 ghost use Rattle.report_writing.specs.OpeningLines.{if_verbose};
 
 use crate::shared_counts::RefusedPeers;
@@ -36,48 +36,26 @@ fn write_turned_away_line<W: WriteLines>(
     )
 }
 
-/// Writes that the session of a peer begins, if more is asked for.
-pub(crate) fn write_connected<W: WriteLines>(
+/// Writes what happens to the session of a peer, if more is asked for.
+pub(crate) fn write_event<W: WriteLines>(
     verbosity: Verbosity,
     peer: SocketAddr,
+    event: &str,
     out: &mut W,
 ) -> io::Result<()>
     ensures { Tells W.contents W.failed out.old out.new result
-        (if_verbose verbosity (connected_line peer)) }
+        (if_verbose verbosity (event_line peer event.now)) }
 {
     if verbosity.verbose {
-        write_connected_line(peer, out)
+        write_event_line(peer, event, out)
     } else {
         Ok(())
     }
 }
 
-#[tactic(auto, unfolding(crate::specs::ConnectionLines::connected_line))]
-fn write_connected_line<W: WriteLines>(peer: SocketAddr, out: &mut W) -> io::Result<()>
-    ensures { Tells W.contents W.failed out.old out.new result (connected_line peer) }
+#[tactic(auto, unfolding(crate::specs::ConnectionLines::event_line))]
+fn write_event_line<W: WriteLines>(peer: SocketAddr, event: &str, out: &mut W) -> io::Result<()>
+    ensures { Tells W.contents W.failed out.old out.new result (event_line peer event.now) }
 {
-    writeln!(out, "collectd: session {peer}: connected")
-}
-
-/// Writes that the session of a peer has ended, if more is asked for.
-pub(crate) fn write_ended<W: WriteLines>(
-    verbosity: Verbosity,
-    peer: SocketAddr,
-    out: &mut W,
-) -> io::Result<()>
-    ensures { Tells W.contents W.failed out.old out.new result
-        (if_verbose verbosity (ended_line peer)) }
-{
-    if verbosity.verbose {
-        write_ended_line(peer, out)
-    } else {
-        Ok(())
-    }
-}
-
-#[tactic(auto, unfolding(crate::specs::ConnectionLines::ended_line))]
-fn write_ended_line<W: WriteLines>(peer: SocketAddr, out: &mut W) -> io::Result<()>
-    ensures { Tells W.contents W.failed out.old out.new result (ended_line peer) }
-{
-    writeln!(out, "collectd: session {peer}: ended")
+    writeln!(out, "collectd: session {peer}: {event}")
 }

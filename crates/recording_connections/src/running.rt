@@ -3,13 +3,12 @@
 
 ghost use Rattle.std.specs.Prelude.{◌≡◌, IfSome, IsSome, None};
 ghost use Rattle.ipfix_session.specs.Sources.{one_more};
-ghost use Rattle.report_writing.specs.Writing.{Tells};
 ghost use Rattle.recording_connections.specs.Refusals.{MaySend};
-ghost use Rattle.recording_connections.specs.ConnectionLines.{with_ends};
+ghost use Rattle.recording_connections.specs.ConnectionLines.{TellsEnds};
 ghost use Rattle.recording_connections.specs.Serving.{IsServed};
 
 use crate::connection::{Connection, ConnectionSource};
-use crate::connection_lines::{write_connected, write_ended};
+use crate::connection_lines::write_event;
 use crate::place::{RecordingFiles, SessionPlace};
 use crate::serving::record_connection;
 use crate::session_room::SessionRoom;
@@ -211,10 +210,9 @@ fn serve<
 ) -> io::Result<()>
     ensures unread { session ≡ None → connection.new ≡ connection.old }
     ensures untold { session ≡ None → out.new ≡ out.old }
-    ensures served { IfSome session (λ session. IsServed S.seen F.seen C.asked F.finishes
-        (P.makes recorder.now.place) connection.old connection.new session.number
-        (λ lines. Tells W.contents W.failed out.old out.new result
-        (with_ends recorder.now.verbosity connection.old.peer lines))) }
+    ensures served { IfSome session (λ s. IsServed S.seen F.seen C.asked F.finishes
+        (P.makes recorder.now.place) connection.old connection.new s.number
+        (TellsEnds W.contents W.failed out.old out.new result recorder.now.verbosity connection.old.peer)) }
 {
     match session {
         Some(number) => serve_session(recorder, connection, number, out),
@@ -237,11 +235,11 @@ fn serve_session<
 ) -> io::Result<()>
     ensures { IsServed S.seen F.seen C.asked F.finishes (P.makes recorder.now.place)
         connection.old connection.new number.number
-        (λ lines. Tells W.contents W.failed out.old out.new result
-        (with_ends recorder.now.verbosity connection.old.peer lines)) }
+        (TellsEnds W.contents W.failed out.old out.new result recorder.now.verbosity
+        connection.old.peer) }
 {
     let peer = connection.peer;
-    let told = write_connected(recorder.verbosity, peer, out);
+    let told = write_event(recorder.verbosity, peer, "connected", out);
     let told = told.and(record_connection(
         recorder.alloc,
         connection,
@@ -249,7 +247,7 @@ fn serve_session<
         &recorder.place,
         out,
     ));
-    told.and(write_ended(recorder.verbosity, peer, out))
+    told.and(write_event(recorder.verbosity, peer, "ended", out))
 }
 
 // Tells once a second which peers have no session, and how often none could be accepted, if that was so.

@@ -5,8 +5,8 @@ ghost use Rattle.std.specs.Arc.{arc_value};
 ghost use Rattle.std.specs.Duration.{as_nanos};
 ghost use Rattle.std.specs.Int.NonZero.{non_zero_u64_get};
 ghost use Rattle.recording_folder.specs.EndedFiles.{EndsLast};
-ghost use Rattle.recording_folder.specs.SessionNames.{IsNamed};
-ghost use Rattle.recording_folder.specs.declared.transport.Transport.TheVariants.{Connection};
+ghost use Rattle.recording_folder.specs.FiledSessions.{IsNamed};
+ghost use Rattle.recording_names.specs.declared.transport.Transport.TheVariants.{Connection};
 
 use crate::connection::PatientListener;
 use crate::patient_reader::SilenceLimits;
@@ -16,9 +16,10 @@ use crate::running::{ConnectionRecorder, record_connections};
 use recording_files::{FileReport, NotWritten};
 use recording_folder::{
     FileFinisher, Folder, FolderFault, FolderFinisher, SessionFiles, SystemPeriods, SystemPlace,
-    SystemSession, Transport, open_folder, recover, reopen_folder,
+    SystemSession, open_folder, recover, reopen_folder,
 };
 use recording_lines::WholeLines;
+use recording_names::Transport;
 use report_writing::Status;
 use std::alloc::{AllocError, Global};
 use std::fs::{File, Files};

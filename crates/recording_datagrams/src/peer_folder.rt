@@ -3,7 +3,8 @@
 use crate::finishing::{FileQueue, QueueFinisher};
 use recording_connections::SharedCounts;
 use recording_files::PeriodClock;
-use recording_folder::{SessionFiles, SystemPeriods, SystemPlace, Transport};
+use recording_folder::{SessionFiles, SystemPeriods, SystemPlace};
+use recording_names::Transport;
 use recording_lines::WholeLines;
 use recording_peers::PeerPlace;
 use std::alloc::{AllocError, Global};
@@ -40,8 +41,8 @@ impl<'a, R: Files + Clock, W: Wait, E: Write + Copy + Drop> PeerPlace<PeerFiles<
     for PeerFolder<'a, R, W, E> {
     ghost use Rattle.std.specs.Prelude.{ℕ};
     ghost use Rattle.std.specs.Arc.{arc_value};
-    ghost use Rattle.recording_folder.specs.SessionNames.{IsNamed};
-    ghost use Rattle.recording_folder.specs.declared.transport.Transport.TheVariants.{Datagrams};
+    ghost use Rattle.recording_folder.specs.FiledSessions.{IsNamed};
+    ghost use Rattle.recording_names.specs.declared.transport.Transport.TheVariants.{Datagrams};
 
     // Its files have the name of the peer, and the number of a session.
     ghost made_for = { λ files peer. (number : ℕ) × IsNamed (arc_value files.session) peer Datagrams number };

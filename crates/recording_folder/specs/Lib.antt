@@ -1,8 +1,5 @@
 -- What public contracts cite.
-pub mod PeriodNames
-pub mod SessionNames
-pub mod UnfinishedNames
-pub mod FinishedNames
+pub mod FiledSessions
 pub mod PeerFiles
 pub mod FileContents
 pub mod EndedFiles

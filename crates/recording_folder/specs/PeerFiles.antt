@@ -5,8 +5,8 @@ use Rattle.std.specs.Ordering.{nat_cmp}
 use Rattle.std.specs.Cmp.Lexicographic.{slice_cmp}
 use Rattle.std.specs.declared.cmp.Ordering.TheVariants.{Less}
 use Rattle.recording_folder.specs.declared.peer_files.NamedFile.{NamedFile}
-use Rattle.recording_folder.specs.declared.transport.Transport.{Transport}
-use Rattle.recording_folder.specs.declared.transport.Transport.TheVariants.{Connection, Datagrams}
+use Rattle.recording_names.specs.declared.transport.Transport.{Transport}
+use Rattle.recording_names.specs.declared.transport.Transport.TheVariants.{Connection, Datagrams}
 
 abbrev pub is_of_datagrams : Transport → Bool
 is_of_datagrams Connection = false

@@ -4,9 +4,7 @@ ghost use Rattle.std.specs.Prelude.{◌≡◌};
 ghost use Rattle.recording_folder.specs.PeerFiles as specs;
 ghost use Rattle.recording_folder.specs.PeerFiles.{IsLastOf, is_of, is_of_datagrams, last_with};
 
-use crate::period::Period;
-use crate::session_names::SessionName;
-use crate::transport::Transport;
+use recording_names::{Period, SessionName, Transport};
 use std::cmp::Ordering;
 
 /// A file of a session, as its names say.

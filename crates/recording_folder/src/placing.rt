@@ -2,11 +2,10 @@
 
 ghost use Rattle.std.specs.Prelude.{◌≡◌, ◌++◌, codes, IfOk};
 ghost use Rattle.std.specs.String.{string_bytes};
-ghost use Rattle.recording_folder.specs.FinishedNames.{name_of_finished};
+ghost use Rattle.recording_names.specs.FinishedNames.{name_of_finished};
 
 use crate::folder::{Folder, path_in};
-use crate::period::Period;
-use crate::period_names::period_name;
+use recording_names::{Period, period_name};
 use std::alloc::{AllocError, Global};
 use std::fs::{self, Files, OpenFile, OpenOptions};
 use std::io::{self, ErrorKind};

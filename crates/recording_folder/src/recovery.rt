@@ -7,8 +7,8 @@ ghost use Rattle.recording_folder.specs.Recoveries.{AllAreLookedAfter, EndsAfter
 use crate::file_contents::{FileContents, read_contents};
 use crate::folder::{Folder, path_in};
 use crate::placing::place_file;
-use crate::unfinished_names::{UnfinishedName, read_unfinished_name};
 use recording_files::{FileEnd, FileReport, FinishedFiles, Recovered};
+use recording_names::{UnfinishedName, read_unfinished_name};
 use std::alloc::Global;
 use std::fs::{self, Files, OpenFile, OpenOptions};
 use std::io::{self, ErrorKind};

@@ -3,9 +3,9 @@
 ghost use Rattle.std.specs.Prelude.{◌≡◌, ◌↔◌, ◌<◌, max, IsTrue};
 ghost use Rattle.recording_files.specs.Periods.{ClockView};
 
-use crate::period::{Period, period_of};
 use crate::told_period::ToldPeriod;
 use recording_files::PeriodClock;
+use recording_names::{Period, period_of};
 use std::alloc::AllocError;
 use std::rt::Clock;
 use std::sync::Arc;

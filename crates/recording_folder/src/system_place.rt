@@ -2,17 +2,16 @@
 
 ghost use Rattle.std.specs.Prelude.{◌≡◌, ◌<◌, IfOk};
 ghost use Rattle.std.specs.Arc.{arc_value};
-ghost use Rattle.recording_folder.specs.SessionNames.{IsNamed};
+ghost use Rattle.recording_folder.specs.FiledSessions.{IsNamed};
 
 use crate::ended_file::{FileFinisher, FolderFinisher};
 use crate::filed_session::FiledSession;
 use crate::folder::Folder;
 use crate::session_files::SessionFiles;
-use crate::session_names::session_name;
 use crate::system_periods::{SystemPeriods, period_now};
 use crate::told_period::ToldPeriod;
-use crate::transport::Transport;
 use recording_files::FinishedFiles;
+use recording_names::{Transport, session_name};
 use std::alloc::{AllocError, Global};
 use std::fs::Files;
 use std::net::SocketAddr;

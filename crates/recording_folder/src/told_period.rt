@@ -1,9 +1,9 @@
 //! The period that a session's clock told last.
 
 ghost use Rattle.std.specs.Prelude.{◌<◌};
-ghost use Rattle.recording_folder.specs.PeriodNames.{calendar_end};
+ghost use Rattle.recording_names.specs.PeriodNames.{calendar_end};
 
-use crate::period::Period;
+use recording_names::Period;
 use std::sync::atomic::Ordering::SeqCst;
 use std::sync::atomic::{AtomicIn, Rule};
 

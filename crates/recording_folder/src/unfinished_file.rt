@@ -4,7 +4,7 @@ ghost use Rattle.std.specs.Prelude.{◌≡◌, ◌↔◌, ◌+◌, length, IsTru
 ghost use Rattle.ipfix_session.specs.Ledger.{capped};
 
 use crate::filed_session::FiledSession;
-use crate::period::Period;
+use recording_names::Period;
 use std::fs::OpenFile;
 use std::io::{self, ErrorKind, Write};
 use std::sync::Arc;

@@ -12,8 +12,9 @@ use super::trial::{MANY_CALLS, NEXT_PERIOD, Trial};
 use recording_files::{FileReport, PeriodClock};
 use recording_folder::{
     EndedFile, FileFinisher, Folder, FolderFinisher, SessionFiles, SystemPeriods, SystemPlace,
-    Transport, open_folder,
+    open_folder,
 };
+use recording_names::Transport;
 use std::cell::RefCell;
 use std::test::*;
 

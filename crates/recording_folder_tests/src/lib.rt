@@ -11,8 +11,6 @@ mod folders;
 #[cfg(test)]
 mod kept_files;
 #[cfg(test)]
-mod names;
-#[cfg(test)]
 mod recovering;
 #[cfg(test)]
 mod refusals;

@@ -10,9 +10,9 @@ use super::standing::{Notes, check};
 use super::trial::{MANY_CALLS, NEXT_PERIOD, Trial, cut_at_each_call};
 use recording_files::{FileReport, NotWritten, PeriodClock};
 use recording_folder::{
-    Folder, FolderFinisher, SessionFiles, SystemPeriods, SystemPlace, SystemSession, Transport,
-    open_folder,
+    Folder, FolderFinisher, SessionFiles, SystemPeriods, SystemPlace, SystemSession, open_folder,
 };
+use recording_names::Transport;
 use std::io;
 use std::net::{IpAddr, Ipv4Addr, SocketAddr};
 use std::test::*;

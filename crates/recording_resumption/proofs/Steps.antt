@@ -1,8 +1,9 @@
 -- What becomes of an earlier run's templates, by the datagrams that come.
-use Rattle.std.proofs.Common.{◌≡◌, ℕ, ◌≤◌, Bool, true, false, cond, List, [], ◌∷◌, ◌++◌, refl, sym, ap, ◌∙◌, arith}
+use Rattle.std.proofs.Common.{◌≡◌, ℕ, ◌≤◌, ◌<◌, Bool, true, false, cond, List, [], ◌∷◌, zero, suc, refl, sym, ap, ◌∙◌, arith, length}
 use Rattle.std.specs.Prelude.{not, nat_le, ◌&&◌, ◌||◌}
 use Rattle.std.proofs.lemmas.Bool.Decides.{nat_tests}
-use Rattle.recording_resumption.specs.Resumption.{after_all, goes_on, is_before, Datagram}
+use Rattle.std.specs.List.{Contains}
+use Rattle.recording_resumption.specs.Resumption.{Datagram, IsNotBefore, after_all, goes_on}
 use Rattle.recording_resumption.specs.declared.earlier.Earlier.TheVariants.{Ended, Resumed, Waiting}
 use Rattle.recording_resumption.specs.declared.last_message.LastMessage.{LastMessage}
 
@@ -20,17 +21,15 @@ at_most : (a b : ℕ) → nat_le a b ≡ true → a ≤ b
 at_most a b e = grind (arith, nat_tests)
 
 -- a datagram among these isn't before the last message
-abbrev pub IsNotBefore : LastMessage → List Datagram → Type 0
-IsNotBefore last ds =
-    (front : List Datagram) × (d : Datagram) × (back : List Datagram) × (ds ≡ front ++ d ∷ back) × (is_before d.header.sequence last.sequence ≡ false)
-    × (last.export_time ≤ d.header.export_time)
+abbrev pub HasOneNotBefore : LastMessage → List Datagram → Type 0
+HasOneNotBefore last ds = (d : Datagram) × Contains ds d × IsNotBefore last d.header
 
-pub resumes : (last : LastMessage) (is_doubted : Bool) (ds : List Datagram) → after_all (Waiting last is_doubted) ds ≡ Resumed → IsNotBefore last ds
+pub resumes : (last : LastMessage) (is_doubted : Bool) (ds : List Datagram) → after_all (Waiting last is_doubted) ds ≡ Resumed → HasOneNotBefore last ds
 resumes last is_doubted [] is = absurd cc
 resumes last is_doubted (d ∷ ds) is = by_test (goes_on last d.header) refl (d.defines || is_doubted) (resumes last true ds) is
   where
-    by_test : (goes : Bool) → goes_on last d.header ≡ goes → (ends : Bool) → (after_all (Waiting last true) ds ≡ Resumed → IsNotBefore last ds)
-        → after_all (cond goes Resumed (cond ends Ended (Waiting last true))) ds ≡ Resumed → IsNotBefore last (d ∷ ds)
-    by_test true e ends again r = let is = both _ _ _ e in ([], d, ds, refl, is.0, at_most _ _ is.1)
+    by_test : (goes : Bool) → goes_on last d.header ≡ goes → (ends : Bool) → (after_all (Waiting last true) ds ≡ Resumed → HasOneNotBefore last ds)
+        → after_all (cond goes Resumed (cond ends Ended (Waiting last true))) ds ≡ Resumed → HasOneNotBefore last (d ∷ ds)
+    by_test true e ends again r = let is = both _ _ _ e in (d, (0, omega arith, refl), (is.0, at_most _ _ is.1))
     by_test false e true again r = let stays : Ended ≡ Resumed = sym (ended_stays ds) ∙ r in absurd cc
-    by_test false e false again r = let more = again r in (d ∷ more.0, more.1, more.2, ap (λ (l : List Datagram). d ∷ l) more.3, more.4, more.5)
+    by_test false e false again r = let more = again r in (more.0, (suc more.1.0, omega (arith, more.1.1), more.1.2), more.2)

@@ -1,6 +1,6 @@
 -- Whether a datagram goes on after the last message that is kept of its domain, and what becomes of the templates that an
 -- earlier run knew there (RFC 7011, sections 3.1 and 8).
-use Rattle.std.specs.Prelude.{ℕ, ◌^◌, Bool, true, not, ◌&&◌, ◌||◌, nat_le, nat_lt, if◌then◌else◌, List, [], ◌∷◌, Option, None, option_map, unwrap_or}
+use Rattle.std.specs.Prelude.{◌≡◌, ◌≤◌, ℕ, ◌^◌, Bool, true, false, not, ◌&&◌, ◌||◌, nat_le, nat_lt, if◌then◌else◌, List, [], ◌∷◌, Option, None, option_map, unwrap_or}
 use Rattle.std.specs.List.{last_or}
 use Rattle.ipfix_wire.specs.declared.header.Header.{Header}
 use Rattle.ipfix_message.specs.Domains.{Message}
@@ -34,6 +34,10 @@ is_too_far number due = not (is_before number due) && nat_lt FARTHEST (gap due n
 abbrev pub goes_on : LastMessage → Header → Bool
 goes_on last h =
     not (is_before h.sequence last.sequence) && not (is_too_far h.sequence (unwrap_or last.due last.sequence)) && nat_le last.export_time h.export_time
+
+-- and then it isn't before the last message, neither by its number nor by its export time
+abbrev pub IsNotBefore : LastMessage → Header → Type 0
+IsNotBefore last h = (is_before h.sequence last.sequence ≡ false) × (last.export_time ≤ h.export_time)
 
 -- ---- the templates of an earlier run, by the datagrams that come
 

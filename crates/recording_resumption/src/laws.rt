@@ -1,8 +1,9 @@
 //! Laws of the definitions. Each is a function that does nothing, and its contract is the theorem.
 
-ghost use Rattle.std.specs.Prelude.{◌≡◌, ◌≤◌, ◌++◌, ◌∷◌, [], List, Bool, true, false};
+ghost use Rattle.std.specs.Prelude.{◌≡◌, List, Bool, true, false};
+ghost use Rattle.std.specs.List.{Contains};
 ghost use Rattle.ipfix_wire.specs.declared.header.Header.{Header};
-ghost use Rattle.recording_resumption.specs.Resumption.{after, after_all, goes_on, is_before, Datagram};
+ghost use Rattle.recording_resumption.specs.Resumption.{Datagram, IsNotBefore, after, after_all, goes_on};
 ghost use Rattle.recording_resumption.specs.declared.earlier.Earlier.TheVariants.{Ended, Resumed, Waiting};
 ghost use Rattle.recording_resumption.specs.declared.last_message.LastMessage.{LastMessage};
 
@@ -11,9 +12,7 @@ ghost use Rattle.recording_resumption.specs.declared.last_message.LastMessage.{L
 pub fn what_resumes_is_never_before()
     ensures { (last : LastMessage) (is_doubted : Bool) (ds : List Datagram)
         → after_all (Waiting last is_doubted) ds ≡ Resumed
-        → (front : List Datagram) × (d : Datagram) × (back : List Datagram)
-        × (ds ≡ front ++ d ∷ back) × (is_before d.header.sequence last.sequence ≡ false)
-        × (last.export_time ≤ d.header.export_time) }
+        → (d : Datagram) × Contains ds d × IsNotBefore last d.header }
 {}
 
 /// After an end nothing resumes.

@@ -2,6 +2,7 @@
 
 ghost use Rattle.report_writing.specs.Told.{AreToldTo};
 ghost use Rattle.command_collect.specs.Collects.{CollectsFiles, CollectsFilesPlainly};
+ghost use Rattle.command_collect.specs.declared.engine.Engine.TheVariants.{Links};
 
 use crate::engine::Engine;
 use crate::job::CollectJob;
@@ -47,7 +48,7 @@ pub fn run_files<
     // or each file that was had was told, and then the path that can't be opened.
     ensures collects { CollectsFilesPlainly S.seen O.opens O.sizes O.refuses O.coming files.old files.new
         paths.now W.contents out.old out.new (AreToldTo E.contents E.failed err.old err.new) result
-        plan.now (Engine.Links pool) output }
+        plan.now (Links pool) output }
     ensures kept { E.failed err.old → E.failed err.new }
 {
     let elements = Elements::built_in(alloc);

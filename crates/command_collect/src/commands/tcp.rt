@@ -5,7 +5,8 @@ ghost use Rattle.std.specs.Duration.{as_nanos};
 ghost use Rattle.report_writing.specs.Statuses.{number_of};
 ghost use Rattle.report_writing.specs.Told.{AreToldTo};
 ghost use Rattle.command_collect.specs.Engines.{fault_of_engine};
-ghost use Rattle.command_collect.specs.Collects.{CollectsConnections, CollectsConnectionsPlainly, IfNoTime, IfEngineFits, RefusesEngine};
+ghost use Rattle.command_collect.specs.Collects.{CollectsConnections, CollectsConnectionsPlainly, IfFits, IfNoTime, RefusesEngine};
+ghost use Rattle.command_collect.specs.declared.engine.Engine.TheVariants.{Links};
 
 use super::connections::run_connections;
 use crate::collect_fault::write_collect_fault;
@@ -62,7 +63,7 @@ pub fn run_tcp<
     ensures collects { CollectsConnectionsPlainly S.seen L.gives L.is_of L.refuses L.coming listener.old
         listener.new idle count addr.now W.contents out.old out.new
         (AreToldTo E.contents E.failed err.old err.new) result plan.now
-        (Engine.Links pool) output }
+        (Links pool) output }
     ensures closed { L.is_closed listener.new }
     // No connection can have a limit of no time.
     ensures no_time { IfSome idle
@@ -103,13 +104,13 @@ pub fn run_tcp_with<
 ) -> Status
     // So many connections with this limit were accepted and run, as `run_with` says it, and no others; or
     // each that was had was told, and then the address that gives none.
-    ensures collects { IfEngineFits job.now.engine
+    ensures collects { IfFits job.now.engine
         (CollectsConnections S.seen L.gives L.is_of L.refuses L.coming listener.old listener.new
         connections.now W.contents out.old out.new (AreToldTo E.contents E.failed err.old err.new)
         S.failure result job.now) }
     ensures closed { L.is_closed listener.new }
     // No connection can have a limit of no time.
-    ensures no_time { IfEngineFits job.now.engine
+    ensures no_time { IfFits job.now.engine
         (IfNoTime connections.now (result ≡ Status.NotOpened)) }
     // An engine that has a fault is refused, and the fault that it has is told.
     ensures engine { RefusesEngine job.now.engine connections.now.count (number_of result) (out.new ≡ out.old)

@@ -1,5 +1,0 @@
-use Rattle.recording_folder.proofs.Hyphens.{last_parts}
-use Rattle.recording_folder.proofs.session_names.split_last.Goals as goal
-
-pub returns : goal.returns
-returns c = last_parts c.args.text.now c.rsplit_once.result c.rsplit_once.ensures.cases

@@ -1,4 +1,0 @@
-use Rattle.recording_folder.proofs.unfinished_names.unfinished_name.Goals as goal
-
-pub returns : goal.returns
-returns c = c.format.ensures.ok

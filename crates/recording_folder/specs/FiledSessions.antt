@@ -1,0 +1,11 @@
+-- The files of a session.
+use Rattle.std.specs.Prelude.{◌≡◌, ℕ}
+use Rattle.std.specs.String.{string_bytes}
+use Rattle.std.specs.declared.net.socket_addr.SocketAddr.{SocketAddr}
+use Rattle.recording_folder.specs.declared.filed_session.FiledSession.{FiledSession}
+use Rattle.recording_names.specs.SessionNames.{name_of_session}
+use Rattle.recording_names.specs.declared.transport.Transport.{Transport}
+
+-- they have its name
+abbrev pub IsNamed : FiledSession → SocketAddr → Transport → ℕ → Type 0
+IsNamed session peer transport number = string_bytes session.name ≡ name_of_session peer transport number

@@ -1,0 +1,2 @@
+pub mod Hyphens
+pub mod FinishedNames
