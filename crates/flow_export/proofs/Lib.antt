@@ -1,7 +1,9 @@
 pub mod InBlocks
 pub mod Exportable
 pub mod RowsInOrder
+pub mod ShownKeys
 pub mod Finding
+pub mod KeyNames
 pub mod Plain
 pub mod FileNames
 pub mod AsWritten

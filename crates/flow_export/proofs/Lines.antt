@@ -1,5 +1,5 @@
 -- A line of a row, field by field.
-use Rattle.std.proofs.Common.{◌≡◌, ℕ, List, [], ◌∷◌, ◌++◌, map, refl, sym, ap, ◌∙◌, append_assoc}
+use Rattle.std.proofs.Common.{◌≡◌, ℕ, List, [], ◌∷◌, ◌++◌, map, refl, sym, ap, ap₂, ◌∙◌, append_assoc}
 use Rattle.std.specs.Fmt.{decimal}
 use Rattle.std.specs.List.{flat_map, join_with_byte}
 use Rattle.std.proofs.lemmas.List.{append-nil}
@@ -9,7 +9,9 @@ use Rattle.flow_table.specs.Plans.{PlanValue}
 use Rattle.flow_table.specs.SameTables.{RowValue, value_of}
 use Rattle.flow_table.specs.declared.table.Row.{Row}
 use Rattle.ipfix_elements.specs.declared.cell.Cell.{Cell}
+use Rattle.flow_table.specs.declared.key.Key.{Key}
 use Rattle.flow_export.specs.CsvText.{first_of, last_of, row_line}
+use Rattle.flow_export.specs.Shown.{shown_cells}
 use Rattle.flow_export.specs.Written.{interval_texts, next_cell, next_number}
 
 abbrev pub next : List ℕ → List ℕ
@@ -25,24 +27,25 @@ each text [] = refl
 each text (x ∷ xs) = ap (λ (t : List ℕ). (44 ∷ text x) ++ t) (each text xs)
 
 -- the fields after the first two
-tail_parts : (row : RowValue) → flat_map next (map cell_text row.key ++ (map decimal row.sums ++ decimal row.flows ∷ []))
-    ≡ flat_map next_cell row.key ++ (flat_map next_number row.sums ++ next_number row.flows)
-tail_parts row =
-    flat_map-append next (map cell_text row.key) (map decimal row.sums ++ decimal row.flows ∷ [])
-    ∙ rw (each cell_text row.key, flat_map-append next (map decimal row.sums) (decimal row.flows ∷ []), each decimal row.sums, append-nil (next_number row.flows)) refl
+tail_parts : (cells : List Cell) (row : RowValue) → flat_map next (map cell_text cells ++ (map decimal row.sums ++ decimal row.flows ∷ []))
+    ≡ flat_map next_cell cells ++ (flat_map next_number row.sums ++ next_number row.flows)
+tail_parts shown row =
+    flat_map-append next (map cell_text shown) (map decimal row.sums ++ decimal row.flows ∷ [])
+    ∙ rw (each cell_text shown, flat_map-append next (map decimal row.sums) (decimal row.flows ∷ []), each decimal row.sums, append-nil (next_number row.flows)) refl
 
 row_parts : (plan : PlanValue) (row : RowValue) → row_line plan row
-    ≡ decimal (first_of plan row) ++ (next_number (last_of plan row) ++ (flat_map next_cell row.key ++ (flat_map next_number row.sums ++ (next_number row.flows ++ 10 ∷ []))))
+    ≡ decimal (first_of plan row) ++ (next_number (last_of plan row) ++ (flat_map next_cell (shown_cells plan.keys row.key) ++ (flat_map next_number row.sums ++ (next_number row.flows ++ 10 ∷ []))))
 row_parts plan row =
     let first = decimal (first_of plan row) in
     let second = next_number (last_of plan row) in
-    let cells = flat_map next_cell row.key in
+    let shown = shown_cells plan.keys row.key in
+    let cells = flat_map next_cell shown in
     let sums = flat_map next_number row.sums in
-    let rest = map cell_text row.key ++ (map decimal row.sums ++ decimal row.flows ∷ []) in
+    let rest = map cell_text shown ++ (map decimal row.sums ++ decimal row.flows ∷ []) in
     ap (λ (t : List ℕ). t ++ 10 ∷ []) (behind_commas first (decimal (last_of plan row) ∷ rest))
     ∙ append_assoc first (second ++ flat_map next rest) (10 ∷ [])
     ∙ ap (λ (t : List ℕ). first ++ t) (append_assoc second (flat_map next rest) (10 ∷ []))
-    ∙ ap (λ (t : List ℕ). first ++ (second ++ (t ++ 10 ∷ []))) (tail_parts row)
+    ∙ ap (λ (t : List ℕ). first ++ (second ++ (t ++ 10 ∷ []))) (tail_parts shown row)
     ∙ ap (λ (t : List ℕ). first ++ (second ++ t)) (append_assoc cells (sums ++ next_number row.flows) (10 ∷ []))
     ∙ ap (λ (t : List ℕ). first ++ (second ++ (cells ++ t))) (append_assoc sums (next_number row.flows) (10 ∷ []))
 
@@ -50,14 +53,14 @@ pub six_parts : (o p q r s t u a b c d e f : List ℕ) → p ≡ o ++ a → q �
 six_parts o p q r s t u a b c d e f is_p is_q is_r is_s is_t is_u = rw (is_u, is_t, is_s, is_r, is_q, is_p) (simp append_assoc)
 
 -- a line whose fields after the first two were appended one after another
-pub line_appended : (plan : PlanValue) (row : Row) (cs : List Cell) (vs o q r s t u : List ℕ) → cs ≡ row.key.items → vs ≡ row.sums.items → q ≡ o ++ interval_texts plan row.interval
-    → r ≡ q ++ flat_map next_cell cs → s ≡ r ++ flat_map next_number vs → t ≡ s ++ next_number row.flows → u ≡ t ++ 10 ∷ [] → u ≡ o ++ row_line plan (value_of row)
-line_appended plan row cs vs o q r s t u is_cs is_vs is_q is_r is_s is_t is_u =
+pub line_appended : (plan : PlanValue) (row : Row) (ks : List Key) (cs : List Cell) (vs o q r s t u : List ℕ) → ks ≡ plan.keys → cs ≡ row.key.items → vs ≡ row.sums.items → q ≡ o ++ interval_texts plan row.interval
+    → r ≡ q ++ flat_map next_cell (shown_cells ks cs) → s ≡ r ++ flat_map next_number vs → t ≡ s ++ next_number row.flows → u ≡ t ++ 10 ∷ [] → u ≡ o ++ row_line plan (value_of row)
+line_appended plan row ks cs vs o q r s t u is_ks is_cs is_vs is_q is_r is_s is_t is_u =
     let first = decimal (first_of plan (value_of row)) in
     let last = next_number (last_of plan (value_of row)) in
-    let cells : flat_map next_cell cs ≡ flat_map next_cell row.key.items = ap (flat_map next_cell) is_cs in
+    let cells : flat_map next_cell (shown_cells ks cs) ≡ flat_map next_cell (shown_cells plan.keys row.key.items) = ap₂ (λ (keys : List Key) (found : List Cell). flat_map next_cell (shown_cells keys found)) is_ks is_cs in
     let sums : flat_map next_number vs ≡ flat_map next_number row.sums.items = ap (flat_map next_number) is_vs in
-    six_parts o (o ++ first) q r s t u first last (flat_map next_cell row.key.items) (flat_map next_number row.sums.items)
+    six_parts o (o ++ first) q r s t u first last (flat_map next_cell (shown_cells plan.keys row.key.items)) (flat_map next_number row.sums.items)
     (next_number row.flows) (10 ∷ []) refl (is_q ∙ sym (append_assoc o first last)) (is_r ∙ ap (λ (x : List ℕ). q ++ x) cells)
     (is_s ∙ ap (λ (x : List ℕ). r ++ x) sums) is_t is_u
     ∙ ap (λ (x : List ℕ). o ++ x) (sym (row_parts plan (value_of row)))

@@ -13,6 +13,8 @@ use Rattle.flow_table.specs.declared.table.Row.{Row}
 use Rattle.flow_export.specs.CsvText.{first_of, last_of}
 use Rattle.flow_export.specs.JsonParts.{AreLabels, interval_members, label, labelled, text_of}
 use Rattle.flow_export.specs.Fitting.{IsExportable}
+use Rattle.flow_export.specs.Shown.{shown_cells}
+use Rattle.flow_table.specs.declared.key.Key.{Key}
 use Rattle.flow_export.specs.JsonText.{member}
 use Rattle.flow_export.specs.CsvText.{key_text}
 use Rattle.flow_export.specs.JsonText.{row_object}
@@ -21,6 +23,7 @@ use Rattle.flow_export.specs.declared.json_text.labels.MemberLabel.{MemberLabel}
 use Rattle.flow_export.specs.declared.json_text.labels.RowLabels.{RowLabels}
 use Rattle.flow_export.proofs.Appending.{one_more}
 use Rattle.flow_export.proofs.KeyCells.{same_length}
+use Rattle.flow_export.proofs.ShownKeys.{shown_length}
 use Rattle.flow_export.proofs.Lines.{behind_commas, next, six_parts}
 
 -- ---- values after their labels, one after another
@@ -68,8 +71,8 @@ zip-append {A} {B} (x ∷ xs) us (y ∷ ys) vs same = ap (λ (pairs : List (A ×
 
 -- ---- a row
 
-abbrev pub cells_of : RowLabels → Row → List ℕ
-cells_of labels row = flat_map (labelled json_cell) (zip labels.keys.items row.key.items)
+abbrev pub cells_of : PlanValue → RowLabels → Row → List ℕ
+cells_of plan labels row = flat_map (labelled json_cell) (zip labels.keys.items (shown_cells plan.keys row.key.items))
 
 abbrev pub sums_of : RowLabels → Row → List ℕ
 sums_of labels row = flat_map (labelled json_number) (zip labels.counters.items row.sums.items)
@@ -85,6 +88,9 @@ same_counts plan labels row made fits =
       omega (arith, counters, fits.fields.sums, length-map labels.counters.items text_of, length-map (map (element_name labels.elements.now) plan.counters) label, length-map plan.counters (element_name labels.elements.now)),
     )
 
+pub keys_counted : (plan : PlanValue) (row : Row) → IsExportable plan (value_of row) → length plan.keys ≡ length row.key.items
+keys_counted plan row fits = omega (arith, fits.fields.key.beside, same_length plan.kinds row.key.items fits.fields.key.fit)
+
 three_parts : (ps qs : List (List ℕ × List ℕ)) (p : List ℕ × List ℕ)
     → flat_map next (map member (ps ++ (qs ++ p ∷ []))) ≡ flat_map next (map member ps) ++ (flat_map next (map member qs) ++ next (member p))
 three_parts ps qs p =
@@ -96,21 +102,22 @@ three_parts ps qs p =
 
 -- the members after the first two
 tail_members : (plan : PlanValue) (labels : RowLabels) (row : Row) → AreLabels plan labels → IsExportable plan (value_of row)
-    → flat_map next (map member (zip (map (key_text labels.elements.now) plan.keys ++ (map (element_name labels.elements.now) plan.counters ++ codes "flows" ∷ [])) (map json_cell row.key.items ++ (map json_number row.sums.items ++ json_number row.flows ∷ []))))
-    ≡ cells_of labels row ++ (sums_of labels row ++ (codes ",\"flows\":" ++ json_number row.flows))
+    → flat_map next (map member (zip (map (key_text labels.elements.now) plan.keys ++ (map (element_name labels.elements.now) plan.counters ++ codes "flows" ∷ [])) (map json_cell (shown_cells plan.keys row.key.items) ++ (map json_number row.sums.items ++ json_number row.flows ∷ []))))
+    ≡ cells_of plan labels row ++ (sums_of labels row ++ (codes ",\"flows\":" ++ json_number row.flows))
 tail_members plan labels row made fits =
     let counts = same_counts plan labels row made fits in
     let names = map (key_text labels.elements.now) plan.keys in
     let more_names = map (element_name labels.elements.now) plan.counters in
-    let values = map json_cell row.key.items in
+    let shown = shown_cells plan.keys row.key.items in
+    let values = map json_cell shown in
     let more_values = map json_number row.sums.items in
-    let keys : length names ≡ length values = omega (arith, counts.0, ap length made.keys, length-map labels.keys.items text_of, length-map names label, length-map row.key.items json_cell) in
+    let keys : length names ≡ length values = omega (arith, counts.0, ap length made.keys, length-map labels.keys.items text_of, length-map names label, length-map shown json_cell, shown_length plan.keys row.key.items) in
     let counters : length more_names ≡ length more_values =
     omega (arith, counts.1, ap length made.counters, length-map labels.counters.items text_of, length-map more_names label, length-map row.sums.items json_number) in
     rw (zip-append names (more_names ++ codes "flows" ∷ []) values (more_values ++ json_number row.flows ∷ []) keys)
     (rw (zip-append more_names (codes "flows" ∷ []) more_values (json_number row.flows ∷ []) counters)
     (three_parts (zip names values) (zip more_names more_values) (codes "flows", json_number row.flows)
-    ∙ rw (members_are json_cell names labels.keys.items row.key.items made.keys, members_are json_number more_names labels.counters.items row.sums.items made.counters) refl))
+    ∙ rw (members_are json_cell names labels.keys.items shown made.keys, members_are json_number more_names labels.counters.items row.sums.items made.counters) refl))
 
 joined : (m b c d e f : List ℕ) → (m ++ (b ++ (c ++ (d ++ e)))) ++ f ≡ m ++ (b ++ (c ++ (d ++ (e ++ f))))
 joined m b c d e f = simp append_assoc
@@ -118,24 +125,24 @@ joined m b c d e f = simp append_assoc
 object_parts : (plan : PlanValue) (labels : RowLabels) (row : Row) → AreLabels plan labels → IsExportable plan (value_of row)
     → row_object labels.elements.now plan (value_of row)
     ≡ (codes "{\"start\":" ++ json_number (first_of plan (value_of row))) ++ ((codes ",\"end\":" ++ json_number (last_of plan (value_of row)))
-    ++ (cells_of labels row ++ (sums_of labels row ++ ((codes ",\"flows\":" ++ json_number row.flows) ++ codes "}\n"))))
+    ++ (cells_of plan labels row ++ (sums_of labels row ++ ((codes ",\"flows\":" ++ json_number row.flows) ++ codes "}\n"))))
 object_parts plan labels row made fits =
     let first = member (codes "start", json_number (first_of plan (value_of row))) in
     let second = member (codes "end", json_number (last_of plan (value_of row))) in
-    let rest = map member (zip (map (key_text labels.elements.now) plan.keys ++ (map (element_name labels.elements.now) plan.counters ++ codes "flows" ∷ [])) (map json_cell row.key.items ++ (map json_number row.sums.items ++ json_number row.flows ∷ []))) in
+    let rest = map member (zip (map (key_text labels.elements.now) plan.keys ++ (map (element_name labels.elements.now) plan.counters ++ codes "flows" ∷ [])) (map json_cell (shown_cells plan.keys row.key.items) ++ (map json_number row.sums.items ++ json_number row.flows ∷ []))) in
     ap (λ (t : List ℕ). codes "{" ++ (t ++ codes "}\n"))
     (behind_commas first (second ∷ rest) ∙ ap (λ (t : List ℕ). first ++ (next second ++ t)) (tail_members plan labels row made fits))
-    ∙ ap (λ (t : List ℕ). codes "{" ++ t) (joined first (next second) (cells_of labels row) (sums_of labels row) (codes ",\"flows\":" ++ json_number row.flows) (codes "}\n"))
+    ∙ ap (λ (t : List ℕ). codes "{" ++ t) (joined first (next second) (cells_of plan labels row) (sums_of labels row) (codes ",\"flows\":" ++ json_number row.flows) (codes "}\n"))
 
 -- an object whose members after the first two were appended one after another
-pub object_appended : (plan : PlanValue) (labels : RowLabels) (row : Row) (ks counters : List MemberLabel) (cs : List Cell) (vs o q r s t u : List ℕ) → AreLabels plan labels → IsExportable plan (value_of row)
-    → ks ≡ labels.keys.items → counters ≡ labels.counters.items → cs ≡ row.key.items → vs ≡ row.sums.items → q ≡ o ++ interval_members plan row.interval
-    → r ≡ q ++ flat_map (labelled json_cell) (zip ks cs) → s ≡ r ++ flat_map (labelled json_number) (zip counters vs) → t ≡ s ++ (codes ",\"flows\":" ++ json_number row.flows)
+pub object_appended : (plan : PlanValue) (labels : RowLabels) (row : Row) (ls counters : List MemberLabel) (ks : List Key) (cs : List Cell) (vs o q r s t u : List ℕ) → AreLabels plan labels → IsExportable plan (value_of row)
+    → ls ≡ labels.keys.items → ks ≡ plan.keys → counters ≡ labels.counters.items → cs ≡ row.key.items → vs ≡ row.sums.items → q ≡ o ++ interval_members plan row.interval
+    → r ≡ q ++ flat_map (labelled json_cell) (zip ls (shown_cells ks cs)) → s ≡ r ++ flat_map (labelled json_number) (zip counters vs) → t ≡ s ++ (codes ",\"flows\":" ++ json_number row.flows)
     → u ≡ t ++ codes "}\n" → u ≡ o ++ row_object labels.elements.now plan (value_of row)
-object_appended plan labels row ks counters cs vs o q r s t u made fits is_ks is_counters is_cs is_vs is_q is_r is_s is_t is_u =
+object_appended plan labels row ls counters ks cs vs o q r s t u made fits is_ls is_ks is_counters is_cs is_vs is_q is_r is_s is_t is_u =
     let first = codes "{\"start\":" ++ json_number (first_of plan (value_of row)) in
     let last = codes ",\"end\":" ++ json_number (last_of plan (value_of row)) in
-    let cells : r ≡ q ++ cells_of labels row = is_r ∙ rw (is_ks, is_cs) refl in
+    let cells : r ≡ q ++ cells_of plan labels row = is_r ∙ rw (is_ls, is_ks, is_cs) refl in
     let sums : s ≡ r ++ sums_of labels row = is_s ∙ rw (is_counters, is_vs) refl in
     six_parts o (o ++ first) q r s t u first last _ _ _ _ refl (is_q ∙ sym (append_assoc o first last)) cells sums is_t is_u
     ∙ ap (λ (x : List ℕ). o ++ x) (sym (object_parts plan labels row made fits))

@@ -1,5 +1,5 @@
 -- The template of a plan has room, and its elements are apart from the times.
-use Rattle.std.proofs.Common.{◌≡◌, ℕ, ◌+◌, ◌*◌, ◌^◌, ◌<◌, ◌≤◌, Bool, true, false, cond, eqb, nat_lt, nat_le, not, List, [], ◌∷◌, ◌++◌, length, map, All, refl, arith, inl, inr}
+use Rattle.std.proofs.Common.{◌≡◌, ℕ, ◌+◌, ◌*◌, ◌^◌, ◌<◌, ◌≤◌, Bool, true, false, cond, eqb, nat_lt, nat_le, ◌||◌, not, List, [], ◌∷◌, ◌++◌, length, map, All, refl, arith, inl, inr}
 use Rattle.std.specs.Prelude.{is_some}
 use Rattle.std.specs.List.{list_all, zip}
 use Rattle.std.proofs.lemmas.Bool.{cases_Bool, and_parts, ltb-true, leb-true}
@@ -13,7 +13,7 @@ use Rattle.ipfix_elements.specs.declared.kind.Kind.{Kind}
 use Rattle.ipfix_elements.specs.declared.kind.Kind.TheVariants.{Unsigned, Ipv4, Ipv6, Mac, Seconds, Millis, Octets}
 use Rattle.ipfix_message.specs.DataRecords.{least}
 use Rattle.flow_table.specs.declared.key.Key.{Key}
-use Rattle.flow_table.specs.Plans.{PlanValue, IsPlan, is_element, is_time, is_value, is_key_kind, exported_element, prefix_element, keys_and_kinds}
+use Rattle.flow_table.specs.Plans.{PlanValue, IsPlan, is_element, is_time, is_value, is_key_element, is_key_kind, exported_element, exporter, exporter_ipv6, prefix_element, same_element, whole_element, keys_and_kinds}
 use Rattle.flow_export.specs.Fitting.{HasNumber}
 use Rattle.flow_export.specs.IpfixText.{width_of, key_spec, number_spec}
 use Rattle.flow_export.proofs.RowFields.{narrow_number}
@@ -45,8 +45,8 @@ key_narrow Octets key = absurd cc
 
 -- ---- room
 
-abbrev AreValues : List Key → Type 0
-AreValues keys = list_all (λ k. is_value k.element) keys ≡ true
+abbrev AreKeys : List Key → Type 0
+AreKeys keys = list_all (λ k. is_key_element k.element) keys ≡ true
 
 abbrev AreKeyKinds : List Kind → Type 0
 AreKeyKinds kinds = list_all is_key_kind kinds ≡ true
@@ -54,33 +54,37 @@ AreKeyKinds kinds = list_all is_key_kind kinds ≡ true
 abbrev CountersOf : List ElementId → Type 0
 CountersOf counters = list_all is_value counters ≡ true
 
-prefix_small : (a b c : Bool) → cond a 44 (cond b 45 (cond c 170 169)) < 2 ^ 15
-prefix_small true b c = omega arith
-prefix_small false true c = omega arith
-prefix_small false false true = omega arith
-prefix_small false false false = omega arith
+prefix_value : (a b c : Bool) → is_value (iana (cond a 44 (cond b 45 (cond c 170 169)))) ≡ true
+prefix_value true b c = refl
+prefix_value false true c = refl
+prefix_value false false true = refl
+prefix_value false false false = refl
 
-exported_number : (e : ElementId) (b : Bool) → e.number < 2 ^ 15 → (cond b (prefix_element e) e).number < 2 ^ 15
-exported_number e true small = prefix_small (eqb e.number 8) (eqb e.number 12) (eqb e.number 27)
-exported_number e false small = small
+whole_value : (e : ElementId) (b : Bool) → (b || is_value e) ≡ true → is_value (cond b exporter_ipv6 e) ≡ true
+whole_value e true key = refl
+whole_value e false key = key
 
-exported_pen : (e : ElementId) (b : Bool) → e.pen < 2 ^ 32 → (cond b (prefix_element e) e).pen < 2 ^ 32
-exported_pen e true small = omega arith
-exported_pen e false small = small
+exported_by : (e : ElementId) (b : Bool) → is_key_element e ≡ true → is_value (cond b (prefix_element e) (whole_element e)) ≡ true
+exported_by e true key = prefix_value (eqb e.number 8) (eqb e.number 12) (eqb e.number 27)
+exported_by e false key = whole_value e (same_element e exporter) key
+
+-- what a key is exported as can stand in a template, and is no time
+pub exported_value : (k : Key) → is_key_element k.element ≡ true → is_value (exported_element k) ≡ true
+exported_value k key = exported_by k.element (is_some k.prefix) key
 
 value_spec : (e : ElementId) (width : ℕ) → e.pen < 2 ^ 32 → e.number < 2 ^ 15 → width ≤ 16 → IsSpec (record { element = e; width = width })
 value_spec e width pen number narrow = record { pen = pen; number = number; width = omega (arith, narrow) }
 
-key_fits : (k : Key) (kind : Kind) → is_value k.element ≡ true → is_key_kind kind ≡ true → IsSpec (key_spec (k, kind))
-key_fits k kind value key =
-    let inside = value_is_element k.element value in
-    value_spec (exported_element k) (width_of kind) (exported_pen k.element (is_some k.prefix) inside.pen) (exported_number k.element (is_some k.prefix) inside.number) (key_narrow kind key)
+key_fits : (k : Key) (kind : Kind) → is_key_element k.element ≡ true → is_key_kind kind ≡ true → IsSpec (key_spec (k, kind))
+key_fits k kind element key =
+    let inside = value_is_element (exported_element k) (exported_value k element) in
+    value_spec (exported_element k) (width_of kind) inside.pen inside.number (key_narrow kind key)
 
-keys_fit : (ks : List Key) (kinds : List Kind) → AreValues ks → AreKeyKinds kinds → All IsSpec (map key_spec (zip ks kinds))
+keys_fit : (ks : List Key) (kinds : List Kind) → AreKeys ks → AreKeyKinds kinds → All IsSpec (map key_spec (zip ks kinds))
 keys_fit [] kinds values keys = All-nil IsSpec
 keys_fit (k ∷ ks) [] values keys = All-nil IsSpec
 keys_fit (k ∷ ks) (kind ∷ kinds) values keys =
-    let value = and_parts (is_value k.element) (list_all (λ k. is_value k.element) ks) values in
+    let value = and_parts (is_key_element k.element) (list_all (λ k. is_key_element k.element) ks) values in
     let key = and_parts (is_key_kind kind) (list_all is_key_kind kinds) keys in
     All-cons IsSpec (key_spec (k, kind)) (map key_spec (zip ks kinds)) (key_fits k kind value.0 key.0) (keys_fit ks kinds value.1 key.1)
 
@@ -140,11 +144,11 @@ has_room plan is =
 
 -- ---- numbers of elements
 
-key_numbers_of : (ks : List Key) → AreValues ks → All (λ k. HasNumber (exported_element k)) ks
+key_numbers_of : (ks : List Key) → AreKeys ks → All (λ k. HasNumber (exported_element k)) ks
 key_numbers_of [] values = All-nil (λ k. HasNumber (exported_element k))
 key_numbers_of (k ∷ ks) values =
-    let both = and_parts (is_value k.element) (list_all (λ k. is_value k.element) ks) values in
-    All-cons (λ k. HasNumber (exported_element k)) k ks (exported_number k.element (is_some k.prefix) (value_is_element k.element both.0).number) (key_numbers_of ks both.1)
+    let both = and_parts (is_key_element k.element) (list_all (λ k. is_key_element k.element) ks) values in
+    All-cons (λ k. HasNumber (exported_element k)) k ks (value_is_element (exported_element k) (exported_value k both.0)).number (key_numbers_of ks both.1)
 
 counter_numbers_of : (cs : List ElementId) → CountersOf cs → All HasNumber cs
 counter_numbers_of [] counters = All-nil HasNumber

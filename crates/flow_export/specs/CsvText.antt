@@ -1,5 +1,5 @@
 -- A table as CSV (RFC 4180, section 2), with a line feed alone at the end of each line.
-use Rattle.std.specs.Prelude.{ℕ, ◌+◌, ◌-◌, ◌*◌, List, [], ◌∷◌, ◌++◌, map, flat_map, codes, Option, Some, None}
+use Rattle.std.specs.Prelude.{ℕ, ◌+◌, ◌-◌, ◌*◌, List, [], ◌∷◌, ◌++◌, map, flat_map, codes, Option, Some, None, unwrap_or}
 use Rattle.std.specs.Fmt.{decimal}
 use Rattle.std.specs.List.{join_with_byte}
 use Rattle.csv.specs.Writing.{default_writer, row_text}
@@ -7,8 +7,9 @@ use Rattle.ipfix_wire.specs.declared.specifier.ElementId.{ElementId}
 use Rattle.ipfix_elements.specs.Texts.{cell_text}
 use Rattle.element_registry.specs.Registries.{Known, element_name}
 use Rattle.flow_table.specs.declared.key.Key.{Key}
-use Rattle.flow_table.specs.Plans.{PlanValue}
+use Rattle.flow_table.specs.Plans.{PlanValue, context_name}
 use Rattle.flow_table.specs.SameTables.{RowValue}
+use Rattle.flow_export.specs.Shown.{shown_cells}
 
 -- the first and the last millisecond of a row's interval
 abbrev pub first_of : PlanValue → RowValue → ℕ
@@ -32,8 +33,12 @@ abbrev pub prefix_text : Option ℕ → List ℕ
 prefix_text None = []
 prefix_text (Some bits) = codes "/" ++ decimal bits
 
+-- an element of context has its own name, whatever files say
+abbrev pub key_name : List Known → ElementId → List ℕ
+key_name known e = unwrap_or (context_name e) (element_name known e)
+
 abbrev pub key_text : List Known → Key → List ℕ
-key_text known key = element_name known key.element ++ prefix_text key.prefix
+key_text known key = key_name known key.element ++ prefix_text key.prefix
 
 abbrev pub key_texts : List Known → List Key → List (List ℕ)
 key_texts known keys = map (key_text known) keys
@@ -51,7 +56,7 @@ heading_line known plan = row_text default_writer (heading known plan)
 
 -- the fields of a row: its interval, its key, its sums and the number of its flows
 abbrev pub row_texts : PlanValue → RowValue → List (List ℕ)
-row_texts plan row = decimal (first_of plan row) ∷ decimal (last_of plan row) ∷ (map cell_text row.key ++ (map decimal row.sums ++ decimal row.flows ∷ []))
+row_texts plan row = decimal (first_of plan row) ∷ decimal (last_of plan row) ∷ (map cell_text (shown_cells plan.keys row.key) ++ (map decimal row.sums ++ decimal row.flows ∷ []))
 
 abbrev pub row_line : PlanValue → RowValue → List ℕ
 row_line plan row = line (row_texts plan row)

@@ -5,12 +5,13 @@ use Rattle.element_registry.specs.Registries.{Known}
 use Rattle.flow_table.specs.Plans.{PlanValue}
 use Rattle.flow_table.specs.SameTables.{RowValue}
 use Rattle.flow_export.specs.CsvText.{comma, first_of, heading, last_of}
+use Rattle.flow_export.specs.Shown.{shown_cells}
 use Rattle.ipfix_elements.specs.JsonValues.{in_quotes, json_cell, json_number}
 
 -- the values of a row, in the order of the heading: its interval, its key, its sums and the number of its flows
 abbrev pub row_values : PlanValue → RowValue → List (List ℕ)
 row_values plan row =
-    json_number (first_of plan row) ∷ json_number (last_of plan row) ∷ (map json_cell row.key ++ (map json_number row.sums ++ json_number row.flows ∷ []))
+    json_number (first_of plan row) ∷ json_number (last_of plan row) ∷ (map json_cell (shown_cells plan.keys row.key) ++ (map json_number row.sums ++ json_number row.flows ∷ []))
 
 -- a name and its value
 abbrev pub member : List ℕ × List ℕ → List ℕ

@@ -1,6 +1,7 @@
 -- What public contracts cite.
 pub mod Faults
 pub mod Fitting
+pub mod Shown
 pub mod CsvText
 pub mod JsonText
 pub mod PlainNames

@@ -14,6 +14,7 @@ mod key_name;
 pub mod laws;
 mod made_rows;
 mod row_lines;
+mod shown_cell;
 mod table_rows;
 mod table_text;
 mod tables;

@@ -1,3 +1,4 @@
+mod context;
 mod failing;
 mod flat;
 mod memory;

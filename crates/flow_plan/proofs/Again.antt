@@ -10,7 +10,8 @@ use Rattle.ipfix_wire.specs.declared.specifier.ElementId.{ElementId}
 use Rattle.ipfix_elements.proofs.Lookups.{cases_Option}
 use Rattle.flow_table.specs.declared.key.Key.{Key}
 use Rattle.flow_table.specs.declared.plan_fault.PlanFault.TheVariants.{Repeated}
-use Rattle.flow_table.specs.Plans.{same_element, exported_element, has_twice, repeat_fault}
+use Rattle.flow_table.specs.Plans.{same_element, exported_element, exporter_ipv6, has_twice, is_value, repeat_fault}
+use Rattle.flow_table.proofs.PlanKeys.{value_is_sent}
 use Rattle.flow_plan.specs.PlanTexts.{whole_key}
 use Rattle.flow_plan.specs.Blames.{has_one_element, again_from, elements_of}
 
@@ -71,29 +72,35 @@ again_within before n (k ∷ ks) m h =
 
 -- ---- the elements of keys and counters
 
-counters_same : (view : Key → ElementId) → ((e : ElementId) → view (whole_key e) ≡ e) → (cs : List ElementId) → map view (map whole_key cs) ≡ cs
-counters_same view whole [] = refl
-counters_same view whole (c ∷ cs) = rw (whole c) (ap (λ l. c ∷ l) (counters_same view whole cs))
+counters_same : (view : Key → ElementId) → ((e : ElementId) → is_value e ≡ true → view (whole_key e) ≡ e) → (cs : List ElementId) → list_all is_value cs ≡ true → map view (map whole_key cs) ≡ cs
+counters_same view whole [] values = refl
+counters_same view whole (c ∷ cs) values =
+    let both = and_parts (is_value c) (list_all is_value cs) values in
+    rw (whole c both.0) (ap (λ l. c ∷ l) (counters_same view whole cs both.1))
 
 -- where none is found again, no element stands twice as it is viewed
 once : (view : Key → ElementId) → ((r k : Key) → has_one_element r k ≡ false → same_element (view r) (view k) ≡ false)
-    → ((e : ElementId) → view (whole_key e) ≡ e) → (ks : List Key) (cs : List ElementId) → again_from [] 0 (elements_of ks cs) ≡ None
+    → ((e : ElementId) → is_value e ≡ true → view (whole_key e) ≡ e) → (ks : List Key) (cs : List ElementId) → list_all is_value cs ≡ true → again_from [] 0 (elements_of ks cs) ≡ None
     → has_twice (map view ks ++ cs) ≡ false
-once view differ whole ks cs none =
-    ap has_twice (sym (map-append view ks (map whole_key cs) ∙ ap (λ l. map view ks ++ l) (counters_same view whole cs)))
+once view differ whole ks cs values none =
+    ap has_twice (sym (map-append view ks (map whole_key cs) ∙ ap (λ l. map view ks ++ l) (counters_same view whole cs values)))
     ∙ (none_again view differ [] 0 (elements_of ks cs) none).1
+
+-- a counter is exported as it is
+as_it_is : (e : ElementId) → is_value e ≡ true → exported_element (whole_key e) ≡ e
+as_it_is e value = ap (λ (b : Bool). cond b exporter_ipv6 e) (value_is_sent e value)
 
 never : (a b : Bool) → a ≡ false → b ≡ false → cond (not (a || b)) None (Some Repeated) ≡ Some Repeated → ⊥
 never a b h k e = none-some Repeated (rw (h, k) at e)
 
 -- where an element stands twice, one is found again
-pub found_again : (ks : List Key) (cs : List ElementId) → repeat_fault ks cs ≡ Some Repeated
+pub found_again : (ks : List Key) (cs : List ElementId) → list_all is_value cs ≡ true → repeat_fault ks cs ≡ Some Repeated
     → (n : ℕ) × (again_from [] 0 (elements_of ks cs) ≡ Some n) × (n < length ks + length cs)
-found_again ks cs h =
+found_again ks cs values h =
     elim (cases_Option (again_from [] 0 (elements_of ks cs))) [
       | inl none ↦
-          let read = once (λ (k : Key). k.element) (λ r k e. (or_parts _ _ e).0) (λ e. refl) ks cs none in
-          let exported = once exported_element (λ r k e. (or_parts _ _ e).1) (λ e. refl) ks cs none in
+          let read = once (λ (k : Key). k.element) (λ r k e. (or_parts _ _ e).0) (λ e value. refl) ks cs values none in
+          let exported = once exported_element (λ r k e. (or_parts _ _ e).1) as_it_is ks cs values none in
           absurd (never _ _ read exported h)
       | inr found ↦
           let within : found.0 < 0 + length (elements_of ks cs) = again_within [] 0 (elements_of ks cs) found.0 found.1 in

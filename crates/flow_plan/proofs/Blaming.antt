@@ -15,7 +15,8 @@ use Rattle.flow_table.specs.declared.key.Key.{Key}
 use Rattle.flow_table.specs.declared.plan.TheConstants.{MAX_KEYS, MAX_COUNTERS, MAX_SPREAD}
 use Rattle.flow_table.specs.declared.plan_fault.PlanFault.{PlanFault}
 use Rattle.flow_table.specs.declared.plan_fault.PlanFault.TheVariants.{Length, Spread, KeyCount, KeyKind, Prefix, CounterCount, CounterKind, Repeated, OutOfMemory}
-use Rattle.flow_table.specs.Plans.{is_between, is_prefix_of, exported_element, has_twice, or_else, fault_unless, is_key, may_count, chosen_fault}
+use Rattle.flow_table.specs.Plans.{is_between, is_prefix_of, exported_element, has_twice, or_else, fault_unless, is_key, is_value, may_count, chosen_fault}
+use Rattle.flow_table.proofs.MadePlans.{all_weaker, may_count_is_value}
 use Rattle.flow_plan.specs.declared.error.PlanKey.{PlanKey}
 use Rattle.flow_plan.specs.declared.error.PlanPlace.{PlanPlace}
 use Rattle.flow_plan.specs.declared.error.PlanPlace.TheVariants.{Value, Count, Text}
@@ -72,6 +73,24 @@ test_fails : (known : List Known) (choices : Choices) (fault : PlanFault) (len :
     → test_of fault (nat_lt 0 len) (is_between 1 MAX_SPREAD spread) (nat_le (length keys) MAX_KEYS) (are_keys known keys) (have_prefixes keys)
     (is_between 1 MAX_COUNTERS (length counters)) (list_all (may_count known choices.totals) counters) (are_apart keys counters) ≡ false
 test_fails known choices fault len keys counters spread is = fails fault _ _ _ _ _ _ _ _ is
+
+-- where an element stands twice, each counter may be one
+counted : (a b c d e f g h : Bool) → first_of a b c d e f g h ≡ Some Repeated → g ≡ true
+counted a b c d e f true h is = refl
+counted false b c d e f false h is = absurd cc
+counted true false c d e f false h is = absurd cc
+counted true true false d e f false h is = absurd cc
+counted true true true false e f false h is = absurd cc
+counted true true true true false f false h is = absurd cc
+counted true true true true true false false h is = absurd cc
+counted true true true true true true false h is = absurd cc
+
+pub values_counted : (known : List Known) (choices : Choices) (len : ℕ) (keys : List Key) (counters : List ElementId) (spread : ℕ) (fault : PlanFault) → fault ≡ Repeated
+    → (fault ≢ OutOfMemory → chosen_fault known choices len keys counters spread ≡ Some fault) → list_all is_value counters ≡ true
+values_counted known choices len keys counters spread fault is first =
+    let repeated : chosen_fault known choices len keys counters spread ≡ Some Repeated = subst (λ (f : PlanFault). (f ≢ OutOfMemory → chosen_fault known choices len keys counters spread ≡ Some f)) is first (λ e. cc) in
+    let counts : list_all (may_count known choices.totals) counters ≡ true = counted _ _ _ _ _ _ _ _ repeated in
+    all_weaker (may_count known choices.totals) is_value (may_count_is_value known choices.totals) counters counts
 
 -- ---- the first that fails a test
 

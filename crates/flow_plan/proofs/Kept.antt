@@ -12,12 +12,12 @@ use Rattle.element_registry.specs.Registries.{Known, element_by_name}
 use Rattle.element_registry.proofs.Registered.{before}
 use Rattle.flow_table.specs.declared.key.Key.{Key}
 use Rattle.flow_table.specs.declared.plan_fault.PlanFault.{PlanFault}
-use Rattle.flow_table.specs.Plans.{PlanValue, chosen_plan, chosen_fault}
+use Rattle.flow_table.specs.Plans.{PlanValue, chosen_plan, chosen_fault, context_named}
 use Rattle.flow_table.proofs.MadePlans.{kept_fault, kept_plan}
 use Rattle.flow_plan.specs.declared.fault.PlanTextFault.{PlanTextFault}
 use Rattle.flow_plan.specs.declared.fault.PlanTextFault.TheVariants.{NotToml, UnknownField, UnknownElement}
 use Rattle.flow_plan.specs.Faults.{Read, ◌>>=◌}
-use Rattle.flow_plan.specs.PlanTexts.{Fields, all_of, bits_in, checked, counters_in, fields_of, has_known_fields, is_slash, key_named, keys_in, plan_of_document, plan_of_fields, plan_of_text, prefix_key, whole_key}
+use Rattle.flow_plan.specs.PlanTexts.{Fields, all_of, bits_in, checked, counters_in, fields_of, has_known_fields, is_slash, key_element, key_named, keys_in, plan_of_document, plan_of_fields, plan_of_text, prefix_key, whole_key}
 
 -- ---- what is named
 
@@ -27,6 +27,13 @@ no_more (Some e) = refl
 
 element_kept : (known : List Known) (text : List ℕ) (e : ElementId) → element_by_name [] text ≡ Some e → element_by_name known text ≡ Some e
 element_kept known text e h = before known text e (sym (no_more (element_named text)) ∙ h)
+
+named_kept : (context first second : Option ElementId) (e : ElementId) → (first ≡ Some e → second ≡ Some e) → option_or context first ≡ Some e → option_or context second ≡ Some e
+named_kept None first second e kept h = kept h
+named_kept (Some c) first second e kept h = h
+
+key_element_kept : (known : List Known) (text : List ℕ) (e : ElementId) → key_element [] text ≡ Some e → key_element known text ≡ Some e
+key_element_kept known text e h = named_kept (context_named text) (element_by_name [] text) (element_by_name known text) e (element_kept known text e) h
 
 chosen_kept : {X : Type 0} (b : Bool) (x y x' y' : Option X) (k : X) → (x ≡ Some k → x' ≡ Some k) → (y ≡ Some k → y' ≡ Some k) → cond b x y ≡ Some k → cond b x' y' ≡ Some k
 chosen_kept true x y x' y' k first second h = first h
@@ -43,8 +50,8 @@ mapped_kept (Some x) p f y kept h = rw (kept x refl) h
 key_kept : (known : List Known) (text : List ℕ) (k : Key) → key_named [] text ≡ Some k → key_named known text ≡ Some k
 key_kept known text k h =
     chosen_kept (list_any is_slash text) _ _ _ _ k
-    (chained_kept (element_by_name [] (before_first is_slash text)) (element_by_name known (before_first is_slash text)) (λ element. option_map (prefix_key element) (bits_in (after_first is_slash text))) k (element_kept known (before_first is_slash text)))
-    (mapped_kept (element_by_name [] text) (element_by_name known text) whole_key k (element_kept known text)) h
+    (chained_kept (key_element [] (before_first is_slash text)) (key_element known (before_first is_slash text)) (λ element. option_map (prefix_key element) (bits_in (after_first is_slash text))) k (key_element_kept known (before_first is_slash text)))
+    (mapped_kept (key_element [] text) (key_element known text) whole_key k (key_element_kept known text)) h
 
 both_kept : {X : Type 0} (first first' : Option X) (rest rest' : Option (List X)) (ys : List X) → ((y : X) → first ≡ Some y → first' ≡ Some y) → ((zs : List X) → rest ≡ Some zs → rest' ≡ Some zs)
     → option_and_then (λ y. option_map (λ zs. y ∷ zs) rest) first ≡ Some ys → option_and_then (λ y. option_map (λ zs. y ∷ zs) rest') first' ≡ Some ys

@@ -1,6 +1,6 @@
 -- The plan that a TOML document says, by what files say of elements, beside the built-in ones.
 use Rattle.std.specs.Prelude.{ℕ, ◌^◌, ◌==◌, ◌&&◌, nat_lt, Bool, true, List, [], ◌∷◌, codes, pos, Option, Some, None, option_map, option_and_then, if◌then◌else◌, Ok, Err, decimal}
-use Rattle.std.specs.Option.{ok_or}
+use Rattle.std.specs.Option.{ok_or, option_or}
 use Rattle.std.specs.List.{list_any, before_first, after_first}
 use Rattle.std.specs.Str.{bytes_eq}
 use Rattle.std.specs.Str.Parse.{digits_value}
@@ -17,7 +17,7 @@ use Rattle.flow_table.specs.declared.choices.Totals.TheVariants.{Refused, AsDelt
 use Rattle.flow_table.specs.declared.method.Method.{Method}
 use Rattle.flow_table.specs.declared.method.Method.TheVariants.{Start, End, Mid, Uniform, Proportional}
 use Rattle.flow_table.specs.declared.plan_fault.PlanFault.{PlanFault}
-use Rattle.flow_table.specs.Plans.{PlanValue, basic, chosen_plan, chosen_fault}
+use Rattle.flow_table.specs.Plans.{PlanValue, basic, chosen_plan, chosen_fault, context_named}
 use Rattle.flow_plan.specs.declared.fault.PlanTextFault.TheVariants as faults
 use Rattle.flow_plan.specs.Faults.{Read, ◌>>=◌}
 
@@ -109,12 +109,16 @@ whole_key element = record { element = element; prefix = None }
 abbrev pub prefix_key : ElementId → ℕ → Key
 prefix_key element bits = record { element = element; prefix = Some bits }
 
+-- the element of a key's name: one of context, or else one that is built in or of a file
+abbrev pub key_element : List Known → List ℕ → Option ElementId
+key_element known name = option_or (context_named name) (element_by_name known name)
+
 -- NAME, or NAME/BITS
 abbrev pub key_named : List Known → List ℕ → Option Key
 key_named known text =
     if list_any is_slash text
-    then option_and_then (λ element. option_map (prefix_key element) (bits_in (after_first is_slash text))) (element_by_name known (before_first is_slash text))
-    else option_map whole_key (element_by_name known text)
+    then option_and_then (λ element. option_map (prefix_key element) (bits_in (after_first is_slash text))) (key_element known (before_first is_slash text))
+    else option_map whole_key (key_element known text)
 
 -- what each of a list has, if each has something
 abbrev pub all_of : {A X : Type 0} → (A → Option X) → List A → Option (List X)

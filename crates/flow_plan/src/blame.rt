@@ -1,8 +1,8 @@
 //! What makes no plan of the values of a document.
 
-ghost use Rattle.std.specs.Prelude.{◌≡◌, ◌≢◌, ◌<◌, Some, IfOk, length};
-ghost use Rattle.std.specs.List.{position_from};
-ghost use Rattle.flow_table.specs.Plans.{repeat_fault, chosen_fault};
+ghost use Rattle.std.specs.Prelude.{◌≡◌, ◌≢◌, ◌<◌, true, Some, IfOk, length};
+ghost use Rattle.std.specs.List.{list_all, position_from};
+ghost use Rattle.flow_table.specs.Plans.{is_value, repeat_fault, chosen_fault};
 ghost use Rattle.flow_plan.specs.Blames.{is_unfit_prefix, is_unfit_counter, is_unfit_key, IsPlace, NamesAll};
 ghost use Rattle.flow_plan.specs.Shown.{shown, shown_all, IsTextAt};
 
@@ -71,6 +71,7 @@ fn repeated_text(
     counters: &[ElementId],
 ) -> Result<PlanPlace, AllocError>
     requires named { NamesAll elements.now (shown fields.now) keys.now counters.now }
+    requires values { list_all is_value counters.now ≡ true }
     requires repeated { repeat_fault keys.now counters.now ≡ Some PlanFault.Repeated }
     ensures { IfOk result (IsPlace elements.now (shown fields.now) PlanFault.Repeated) }
 {

@@ -2,12 +2,12 @@
 
 ghost use Rattle.std.specs.Prelude.{◌≡◌};
 ghost use Rattle.element_registry.specs.Registries.{element_by_name};
-ghost use Rattle.flow_plan.specs.PlanTexts.{bits_in, key_named as key_in};
+ghost use Rattle.flow_plan.specs.PlanTexts.{bits_in, key_element as key_element_in, key_named as key_in};
 ghost use Rattle.flow_plan.specs.Shown.{shown_all, NamesEach};
 
 use crate::error::{PlanKey, PlanTextError};
 use element_registry::Elements;
-use flow_table::Key;
+use flow_table::{Key, context_named};
 use ipfix_wire::ElementId;
 use itoa::Buffer;
 use std::alloc::Global;
@@ -64,13 +64,23 @@ fn key_named(elements: &Elements, text: &str) -> Option<Key>
 {
     match text.split_once('/') {
         None => Some(Key {
-            element: elements.by_name(text)?,
+            element: key_element(elements, text)?,
             prefix: None,
         }),
         Some((name, bits)) => Some(Key {
-            element: elements.by_name(name)?,
+            element: key_element(elements, name)?,
             prefix: Some(prefix_bits(bits)?),
         }),
+    }
+}
+
+// The element of a key's name: one of context, or else one that is built in or of a file.
+fn key_element(elements: &Elements, name: &str) -> Option<ElementId>
+    ensures { result ≡ key_element_in elements.now name.now }
+{
+    match context_named(name) {
+        None => elements.by_name(name),
+        element => element,
     }
 }
 

@@ -30,7 +30,7 @@ use toml::Table;
 /// | `interval_ms` | the length of an interval in milliseconds: an integer, 0 to 4294967295 |
 /// | `method` | `"start"`, `"end"`, `"mid"`, `"uniform"` or `"proportional"` |
 /// | `max_spread` | an integer, 0 to 4294967295; 4096 if it is missing |
-/// | `keys` | an array of names of elements, each alone or as `NAME/BITS` with a prefix of 0 to 255 bits |
+/// | `keys` | an array of names of elements, those of context among them ([`context_named`](flow_table::context_named)), each alone or as `NAME/BITS` with a prefix of 0 to 255 bits |
 /// | `counters` | an array of names of elements |
 /// | `times` | `"basic"`, or `"all"`: [`Times`](flow_table::Times); `"basic"` if it is missing |
 /// | `totals` | `"refused"`, or `"as-deltas"`: [`Totals`](flow_table::Totals); `"refused"` if it is missing |

@@ -1,6 +1,9 @@
 use element_registry::Elements;
 use flow_plan::{PlanTextError, PlanTextFault, read_plan, read_plan_with};
-use flow_table::{Key, Method, Plan, PlanFault};
+use flow_table::{
+    EXPORTER, EXPORTER_IPV4_ADDRESS, EXPORTER_IPV6_ADDRESS, Key, Method, OBSERVATION_DOMAIN_ID,
+    Plan, PlanFault,
+};
 use ipfix_wire::ElementId;
 use std::alloc::{AllocError, Global};
 use std::test::*;
@@ -192,6 +195,49 @@ fn reads_prefixes(rt: HostRuntime) -> Result<(), Fail> {
         ("'sourceIPv6Address/0', 'e0.28/128'", "none"),
     ] {
         let fault = fault_with(rt.alloc(), "", key, "'octetDeltaCount'")?;
+        assert_eq!(rt; fault.as_str(), want);
+    }
+    Ok(())
+}
+
+// The elements of the keys of a plan.
+fn keys_of(alloc: Global, keys: &str) -> Result<Vec<ElementId>, Fail> {
+    let text = plan_with(alloc, "", keys, "'octetDeltaCount'")?;
+    let plan = read_plan(alloc, text.as_str())?;
+    let mut elements = Vec::new(alloc);
+    for key in plan.keys() {
+        elements.push(key.element)?;
+    }
+    Ok(elements)
+}
+
+#[test]
+fn keys_may_name_what_is_known_beside_a_record(rt: HostRuntime) -> Result<(), Fail> {
+    let names = "'exporter', 'exporterIPv4Address', 'observationDomainId'";
+    let keys = keys_of(rt.alloc(), names)?;
+    let want = [EXPORTER, EXPORTER_IPV4_ADDRESS, OBSERVATION_DOMAIN_ID];
+    assert_eq!(rt; keys.as_slice(), want.as_slice());
+    let keys = keys_of(rt.alloc(), "'exporterIPv6Address', 'e0.130'")?;
+    let want = [EXPORTER_IPV6_ADDRESS, EXPORTER_IPV4_ADDRESS];
+    assert_eq!(rt; keys.as_slice(), want.as_slice());
+    for (keys, counters, want) in [
+        ("'exporter/64'", "'e0.1'", "Plan: 0 Prefix"),
+        ("'Exporter'", "'e0.1'", "UnknownElement: 0 Exporter"),
+        ("'e0.32768'", "'e0.1'", "UnknownElement: 0 e0.32768"),
+        (
+            "'exporter', 'exporterIPv6Address'",
+            "'e0.1'",
+            "Plan: 0 Repeated",
+        ),
+        ("'exporter'", "'exporter'", "UnknownElement: 0 exporter"),
+        ("", "'e0.149'", "Plan: 0 CounterKind"),
+        (
+            "",
+            "'observationDomainId'",
+            "UnknownElement: 0 observationDomainId",
+        ),
+    ] {
+        let fault = fault_with(rt.alloc(), "", keys, counters)?;
         assert_eq!(rt; fault.as_str(), want);
     }
     Ok(())

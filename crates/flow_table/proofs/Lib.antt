@@ -6,6 +6,7 @@ pub mod UsedRecords
 pub mod PlanKeys
 pub mod WordSteps
 pub mod MadePlans
+pub mod ContextNames
 pub mod Bags
 pub mod Dues
 pub mod Faults

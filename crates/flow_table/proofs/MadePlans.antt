@@ -1,5 +1,5 @@
 -- What passes the tests is a plan, and files change none of built-in elements.
-use Rattle.std.proofs.Common.{◌≡◌, ℕ, Bool, true, false, eqb, nat_lt, nat_le, ◌||◌, ◌&&◌, not, List, [], ◌∷◌, length, map, find, Option, Some, None, is_none, refl, sym, ap, ap₂, subst, ◌∙◌, inl, inr}
+use Rattle.std.proofs.Common.{◌≡◌, ℕ, Bool, true, false, eqb, nat_lt, nat_le, ◌||◌, ◌&&◌, not, List, [], ◌∷◌, length, map, find, Option, Some, None, is_none, is_some, unwrap_or, cond, refl, sym, ap, ap₂, subst, ◌∙◌, inl, inr}
 use Rattle.std.specs.List.{list_all, list_any}
 use Rattle.std.specs.Option.{option_map_or}
 use Rattle.std.proofs.lemmas.Bool.{false≢true, cases_Bool, or_cases, and_parts, and_from, eqb-true}
@@ -8,18 +8,21 @@ use Rattle.std.proofs.lemmas.List.Folds.{list_all-map}
 use Rattle.ipfix_wire.specs.declared.specifier.ElementId.{ElementId}
 use Rattle.ipfix_elements.specs.Elements.{Entry, entry_of, elements, iana}
 use Rattle.ipfix_elements.specs.declared.kind.Kind.{Kind}
-use Rattle.ipfix_elements.specs.declared.kind.Kind.TheVariants.{Octets}
-use Rattle.element_registry.specs.Registries.{Known, is_of}
+use Rattle.ipfix_elements.specs.declared.kind.Kind.TheVariants.{Octets, Ipv4, Ipv6, Unsigned}
+use Rattle.ipfix_elements.specs.declared.kind.Width.TheVariants.{Four}
+use Rattle.element_registry.specs.Registries.{Known, is_of, element_kind}
 use Rattle.element_registry.specs.declared.kind.ElementKind.TheVariants.{Plain}
 use Rattle.flow_table.specs.declared.choices.Choices.{Choices}
 use Rattle.flow_table.specs.declared.choices.Totals.{Totals}
 use Rattle.flow_table.specs.declared.choices.Totals.TheVariants.{Refused, AsDeltas}
 use Rattle.flow_table.specs.declared.key.Key.{Key}
+use Rattle.flow_table.specs.declared.key.KeyElements.{KeyElements}
+use Rattle.flow_table.specs.declared.key.KeyElements.TheVariants.{OfRecords, WithContext}
 use Rattle.flow_table.specs.declared.key.Side.TheVariants.{Read, Exported}
 use Rattle.flow_table.specs.declared.method.Method.{Method}
 use Rattle.flow_table.specs.declared.plan_fault.PlanFault.{PlanFault}
 use Rattle.flow_table.specs.declared.plan_fault.PlanFault.TheVariants.{KeyCount, KeyKind, Prefix, CounterCount, CounterKind}
-use Rattle.flow_table.specs.Plans.{PlanValue, IsPlan, first_fault_of, chosen_fault, chosen_plan, plan_with, field_kind, key_kind, kinds_of, is_between, is_element, is_time, is_value, is_key, is_key_kind, is_built_in_counter, is_counter, is_delta_of, is_prefix_of, has_twice, elements_in, or_else, fault_unless, length_fault, spread_fault, repeat_fault, is_taken_total, may_count}
+use Rattle.flow_table.specs.Plans.{PlanValue, IsPlan, first_fault_of, chosen_fault, chosen_plan, basic, plan_with, field_kind, key_kind, kinds_of, context_kind, first_fault, fault_among, is_context, is_key_element, is_record_key, may_be_key, exporter, exporter_ipv4, exporter_ipv6, observation_domain, same_element, is_between, is_element, is_time, is_value, is_key, is_key_kind, is_built_in_counter, is_counter, is_delta_of, is_prefix_of, has_twice, elements_in, or_else, fault_unless, length_fault, spread_fault, repeat_fault, is_taken_total, may_count}
 
 -- ---- lists
 
@@ -47,6 +50,13 @@ all_mapped f g p same (x ∷ xs) all =
     let both = and_parts (p x) (list_all p xs) all in
     ap₂ (λ y ys. y ∷ ys) (same x both.0) (all_mapped f g p same xs both.1)
 
+or_left : (a b : Bool) → a ≡ true → (a || b) ≡ true
+or_left a b h = rw h refl
+
+or_right : (a b : Bool) → b ≡ true → (a || b) ≡ true
+or_right true b h = refl
+or_right false b h = h
+
 -- ---- built-in elements
 
 -- one of the numbers, of IANA's registry
@@ -61,17 +71,77 @@ has_entry : (o : Option Entry) → is_key_kind (field_kind (option_map_or (λ (r
 has_entry None key = absurd cc
 has_entry (Some r) key = (r, refl)
 
-built_in_kind : (known : List Known) (e : ElementId) (r : Entry) → entry_of e ≡ Some r → key_kind known e ≡ field_kind (Plain r.kind)
+record_kind : List Known → ElementId → Kind
+record_kind known e = field_kind (element_kind known e)
+
+built_in_kind : (known : List Known) (e : ElementId) (r : Entry) → entry_of e ≡ Some r → record_kind known e ≡ field_kind (Plain r.kind)
+unfolding record_kind
 built_in_kind known e r h =
     ap (λ (o : Option Entry). field_kind (option_map_or (λ (r : Entry). Plain r.kind) o (option_map_or (λ (k : Known). k.kind) (find (is_of e) known) (Plain Octets)))) h
 
-kept_kind : (known : List Known) (e : ElementId) → is_key [] e ≡ true → key_kind known e ≡ key_kind [] e
-kept_kind known e key =
-    let at = has_entry (entry_of e) (and_parts (is_element e) (is_key_kind (key_kind [] e)) key).1 in
+kept_record_kind : (known : List Known) (e : ElementId) → is_record_key [] e ≡ true → record_kind known e ≡ record_kind [] e
+unfolding record_kind
+kept_record_kind known e key =
+    let at = has_entry (entry_of e) (and_parts (is_element e) (is_key_kind (record_kind [] e)) key).1 in
     built_in_kind known e at.0 at.1 ∙ sym (built_in_kind [] e at.0 at.1)
 
+kept_record_key : (known : List Known) (e : ElementId) → is_record_key [] e ≡ true → is_record_key known e ≡ true
+unfolding record_kind
+kept_record_key known e key = ap (λ (kind : Kind). is_element e && is_key_kind kind) (kept_record_kind known e key) ∙ key
+
+-- ---- elements of context
+
+-- they have a kind of their own
+HasKind : ElementId → Type 0
+HasKind e = (kind : Kind) × (context_kind e ≡ Some kind)
+
+context_kinds : Each (λ n. HasKind (iana n)) (32768 ∷ 130 ∷ 131 ∷ 149 ∷ [])
+unfolding HasKind
+context_kinds = ((Ipv6, refl), ((Ipv4, refl), ((Ipv6, refl), ((Unsigned Four, refl), tt))))
+
+has_kind : (e : ElementId) → is_context e ≡ true → HasKind e
+has_kind e of = has_number HasKind (32768 ∷ 130 ∷ 131 ∷ 149 ∷ []) e context_kinds of
+
+kept_kind : (known : List Known) (e : ElementId) → is_key [] e ≡ true → key_kind known e ≡ key_kind [] e
+unfolding HasKind record_kind
+kept_kind known e key =
+    elim (or_cases (is_context e) (is_record_key [] e) key) as (λ _. key_kind known e ≡ key_kind [] e) [
+      | inl of ↦ let kind = has_kind e of in ap (λ o. unwrap_or o (record_kind known e)) kind.1 ∙ sym (ap (λ o. unwrap_or o (record_kind [] e)) kind.1)
+      | inr other ↦ ap (unwrap_or (context_kind e)) (kept_record_kind known e other)
+    ]
+
 kept_key : (known : List Known) (e : ElementId) → is_key [] e ≡ true → is_key known e ≡ true
-kept_key known e key = ap (λ (kind : Kind). is_element e && is_key_kind kind) (kept_kind known e key) ∙ key
+kept_key known e key =
+    elim (or_cases (is_context e) (is_record_key [] e) key) as (λ _. is_key known e ≡ true) [
+      | inl of ↦ or_left (is_context e) (is_record_key known e) of
+      | inr other ↦ or_right (is_context e) (is_record_key known e) (kept_record_key known e other)
+    ]
+
+-- each kind of context can be compared
+comparable : (a b c d : Bool) (kind : Kind) → is_key_kind kind ≡ true
+    → is_key_kind (unwrap_or (cond a (Some Ipv6) (cond b (Some Ipv4) (cond c (Some Ipv6) (cond d (Some (Unsigned Four)) None)))) kind) ≡ true
+comparable true b c d kind ok = refl
+comparable false true c d kind ok = refl
+comparable false false true d kind ok = refl
+comparable false false false true kind ok = refl
+comparable false false false false kind ok = ok
+
+Comparable : List Known → ElementId → Type 0
+Comparable known e = is_key_kind (key_kind known e) ≡ true
+
+contexts_comparable : (known : List Known) → Each (λ n. Comparable known (iana n)) (32768 ∷ 130 ∷ 131 ∷ 149 ∷ [])
+unfolding Comparable
+contexts_comparable known = (refl, (refl, (refl, (refl, tt))))
+
+key_comparable : (known : List Known) (e : ElementId) → is_key known e ≡ true → is_key_kind (key_kind known e) ≡ true
+unfolding Comparable record_kind
+key_comparable known e key =
+    elim (or_cases (is_context e) (is_record_key known e) key) as (λ _. is_key_kind (key_kind known e) ≡ true) [
+      | inl of ↦ has_number (Comparable known) (32768 ∷ 130 ∷ 131 ∷ 149 ∷ []) e (contexts_comparable known) of
+      | inr other ↦
+          comparable (same_element e exporter) (same_element e exporter_ipv4) (same_element e exporter_ipv6) (same_element e observation_domain) (record_kind known e)
+          (and_parts (is_element e) (is_key_kind (record_kind known e)) other).1
+    ]
 
 kept_counter : (known : List Known) (e : ElementId) → is_counter [] e ≡ true → is_counter known e ≡ true
 kept_counter known e counter = by (is_built_in_counter e) (is_element e) (is_none (entry_of e)) counter
@@ -86,7 +156,7 @@ kept_counter known e counter = by (is_built_in_counter e) (is_element e) (is_non
 
 -- no time has a key's kind, whatever files say
 NoKey : List Known → ElementId → Type 0
-NoKey known e = is_key_kind (key_kind known e) ≡ false
+NoKey known e = is_key_kind (field_kind (element_kind known e)) ≡ false
 
 times_no_keys : (known : List Known) → Each (λ n. NoKey known (iana n)) (150 ∷ 151 ∷ 152 ∷ 153 ∷ [])
 unfolding elements NoKey
@@ -108,11 +178,26 @@ no_time e inside other = elim (cases_Bool (is_time e)) [
   | inr none ↦ and_from (is_element e) (not (is_time e)) inside (ap not none)
 ]
 
-pub key_is_value : (known : List Known) (e : ElementId) → is_key known e ≡ true → is_value e ≡ true
+record_key_is_value : (known : List Known) (e : ElementId) → is_record_key known e ≡ true → is_value e ≡ true
 unfolding NoKey
-key_is_value known e key =
-    let both = and_parts (is_element e) (is_key_kind (key_kind known e)) key in
-    no_time e both.0 (λ time. not_both (is_key_kind (key_kind known e)) (has_number (NoKey known) (150 ∷ 151 ∷ 152 ∷ 153 ∷ []) e (times_no_keys known) time) both.1)
+record_key_is_value known e key =
+    let both = and_parts (is_element e) (is_key_kind (field_kind (element_kind known e))) key in
+    no_time e both.0 (λ time. not_both (is_key_kind (field_kind (element_kind known e))) (has_number (NoKey known) (150 ∷ 151 ∷ 152 ∷ 153 ∷ []) e (times_no_keys known) time) both.1)
+
+IsKeyElement : ElementId → Type 0
+IsKeyElement e = is_key_element e ≡ true
+
+contexts_key_elements : Each (λ n. IsKeyElement (iana n)) (32768 ∷ 130 ∷ 131 ∷ 149 ∷ [])
+unfolding IsKeyElement
+contexts_key_elements = (refl, (refl, (refl, (refl, tt))))
+
+pub key_is_key_element : (known : List Known) (e : ElementId) → is_key known e ≡ true → is_key_element e ≡ true
+unfolding IsKeyElement
+key_is_key_element known e key =
+    elim (or_cases (is_context e) (is_record_key known e) key) as (λ _. is_key_element e ≡ true) [
+      | inl of ↦ has_number IsKeyElement (32768 ∷ 130 ∷ 131 ∷ 149 ∷ []) e contexts_key_elements of
+      | inr other ↦ or_right (same_element e exporter) (is_value e) (record_key_is_value known e other)
+    ]
 
 IsValue : ElementId → Type 0
 IsValue e = is_value e ≡ true
@@ -142,7 +227,7 @@ unfolding IsValue
 taken_total_is_value Refused e taken = absurd (false≢true taken)
 taken_total_is_value AsDeltas e taken = has_number IsValue (85 ∷ 86 ∷ []) e taken_totals_are_values taken
 
-may_count_is_value : (known : List Known) (totals : Totals) (e : ElementId) → may_count known totals e ≡ true → is_value e ≡ true
+pub may_count_is_value : (known : List Known) (totals : Totals) (e : ElementId) → may_count known totals e ≡ true → is_value e ≡ true
 may_count_is_value known totals e counts =
     elim (or_cases (is_counter known e) (is_taken_total totals e) counts) as (λ _. is_value e ≡ true)
     [ inl counter ↦ counter_is_value known e counter | inr taken ↦ taken_total_is_value totals e taken ]
@@ -178,21 +263,21 @@ passed_test true fault h = refl
 passed_test false fault h = absurd cc
 
 -- the tests that arguments pass
-record PassedTests (known : List Known) (choices : Choices) (len : ℕ) (keys : List Key) (counters : List ElementId) (max_spread : ℕ) : Type 0 where
+record PassedTests (which : KeyElements) (known : List Known) (choices : Choices) (len : ℕ) (keys : List Key) (counters : List ElementId) (max_spread : ℕ) : Type 0 where
   positive : nat_lt 0 len ≡ true
   spread : is_between 1 4096 max_spread ≡ true
   few : nat_le (length keys) 8 ≡ true
-  kinds : list_all (λ k. is_key known k.element) keys ≡ true
+  kinds : list_all (λ k. may_be_key which known k.element) keys ≡ true
   prefixes : list_all (λ k. is_prefix_of k.element k.prefix) keys ≡ true
   some : is_between 1 4 (length counters) ≡ true
   counted : list_all (may_count known choices.totals) counters ≡ true
   apart : not (has_twice (elements_in Read keys counters) || has_twice (elements_in Exported keys counters)) ≡ true
 
-passed_tests : (known : List Known) (choices : Choices) (len : ℕ) (keys : List Key) (counters : List ElementId) (max_spread : ℕ)
-    → chosen_fault known choices len keys counters max_spread ≡ None → PassedTests known choices len keys counters max_spread
-passed_tests known choices len keys counters max_spread h =
+passed_tests : (which : KeyElements) (known : List Known) (choices : Choices) (len : ℕ) (keys : List Key) (counters : List ElementId) (max_spread : ℕ)
+    → fault_among which known choices len keys counters max_spread ≡ None → PassedTests which known choices len keys counters max_spread
+passed_tests which known choices len keys counters max_spread h =
     let few = fault_unless (nat_le (length keys) 8) KeyCount in
-    let kind = fault_unless (list_all (λ k. is_key known k.element) keys) KeyKind in
+    let kind = fault_unless (list_all (λ k. may_be_key which known k.element) keys) KeyKind in
     let prefix = fault_unless (list_all (λ k. is_prefix_of k.element k.prefix) keys) Prefix in
     let some = fault_unless (is_between 1 4 (length counters)) CounterCount in
     let count = fault_unless (list_all (may_count known choices.totals) counters) CounterKind in
@@ -218,7 +303,7 @@ passed_tests known choices len keys counters max_spread h =
     }
 
 pub counters_counted : (known : List Known) (plan : PlanValue) → first_fault_of known plan ≡ None → list_all (may_count known plan.choices.totals) plan.counters ≡ true
-counters_counted known plan none = (passed_tests known plan.choices plan.length plan.keys plan.counters plan.max_spread none).counted
+counters_counted known plan none = (passed_tests WithContext known plan.choices plan.length plan.keys plan.counters plan.max_spread none).counted
 
 -- ---- plans
 
@@ -226,27 +311,36 @@ pub is_plan : (known : List Known) (choices : Choices) (len : ℕ) (method : Met
     → chosen_fault known choices len keys counters max_spread ≡ None → IsPlan (chosen_plan known choices len method keys counters max_spread)
 is_plan known choices len method keys counters max_spread h =
     let may_be : Key → Bool = λ k. is_key known k.element in
-    let tests = passed_tests known choices len keys counters max_spread h in
+    let tests = passed_tests WithContext known choices len keys counters max_spread h in
     record {
       positive = tests.positive;
       spread = tests.spread;
       few = tests.few;
       beside = length-map keys (λ (k : Key). key_kind known k.element);
       kinds = list_all-map is_key_kind (λ (k : Key). key_kind known k.element) keys
-          ∙ all_weaker may_be (λ k. is_key_kind (key_kind known k.element)) (λ k key. (and_parts (is_element k.element) (is_key_kind (key_kind known k.element)) key).1) keys tests.kinds;
-      values = all_weaker may_be (λ k. is_value k.element) (λ k. key_is_value known k.element) keys tests.kinds;
+          ∙ all_weaker may_be (λ k. is_key_kind (key_kind known k.element)) (λ k. key_comparable known k.element) keys tests.kinds;
+      values = all_weaker may_be (λ k. is_key_element k.element) (λ k. key_is_key_element known k.element) keys tests.kinds;
       prefixes = tests.prefixes;
       some = tests.some;
       counters = all_weaker (may_count known choices.totals) is_value (may_count_is_value known choices.totals) counters tests.counted;
       apart = tests.apart;
     }
 
+-- ---- what no fault fits where keys are read from the fields of records alone, none fits with context either
+
+pub records_fault : (known : List Known) (len : ℕ) (keys : List Key) (counters : List ElementId) (max_spread : ℕ)
+    → first_fault known len keys counters max_spread ≡ None → chosen_fault known basic len keys counters max_spread ≡ None
+records_fault known len keys counters max_spread h =
+    let tests = passed_tests OfRecords known basic len keys counters max_spread h in
+    let of_keys = all_weaker (λ (k : Key). is_record_key known k.element) (λ k. is_key known k.element) (λ k. or_right (is_context k.element) (is_record_key known k.element)) keys tests.kinds in
+    ap₂ (fault_by len keys counters max_spread) (of_keys ∙ sym tests.kinds) refl ∙ h
+
 -- ---- files change none of built-in elements
 
 pub kept_fault : (known : List Known) (choices : Choices) (len : ℕ) (keys : List Key) (counters : List ElementId) (max_spread : ℕ)
     → chosen_fault [] choices len keys counters max_spread ≡ None → chosen_fault known choices len keys counters max_spread ≡ None
 kept_fault known choices len keys counters max_spread h =
-    let tests = passed_tests [] choices len keys counters max_spread h in
+    let tests = passed_tests WithContext [] choices len keys counters max_spread h in
     let of_keys = all_weaker (λ (k : Key). is_key [] k.element) (λ k. is_key known k.element) (λ k. kept_key known k.element) keys tests.kinds in
     let of_counters = all_weaker (may_count [] choices.totals) (may_count known choices.totals) (kept_count known choices.totals) counters tests.counted in
     ap₂ (fault_by len keys counters max_spread) (of_keys ∙ sym tests.kinds) (of_counters ∙ sym tests.counted) ∙ h
@@ -254,7 +348,7 @@ kept_fault known choices len keys counters max_spread h =
 pub kept_kinds : (known : List Known) (choices : Choices) (len : ℕ) (keys : List Key) (counters : List ElementId) (max_spread : ℕ)
     → chosen_fault [] choices len keys counters max_spread ≡ None → kinds_of known keys ≡ kinds_of [] keys
 kept_kinds known choices len keys counters max_spread h =
-    let tests = passed_tests [] choices len keys counters max_spread h in
+    let tests = passed_tests WithContext [] choices len keys counters max_spread h in
     all_mapped (λ (k : Key). key_kind known k.element) (λ (k : Key). key_kind [] k.element) (λ k. is_key [] k.element) (λ k. kept_kind known k.element) keys tests.kinds
 
 pub kept_plan : (known : List Known) (choices : Choices) (len : ℕ) (method : Method) (keys : List Key) (counters : List ElementId) (max_spread : ℕ)

@@ -1,12 +1,13 @@
 -- What holds of the keys and counters of a plan.
-use Rattle.std.proofs.Common.{◌≡◌, Bool, true, false, ◌||◌, not, List, [], ◌∷◌, ◌++◌, map, All, refl}
+use Rattle.std.proofs.Common.{◌≡◌, ◌^◌, ◌<◌, Bool, true, false, eqb, nat_lt, ◌||◌, not, List, [], ◌∷◌, ◌++◌, map, All, refl, arith, inl, inr}
 use Rattle.std.specs.List.{list_all, AllPass}
 use Rattle.flow_table.specs.declared.key.Side.TheVariants.{Read, Exported}
 use Rattle.std.proofs.lemmas.List.Sums.{AllPass-from_list_all}
-use Rattle.std.proofs.lemmas.Bool.{and_parts}
+use Rattle.std.proofs.lemmas.Bool.{and_parts, cases_Bool, eqb-true, ltb-true}
 use Rattle.std.proofs.lemmas.List.Elements.{All-nil, All-cons}
+use Rattle.ipfix_wire.specs.declared.specifier.ElementId.{ElementId}
 use Rattle.flow_table.specs.declared.key.Key.{Key}
-use Rattle.flow_table.specs.Plans.{PlanValue, IsPlan, HasPrefix, is_prefix_of, is_key_kind, is_value, has_twice, elements_in, exported_element}
+use Rattle.flow_table.specs.Plans.{PlanValue, IsPlan, HasPrefix, is_prefix_of, exporter, is_element, is_key_kind, is_time, is_value, has_twice, elements_in, exported_element, same_element}
 
 have_prefixes : (ks : List Key) → list_all (λ k. is_prefix_of k.element k.prefix) ks ≡ true → All HasPrefix ks
 have_prefixes [] h = All-nil HasPrefix
@@ -31,3 +32,14 @@ exported_apart p h = (or_both (has_twice (elements_in Read p.keys p.counters)) (
     or_both true b e = absurd cc
     or_both false true e = absurd cc
     or_both false false e = (refl, refl)
+
+-- what is no flow's time and has 15 bits can stand in a template, where an exporter's own element can't
+pub value_is_sent : (e : ElementId) → is_value e ≡ true → same_element e exporter ≡ false
+value_is_sent e value = elim (cases_Bool (same_element e exporter)) [
+  | inl same ↦
+      let number : e.number ≡ 32768 = eqb-true e.number 32768 (and_parts (eqb e.pen 0) (eqb e.number 32768) same).1 in
+      let inside = and_parts (nat_lt e.pen (2 ^ 32)) (nat_lt e.number (2 ^ 15)) (and_parts (is_element e) (not (is_time e)) value).0 in
+      let small : e.number < 2 ^ 15 = ltb-true e.number (2 ^ 15) inside.1 in
+      absurd (omega arith)
+  | inr other ↦ other
+]

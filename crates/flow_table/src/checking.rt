@@ -6,18 +6,19 @@ ghost use Rattle.flow_table.specs.Plans as plans;
 ghost use Rattle.flow_table.specs.Plans.{same_element, element_in, elements_in};
 
 use crate::choices::{Choices, Totals};
-use crate::key::{Key, Side};
+use crate::key::{Key, KeyElements, Side};
 use crate::plan::{MAX_COUNTERS, MAX_KEYS, MAX_SPREAD};
 use crate::plan_fault::PlanFault;
-use crate::roles::{is_key, is_prefix_of, may_count};
+use crate::roles::{is_prefix_of, may_be_key, may_count};
 use element_registry::Elements;
 use ipfix_wire::ElementId;
 
 // Whether the elements of all keys may be keys.
-fn are_keys(elements: &Elements, keys: &[Key]) -> bool
-    ensures { result ≡ list_all (λ k. plans.is_key elements.now k.element) keys.now }
+fn are_keys(which: KeyElements, elements: &Elements, keys: &[Key]) -> bool
+    ensures { result ≡ list_all (λ k. plans.may_be_key which elements.now k.element) keys.now }
 {
-    keys.iter().all(|key| is_key(elements, key.element))
+    keys.iter()
+        .all(|key| may_be_key(which, elements, key.element))
 }
 
 // Whether the elements of all keys may have their prefixes.
@@ -75,13 +76,13 @@ fn is_repeated(mut keys: &[Key], counters: &[ElementId], side: Side) -> bool
     has_twice(counters)
 }
 
-fn key_fault(elements: &Elements, keys: &[Key]) -> Option<PlanFault>
-    ensures { result ≡ plans.key_fault elements.now keys.now }
+fn key_fault(which: KeyElements, elements: &Elements, keys: &[Key]) -> Option<PlanFault>
+    ensures { result ≡ plans.key_fault which elements.now keys.now }
 {
     if keys.len() > MAX_KEYS {
         return Some(PlanFault::KeyCount);
     }
-    if !are_keys(elements, keys) {
+    if !are_keys(which, elements, keys) {
         return Some(PlanFault::KeyKind);
     }
     if !have_prefixes(keys) {
@@ -102,8 +103,9 @@ fn counter_fault(elements: &Elements, totals: Totals, counters: &[ElementId]) ->
     None
 }
 
-/// The first fault that fits the arguments of a plan.
+/// The first fault that fits the arguments of a plan, where these elements may be keys.
 pub fn first_fault(
+    which: KeyElements,
     elements: &Elements,
     length: u32,
     keys: &[Key],
@@ -112,7 +114,7 @@ pub fn first_fault(
     choices: Choices,
 ) -> Option<PlanFault>
     ensures { result
-        ≡ plans.chosen_fault elements.now choices length keys.now counters.now max_spread }
+        ≡ plans.fault_among which elements.now choices length keys.now counters.now max_spread }
 {
     if length == 0 {
         return Some(PlanFault::Length);
@@ -120,7 +122,7 @@ pub fn first_fault(
     if max_spread == 0 || max_spread > MAX_SPREAD {
         return Some(PlanFault::Spread);
     }
-    if let Some(fault) = key_fault(elements, keys) {
+    if let Some(fault) = key_fault(which, elements, keys) {
         return Some(fault);
     }
     if let Some(fault) = counter_fault(elements, choices.totals, counters) {

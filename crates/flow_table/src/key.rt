@@ -3,6 +3,7 @@
 ghost use Rattle.std.specs.Prelude.{◌≡◌};
 ghost use Rattle.flow_table.specs.Plans.{element_in, exported_element, prefix_number as number_of_prefix};
 
+use crate::context::{EXPORTER, EXPORTER_IPV6_ADDRESS};
 use ipfix_elements::iana;
 use ipfix_wire::ElementId;
 
@@ -28,6 +29,15 @@ pub struct Key {
     pub prefix: Option<u8>,
 }
 
+/// Which elements may be keys of a plan.
+#[derive(Clone, Copy, Debug, PartialEq, Eq)]
+pub(crate) enum KeyElements {
+    /// Those of the fields that a record's exporter sent.
+    OfRecords,
+    /// Elements of context, too.
+    WithContext,
+}
+
 /// Where an element stands: in the records that are read, or in those that are exported.
 #[derive(Clone, Copy, Debug, PartialEq, Eq)]
 pub(crate) enum Side {
@@ -37,11 +47,13 @@ pub(crate) enum Side {
 
 impl Key {
     /// The element that the key is exported as: for a prefix of an address sourceIPv4Prefix,
-    /// destinationIPv4Prefix, sourceIPv6Prefix or destinationIPv6Prefix.
+    /// destinationIPv4Prefix, sourceIPv6Prefix or destinationIPv6Prefix, and for [`EXPORTER`], which no template can
+    /// name, exporterIPv6Address.
     pub fn exported_element(&self) -> ElementId
         ensures { result ≡ exported_element self.now }
     {
         match self.prefix {
+            None if self.element == EXPORTER => EXPORTER_IPV6_ADDRESS,
             None => self.element,
             Some(_) => ElementId::iana(prefix_number(self.element.number)),
         }

@@ -14,7 +14,9 @@ ghost use Rattle.ipfix_elements.specs.declared.kind.Kind.TheVariants.{Unsigned};
 ghost use Rattle.ipfix_elements.specs.declared.kind.Width.TheVariants.{Eight};
 ghost use Rattle.element_registry.specs.Registries.{Known, IsRegistry, element_kind};
 ghost use Rattle.element_registry.specs.declared.kind.ElementKind.TheVariants.{Plain};
-ghost use Rattle.flow_table.specs.Plans.{PlanValue, IsPlan, first_fault_of, is_taken_total, kinds_of};
+ghost use Rattle.ipfix_wire.specs.declared.specifier.ElementId.{ElementId};
+ghost use Rattle.flow_table.specs.declared.key.Key.{Key};
+ghost use Rattle.flow_table.specs.Plans.{PlanValue, IsPlan, basic, chosen_fault, context_name, context_named, first_fault, first_fault_of, is_taken_total, kinds_of};
 ghost use Rattle.flow_table.specs.Reading.{start_of, end_of};
 ghost use Rattle.flow_table.specs.declared.choices.Times.TheVariants as times;
 ghost use Rattle.flow_table.specs.SameTables.{IsSameTable};
@@ -36,6 +38,19 @@ pub fn built_in_plans_stay()
         → first_fault_of [] plan ≡ None → first_fault_of known plan ≡ None }
     ensures same { (known : List Known) (plan : PlanValue)
         → first_fault_of [] plan ≡ None → kinds_of known plan.keys ≡ kinds_of [] plan.keys }
+{}
+
+/// What is a plan whose keys are read from the fields of records alone is one with elements of context, too.
+pub fn plans_of_records_stay()
+    ensures { (known : List Known) (length max_spread : ℕ) (keys : List Key)
+        (counters : List ElementId) → first_fault known length keys counters max_spread ≡ None
+        → chosen_fault known basic length keys counters max_spread ≡ None }
+{}
+
+/// A name of context is that of the element which it names, and of no other.
+pub fn context_names_are_read()
+    ensures { (e : ElementId) (name : List ℕ)
+        → (context_name e ≡ Some name) ↔ (context_named name ≡ Some e) }
 {}
 
 /// A flow that has a start, or an end, in milliseconds or seconds has the same where times of every kind

@@ -6,6 +6,7 @@ mod adding;
 mod checking;
 mod choices;
 mod class;
+mod context;
 mod finishing;
 mod flat_table;
 mod flow;
@@ -36,6 +37,10 @@ mod words;
 
 pub use choices::{Choices, Times, Totals};
 pub use class::Class;
+pub use context::{
+    Context, EXPORTER, EXPORTER_IPV4_ADDRESS, EXPORTER_IPV6_ADDRESS, OBSERVATION_DOMAIN_ID,
+    context_kind, context_name, context_named,
+};
 pub use flat_table::FlatTable;
 pub use key::Key;
 pub use method::Method;

@@ -2,7 +2,10 @@
 
 use crate::checking::first_fault;
 use crate::choices::Choices;
-use crate::key::Key;
+use crate::context::{
+    Context, EXPORTER, EXPORTER_IPV4_ADDRESS, EXPORTER_IPV6_ADDRESS, OBSERVATION_DOMAIN_ID,
+};
+use crate::key::{Key, KeyElements};
 use crate::method::Method;
 use crate::plan_fault::PlanFault;
 use crate::roles::kinds_of;
@@ -51,11 +54,12 @@ impl Model for Plan {
 impl Plan {
     ghost use Rattle.std.specs.Prelude.{◌≡◌, ◌≢◌, ◌≤◌, ◌<◌, [], Some, None, length, All, IfOk, IfErr, OnOk, IsErrOf};
     ghost use Rattle.std.specs.List.{AllPass};
-    ghost use Rattle.flow_table.specs.Plans.{IsPlan, HasPrefix, is_value, is_key_kind, chosen_fault, chosen_plan, plan_value, first_fault};
+    ghost use Rattle.flow_table.specs.Plans.{IsPlan, HasPrefix, is_value, is_key_kind, chosen_fault, chosen_plan, context_of, has_key, plan_value, first_fault};
 
     /// The plan of the arguments, or the first fault that fits them, in this order: `Length`,
     /// `Spread`, `KeyCount`, `KeyKind`, `Prefix`, `CounterCount`, `CounterKind`, `Repeated`.
-    /// `OutOfMemory` comes only if none fits.
+    /// Its keys are built in; one of context is fault `KeyKind`. `OutOfMemory` comes only if none fits.
+    #[tactic(auto, using(crate::proofs::MadePlans::records_fault))]
     pub fn new(
         alloc: Global,
         length: u32,
@@ -76,21 +80,26 @@ impl Plan {
             → first_fault [] length keys.now counters.now max_spread ≡ None }
     {
         let elements = Elements::built_in(alloc);
-        Plan::with_elements(
-            alloc,
+        let choices = Choices::BASIC;
+        if let Some(fault) = first_fault(
+            KeyElements::OfRecords,
             &elements,
             length,
-            method,
             keys,
             counters,
             max_spread,
-            Choices::BASIC,
-        )
+            choices,
+        ) {
+            return Err(fault);
+        }
+        Ok(Plan::made(
+            alloc, &elements, length, method, keys, counters, max_spread, choices,
+        )?)
     }
 
     /// The plan of the arguments, whose elements may be built in or known from files, or the first
     /// fault that fits them, in the order of [`Plan::new`]. A truth value may be a key: it is read
-    /// as a number of one octet. A counter of a file is an unsigned number and a delta counter; a total may
+    /// as a number of one octet. So may an element of context, whatever files say of it. A counter of a file is an unsigned number and a delta counter; a total may
     /// be one by choice.
     /// `OutOfMemory` comes only if no fault fits.
     pub fn with_elements(
@@ -112,9 +121,37 @@ impl Plan {
         ensures memory { IsErrOf result PlanFault.OutOfMemory
             → chosen_fault elements.now choices length keys.now counters.now max_spread ≡ None }
     {
-        if let Some(fault) = first_fault(elements, length, keys, counters, max_spread, choices) {
+        if let Some(fault) = first_fault(
+            KeyElements::WithContext,
+            elements,
+            length,
+            keys,
+            counters,
+            max_spread,
+            choices,
+        ) {
             return Err(fault);
         }
+        Ok(Plan::made(
+            alloc, elements, length, method, keys, counters, max_spread, choices,
+        )?)
+    }
+
+    // The plan of arguments that no fault fits.
+    fn made(
+        alloc: Global,
+        elements: &Elements,
+        length: u32,
+        method: Method,
+        keys: &[Key],
+        counters: &[ElementId],
+        max_spread: u32,
+        choices: Choices,
+    ) -> Result<Plan, AllocError>
+        requires { chosen_fault elements.now choices length keys.now counters.now max_spread ≡ None }
+        ensures { IfOk result (λ plan. plan
+            ≡ chosen_plan elements.now choices length method keys.now counters.now max_spread) }
+    {
         let keys = keys.to_vec(alloc)?;
         let kinds = kinds_of(alloc, elements, &keys)?;
         let counters = counters.to_vec(alloc)?;
@@ -193,6 +230,25 @@ impl Plan {
         ensures few { result ≤ MAX_SPREAD }
     {
         self.max_spread
+    }
+
+    /// Which elements of context the keys name.
+    pub fn context(&self) -> Context
+        ensures { result ≡ context_of self.now }
+    {
+        Context {
+            exporter: self.has_key(EXPORTER),
+            exporter_ipv4_address: self.has_key(EXPORTER_IPV4_ADDRESS),
+            exporter_ipv6_address: self.has_key(EXPORTER_IPV6_ADDRESS),
+            observation_domain_id: self.has_key(OBSERVATION_DOMAIN_ID),
+        }
+    }
+
+    // Whether a key is read from an element.
+    fn has_key(&self, element: ElementId) -> bool
+        ensures { result ≡ has_key element self.now }
+    {
+        self.keys.iter().any(|key| key.element == element)
     }
 
     /// What the plan chooses.

@@ -2,10 +2,15 @@
 
 ghost use Rattle.std.specs.Prelude.{◌≡◌, IfOk};
 ghost use Rattle.std.specs.List.{list_any};
+ghost use Rattle.element_registry.specs.Registries.{element_kind};
 ghost use Rattle.flow_table.specs.Plans as plans;
 
 use crate::choices::Totals;
-use crate::key::{DESTINATION_IPV6_ADDRESS, Key, SOURCE_IPV6_ADDRESS};
+use crate::context::{
+    EXPORTER_IPV4_NUMBER, EXPORTER_IPV6_NUMBER, EXPORTER_NUMBER, OBSERVATION_DOMAIN_NUMBER,
+    context_kind,
+};
+use crate::key::{DESTINATION_IPV6_ADDRESS, Key, KeyElements, SOURCE_IPV6_ADDRESS};
 use element_registry::{ElementKind, Elements};
 use ipfix_elements::{Kind, Width, iana, name_of};
 use ipfix_wire::ElementId;
@@ -20,6 +25,14 @@ const IPV4_ADDRESSES: [u16; 2] = [iana::SOURCE_IPV4_ADDRESS, iana::DESTINATION_I
 
 /// The addresses of IPv6 that may have a prefix.
 const IPV6_ADDRESSES: [u16; 2] = [SOURCE_IPV6_ADDRESS, DESTINATION_IPV6_ADDRESS];
+
+/// The elements of context.
+const CONTEXT: [u16; 4] = [
+    EXPORTER_NUMBER,
+    EXPORTER_IPV4_NUMBER,
+    EXPORTER_IPV6_NUMBER,
+    OBSERVATION_DOMAIN_NUMBER,
+];
 
 /// The delta counters of octets, packets and flows.
 const COUNTERS: [u16; 7] = [
@@ -68,11 +81,21 @@ fn field_kind(kind: ElementKind) -> Kind
     }
 }
 
+// The kind that the fields of an element are read by as those of a key, by what is built in or files say.
+fn record_kind(elements: &Elements, element: ElementId) -> Kind
+    ensures { result ≡ plans.field_kind (element_kind elements.now element) }
+{
+    field_kind(elements.kind_of(element))
+}
+
 /// The kind that an element's fields are read by as those of a key.
 pub fn key_kind(elements: &Elements, element: ElementId) -> Kind
     ensures { result ≡ plans.key_kind elements.now element }
 {
-    field_kind(elements.kind_of(element))
+    match context_kind(element) {
+        Some(kind) => kind,
+        None => record_kind(elements, element),
+    }
 }
 
 /// The kinds of keys, in their order.
@@ -84,12 +107,36 @@ pub fn kinds_of(alloc: Global, elements: &Elements, keys: &[Key]) -> Result<Vec<
         .collect(alloc)
 }
 
-/// Whether an element may be a key of a plan: a number, a truth value or an address, built in or named
-/// by a file, and with a number up to 32767 (RFC 7011, section 3.2).
+// Whether an element may be a key by the fields of records alone.
+fn is_record_key(elements: &Elements, element: ElementId) -> bool
+    ensures { result ≡ plans.is_record_key elements.now element }
+{
+    is_element(element) && is_key_kind(record_kind(elements, element))
+}
+
+// Whether an element is one of context.
+fn is_context(element: ElementId) -> bool
+    ensures { result ≡ plans.is_context element }
+{
+    element.pen == 0 && CONTEXT.contains(&element.number)
+}
+
+/// Whether an element may be a key of a plan: an element of context, or a number, a truth value or an address,
+/// built in or named by a file, and with a number up to 32767 (RFC 7011, section 3.2).
 pub fn is_key(elements: &Elements, element: ElementId) -> bool
     ensures { result ≡ plans.is_key elements.now element }
 {
-    is_element(element) && is_key_kind(key_kind(elements, element))
+    is_context(element) || is_record_key(elements, element)
+}
+
+/// Whether an element may be a key of a plan, where these elements may.
+pub(crate) fn may_be_key(which: KeyElements, elements: &Elements, element: ElementId) -> bool
+    ensures { result ≡ plans.may_be_key which elements.now element }
+{
+    match which {
+        KeyElements::OfRecords => is_record_key(elements, element),
+        KeyElements::WithContext => is_key(elements, element),
+    }
 }
 
 /// Whether a key of the element may have the prefix: the addresses of a flow's ends may, of up to 32 bits

@@ -1,4 +1,5 @@
 mod calling;
+mod context;
 mod memory;
 mod named;
 mod plans;

@@ -9,3 +9,4 @@ pub mod Counted
 pub mod RowFlows
 pub mod Tables
 pub mod ReadAll
+pub mod WholeKeys

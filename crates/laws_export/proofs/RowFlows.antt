@@ -1,5 +1,5 @@
 -- The record of a row is used as the row's one flow.
-use Rattle.std.proofs.Common.{◌≡◌, ℕ, ◌^◌, ◌<◌, ◌≤◌, Bool, ◌&&◌, true, false, eqb, List, [], ◌∷◌, ◌++◌, length, map, All, None, refl, sym, ap, subst, ◌∙◌, append_assoc, arith, inl, inr}
+use Rattle.std.proofs.Common.{◌≡◌, ℕ, ◌^◌, ◌<◌, ◌≤◌, Bool, ◌&&◌, true, false, eqb, List, [], ◌∷◌, ◌++◌, length, map, All, refl, sym, ap, subst, ◌∙◌, append_assoc, arith, inl, inr}
 use Rattle.std.specs.Prelude.{zip}
 use Rattle.std.specs.List.{list_all, list_any, AllZip}
 use Rattle.std.proofs.lemmas.Bool.{cases_Bool, and_parts, ltb-true, eqb-true, eq-eqb}
@@ -13,7 +13,7 @@ use Rattle.ipfix_elements.specs.declared.kind.Kind.{Kind}
 use Rattle.ipfix_message.specs.Fields.{Field}
 use Rattle.ipfix_wire.proofs.Choices.{or_false}
 use Rattle.flow_table.specs.declared.key.Key.{Key}
-use Rattle.flow_table.specs.Plans.{PlanValue, IsPlan, is_value, exported_element, has_twice, keys_and_kinds}
+use Rattle.flow_table.specs.Plans.{PlanValue, IsPlan, is_key_element, is_value, exported_element, has_twice, keys_and_kinds}
 use Rattle.flow_table.specs.Fitting.{IsCellOf}
 use Rattle.flow_table.specs.SameTables.{RowValue}
 use Rattle.flow_table.proofs.PlanKeys.{exported_apart}
@@ -21,10 +21,10 @@ use Rattle.flow_table.proofs.UsedRecords.{is_used}
 use Rattle.flow_export.specs.CsvText.{first_of, last_of}
 use Rattle.flow_export.specs.IpfixText.{field, key_field, number_field, row_fields}
 use Rattle.flow_export.specs.Fitting.{FitsValue}
-use Rattle.laws_export.specs.ReadBack.{IsWhole, CanBeCounted, CountsAgain, row_record, by_start}
+use Rattle.laws_export.specs.ReadBack.{CanBeCounted, CountsAgain, row_record, by_start}
 use Rattle.laws_export.proofs.FieldsFound.{Lacks, IsFound, all_found, All-left, All-right}
 use Rattle.laws_export.proofs.ValuesRead.{start_again, end_again, cells_read, counters_read}
-use Rattle.flow_export.proofs.PlanFacts.{value_is_no_time}
+use Rattle.flow_export.proofs.PlanFacts.{exported_value, value_is_no_time}
 use Rattle.laws_export.proofs.Counted.{IsFlowOf, counted}
 
 -- ---- the elements of a row's fields
@@ -47,17 +47,15 @@ lacks_times a b e value = elim (cases_Bool (eqb 0 e.pen)) as (λ _. Lacks (field
   | inr other ↦ rw other refl
 ]
 
-keys_lack : (a b : List ℕ) (ks : List Key) (kinds : List Kind) (cs : List Cell) → All IsWhole ks → list_all (λ k. is_value k.element) ks ≡ true
+keys_lack : (a b : List ℕ) (ks : List Key) (kinds : List Kind) (cs : List Cell) → list_all (λ k. is_key_element k.element) ks ≡ true
     → All (λ g. Lacks (field (iana 152) a ∷ field (iana 153) b ∷ []) g.element) (map key_field (zip (zip ks kinds) cs))
-keys_lack a b [] kinds cs whole keys = All-nil (λ g. Lacks (field (iana 152) a ∷ field (iana 153) b ∷ []) g.element)
-keys_lack a b (k ∷ ks) [] cs whole keys = All-nil (λ g. Lacks (field (iana 152) a ∷ field (iana 153) b ∷ []) g.element)
-keys_lack a b (k ∷ ks) (kind ∷ kinds) [] whole keys = All-nil (λ g. Lacks (field (iana 152) a ∷ field (iana 153) b ∷ []) g.element)
-keys_lack a b (k ∷ ks) (kind ∷ kinds) (c ∷ cs) whole keys =
-    let both = and_parts (is_value k.element) (list_all (λ k. is_value k.element) ks) keys in
-    let is_whole : k.prefix ≡ None = All-head IsWhole k ks whole in
-    let same : exported_element k ≡ k.element = rw is_whole refl in
-    let here : Lacks (field (iana 152) a ∷ field (iana 153) b ∷ []) (exported_element k) = subst (Lacks (field (iana 152) a ∷ field (iana 153) b ∷ [])) (sym same) (lacks_times a b k.element both.0) in
-    All-cons (λ g. Lacks (field (iana 152) a ∷ field (iana 153) b ∷ []) g.element) (key_field ((k, kind), c)) (map key_field (zip (zip ks kinds) cs)) here (keys_lack a b ks kinds cs (All-tail IsWhole k ks whole) both.1)
+keys_lack a b [] kinds cs keys = All-nil (λ g. Lacks (field (iana 152) a ∷ field (iana 153) b ∷ []) g.element)
+keys_lack a b (k ∷ ks) [] cs keys = All-nil (λ g. Lacks (field (iana 152) a ∷ field (iana 153) b ∷ []) g.element)
+keys_lack a b (k ∷ ks) (kind ∷ kinds) [] keys = All-nil (λ g. Lacks (field (iana 152) a ∷ field (iana 153) b ∷ []) g.element)
+keys_lack a b (k ∷ ks) (kind ∷ kinds) (c ∷ cs) keys =
+    let both = and_parts (is_key_element k.element) (list_all (λ k. is_key_element k.element) ks) keys in
+    let here = lacks_times a b (exported_element k) (exported_value k both.0) in
+    All-cons (λ g. Lacks (field (iana 152) a ∷ field (iana 153) b ∷ []) g.element) (key_field ((k, kind), c)) (map key_field (zip (zip ks kinds) cs)) here (keys_lack a b ks kinds cs both.1)
 
 counters_lack : (a b : List ℕ) (cs : List ElementId) (vs : List ℕ) → length vs ≡ length cs → list_all is_value cs ≡ true
     → All (λ g. Lacks (field (iana 152) a ∷ field (iana 153) b ∷ []) g.element) (map number_field (zip cs vs))
@@ -80,9 +78,9 @@ counter_elements (c ∷ cs) [] same = absurd (omega (arith, same))
 counter_elements (c ∷ cs) (v ∷ vs) same = ap (λ (es : List ElementId). c ∷ es) (counter_elements cs vs (omega (arith, same)))
 
 -- each key's and counter's field is the first of its element
-values_found : (plan : PlanValue) (row : RowValue) → IsPlan plan → All IsWhole plan.keys → FitsValue plan row
+values_found : (plan : PlanValue) (row : RowValue) → IsPlan plan → FitsValue plan row
     → All (IsFound (row_fields plan row)) (map key_field (zip (keys_and_kinds plan) row.key) ++ map number_field (zip plan.counters row.sums))
-values_found plan row is whole fits =
+values_found plan row is fits =
     let keys = map key_field (zip (keys_and_kinds plan) row.key) in
     let counters = map number_field (zip plan.counters row.sums) in
     let start = field (iana 152) (big_bytes 8 (first_of plan row)) in
@@ -93,36 +91,36 @@ values_found plan row is whole fits =
     map-append (λ (g : Field). g.element) keys counters ∙ ap (λ (es : List ElementId). es ++ map (λ (g : Field). g.element) counters) (key_elements plan.keys plan.kinds row.key fits.key.beside fits.key.fit)
     ∙ ap (λ (es : List ElementId). map exported_element plan.keys ++ es) (counter_elements plan.counters row.sums fits.sums) in
     let apart = exported_apart plan is in
-    let lack = All-append (λ (g : Field). Lacks done g.element) keys counters (keys_lack start.octets end.octets plan.keys plan.kinds row.key whole is.values) (counters_lack start.octets end.octets plan.counters row.sums fits.sums is.counters) in
+    let lack = All-append (λ (g : Field). Lacks done g.element) keys counters (keys_lack start.octets end.octets plan.keys plan.kinds row.key is.values) (counters_lack start.octets end.octets plan.counters row.sums fits.sums is.counters) in
     subst (λ (fs : List Field). All (IsFound (start ∷ end ∷ fs)) (keys ++ counters)) (append_assoc keys counters (flows ∷ []))
     (all_found done (keys ++ counters) (flows ∷ []) lack (ap has_twice elements ∙ apart))
 
-row_flow : (plan : PlanValue) (time : ℕ) (row : RowValue) → IsPlan plan → All IsWhole plan.keys → FitsValue plan row → last_of plan row < 2 ^ 50 → All (λ v. v < 2 ^ 64) row.sums
+row_flow : (plan : PlanValue) (time : ℕ) (row : RowValue) → IsPlan plan → FitsValue plan row → last_of plan row < 2 ^ 50 → All (λ v. v < 2 ^ 64) row.sums
     → IsFlowOf plan row (row_record plan time row)
-row_flow plan time row is whole fits in_time small =
+row_flow plan time row is fits in_time small =
     let r = row_record plan time row in
     let keys = map key_field (zip (keys_and_kinds plan) row.key) in
     let counters = map number_field (zip plan.counters row.sums) in
-    let found = values_found plan row is whole fits in
+    let found = values_found plan row is fits in
     let positive : 0 < plan.length = ltb-true 0 plan.length is.positive in
     let forward : first_of plan row ≤ last_of plan row = omega (arith, positive) in
     record {
       last = last_of plan row;
       used = is_used (by_start plan) r (first_of plan row) (last_of plan row) row.key (omega arith)
           (start_again plan.choices.times plan time row (omega (arith, forward, in_time))) (end_again plan.choices.times plan time row in_time) forward in_time
-          (cells_read plan.keys plan.kinds row.key r fits.key.beside fits.key.fit whole (All-left (IsFound (row_fields plan row)) keys counters found)) refl;
+          (cells_read plan.keys plan.kinds row.key r fits.key.beside fits.key.fit (All-left (IsFound (row_fields plan row)) keys counters found)) refl;
       sums = counters_read plan.counters row.sums r fits.sums small (All-right (IsFound (row_fields plan row)) keys counters found);
     }
 
-all_flows : (plan : PlanValue) (time : ℕ) (rows : List RowValue) → IsPlan plan → All IsWhole plan.keys → All (FitsValue plan) rows → All (λ row. last_of plan row < 2 ^ 50) rows
+all_flows : (plan : PlanValue) (time : ℕ) (rows : List RowValue) → IsPlan plan → All (FitsValue plan) rows → All (λ row. last_of plan row < 2 ^ 50) rows
     → All (λ row. All (λ v. v < 2 ^ 64) row.sums) rows → All (λ row. IsFlowOf plan row (row_record plan time row)) rows
-all_flows plan time [] is whole fit in_time small = All-nil (λ row. IsFlowOf plan row (row_record plan time row))
-all_flows plan time (row ∷ rows) is whole fit in_time small =
+all_flows plan time [] is fit in_time small = All-nil (λ row. IsFlowOf plan row (row_record plan time row))
+all_flows plan time (row ∷ rows) is fit in_time small =
     All-cons (λ row. IsFlowOf plan row (row_record plan time row)) row rows
-    (row_flow plan time row is whole (All-head (FitsValue plan) row rows fit) (All-head (λ row. last_of plan row < 2 ^ 50) row rows in_time) (All-head (λ row. All (λ v. v < 2 ^ 64) row.sums) row rows small))
-    (all_flows plan time rows is whole (All-tail (FitsValue plan) row rows fit) (All-tail (λ row. last_of plan row < 2 ^ 50) row rows in_time) (All-tail (λ row. All (λ v. v < 2 ^ 64) row.sums) row rows small))
+    (row_flow plan time row is (All-head (FitsValue plan) row rows fit) (All-head (λ row. last_of plan row < 2 ^ 50) row rows in_time) (All-head (λ row. All (λ v. v < 2 ^ 64) row.sums) row rows small))
+    (all_flows plan time rows is (All-tail (FitsValue plan) row rows fit) (All-tail (λ row. last_of plan row < 2 ^ 50) row rows in_time) (All-tail (λ row. All (λ v. v < 2 ^ 64) row.sums) row rows small))
 
 pub counts_again : (plan : PlanValue) (time : ℕ) (rows : List RowValue) → CanBeCounted plan rows → CountsAgain plan time rows
 counts_again plan time rows can table is =
     let positive : 0 < plan.length = ltb-true 0 plan.length can.is_plan.positive in
-    counted plan positive (row_record plan time) rows table (all_flows plan time rows can.is_plan can.whole can.fit can.in_time can.small) can.ascending is
+    counted plan positive (row_record plan time) rows table (all_flows plan time rows can.is_plan can.fit can.in_time can.small) can.ascending is

@@ -12,7 +12,7 @@ use Rattle.flow_table.specs.Tables.{place_cmp}
 use Rattle.flow_table.proofs.RowsHeld.{places_of_values}
 use Rattle.flow_export.specs.CsvText.{last_of}
 use Rattle.flow_export.specs.Fitting.{FitsValue}
-use Rattle.laws_export.specs.ReadBack.{CanBeExported, CanBeCounted, IsWhole}
+use Rattle.laws_export.specs.ReadBack.{CanBeExported, CanBeCounted}
 
 values_fit : (plan : PlanValue) (rows : List Row) → All (FitsRow plan) rows → All (FitsValue plan) (map value_of rows)
 values_fit plan rows all =
@@ -26,12 +26,11 @@ can_be_exported plan table time is fits small few =
     let same : length (map value_of table.rows.items) ≡ length table.rows.items = length-map _ _ in
     record { is_plan = is; small_time = small; few = rw same few; fit = values_fit plan table.rows.items fits.rows }
 
-pub can_be_counted : (plan : PlanValue) (table : Table) → IsPlan plan → FitsPlan plan table → All IsWhole plan.keys
+pub can_be_counted : (plan : PlanValue) (table : Table) → IsPlan plan → FitsPlan plan table
     → All (λ row. last_of plan (value_of row) < 2 ^ 50) table.rows.items → CanBeCounted plan (map value_of table.rows.items)
-can_be_counted plan table is fits whole in_time =
+can_be_counted plan table is fits in_time =
     record {
       is_plan = is;
-      whole = whole;
       fit = values_fit plan table.rows.items fits.rows;
       ascending = subst (IsStrictlySortedBy place_cmp) (sym (places_of_values table.rows.items)) fits.ascending;
       in_time = All-map (λ row. last_of plan row < 2 ^ 50) value_of table.rows.items in_time;

@@ -30,7 +30,7 @@ use Rattle.flow_table.specs.Reading.{start_of, end_of, time_in, time_of, number_
 use Rattle.flow_table.specs.SameTables.{RowValue}
 use Rattle.flow_export.specs.CsvText.{first_of, last_of}
 use Rattle.flow_export.specs.IpfixText.{width_of, key_field, number_field}
-use Rattle.laws_export.specs.ReadBack.{row_record, IsWhole}
+use Rattle.laws_export.specs.ReadBack.{as_exported, row_record}
 use Rattle.laws_export.proofs.FieldsFound.{IsFound}
 
 -- ---- numbers and cells in their full width
@@ -94,24 +94,23 @@ end_again times.All plan time row small = end_stays (row_record plan time row) (
 
 -- ---- keys
 
-cell_read : (k : Key) (kind : Kind) (c : Cell) (r : DataRecord) → IsWhole k → IsCellOf kind c → IsFound r.fields (key_field ((k, kind), c)) → cell_of k kind r ≡ Some c
+cell_read : (k : Key) (kind : Kind) (c : Cell) (r : DataRecord) → IsCellOf kind c → IsFound r.fields (key_field ((k, kind), c)) → cell_of (as_exported k) kind r ≡ Some c
 unfolding cell_of
-cell_read k kind c r whole fits found =
-    let at : octets_of k.element r.fields ≡ Some (cell_octets c (width_of kind)) = rw whole at found in
-    rw (whole, at) (ap (λ (o : Option Cell). option_map (λ x. x) o) (cell_again kind c fits))
+cell_read k kind c r fits found =
+    rw found (ap (λ (o : Option Cell). option_map (λ x. x) o) (cell_again kind c fits))
 
-pub cells_read : (ks : List Key) (kinds : List Kind) (cs : List Cell) (r : DataRecord) → length kinds ≡ length ks → AllZip IsCellOf kinds cs → All IsWhole ks
-    → All (IsFound r.fields) (map key_field (zip (zip ks kinds) cs)) → cells_of ks kinds r ≡ Some cs
-cells_read [] [] [] r beside fits whole found = refl
-cells_read [] [] (c ∷ cs) r beside fits whole found = absurd fits
-cells_read [] (kind ∷ kinds) cs r beside fits whole found = absurd (omega (arith, beside))
-cells_read (k ∷ ks) [] cs r beside fits whole found = absurd (omega (arith, beside))
-cells_read (k ∷ ks) (kind ∷ kinds) [] r beside fits whole found = absurd fits
-cells_read (k ∷ ks) (kind ∷ kinds) (c ∷ cs) r beside fits whole found =
+pub cells_read : (ks : List Key) (kinds : List Kind) (cs : List Cell) (r : DataRecord) → length kinds ≡ length ks → AllZip IsCellOf kinds cs
+    → All (IsFound r.fields) (map key_field (zip (zip ks kinds) cs)) → cells_of (map as_exported ks) kinds r ≡ Some cs
+cells_read [] [] [] r beside fits found = refl
+cells_read [] [] (c ∷ cs) r beside fits found = absurd fits
+cells_read [] (kind ∷ kinds) cs r beside fits found = absurd (omega (arith, beside))
+cells_read (k ∷ ks) [] cs r beside fits found = absurd (omega (arith, beside))
+cells_read (k ∷ ks) (kind ∷ kinds) [] r beside fits found = absurd fits
+cells_read (k ∷ ks) (kind ∷ kinds) (c ∷ cs) r beside fits found =
     let here = key_field ((k, kind), c) in
     let rest = map key_field (zip (zip ks kinds) cs) in
-    let first = cell_read k kind c r (All-head IsWhole k ks whole) fits.0 (All-head (IsFound r.fields) here rest found) in
-    let others = cells_read ks kinds cs r (omega (arith, beside)) fits.1 (All-tail IsWhole k ks whole) (All-tail (IsFound r.fields) here rest found) in
+    let first = cell_read k kind c r fits.0 (All-head (IsFound r.fields) here rest found) in
+    let others = cells_read ks kinds cs r (omega (arith, beside)) fits.1 (All-tail (IsFound r.fields) here rest found) in
     rw (first, others) refl
 
 -- ---- counters

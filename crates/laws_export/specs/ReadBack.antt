@@ -1,5 +1,5 @@
 -- A table's export, read as the text of a session.
-use Rattle.std.specs.Prelude.{◌≡◌, ℕ, ◌^◌, ◌<◌, List, length, map, All, None}
+use Rattle.std.specs.Prelude.{◌≡◌, ◌≢◌, ℕ, ◌^◌, ◌<◌, List, length, map, All, None}
 use Rattle.std.specs.List.Sorted.{IsStrictlySortedBy}
 use Rattle.ipfix_wire.specs.declared.set.TheConstants.{FIRST_TEMPLATE_ID}
 use Rattle.flow_export.specs.CsvText.{last_of}
@@ -12,7 +12,7 @@ use Rattle.flow_table.specs.declared.method.Method.TheVariants.{Start}
 use Rattle.flow_table.specs.declared.table.Row.{Row}
 use Rattle.flow_table.specs.declared.table.Table.{Table}
 use Rattle.flow_table.specs.AddedUp.{place}
-use Rattle.flow_table.specs.Plans.{PlanValue, IsPlan}
+use Rattle.flow_table.specs.Plans.{PlanValue, IsPlan, exported_element, exporter}
 use Rattle.flow_table.specs.Tables.{place_cmp, IsTable}
 use Rattle.flow_table.specs.SameTables.{RowValue, row_value, value_of}
 use Rattle.flow_export.specs.Fitting.{FitsValue}
@@ -38,17 +38,22 @@ pub record IsReadBack (plan : PlanValue) (time : ℕ) (rows : List RowValue) : T
 
 -- ---- aggregated again
 
--- the same plan by method start
+-- the key of what is exported: a prefix, and an exporter's address, have elements of their own there
+abbrev pub as_exported : Key → Key
+as_exported key = record { element = exported_element key; prefix = None }
+
+-- the same plan by method start, each key read from the element that it is exported as
 abbrev pub by_start : PlanValue → PlanValue
-by_start plan = record plan { method = Start }
+by_start plan = record plan { method = Start; keys = map as_exported plan.keys }
 
-abbrev pub IsWhole : Key → Type 0
-IsWhole key = key.prefix ≡ None
+-- a key that is exported as the element that it is read from
+pub record IsWhole (key : Key) : Type 0 where
+  pub whole : key.prefix ≡ None
+  pub sent : key.element ≢ exporter
 
--- rows in order, whose intervals end in time and whose sums have places of 64 bits, under a plan without prefixes
+-- rows in order, whose intervals end in time and whose sums have places of 64 bits
 pub record CanBeCounted (plan : PlanValue) (rows : List RowValue) : Type 0 where
   pub is_plan : IsPlan plan
-  pub whole : All IsWhole plan.keys
   pub fit : All (FitsValue plan) rows
   pub ascending : IsStrictlySortedBy place_cmp (map place rows)
   pub in_time : All (λ row. last_of plan row < 2 ^ 50) rows

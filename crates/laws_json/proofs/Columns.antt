@@ -21,9 +21,12 @@ use Rattle.flow_table.specs.SameTables.{value_of}
 use Rattle.element_registry.specs.Registries.{Known}
 use Rattle.flow_export.specs.CsvText.{first_of, heading, last_of}
 use Rattle.laws_json.specs.Objects.{members_of, value_of_cell}
-use Rattle.laws_json.specs.RowObjects.{columns, FitsHeading, object_of_row}
+use Rattle.laws_json.specs.RowObjects.{columns, FitsHeading, NamesContext, object_of_row}
 use Rattle.laws_json.specs.Told.{HasMember, TellsCell, TellsRow}
 use Rattle.laws_json.proofs.Names.{names_differ}
+use Rattle.flow_export.specs.Shown.{shown_cells}
+use Rattle.flow_export.proofs.ShownKeys.{shown_length}
+use Rattle.laws_json.proofs.ShownCells.{all_shown}
 use Rattle.laws_json.proofs.Told.{cell_tells, HasRoom}
 
 -- ---- looking up by names that differ
@@ -112,14 +115,15 @@ times_room (suc i) l start small =
     let long : l ≤ suc i * l = grind arith in
     (omega (arith, start), omega (arith, start, long))
 
-pub row_tells : (known : List Known) (plan : PlanValue) (row : Row) → FitsHeading known → IsPlan plan → plan.length < 2 ^ 64 → FitsRow plan row → TellsRow known plan (value_of row) (object_of_row known plan (value_of row))
-row_tells known plan row heads is small fits =
+pub row_tells : (known : List Known) (plan : PlanValue) (row : Row) → FitsHeading known → NamesContext known plan → IsPlan plan → plan.length < 2 ^ 64 → FitsRow plan row → TellsRow known plan (value_of row) (object_of_row known plan (value_of row))
+row_tells known plan row heads own is small fits =
     let key = key_room plan row.key.items fits.key in
+    let shown = shown_cells plan.keys row.key.items in
     let times = times_room row.interval plan.length fits.interval small in
     let numbers = numbers_room row.sums.items row.flows fits.small fits.few in
     let last : List Cell = map (λ n. Number n) row.sums.items ++ Number row.flows ∷ [] in
     let room : All HasRoom (columns plan (value_of row)) =
-    All-cons HasRoom (Number (first_of plan (value_of row))) (Number (last_of plan (value_of row)) ∷ (row.key.items ++ last)) times.0
-    (All-cons HasRoom (Number (last_of plan (value_of row))) (row.key.items ++ last) times.1 (All-append HasRoom row.key.items last key.0 numbers)) in
-    let same : length (heading known plan) ≡ length (columns plan (value_of row)) = simp (length-append, length-map) (omega (arith, key.1, fits.sums)) in
-    columns_tell (heading known plan) (columns plan (value_of row)) same (names_differ known heads plan is) room
+    All-cons HasRoom (Number (first_of plan (value_of row))) (Number (last_of plan (value_of row)) ∷ (shown ++ last)) times.0
+    (All-cons HasRoom (Number (last_of plan (value_of row))) (shown ++ last) times.1 (All-append HasRoom shown last (all_shown HasRoom (λ address has. tt) plan.keys row.key.items key.0) numbers)) in
+    let same : length (heading known plan) ≡ length (columns plan (value_of row)) = simp (length-append, length-map) (omega (arith, shown_length plan.keys row.key.items, key.1, fits.sums)) in
+    columns_tell (heading known plan) (columns plan (value_of row)) same (names_differ known heads plan own is) room

@@ -3,6 +3,7 @@ mod Strings
 mod Plain
 mod Reading
 mod Values
+mod ShownCells
 mod Objects
 mod Numbers
 mod LinesRead

@@ -3,7 +3,7 @@ use Rattle.std.proofs.Common.{◌≡◌, ℕ, ◌<◌, Bool, true, false, List, 
 use Rattle.std.specs.Prelude.{codes, decimal, All}
 use Rattle.std.specs.List.{join_with_byte, zip}
 use Rattle.std.proofs.lemmas.List.{map-append}
-use Rattle.std.proofs.lemmas.List.Elements.{All-append, All-head, All-map, All-nil, All-tail}
+use Rattle.std.proofs.lemmas.List.Elements.{All-append, All-drop, All-head, All-map, All-nil, All-tail}
 use Rattle.json.specs.Json.{Json, string}
 use Rattle.json.specs.Value.{items_of}
 use Rattle.ipfix_elements.specs.JsonValues.{in_quotes, json_cell, json_number}
@@ -25,6 +25,8 @@ use Rattle.laws_json.specs.Objects.{members_of, object_of, object_of_field, obje
 use Rattle.laws_json.specs.RowObjects.{columns, HasAddresses, object_of_row}
 use Rattle.laws_json.specs.Texts.{compact_text, items_text, members_text}
 use Rattle.laws_json.proofs.Plain.{AllPlain, AreOctets, HasAddress, heading_plain, name_plain}
+use Rattle.flow_export.specs.Shown.{shown_cells}
+use Rattle.laws_json.proofs.ShownCells.{all_shown}
 use Rattle.laws_json.proofs.Strings.{plain_string}
 use Rattle.laws_json.proofs.Values.{cell_written, value_written}
 
@@ -93,7 +95,7 @@ numbers_have ns = All-map HasAddress {Y = ℕ} (λ n. Number n) ns (λ k d withi
 pub columns_have : (plan : PlanValue) (row : RowValue) → HasAddresses row → All HasAddress (columns plan row)
 columns_have plan row all =
     All-append HasAddress (map (λ n. Number n) (first_of plan row ∷ last_of plan row ∷ [])) _ (numbers_have (first_of plan row ∷ last_of plan row ∷ []))
-    (All-append HasAddress row.key _ all (All-append HasAddress (map (λ n. Number n) row.sums) _ (numbers_have row.sums) (numbers_have (row.flows ∷ []))))
+    (All-append HasAddress (shown_cells plan.keys row.key) _ (all_shown HasAddress (λ address has. All-drop (λ b. b < 256) 12 address has) plan.keys row.key all) (All-append HasAddress (map (λ n. Number n) row.sums) _ (numbers_have row.sums) (numbers_have (row.flows ∷ []))))
 
 cells_are : (cells : List Cell) → All HasAddress cells → map compact_text (map value_of_cell cells) ≡ map json_cell cells
 cells_are [] all = refl
@@ -108,7 +110,7 @@ values_are : (plan : PlanValue) (row : RowValue) → HasAddresses row → map co
 values_are plan row all =
     cells_are (columns plan row) (columns_have plan row all)
     ∙ ap (λ (t : List (List ℕ)). json_number (first_of plan row) ∷ json_number (last_of plan row) ∷ t)
-    (map-append json_cell row.key (map (λ n. Number n) row.sums ++ Number row.flows ∷ []) ∙ ap (λ (t : List (List ℕ)). map json_cell row.key ++ t) (numbers_are row.sums (Number row.flows ∷ [])))
+    (map-append json_cell (shown_cells plan.keys row.key) (map (λ n. Number n) row.sums ++ Number row.flows ∷ []) ∙ ap (λ (t : List (List ℕ)). map json_cell (shown_cells plan.keys row.key) ++ t) (numbers_are row.sums (Number row.flows ∷ [])))
 
 module _ (known : List Known) (plain : have_plain_names known ≡ true) where
   field_is : (f : Field) → AreOctets f.octets → compact_text (object_of_field known f) ≡ json_field known f

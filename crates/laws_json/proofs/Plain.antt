@@ -26,9 +26,10 @@ use Rattle.element_values.specs.FieldTexts.{misfit_text}
 use Rattle.element_values.specs.Strings.{is_plain}
 use Rattle.flow_table.specs.declared.key.Key.{Key}
 use Rattle.flow_table.specs.Plans.{PlanValue}
-use Rattle.flow_export.specs.CsvText.{heading, key_text, prefix_text}
+use Rattle.flow_export.specs.CsvText.{heading, key_name, key_text, prefix_text}
 use Rattle.flow_export.specs.PlainNames.{has_plain_name, have_plain_names, is_plain_octet}
 use Rattle.flow_export.proofs.Finding.{find_all}
+use Rattle.flow_export.proofs.KeyNames.{has_key_name}
 use Rattle.laws_json.specs.RowObjects.{address_of}
 use Rattle.laws_json.proofs.Tests.{below, both, decimal_passes, IsPlain, Pass, passes, weaker}
 
@@ -165,13 +166,20 @@ module _ (known : List Known) (plain : have_plain_names known ≡ true) where
   pub name_plain : (e : ElementId) → IsPlain (element_name known e)
   name_plain e = weaker is_plain_octet is_plain (plain_octet is_plain refl) (element_name known e) (name_octets e)
 
+  pub key_name_octets : (e : ElementId) → Pass is_plain_octet (key_name known e)
+  key_name_octets e =
+      has_key_name (Pass is_plain_octet) (record { exporter = refl; exporter_ipv4 = refl; exporter_ipv6 = refl; observation_domain = refl }) known e (name_octets e)
+
+  key_name_plain : (e : ElementId) → IsPlain (key_name known e)
+  key_name_plain e = weaker is_plain_octet is_plain (plain_octet is_plain refl) (key_name known e) (key_name_octets e)
+
   prefix_plain : (o : Option ℕ) → IsPlain (prefix_text o)
   prefix_plain None = refl
   prefix_plain (Some bits) = decimal_plain bits
 
   keys_plain : (keys : List Key) (rest : List (List ℕ)) → AllPlain rest → AllPlain (map (key_text known) keys ++ rest)
   keys_plain [] rest all = all
-  keys_plain (k ∷ ks) rest all = (both is_plain (element_name known k.element) (prefix_text k.prefix) (name_plain k.element) (prefix_plain k.prefix), keys_plain ks rest all)
+  keys_plain (k ∷ ks) rest all = (both is_plain (key_name known k.element) (prefix_text k.prefix) (key_name_plain k.element) (prefix_plain k.prefix), keys_plain ks rest all)
 
   names_are_plain : (elements : List ElementId) (rest : List (List ℕ)) → AllPlain rest → AllPlain (map (element_name known) elements ++ rest)
   names_are_plain [] rest all = all

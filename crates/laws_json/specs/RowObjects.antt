@@ -1,24 +1,26 @@
 -- The value of JSON that a row of a table is written as.
-use Rattle.std.specs.Prelude.{◌≡◌, ℕ, ◌<◌, ◌^◌, List, [], ◌∷◌, ◌++◌, map, codes, true, All, None}
+use Rattle.std.specs.Prelude.{◌≡◌, ℕ, ◌<◌, ◌^◌, List, [], ◌∷◌, ◌++◌, map, codes, true, All, None, Some}
 use Rattle.json.specs.Json.{Json}
 use Rattle.element_registry.specs.Registries.{IsRegistry, Known, element_by_name}
+use Rattle.ipfix_wire.specs.declared.specifier.ElementId.{ElementId}
 use Rattle.ipfix_elements.specs.declared.cell.Cell.{Cell}
 use Rattle.ipfix_elements.specs.declared.cell.Cell.TheVariants.{Number, Ipv4, Ipv6, Mac}
-use Rattle.flow_table.specs.Plans.{PlanValue}
+use Rattle.flow_table.specs.Plans.{PlanValue, context_name}
 use Rattle.flow_table.specs.SameTables.{RowValue, value_of}
 use Rattle.flow_table.specs.Fitting.{FitsRow}
 use Rattle.flow_table.specs.declared.table.Row.{Row}
 use Rattle.flow_export.specs.CsvText.{first_of, heading, last_of}
 use Rattle.flow_export.specs.JsonText.{row_object}
+use Rattle.flow_export.specs.Shown.{shown_cells}
 use Rattle.flow_export.specs.PlainNames.{have_plain_names}
 use Rattle.laws_json.specs.Lines.{IsReadAs}
 use Rattle.laws_json.specs.Objects.{object_with, PlainElements, value_of_cell}
 
--- what the columns of a row hold, in the order of the heading
+-- what the columns of a row hold, in the order of the heading: an exporter's address as it is shown
 abbrev pub columns : PlanValue → RowValue → List Cell
 columns plan row =
     Number (first_of plan row) ∷ Number (last_of plan row)
-    ∷ (row.key ++ (map (λ n. Number n) row.sums ++ Number row.flows ∷ []))
+    ∷ (shown_cells plan.keys row.key ++ (map (λ n. Number n) row.sums ++ Number row.flows ∷ []))
 
 -- each name of the heading with the value of its column, in the order of the heading
 abbrev pub object_of_row : List Known → PlanValue → RowValue → Json
@@ -46,6 +48,13 @@ pub record FitsHeading (known : List Known) : Type 0 where
   pub start : element_by_name known (codes "start") ≡ None
   pub end : element_by_name known (codes "end") ≡ None
   pub flows : element_by_name known (codes "flows") ≡ None
+
+-- where the keys of a plan have the names of context, files call no other element so
+abbrev pub NamesOwn : List Known → ElementId → Type 0
+NamesOwn known e = (name : List ℕ) (d : ElementId) → context_name e ≡ Some name → element_by_name known name ≡ Some d → d ≡ e
+
+abbrev pub NamesContext : List Known → PlanValue → Type 0
+NamesContext known plan = All (λ k. NamesOwn known k.element) plan.keys
 
 -- a row as a table of the plan has it
 pub record IsTableRow (plan : PlanValue) (row : Row) : Type 0 where

@@ -2,17 +2,17 @@
 //! the theorem. The names that files give are plain
 //! ([`file_names_are_plain`](flow_export::laws::file_names_are_plain)).
 
-ghost use Rattle.std.specs.Prelude.{◌≡◌, List, []};
+ghost use Rattle.std.specs.Prelude.{◌≡◌, List, [], All, None};
 ghost use Rattle.json.specs.Strict.{AreDistinct};
 ghost use Rattle.element_registry.specs.Registries.{Known};
-ghost use Rattle.flow_table.specs.Plans.{IsPlan, PlanValue};
+ghost use Rattle.flow_table.specs.Plans.{IsPlan, PlanValue, context_name};
 ghost use Rattle.flow_table.specs.SameTables.{RowValue, value_of};
 ghost use Rattle.flow_table.specs.declared.table.Row.{Row};
 ghost use Rattle.flow_export.specs.CsvText.{heading};
 ghost use Rattle.flow_export.specs.JsonText.{row_object};
 ghost use Rattle.laws_json.specs.Lines.{AreApart, IsReadAs};
 ghost use Rattle.laws_json.specs.Objects.{PlainElements};
-ghost use Rattle.laws_json.specs.RowObjects.{FitsHeading, HasAddresses, IsTableRow, object_of_row, RowsAreReadAs};
+ghost use Rattle.laws_json.specs.RowObjects.{FitsHeading, HasAddresses, IsTableRow, NamesContext, object_of_row, RowsAreReadAs};
 ghost use Rattle.laws_json.specs.Texts.{IsExactNatural, line_of, NumbersAre};
 ghost use Rattle.laws_json.specs.Told.{TellsRow};
 
@@ -27,18 +27,22 @@ pub fn rows_are_objects()
 {}
 
 /// No two members of a row have the same name, whatever the plan, where the names that files give can
-/// stand in a heading. Without files there are none.
+/// stand in a heading, and none of them is that of an element of context that is a key. Without files there are
+/// none, and a plan may have no such key.
 pub fn names_are_different()
-    ensures different { (known : List Known) (plan : PlanValue) → FitsHeading known → IsPlan plan
-        → AreDistinct (heading known plan) }
+    ensures different { (known : List Known) (plan : PlanValue) → FitsHeading known
+        → NamesContext known plan → IsPlan plan → AreDistinct (heading known plan) }
     ensures no_files { FitsHeading [] }
+    ensures no_names { (plan : PlanValue) → NamesContext [] plan }
+    ensures no_context { (known : List Known) (plan : PlanValue)
+        → All (λ k. context_name k.element ≡ None) plan.keys → NamesContext known plan }
 {}
 
 /// What is looked up in a row's line by a name of the heading is the row's: the ends of its interval,
 /// its key, its sums and the number of its flows.
 pub fn rows_tell_columns()
     ensures { (known : List Known) (plan : PlanValue) (row : Row) → FitsHeading known
-        → IsPlan plan → IsTableRow plan row
+        → NamesContext known plan → IsPlan plan → IsTableRow plan row
         → IsReadAs (row_object known plan (value_of row)) (TellsRow known plan (value_of row)) }
 {}
 

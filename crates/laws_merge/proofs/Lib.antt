@@ -5,3 +5,4 @@ pub mod HeldExports
 pub mod MergesOn
 pub mod AddedExports
 pub mod SummedRows
+pub mod ExportersAdded

@@ -18,7 +18,9 @@ ghost use Rattle.flow_merge.specs.declared.merging.Merging.{Merging};
 ghost use Rattle.flow_merge.specs.declared.row_fault.RowFault.{RowFault};
 ghost use Rattle.flow_merge.specs.declared.row_fault.RowFault.TheVariants.{OutOfMemory};
 ghost use Rattle.laws_merge.specs.Exports.{HoldsRows, IfExportsOf, IsExportable, IsExportFault, IsExportOf, with_counts};
+ghost use Rattle.laws_merge.specs.ByExporter.{by_exporter, AddUpTo, HasExporter};
 ghost use Rattle.laws_merge.specs.RowSums.{rows_at, AreSumsOf};
+ghost use Rattle.flow_table.specs.Tables.{IsTable};
 
 use ipfix_session::Source;
 
@@ -82,6 +84,14 @@ pub fn merged_is_merged_again()
 pub fn any_split_merges()
     ensures { (plan : PlanValue) (rs others : List DataRecord) (a b : Table) → IsSameBag rs others
         → HasRowsOf plan rs a → HasRowsOf plan others b → rows_in a ≡ rows_in b }
+{}
+
+/// If the exporter of each record is known, the rows of a table by exporter that have the same interval and the
+/// same key after it add up to what the records have there without the exporter: its column can be dropped.
+pub fn exporters_add_up()
+    ensures { (plan : PlanValue) (rs : List DataRecord) (table : Table)
+        → IsTable (by_exporter plan) rs table → All HasExporter rs
+        → AddUpTo plan rs (rows_in table) }
 {}
 
 /// What rows add up to at an interval and a key is nothing if no row is there, and otherwise, for each

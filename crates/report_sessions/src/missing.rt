@@ -3,12 +3,12 @@
 ghost use Rattle.std.specs.Prelude.{◌≡◌, ◌≤◌, false, length};
 ghost use Rattle.element_registry.specs.Registries.{element_name};
 ghost use Rattle.ipfix_elements.specs.Names.{numbered_text};
-ghost use Rattle.flow_export.specs.CsvText.{prefix_text};
+ghost use Rattle.flow_export.specs.CsvText.{key_name, prefix_text};
 ghost use Rattle.report_sessions.specs.MissingLines.{count_end, counter_text, lack_line, lack_lines, missing_lines, missing_told, time_text, unkeyed_text};
 ghost use Rattle.report_writing.specs.Writing.{Tells};
 
 use element_registry::Elements;
-use flow_table::{Key, Missing, Plan};
+use flow_table::{Key, Missing, Plan, context_name};
 use ipfix_wire::ElementId;
 use report_writing::{Verbosity, WriteLines};
 use std::io;
@@ -16,7 +16,7 @@ use std::io;
 /// Writes what records lack, if `verbosity` is verbose or strict: a line for each counter of the plan that
 /// used records lack, with how many do; then one for untimed records without a start and one for those
 /// without an end; then one for each key of the plan that is the first which unkeyed records lack. A line
-/// whose number is 0 is left out. Counters and keys have the names that `elements` gives them.
+/// whose number is 0 is left out. Counters and keys have the names that `elements` gives them, and keys of context their own.
 pub fn write_missing<W: WriteLines>(
     verbosity: Verbosity,
     elements: &Elements,
@@ -98,7 +98,7 @@ impl Lack for Key {
 
     fn write_words<W: WriteLines>(&self, elements: &Elements, out: &mut W) -> io::Result<()> {
         out.write_all("collectd: records: unkeyed without ".as_bytes())?;
-        write_element(elements, self.element, out)?;
+        write_key_name(elements, self.element, out)?;
         write_prefix(self.prefix, out)
     }
 }
@@ -135,6 +135,20 @@ fn write_line<L: Lack, W: WriteLines>(
     } else {
         lack.write_words(elements, out)?;
         write_count_end(count, out)
+    }
+}
+
+// Writes the name of a key's element: an element of context has its own, whatever files say.
+fn write_key_name<W: WriteLines>(
+    elements: &Elements,
+    element: ElementId,
+    out: &mut W,
+) -> io::Result<()>
+    ensures { Tells W.contents W.failed out.old out.new result (key_name elements.now element) }
+{
+    match context_name(element) {
+        Some(name) => out.write_all(name.as_bytes()),
+        None => write_element(elements, element, out),
     }
 }
 

@@ -1,14 +1,16 @@
 //! Rows as lines of CSV. No text of a row needs quotes (`nothing_is_quoted`), so a line is its fields, with commas
 //! between them.
 
-ghost use Rattle.std.specs.Prelude.{◌≡◌, ◌++◌, OnOk, flat_map};
+ghost use Rattle.std.specs.Prelude.{◌≡◌, ◌++◌, OnOk, flat_map, length};
 ghost use Rattle.std.specs.Fmt.{decimal};
 ghost use Rattle.flow_export.specs.CsvText.{row_line};
+ghost use Rattle.flow_export.specs.Shown.{shown_cells};
 ghost use Rattle.flow_export.specs.Written.{interval_texts, next_cell, next_number};
 
 use crate::address_text::append_ipv4;
 use crate::row_lines::RowLines;
-use flow_table::{Plan, Row};
+use crate::shown_cell::shown_cell;
+use flow_table::{Key, Plan, Row};
 use ipfix_elements::{Cell, write_cell};
 use itoa::Buffer;
 use std::alloc::AllocError;
@@ -37,8 +39,8 @@ impl RowLines for CsvLines {
     }
 
     // Its key, its sums and the number of its flows.
-    fn append_rest(&self, _plan: &Plan, row: &Row, out: &mut Vec<u8>) -> Result<(), AllocError> {
-        append_cells(&row.key, out)?;
+    fn append_rest(&self, plan: &Plan, row: &Row, out: &mut Vec<u8>) -> Result<(), AllocError> {
+        append_cells(plan.keys(), &row.key, out)?;
         append_numbers(&row.sums, out)?;
         append_next_number(row.flows, out)?;
         out.push(b'\n')?;
@@ -46,12 +48,15 @@ impl RowLines for CsvLines {
     }
 }
 
-// Appends a comma and a cell for each.
-fn append_cells(cells: &[Cell], out: &mut Vec<u8>) -> Result<(), AllocError>
-    ensures { OnOk result (out.new.items ≡ out.old.items ++ flat_map next_cell cells.now) }
+// Appends a comma and a cell for each, as it is shown.
+fn append_cells(keys: &[Key], cells: &[Cell], out: &mut Vec<u8>) -> Result<(), AllocError>
+    requires { length keys.now ≡ length cells.now }
+    ensures { OnOk result (out.new.items
+        ≡ out.old.items ++ flat_map next_cell (shown_cells keys.now cells.now)) }
 {
-    for cell in cells {
-        append_next_cell(cell, out)?;
+    for index in 0..cells.len() {
+        let cell = shown_cell(&keys[index], cells[index]);
+        append_next_cell(&cell, out)?;
     }
     Ok(())
 }

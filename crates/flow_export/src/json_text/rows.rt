@@ -4,13 +4,15 @@
 ghost use Rattle.std.specs.Prelude.{◌≡◌, ◌++◌, OnOk, length};
 ghost use Rattle.flow_export.specs.JsonParts.{AreLabels, interval_members, labelled_cell, labelled_cells, labelled_numbers};
 ghost use Rattle.flow_export.specs.JsonText.{row_object};
+ghost use Rattle.flow_export.specs.Shown.{shown_cells};
 ghost use Rattle.ipfix_elements.specs.JsonValues.{in_quotes, json_number};
 ghost use Rattle.ipfix_elements.specs.Texts.{ipv4_text};
 
 use crate::address_text::append_ipv4;
 use crate::json_text::labels::{MemberLabel, RowLabels};
 use crate::row_lines::RowLines;
-use flow_table::{Plan, Row};
+use crate::shown_cell::shown_cell;
+use flow_table::{Key, Plan, Row};
 use ipfix_elements::{Cell, append_json_cell, append_json_number};
 use std::alloc::AllocError;
 
@@ -35,8 +37,8 @@ impl RowLines for RowLabels<'_> {
     }
 
     // Its key, its sums and the number of its flows.
-    fn append_rest(&self, _plan: &Plan, row: &Row, out: &mut Vec<u8>) -> Result<(), AllocError> {
-        append_cells(&self.keys, &row.key, out)?;
+    fn append_rest(&self, plan: &Plan, row: &Row, out: &mut Vec<u8>) -> Result<(), AllocError> {
+        append_cells(&self.keys, plan.keys(), &row.key, out)?;
         append_sums(&self.counters, &row.sums, out)?;
         append_member(b",\"flows\":", row.flows, out)?;
         out.extend_from_slice(b"}\n")?;
@@ -52,13 +54,21 @@ fn append_member(label: &[u8], number: u64, out: &mut Vec<u8>) -> Result<(), All
     append_json_number(number, out)
 }
 
-// Appends cells, each after its label.
-fn append_cells(labels: &[MemberLabel], cells: &[Cell], out: &mut Vec<u8>) -> Result<(), AllocError>
-    requires { length labels.now ≡ length cells.now }
-    ensures { OnOk result (out.new.items ≡ out.old.items ++ labelled_cells labels.now cells.now) }
+// Appends cells as they are shown, each after its label.
+fn append_cells(
+    labels: &[MemberLabel],
+    keys: &[Key],
+    cells: &[Cell],
+    out: &mut Vec<u8>,
+) -> Result<(), AllocError>
+    requires labels { length labels.now ≡ length cells.now }
+    requires keys { length keys.now ≡ length cells.now }
+    ensures { OnOk result (out.new.items
+        ≡ out.old.items ++ labelled_cells labels.now (shown_cells keys.now cells.now)) }
 {
     for index in 0..cells.len() {
-        append_cell(&labels[index], &cells[index], out)?;
+        let cell = shown_cell(&keys[index], cells[index]);
+        append_cell(&labels[index], &cell, out)?;
     }
     Ok(())
 }

@@ -60,7 +60,8 @@ fn partial_of(alloc: Global, plan: &Plan, records: &[DataRecord]) -> Result<Part
     Ok(partial)
 }
 
-fn table_of(alloc: Global, plan: &Plan, records: &[DataRecord]) -> Result<Table, TableFault>
+/// The table of records.
+pub fn table_of(alloc: Global, plan: &Plan, records: &[DataRecord]) -> Result<Table, TableFault>
     ensures { IfOk result (FitsPlan plan.now) }
 {
     let partial = partial_of(alloc, plan, records)?;

@@ -1,6 +1,7 @@
 //! Plans, as the tests make them.
 
-use flow_table::{Key, Method, Plan, PlanFault};
+use element_registry::Elements;
+use flow_table::{Choices, EXPORTER, Key, Method, Plan, PlanFault};
 use ipfix_wire::ElementId;
 use std::alloc::Global;
 
@@ -17,5 +18,23 @@ pub fn by_source(alloc: Global, prefix: Option<u8>) -> Result<Plan, PlanFault> {
         &[source],
         &[ElementId::iana(1)],
         4096,
+    )
+}
+
+/// A plan with intervals of a minute, by the addresses of exporters.
+pub fn by_exporter(alloc: Global) -> Result<Plan, PlanFault> {
+    let exporter = Key {
+        element: EXPORTER,
+        prefix: None,
+    };
+    Plan::with_elements(
+        alloc,
+        &Elements::built_in(alloc),
+        60_000,
+        Method::Start,
+        &[exporter],
+        &[ElementId::iana(1)],
+        4096,
+        Choices::BASIC,
     )
 }

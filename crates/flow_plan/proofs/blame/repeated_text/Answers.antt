@@ -10,7 +10,7 @@ use Rattle.flow_plan.proofs.blame.repeated_text.Goals as goal
 
 pub unwrap-index-requires : goal.unwrap-index-requires
 unwrap-index-requires c =
-    let found = found_again c.args.keys.now c.args.counters.now c.requires.repeated in
+    let found = found_again c.args.keys.now c.args.counters.now c.requires.values c.requires.repeated in
     rw (c.in_ok-first_repeat.ensures ∙ found.1) refl
 
 pub text_at-requires : goal.text_at-requires
@@ -20,7 +20,7 @@ text_at-requires c =
 
 pub text_at-requires-else-index-keys : goal.text_at-requires-else-index-keys
 text_at-requires-else-index-keys c =
-    let found = found_again c.args.keys.now c.args.counters.now c.requires.repeated in
+    let found = found_again c.args.keys.now c.args.counters.now c.requires.values c.requires.repeated in
     let same : found.0 ≡ c.unwrap-index.result = same_Some found.0 c.unwrap-index.result (sym (c.in_ok-first_repeat.ensures ∙ found.1) ∙ c.unwrap-index.ensures) in
     let below : found.0 < length c.args.keys.now + length c.args.counters.now = found.2 in
     let each : length c.args.counters.now ≡ length c.args.fields.now.counters.items = named_length (element_by_name c.args.elements.now) c.args.fields.now.counters.items c.args.counters.now c.requires.named.1 in

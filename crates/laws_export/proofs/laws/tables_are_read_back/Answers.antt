@@ -11,6 +11,6 @@ returns-clause-read c =
     (can_be_exported c.args.plan.now c.args.table.now c.args.time c.length.ensures.sound c.requires.fits c.ranges.time.fits c.requires.few)
 
 pub returns-clause-counted : goal.returns-clause-counted
-returns-clause-counted c = λ whole in_time.
+returns-clause-counted c = λ in_time.
     counts_again c.args.plan.now c.args.time (map value_of c.args.table.now.rows.items)
-    (can_be_counted c.args.plan.now c.args.table.now c.length.ensures.sound c.requires.fits whole in_time)
+    (can_be_counted c.args.plan.now c.args.table.now c.length.ensures.sound c.requires.fits in_time)

@@ -1,7 +1,7 @@
 use Rattle.std.proofs.Common.{◌≡◌, None, rules}
 use Rattle.flow_table.specs.Plans.{chosen_fault, kinds_of}
 use Rattle.flow_table.proofs.MadePlans.{is_plan}
-use Rattle.flow_table.proofs.plan.Plan.with_elements.Goals as goal
+use Rattle.flow_table.proofs.plan.Plan.made.Goals as goal
 
 pub invariant_of-result : goal.invariant_of-result
 invariant_of-result c =
