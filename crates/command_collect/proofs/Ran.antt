@@ -1,79 +1,122 @@
 -- What a run wrote, from the headline and from what the export wrote; and what it is without the rest.
-use Rattle.std.proofs.Common.{◌≡◌, ℕ, Bool, true, false, List, [], All, subst}
+use Rattle.std.proofs.Common.{◌≡◌, ℕ, ◌+◌, length, Bool, true, false, List, [], ◌∷◌, Option, All, ap, refl, sym, subst, suc}
 use Rattle.std.specs.Prelude.{◌↔◌}
+use Rattle.std.specs.List.{AllZip}
 use Rattle.std.specs.Option.{ForSome}
+use Rattle.std.proofs.lemmas.List.Elements.{All-cons, All-nil}
+use Rattle.std.specs.declared.net.ip_addr.IpAddr.{IpAddr}
 use Rattle.ipfix_message.specs.declared.record.DataRecord.{DataRecord}
+use Rattle.ipfix_session.specs.Given.{IsPrefix}
 use Rattle.ipfix_session.specs.Sources.{SourceView}
+use Rattle.report_writing.specs.declared.origin.Origin.{Origin}
 use Rattle.flow_table.specs.Plans.{PlanValue}
-use Rattle.flow_collect.specs.Headline.{IsAddedUp, IsGivenBy, SerialAnswer}
-use Rattle.flow_collect.specs.InFull.{FullSerialAnswer, FullSerialHeadline, IsGivenInFull, reports_in}
-use Rattle.flow_collect.proofs.GivenLists.{first_each, all_whole, whole_records, whole_clean}
+use Rattle.flow_collect.specs.Contexts.{sources_of}
+use Rattle.flow_collect.specs.Headline.{IsAddedUp, IsGivenBy, SerialAnswer, all_of}
+use Rattle.flow_collect.specs.InFull.{FullSerialAnswer, FullSerialHeadline, IsGivenInContext, IsGivenInFull}
+use Rattle.flow_collect.specs.Places.{Each4}
+use Rattle.flow_collect.specs.Refusals.{AreTooLarge, AreTooLargeInContext}
+use Rattle.flow_collect.specs.Texts.{AreTexts}
+use Rattle.flow_collect.specs.declared.fault.CollectFault.{CollectFault}
+use Rattle.flow_collect.specs.declared.session_context.InContext.{InContext}
+use Rattle.flow_collect.specs.declared.session_context.TheConstants.{NO_CONTEXT}
+use Rattle.flow_collect.proofs.Contexts.{IsUnwanted, first_in_context, given_plain, records_plain, too_large_plain, whole_in_context}
 use Rattle.flow_collect.proofs.InFull.{given_short, short_sessions}
 use Rattle.flow_export.specs.declared.fault.ExportFault.{ExportFault}
 use Rattle.output_tables.specs.declared.output.Output.{Output}
 use Rattle.command_collect.specs.Engines.{CollectsBy}
-use Rattle.command_collect.specs.Runs.{AddsUpWhole, HaveNoFault, IsNotExported, WentWell, WritesTable}
+use Rattle.command_collect.specs.Exporters.{in_context, in_places, other_origins, others_told}
+use Rattle.command_collect.specs.Runs.{AddsUpWhole, HaveNoFault, IsCollectFault, IsNotExported, IsOfWhole, WentWell, WritesTable, plain_texts, texts_in_context}
 use Rattle.command_collect.specs.declared.engine.Engine.{Engine}
-use Rattle.command_collect.proofs.WentWell.{NoFault, no_fault_short, well_plainly}
+use Rattle.command_collect.specs.declared.job.CollectJob.{CollectJob}
+use Rattle.command_collect.proofs.WentWell.{NoFault, well_plainly}
+
+-- these sources, and nothing is wanted of what their sessions know
+pub record IsPlain {S : Type 0} (given : List (InContext S)) (sources : List S) : Type 0 where
+  pub sources_are : sources_of given ≡ sources
+  pub unwanted : All IsUnwanted given
+
+pub plainly_given : {S : Type 0} (job : CollectJob) (sources : List S) (origins : List Origin) → job.wanted ≡ NO_CONTEXT.wanted → IsPlain (in_context job sources origins) sources
+plainly_given job sources origins none = each job sources job.exporters.now origins none
+  where
+    each : {S : Type 0} (job : CollectJob) (sources : List S) (told : List (Option IpAddr)) (origins : List Origin) → job.wanted ≡ NO_CONTEXT.wanted → IsPlain (in_places job sources told origins) sources
+    each job [] told origins none = record { sources_are = refl; unwanted = All-nil IsUnwanted }
+    each job (s ∷ sources) told origins none =
+        let rest = each job sources (others_told told) (other_origins origins) none in
+        record { sources_are = ap (λ (l : List _). s ∷ l) rest.sources_are; unwanted = All-cons IsUnwanted _ _ none rest.unwanted }
 
 -- the same run, with reports that aren't in full
 abbrev pub short_run : {S : Type 0} → FullSerialAnswer S → SerialAnswer S
 short_run c = record { sessions = short_sessions c.sessions; sources = c.sources; table = c.table }
 
+-- there are as many
+pub as_many : {S : Type 0} (job : CollectJob) (sources : List S) (told : List (Option IpAddr)) (origins : List Origin) → length (in_places job sources told origins) ≡ length sources
+as_many job [] told origins = refl
+as_many job (s ∷ sources) told origins = ap suc (as_many job sources (others_told told) (other_origins origins))
+
 module _ {S : Type 0} (seen : S → SourceView) where
-  pub adds_up_whole : ((s : S) → (seen s).ended ≡ true → ForSome (seen s).text (λ xs. xs ≡ [])) → (c : FullSerialAnswer S) (sources : List S) (plan : PlanValue)
-      → FullSerialHeadline seen sources plan c → All NoFault c.sessions.items → AddsUpWhole seen sources plan c.table
+  pub adds_up_whole : ((s : S) → (seen s).ended ≡ true → ForSome (seen s).text (λ xs. xs ≡ [])) → (c : FullSerialAnswer S) (sources : List (InContext S)) (plan : PlanValue)
+      → FullSerialHeadline seen sources plan c → All NoFault c.sessions.items → AddsUpWhole (texts_in_context seen) sources plan c.table
   adds_up_whole at_end c sources plan h none = λ texts t.
-      let given = given_short seen sources c.sources.items c.sessions.items h.records h.given in
-      let whole = all_whole seen at_end sources c.sources.items (reports_in c.sessions.items) h.records texts given t (no_fault_short c.sessions.items none) in
-      record {
-        whole = whole_clean h.records texts whole;
-        added_up = subst (λ (rs : List DataRecord). IsAddedUp plan rs c.table) (whole_records h.records texts whole) h.added_up;
-      }
+      let (are, clean) = whole_in_context seen at_end sources c.sources.items c.sessions.items h.records texts h.given t none in
+      record { whole = clean; added_up = subst (λ (rs : List (List DataRecord)). IsAddedUp plan (all_of rs) c.table) are h.added_up }
 
   module _ (strict : Bool) (plan : PlanValue) (engine : Engine) (status : ℕ) where
-    abbrev pub Full : (FullSerialAnswer S → Type 0) → List S → Type 0
-    Full Ends sources = WritesTable seen (IsGivenInFull seen) (WentWell strict) plan engine status Ends sources
+    abbrev pub Full : (FullSerialAnswer S → Type 0) → List (InContext S) → Type 0
+    Full Ends sources = WritesTable (texts_in_context seen) (IsGivenInContext seen) (WentWell strict) plan engine status Ends sources
 
-    pub writes_table : (Ends : FullSerialAnswer S → Type 0) (sources : List S) (c : FullSerialAnswer S)
-        → CollectsBy engine (IsGivenInFull seen) sources plan c → ((status ≡ 0) ↔ WentWell strict c.sessions.items c.table) → (status ≡ 0 → AddsUpWhole seen sources plan c.table) → Ends c
+    pub writes_table : (Ends : FullSerialAnswer S → Type 0) (sources : List (InContext S)) (c : FullSerialAnswer S)
+        → CollectsBy engine (IsGivenInContext seen) sources plan c → ((status ≡ 0) ↔ WentWell strict c.sessions.items c.table) → (status ≡ 0 → AddsUpWhole (texts_in_context seen) sources plan c.table) → Ends c
         → Full Ends sources
     writes_table Ends sources c h status_is whole ends =
         record {
           collected = c;
           collects = h;
-          first = λ texts t. first_each seen sources c.sources.items (reports_in c.sessions.items) h.headline.records texts (given_short seen sources c.sources.items c.sessions.items h.headline.records h.headline.given) t;
+          first = λ texts t. first_in_context seen sources c.sources.items c.sessions.items h.headline.records texts h.headline.given t;
           status_is = status_is;
           whole = whole;
           ends = ends;
         }
 
     -- the same, where more is said of how it ended
-    pub ends_so : (Ends All_ends : FullSerialAnswer S → Type 0) (sources : List S) → ((c : FullSerialAnswer S) → Ends c → All_ends c) → Full Ends sources → Full All_ends sources
+    pub ends_so : (Ends All_ends : FullSerialAnswer S → Type 0) (sources : List (InContext S)) → ((c : FullSerialAnswer S) → Ends c → All_ends c) → Full Ends sources → Full All_ends sources
     ends_so Ends All_ends sources all w =
         record { collected = w.collected; collects = w.collects; first = w.first; status_is = w.status_is; whole = w.whole; ends = all w.collected w.ends }
 
-    -- ---- without the rest
+    -- ---- without the rest, and with nothing that sessions know
 
-    collects_short : (sources : List S) (c : FullSerialAnswer S) → CollectsBy engine (IsGivenInFull seen) sources plan c → CollectsBy engine (IsGivenBy seen) sources plan (short_run c)
-    collects_short sources c b =
-        let h = b.headline in
-        record { headline = record { records = h.records; given = given_short seen sources c.sources.items c.sessions.items h.records h.given; added_up = h.added_up }; came = b.came }
+    module _ (given : List (InContext S)) (sources : List S) (plain : IsPlain given sources) where
+      texts_there : (texts : List (List ℕ)) → AreTexts seen sources texts → AreTexts seen (sources_of given) texts
+      texts_there texts t = subst (λ (l : List S). AreTexts seen l texts) (sym plain.sources_are) t
 
-    pub not_exported_short : (output : Output) (IsUntouched : Type 0) (sources : List S) (fault : ExportFault)
-        → IsNotExported seen (IsGivenInFull seen) plan engine output IsUntouched sources fault → IsNotExported seen (IsGivenBy seen) plan engine output IsUntouched sources fault
-    not_exported_short output IsUntouched sources fault n =
-        record { collected = short_run n.collected; collects = collects_short sources n.collected n.collects; not_written = n.not_written }
+      collects_short : (c : FullSerialAnswer S) → CollectsBy engine (IsGivenInContext seen) given plan c → CollectsBy engine (IsGivenBy seen) sources plan (short_run c)
+      collects_short c b =
+          let h = b.headline in
+          let own = given_plain seen given c.sources.items c.sessions.items h.records plain.unwanted h.given in
+          let there = subst (λ (l : List S). Each4 (IsGivenInFull seen) l c.sources.items c.sessions.items h.records) plain.sources_are own in
+          record { headline = record { records = h.records; given = given_short seen sources c.sources.items c.sessions.items h.records there; added_up = h.added_up }; came = b.came }
 
-    pub table_short : (Ends : FullSerialAnswer S → Type 0) (Short : SerialAnswer S → Type 0) → strict ≡ false → ((c : FullSerialAnswer S) → Ends c → Short (short_run c))
-        → (sources : List S) → Full Ends sources → WritesTable seen (IsGivenBy seen) HaveNoFault plan engine status Short sources
-    unfolding collects_short
-    table_short Ends Short plain shorter sources w =
-        record {
-          collected = short_run w.collected;
-          collects = collects_short sources w.collected w.collects;
-          first = w.first;
-          status_is = well_plainly status strict w.collected.sessions.items w.collected.table plain w.status_is;
-          whole = w.whole;
-          ends = shorter w.collected w.ends;
-        }
+      pub not_exported_short : (output : Output) (IsUntouched : Type 0) (fault : ExportFault)
+          → IsNotExported (texts_in_context seen) (IsGivenInContext seen) plan engine output IsUntouched given fault → IsNotExported (plain_texts seen) (IsGivenBy seen) plan engine output IsUntouched sources fault
+      not_exported_short output IsUntouched fault n =
+          record { collected = short_run n.collected; collects = collects_short n.collected n.collects; not_written = n.not_written }
+
+      pub fault_plain : (count : ℕ) (fault : CollectFault) → IsCollectFault count (AreTooLargeInContext seen plan given) engine fault → IsCollectFault count (AreTooLarge seen plan sources) engine fault
+      fault_plain count fault f =
+          record { arguments = f.arguments; others = f.others; too_large = λ is. subst (AreTooLarge seen plan) plain.sources_are (too_large_plain seen plan given plain.unwanted (f.too_large is)) }
+
+      pub table_short : (Ends : FullSerialAnswer S → Type 0) (Short : SerialAnswer S → Type 0) → strict ≡ false → ((c : FullSerialAnswer S) → Ends c → Short (short_run c))
+          → Full Ends given → WritesTable (plain_texts seen) (IsGivenBy seen) HaveNoFault plan engine status Short sources
+      unfolding collects_short
+      table_short Ends Short loose shorter w =
+          record {
+            collected = short_run w.collected;
+            collects = collects_short w.collected w.collects;
+            first = λ texts t.
+                let there = texts_there texts t in
+                subst (λ (l : List (List DataRecord)). AllZip IsPrefix w.collects.headline.records l) (records_plain given texts _ plain.unwanted there) (w.first texts there);
+            status_is = well_plainly status strict w.collected.sessions.items w.collected.table loose w.status_is;
+            whole = λ well texts t.
+                let there = texts_there texts t in
+                subst (IsOfWhole plan w.collected.table texts) (records_plain given texts _ plain.unwanted there) (w.whole well texts there);
+            ends = shorter w.collected w.ends;
+          }

@@ -27,6 +27,6 @@ CameOver (Links pool) records = (links : List Settled) × AllZip (IsReceived poo
 CameOver (Lots lots) records = Unit {0}
 
 -- the headline, and over links what was received
-pub record CollectsBy {S R : Type 0} (engine : Engine) (Gets : S → S → R → List DataRecord → Type 0) (sources : List S) (plan : PlanValue) (s : Serial S R Table) : Type 0 where
+pub record CollectsBy {A S R : Type 0} (engine : Engine) (Gets : A → S → R → List DataRecord → Type 0) (sources : List A) (plan : PlanValue) (s : Serial S R Table) : Type 0 where
   pub headline : SerialHeadlineWith Gets sources plan s
   pub came : CameOver engine headline.records

@@ -1,9 +1,9 @@
 -- What a run of collecting wrote, and when its status says that all was well.
-use Rattle.std.specs.Prelude.{◌≡◌, ◌≢◌, ◌⊎◌, ◌↔◌, ℕ, Bool, true, false, List, [], ◌++◌, All, IfSome, IfNone, Option, length}
-use Rattle.std.specs.List.{AllZip, flat_map}
+use Rattle.std.specs.Prelude.{◌≡◌, ◌≢◌, ◌⊎◌, ◌↔◌, ℕ, Bool, true, false, List, [], ◌++◌, All, IfSome, IfNone, Option, length, map}
+use Rattle.std.specs.List.{AllZip}
 use Rattle.std.specs.declared.io.ErrorKind.{ErrorKind}
 use Rattle.ipfix_message.specs.declared.record.DataRecord.{DataRecord}
-use Rattle.ipfix_session.specs.Given.{records_of, stop_of}
+use Rattle.ipfix_session.specs.Given.{records_of, stop_of, IsPrefix}
 use Rattle.ipfix_session.specs.Sources.{SourceView}
 use Rattle.ipfix_session.specs.declared.report.FullReport.{FullReport}
 use Rattle.ipfix_session.specs.declared.report.SessionReport.{SessionReport}
@@ -17,12 +17,14 @@ use Rattle.report_sessions.specs.Spotless.{IsSpotless}
 use Rattle.flow_table.specs.AddedUp.{rows_in}
 use Rattle.flow_table.specs.Plans.{PlanValue}
 use Rattle.flow_table.specs.declared.table.Table.{Table}
-use Rattle.flow_collect.specs.Headline.{IsAddedUp, IsGivenBy, SerialAnswer}
-use Rattle.flow_collect.specs.InFull.{FullSerialAnswer, IsGivenInFull}
-use Rattle.flow_collect.specs.Refusals.{AreTooLarge, IsLate}
-use Rattle.flow_collect.specs.Texts.{AreFirstOf, AreTexts, HasNoFault}
+use Rattle.flow_collect.specs.Contexts.{records_in_context, sources_of}
+use Rattle.flow_collect.specs.Headline.{IsAddedUp, IsGivenBy, SerialAnswer, all_of}
+use Rattle.flow_collect.specs.InFull.{FullSerialAnswer, IsGivenInContext}
+use Rattle.flow_collect.specs.Refusals.{AreTooLarge, AreTooLargeInContext, IsLate}
+use Rattle.flow_collect.specs.Texts.{AreTexts, HasNoFault}
 use Rattle.flow_collect.specs.declared.collected.Serial.{Serial}
 use Rattle.flow_collect.specs.declared.fault.CollectFault.{CollectFault}
+use Rattle.flow_collect.specs.declared.session_context.InContext.{InContext}
 use Rattle.flow_collect.specs.declared.fault.CollectFault.TheVariants.{SumTooLarge}
 use Rattle.flow_export.specs.declared.fault.ExportFault.{ExportFault}
 use Rattle.input_sources.specs.Had.{IsUnread}
@@ -30,6 +32,7 @@ use Rattle.output_tables.specs.TableTexts.{IsNotWritten, Writes}
 use Rattle.output_tables.specs.declared.output.Output.{Output}
 use Rattle.command_collect.specs.CollectLines.{collect_fault_line}
 use Rattle.command_collect.specs.Engines.{due_fault, CollectsBy}
+use Rattle.command_collect.specs.Exporters.{in_context}
 use Rattle.command_collect.specs.Told.{run_lines, TellsFault}
 use Rattle.command_collect.specs.declared.engine.Engine.{Engine}
 use Rattle.command_collect.specs.declared.job.CollectJob.{CollectJob}
@@ -43,43 +46,57 @@ abbrev pub WentWell : Bool → List FullReport → Table → Type 0
 WentWell true fulls table = IsSpotless fulls table.tally table.missing
 WentWell false fulls table = All (λ (full : FullReport). HasNoFault full.report) fulls
 
-module _ {S : Type 0} (seen : S → SourceView) where
-  -- each of these texts ends with a whole message, and the table is that of all their records
-  pub record IsOfWhole (plan : PlanValue) (table : Table) (texts : List (List ℕ)) : Type 0 where
-    pub whole : All (λ t. stop_of t ≡ Clean) texts
-    pub added_up : IsAddedUp plan (flat_map records_of texts) table
+-- which texts sources hold, and the records of each of these
+pub record TextsOf (A : Type 0) : Type 1 where
+  pub are_texts : List A → List (List ℕ) → Type 0
+  pub records : List A → List (List ℕ) → List (List DataRecord)
 
+-- those of RFC 7011,
+abbrev pub plain_texts : {S : Type 0} → (S → SourceView) → TextsOf S
+plain_texts seen = record { are_texts = AreTexts seen; records = λ sources texts. map records_of texts }
+
+-- and the same with what sessions know
+abbrev pub texts_in_context : {S : Type 0} → (S → SourceView) → TextsOf (InContext S)
+texts_in_context seen = record { are_texts = λ sources texts. AreTexts seen (sources_of sources) texts; records = records_in_context }
+
+-- each of these texts ends with a whole message, and the table is that of all these records
+pub record IsOfWhole (plan : PlanValue) (table : Table) (texts : List (List ℕ)) (records : List (List DataRecord)) : Type 0 where
+  pub whole : All (λ t. stop_of t ≡ Clean) texts
+  pub added_up : IsAddedUp plan (all_of records) table
+
+module _ {A : Type 0} (held : TextsOf A) where
   -- the table is that of the sources' whole texts, if they tell them
-  abbrev pub AddsUpWhole : List S → PlanValue → Table → Type 0
-  AddsUpWhole sources plan table = (texts : List (List ℕ)) → AreTexts seen sources texts → IsOfWhole plan table texts
+  abbrev pub AddsUpWhole : List A → PlanValue → Table → Type 0
+  AddsUpWhole sources plan table = (texts : List (List ℕ)) → held.are_texts sources texts → IsOfWhole plan table texts (held.records sources texts)
 
   -- by what a worker gets, as in the headline
-  module _ {R : Type 0} (Gets : S → S → R → List DataRecord → Type 0) where
+  module _ {S R : Type 0} (Gets : A → S → R → List DataRecord → Type 0) where
     -- what was collected ended as the last fact says it; the status says that all was well exactly if it was
-    pub record WritesTable (IsWell : List R → Table → Type 0) (plan : PlanValue) (engine : Engine) (status : ℕ) (Ends : Serial S R Table → Type 0) (sources : List S) : Type 0 where
+    pub record WritesTable (IsWell : List R → Table → Type 0) (plan : PlanValue) (engine : Engine) (status : ℕ) (Ends : Serial S R Table → Type 0) (sources : List A) : Type 0 where
       -- what the headline says
       pub collected : Serial S R Table
       pub collects : CollectsBy engine Gets sources plan collected
       -- the records of each session are the first of those that its source's whole text gives
-      pub first : (texts : List (List ℕ)) → AreTexts seen sources texts → AreFirstOf collects.headline.records texts
+      pub first : (texts : List (List ℕ)) → held.are_texts sources texts → AllZip IsPrefix collects.headline.records (held.records sources texts)
       pub status_is : (status ≡ number_of Well) ↔ IsWell collected.sessions.items collected.table
       -- then the table is that of the whole texts
       pub whole : status ≡ number_of Well → AddsUpWhole sources plan collected.table
       pub ends : Ends collected
 
     -- all was collected, and the table that it gave wasn't written for this reason
-    pub record IsNotExported (plan : PlanValue) (engine : Engine) (output : Output) (IsUntouched : Type 0) (sources : List S) (fault : ExportFault) : Type 0 where
+    pub record IsNotExported (plan : PlanValue) (engine : Engine) (output : Output) (IsUntouched : Type 0) (sources : List A) (fault : ExportFault) : Type 0 where
       pub collected : Serial S R Table
       pub collects : CollectsBy engine Gets sources plan collected
       pub not_written : IsNotWritten output (length (rows_in collected.table)) IsUntouched fault
 
-  -- nothing may be collected from these sources for this reason: it is the fault that the arguments have, if they have one;
-  -- else one that comes late, and only if the records of the sources' whole texts are too large that a sum is
-  pub record IsCollectFault (sources : List S) (plan : PlanValue) (engine : Engine) (fault : CollectFault) : Type 0 where
-    pub arguments : IfSome (due_fault engine (length sources)) (λ due. fault ≡ due)
-    pub others : IfNone (due_fault engine (length sources)) (IsLate fault)
-    pub too_large : fault ≡ SumTooLarge → AreTooLarge seen plan sources
+-- nothing may be collected from so many sources for this reason: it is the fault that the arguments have, if they have one;
+-- else one that comes late, and only if the records of the sources' whole texts are too large that a sum is
+pub record IsCollectFault (count : ℕ) (TooLarge : Type 0) (engine : Engine) (fault : CollectFault) : Type 0 where
+  pub arguments : IfSome (due_fault engine count) (λ due. fault ≡ due)
+  pub others : IfNone (due_fault engine count) (IsLate fault)
+  pub too_large : fault ≡ SumTooLarge → TooLarge
 
+module _ {S : Type 0} (seen : S → SourceView) where
   -- sources were had as the first fact says it, none of which was read before, and they were run as the last one says it
   pub record RunsSources (AreHad RunsThem : List S → Type 0) : Type 0 where
     pub sources : List S
@@ -107,8 +124,8 @@ module _ {W : Type 0} (contents : W → Option (List ℕ)) (old new : W) (AreTol
   abbrev pub RunsPlainly : {S : Type 0} → (S → SourceView) → List S → PlanValue → Engine → Output → ℕ → Type 0
   RunsPlainly seen sources plan engine output status =
       Runs engine (length sources) status (new ≡ old)
-      (WritesTable seen (IsGivenBy seen) HaveNoFault plan engine status (WritesAndTells plan output) sources)
-      (TellsFault (new ≡ old) (IsCollectFault seen sources plan engine) (IsNotExported seen (IsGivenBy seen) plan engine output (new ≡ old) sources) AreTold) AreTold
+      (WritesTable (plain_texts seen) (IsGivenBy seen) HaveNoFault plan engine status (WritesAndTells plan output) sources)
+      (TellsFault (new ≡ old) (IsCollectFault (length sources) (AreTooLarge seen plan sources) engine) (IsNotExported (plain_texts seen) (IsGivenBy seen) plan engine output (new ≡ old) sources) AreTold) AreTold
 
   -- the table was written by the names that elements have under the files of a job; the sessions were told in full, each with
   -- the reason that its own source answered, and nothing else
@@ -117,9 +134,10 @@ module _ {W : Type 0} (contents : W → Option (List ℕ)) (old new : W) (AreTol
       Writes job.elements.now job.plan.now job.output (contents old) (contents new) c.table
       × TellsEnded failure c.sources.items c.sessions.items (run_lines job origins c.table) AreTold
 
-  -- and how one ended with a job
+  -- and how one ended with a job, of sources with what their sessions know by their origins, as far as the job wants it
   abbrev pub RunsJob : {S : Type 0} → (S → SourceView) → (S → Option ErrorKind) → List S → CollectJob → List Origin → ℕ → Type 0
   RunsJob seen failure sources job origins status =
+      let given = in_context job sources origins in
       Runs job.engine (length sources) status (new ≡ old)
-      (WritesTable seen (IsGivenInFull seen) (WentWell job.verbosity.strict) job.plan.now job.engine status (WritesAndTellsJob failure job origins) sources)
-      (TellsFault (new ≡ old) (IsCollectFault seen sources job.plan.now job.engine) (IsNotExported seen (IsGivenInFull seen) job.plan.now job.engine job.output (new ≡ old) sources) AreTold) AreTold
+      (WritesTable (texts_in_context seen) (IsGivenInContext seen) (WentWell job.verbosity.strict) job.plan.now job.engine status (WritesAndTellsJob failure job origins) given)
+      (TellsFault (new ≡ old) (IsCollectFault (length sources) (AreTooLargeInContext seen job.plan.now given) job.engine) (IsNotExported (texts_in_context seen) (IsGivenInContext seen) job.plan.now job.engine job.output (new ≡ old) given) AreTold) AreTold

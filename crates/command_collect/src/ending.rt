@@ -5,8 +5,9 @@ ghost use Rattle.report_writing.specs.Writing.{Tells};
 ghost use Rattle.flow_table.specs.Plans.{PlanValue};
 ghost use Rattle.flow_collect.specs.InFull.{FullSerialHeadline};
 ghost use Rattle.flow_collect.specs.Texts.{HasNoFault};
+ghost use Rattle.flow_collect.specs.declared.session_context.InContext.{InContext};
 ghost use Rattle.report_sessions.specs.EndedSessions.{TellsEnded};
-ghost use Rattle.command_collect.specs.Runs.{AddsUpWhole, WentWell};
+ghost use Rattle.command_collect.specs.Runs.{AddsUpWhole, WentWell, texts_in_context};
 ghost use Rattle.command_collect.specs.Told.{run_lines, table_told};
 
 use crate::job::CollectJob;
@@ -18,16 +19,16 @@ use report_writing::{Origin, Status, WriteLines};
 use std::io;
 
 /// How a run ended whose table is written.
-pub fn status_of<S: Source>(strict: bool, collected: &Serial<S, FullReport, FlatTable>) -> Status
+pub fn status_of<S: Source>(strict: bool, run: &Serial<S, FullReport, FlatTable>) -> Status
     ensures ends { (result ≡ Status.Well) ⊎ (result ≡ Status.SessionFault) }
     ensures well { (result ≡ Status.Well)
-        ↔ WentWell strict collected.now.sessions.items collected.now.table }
-    ensures whole { (sources : List S) (plan : PlanValue)
-        → FullSerialHeadline S.seen sources plan collected.now
-        → WentWell strict collected.now.sessions.items collected.now.table
-        → AddsUpWhole S.seen sources plan collected.now.table }
+        ↔ WentWell strict run.now.sessions.items run.now.table }
+    ensures whole { (sources : List (InContext S)) (plan : PlanValue)
+        → FullSerialHeadline S.seen sources plan run.now
+        → WentWell strict run.now.sessions.items run.now.table
+        → AddsUpWhole (texts_in_context S.seen) sources plan run.now.table }
 {
-    end_of(strict, &collected.sessions, &collected.table)
+    end_of(strict, &run.sessions, &run.table)
 }
 
 // How sessions and their records ended.

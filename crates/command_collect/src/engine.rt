@@ -2,13 +2,13 @@
 
 ghost use Rattle.std.specs.Prelude.{◌≡◌, IfOk, vec_len};
 ghost use Rattle.flow_table.specs.Fitting.{FitsPlan};
-ghost use Rattle.flow_collect.specs.InFull.{IsGivenInFull};
-ghost use Rattle.flow_collect.specs.Refusals.{HasFaults, HasFaultsOf};
+ghost use Rattle.flow_collect.specs.InFull.{IsGivenInContext};
+ghost use Rattle.flow_collect.specs.Refusals.{AreTooLargeInContext, HasFaultsInContext, HasFaultsOf};
 ghost use Rattle.command_collect.specs.Engines.{due_fault, CollectsBy};
 
 use flow_collect::{
-    CollectFault, Collected, OpenGate, Pool, Serial, collect_direct, collect_flat, direct_refusal,
-    refusal,
+    CollectFault, Collected, InContext, OpenGate, Pool, Serial, collect_direct, collect_flat,
+    direct_refusal, refusal,
 };
 use flow_table::{FlatTable, Plan};
 use ipfix_session::{FullReport, Source};
@@ -43,13 +43,13 @@ impl Engine {
         self,
         rt: &R,
         alloc: Global,
-        sources: Vec<S>,
+        sources: Vec<InContext<S>>,
         plan: &Plan,
     ) -> Result<Serial<S, FullReport, FlatTable>, CollectFault>
-        ensures ok { IfOk result (CollectsBy self (IsGivenInFull S.seen) sources.items plan.now) }
+        ensures ok { IfOk result (CollectsBy self (IsGivenInContext S.seen) sources.items plan.now) }
         ensures fits { IfOk result (λ s. FitsPlan plan.now s.table) }
-        ensures faults { HasFaultsOf (due_fault self (vec_len sources)) S.seen sources.items plan.now
-            result }
+        ensures faults { HasFaultsOf (due_fault self (vec_len sources))
+            (AreTooLargeInContext S.seen plan.now sources.items) result }
     {
         match self {
             Engine::Links(pool) => collect_over_links(rt, alloc, sources, plan, pool),
@@ -62,13 +62,14 @@ impl Engine {
 fn collect_over_links<S: Source + Send + Drop, R: Threads + Wait + Sync>(
     rt: &R,
     alloc: Global,
-    sources: Vec<S>,
+    sources: Vec<InContext<S>>,
     plan: &Plan,
     pool: Pool,
 ) -> Result<Serial<S, FullReport, FlatTable>, CollectFault>
-    ensures ok { IfOk result (CollectsBy (Engine.Links pool) (IsGivenInFull S.seen) sources.items plan.now) }
+    ensures ok { IfOk result (CollectsBy (Engine.Links pool) (IsGivenInContext S.seen) sources.items
+        plan.now) }
     ensures fits { IfOk result (λ s. FitsPlan plan.now s.table) }
-    ensures faults { HasFaults S.seen sources plan.now pool result }
+    ensures faults { HasFaultsInContext S.seen sources plan.now pool result }
 {
     match collect_flat(rt, alloc, sources, plan, pool, &OpenGate) {
         Ok(collected) => Ok(without_links(collected)),

@@ -4,9 +4,11 @@ ghost use Rattle.std.specs.Prelude.{◌≡◌};
 
 use crate::engine::Engine;
 use element_registry::Elements;
-use flow_table::Plan;
+use flow_collect::NO_CONTEXT;
+use flow_table::{Context, Plan};
 use output_tables::Output;
 use report_writing::{NOTHING_MORE, Verbosity};
+use std::net::IpAddr;
 use std::time::Duration;
 
 /// What a run is to do with what it collects, wherever that comes from.
@@ -22,16 +24,22 @@ pub struct CollectJob<'a> {
     pub output: Output,
     /// What is told beside the lines that always stand.
     pub verbosity: Verbosity,
+    /// Which elements of context records get: those that the plan's keys name.
+    pub wanted: Context,
+    /// The exporter that is told of each session, if one is, by its place. Of a connection it is the peer if none is
+    /// told.
+    pub exporters: &'a [Option<IpAddr>],
 }
 
 impl<'a> CollectJob<'a> {
-    /// One that tells nothing more.
+    /// One that tells nothing more, and wants no context.
     pub fn plain(elements: &'a Elements, plan: &'a Plan, engine: Engine, output: Output) -> Self
         ensures elements { result.elements.now ≡ elements.now }
         ensures plan { result.plan.now ≡ plan.now }
         ensures engine { result.engine ≡ engine }
         ensures output { result.output ≡ output }
         ensures verbosity { result.verbosity ≡ NOTHING_MORE }
+        ensures wanted { result.wanted ≡ NO_CONTEXT.wanted }
     {
         CollectJob {
             elements,
@@ -39,6 +47,8 @@ impl<'a> CollectJob<'a> {
             engine,
             output,
             verbosity: NOTHING_MORE,
+            wanted: NO_CONTEXT.wanted,
+            exporters: &[],
         }
     }
 }

@@ -6,6 +6,7 @@ mod commands;
 mod early;
 mod ending;
 mod engine;
+mod exporters;
 mod job;
 mod limits;
 mod table;

@@ -1,5 +1,11 @@
 //! Collecting and writing the table.
 
+ghost use Rattle.std.specs.Prelude.{IfOk, vec_len};
+ghost use Rattle.flow_table.specs.Fitting.{FitsPlan};
+ghost use Rattle.flow_collect.specs.InFull.{IsGivenInContext};
+ghost use Rattle.flow_collect.specs.Refusals.{AreTooLargeInContext, HasFaultsOf};
+ghost use Rattle.command_collect.specs.Engines.{due_fault, CollectsBy};
+ghost use Rattle.command_collect.specs.Exporters.{in_context as given};
 ghost use Rattle.report_writing.specs.Statuses.{number_of};
 ghost use Rattle.report_writing.specs.Told.{AreToldTo};
 ghost use Rattle.command_collect.specs.Runs.{RunsJob, RunsPlainly};
@@ -7,14 +13,15 @@ ghost use Rattle.command_collect.specs.Runs.{RunsJob, RunsPlainly};
 use crate::collect_fault::write_collect_fault;
 use crate::ending::{status_of, tell};
 use crate::engine::Engine;
+use crate::exporters::in_context;
 use crate::job::CollectJob;
 use element_registry::Elements;
-use flow_collect::Pool;
-use flow_table::Plan;
-use ipfix_session::Source;
+use flow_collect::{CollectFault, Pool, Serial};
+use flow_table::{FlatTable, Plan};
+use ipfix_session::{FullReport, Source};
 use output_tables::{Output, export, write_export_fault};
 use report_writing::{Origin, Status, WriteLines};
-use std::alloc::Global;
+use std::alloc::{AllocError, Global};
 use std::io::Write;
 use std::sync::Wait;
 use std::thread::Threads;
@@ -51,7 +58,8 @@ pub fn run<S: Source + Send + Drop, W: Write, E: WriteLines, R: Threads + Wait +
 }
 
 /// Does as [`run`], and tells more if `job.verbosity` asks for it: to `err` it writes the lines of the
-/// sessions in full, each with the origin that has the session's place. Keys and counters have the names that
+/// sessions in full, each with the origin that has the session's place. What `job.wanted` names is appended to each
+/// record: the exporter by that origin, and the record's own domain. Keys and counters have the names that
 /// `job.elements` give them. If it is strict, it ends with `SessionFault` also if anything shows that something which
 /// was sent isn't in the table ([`is_spotless`](report_sessions::is_spotless)).
 pub fn run_with<S: Source + Send + Drop, W: Write, E: WriteLines, R: Threads + Wait + Sync>(
@@ -70,7 +78,7 @@ pub fn run_with<S: Source + Send + Drop, W: Write, E: WriteLines, R: Threads + W
         origins.now (number_of result) }
     ensures kept { E.failed err.old → E.failed err.new }
 {
-    let collected = match job.engine.collect(rt, alloc, sources, job.plan) {
+    let collected = match collect_job(rt, alloc, sources, origins, job) {
         Ok(collected) => collected,
         Err(fault) => {
             let _ = write_collect_fault(fault, err);
@@ -84,4 +92,28 @@ pub fn run_with<S: Source + Send + Drop, W: Write, E: WriteLines, R: Threads + W
     }
     let _ = tell(job, origins, &collected, err);
     status_of(job.verbosity.strict, &collected)
+}
+
+// Collects by the job's engine, with what sessions know by their origins.
+fn collect_job<S: Source + Send + Drop, R: Threads + Wait + Sync>(
+    rt: &R,
+    alloc: Global,
+    sources: Vec<S>,
+    origins: &[Origin],
+    job: &CollectJob,
+) -> Result<Serial<S, FullReport, FlatTable>, CollectFault>
+    ensures ok { IfOk result (CollectsBy job.now.engine (IsGivenInContext S.seen)
+        (given job.now sources.items origins.now) job.now.plan.now) }
+    ensures fits { IfOk result (λ s. FitsPlan job.now.plan.now s.table) }
+    ensures faults { HasFaultsOf (due_fault job.now.engine (vec_len sources))
+        (AreTooLargeInContext S.seen job.now.plan.now (given job.now sources.items origins.now))
+        result }
+{
+    if let Some(fault) = job.engine.refusal(sources.len()) {
+        return Err(fault);
+    }
+    match in_context(alloc, sources, origins, job) {
+        Ok(given) => job.engine.collect(rt, alloc, given, job.plan),
+        Err(AllocError) => Err(CollectFault::OutOfMemory),
+    }
 }

@@ -11,23 +11,23 @@ use Rattle.flow_link.specs.declared.settled.Settled.{Settled}
 use Rattle.flow_table.specs.Bags.{IsSameBag}
 use Rattle.flow_table.specs.Fitting.{FitsPlan}
 use Rattle.flow_table.specs.Plans.{PlanValue}
-use Rattle.flow_collect.specs.Dealt.{IsPaired, IsNewShare, IsNewStart, IsDealt, start_link}
+use Rattle.flow_collect.specs.Dealt.{IsPaired, IsNewShare, IsNewStart, IsDealt, given_to, start_link}
 use Rattle.flow_collect.specs.Finished.{HasTaken, link_ends_of, ended_link, SettlesEnds, CameOver, FinishedAs, IsOverfull, parts_of}
 use Rattle.flow_collect.specs.Headline.{all_of}
-use Rattle.flow_collect.specs.InFull.{FullAnswer, FullHeadline, reports_in}
+use Rattle.flow_collect.specs.InFull.{FullAnswer, FullHeadline}
 use Rattle.flow_collect.specs.LinkEnds.{IsEnded, WorkerRan, link_end_key, receivers_of}
 use Rattle.flow_collect.specs.Places.{Each3, Each4}
 use Rattle.flow_collect.specs.Promises.{IsSettled}
-use Rattle.flow_collect.specs.Refusals.{AreTooLarge}
+use Rattle.flow_collect.specs.Refusals.{AreTooLargeInContext}
 use Rattle.flow_collect.specs.Sessions.{SessionRan}
 use Rattle.flow_collect.specs.declared.collected.Pool.{Pool}
+use Rattle.flow_collect.specs.declared.session_context.InContext.{InContext}
 use Rattle.flow_collect.specs.declared.session_thread.EndedSession.{EndedSession}
 use Rattle.flow_collect.specs.declared.session_thread.Start.{Start}
 use Rattle.flow_collect.specs.declared.settling.Parts.{Parts}
 use Rattle.flow_collect.specs.declared.worker.LinkEnd.{LinkEnd}
 use Rattle.flow_collect.specs.declared.worker.WorkerShare.{WorkerShare}
-use Rattle.flow_collect.proofs.GivenLists.{too_large_due}
-use Rattle.flow_collect.proofs.InFull.{given_short}
+use Rattle.flow_collect.proofs.Contexts.{too_large_due}
 use Rattle.flow_collect.proofs.LinkEndLists.{taken_weighs}
 use Rattle.flow_collect.proofs.Runs.{told, run_headline}
 
@@ -89,7 +89,7 @@ module _ {S : Type 0} (seen : S → SourceView) where
 
   sessions_settled : (capacity : ℕ) (starts : List (Start S)) (ts : List (EndedSession S)) (ls : List LinkEnd) (ks : List Settled)
       → AllZip (SessionRan seen) starts ts → All (IsNewStart capacity) starts → Each3 SettlesEnds ts ls ks → All IsEnded ls
-      → Each4 (IsSettled seen capacity) (map (λ (s : Start S). s.source) starts) (map (λ (t : EndedSession S). t.source) ts) (map (λ (t : EndedSession S). t.report) ts) ks
+      → Each4 (IsSettled seen capacity) (map given_to starts) (map (λ (t : EndedSession S). t.source) ts) (map (λ (t : EndedSession S). t.report) ts) ks
   sessions_settled capacity [] [] [] [] e n z h = tt
   sessions_settled capacity [] (t ∷ ts) ls ks e n z h = absurd e
   sessions_settled capacity (s ∷ starts) [] ls ks e n z h = absurd e
@@ -108,30 +108,30 @@ module _ {S : Type 0} (seen : S → SourceView) where
       )
   sessions_settled capacity starts ts ls ks e n z h = absurd z
 
-  came_settled : (plan : PlanValue) (capacity : ℕ) (sources : List S) (starts : List (Start S)) (shares : List WorkerShare) (ts : List (EndedSession S)) (parts : Parts S) (records : List DataRecord)
+  came_settled : (plan : PlanValue) (capacity : ℕ) (sources : List (InContext S)) (starts : List (Start S)) (shares : List WorkerShare) (ts : List (EndedSession S)) (parts : Parts S) (records : List DataRecord)
       → IsDealt plan capacity sources starts shares → AllZip (SessionRan seen) starts ts → CameOver ts parts records
       → Each4 (IsSettled seen capacity) sources parts.sources.items parts.sessions.items parts.links.items
   came_settled plan capacity sources starts shares ts parts records d e came =
       rw (sym d.sources_are, came.settled.sources_are, came.settled.reports_are) (sessions_settled capacity starts ts came.link_ends parts.links.items e d.new_starts came.settled.links_are came.ended)
 
-  finished : (plan : PlanValue) (pool : Pool) (sources : List S) (starts : List (Start S)) (shares : List WorkerShare) (ts : List (EndedSession S)) (c : FullAnswer S)
+  finished : (plan : PlanValue) (pool : Pool) (sources : List (InContext S)) (starts : List (Start S)) (shares : List WorkerShare) (ts : List (EndedSession S)) (c : FullAnswer S)
       → IsDealt plan pool.capacity sources starts shares → AllZip (SessionRan seen) starts ts → FinishedAs plan ts c
       → FullHeadline seen sources plan pool c × FitsPlan plan c.table
   finished plan pool sources starts shares ts c d e f =
       let each = came_settled plan pool.capacity sources starts shares ts (parts_of c) f.records d e f.came in
       (run_headline seen sources plan pool c f.records each f.came.same f.table_is f.small, f.fits)
 
-  overfull : (plan : PlanValue) (capacity : ℕ) (sources : List S) (starts : List (Start S)) (shares : List WorkerShare) (ts : List (EndedSession S))
-      → IsDealt plan capacity sources starts shares → AllZip (SessionRan seen) starts ts → IsOverfull plan ts → AreTooLarge seen plan sources
+  overfull : (plan : PlanValue) (capacity : ℕ) (sources : List (InContext S)) (starts : List (Start S)) (shares : List WorkerShare) (ts : List (EndedSession S))
+      → IsDealt plan capacity sources starts shares → AllZip (SessionRan seen) starts ts → IsOverfull plan ts → AreTooLargeInContext seen plan sources
   overfull plan capacity sources starts shares ts d e f =
       let parts = f.parts in
       let each = came_settled plan capacity sources starts shares ts parts f.records d e f.came in
       let all = told seen capacity sources parts.sources.items parts.sessions.items parts.links.items each in
       let same : IsSameBag f.records (all_of all.records) = subst (λ (x : List DataRecord). IsSameBag f.records x) all.all f.came.same in
-      too_large_due seen plan sources parts.sources.items (reports_in parts.sessions.items) all.records f.records (given_short seen sources parts.sources.items parts.sessions.items all.records all.given) same f.large
+      too_large_due seen plan sources parts.sources.items parts.sessions.items all.records f.records all.given same f.large
 
-  pub answered : (plan : PlanValue) (pool : Pool) (sources : List S) (starts : List (Start S)) (shares : List WorkerShare) (ts : List (EndedSession S)) (answer : Option (FullAnswer S))
+  pub answered : (plan : PlanValue) (pool : Pool) (sources : List (InContext S)) (starts : List (Start S)) (shares : List WorkerShare) (ts : List (EndedSession S)) (answer : Option (FullAnswer S))
       → IsDealt plan pool.capacity sources starts shares → AllZip (SessionRan seen) starts ts → MatchOption answer (IsOverfull plan ts) (λ c. FinishedAs plan ts c)
-      → MatchOption answer (AreTooLarge seen plan sources) (λ c. FullHeadline seen sources plan pool c × FitsPlan plan c.table)
+      → MatchOption answer (AreTooLargeInContext seen plan sources) (λ c. FullHeadline seen sources plan pool c × FitsPlan plan c.table)
   answered plan pool sources starts shares ts None d e f = overfull plan pool.capacity sources starts shares ts d e f
   answered plan pool sources starts shares ts (Some c) d e f = finished plan pool sources starts shares ts c d e f

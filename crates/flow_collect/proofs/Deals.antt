@@ -7,7 +7,8 @@ use Rattle.flow_link.specs.Ends.{LinkName}
 use Rattle.flow_table.specs.Partials.{StandsFor, plan_of}
 use Rattle.flow_table.specs.Plans.{PlanValue}
 use Rattle.flow_table.specs.declared.partial.Partial.{Partial}
-use Rattle.flow_collect.specs.Dealt.{IsPaired, IsNewShare, IsNewStart, IsDealt, DealsOne, start_link}
+use Rattle.flow_collect.specs.Dealt.{IsPaired, IsNewShare, IsNewStart, IsDealt, DealsOne, given_to, start_link}
+use Rattle.flow_collect.specs.declared.session_context.InContext.{InContext}
 use Rattle.flow_collect.specs.declared.session_thread.Start.{Start}
 use Rattle.flow_collect.specs.declared.worker.LinkEnd.{LinkEnd}
 use Rattle.flow_collect.specs.declared.worker.WorkerShare.{WorkerShare}
@@ -43,7 +44,7 @@ share_on plan links first dealt link_end h partial link_ends new paired =
       paired = subst (All (IsPaired links)) (sym link_ends) (All-push (IsPaired links) first.link_ends.items link_end h.paired paired);
     }
 
-pub deal_on : {S : Type 0} (plan : PlanValue) (capacity : ℕ) (sources : List S) (source : S) (starts : List (Start S)) (shares : List WorkerShare) (starts' : List (Start S)) (shares' : List WorkerShare)
+pub deal_on : {S : Type 0} (plan : PlanValue) (capacity : ℕ) (sources : List (InContext S)) (source : InContext S) (starts : List (Start S)) (shares : List WorkerShare) (starts' : List (Start S)) (shares' : List WorkerShare)
     → IsDealt plan capacity sources starts shares → DealsOne capacity source starts shares starts' shares' → IsDealt plan capacity (sources ++ source ∷ []) starts' shares'
 deal_on {S} plan capacity sources source starts shares starts' shares' d one =
     let links = map start_link starts ++ start_link one.start ∷ [] in
@@ -54,7 +55,7 @@ deal_on {S} plan capacity sources source starts shares starts' shares' d one =
     let here : IsPaired links one.link_end = rw one.session_is (seam ∙ ap Some one.link.pair) in
     let dealt : P one.dealt = share_on plan links one.first one.dealt one.link_end (All-head P one.first one.others all) one.partial_is one.link_ends_are one.link.nothing_received here in
     record {
-      sources_are = ap (map (λ (start : Start S). start.source)) one.starts_are ∙ (map_push (λ (start : Start S). start.source) starts one.start ∙ (ap (λ r. r ++ one.start.source ∷ []) d.sources_are ∙ ap (λ s. sources ++ s ∷ []) one.source_is));
+      sources_are = ap (map given_to) one.starts_are ∙ (map_push given_to starts one.start ∙ (ap (λ r. r ++ given_to one.start ∷ []) d.sources_are ∙ ap (λ s. sources ++ s ∷ []) one.source_is));
       new_starts = rw one.starts_are (All-push (IsNewStart capacity) starts one.start d.new_starts (one.link.nothing_sent, one.link.sender_capacity));
       new_shares = rw (links_are, one.shares_are) (All-push P one.others one.dealt (All-tail P one.first one.others all) dealt);
     }
@@ -75,7 +76,7 @@ first_dealt {S} plan capacity starts shares e h =
     rw e (record { sources_are = refl; new_starts = All-nil (IsNewStart {S = S} capacity); new_shares = h })
 
 -- there are as many shares as before
-pub as_many : {S : Type 0} (capacity : ℕ) (source : S) (starts : List (Start S)) (shares : List WorkerShare) (starts' : List (Start S)) (shares' : List WorkerShare)
+pub as_many : {S : Type 0} (capacity : ℕ) (source : InContext S) (starts : List (Start S)) (shares : List WorkerShare) (starts' : List (Start S)) (shares' : List WorkerShare)
     → DealsOne capacity source starts shares starts' shares' → length shares' ≡ length shares
 as_many capacity source starts shares starts' shares' one =
     let more = ap length one.shares_are in

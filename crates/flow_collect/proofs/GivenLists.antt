@@ -32,7 +32,6 @@ use Rattle.flow_table.specs.Tables.{IsTooLarge}
 use Rattle.flow_table.proofs.Bags.{too_large_bag, too_large_more}
 use Rattle.flow_collect.specs.Places.{Each4}
 use Rattle.flow_collect.specs.Headline.{IsReceived, IsGivenBy, all_of}
-use Rattle.flow_collect.specs.Refusals.{AreTooLarge}
 use Rattle.flow_collect.specs.Texts.{HadMemory, HasNoFault, WasReadOut, AreTexts, GaveThese, EachGave}
 use Rattle.flow_collect.proofs.PlaceLists.{last_two, last_beside, last_two_beside, outer_two, each4_third}
 
@@ -82,7 +81,7 @@ module _ {S : Type 0} (seen : S → SourceView) where
   pub gave_is : (before after : S) (r : SessionReport) (q : List DataRecord) (b : List ℕ) (g : IsGivenBy seen before after r q) → GaveThese (seen before) (seen after) b → b ≡ g.gave
   gave_is before after r q b g t = append_cancel_right b g.gave t.left (consumed_known (seen before).text (seen after).text (b ++ t.left) t.left g.gave t.held t.holds g.given.octets)
 
-  first_of_text : (before after : S) (r : SessionReport) (q : List DataRecord) (t : List ℕ) → IsGivenBy seen before after r q → (seen before).text ≡ Some t → IsPrefix q (records_of t)
+  pub first_of_text : (before after : S) (r : SessionReport) (q : List DataRecord) (t : List ℕ) → IsGivenBy seen before after r q → (seen before).text ≡ Some t → IsPrefix q (records_of t)
   first_of_text before after r q t g is =
       let held = consumed_first (seen before).text (seen after).text t g.gave is g.given.octets in
       let more : IsPrefix (records_of g.gave) (records_of t) = subst (λ (l : List ℕ). IsPrefix (records_of g.gave) (records_of l)) (sym held.1) (records_of-prefix g.gave held.0) in
@@ -157,12 +156,12 @@ delivered_over capacity rs ls qs d l = absurd d
 -- ---- too large
 
 -- the records that the whole texts have more
-others_of : (qs : List (List DataRecord)) (ts : List (List ℕ)) → AllZip (λ q t. IsPrefix q (records_of t)) qs ts
-    → (others : List DataRecord) × IsSameBag (all_of qs ++ others) (flat_map records_of ts)
-others_of [] [] e = ([], λ w. refl)
-others_of (q ∷ qs) (t ∷ ts) e =
+others_of : {X : Type 0} (all : X → List DataRecord) (qs : List (List DataRecord)) (ts : List X) → AllZip (λ q t. IsPrefix q (all t)) qs ts
+    → (others : List DataRecord) × IsSameBag (all_of qs ++ others) (flat_map all ts)
+others_of all [] [] e = ([], λ w. refl)
+others_of all (q ∷ qs) (t ∷ ts) e =
     let p = e.0 in
-    let rest = others_of qs ts e.1 in (
+    let rest = others_of all qs ts e.1 in (
       p.0 ++ rest.0,
       λ w.
           let a = sum_by-append w (q ++ all_of qs) (p.0 ++ rest.0) in
@@ -170,21 +169,19 @@ others_of (q ∷ qs) (t ∷ ts) e =
           let c = sum_by-append w p.0 rest.0 in
           let d = sum_by-append w (all_of qs) rest.0 in
           let f = rest.1 w in
-          let g = sum_by-append w (records_of t) (flat_map records_of ts) in
-          let h : sum_by w (records_of t) ≡ sum_by w (q ++ p.0) = ap (sum_by w) p.1 in
+          let g = sum_by-append w (all t) (flat_map all ts) in
+          let h : sum_by w (all t) ≡ sum_by w (q ++ p.0) = ap (sum_by w) p.1 in
           let i = sum_by-append w q p.0 in
           omega arith,
     )
-others_of qs ts e = absurd e
+others_of all qs ts e = absurd e
+
+pub too_large_lists : {X : Type 0} (plan : PlanValue) (all : X → List DataRecord) (qs : List (List DataRecord)) (ts : List X) → AllZip (λ q t. IsPrefix q (all t)) qs ts
+    → IsTooLarge plan (all_of qs) → IsTooLarge plan (flat_map all ts)
+too_large_lists plan all qs ts e large =
+    let others = others_of all qs ts e in
+    too_large_bag plan (all_of qs ++ others.0) (flat_map all ts) others.1 (too_large_more plan (all_of qs) others.0 large)
 
 pub too_large_whole : (plan : PlanValue) (qs : List (List DataRecord)) (ts : List (List ℕ)) → AllZip (λ q t. IsPrefix q (records_of t)) qs ts
     → IsTooLarge plan (all_of qs) → IsTooLarge plan (flat_map records_of ts)
-too_large_whole plan qs ts e large =
-    let others = others_of qs ts e in
-    too_large_bag plan (all_of qs ++ others.0) (flat_map records_of ts) others.1 (too_large_more plan (all_of qs) others.0 large)
-
--- if the records that sessions gave are too large, in whatever order, those of the whole texts are
-pub too_large_due : {S : Type 0} (seen : S → SourceView) (plan : PlanValue) (befores afters : List S) (reports : List SessionReport) (qs : List (List DataRecord)) (rs : List DataRecord)
-    → Each4 (IsGivenBy seen) befores afters reports qs → IsSameBag rs (all_of qs) → IsTooLarge plan rs → AreTooLarge seen plan befores
-too_large_due seen plan befores afters reports qs rs given same large = λ texts t.
-    too_large_whole plan qs texts (first_each seen befores afters reports qs texts given t) (too_large_bag plan rs (all_of qs) same large)
+too_large_whole plan qs ts = too_large_lists plan records_of qs ts

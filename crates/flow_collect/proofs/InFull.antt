@@ -31,10 +31,13 @@ use Rattle.ipfix_session.proofs.Reaching.{takes-append}
 use Rattle.flow_table.specs.Plans.{PlanValue}
 use Rattle.flow_table.proofs.FlatTables.{is_same_table}
 use Rattle.flow_collect.specs.Headline.{Answer, Headline, IsGivenBy, all_of}
-use Rattle.flow_collect.specs.InFull.{FullAnswer, FullHeadline, IsBalanced, IsGivenInFull, HasBalanced, IsWithoutRest, reports_in}
+use Rattle.flow_collect.specs.Contexts.{alone, sources_of}
+use Rattle.flow_collect.specs.InFull.{FullAnswer, FullHeadline, IsBalanced, IsGivenInContext, IsGivenInFull, HasBalanced, IsWithoutRest, reports_in}
 use Rattle.flow_collect.specs.Places.{Each4}
 use Rattle.flow_collect.specs.Texts.{EachGave, GaveThese, WasReadOut}
 use Rattle.flow_collect.specs.declared.collected.Pool.{Pool}
+use Rattle.flow_collect.specs.declared.session_context.InContext.{InContext}
+use Rattle.flow_collect.proofs.Contexts.{given_alone, owns}
 use Rattle.flow_collect.proofs.GivenLists.{gave_is, report_of_octets}
 use Rattle.flow_collect.proofs.PlaceLists.{last_two_beside, outer_two}
 
@@ -120,11 +123,12 @@ short_run c = record { sessions = short_sessions c.sessions; links = c.links; so
 -- ---- all sessions
 
 module _ {S : Type 0} (seen : S → SourceView) where
-  has_balanced : (before after : S) (full : FullReport) (records : List DataRecord) → IsGivenInFull seen before after full records → HasBalanced seen before after full records
-  has_balanced before after full records g =
-      record { given = g.given; balanced = balanced_of g.given.counted full.report.domains.items full.balances.items g.told.counts.reports.domains g.told.counts.balances }
+  has_balanced : (before : InContext S) (after : S) (full : FullReport) (records : List DataRecord) → IsGivenInContext seen before after full records → HasBalanced seen before after full records
+  has_balanced before after full records c =
+      let g = c.given in
+      record { given = c; balanced = balanced_of g.given.counted full.report.domains.items full.balances.items g.told.counts.reports.domains g.told.counts.balances }
 
-  pub balanced_each : (befores afters : List S) (fulls : List FullReport) (qs : List (List DataRecord)) → Each4 (IsGivenInFull seen) befores afters fulls qs → Each4 (HasBalanced seen) befores afters fulls qs
+  pub balanced_each : (befores : List (InContext S)) (afters : List S) (fulls : List FullReport) (qs : List (List DataRecord)) → Each4 (IsGivenInContext seen) befores afters fulls qs → Each4 (HasBalanced seen) befores afters fulls qs
   balanced_each [] [] [] [] e = tt
   balanced_each (s ∷ befores) (a ∷ afters) (f ∷ fulls) (q ∷ qs) e = (has_balanced s a f q e.0, balanced_each befores afters fulls qs e.1)
   balanced_each befores afters fulls qs e = absurd e
@@ -144,18 +148,23 @@ module _ {S : Type 0} (seen : S → SourceView) where
       let here : ReportsInFull full (gives b).messages (length (records_of b)) = subst (λ (w : List ℕ). ReportsInFull full (gives w).messages (length (records_of w))) (sym is) told in
       record { reports = here; fault = (report_of_octets seen before after full.report q b g.given t out).fault; stopped_at = here.counts.stopped_at ∙ place_is b }
 
-  pub full_each : (befores afters : List S) (fulls : List FullReport) (qs : List (List DataRecord)) (bs : List (List ℕ)) → Each4 (IsGivenInFull seen) befores afters fulls qs
+  full_each_own : (befores afters : List S) (fulls : List FullReport) (qs : List (List DataRecord)) (bs : List (List ℕ)) → Each4 (IsGivenInFull seen) befores afters fulls qs
       → EachGave seen befores afters bs → AllZip (λ full b. WasReadOut full.report → IsFullReport full b) fulls bs
-  full_each befores afters fulls qs bs e t =
+  full_each_own befores afters fulls qs bs e t =
       outer_two (λ (full : FullReport) (q : List DataRecord) (b : List ℕ). WasReadOut full.report → IsFullReport full b) (λ (full : FullReport) (b : List ℕ). WasReadOut full.report → IsFullReport full b) (λ full q b is. is) fulls qs bs
       (last_two_beside (IsGivenInFull seen) (λ s a b. GaveThese (seen s) (seen a) b) (λ full q b. WasReadOut full.report → IsFullReport full b) full_of_octets befores afters fulls qs bs e t)
 
-  pub headline_short : (sources : List S) (plan : PlanValue) (pool : Pool) (c : FullAnswer S) (short : Answer S) → FullHeadline seen sources plan pool c → IsWithoutRest c short
+  pub full_each : (befores : List (InContext S)) (afters : List S) (fulls : List FullReport) (qs : List (List DataRecord)) (bs : List (List ℕ)) → Each4 (IsGivenInContext seen) befores afters fulls qs
+      → EachGave seen (sources_of befores) afters bs → AllZip (λ full b. WasReadOut full.report → IsFullReport full b) fulls bs
+  full_each befores afters fulls qs bs e t =
+      let own = owns seen befores afters fulls qs e in full_each_own (sources_of befores) afters fulls own.0 bs own.1 t
+
+  pub headline_short : (sources : List S) (befores : List (InContext S)) (plan : PlanValue) (pool : Pool) (c : FullAnswer S) (short : Answer S) → befores ≡ map alone sources → FullHeadline seen befores plan pool c → IsWithoutRest c short
       → Headline seen sources plan pool short
-  headline_short sources plan pool c short h w =
+  headline_short sources befores plan pool c short are h w =
       record {
         records = h.records;
         received = rw w.links_are h.received;
-        given = rw (w.sources_are, w.sessions_are) (given_short sources c.sources.items c.sessions.items h.records h.given);
+        given = rw (w.sources_are, w.sessions_are) (given_short sources c.sources.items c.sessions.items h.records (given_alone seen sources befores c.sources.items c.sessions.items h.records are h.given));
         added_up = record { table_is = is_same_table plan (all_of h.records) c.table short.table w.same h.added_up.table_is; not_too_large = h.added_up.not_too_large };
       }

@@ -1,5 +1,6 @@
 pub mod PlaceLists
 pub mod GivenLists
+pub mod Contexts
 pub mod InFull
 pub mod SameRuns
 pub mod Settled

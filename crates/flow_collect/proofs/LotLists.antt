@@ -11,13 +11,13 @@ use Rattle.flow_table.specs.Plans.{PlanValue}
 use Rattle.flow_table.specs.Tables.{IsTable, IsTooLarge}
 use Rattle.flow_table.specs.declared.table.Table.{Table}
 use Rattle.flow_collect.specs.Headline.{IsAddedUp, all_of}
-use Rattle.flow_collect.specs.InFull.{IsGivenInFull}
+use Rattle.flow_collect.specs.InFull.{IsGivenInContext}
 use Rattle.flow_collect.specs.Places.{Each4}
-use Rattle.flow_collect.specs.Refusals.{AreTooLarge}
+use Rattle.flow_collect.specs.Refusals.{AreTooLargeInContext}
 use Rattle.flow_collect.specs.Serials.{LotRan, MergesLots}
 use Rattle.flow_collect.specs.declared.lots.Lot.{Lot}
-use Rattle.flow_collect.proofs.GivenLists.{too_large_due}
-use Rattle.flow_collect.proofs.InFull.{given_short}
+use Rattle.flow_collect.specs.declared.session_context.InContext.{InContext}
+use Rattle.flow_collect.proofs.Contexts.{too_large_due}
 use Rattle.flow_collect.proofs.PlaceLists.{each4_append}
 
 -- half of the lots get no more sources than there are
@@ -28,21 +28,21 @@ half_fits n k h m half rest =
     omega arith
 
 -- the lot of all sources is that of the first, and behind it that of the others
-pub lots_merged : {S : Type 0} (seen : S → SourceView) (plan : PlanValue) (n : ℕ) (befores first second : List S) (a b c : Lot S)
+pub lots_merged : {S : Type 0} (seen : S → SourceView) (plan : PlanValue) (n : ℕ) (befores first second : List (InContext S)) (a b c : Lot S)
     → first ≡ take n befores → second ≡ drop n befores → LotRan seen first plan a → LotRan seen second plan b → MergesLots a b c → LotRan seen befores plan c
 lots_merged {S = S} seen plan n befores first second a b c cut rest one two m =
     let whole : first ++ second ≡ befores = rw (cut, rest) (take-append-drop n befores) in
-    let given = each4_append (IsGivenInFull seen) first second a.sources.items b.sources.items a.sessions.items b.sessions.items one.records two.records one.given two.given in
+    let given = each4_append (IsGivenInContext seen) first second a.sources.items b.sources.items a.sessions.items b.sessions.items one.records two.records one.given two.given in
     record {
       records = one.records ++ two.records;
-      given = rw (m.sources_are, m.sessions_are) (subst (λ (l : List S). Each4 (IsGivenInFull seen) l (a.sources.items ++ b.sources.items) (a.sessions.items ++ b.sessions.items) (one.records ++ two.records)) whole given);
+      given = rw (m.sources_are, m.sessions_are) (subst (λ (l : List (InContext S)). Each4 (IsGivenInContext seen) l (a.sources.items ++ b.sources.items) (a.sessions.items ++ b.sessions.items) (one.records ++ two.records)) whole given);
       plan_is = m.plan_is ∙ one.plan_is;
       stands = subst (StandsFor c.partial) (sym (flat_map-append (λ (q : List DataRecord). q) one.records two.records)) (m.merges (all_of one.records) (all_of two.records) one.stands two.stands);
     }
 
 -- ---- what is made of a lot
 
-module _ {S : Type 0} (seen : S → SourceView) (plan : PlanValue) (befores : List S) (lot : Lot S) (r : LotRan seen befores plan lot) where
+module _ {S : Type 0} (seen : S → SourceView) (plan : PlanValue) (befores : List (InContext S)) (lot : Lot S) (r : LotRan seen befores plan lot) where
   -- its table
   pub lot_added_up : (table : Table) → IsTable (plan_of lot.partial) (all_of r.records) table → (IsTooLarge (plan_of lot.partial) (all_of r.records) → ⊥) → IsAddedUp plan (all_of r.records) table
   lot_added_up table is small = record {
@@ -51,7 +51,6 @@ module _ {S : Type 0} (seen : S → SourceView) (plan : PlanValue) (befores : Li
   }
 
   -- what is too large of it is too large of the whole texts
-  pub lot_too_large : IsTooLarge (plan_of lot.partial) (all_of r.records) → AreTooLarge seen plan befores
+  pub lot_too_large : IsTooLarge (plan_of lot.partial) (all_of r.records) → AreTooLargeInContext seen plan befores
   lot_too_large large =
-      let given = given_short seen befores lot.sources.items lot.sessions.items r.records r.given in
-      too_large_due seen plan befores lot.sources.items _ r.records (all_of r.records) given (λ w. refl) (subst (λ (p : PlanValue). IsTooLarge p (all_of r.records)) r.plan_is large)
+      too_large_due seen plan befores lot.sources.items lot.sessions.items r.records (all_of r.records) r.given (λ w. refl) (subst (λ (p : PlanValue). IsTooLarge p (all_of r.records)) r.plan_is large)

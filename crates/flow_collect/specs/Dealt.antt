@@ -5,6 +5,7 @@ use Rattle.flow_link.specs.declared.making.TheConstants.{MAX_CAPACITY}
 use Rattle.flow_table.specs.Partials.{plan_of}
 use Rattle.flow_table.specs.Plans.{PlanValue}
 use Rattle.flow_collect.specs.LinkEnds.{IsUnused}
+use Rattle.flow_collect.specs.declared.session_context.InContext.{InContext}
 use Rattle.flow_collect.specs.declared.session_thread.Start.{Start}
 use Rattle.flow_collect.specs.declared.worker.LinkEnd.{LinkEnd}
 use Rattle.flow_collect.specs.declared.worker.WorkerShare.{WorkerShare}
@@ -24,6 +25,10 @@ pub record IsNewShare (plan : PlanValue) (links : List LinkName) (share : Worker
   pub paired : All (IsPaired links) share.link_ends.items
 
 module _ {S : Type 0} where
+  -- the source, and what its session knows
+  abbrev pub given_to : Start S → InContext S
+  given_to start = record { source = start.source; context = start.context }
+
   abbrev pub start_link : Start S → LinkName
   start_link start = start.sender.link
 
@@ -32,19 +37,19 @@ module _ {S : Type 0} where
   IsNewStart capacity start = (start.sender.sent ≡ []) × (start.sender.capacity ≡ capacity)
 
   -- each source has a new link, whose other end is in a share
-  pub record IsDealt (plan : PlanValue) (capacity : ℕ) (sources : List S) (starts : List (Start S)) (shares : List WorkerShare) : Type 0 where
-    pub sources_are : map (λ (start : Start S). start.source) starts ≡ sources
+  pub record IsDealt (plan : PlanValue) (capacity : ℕ) (sources : List (InContext S)) (starts : List (Start S)) (shares : List WorkerShare) : Type 0 where
+    pub sources_are : map given_to starts ≡ sources
     pub new_starts : All (IsNewStart capacity) starts
     pub new_shares : All (IsNewShare plan (map start_link starts)) shares
 
   -- a new link: its sender goes to the source, and its receiver to the first share, which goes to the end
-  pub record DealsOne (capacity : ℕ) (source : S) (starts : List (Start S)) (shares : List WorkerShare) (starts' : List (Start S)) (shares' : List WorkerShare) : Type 0 where
+  pub record DealsOne (capacity : ℕ) (source : InContext S) (starts : List (Start S)) (shares : List WorkerShare) (starts' : List (Start S)) (shares' : List WorkerShare) : Type 0 where
     pub start : Start S
     pub link_end : LinkEnd
     pub first : WorkerShare
     pub dealt : WorkerShare
     pub others : List WorkerShare
-    pub source_is : start.source ≡ source
+    pub source_is : given_to start ≡ source
     pub number_is : start.session ≡ length starts
     pub link : IsNewLink capacity start.sender link_end.receiver
     pub session_is : link_end.session ≡ length starts

@@ -65,8 +65,8 @@ abbrev pub all_of : List (List DataRecord) → List DataRecord
 all_of records = flat_map (λ q. q) records
 
 -- of a run in threads, with any number of workers and links of any capacity. `Gets` says which records a session's worker
--- gets, by the session's source, before and after, and by its report
-pub record HeadlineWith {S R : Type 0} (Gets : S → S → R → List DataRecord → Type 0) (sources : List S) (plan : PlanValue) (pool : Pool) (c : Collected S R Table) : Type 0 where
+-- gets, by the session's source as it was given, by what is left of it, and by its report
+pub record HeadlineWith {A S R : Type 0} (Gets : A → S → R → List DataRecord → Type 0) (sources : List A) (plan : PlanValue) (pool : Pool) (c : Collected S R Table) : Type 0 where
   -- for each session there are records
   pub records : List (List DataRecord)
   -- which its worker received over its link, and nothing else
@@ -81,7 +81,7 @@ abbrev pub Answer : Type 0 → Type 0
 Answer S = Collected S SessionReport Table
 
 -- of a run without links, on one thread or in lots. `Gets` says which records a session gets, as above
-pub record SerialHeadlineWith {S R : Type 0} (Gets : S → S → R → List DataRecord → Type 0) (sources : List S) (plan : PlanValue) (s : Serial S R Table) : Type 0 where
+pub record SerialHeadlineWith {A S R : Type 0} (Gets : A → S → R → List DataRecord → Type 0) (sources : List A) (plan : PlanValue) (s : Serial S R Table) : Type 0 where
   -- for each session there are records
   pub records : List (List DataRecord)
   -- which are what it gets of the octets that its source gave, as its report tells

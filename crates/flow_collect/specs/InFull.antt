@@ -14,10 +14,12 @@ use Rattle.ipfix_session.specs.declared.report.SessionReport.{SessionReport}
 use Rattle.flow_table.specs.Plans.{PlanValue}
 use Rattle.flow_table.specs.SameTables.{IsSameTable}
 use Rattle.flow_table.specs.declared.table.Table.{Table}
+use Rattle.flow_collect.specs.Contexts.{all_with_context}
 use Rattle.flow_collect.specs.Headline.{Answer, HeadlineWith, IsGivenBy, SerialHeadlineWith}
 use Rattle.flow_collect.specs.declared.collected.Pool.{Pool}
 use Rattle.flow_collect.specs.declared.collected.Collected.{Collected}
 use Rattle.flow_collect.specs.declared.collected.Serial.{Serial}
+use Rattle.flow_collect.specs.declared.session_context.InContext.{InContext}
 
 -- what `collect_flat` answers
 abbrev pub FullAnswer : Type 0 → Type 0
@@ -48,18 +50,24 @@ module _ {S : Type 0} (seen : S → SourceView) where
     pub given : IsGivenBy seen before after full.report records
     pub told : ReportsInFull full given.counted (length records)
 
+  -- and with context: these are the records that the source gave, each with what its session knows after its own fields
+  pub record IsGivenInContext (before : InContext S) (after : S) (full : FullReport) (records : List DataRecord) : Type 0 where
+    pub own : List DataRecord
+    pub given : IsGivenInFull before.source after full own
+    pub records_are : records ≡ all_with_context before.context own
+
   -- the headline, if a worker gets these records
-  abbrev pub FullHeadline : List S → PlanValue → Pool → FullAnswer S → Type 0
-  FullHeadline sources plan pool c = HeadlineWith IsGivenInFull sources plan pool c
+  abbrev pub FullHeadline : List (InContext S) → PlanValue → Pool → FullAnswer S → Type 0
+  FullHeadline sources plan pool c = HeadlineWith IsGivenInContext sources plan pool c
 
   -- and without links
-  abbrev pub FullSerialHeadline : List S → PlanValue → FullSerialAnswer S → Type 0
-  FullSerialHeadline sources plan s = SerialHeadlineWith IsGivenInFull sources plan s
+  abbrev pub FullSerialHeadline : List (InContext S) → PlanValue → FullSerialAnswer S → Type 0
+  FullSerialHeadline sources plan s = SerialHeadlineWith IsGivenInContext sources plan s
 
   -- each domain's ledger balances, of the messages that the report counts
-  pub record HasBalanced (before after : S) (full : FullReport) (records : List DataRecord) : Type 0 where
-    pub given : IsGivenBy seen before after full.report records
-    pub balanced : AllZip (IsBalanced given.counted) full.report.domains.items full.balances.items
+  pub record HasBalanced (before : InContext S) (after : S) (full : FullReport) (records : List DataRecord) : Type 0 where
+    pub given : IsGivenInContext before after full records
+    pub balanced : AllZip (IsBalanced given.given.given.counted) full.report.domains.items full.balances.items
 
 -- the same run, with reports that aren't in full, and a table that says the same
 pub record IsWithoutRest {S : Type 0} (c : FullAnswer S) (short : Answer S) : Type 0 where

@@ -1,7 +1,7 @@
 //! Collecting in threads. What is handed from call to call, and what each holds then:
 //!
 //! ```text
-//! deal         makes of each source a Start: its number, the source, and its link's sender, unused;
+//! deal         makes of each source, with its context, a Start: its number, both, and its link's sender, unused;
 //!              makes for each link a LinkEnd: the session's number, and the receiver, unused;
 //!              makes for each worker a WorkerShare: its number, its ends of links, and the table of no records.
 //!
@@ -22,12 +22,13 @@ ghost use Rattle.std.specs.Prelude.{◌≡◌, IfOk, IfNone, MatchOption};
 ghost use Rattle.flow_table.specs.Fitting.{FitsPlan};
 ghost use Rattle.flow_collect.specs.Dealt.{IsCapacity};
 ghost use Rattle.flow_collect.specs.InFull.{FullHeadline};
-ghost use Rattle.flow_collect.specs.Refusals.{fault_of_arguments, AreTooLarge, HasFaults};
+ghost use Rattle.flow_collect.specs.Refusals.{fault_of_arguments, AreTooLargeInContext, HasFaultsInContext};
 
 use crate::collected::{Collected, MAX_SESSIONS, MAX_WORKERS, Pool};
 use crate::dealing::deal;
 use crate::fault::CollectFault;
 use crate::gate::Gate;
+use crate::session_context::InContext;
 use crate::settling::finish_all;
 use crate::shortage::Shortage;
 use crate::threads::in_threads;
@@ -38,23 +39,24 @@ use std::alloc::Global;
 use std::sync::Wait;
 use std::thread::Threads;
 
-/// Does what [`collect`](crate::collect) does, and reports each session in full: with what its domains
-/// passed over, the gaps after their unknown sets, and the place where it stopped. The rows of the table are
-/// made as they are asked for. The faults are the same.
+/// Does what [`collect`](crate::collect) does, appends what a session knows to each of its records, and reports
+/// each session in full: with what its domains passed over, the gaps after their unknown sets, and the place where
+/// it stopped. The rows of the table are made as they are asked for. The faults are the same; `OutOfMemory` may
+/// come of appending, too.
 pub fn collect_flat<S: Source + Send + Drop, G: Gate + Sync, R: Threads + Wait + Sync>(
     rt: &R,
     alloc: Global,
-    sources: Vec<S>,
+    sources: Vec<InContext<S>>,
     plan: &Plan,
     pool: Pool,
     gate: &G,
 ) -> Result<Collected<S, FullReport, FlatTable>, CollectFault>
-    // The headline, and each report in full.
+    // The headline, with each session's context, and each report in full.
     ensures ok { IfOk result (FullHeadline S.seen sources.items plan.now pool) }
     // The table fits the plan, as an export asks.
     ensures fits { IfOk result (λ c. FitsPlan plan.now c.table) }
     // Exactly the first fault of the arguments, if they have one; `SumTooLarge` only if it is due.
-    ensures faults { HasFaults S.seen sources plan.now pool result }
+    ensures faults { HasFaultsInContext S.seen sources plan.now pool result }
 {
     if let Some(fault) = judge(pool, sources.len()) {
         return Err(fault);
@@ -96,13 +98,13 @@ fn judge(pool: Pool, sessions: usize) -> Option<CollectFault>
 fn collect_judged<S: Source + Send + Drop, G: Gate + Sync, R: Threads + Wait + Sync>(
     rt: &R,
     alloc: Global,
-    sources: Vec<S>,
+    sources: Vec<InContext<S>>,
     plan: &Plan,
     pool: Pool,
     gate: &G,
 ) -> Result<Option<Collected<S, FullReport, FlatTable>>, Shortage>
     requires { IsCapacity pool.capacity }
-    ensures { IfOk result (λ answer. MatchOption answer (AreTooLarge S.seen plan.now sources.items)
+    ensures { IfOk result (λ answer. MatchOption answer (AreTooLargeInContext S.seen plan.now sources.items)
         (λ c. FullHeadline S.seen sources.items plan.now pool c × FitsPlan plan.now c.table)) }
 {
     let (starts, shares) = deal(alloc, sources, plan, pool)?;

@@ -5,6 +5,7 @@ ghost use Rattle.flow_link.specs.Ends.{IsNewLink};
 ghost use Rattle.flow_collect.specs.Dealt.{IsCapacity, IsDealt, IsNewShare, DealsOne};
 
 use crate::collected::Pool;
+use crate::session_context::InContext;
 use crate::session_thread::Start;
 use crate::shortage::Shortage;
 use crate::worker::{LinkEnd, WorkerShare};
@@ -17,7 +18,7 @@ use std::collections::VecDeque;
 /// sources. Its receiving end goes to the shares of the workers, by turns.
 pub fn deal<S: Drop>(
     alloc: Global,
-    sources: Vec<S>,
+    sources: Vec<InContext<S>>,
     plan: &Plan,
     pool: Pool,
 ) -> Result<(VecDeque<Start<S>>, VecDeque<WorkerShare>), Shortage>
@@ -69,12 +70,12 @@ fn empty_share(alloc: Global, plan: &Plan, worker: usize) -> Result<WorkerShare,
 fn deal_one<S: Drop>(
     alloc: Global,
     capacity: usize,
-    source: S,
+    given: InContext<S>,
     starts: &mut VecDeque<Start<S>>,
     shares: &mut VecDeque<WorkerShare>,
 ) -> Result<(), Shortage>
     requires { IsCapacity capacity }
-    ensures { OnOk result (DealsOne capacity source starts.old.items shares.old.items
+    ensures { OnOk result (DealsOne capacity given starts.old.items shares.old.items
         starts.new.items shares.new.items) }
 {
     let (sender, receiver) = new_link(alloc, capacity)?;
@@ -82,10 +83,12 @@ fn deal_one<S: Drop>(
         return Err(Shortage::NoThread);
     };
     let session = starts.len();
+    let InContext { source, context } = given;
     let link_end = new_link_end(session, receiver);
     starts.push_back(Start {
         session,
         source,
+        context,
         sender,
     })?;
     share.link_ends.push(link_end)?;

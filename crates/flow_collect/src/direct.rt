@@ -3,11 +3,12 @@
 ghost use Rattle.std.specs.Prelude.{◌≡◌, IfOk, IsErrOf, MatchOption};
 ghost use Rattle.flow_table.specs.Fitting.{FitsPlan};
 ghost use Rattle.flow_collect.specs.InFull.{FullSerialHeadline};
-ghost use Rattle.flow_collect.specs.Refusals.{fault_of_lots, AreTooLarge, HasFaultsInLots};
+ghost use Rattle.flow_collect.specs.Refusals.{fault_of_lots, AreTooLargeInContext, HasFaultsInLots};
 
 use crate::collected::{MAX_WORKERS, Serial};
 use crate::fault::CollectFault;
 use crate::lots::{Lot, drive_lots};
+use crate::session_context::InContext;
 use flow_table::{FlatTable, Plan, TableFault};
 use ipfix_session::{FullReport, Source};
 use std::alloc::{AllocError, Global};
@@ -15,8 +16,9 @@ use std::thread::Threads;
 
 /// Collects without links, from any number of sources: cuts them into at most `lots` lots of neighbours, as even
 /// as can be, drives the sources of a lot one after another on one thread, the lots side by side, and merges the
-/// lots' tables by halves. A lot for which no thread can be had is driven on this one. Each session is reported
-/// in full, and the rows of the table are made as they are asked for.
+/// lots' tables by halves. A lot for which no thread can be had is driven on this one. What a session knows is
+/// appended to each of its records. Each session is reported in full, and the rows of the table are made as they
+/// are asked for.
 ///
 /// It reads a source at most [`READ_LIMIT`](crate::READ_LIMIT) times. A session's own fault stands in its report. Each
 /// thread has ended when it returns.
@@ -27,11 +29,11 @@ use std::thread::Threads;
 pub fn collect_direct<S: Source + Send + Drop, R: Threads + Sync>(
     rt: &R,
     alloc: Global,
-    sources: Vec<S>,
+    sources: Vec<InContext<S>>,
     plan: &Plan,
     lots: usize,
 ) -> Result<Serial<S, FullReport, FlatTable>, CollectFault>
-    // The headline, without links, and each report in full.
+    // The headline, without links, with each session's context, and each report in full.
     ensures ok { IfOk result (FullSerialHeadline S.seen sources.items plan.now) }
     // The table fits the plan, as an export asks.
     ensures fits { IfOk result (λ s. FitsPlan plan.now s.table) }
@@ -68,11 +70,11 @@ pub fn direct_refusal(lots: usize, sessions: usize) -> Option<CollectFault>
 fn collect_lots<S: Source + Send + Drop, R: Threads + Sync>(
     rt: &R,
     alloc: Global,
-    sources: Vec<S>,
+    sources: Vec<InContext<S>>,
     plan: &Plan,
     lots: usize,
 ) -> Result<Option<Serial<S, FullReport, FlatTable>>, AllocError>
-    ensures { IfOk result (λ answer. MatchOption answer (AreTooLarge S.seen plan.now sources.items)
+    ensures { IfOk result (λ answer. MatchOption answer (AreTooLargeInContext S.seen plan.now sources.items)
         (λ s. FullSerialHeadline S.seen sources.items plan.now s × FitsPlan plan.now s.table)) }
 {
     // A lot has at least one source.

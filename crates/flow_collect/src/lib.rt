@@ -4,6 +4,7 @@
 
 mod collected;
 mod collecting;
+mod context_sink;
 mod dealing;
 mod direct;
 mod fault;
@@ -12,6 +13,7 @@ pub mod laws;
 mod link_sink;
 mod lots;
 mod serial;
+mod session_context;
 mod session_thread;
 mod settling;
 mod shortage;
@@ -27,4 +29,5 @@ pub use gate::{Gate, OpenGate};
 pub use ipfix_session::READ_LIMIT;
 pub use link_sink::LinkSink;
 pub use serial::collect_serial;
+pub use session_context::{Exporter, InContext, NO_CONTEXT, SessionContext};
 pub use without_rest::collect;

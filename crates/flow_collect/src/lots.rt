@@ -4,12 +4,15 @@ ghost use Rattle.std.specs.Prelude.{◌≡◌, ◌≤◌, IfOk, OnOk};
 ghost use Rattle.std.specs.Thread.{IsSync};
 ghost use Rattle.ipfix_message.specs.declared.record.DataRecord.{DataRecord};
 ghost use Rattle.flow_table.specs.Partials.{plan_of};
-ghost use Rattle.flow_collect.specs.Serials.{LotRan, MergesLots};
+ghost use Rattle.flow_collect.specs.Serials.{LotRan, MergesLots, RunsOne};
 
+use crate::context_sink::ContextSink;
+use crate::session_context::InContext;
 use flow_table::{Partial, Plan, TableFault};
 use ipfix_message::DataRecord;
 use ipfix_session::{FullReport, READ_LIMIT, Sink, Source, drive_in_full};
 use std::alloc::{AllocError, Global};
+use std::collections::VecDeque;
 use std::thread::{Threads, join};
 
 /// Sources that were driven, what each session tells of itself, in the same order, and the table of all
@@ -48,7 +51,7 @@ impl Sink for TableSink {
 pub fn drive_lots<S: Source + Send + Drop, R: Threads + Sync>(
     rt: &R,
     alloc: Global,
-    sources: Vec<S>,
+    sources: Vec<InContext<S>>,
     plan: &Plan,
     lots: usize,
 ) -> Result<Lot<S>, AllocError>
@@ -83,11 +86,11 @@ fn size_of_half(sources: usize, lots: usize) -> usize
     sources / lots * half + half.min(sources % lots)
 }
 
-/// Drives one source after another to its end, its first fault or 2^40 reads, and adds all records to one
-/// table.
+/// Drives one source after another to its end, its first fault or 2^40 reads, and adds all records, each with its
+/// session's context, to one table.
 pub fn drive_in_turn<S: Source + Drop>(
     alloc: Global,
-    sources: Vec<S>,
+    sources: Vec<InContext<S>>,
     plan: &Plan,
 ) -> Result<Lot<S>, AllocError>
     ensures { IfOk result (LotRan S.seen sources.items plan.now) }
@@ -95,13 +98,43 @@ pub fn drive_in_turn<S: Source + Drop>(
     let Ok(partial) = Partial::new(alloc, plan) else {
         return Err(AllocError);
     };
-    let mut sources = sources;
-    let mut sink = TableSink { partial };
-    let mut sessions = Vec::with_capacity(alloc, sources.len())?;
-    for source in sources.iter_mut() {
-        sessions.push(drive_in_full(alloc, source, &mut sink, READ_LIMIT))?;
+    let mut waiting = VecDeque::from_vec(sources);
+    let mut lot = Lot {
+        sources: Vec::with_capacity(alloc, waiting.len())?,
+        sessions: Vec::with_capacity(alloc, waiting.len())?,
+        partial,
+    };
+    while let Some(next) = waiting.pop_front() {
+        lot = drive_one(alloc, next, lot)?;
     }
-    let TableSink { partial } = sink;
+    Ok(lot)
+}
+
+// Drives one source more.
+fn drive_one<S: Source + Drop>(
+    alloc: Global,
+    next: InContext<S>,
+    lot: Lot<S>,
+) -> Result<Lot<S>, AllocError>
+    ensures { IfOk result (RunsOne S.seen next lot) }
+{
+    let InContext {
+        mut source,
+        context,
+    } = next;
+    let Lot {
+        mut sources,
+        mut sessions,
+        partial,
+    } = lot;
+    let mut sink = ContextSink::new(context, TableSink { partial });
+    let report = drive_in_full(alloc, &mut source, &mut sink, READ_LIMIT);
+    if sink.lost.is_some() || sink.refused > 0 {
+        return Err(AllocError);
+    }
+    sources.push(source)?;
+    sessions.push(report)?;
+    let TableSink { partial } = sink.sink;
     Ok(Lot {
         sources,
         sessions,

@@ -1,10 +1,13 @@
 //! A session's thread: what its source gives goes over its link.
 
-ghost use Rattle.std.specs.Prelude.{◌≡◌, [], IfSome};
+ghost use Rattle.std.specs.Prelude.{◌≡◌, [], IfOk};
 ghost use Rattle.flow_collect.specs.Sessions.{SessionRan};
 
+use crate::context_sink::ContextSink;
 use crate::gate::Gate;
 use crate::link_sink::LinkSink;
+use crate::session_context::SessionContext;
+use crate::shortage::Shortage;
 use flow_link::Sender;
 use ipfix_session::{FullReport, READ_LIMIT, Source, drive_in_full};
 use std::alloc::Global;
@@ -16,6 +19,8 @@ pub struct Start<S> {
     /// The session's number, counted from 0.
     pub session: usize,
     pub source: S,
+    /// What the session knows beside a record.
+    pub context: SessionContext,
     pub sender: Sender,
 }
 
@@ -27,33 +32,38 @@ pub struct EndedSession<S> {
     pub sender: Sender,
 }
 
-/// Runs a session to its end, and then sends Last, whatever ended it. `None` if the receiver was
-/// gone before that.
+/// Runs a session to its end, and then sends Last, whatever ended it.
+///
+/// The fault is `OutOfMemory` if a record's context could not be appended; `NoThread` if the receiver was gone
+/// before Last.
 pub fn run_session<S: Source + Drop, G: Gate, R: Wait>(
     rt: &R,
     alloc: Global,
     gate: &G,
     start: Start<S>,
-) -> Option<EndedSession<S>>
+) -> Result<EndedSession<S>, Shortage>
     requires { start.sender.sent ≡ [] }
-    ensures { IfSome result (SessionRan S.seen start) }
+    ensures { IfOk result (SessionRan S.seen start) }
 {
     let Start {
         session,
         source,
+        context,
         sender,
     } = start;
     let mut source = source;
-    let mut sink = LinkSink::new(rt, gate, session, sender);
+    let mut sink = ContextSink::new(context, LinkSink::new(rt, gate, session, sender));
     let report = drive_in_full(alloc, &mut source, &mut sink, READ_LIMIT);
-    let took_all = sink.refused == 0;
-    let sent = sink.send_last();
-    if !sent || !took_all {
-        return None;
+    let sent = sink.sink.send_last();
+    if let Some(shortage) = sink.lost {
+        return Err(shortage);
     }
-    Some(EndedSession {
+    if !sent || sink.refused > 0 {
+        return Err(Shortage::NoThread);
+    }
+    Ok(EndedSession {
         report,
         source,
-        sender: sink.sender,
+        sender: sink.sink.sender,
     })
 }

@@ -7,9 +7,10 @@ ghost use Rattle.flow_collect.specs.InFull.{IsWithoutRest, reports_in};
 ghost use Rattle.flow_collect.specs.Refusals.{HasFaults};
 
 use crate::collected::{Collected, Pool};
-use crate::collecting::collect_flat;
+use crate::collecting::{collect_flat, refusal};
 use crate::fault::CollectFault;
 use crate::gate::Gate;
+use crate::session_context::in_no_context;
 use flow_table::{FlatTable, Plan};
 use ipfix_session::{FullReport, SessionReport, Source};
 use std::alloc::{AllocError, Global};
@@ -43,7 +44,14 @@ pub fn collect<S: Source + Send + Drop, G: Gate + Sync, R: Threads + Wait + Sync
     // Exactly the first fault of the arguments, if they have one; `SumTooLarge` only if it is due.
     ensures faults { HasFaults S.seen sources plan.now pool result }
 {
-    let collected = collect_flat(rt, alloc, sources, plan, pool, gate)?;
+    if let Some(fault) = refusal(pool, sources.len()) {
+        return Err(fault);
+    }
+    let sources = in_no_context(alloc, sources)?;
+    let collected = match collect_flat(rt, alloc, sources, plan, pool, gate) {
+        Ok(collected) => collected,
+        Err(fault) => return Err(fault),
+    };
     let short = without_rest(alloc, collected)?;
     Ok(short)
 }

@@ -1,6 +1,7 @@
 //! Worked examples, collected.
 
 mod calling;
+mod contexts;
 mod gates;
 mod meeting;
 mod memory;

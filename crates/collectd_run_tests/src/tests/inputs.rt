@@ -190,11 +190,8 @@ fn run_told<R: Clock + Threads + Wait + Sync>(
     let (mut out, mut err) = (Vec::new(alloc), Vec::new(alloc));
     let elements = Elements::built_in(alloc);
     let job = CollectJob {
-        elements: &elements,
-        plan: &plan,
-        engine,
-        output: CSV,
         verbosity,
+        ..CollectJob::plain(&elements, &plan, engine, CSV)
     };
     let status = run_files_with(
         rt,

@@ -1,31 +1,40 @@
 //! Joining threads.
 
-ghost use Rattle.std.specs.Prelude.{◌≡◌, ◌≤◌, [], IsTrue, Some};
+ghost use Rattle.std.specs.Prelude.{◌≡◌, ◌≤◌, [], None, Ok};
 ghost use Rattle.std.specs.List.{AllZip};
 ghost use Rattle.std.specs.VecDeque.{deque_len, deque_capacity};
 
+use crate::shortage::Shortage;
 use std::collections::VecDeque;
 use std::thread::{Promise, PromisedHandle, Threads};
 
-/// Joins threads, in order. The second part says whether each handed something back.
-pub fn join_all<T: Drop, P: Promise<Option<T>>, R: Threads>(
+/// Joins threads, in order. The second part is what one of them could not have, if it handed nothing back:
+/// `NoThread` before `OutOfMemory`.
+pub fn join_all<T: Drop, P: Promise<Result<T, Shortage>>, R: Threads>(
     rt: &R,
-    handles: VecDeque<PromisedHandle<Option<T>, P>>,
+    handles: VecDeque<PromisedHandle<Result<T, Shortage>, P>>,
     room: VecDeque<T>,
-) -> (VecDeque<T>, bool)
+) -> (VecDeque<T>, Option<Shortage>)
     requires empty { (room.items ≡ []) × (deque_len room ≡ 0) }
     requires room { deque_len handles ≤ deque_capacity room }
-    ensures { IsTrue result.1
-        → AllZip (λ h back. P.kept_by h.promise (Some back)) handles.items result.0.items }
+    ensures { result.1 ≡ None
+        → AllZip (λ h back. P.kept_by h.promise (Ok back)) handles.items result.0.items }
 {
     let mut handles = handles;
     let mut all = room;
-    let mut whole = true;
+    let mut lost = None;
     while let Some(handle) = handles.pop_front() {
         match handle.join(rt) {
-            Some(back) => all.push_back_reserved(back),
-            None => whole = false,
+            Ok(back) => all.push_back_reserved(back),
+            Err(shortage) => lost = Some(first_of(lost, shortage)),
         }
     }
-    (all, whole)
+    (all, lost)
+}
+
+fn first_of(lost: Option<Shortage>, other: Shortage) -> Shortage {
+    match lost {
+        Some(Shortage::NoThread) => Shortage::NoThread,
+        _ => other,
+    }
 }

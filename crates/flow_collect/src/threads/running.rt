@@ -72,10 +72,16 @@ fn run_all<'s, 'e, S: Source + Send + Drop + 's, G: Gate + Sync, R: Threads + Wa
         return Err(Shortage::NoThread);
     }
     let (sessions, all_run) = start_sessions(scope, rt, alloc, gate, starts, for_sessions);
-    let (ended, all_sent) = join_all(rt, sessions, for_ended);
-    let (worked, all_taken) = join_all(rt, workers, for_worked);
-    if !all_run || !all_sent || !all_taken {
+    let (ended, unsent) = join_all(rt, sessions, for_ended);
+    let (worked, untaken) = join_all(rt, workers, for_worked);
+    if !all_run {
         return Err(Shortage::NoThread);
+    }
+    if let Some(shortage) = untaken {
+        return Err(shortage);
+    }
+    if let Some(shortage) = unsent {
+        return Err(shortage);
     }
     Ok((ended, worked))
 }

@@ -1,12 +1,13 @@
 //! Starting the threads of the sessions.
 
-ghost use Rattle.std.specs.Prelude.{◌≡◌, ◌≤◌, [], All, IsTrue, IfSome};
+ghost use Rattle.std.specs.Prelude.{◌≡◌, ◌≤◌, [], All, IsTrue, IfOk};
 ghost use Rattle.std.specs.List.{AllZip};
 ghost use Rattle.std.specs.VecDeque.{deque_len, deque_capacity};
 ghost use Rattle.flow_collect.specs.Sessions.{SessionRan};
 
 use crate::gate::Gate;
 use crate::session_thread::{EndedSession, Start, run_session};
+use crate::shortage::Shortage;
 use ipfix_session::Source;
 use std::alloc::Global;
 use std::collections::VecDeque;
@@ -20,8 +21,8 @@ pub struct SessionOf<S> {
     pub start: Snapshot<Start<S>>,
 }
 
-impl<S: Source> Promise<Option<EndedSession<S>>> for SessionOf<S> {
-    ghost kept_by = { λ p r. IfSome r (SessionRan S.seen p.start.value) };
+impl<S: Source> Promise<Result<EndedSession<S>, Shortage>> for SessionOf<S> {
+    ghost kept_by = { λ p r. IfOk r (SessionRan S.seen p.start.value) };
 }
 
 /// Starts a thread for each session. The second part says whether all could be started: if one
@@ -38,9 +39,9 @@ pub fn start_sessions<
     alloc: Global,
     gate: &'s G,
     starts: VecDeque<Start<S>>,
-    room: VecDeque<PromisedHandle<Option<EndedSession<S>>, SessionOf<S>>>,
+    room: VecDeque<PromisedHandle<Result<EndedSession<S>, Shortage>, SessionOf<S>>>,
 ) -> (
-    VecDeque<PromisedHandle<Option<EndedSession<S>>, SessionOf<S>>>,
+    VecDeque<PromisedHandle<Result<EndedSession<S>, Shortage>, SessionOf<S>>>,
     bool,
 )
     requires unused { All (λ start. start.sender.sent ≡ []) starts.items }

@@ -1,11 +1,12 @@
 //! Starting the threads of the workers.
 
-ghost use Rattle.std.specs.Prelude.{◌≡◌, ◌≤◌, [], All, IsTrue, IfSome};
+ghost use Rattle.std.specs.Prelude.{◌≡◌, ◌≤◌, [], All, IsTrue, IfOk};
 ghost use Rattle.std.specs.List.{AllZip};
 ghost use Rattle.std.specs.VecDeque.{deque_len, deque_capacity};
 ghost use Rattle.flow_collect.specs.LinkEnds.{WorkerRan, IsUnused};
 
 use crate::gate::Gate;
+use crate::shortage::Shortage;
 use crate::worker::{WorkerShare, run_worker};
 use std::collections::VecDeque;
 use std::snapshot::Snapshot;
@@ -18,8 +19,8 @@ pub struct WorkerOf {
     pub share: Snapshot<WorkerShare>,
 }
 
-impl Promise<Option<WorkerShare>> for WorkerOf {
-    ghost kept_by = { λ p r. IfSome r (WorkerRan p.share.value) };
+impl Promise<Result<WorkerShare, Shortage>> for WorkerOf {
+    ghost kept_by = { λ p r. IfOk r (WorkerRan p.share.value) };
 }
 
 /// Starts a thread for each worker. The second part says whether all could be started: if one
@@ -29,9 +30,9 @@ pub fn start_workers<'s, 'e, G: Gate + Sync, R: Threads + Wait + Sync>(
     rt: &'s R,
     gate: &'s G,
     shares: VecDeque<WorkerShare>,
-    room: VecDeque<PromisedHandle<Option<WorkerShare>, WorkerOf>>,
+    room: VecDeque<PromisedHandle<Result<WorkerShare, Shortage>, WorkerOf>>,
 ) -> (
-    VecDeque<PromisedHandle<Option<WorkerShare>, WorkerOf>>,
+    VecDeque<PromisedHandle<Result<WorkerShare, Shortage>, WorkerOf>>,
     bool,
 )
     requires unused { All IsUnused shares.items }

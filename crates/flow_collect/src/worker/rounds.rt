@@ -1,20 +1,25 @@
 //! Rounds of a worker.
 
-ghost use Rattle.std.specs.Prelude.{◌≡◌, [], ◌∷◌, All, IfSome, IsTrue};
+ghost use Rattle.std.specs.Prelude.{◌≡◌, [], ◌∷◌, All, IfOk, IsTrue};
 ghost use Rattle.flow_link.specs.Parcels.{is_last, records_in};
 ghost use Rattle.flow_collect.specs.Adds.{AddsAll};
 ghost use Rattle.flow_collect.specs.LinkEnds.{TakesInto, RoundsInto, IsEnded, IsUnused, WorkerRan};
 
 use super::{LinkEnd, WorkerShare};
 use crate::gate::Gate;
+use crate::shortage::Shortage;
 use flow_link::{Parcel, Patience, Taken};
 use flow_table::Partial;
 use std::sync::Wait;
 
-/// Takes by turns until each link gave Last. `None` if a sender was gone before that.
-pub fn run_worker<G: Gate, R: Wait>(rt: &R, gate: &G, share: WorkerShare) -> Option<WorkerShare>
+/// Takes by turns until each link gave Last. The fault is `NoThread`: a sender was gone before that.
+pub fn run_worker<G: Gate, R: Wait>(
+    rt: &R,
+    gate: &G,
+    share: WorkerShare,
+) -> Result<WorkerShare, Shortage>
     requires { IsUnused share }
-    ensures { IfSome result (WorkerRan share) }
+    ensures { IfOk result (WorkerRan share) }
 {
     let WorkerShare {
         worker,
@@ -28,10 +33,10 @@ pub fn run_worker<G: Gate, R: Wait>(rt: &R, gate: &G, share: WorkerShare) -> Opt
     for _ in rt.forever() {
         let round = go_round(gate, worker, taken, &mut link_ends, &mut partial);
         if round.gone {
-            return None;
+            return Err(Shortage::NoThread);
         }
         if all_ended(&link_ends) {
-            return Some(WorkerShare {
+            return Ok(WorkerShare {
                 worker,
                 link_ends,
                 partial,

@@ -4,6 +4,7 @@ use Rattle.report_writing.specs.Statuses.{number_of}
 use Rattle.report_writing.proofs.Ended.{never_three, one_of_three, zero_if_well}
 use Rattle.report_writing.proofs.LinesTold.{is_told}
 use Rattle.output_tables.proofs.NotWritten.{not_written}
+use Rattle.command_collect.specs.Exporters.{in_context}
 use Rattle.command_collect.proofs.Ran.{writes_table}
 use Rattle.command_collect.proofs.Refused.{collect_fault, not_refused, refusal_told}
 use Rattle.command_collect.proofs.table.run_with.Goals as goal
@@ -12,7 +13,7 @@ pub returns-in-Err-clause-runs : goal.returns-in-Err-clause-runs
 returns-in-Err-clause-runs g c =
     let told = is_told _ _ _ c.write_collect_fault.result _ c.write_collect_fault.ensures.told c.write_collect_fault.ensures.failed in
     let same : vec_len c.args.sources ≡ length c.args.sources.items = search rules in
-    let fault = collect_fault g.S.Source.seen c.args.sources c.args.job.now.plan.now c.args.job.now.engine c.in-Err.fault same c.in-Err.ensures.faults in
+    let fault = collect_fault _ _ _ c.args.job.now.engine c.in-Err.fault same c.in-Err.ensures.faults in
     record {
       statuses = inr (inr refl);
       table = λ ran. absurd (ran refl);
@@ -32,7 +33,7 @@ returns-in-Err-export-clause-runs g c =
         record { collected = c.in-Ok.collected; collects = c.in-Ok.ensures.ok; not_written = not_written _ _ _ c.in-Err-export.fault export.many (λ many. export.untouched many) },
         is_told _ _ _ c.write_export_fault.result _ c.write_export_fault.ensures.told c.write_export_fault.ensures.failed,
       );
-      refused = not_refused g.S.Source.seen c.args.sources c.args.job.now.plan.now c.args.job.now.engine c.in-Ok.collected _ same c.in-Ok.ensures.faults;
+      refused = not_refused _ _ _ c.args.job.now.engine c.in-Ok.collected _ same c.in-Ok.ensures.faults;
     }
 
 pub returns-clause-runs : goal.returns-clause-runs
@@ -40,13 +41,14 @@ returns-clause-runs g c =
     let same : vec_len c.args.sources ≡ length c.args.sources.items = search rules in
     let status = number_of c.status_of.result in
     let job = c.args.job.now in
+    let given = in_context job c.args.sources.items c.args.origins.now in
     let well = zero_if_well c.status_of.result status _ refl c.status_of.ensures.ends c.status_of.ensures.well in
     record {
       statuses = one_of_three c.status_of.result status refl c.status_of.ensures.ends;
       table = λ ran.
-          writes_table g.S.Source.seen job.verbosity.strict job.plan.now job.engine status _ c.args.sources.items c.in-Ok.collected c.in-Ok.ensures.ok well
-          (λ zero. c.status_of.ensures.whole c.args.sources.items job.plan.now c.in-Ok.ensures.ok.headline (well.0 zero))
+          writes_table g.S.Source.seen job.verbosity.strict job.plan.now job.engine status _ given c.in-Ok.collected c.in-Ok.ensures.ok well
+          (λ zero. c.status_of.ensures.whole given job.plan.now c.in-Ok.ensures.ok.headline (well.0 zero))
           (search rules, record { ended = c.tell.ensures.ended; are_ended = c.tell.ensures.are_ended; told = is_told _ _ _ c.tell.result _ c.tell.ensures.told.told c.tell.ensures.told.failed });
       failed = never_three c.status_of.result status refl c.status_of.ensures.ends;
-      refused = not_refused g.S.Source.seen c.args.sources job.plan.now job.engine c.in-Ok.collected _ same c.in-Ok.ensures.faults;
+      refused = not_refused _ _ _ job.engine c.in-Ok.collected _ same c.in-Ok.ensures.faults;
     }

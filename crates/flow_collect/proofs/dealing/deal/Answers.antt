@@ -1,5 +1,6 @@
 use Rattle.std.proofs.Common.{◌≡◌, List, length, ◌∷◌, ◌++◌, [], refl, sym, ◌∙◌, subst, arith}
 use Rattle.flow_collect.specs.Dealt.{IsDealt}
+use Rattle.flow_collect.specs.declared.session_context.InContext.{InContext}
 use Rattle.flow_collect.proofs.Deals.{deal_on, first_dealt, as_many}
 use Rattle.flow_collect.proofs.ZipLists.{split_on, all_used}
 use Rattle.flow_collect.proofs.dealing.deal.Goals as goal
@@ -21,7 +22,7 @@ returns-clause-dealt g c =
     let inv = c.loop-source.invariant in
     let none : length c.loop-source.sources.items ≡ 0 = omega (arith, c.loop-source.sources.ok.0, c.in_default.ensures.cases) in
     let used : c.args.sources.items ≡ inv.0 = sym c.from_vec-sources.ensures.items ∙ all_used _ inv.0 _ inv.1 none in
-    subst (λ (ss : List g.row.S.Denot). IsDealt c.args.plan.now c.args.pool.capacity ss c.loop-source.starts.items c.loop-source.shares.items) (sym used) inv.2
+    subst (λ (ss : List (InContext g.row.S.Denot)). IsDealt c.args.plan.now c.args.pool.capacity ss c.loop-source.starts.items c.loop-source.shares.items) (sym used) inv.2
 
 pub returns-clause-workers : goal.returns-clause-workers
 returns-clause-workers g c = c.loop-source.invariant.3

@@ -1,10 +1,15 @@
-use Rattle.std.proofs.Common.{◌≡◌, take, drop}
+use Rattle.std.proofs.Common.{◌≡◌, List, ◌++◌}
+use Rattle.std.specs.VecDeque.{deque_len}
 use Rattle.flow_collect.specs.Serials.{RanAs}
+use Rattle.flow_collect.specs.declared.session_context.InContext.{InContext}
 use Rattle.flow_collect.proofs.lots.drive_in_turn.Given as goal
 
--- the sources before the index have run, and the others are as they were
-abbrev pub invariant-loop-source : goal.invariant-loop-source
-invariant-loop-source g l = record {
-  ran : RanAs g.S.Source.seen (take l.source-index l.fn.sources.items) l.initial.sink.partial (take l.source-index l.source-items) l.sessions.items l.sink.partial;
-  waiting : drop l.source-index l.source-items ≡ drop l.source-index l.fn.sources.items;
-}
+-- those before the ones that wait have run
+abbrev pub invariant-loop-next : goal.invariant-loop-next
+invariant-loop-next g l =
+    (done : List (InContext g.row.S.Denot))
+    × (l.initial.waiting.items ≡ done ++ l.waiting.items)
+    × RanAs g.S.Source.seen done l.initial.lot.partial l.lot.sources.items l.lot.sessions.items l.lot.partial
+
+abbrev pub decreases-loop-next : goal.decreases-loop-next
+decreases-loop-next g l = deque_len l.waiting

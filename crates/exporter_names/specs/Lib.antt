@@ -1,0 +1,4 @@
+-- What public contracts cite.
+pub mod Cuts
+pub mod RecordedExporters
+pub mod ToldExporters

@@ -1,0 +1,184 @@
+-- Sessions in context.
+use Rattle.std.proofs.Common.{◌≡◌, ℕ, true, List, [], ◌∷◌, ◌++◌, Option, None, Some, Result, Err, refl, sym, ap, ◌∙◌, subst, map, append-nil, inl, inr}
+use Rattle.std.specs.Prelude.{◌⊎◌, All, IfNone, IfSome, IsSome, Vec, vec_len}
+use Rattle.std.specs.Int.{w32, to_be_bytes}
+use Rattle.std.specs.List.{AllZip, FoldsTo, flat_map}
+use Rattle.std.specs.Option.{ForSome}
+use Rattle.std.proofs.lemmas.Bool.{false≢true}
+use Rattle.std.proofs.lemmas.Option.{IfSome_then}
+use Rattle.std.proofs.lemmas.List.{map-append}
+use Rattle.std.proofs.lemmas.List.Elements.{All-cons, All-head, All-nil, All-tail}
+use Rattle.ipfix_message.specs.Fields.{Field}
+use Rattle.ipfix_message.specs.declared.record.DataRecord.{DataRecord}
+use Rattle.ipfix_session.specs.Given.{records_of, stop_of, IsPrefix}
+use Rattle.ipfix_session.specs.Sinks.{SinkView}
+use Rattle.ipfix_session.specs.Sources.{SourceView}
+use Rattle.ipfix_session.specs.declared.report.FullReport.{FullReport}
+use Rattle.ipfix_session.specs.declared.stop.Stop.TheVariants.{Clean}
+use Rattle.ipfix_session.proofs.Driven.{given_all_of}
+use Rattle.flow_table.specs.Bags.{IsSameBag}
+use Rattle.flow_table.specs.Plans.{PlanValue}
+use Rattle.flow_table.specs.Tables.{IsTooLarge}
+use Rattle.flow_table.proofs.Bags.{too_large_bag}
+use Rattle.flow_collect.specs.Contexts.{alone, all_with_context, named, origin_fields, records_in_context, sources_of, with_context}
+use Rattle.flow_collect.specs.Headline.{all_of}
+use Rattle.flow_collect.specs.InFull.{IsGivenInContext, IsGivenInFull}
+use Rattle.flow_collect.specs.Places.{Each4}
+use Rattle.flow_collect.specs.Refusals.{AreTooLarge, AreTooLargeInContext, HasFaults, HasFaultsInContext, IsLate, fault_of_arguments}
+use Rattle.flow_collect.specs.Texts.{AreTexts, HasNoFault}
+use Rattle.flow_collect.specs.declared.collected.Pool.{Pool}
+use Rattle.flow_collect.specs.declared.context_sink.ContextSink.{ContextSink}
+use Rattle.flow_collect.specs.declared.fault.CollectFault.{CollectFault}
+use Rattle.flow_table.specs.declared.context.Context.{Context}
+use Rattle.flow_table.specs.declared.context.TheConstants.{OBSERVATION_DOMAIN_ID}
+use Rattle.flow_collect.specs.declared.session_context.Exporter.{Exporter}
+use Rattle.flow_collect.specs.declared.session_context.Exporter.TheVariants.{Ipv4, Ipv6}
+use Rattle.flow_collect.specs.declared.session_context.InContext.{InContext}
+use Rattle.flow_collect.specs.declared.session_context.SessionContext.{SessionContext}
+use Rattle.flow_collect.specs.declared.session_context.TheConstants.{NO_CONTEXT}
+use Rattle.flow_collect.proofs.GivenLists.{first_of_text, too_large_lists}
+
+-- ---- a sink that appends
+
+module _ {K : Type 0} (took : K → DataRecord → K → Type 0) where
+  abbrev pub TakesInContext : ContextSink K → DataRecord → ContextSink K → Type 0
+  TakesInContext before item after = IsSome after.lost ⊎ ((before.lost ≡ None) × (after.context ≡ before.context) × took before.sink (with_context before.context item) after.sink)
+
+  -- a chain that lost nothing
+  pub record Kept (first : ContextSink K) (q : List DataRecord) (last : ContextSink K) : Type 0 where
+    pub none_lost : first.lost ≡ None
+    pub chain : FoldsTo took first.sink (all_with_context first.context q) last.sink
+
+  pub kept : (first last : ContextSink K) (q : List DataRecord) → FoldsTo TakesInContext first q last → last.lost ≡ None → Kept first q last
+  kept first last [] is none = record { none_lost = ap (λ (s : ContextSink K). s.lost) is ∙ none; chain = ap (λ (s : ContextSink K). s.sink) is }
+  kept first last (x ∷ q) c none =
+      let rest = kept c.0 last q c.2 none in
+      elim c.1 [
+        | inl lost ↦ absurd (false≢true (subst IsSome rest.none_lost lost))
+        | inr one ↦ record {
+          none_lost = one.0;
+          chain = (c.0.sink, one.2, subst (λ (k : SessionContext). FoldsTo took c.0.sink (all_with_context k q) last.sink) one.1 rest.chain);
+        }
+      ]
+
+-- ---- nothing is wanted
+
+fields_unwanted : (wanted : Context) (exporter : Option Exporter) (domain : List ℕ) → wanted ≡ NO_CONTEXT.wanted → origin_fields wanted exporter ++ named wanted.observation_domain_id OBSERVATION_DOMAIN_ID domain ≡ []
+fields_unwanted wanted None domain none = rw none refl
+fields_unwanted wanted (Some (Ipv4 a)) domain none = rw none refl
+fields_unwanted wanted (Some (Ipv6 a)) domain none = rw none refl
+
+with_unwanted : (c : SessionContext) (r : DataRecord) → c.wanted ≡ NO_CONTEXT.wanted → with_context c r ≡ r
+with_unwanted c r none =
+    ap (λ (fields : List Field). record { domain = r.domain; export_time = r.export_time; template = r.template; scope = r.scope; fields = fields })
+    (ap (λ (l : List Field). r.fields ++ l) (fields_unwanted c.wanted c.exporter (to_be_bytes w32 r.domain) none) ∙ append-nil r.fields)
+
+all_with_unwanted : (c : SessionContext) (q : List DataRecord) → c.wanted ≡ NO_CONTEXT.wanted → all_with_context c q ≡ q
+all_with_unwanted c [] none = refl
+all_with_unwanted c (r ∷ q) none =
+    let first = with_unwanted c r none in
+    let rest = all_with_unwanted c q none in cc
+
+-- nothing is wanted of what the session of a source knows
+abbrev pub IsUnwanted : {S : Type 0} → InContext S → Type 0
+IsUnwanted s = s.context.wanted ≡ NO_CONTEXT.wanted
+
+pub records_plain : {S : Type 0} (given : List (InContext S)) (texts : List (List ℕ)) (Reads : S → List ℕ → Type 0) → All IsUnwanted given → AllZip Reads (sources_of given) texts → records_in_context given texts ≡ map records_of texts
+records_plain [] [] Reads none t = refl
+records_plain (s ∷ given) (text ∷ texts) Reads none t =
+    let first = all_with_unwanted s.context (records_of text) (All-head IsUnwanted s given none) in
+    let rest = records_plain given texts Reads (All-tail IsUnwanted s given none) t.1 in cc
+records_plain [] (text ∷ texts) Reads none t = absurd t
+records_plain (s ∷ given) [] Reads none t = absurd t
+
+all_of_texts : (texts : List (List ℕ)) → all_of (map records_of texts) ≡ flat_map records_of texts
+all_of_texts [] = refl
+all_of_texts (text ∷ texts) = ap (λ (l : List DataRecord). records_of text ++ l) (all_of_texts texts)
+
+module _ {S : Type 0} where
+  pub sources_alone : (sources : List S) → sources_of (map alone sources) ≡ sources
+  sources_alone [] = refl
+  sources_alone (s ∷ sources) = ap (λ (l : List S). s ∷ l) (sources_alone sources)
+
+  alone_unwanted : (sources : List S) → All IsUnwanted (map alone sources)
+  alone_unwanted [] = All-nil IsUnwanted
+  alone_unwanted (s ∷ sources) = All-cons IsUnwanted (alone s) (map alone sources) refl (alone_unwanted sources)
+
+-- ---- all sessions
+
+prefix_map : {X Y : Type 0} (f : X → Y) (xs ys : List X) → IsPrefix xs ys → IsPrefix (map f xs) (map f ys)
+prefix_map f xs ys p = (map f p.0, ap (map f) p.1 ∙ map-append f xs p.0)
+
+module _ {S : Type 0} (seen : S → SourceView) where
+  -- without what sessions know
+  pub owns : (befores : List (InContext S)) (afters : List S) (fulls : List FullReport) (qs : List (List DataRecord)) → Each4 (IsGivenInContext seen) befores afters fulls qs
+      → (own : List (List DataRecord)) × Each4 (IsGivenInFull seen) (sources_of befores) afters fulls own
+  owns [] [] [] [] e = ([], tt)
+  owns (s ∷ befores) (a ∷ afters) (f ∷ fulls) (q ∷ qs) e =
+      let rest = owns befores afters fulls qs e.1 in (e.0.own ∷ rest.0, (e.0.given, rest.1))
+  owns befores afters fulls qs e = absurd e
+
+  pub given_plain : (befores : List (InContext S)) (afters : List S) (fulls : List FullReport) (qs : List (List DataRecord)) → All IsUnwanted befores → Each4 (IsGivenInContext seen) befores afters fulls qs
+      → Each4 (IsGivenInFull seen) (sources_of befores) afters fulls qs
+  given_plain [] [] [] [] none e = tt
+  given_plain (s ∷ befores) (a ∷ afters) (f ∷ fulls) (q ∷ qs) none e =
+      let same = e.0.records_are ∙ all_with_unwanted s.context e.0.own (All-head IsUnwanted s befores none) in
+      (subst (IsGivenInFull seen s.source a f) (sym same) e.0.given, given_plain befores afters fulls qs (All-tail IsUnwanted s befores none) e.1)
+  given_plain befores afters fulls qs none e = absurd e
+
+  pub given_alone : (sources : List S) (befores : List (InContext S)) (afters : List S) (fulls : List FullReport) (qs : List (List DataRecord)) → befores ≡ map alone sources → Each4 (IsGivenInContext seen) befores afters fulls qs
+      → Each4 (IsGivenInFull seen) sources afters fulls qs
+  given_alone sources befores afters fulls qs are e =
+      let there = subst (λ (l : List (InContext S)). Each4 (IsGivenInContext seen) l afters fulls qs) are e in
+      subst (λ (l : List S). Each4 (IsGivenInFull seen) l afters fulls qs) (sources_alone sources) (given_plain (map alone sources) afters fulls qs (alone_unwanted sources) there)
+
+  -- if no session has a fault, the records are those of the whole texts
+  pub whole_in_context : ((s : S) → (seen s).ended ≡ true → ForSome (seen s).text (λ xs. xs ≡ []))
+      → (befores : List (InContext S)) (afters : List S) (fulls : List FullReport) (qs : List (List DataRecord)) (texts : List (List ℕ)) → Each4 (IsGivenInContext seen) befores afters fulls qs
+      → AreTexts seen (sources_of befores) texts → All (λ (full : FullReport). HasNoFault full.report) fulls → (qs ≡ records_in_context befores texts) × All (λ text. stop_of text ≡ Clean) texts
+  whole_in_context at_end [] [] [] [] [] e t n = (refl, All-nil (λ text. stop_of text ≡ Clean))
+  whole_in_context at_end (s ∷ befores) (a ∷ afters) (f ∷ fulls) (q ∷ qs) (text ∷ texts) e t n =
+      let NoFault = λ (full : FullReport). HasNoFault full.report in
+      let (clean, whole) = given_all_of seen _ s.source a f.report e.0.own text (at_end a) e.0.given.given (All-head NoFault f fulls n) t.0 in
+      let first : q ≡ all_with_context s.context (records_of text) = e.0.records_are ∙ ap (all_with_context s.context) whole in
+      let (are, others) = whole_in_context at_end befores afters fulls qs texts e.1 t.1 (All-tail NoFault f fulls n) in
+      (cc, All-cons (λ text. stop_of text ≡ Clean) text texts clean others)
+  whole_in_context at_end [] [] [] [] (text ∷ texts) e t n = absurd t
+  whole_in_context at_end (s ∷ befores) (a ∷ afters) (f ∷ fulls) (q ∷ qs) [] e t n = absurd t
+  whole_in_context at_end befores afters fulls qs texts e t n = absurd e
+
+  pub first_in_context : (befores : List (InContext S)) (afters : List S) (fulls : List FullReport) (qs : List (List DataRecord)) (texts : List (List ℕ)) → Each4 (IsGivenInContext seen) befores afters fulls qs
+      → AreTexts seen (sources_of befores) texts → AllZip IsPrefix qs (records_in_context befores texts)
+  first_in_context [] [] [] [] [] e t = tt
+  first_in_context (s ∷ befores) (a ∷ afters) (f ∷ fulls) (q ∷ qs) (text ∷ texts) e t =
+      let own = first_of_text seen s.source a f.report e.0.own text e.0.given.given t.0 in
+      let here = prefix_map (with_context s.context) e.0.own (records_of text) own in
+      (subst (λ (l : List DataRecord). IsPrefix l (all_with_context s.context (records_of text))) (sym e.0.records_are) here, first_in_context befores afters fulls qs texts e.1 t.1)
+  first_in_context [] [] [] [] (text ∷ texts) e t = absurd t
+  first_in_context (s ∷ befores) (a ∷ afters) (f ∷ fulls) (q ∷ qs) [] e t = absurd t
+  first_in_context befores afters fulls qs texts e t = absurd e
+
+  -- if the records that sessions gave are too large, in whatever order, those of the whole texts are
+  pub too_large_due : (plan : PlanValue) (befores : List (InContext S)) (afters : List S) (fulls : List FullReport) (qs : List (List DataRecord)) (rs : List DataRecord)
+      → Each4 (IsGivenInContext seen) befores afters fulls qs → IsSameBag rs (all_of qs) → IsTooLarge plan rs → AreTooLargeInContext seen plan befores
+  too_large_due plan befores afters fulls qs rs given same large = λ texts t.
+      too_large_lists plan (λ (q : List DataRecord). q) qs (records_in_context befores texts) (first_in_context befores afters fulls qs texts given t) (too_large_bag plan rs (all_of qs) same large)
+
+  pub too_large_plain : (plan : PlanValue) (given : List (InContext S)) → All IsUnwanted given → AreTooLargeInContext seen plan given → AreTooLarge seen plan (sources_of given)
+  too_large_plain plan given none large = λ texts t.
+      subst (IsTooLarge plan) (ap all_of (records_plain given texts _ none t) ∙ all_of_texts texts) (large texts t)
+
+  pub too_large_alone : (plan : PlanValue) (sources : List S) (befores : List (InContext S)) → befores ≡ map alone sources → AreTooLargeInContext seen plan befores → AreTooLarge seen plan sources
+  too_large_alone plan sources befores are large =
+      subst (AreTooLarge seen plan) (sources_alone sources) (too_large_plain plan (map alone sources) (alone_unwanted sources) (subst (AreTooLargeInContext seen plan) are large))
+
+-- the same fault, where nothing is wanted
+pub faults_alone : {S X Y Z W : Type 0} (seen : S → SourceView) (plan : PlanValue) (pool : Pool) (sources : Vec S Z) (befores : Vec (InContext S) W) (fault : CollectFault) → vec_len befores ≡ vec_len sources
+    → befores.items ≡ map alone sources.items → HasFaultsInContext {X = X} seen befores plan pool (Err fault) → HasFaults {X = Y} seen sources plan pool (Err fault)
+faults_alone {X = X} {Y = Y} seen plan pool sources befores fault same are has =
+    record {
+      arguments = IfSome_then (fault_of_arguments pool (vec_len sources)) (subst (λ (n : ℕ). IfSome (fault_of_arguments pool n) (λ due. ◌≡◌ {A = Result X CollectFault} (Err fault) (Err due))) same has.arguments)
+          (λ due is. ap {A = CollectFault} {B = Result Y CollectFault} Err (cc is));
+      others = subst (λ (n : ℕ). IfNone (fault_of_arguments pool n) (IsLate fault)) same has.others;
+      too_large = λ is. too_large_alone seen plan sources.items befores.items are (has.too_large (ap {A = CollectFault} {B = Result X CollectFault} Err (cc is)));
+    }

@@ -1,0 +1,69 @@
+-- What a session knows beside a record, as fields that follow the record's own.
+use Rattle.std.specs.Prelude.{◌≡◌, ℕ, Bool, true, false, List, [], ◌∷◌, ◌++◌, map, take, bytes_eq, Option, Some, None, if◌then◌else◌}
+use Rattle.std.specs.Int.{w32, to_be_bytes}
+use Rattle.std.specs.Net.Addr.{ipv4_octets, ipv6_octets, ipv6_segments, low_octets}
+use Rattle.std.specs.declared.net.ipv6_addr.Ipv6Addr.{Ipv6Addr}
+use Rattle.std.specs.declared.net.ip_addr.IpAddr.{IpAddr}
+use Rattle.std.specs.declared.net.ip_addr.IpAddr.TheVariants.{V4, V6}
+use Rattle.ipfix_wire.specs.declared.specifier.ElementId.{ElementId}
+use Rattle.ipfix_message.specs.Fields.{Field}
+use Rattle.ipfix_message.specs.declared.record.DataRecord.{DataRecord}
+use Rattle.ipfix_session.specs.Given.{records_of}
+use Rattle.flow_table.specs.declared.context.Context.{Context}
+use Rattle.flow_table.specs.declared.context.TheConstants.{EXPORTER, EXPORTER_IPV4_ADDRESS, EXPORTER_IPV6_ADDRESS, OBSERVATION_DOMAIN_ID}
+use Rattle.flow_collect.specs.declared.session_context.Exporter.{Exporter}
+use Rattle.flow_collect.specs.declared.session_context.Exporter.TheVariants.{Ipv4, Ipv6}
+use Rattle.flow_collect.specs.declared.session_context.InContext.{InContext}
+use Rattle.flow_collect.specs.declared.session_context.SessionContext.{SessionContext}
+use Rattle.flow_collect.specs.declared.session_context.TheConstants.{NO_CONTEXT}
+
+-- an IPv4 address a.b.c.d is ::ffff:a.b.c.d in IPv6 (RFC 4291, section 2.5.5.2)
+abbrev pub mapped : List ℕ → List ℕ
+mapped address = 0 ∷ 0 ∷ 0 ∷ 0 ∷ 0 ∷ 0 ∷ 0 ∷ 0 ∷ 0 ∷ 0 ∷ 255 ∷ 255 ∷ address
+
+abbrev pub is_mapped : Ipv6Addr → Bool
+is_mapped a = bytes_eq (take 6 (ipv6_segments a)) (0 ∷ 0 ∷ 0 ∷ 0 ∷ 0 ∷ 0xffff ∷ [])
+
+-- an address that is mapped is the IPv4 address in it
+abbrev pub exporter_at : IpAddr → Exporter
+exporter_at (V4 a) = Ipv4 (ipv4_octets a)
+exporter_at (V6 a) = if is_mapped a then Ipv4 (low_octets a) else Ipv6 (ipv6_octets a)
+
+-- a field, if it is wanted
+abbrev pub named : Bool → ElementId → List ℕ → List Field
+named true element octets = record { element = element; octets = octets } ∷ []
+named false element octets = []
+
+-- an exporter's address in 16 octets, under an element that no template can name, and as the element of its family
+abbrev pub exporter_fields : Context → Exporter → List Field
+exporter_fields wanted (Ipv4 a) = named wanted.exporter EXPORTER (mapped a) ++ named wanted.exporter_ipv4_address EXPORTER_IPV4_ADDRESS a
+exporter_fields wanted (Ipv6 a) = named wanted.exporter EXPORTER a ++ named wanted.exporter_ipv6_address EXPORTER_IPV6_ADDRESS a
+
+abbrev pub origin_fields : Context → Option Exporter → List Field
+origin_fields wanted None = []
+origin_fields wanted (Some exporter) = exporter_fields wanted exporter
+
+-- what is wanted of whose session it is, and the domain of the record's message
+abbrev pub context_fields : SessionContext → ℕ → List Field
+context_fields c domain = origin_fields c.wanted c.exporter ++ named c.wanted.observation_domain_id OBSERVATION_DOMAIN_ID (to_be_bytes w32 domain)
+
+-- a record with these fields after its own: the first field of an element wins, so a field of the record stays what it is
+abbrev pub with_context : SessionContext → DataRecord → DataRecord
+with_context c r =
+    record { domain = r.domain; export_time = r.export_time; template = r.template; scope = r.scope; fields = r.fields ++ context_fields c r.domain }
+
+abbrev pub all_with_context : SessionContext → List DataRecord → List DataRecord
+all_with_context c records = map (with_context c) records
+
+module _ {S : Type 0} where
+  abbrev pub sources_of : List (InContext S) → List S
+  sources_of sources = map (λ (s : InContext S). s.source) sources
+
+  -- a source of whose session nothing is known beside its records
+  abbrev pub alone : S → InContext S
+  alone source = record { source = source; context = NO_CONTEXT }
+
+  -- the records of these texts, each with what the session of its source knows
+  abbrev pub records_in_context : List (InContext S) → List (List ℕ) → List (List DataRecord)
+  records_in_context (s ∷ sources) (text ∷ texts) = all_with_context s.context (records_of text) ∷ records_in_context sources texts
+  records_in_context sources texts = []

@@ -1,0 +1,155 @@
+//! What a session knows beside a record: whose it is, and its observation domain.
+
+ghost use Rattle.std.specs.Prelude.{◌≡◌, ◌≤◌, ◌++◌, length, map, IfOk, OnOk};
+ghost use Rattle.flow_collect.specs.Contexts.{alone, exporter_at, exporter_fields, mapped, named, with_context};
+
+use flow_table::{
+    Context, EXPORTER, EXPORTER_IPV4_ADDRESS, EXPORTER_IPV6_ADDRESS, OBSERVATION_DOMAIN_ID,
+};
+use ipfix_message::{DataRecord, Fields};
+use ipfix_wire::ElementId;
+use std::alloc::{AllocError, Global};
+use std::collections::VecDeque;
+use std::net::IpAddr;
+
+/// The address of the exporter that a session is of.
+#[derive(Clone, Copy, Debug, PartialEq, Eq)]
+pub enum Exporter {
+    /// An IPv4 address.
+    Ipv4([u8; 4]),
+    /// An IPv6 address that is no IPv4-mapped one.
+    Ipv6([u8; 16]),
+}
+
+impl Exporter {
+    /// The exporter at an address. An IPv4-mapped IPv6 address (RFC 4291, section 2.5.5.2) is the IPv4 address
+    /// in it.
+    pub fn at(address: IpAddr) -> Exporter
+        ensures { result ≡ exporter_at address }
+    {
+        match address {
+            IpAddr::V4(address) => Exporter::Ipv4(address.octets()),
+            IpAddr::V6(address) => match address.to_ipv4_mapped() {
+                Some(mapped) => Exporter::Ipv4(mapped.octets()),
+                None => Exporter::Ipv6(address.octets()),
+            },
+        }
+    }
+}
+
+/// What a session knows beside a record.
+#[derive(Clone, Copy, Debug, PartialEq, Eq)]
+pub struct SessionContext {
+    /// Whose session it is, if that is known.
+    pub exporter: Option<Exporter>,
+    /// Which elements are wanted of it.
+    pub wanted: Context,
+}
+
+/// That of which nothing is wanted.
+pub const NO_CONTEXT: SessionContext = SessionContext {
+    exporter: None,
+    wanted: Context {
+        exporter: false,
+        exporter_ipv4_address: false,
+        exporter_ipv6_address: false,
+        observation_domain_id: false,
+    },
+};
+
+impl SessionContext {
+    /// Appends the wanted fields to a record. An `Err` may leave some of them.
+    pub fn append(&self, item: &mut DataRecord) -> Result<(), AllocError>
+        ensures { OnOk result (item.new ≡ with_context self.now item.old) }
+    {
+        if let Some(exporter) = self.exporter {
+            append_exporter(&self.wanted, exporter, &mut item.fields)?;
+        }
+        let domain = item.domain.to_be_bytes();
+        append_named(
+            self.wanted.observation_domain_id,
+            OBSERVATION_DOMAIN_ID,
+            &domain,
+            &mut item.fields,
+        )
+    }
+}
+
+// Appends the wanted fields of an exporter.
+fn append_exporter(
+    wanted: &Context,
+    exporter: Exporter,
+    fields: &mut Fields,
+) -> Result<(), AllocError>
+    ensures { OnOk result (fields.new ≡ fields.old ++ exporter_fields wanted.now exporter) }
+{
+    match exporter {
+        Exporter::Ipv4(address) => {
+            append_named(wanted.exporter, EXPORTER, &mapped_octets(address), fields)?;
+            append_named(
+                wanted.exporter_ipv4_address,
+                EXPORTER_IPV4_ADDRESS,
+                &address,
+                fields,
+            )
+        }
+        Exporter::Ipv6(address) => {
+            append_named(wanted.exporter, EXPORTER, &address, fields)?;
+            append_named(
+                wanted.exporter_ipv6_address,
+                EXPORTER_IPV6_ADDRESS,
+                &address,
+                fields,
+            )
+        }
+    }
+}
+
+// Appends a field if it is wanted.
+fn append_named(
+    is_wanted: bool,
+    element: ElementId,
+    octets: &[u8],
+    fields: &mut Fields,
+) -> Result<(), AllocError>
+    requires { length octets.now ≤ 16 }
+    ensures { OnOk result (fields.new ≡ fields.old ++ named is_wanted element octets.now) }
+{
+    if is_wanted {
+        fields.push(element, octets)?;
+    }
+    Ok(())
+}
+
+// An IPv4 address mapped into IPv6.
+fn mapped_octets(address: [u8; 4]) -> [u8; 16]
+    ensures { result ≡ mapped address }
+{
+    let [a, b, c, d] = address;
+    [0, 0, 0, 0, 0, 0, 0, 0, 0, 0, 255, 255, a, b, c, d]
+}
+
+/// A source, and what its session knows beside a record.
+#[derive(Drop)]
+pub struct InContext<S> {
+    pub source: S,
+    pub context: SessionContext,
+}
+
+/// The sources, each in no context.
+pub fn in_no_context<S: Drop>(
+    alloc: Global,
+    sources: Vec<S>,
+) -> Result<Vec<InContext<S>>, AllocError>
+    ensures { IfOk result (λ all. all.items ≡ map alone sources.items) }
+{
+    let mut waiting = VecDeque::from_vec(sources);
+    let mut all = Vec::with_capacity(alloc, waiting.len())?;
+    while let Some(source) = waiting.pop_front() {
+        all.push(InContext {
+            source,
+            context: NO_CONTEXT,
+        })?;
+    }
+    Ok(all)
+}

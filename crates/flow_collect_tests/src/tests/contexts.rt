@@ -1,0 +1,186 @@
+//! What sessions know beside their records.
+
+use super::texts::*;
+use element_registry::Elements;
+use flow_collect::{
+    Exporter, InContext, NO_CONTEXT, OpenGate, Pool, SessionContext, collect_direct, collect_flat,
+};
+use flow_table::{
+    Choices, Context, EXPORTER, EXPORTER_IPV4_ADDRESS, EXPORTER_IPV6_ADDRESS, Key, Method,
+    OBSERVATION_DOMAIN_ID, Plan, PlanFault, Table,
+};
+use ipfix_elements::Cell;
+use ipfix_message::{DataRecord, Fields};
+use ipfix_session::ScriptSource;
+use ipfix_wire::ElementId;
+use std::alloc::{AllocError, Global};
+use std::net::IpAddr;
+use std::sync::Wait;
+use std::test::*;
+use std::thread::Threads;
+use worked_examples::flows::*;
+
+/// 192.0.2.1, and the same mapped into IPv6 (RFC 4291, section 2.5.5.2).
+const IPV4: [u8; 4] = [192, 0, 2, 1];
+
+const MAPPED: [u8; 16] = [0, 0, 0, 0, 0, 0, 0, 0, 0, 0, 0xff, 0xff, 192, 0, 2, 1];
+
+/// 2001:db8::1.
+const IPV6: [u8; 16] = [0x20, 1, 0x0d, 0xb8, 0, 0, 0, 0, 0, 0, 0, 0, 0, 0, 0, 1];
+
+const ALL: Context = Context {
+    exporter: true,
+    exporter_ipv4_address: true,
+    exporter_ipv6_address: true,
+    observation_domain_id: true,
+};
+
+fn key(element: ElementId) -> Key {
+    Key {
+        element,
+        prefix: None,
+    }
+}
+
+fn plan_of(alloc: Global, element: ElementId) -> Result<Plan, PlanFault> {
+    Plan::with_elements(
+        alloc,
+        &Elements::built_in(alloc),
+        60_000,
+        Method::Start,
+        &[key(element)],
+        &[ElementId::iana(1)],
+        4096,
+        Choices::BASIC,
+    )
+}
+
+// A record of domain 7 with one field, exporterIPv4Address 198.51.100.9.
+fn with_field_130(alloc: Global) -> Result<DataRecord, AllocError> {
+    let mut fields = Fields::new(alloc);
+    fields.push(EXPORTER_IPV4_ADDRESS, &[198, 51, 100, 9])?;
+    Ok(DataRecord {
+        domain: 7,
+        export_time: 0,
+        template: 256,
+        scope: 0,
+        fields,
+    })
+}
+
+// Whether the first field of an element has these octets.
+fn has(fields: &Fields, element: ElementId, octets: &[u8]) -> bool {
+    match fields.find(element) {
+        Some(found) => found == octets,
+        None => false,
+    }
+}
+
+#[test]
+fn mapped_addresses_are_of_ipv4(rt: HostRuntime) -> Result<(), Fail> {
+    assert_eq!(rt; Exporter::at(IpAddr::from(IPV4)), Exporter::Ipv4(IPV4));
+    assert_eq!(rt; Exporter::at(IpAddr::from(MAPPED)), Exporter::Ipv4(IPV4));
+    assert_eq!(rt; Exporter::at(IpAddr::from(IPV6)), Exporter::Ipv6(IPV6));
+    Ok(())
+}
+
+// A field of the record is no exporter's address, and stays the first of its element.
+#[test]
+fn fields_follow_the_records_own(rt: HostRuntime) -> Result<(), Fail> {
+    let mut item = with_field_130(rt.alloc())?;
+    let context = SessionContext {
+        exporter: Some(Exporter::Ipv4(IPV4)),
+        wanted: ALL,
+    };
+    context.append(&mut item)?;
+    assert_eq!(rt; item.fields.len(), 4);
+    assert!(rt; has(&item.fields, EXPORTER, &MAPPED));
+    assert!(rt; has(&item.fields, EXPORTER_IPV4_ADDRESS, &[198, 51, 100, 9]));
+    assert!(rt; has(&item.fields, OBSERVATION_DOMAIN_ID, &[0, 0, 0, 7]));
+    Ok(())
+}
+
+#[test]
+fn only_what_is_wanted_is_appended(rt: HostRuntime) -> Result<(), Fail> {
+    let mut item = with_field_130(rt.alloc())?;
+    NO_CONTEXT.append(&mut item)?;
+    assert_eq!(rt; item.fields.len(), 1);
+    let none_known = SessionContext {
+        exporter: None,
+        wanted: ALL,
+    };
+    none_known.append(&mut item)?;
+    assert_eq!(rt; item.fields.len(), 2);
+    let of_ipv6 = SessionContext {
+        exporter: Some(Exporter::Ipv6(IPV6)),
+        wanted: ALL,
+    };
+    of_ipv6.append(&mut item)?;
+    assert!(rt; has(&item.fields, EXPORTER, &IPV6));
+    assert!(rt; has(&item.fields, EXPORTER_IPV6_ADDRESS, &IPV6));
+    Ok(())
+}
+
+// The same flow three times: of 192.0.2.1, of 2001:db8::1, and of an exporter that isn't known.
+fn three_sessions(
+    alloc: Global,
+    wanted: Context,
+) -> Result<Vec<InContext<ScriptSource>>, AllocError> {
+    let mut sources = Vec::new(alloc);
+    for exporter in [Some(Exporter::Ipv4(IPV4)), Some(Exporter::Ipv6(IPV6)), None] {
+        let mut one = sources_of(alloc, &[&[ONE_FLOW]])?;
+        if let Some(source) = one.pop() {
+            sources.push(InContext {
+                source,
+                context: SessionContext { exporter, wanted },
+            })?;
+        }
+    }
+    Ok(sources)
+}
+
+// Whether there are just these rows, by their keys, each of one flow, and how many records are unkeyed.
+fn has_rows(table: &Table, keys: &[Cell], unkeyed: u64) -> bool {
+    let mut left = keys;
+    for row in &table.rows {
+        let [first, others @ ..] = left else {
+            return false;
+        };
+        if row.key.first() != Some(first) || row.flows != 1 {
+            return false;
+        }
+        left = others;
+    }
+    left.is_empty() && table.tally.unkeyed == unkeyed
+}
+
+fn over_links<R: Threads + Wait + Sync>(rt: &R, alloc: Global, plan: &Plan) -> Result<Table, Fail> {
+    let pool = Pool {
+        workers: 2,
+        capacity: 4,
+    };
+    let sources = three_sessions(alloc, plan.context())?;
+    let run = collect_flat(rt, alloc, sources, plan, pool, &OpenGate)?;
+    Ok(run.table.into_table()?)
+}
+
+fn in_lots<R: Threads + Sync>(rt: &R, alloc: Global, plan: &Plan) -> Result<Table, Fail> {
+    let sources = three_sessions(alloc, plan.context())?;
+    let run = collect_direct(rt, alloc, sources, plan, 2)?;
+    Ok(run.table.into_table()?)
+}
+
+#[test]
+fn exporters_are_keys(rt: HostRuntime) -> Result<(), Fail> {
+    let rows: [(ElementId, &[Cell], u64); 3] = [
+        (EXPORTER, &[Cell::Ipv6(MAPPED), Cell::Ipv6(IPV6)], 1),
+        (EXPORTER_IPV4_ADDRESS, &[Cell::Ipv4(IPV4)], 2),
+        (EXPORTER_IPV6_ADDRESS, &[Cell::Ipv6(IPV6)], 2),
+    ];
+    for (element, keys, unkeyed) in rows {
+        let plan = plan_of(rt.alloc(), element)?;
+        assert!(rt; has_rows(&over_links(&rt, rt.alloc(), &plan)?, keys, unkeyed));
+        assert!(rt; has_rows(&in_lots(&rt, rt.alloc(), &plan)?, keys, unkeyed));
+    }
+    Ok(())
+}
