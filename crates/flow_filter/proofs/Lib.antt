@@ -1,0 +1,4 @@
+mod Chains
+mod Decimals
+mod Families
+mod Said

@@ -1,0 +1,9 @@
+//! Tests of `flow_filter`, by what it offers to others. They stand in a crate of their own, so that
+//! they are proved without the library being proved a second time.
+#![tactic(auto)]
+
+pub mod calling;
+#[cfg(test)]
+mod faults;
+#[cfg(test)]
+mod tests;
