@@ -1,0 +1,148 @@
+-- How many octets of a text count: at least all but those of a message and of a read.
+use Rattle.std.proofs.Common.{◌≡◌, ℕ, ◌+◌, ◌<◌, ◌≤◌, List, [], ◌∷◌, ◌++◌, length, take, drop, get_or, sym, ap, subst, ◌∙◌, arith, inl, inr}
+use Rattle.std.specs.Prelude.{◌⊎◌, ◌^◌, All, Option, Some, None, sum_by}
+use Rattle.std.proofs.lemmas.List.{append-nil, length-append, length-drop, length-take-le}
+use Rattle.std.proofs.lemmas.Bool.{cases_lt}
+use Rattle.std.proofs.lemmas.List.{get_or_past}
+use Rattle.std.proofs.lemmas.List.Concat.{length-flat_map}
+use Rattle.std.proofs.lemmas.List.Sums.{sum_by-append, sum_by-take-le}
+use Rattle.ipfix_wire.specs.Numbers.{IsOctets}
+use Rattle.ipfix_wire.proofs.Octets.{IsOctets-drop, IsOctets-front}
+use Rattle.ipfix_wire.proofs.Headers.{header_is_good}
+use Rattle.ipfix_wire.proofs.Parts.{cases_read}
+use Rattle.ipfix_message.specs.Domains.{History, Message, message_gives}
+use Rattle.ipfix_message.specs.declared.fault.MessageFault.TheVariants.{OutOfMemory}
+use Rattle.ipfix_session.specs.declared.fault.SessionFault.{SessionFault}
+use Rattle.ipfix_session.specs.declared.fault.SessionFault.TheVariants as faults
+use Rattle.ipfix_session.specs.declared.report.FullReport.{FullReport}
+use Rattle.ipfix_session.specs.declared.report.MessagePlace.{MessagePlace}
+use Rattle.ipfix_session.specs.declared.stop.Stop.{Stop}
+use Rattle.ipfix_session.specs.declared.driver.TheConstants.{READ_SIZE}
+use Rattle.ipfix_session.specs.Buffers.{IsRest}
+use Rattle.ipfix_session.specs.Drives.{PutsUpTo}
+use Rattle.ipfix_session.specs.Feeding.{PutsWhole}
+use Rattle.ipfix_session.specs.Given.{Given, gives, gives_after, known_after, octets_of, stop_of, IsOpen, IsPrefix}
+use Rattle.ipfix_session.specs.MessageStream.{cut, next_message}
+use Rattle.ipfix_session.specs.Places.{length_of, messages_before_fault, place_after, ReportsInFull}
+use Rattle.ipfix_session.specs.Sinks.{SinkView}
+use Rattle.ipfix_session.specs.WholeMessages.{whole_octets}
+use Rattle.ipfix_session.proofs.Filling.{rest_is_short}
+use Rattle.ipfix_session.proofs.Giving.{gives_after-next, gives_after-fault, gives_after-stop}
+use Rattle.ipfix_session.proofs.Places.{place_is, stops_at_place}
+
+-- ---- which messages count
+
+-- a place is that after messages, the old ones among them, and they among all
+pub record Counted (old all : List Message) (place : MessagePlace) : Type 0 where
+  pub messages : List Message
+  pub from : IsPrefix old messages
+  pub up_to : IsPrefix messages all
+  pub is : place ≡ place_after messages
+
+pub counted : {K : Type 0} (view : SinkView K) (fault : Option SessionFault) (old all : List Message) (before after : K) (full : FullReport) → IsPrefix old all
+    → PutsUpTo view fault old all before after (ReportsInFull full) → Counted old all full.stopped_at
+counted view fault old all before after full prefix = by_fault fault
+  where
+    whole : PutsWhole view old all before after (ReportsInFull full) → Counted old all full.stopped_at
+    whole p = record { messages = all; from = prefix; up_to = ([], sym (append-nil all)); is = p.tells.counts.stopped_at }
+
+    by_fault : (fault : Option SessionFault) → PutsUpTo view fault old all before after (ReportsInFull full) → Counted old all full.stopped_at
+    by_fault None p = whole p
+    by_fault (Some faults.Truncated) p = whole p
+    by_fault (Some faults.ReadFailed) p = whole p
+    by_fault (Some faults.TooManyReads) p = whole p
+    by_fault (Some (faults.Message OutOfMemory)) p = record { messages = p.whole; from = p.from; up_to = p.up_to; is = p.puts.tells.counts.stopped_at }
+    by_fault (Some (faults.Message e)) p = whole p
+    by_fault (Some faults.SinkClosed) b = record { messages = b.whole; from = b.from; up_to = (b.next ∷ b.more, b.are); is = b.tells.counts.stopped_at }
+
+-- ---- how long they are
+
+-- a text is its whole messages and the rest
+abbrev pub IsCut : Type 0
+IsCut = (text : List ℕ) → take (whole_octets text) text ≡ octets_of (cut text).items
+
+-- the octets of the messages before a fault
+abbrev pub octets_before : List ℕ → ℕ
+octets_before text = sum_by length (messages_before_fault text)
+
+at_most : IsCut → (text : List ℕ) → octets_before text ≤ length text
+at_most is_cut text =
+    let items = (cut text).items in
+    let first = sum_by-take-le length items (length (gives text).messages) in
+    let sum : length (octets_of items) ≡ sum_by length items = length-flat_map (λ (m : List ℕ). m) items in
+    let whole = length-take-le (whole_octets text) text (omega arith) in
+    let same : length (take (whole_octets text) text) ≡ length (octets_of items) = ap length (is_cut text) in
+    omega (arith, first, sum, whole, same)
+
+-- what gives no message, and has no fault, may go on
+pub no_message : (ds : History) (r : List ℕ) (s : Stop) → gives_after ds r ≡ record { messages = []; stop = s } → IsOpen s → IsRest r
+no_message ds r s none is_open =
+    elim (cases_read (next_message r)) [
+      | inl message ↦
+          let m = message.0.0 in
+          let rest = message.0.1 in
+          elim (cases_read (message_gives ds m)) [
+            | inl good ↦
+                let gave = ap (λ (g : Given). g.messages) (sym (gives_after-next ds r m rest good.0 message.1 good.1) ∙ none) in
+                absurd cc
+            | inr bad ↦
+                let stop = ap (λ (g : Given). g.stop) (sym (gives_after-fault ds r m rest bad.0 message.1 bad.1) ∙ none) in
+                absurd (subst IsOpen (sym stop) is_open)
+          ]
+      | inr stop ↦
+          let same = ap (λ (g : Given). g.stop) (sym (gives_after-stop ds r stop.0 stop.1) ∙ none) in
+          record { stop = stop.0; none = stop.1; is_open = subst IsOpen (sym same) is_open }
+    ]
+
+short_rest : (r : List ℕ) → IsOctets r → IsRest r → length r < 65536
+short_rest r octets rest =
+    elim (rest_is_short r rest) [
+      | inl few ↦ omega (arith, few)
+      | inr short ↦
+          let two = IsOctets-drop 2 r octets in
+          let size = (header_is_good r short.header short.is_header).size in
+          omega (arith, two 0, two 1, size, short.less)
+    ]
+
+-- a text without a fault has at most a part of a message behind those
+at_least : (text : List ℕ) → IsOctets text → IsOpen (stop_of text) → length text ≤ octets_before text + 65535
+at_least text octets is_open =
+    let rest = drop (octets_before text) text in
+    let is_rest = no_message (known_after [] (gives text).messages) rest (stop_of text) (stops_at_place text) is_open in
+    let short = short_rest rest (IsOctets-drop (octets_before text) text octets) is_rest in
+    omega (arith, short, length-drop {A = ℕ})
+
+-- messages that go on from others are no shorter
+longer : (xs ys : List Message) → IsPrefix xs ys → sum_by length_of xs ≤ sum_by length_of ys
+longer xs ys p = omega (arith, ap (sum_by length_of) p.1, sum_by-append length_of xs p.0)
+
+pub record CountsIn (octets : ℕ) (gave : List ℕ) : Type 0 where
+  pub at_most : octets ≤ length gave
+  pub at_least : length gave ≤ octets + 131071
+
+pub counts_in : IsCut → (gave earlier last : List ℕ) (place : MessagePlace) → IsOctets gave → length gave < 2 ^ 64 → gave ≡ earlier ++ last → length last ≤ READ_SIZE → IsOpen (stop_of earlier)
+    → Counted (gives earlier).messages (gives gave).messages place → CountsIn place.octet gave
+counts_in is_cut gave earlier last place octets small is size is_open c =
+    let here = ap (λ (p : MessagePlace). p.octet) c.is in
+    let all = ap (λ (p : MessagePlace). p.octet) (place_is gave) in
+    let old = ap (λ (p : MessagePlace). p.octet) (place_is earlier) in
+    let first : IsOctets earlier = IsOctets-front earlier last (subst IsOctets is octets) in
+    let low = at_least earlier first is_open in
+    let high = at_most is_cut gave in
+    let before = at_most is_cut earlier in
+    let above = longer (gives earlier).messages c.messages c.from in
+    let below = longer c.messages (gives gave).messages c.up_to in
+    let sum : length gave ≡ length earlier + length last = ap length is ∙ length-append earlier last in
+    record {
+      at_most = omega (arith, here, all, high, below, small);
+      at_least = omega (arith, here, old, low, before, above, sum, size, small);
+    }
+
+-- ---- octets
+
+pub are_octets : (xs : List ℕ) → All (λ (octet : ℕ). octet < 256) xs → IsOctets xs
+are_octets xs all i = by_place (cases_lt i (length xs))
+  where
+    by_place : (i < length xs) ⊎ (length xs ≤ i) → get_or xs i 0 < 256
+    by_place (inl within) = all i 0 within
+    by_place (inr past) = rw (get_or_past xs i 0 past) (omega arith)

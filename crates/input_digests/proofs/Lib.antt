@@ -1,0 +1,6 @@
+pub mod Fronts
+pub mod Hashing
+pub mod Counted
+pub mod Driven
+pub mod Digested
+pub mod Whole

@@ -1,0 +1,23 @@
+-- What a source gave while it was hashed.
+use Rattle.std.specs.Prelude.{◌≡◌, ◌<◌, ◌^◌, ℕ, All, List, Option, Some, length, take}
+use Rattle.std.specs.Io.KnownBytes.{Consumes}
+use Rattle.ipfix_session.specs.declared.report.FullReport.{FullReport}
+use Rattle.sha2.specs.Sha256.{sha256}
+use Rattle.input_digests.specs.declared.front_digest.FrontDigest.{FrontDigest}
+use Rattle.input_digests.specs.FrontDigests.{HasRead}
+
+-- a source that held the one at the start, and holds the other now, gave octets, and they were hashed
+pub record HasHashed (digest : FrontDigest) (start now : Option (List ℕ)) : Type 0 where
+  pub gave : List ℕ
+  pub octets : All (λ octet. octet < 256) gave
+  pub given : Consumes start now gave
+  pub read : HasRead digest gave
+
+-- a digest is that of the messages that count: of the octets that a source held before the place where its session stopped.
+-- (No source holds 2^64 octets)
+abbrev pub IsOfCounted : Option (List ℕ) → FullReport → List ℕ → Type 0
+IsOfCounted start report digest = (text : List ℕ) → start ≡ Some text → length text < 2 ^ 64 → digest ≡ sha256 (take report.stopped_at.octet text)
+
+-- such a digest is that of all that the source held
+abbrev pub AllCount : Option (List ℕ) → FullReport → Type 0
+AllCount start report = (text digest : List ℕ) → start ≡ Some text → length text < 2 ^ 64 → IsOfCounted start report digest → digest ≡ sha256 text

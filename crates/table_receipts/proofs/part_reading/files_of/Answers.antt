@@ -1,0 +1,22 @@
+use Rattle.std.proofs.Common.{ap, rules, arith, ◌∙◌}
+use Rattle.std.specs.Prelude.{map}
+use Rattle.std.proofs.lemmas.Option.{same_Some}
+use Rattle.json.specs.Value.{value_view}
+use Rattle.table_receipts.specs.Objects.{file_json}
+use Rattle.table_receipts.specs.Values.{FitsFile, file_value}
+use Rattle.table_receipts.proofs.Telling.{file_tells}
+use Rattle.table_receipts.proofs.ListReads.{reads_all, reads_none, reads_on}
+use Rattle.table_receipts.proofs.part_reading.files_of.Goals as goal
+
+pub loop-item-init : goal.loop-item-init
+loop-item-init c = reads_none value_view file_value file_json FitsFile c.in-Some.items.now _ (search rules)
+
+pub loop-item-preserved : goal.loop-item-preserved
+loop-item-preserved c =
+    reads_on value_view file_value file_json FitsFile c.in-Some.items.now c.loop-item.item-index c.item-item.result _ _ c.in_ok-file_of.field-0 c.loop-item.invariant c.loop-item-test.true
+    (λ v fits is. c.in_ok-file_of.ensures v fits (file_tells _ v (ap value_view c.item-item.is ∙ is))) c.in_ok-push.ensures.items
+
+pub returns : goal.returns
+returns c vs fits is =
+    reads_all value_view file_value file_json FitsFile c.in-Some.items.now c.loop-item.item-index c.loop-item.files.items vs c.loop-item.invariant (omega (arith, c.loop-item-test.false)) fits
+    (same_Some (map value_view c.in-Some.items.now) (map file_json vs) (c.in-Some.ensures (map file_json vs) is))

@@ -1,0 +1,194 @@
+//! Reading the parts of a receipt from a value of JSON. What isn't as a receipt has it is read as nothing:
+//! the text that a receipt would have is compared afterwards.
+
+ghost use Rattle.std.specs.Prelude.{◌≡◌, ℕ, List, Option, Some, All, IfOk, codes, map, option_map, string_bytes};
+ghost use Rattle.json.specs.Find.{get};
+ghost use Rattle.json.specs.Value.{value_view};
+ghost use Rattle.table_receipts.specs.Objects.{counts_json, domain_json, fault_json, file_json, format_name, input_json, list_json, sum_json, table_json};
+ghost use Rattle.table_receipts.specs.Told.{TellsFile};
+ghost use Rattle.table_receipts.specs.Texts.{receipt_json};
+ghost use Rattle.table_receipts.specs.Values.{FileValue, FitsCounts, FitsDomain, FitsFile, FitsInput, FitsReceipt, FitsSum, FitsTable, InputValue, ReceiptValue, SumValue, TableValue, file_value, input_value, receipt_value, sum_value, table_value};
+ghost use Rattle.table_receipts.specs.declared.receipt.DomainReceipt.{DomainReceipt as Domain};
+ghost use Rattle.table_receipts.specs.declared.receipt.RecordCounts.{RecordCounts as Counts};
+ghost use Rattle.table_receipts.specs.declared.receipt.TableFormat.{TableFormat as Format};
+
+use crate::looking_up::{
+    count_of, digest_of, flag_of, list_of, member_of, number_of, small_of, text_of,
+};
+use crate::receipt::{
+    CounterSum, DomainReceipt, FileReceipt, InputReceipt, Receipt, RecordCounts, TableFormat,
+    TableReceipt,
+};
+use json::Value;
+use std::alloc::{AllocError, Global};
+
+fn file_of(alloc: Global, object: &Value<'_>) -> Result<FileReceipt, AllocError>
+    ensures { (f : FileValue) → FitsFile f → TellsFile (value_view object.now) f
+        → IfOk result (λ file. file_value file ≡ f) }
+{
+    Ok(FileReceipt {
+        name: String::from_str(alloc, text_of(object, "name"))?,
+        octets: count_of(object, "octets"),
+        sha256: digest_of(object, "sha256"),
+    })
+}
+
+fn files_of(alloc: Global, object: &Value<'_>) -> Result<Vec<FileReceipt>, AllocError>
+    ensures { (fs : List FileValue) → All FitsFile fs
+        → get (codes "elements") (value_view object.now) ≡ Some (list_json file_json fs)
+        → IfOk result (λ files. map file_value files.items ≡ fs) }
+{
+    let mut files = Vec::new(alloc);
+    let Some(items) = list_of(object, "elements") else {
+        return Ok(files);
+    };
+    for item in items {
+        files.push(file_of(alloc, item)?)?;
+    }
+    Ok(files)
+}
+
+fn domain_of(object: &Value<'_>) -> DomainReceipt
+    ensures { (d : Domain) → FitsDomain d → value_view object.now ≡ domain_json d
+        → result ≡ d }
+{
+    DomainReceipt {
+        domain: small_of(object, "domain"),
+        lost: count_of(object, "lost"),
+        backward: count_of(object, "backward"),
+        unaccounted: count_of(object, "unaccounted"),
+        unknown_sets: count_of(object, "unknown_sets"),
+    }
+}
+
+fn domains_of(alloc: Global, object: &Value<'_>) -> Result<Vec<DomainReceipt>, AllocError>
+    ensures { (ds : List Domain) → All FitsDomain ds
+        → get (codes "domains") (value_view object.now) ≡ Some (list_json domain_json ds)
+        → IfOk result (λ domains. domains.items ≡ ds) }
+{
+    let mut domains = Vec::new(alloc);
+    let Some(items) = list_of(object, "domains") else {
+        return Ok(domains);
+    };
+    for item in items {
+        domains.push(domain_of(item))?;
+    }
+    Ok(domains)
+}
+
+// The name of a fault.
+fn fault_of(alloc: Global, object: &Value<'_>) -> Result<Option<String>, AllocError>
+    ensures { (o : Option (List ℕ)) → get (codes "fault") (value_view object.now) ≡ Some (fault_json o)
+        → IfOk result (λ fault. option_map string_bytes fault ≡ o) }
+{
+    match object.get("fault") {
+        Some(Value::String(name)) => Ok(Some(String::from_str(alloc, name)?)),
+        _ => Ok(None),
+    }
+}
+
+fn input_of(alloc: Global, object: &Value<'_>) -> Result<InputReceipt, AllocError>
+    ensures { (i : InputValue) → FitsInput i → value_view object.now ≡ input_json i
+        → IfOk result (λ input. input_value input ≡ i) }
+{
+    Ok(InputReceipt {
+        file: file_of(alloc, object)?,
+        messages: count_of(object, "messages"),
+        records: count_of(object, "records"),
+        fault: fault_of(alloc, object)?,
+        domains: domains_of(alloc, object)?,
+    })
+}
+
+fn inputs_of(alloc: Global, object: &Value<'_>) -> Result<Vec<InputReceipt>, AllocError>
+    ensures { (is : List InputValue) → All FitsInput is
+        → get (codes "inputs") (value_view object.now) ≡ Some (list_json input_json is)
+        → IfOk result (λ inputs. map input_value inputs.items ≡ is) }
+{
+    let mut inputs = Vec::new(alloc);
+    let Some(items) = list_of(object, "inputs") else {
+        return Ok(inputs);
+    };
+    for item in items {
+        inputs.push(input_of(alloc, item)?)?;
+    }
+    Ok(inputs)
+}
+
+fn counts_of(object: &Value<'_>) -> RecordCounts
+    ensures { (c : Counts) → FitsCounts c → value_view object.now ≡ counts_json c → result ≡ c }
+{
+    RecordCounts {
+        used: count_of(object, "used"),
+        options: count_of(object, "options"),
+        untimed: count_of(object, "untimed"),
+        backward: count_of(object, "backward"),
+        unkeyed: count_of(object, "unkeyed"),
+        too_long: count_of(object, "too_long"),
+    }
+}
+
+fn sum_of(alloc: Global, object: &Value<'_>) -> Result<CounterSum, AllocError>
+    ensures { (s : SumValue) → FitsSum s → value_view object.now ≡ sum_json s
+        → IfOk result (λ sum. sum_value sum ≡ s) }
+{
+    Ok(CounterSum {
+        name: String::from_str(alloc, text_of(object, "name"))?,
+        sum: number_of(object, "sum"),
+    })
+}
+
+fn sums_of(alloc: Global, object: &Value<'_>) -> Result<Vec<CounterSum>, AllocError>
+    ensures { (ss : List SumValue) → All FitsSum ss
+        → get (codes "sums") (value_view object.now) ≡ Some (list_json sum_json ss)
+        → IfOk result (λ sums. map sum_value sums.items ≡ ss) }
+{
+    let mut sums = Vec::new(alloc);
+    let Some(items) = list_of(object, "sums") else {
+        return Ok(sums);
+    };
+    for item in items {
+        sums.push(sum_of(alloc, item)?)?;
+    }
+    Ok(sums)
+}
+
+fn format_by(name: &str) -> TableFormat
+    ensures { (f : Format) → name.now ≡ format_name f → result ≡ f }
+{
+    match name {
+        "csv" => TableFormat::Csv,
+        "ipfix" => TableFormat::Ipfix,
+        _ => TableFormat::Json,
+    }
+}
+
+fn table_of(alloc: Global, object: &Value<'_>) -> Result<TableReceipt, AllocError>
+    ensures { (t : TableValue) → FitsTable t → value_view object.now ≡ table_json t
+        → IfOk result (λ table. table_value table ≡ t) }
+{
+    Ok(TableReceipt {
+        format: format_by(text_of(object, "format")),
+        time: small_of(object, "time"),
+        octets: count_of(object, "octets"),
+        sha256: digest_of(object, "sha256"),
+        rows: count_of(object, "rows"),
+        sums: sums_of(alloc, object)?,
+        flows: number_of(object, "flows"),
+    })
+}
+
+pub fn receipt_of(alloc: Global, object: &Value<'_>) -> Result<Receipt, AllocError>
+    ensures { (r : ReceiptValue) → FitsReceipt r → value_view object.now ≡ receipt_json r
+        → IfOk result (λ receipt. receipt_value receipt ≡ r) }
+{
+    Ok(Receipt {
+        collectd: String::from_str(alloc, text_of(object, "collectd"))?,
+        plan: String::from_str(alloc, text_of(member_of(object, "plan"), "text"))?,
+        elements: files_of(alloc, object)?,
+        inputs: inputs_of(alloc, object)?,
+        records: counts_of(member_of(object, "records")),
+        table: table_of(alloc, member_of(object, "table"))?,
+        complete: flag_of(object, "complete"),
+    })
+}

@@ -1,0 +1,259 @@
+//! Writing the parts of a receipt.
+
+ghost use Rattle.std.specs.Prelude.{◌≡◌, ◌∷◌, codes, map, string_bytes, option_map};
+ghost use Rattle.json.specs.Json.{boolean, string};
+ghost use Rattle.json.specs.Token.{key};
+ghost use Rattle.json.specs.Tree.{json_tokens};
+ghost use Rattle.table_receipts.specs.Appending.{Appends};
+ghost use Rattle.table_receipts.specs.Values.{file_value, input_value, sum_value, table_value};
+ghost use Rattle.table_receipts.specs.Objects.{counts_json, digest_json, domain_json, fault_json, file_json, file_members, format_name, input_json, list_json, member_tokens, number_json, report_members, row_members, sum_json, table_json, text_members};
+
+use crate::receipt::{
+    CounterSum, DomainReceipt, FileReceipt, InputReceipt, RecordCounts, TableFormat, TableReceipt,
+};
+use itoa::Buffer;
+use json::Writer;
+use std::alloc::{AllocError, Global};
+
+// The least number that not every reader of JSON holds exactly (RFC 7493, section 2.2).
+const INEXACT: u128 = 1 << 53;
+
+// Writes a number, as a text if not every reader holds it exactly.
+fn write_number(writer: &mut Writer, number: u128) -> Result<(), AllocError>
+    ensures { Appends result writer.old writer.new (json_tokens (number_json number)) }
+{
+    if number < INEXACT {
+        writer.u64(number as u64)
+    } else {
+        writer.string(Buffer::new().format(number))
+    }
+}
+
+pub fn write_number_member(writer: &mut Writer, name: &str, number: u128) -> Result<(), AllocError>
+    ensures { Appends result writer.old writer.new
+        (key name.now ∷ json_tokens (number_json number)) }
+{
+    writer.key(name)?;
+    write_number(writer, number)
+}
+
+pub fn write_text_member(writer: &mut Writer, name: &str, text: &str) -> Result<(), AllocError>
+    ensures { Appends result writer.old writer.new (key name.now ∷ json_tokens (string text.now)) }
+{
+    writer.key(name)?;
+    writer.string(text)
+}
+
+pub fn write_digest_member(
+    alloc: Global,
+    writer: &mut Writer,
+    name: &str,
+    digest: &[u8; 32],
+) -> Result<(), AllocError>
+    ensures { Appends result writer.old writer.new
+        (key name.now ∷ json_tokens (digest_json digest.now)) }
+{
+    let digits = hex::encode(alloc, digest.as_slice())?;
+    write_text_member(writer, name, digits.as_str())
+}
+
+// Writes the members that tell a file.
+fn write_file_members(
+    alloc: Global,
+    writer: &mut Writer,
+    file: &FileReceipt,
+) -> Result<(), AllocError>
+    ensures { Appends result writer.old writer.new
+        (member_tokens (file_members (file_value file.now))) }
+{
+    write_text_member(writer, "name", file.name.as_str())?;
+    write_number_member(writer, "octets", u128::from(file.octets))?;
+    write_digest_member(alloc, writer, "sha256", &file.sha256)
+}
+
+#[tactic(auto, unfolding(crate::specs::Objects::file_json))]
+fn write_file(alloc: Global, writer: &mut Writer, file: &FileReceipt) -> Result<(), AllocError>
+    ensures { Appends result writer.old writer.new (json_tokens (file_json (file_value file.now))) }
+{
+    writer.begin_object()?;
+    write_file_members(alloc, writer, file)?;
+    writer.end_object()
+}
+
+pub fn write_files(
+    alloc: Global,
+    writer: &mut Writer,
+    files: &[FileReceipt],
+) -> Result<(), AllocError>
+    ensures { Appends result writer.old writer.new
+        (key (codes "elements") ∷ json_tokens (list_json file_json (map file_value files.now))) }
+{
+    writer.key("elements")?;
+    writer.begin_array()?;
+    for file in files {
+        write_file(alloc, writer, file)?;
+    }
+    writer.end_array()
+}
+
+#[tactic(auto, unfolding(crate::specs::Objects::domain_json))]
+fn write_domain(writer: &mut Writer, domain: &DomainReceipt) -> Result<(), AllocError>
+    ensures { Appends result writer.old writer.new (json_tokens (domain_json domain.now)) }
+{
+    writer.begin_object()?;
+    write_number_member(writer, "domain", u128::from(domain.domain))?;
+    write_number_member(writer, "lost", u128::from(domain.lost))?;
+    write_number_member(writer, "backward", u128::from(domain.backward))?;
+    write_number_member(writer, "unaccounted", u128::from(domain.unaccounted))?;
+    write_number_member(writer, "unknown_sets", u128::from(domain.unknown_sets))?;
+    writer.end_object()
+}
+
+fn write_domains(writer: &mut Writer, domains: &[DomainReceipt]) -> Result<(), AllocError>
+    ensures { Appends result writer.old writer.new
+        (json_tokens (list_json domain_json domains.now)) }
+{
+    writer.begin_array()?;
+    for domain in domains {
+        write_domain(writer, domain)?;
+    }
+    writer.end_array()
+}
+
+fn write_fault(writer: &mut Writer, fault: &Option<String>) -> Result<(), AllocError>
+    ensures { Appends result writer.old writer.new
+        (json_tokens (fault_json (option_map string_bytes fault.now))) }
+{
+    match fault {
+        Some(name) => writer.string(name.as_str()),
+        None => writer.null(),
+    }
+}
+
+// Writes the members that tell what the session of an input gave.
+fn write_report_members(writer: &mut Writer, input: &InputReceipt) -> Result<(), AllocError>
+    ensures { Appends result writer.old writer.new
+        (member_tokens (report_members (input_value input.now))) }
+{
+    write_number_member(writer, "messages", u128::from(input.messages))?;
+    write_number_member(writer, "records", u128::from(input.records))?;
+    writer.key("fault")?;
+    write_fault(writer, &input.fault)?;
+    writer.key("domains")?;
+    write_domains(writer, &input.domains)
+}
+
+#[tactic(auto, unfolding(crate::specs::Objects::input_json))]
+fn write_input(alloc: Global, writer: &mut Writer, input: &InputReceipt) -> Result<(), AllocError>
+    ensures { Appends result writer.old writer.new
+        (json_tokens (input_json (input_value input.now))) }
+{
+    writer.begin_object()?;
+    write_file_members(alloc, writer, &input.file)?;
+    write_report_members(writer, input)?;
+    writer.end_object()
+}
+
+pub fn write_inputs(
+    alloc: Global,
+    writer: &mut Writer,
+    inputs: &[InputReceipt],
+) -> Result<(), AllocError>
+    ensures { Appends result writer.old writer.new
+        (key (codes "inputs") ∷ json_tokens (list_json input_json (map input_value inputs.now))) }
+{
+    writer.key("inputs")?;
+    writer.begin_array()?;
+    for input in inputs {
+        write_input(alloc, writer, input)?;
+    }
+    writer.end_array()
+}
+
+#[tactic(auto, unfolding(crate::specs::Objects::counts_json))]
+pub fn write_counts(writer: &mut Writer, counts: &RecordCounts) -> Result<(), AllocError>
+    ensures { Appends result writer.old writer.new (key (codes "records") ∷ json_tokens (counts_json counts.now)) }
+{
+    writer.key("records")?;
+    writer.begin_object()?;
+    write_number_member(writer, "used", u128::from(counts.used))?;
+    write_number_member(writer, "options", u128::from(counts.options))?;
+    write_number_member(writer, "untimed", u128::from(counts.untimed))?;
+    write_number_member(writer, "backward", u128::from(counts.backward))?;
+    write_number_member(writer, "unkeyed", u128::from(counts.unkeyed))?;
+    write_number_member(writer, "too_long", u128::from(counts.too_long))?;
+    writer.end_object()
+}
+
+#[tactic(auto, unfolding(crate::specs::Objects::sum_json))]
+fn write_sum(writer: &mut Writer, sum: &CounterSum) -> Result<(), AllocError>
+    ensures { Appends result writer.old writer.new (json_tokens (sum_json (sum_value sum.now))) }
+{
+    writer.begin_object()?;
+    write_text_member(writer, "name", sum.name.as_str())?;
+    write_number_member(writer, "sum", sum.sum)?;
+    writer.end_object()
+}
+
+fn write_sums(writer: &mut Writer, sums: &[CounterSum]) -> Result<(), AllocError>
+    ensures { Appends result writer.old writer.new
+        (json_tokens (list_json sum_json (map sum_value sums.now))) }
+{
+    writer.begin_array()?;
+    for sum in sums {
+        write_sum(writer, sum)?;
+    }
+    writer.end_array()
+}
+
+fn name_of(format: TableFormat) -> &'static str
+    ensures { result.now ≡ format_name format }
+{
+    match format {
+        TableFormat::Csv => "csv",
+        TableFormat::Ipfix => "ipfix",
+        TableFormat::Json => "json",
+    }
+}
+
+// Writes the members that tell the text of a table.
+fn write_text_members(
+    alloc: Global,
+    writer: &mut Writer,
+    table: &TableReceipt,
+) -> Result<(), AllocError>
+    ensures { Appends result writer.old writer.new
+        (member_tokens (text_members (table_value table.now))) }
+{
+    write_text_member(writer, "format", name_of(table.format))?;
+    write_number_member(writer, "time", u128::from(table.time))?;
+    write_number_member(writer, "octets", u128::from(table.octets))?;
+    write_digest_member(alloc, writer, "sha256", &table.sha256)
+}
+
+// Writes the members that tell what the rows of a table add up to.
+fn write_row_members(writer: &mut Writer, table: &TableReceipt) -> Result<(), AllocError>
+    ensures { Appends result writer.old writer.new
+        (member_tokens (row_members (table_value table.now))) }
+{
+    write_number_member(writer, "rows", u128::from(table.rows))?;
+    writer.key("sums")?;
+    write_sums(writer, &table.sums)?;
+    write_number_member(writer, "flows", table.flows)
+}
+
+#[tactic(auto, unfolding(crate::specs::Objects::table_json))]
+pub fn write_table(
+    alloc: Global,
+    writer: &mut Writer,
+    table: &TableReceipt,
+) -> Result<(), AllocError>
+    ensures { Appends result writer.old writer.new
+        (key (codes "table") ∷ json_tokens (table_json (table_value table.now))) }
+{
+    writer.key("table")?;
+    writer.begin_object()?;
+    write_text_members(alloc, writer, table)?;
+    write_row_members(writer, table)?;
+    writer.end_object()
+}

@@ -1,0 +1,107 @@
+//! What a receipt tells.
+
+/// A file that was read: an input, or a file of elements.
+#[derive(Drop)]
+pub struct FileReceipt {
+    /// Its name as it was given: `-` is standard input, and a connection's is ADDRESS:PORT.
+    pub name: String,
+    /// How many octets of it count.
+    pub octets: u64,
+    /// The SHA-256 (FIPS 180-4) of these octets.
+    pub sha256: [u8; 32],
+}
+
+/// What the messages of an observation domain say (RFC 7011, section 3.1).
+#[derive(Clone, Copy, Debug, PartialEq, Eq)]
+pub struct DomainReceipt {
+    pub domain: u32,
+    /// Data records that the sequence numbers say were lost.
+    pub lost: u64,
+    /// How often a sequence number went backward.
+    pub backward: u64,
+    /// Data records that are neither counted nor lost: those of unknown sets among them.
+    pub unaccounted: u64,
+    /// Data sets without a template in force.
+    pub unknown_sets: u64,
+}
+
+/// An input of a table, as far as its messages count.
+#[derive(Drop)]
+pub struct InputReceipt {
+    pub file: FileReceipt,
+    /// The messages that count.
+    pub messages: u64,
+    /// Their data records.
+    pub records: u64,
+    /// The name of the fault that ended its session, if one did.
+    pub fault: Option<String>,
+    /// Its observation domains, in the order in which they appeared.
+    pub domains: Vec<DomainReceipt>,
+}
+
+/// How many data records of all inputs are of each class.
+#[derive(Clone, Copy, Debug, PartialEq, Eq)]
+pub struct RecordCounts {
+    /// Records that contribute to the table.
+    pub used: u64,
+    /// Records of options templates.
+    pub options: u64,
+    /// Records without a start or an end.
+    pub untimed: u64,
+    /// Records that end before they start.
+    pub backward: u64,
+    /// Records without one of the plan's keys.
+    pub unkeyed: u64,
+    /// Records that would be given to too many intervals.
+    pub too_long: u64,
+}
+
+/// How a table is written.
+#[derive(Clone, Copy, Debug, PartialEq, Eq)]
+pub enum TableFormat {
+    Csv,
+    Ipfix,
+    Json,
+}
+
+/// The sum of a counter over all rows of a table.
+#[derive(Drop)]
+pub struct CounterSum {
+    /// The counter's name, as in the plan.
+    pub name: String,
+    pub sum: u128,
+}
+
+/// The table.
+#[derive(Drop)]
+pub struct TableReceipt {
+    pub format: TableFormat,
+    /// The export time of its messages, in seconds since 1970-01-01 UTC.
+    pub time: u32,
+    /// How many octets its text has.
+    pub octets: u64,
+    /// The SHA-256 of its text.
+    pub sha256: [u8; 32],
+    pub rows: u64,
+    /// The sum of each counter of the plan, in the plan's order.
+    pub sums: Vec<CounterSum>,
+    /// The number of flows of all rows.
+    pub flows: u128,
+}
+
+/// What a table was made of.
+#[derive(Drop)]
+pub struct Receipt {
+    /// The version of collectd, as `1.2.3`.
+    pub collectd: String,
+    /// The text of the plan.
+    pub plan: String,
+    /// The files of elements, in the order in which they were given.
+    pub elements: Vec<FileReceipt>,
+    /// The inputs, in the order of their sessions.
+    pub inputs: Vec<InputReceipt>,
+    pub records: RecordCounts,
+    pub table: TableReceipt,
+    /// Whether nothing was lost or passed over: `--strict` would have ended with status 0.
+    pub complete: bool,
+}
