@@ -23,12 +23,13 @@ use Rattle.ipfix_message.specs.declared.record.Template.{Template}
 use Rattle.ipfix_datagrams.specs.declared.withdrawn_template.WithdrawnTemplate.{WithdrawnTemplate}
 use Rattle.ipfix_datagrams.specs.declared.definitions.Definitions.{Definitions}
 use Rattle.ipfix_datagrams.specs.declared.reading.DatagramReading.{DatagramReading}
-use Rattle.ipfix_datagrams.specs.Datagrams.{are_sets_of_withdrawals, withdrawals_in, withdraws_only, AreTemplatesOf, Preparation, with_withdrawn, replaced, replaced_by, given_after, MayChange, Changes, again, events_of_message, first_definition, last_definition, IsPrepared, IsTaken, IsRefused, IsReadingOf, LeavesBy, preparation_of}
-use Rattle.ipfix_datagrams.specs.Attempts.{nothing, CanDefine, CanPrepare, Defines, HasFirst, Reads, FirstReads}
-use Rattle.ipfix_datagrams.proofs.DefinedAgain.{again_knows, can_define}
+use Rattle.ipfix_datagrams.specs.Datagrams.{are_sets_of_withdrawals, withdrawals_in, withdraws_only, AreTemplatesOf, Preparation, with_withdrawn, replaced, replaced_by, given_after, MayChange, Changes, defined_before, events_of_message, first_definition, last_definition, IsPrepared, IsTaken, IsRefused, IsReadingOf, LeavesBy, preparation_of}
+use Rattle.ipfix_datagrams.specs.Attempts.{nothing, CanPrepare, MayWithdraw, Defines, HasFirst, Reads, FirstReads}
+use Rattle.ipfix_message.proofs.PartsOf.{HasRoom, was_read}
+use Rattle.ipfix_datagrams.proofs.Appearing.{room_ok}
+use Rattle.ipfix_datagrams.proofs.Resumed.{can_define}
 use Rattle.ipfix_datagrams.proofs.FirstAndLast.{defined_id}
 use Rattle.ipfix_datagrams.proofs.Replacing.{are_templates, replaced_in}
-use Rattle.ipfix_datagrams.proofs.Withdrawn.{admitted}
 use Rattle.ipfix_datagrams.proofs.Readings.{fails_or, header_same, none_in}
 
 abbrev pub prepared_as : List WithdrawnTemplate → List Template → Preparation
@@ -61,8 +62,8 @@ header_not_changed m h = by_test (ltb (length m) 16) h
     by_test true e = length_not_changed (fault_is {A = Header} MessageLength TemplateChanged e)
     by_test false e = by_wire (header_at m) e
 
-pub bad_header_refused : (ds : History) (m : List ℕ) (f : MessageFault) → Fails f (message_header m) → IsRefused ds m f
-bad_header_refused ds m f fails = elim (fails_or f (message_header m) fails) [
+pub bad_header_refused : (resumed : List Template) (ds : History) (m : List ℕ) (f : MessageFault) → Fails f (message_header m) → IsRefused resumed ds m f
+bad_header_refused resumed ds m f fails = elim (fails_or f (message_header m) fails) [
   | inl e ↦ inl e
   | inr e ↦ elim (fails_or f (message_gives ds m) (bad_header f ds m fails)) [
     | inl e ↦ inl e
@@ -82,8 +83,8 @@ no_room_gives : (ds : History) (m : List ℕ) (h : Header) → message_header m 
 unfolding message_gives
 no_room_gives ds m h good full = rw (good, full) refl
 
-pub no_room_refused : (ds : History) (m : List ℕ) (h : Header) → withdraws_only m ≡ false → message_header m ≡ Ok h → admit ds h.domain ≡ Err TooManyDomains → IsRefused ds m TooManyDomains
-no_room_refused ds m h kept good full = inr (kept, inl (no_room_gives ds m h good full, room_not_changed))
+pub no_room_refused : (resumed : List Template) (ds : History) (m : List ℕ) (h : Header) → withdraws_only m ≡ false → message_header m ≡ Ok h → admit ds h.domain ≡ Err TooManyDomains → IsRefused resumed ds m TooManyDomains
+no_room_refused resumed ds m h kept good full = inr (kept, inl (no_room_gives ds m h good full, room_not_changed))
 
 -- ---- as it is
 
@@ -107,11 +108,11 @@ first_data ds m h ws good none c = record {
   leaves = c.same;
 }
 
-pub refused_data : (ds : History) (m : List ℕ) (f : MessageFault) → withdraws_only m ≡ false → (message_gives ds m ≡ Err f) × (f ≢ TemplateChanged) → IsRefused ds m f
-refused_data ds m f kept fails = inr (kept, inl fails)
+pub refused_data : (resumed : List Template) (ds : History) (m : List ℕ) (f : MessageFault) → withdraws_only m ≡ false → (message_gives ds m ≡ Err f) × (f ≢ TemplateChanged) → IsRefused resumed ds m f
+refused_data resumed ds m f kept fails = inr (kept, inl fails)
 
-pub refused_plainly : (ds : History) (m : List ℕ) (f : MessageFault) → withdraws_only m ≡ false → f ≢ TemplateChanged → Fails f (message_gives ds m) → IsRefused ds m f
-refused_plainly ds m f kept other fails = elim (fails_or f (message_gives ds m) fails) [ inl e ↦ inl e | inr e ↦ inr (kept, inl (e, other)) ]
+pub refused_plainly : (resumed : List Template) (ds : History) (m : List ℕ) (f : MessageFault) → withdraws_only m ≡ false → f ≢ TemplateChanged → Fails f (message_gives ds m) → IsRefused resumed ds m f
+refused_plainly resumed ds m f kept other fails = elim (fails_or f (message_gives ds m) fails) [ inl e ↦ inl e | inr e ↦ inr (kept, inl (e, other)) ]
 
 -- ---- after the templates that it replaces are withdrawn
 
@@ -146,11 +147,12 @@ are_changes ds m domain ws first f changed has ordered same are = record {
   are = are ∙ replaced_in (λ (t : Template). f t.id) ds domain (values first) (λ t. same t.id);
 }
 
+pub may_withdraw : (ds : History) (m : List ℕ) (domain : ℕ) (ws : List WithdrawnTemplate) → MayChange ds m domain ws → MayWithdraw ds domain ws
+may_withdraw ds m domain ws (inl none) = inl none
+may_withdraw ds m domain ws (inr c) = changes_knows ds m domain ws c
+
 pub changes_can : (ds : History) (m : List ℕ) (domain : ℕ) (ws : List WithdrawnTemplate) → Changes ds m domain ws → CanPrepare ds domain (prepared_as ws [])
-changes_can ds m domain ws c = elim (changes_knows ds m domain ws c) [
-  | inl none ↦ inl (ap (λ (vs : List WithdrawnTemplate). prepared_as vs []) none)
-  | inr there ↦ inr (there, tt)
-]
+changes_can ds m domain ws c = (changes_knows ds m domain ws c, tt)
 
 pub first_changed : (ds : History) (m : List ℕ) (domain : ℕ) (ws : List WithdrawnTemplate) (after : DomainsView) → Changes ds m domain ws → Reads ds domain (prepared_as ws []) m after → FirstReads ds domain m ws (Some after)
 first_changed ds m domain ws after c reads = record {
@@ -161,8 +163,8 @@ first_changed ds m domain ws after c reads = record {
   leaves = reads.leaves;
 }
 
-pub refused_changed : (ds : History) (m : List ℕ) (h : Header) (ws : List WithdrawnTemplate) (f : MessageFault) → withdraws_only m ≡ false → message_header m ≡ Ok h → Changes ds m h.domain ws → Fails f (message_gives (with_withdrawn ds h.domain ws) m) → IsRefused ds m f
-refused_changed ds m h ws f kept good c fails = elim (fails_or f (message_gives (with_withdrawn ds h.domain ws) m) fails) [
+pub refused_changed : (resumed : List Template) (ds : History) (m : List ℕ) (h : Header) (ws : List WithdrawnTemplate) (f : MessageFault) → withdraws_only m ≡ false → message_header m ≡ Ok h → Changes ds m h.domain ws → Fails f (message_gives (with_withdrawn ds h.domain ws) m) → IsRefused resumed ds m f
+refused_changed resumed ds m h ws f kept good c fails = elim (fails_or f (message_gives (with_withdrawn ds h.domain ws) m) fails) [
   | inl e ↦ inl e
   | inr e ↦ inr (kept, inr (inl (record { header = h; is_header = good; withdrawn = ws; changes = c; fault = e })))
 ]
@@ -172,29 +174,34 @@ refused_changed ds m h ws f kept good c fails = elim (fails_or f (message_gives 
 pub has_first : (d : Definitions) (m : List ℕ) → Defines d (events_of_message m) → HasFirst d.first m
 has_first d m defines = record { at = defines.first }
 
--- what is answered of its definitions and its withdrawals
+-- what is answered of the templates that are defined before it, of its definitions and its withdrawals
 pub record HasLast (r : DatagramReading) (m : List ℕ) : Type 0 where
   pub defines : (id : ℕ) → get nat_cmp r.definitions id ≡ last_definition m id
   pub withdrawals : r.withdrawals ≡ capped (withdrawals_in m)
 
--- ---- after templates are defined again
+-- ---- after templates are defined
 
-is_prepared : (ds : History) (m : List ℕ) (domain : ℕ) (ws : List WithdrawnTemplate) (after : Option DomainsView) (f : FirstReads ds domain m ws after) (ts : List Template) → AreTemplatesOf (again ds m domain) ts → IsPrepared ds m (prepared_as ws ts) f.given
-is_prepared ds m domain ws after f ts are = record {
+-- these are defined before it
+abbrev pub IsBefore : List Template → History → List ℕ → ℕ → DatagramReading → Type 0
+IsBefore resumed ds m domain r = (id : ℕ) → get nat_cmp r.defined id ≡ defined_before resumed ds m domain id
+
+is_prepared : (resumed : List Template) (ds : History) (m : List ℕ) (domain : ℕ) (ws : List WithdrawnTemplate) (after : Option DomainsView) (f : FirstReads ds domain m ws after) (ts : List Template) → AreTemplatesOf (defined_before resumed ds m domain) ts → IsPrepared resumed ds m (prepared_as ws ts) f.given
+is_prepared resumed ds m domain ws after f ts are = record {
   changes = subst (λ (d : ℕ). MayChange ds m d ws) (sym f.domain_is) f.changes;
   read = subst (λ (d : ℕ). message_gives (with_withdrawn ds d ws) m ≡ Ok f.given) (sym f.domain_is) f.read;
-  again = subst (λ (d : ℕ). AreTemplatesOf (again ds m d) ts) (sym f.domain_is) are;
+  again = subst (λ (d : ℕ). AreTemplatesOf (defined_before resumed ds m d) ts) (sym f.domain_is) are;
 }
 
 -- none
-pub taken_first : (ds : History) (m : List ℕ) (domain : ℕ) (r : DatagramReading) → FirstReads ds domain m r.withdrawn.items r.after → AreTemplatesOf (again ds m domain) (values r.defined) → values r.defined ≡ []
-    → withdraws_only m ≡ false → HasLast r m → (x : Message) × IsReadingOf ds m r x
-taken_first ds m domain r f are none kept last =
+pub taken_first : (resumed : List Template) (ds : History) (m : List ℕ) (domain : ℕ) (r : DatagramReading) → FirstReads ds domain m r.withdrawn.items r.after → AreTemplatesOf (defined_before resumed ds m domain) (values r.defined) → IsBefore resumed ds m domain r → values r.defined ≡ []
+    → withdraws_only m ≡ false → HasLast r m → (x : Message) × IsReadingOf resumed ds m r x
+taken_first resumed ds m domain r f are before none kept last =
     let d = f.given.header.domain in
-    let p = is_prepared ds m domain r.withdrawn.items r.after f (values r.defined) are in (
+    let p = is_prepared resumed ds m domain r.withdrawn.items r.after f (values r.defined) are in (
       f.given,
       record {
         taken = record { kept = kept; first = f.given; is_prepared = p; read = ap (λ (ts : List Template). given_after ds d (prepared_as r.withdrawn.items ts) m) none ∙ p.read };
+        before = λ id. before id ∙ ap (λ (n : ℕ). defined_before resumed ds m n id) (sym f.domain_is);
         leaves = f.leaves;
         defines = last.defines;
         withdrawals = last.withdrawals;
@@ -202,71 +209,58 @@ taken_first ds m domain r f are none kept last =
     )
 
 -- some
-pub can_prepare : (ds : History) (m : List ℕ) (domain : ℕ) (ws : List WithdrawnTemplate) (ts : List Template) → ts ≢ [] → AreTemplatesOf (again ds m domain) ts → (knows ds domain ≡ true) × CanDefine (events_in (with_withdrawn ds domain ws) domain) ts
-can_prepare ds m domain ws ts some are = elim (again_knows ds m domain ts are) [
-  | inl none ↦ absurd (some none)
-  | inr there ↦ (there, can_define ds m domain ws ts are)
-]
+pub can_prepare : (resumed : List Template) (ds : History) (m : List ℕ) (domain : ℕ) (ws : List WithdrawnTemplate) (ts : List Template) → MayChange ds m domain ws → AreTemplatesOf (defined_before resumed ds m domain) ts → CanPrepare ds domain (prepared_as ws ts)
+can_prepare resumed ds m domain ws ts changes are =
+    let may = may_withdraw ds m domain ws changes in
+    (may, can_define resumed ds m domain ws ts may are)
 
-pub taken_again : (ds : History) (m : List ℕ) (domain : ℕ) (r : DatagramReading) (after : Option DomainsView) (d : DomainsView) → r.after ≡ Some d → FirstReads ds domain m r.withdrawn.items after → AreTemplatesOf (again ds m domain) (values r.defined) → Reads ds domain (preparation_of r) m d
-    → withdraws_only m ≡ false → HasLast r m → (x : Message) × IsReadingOf ds m r x
-taken_again ds m domain r after d is f are reads kept last = (
+-- a domain whose datagram was read had room
+pub had_room : (ds : History) (m : List ℕ) (domain : ℕ) (ws : List WithdrawnTemplate) (after : Option DomainsView) → FirstReads ds domain m ws after → IsOk (admit ds domain)
+had_room ds m domain ws after f = room_ok ds domain (by_changes (may_withdraw ds m domain ws f.changes))
+  where
+    by_changes : MayWithdraw ds domain ws → HasRoom ds domain
+    by_changes (inr there) = inl there
+    by_changes (inl none) = subst (λ (d : ℕ). HasRoom ds d) f.domain_is (was_read ds m f.given (ap (λ (vs : List WithdrawnTemplate). message_gives (with_withdrawn ds domain vs) m) (sym none) ∙ f.read)).room
+
+pub taken_again : (resumed : List Template) (ds : History) (m : List ℕ) (domain : ℕ) (r : DatagramReading) (after : Option DomainsView) (d : DomainsView) → r.after ≡ Some d → FirstReads ds domain m r.withdrawn.items after → AreTemplatesOf (defined_before resumed ds m domain) (values r.defined) → IsBefore resumed ds m domain r → Reads ds domain (preparation_of r) m d
+    → withdraws_only m ≡ false → HasLast r m → (x : Message) × IsReadingOf resumed ds m r x
+taken_again resumed ds m domain r after d is f are before reads kept last = (
   reads.given,
   record {
     taken = record {
       kept = kept;
       first = f.given;
-      is_prepared = is_prepared ds m domain r.withdrawn.items after f (values r.defined) are;
+      is_prepared = is_prepared resumed ds m domain r.withdrawn.items after f (values r.defined) are;
       read = subst (λ (d : ℕ). given_after ds d (preparation_of r) m ≡ Ok reads.given) (sym f.domain_is) reads.read;
     };
+    before = λ id. before id ∙ ap (λ (n : ℕ). defined_before resumed ds m n id) (sym reads.domain_is);
     leaves = subst (λ (o : Option DomainsView). LeavesBy o ds reads.given) (sym is) reads.leaves;
     defines = last.defines;
     withdrawals = last.withdrawals;
   },
 )
 
-pub refused_again : (ds : History) (m : List ℕ) (domain : ℕ) (ws : List WithdrawnTemplate) (after : Option DomainsView) (ts : List Template) (fault : MessageFault) → withdraws_only m ≡ false → FirstReads ds domain m ws after → AreTemplatesOf (again ds m domain) ts
-    → Fails fault (given_after ds domain (prepared_as ws ts) m) → IsRefused ds m fault
-refused_again ds m domain ws after ts fault kept f are fails = elim (fails_or fault (given_after ds domain (prepared_as ws ts) m) fails) [
+pub refused_again : (resumed : List Template) (ds : History) (m : List ℕ) (domain : ℕ) (ws : List WithdrawnTemplate) (after : Option DomainsView) (ts : List Template) (fault : MessageFault) → withdraws_only m ≡ false → FirstReads ds domain m ws after → AreTemplatesOf (defined_before resumed ds m domain) ts
+    → Fails fault (given_after ds domain (prepared_as ws ts) m) → IsRefused resumed ds m fault
+refused_again resumed ds m domain ws after ts fault kept f are fails = elim (fails_or fault (given_after ds domain (prepared_as ws ts) m) fails) [
   | inl e ↦ inl e
   | inr e ↦ inr (
     kept,
     inr (inr (record {
       preparation = prepared_as ws ts;
       first = f.given;
-      is_prepared = is_prepared ds m domain ws after f ts are;
+      is_prepared = is_prepared resumed ds m domain ws after f ts are;
       fault = subst (λ (d : ℕ). given_after ds d (prepared_as ws ts) m ≡ Err fault) (sym f.domain_is) e;
     })),
   )
 ]
 
 -- what a datagram that is taken is prepared by can be done
-pub taken_prepares : (ds : History) (m : List ℕ) (h : Header) (p : Preparation) (x : Message) → message_header m ≡ Ok h → IsTaken ds m p x → CanPrepare ds h.domain p
-taken_prepares ds m h p x good taken =
+pub taken_prepares : (resumed : List Template) (ds : History) (m : List ℕ) (h : Header) (p : Preparation) (x : Message) → message_header m ≡ Ok h → IsTaken resumed ds m p x → CanPrepare ds h.domain p
+taken_prepares resumed ds m h p x good taken =
     let q = taken.is_prepared in
     let same : taken.first.header ≡ h = header_same (with_withdrawn ds taken.first.header.domain p.withdrawn) m h taken.first good q.read in
-    subst (λ (g : Header). CanPrepare ds g.domain p) same (by_cases (again_knows ds m d p.defined q.again) q.changes)
-  where
-    d : ℕ
-    d = taken.first.header.domain
-
-    can : CanDefine (events_in (with_withdrawn ds d p.withdrawn) d) p.defined
-    can = can_define ds m d p.withdrawn p.defined taken.is_prepared.again
-
-    none_of : p.withdrawn ≡ [] → p.defined ≡ [] → CanPrepare ds d p
-    none_of none nor = inl (ap₂ (λ (ws : List WithdrawnTemplate) (ts : List Template). prepared_as ws ts) none nor)
-
-    by_changes : p.defined ≡ [] → (p.withdrawn ≡ []) ⊎ (knows ds d ≡ true) → CanPrepare ds d p
-    by_changes nor (inl none) = none_of none nor
-    by_changes nor (inr there) = inr (there, can)
-
-    by_cases : (p.defined ≡ []) ⊎ (knows ds d ≡ true) → MayChange ds m d p.withdrawn → CanPrepare ds d p
-    by_cases (inr there) changes = inr (there, can)
-    by_cases (inl nor) (inr c) = by_changes nor (changes_knows ds m d p.withdrawn c)
-    by_cases (inl nor) (inl none) = none_of none nor
-
-pub admit_ok : (ds : History) (domain : ℕ) → knows ds domain ≡ true → IsOk (admit ds domain)
-admit_ok ds domain there = rw (admitted ds domain there) refl
+    subst (λ (g : Header). CanPrepare ds g.domain p) same (can_prepare resumed ds m taken.first.header.domain p.withdrawn p.defined q.changes q.again)
 
 -- ---- templates by id, or none
 

@@ -15,9 +15,10 @@ use Rattle.ipfix_message.specs.Domains.{DomainsView, History, Message, admit, al
 use Rattle.ipfix_message.specs.Alike.{Alike, knows}
 use Rattle.ipfix_message.proofs.PartsOf.{HasRoom}
 use Rattle.ipfix_datagrams.specs.Datagrams.{Preparation, Represents, prepared, with_withdrawn}
-use Rattle.ipfix_datagrams.specs.Attempts.{IsSomething, CanDefine, CanPrepare, Reads}
-use Rattle.ipfix_datagrams.proofs.WithdrawnDomains.{alone_none, same_withdrawn, alone_events, alone_knows}
-use Rattle.ipfix_datagrams.proofs.Defined.{knows-prepared, same_prepared}
+use Rattle.ipfix_datagrams.specs.Attempts.{CanDefine, CanPrepare, MayWithdraw, Reads}
+use Rattle.ipfix_datagrams.proofs.Appearing.{room_alone, room_ok}
+use Rattle.ipfix_datagrams.proofs.WithdrawnDomains.{alone_events, alone_knows}
+use Rattle.ipfix_datagrams.proofs.Defined.{room_prepared, room_withdrawn, same_in, same_prepared}
 use Rattle.ipfix_datagrams.proofs.Readings.{SameGiven, room_of, same_reading, alike_given, alike_fails, template_behind, header_same}
 
 -- the copy, after the preparation
@@ -25,56 +26,27 @@ abbrev copy : History → ℕ → Preparation → History
 copy ds domain p = prepared (alone ds domain) domain p
 
 -- the copy can be prepared as the domain can
-pub copy_ready : (ds : History) (domain : ℕ) (p : Preparation) → (knows ds domain ≡ true) × CanDefine (events_in (with_withdrawn ds domain p.withdrawn) domain) p.defined
-    → (knows (alone ds domain) domain ≡ true) × CanDefine (events_in (with_withdrawn (alone ds domain) domain p.withdrawn) domain) p.defined
-copy_ready ds domain p can =
-    let there : knows (alone ds domain) domain ≡ true = alone_knows ds domain ∙ can.0 in
-    (there, subst (λ (es : List Event). CanDefine es p.defined) (sym (same_withdrawn ds (alone ds domain) domain p.withdrawn can.0 there (alone_events ds domain))) can.1)
+pub copy_may : (ds : History) (domain : ℕ) (ws : List WithdrawnTemplate) → MayWithdraw ds domain ws → MayWithdraw (alone ds domain) domain ws
+copy_may ds domain ws (inl none) = inl none
+copy_may ds domain ws (inr there) = inr (alone_knows ds domain ∙ there)
 
--- where there is something to prepare it can be prepared
-pub some_can : (ds : History) (domain : ℕ) (ws : List WithdrawnTemplate) (ts : BTreeMap ℕ Template) → IsSomething ws ts.entries → CanPrepare ds domain (record { withdrawn = ws; defined = values ts })
-    → (knows ds domain ≡ true) × CanDefine (events_in (with_withdrawn ds domain ws) domain) (values ts)
-some_can ds domain ws ts some (inl none) = absurd (some (ap (λ (p : Preparation). p.withdrawn) none) (no_entries ts.entries (ap (λ (p : Preparation). p.defined) none)))
-  where
-    no_entries : (es : List (ℕ × Template)) → map (λ (e : ℕ × Template). e.1) es ≡ [] → es ≡ []
-    no_entries [] e = refl
-    no_entries (x ∷ xs) e = absurd cc
-some_can ds domain ws ts some (inr can) = can
+pub copy_can : (ds : History) (domain : ℕ) (p : Preparation) → CanPrepare ds domain p → CanPrepare (alone ds domain) domain p
+copy_can ds domain p can =
+    let may = copy_may ds domain p.withdrawn can.0 in
+    (may, subst (λ (es : List Event). CanDefine es p.defined) (sym (same_in ds (alone ds domain) domain p.withdrawn can.0 may (alone_events ds domain))) can.1)
 
-pub prepared_nothing : (ds : History) (domain : ℕ) (ws : List WithdrawnTemplate) (ts : BTreeMap ℕ Template) → ws ≡ [] → ts.entries ≡ [] → prepared ds domain (record { withdrawn = ws; defined = values ts }) ≡ ds
-prepared_nothing ds domain ws ts none nor = rw (none, nor) refl
-
-copy_events : (ds : History) (domain : ℕ) (p : Preparation) → CanPrepare ds domain p → events_in (copy ds domain p) domain ≡ events_in (prepared ds domain p) domain
-copy_events ds domain p (inl none) = subst (λ (q : Preparation). events_in (copy ds domain q) domain ≡ events_in (prepared ds domain q) domain) (sym none) (alone_events ds domain)
-copy_events ds domain p (inr can) = same_prepared ds (alone ds domain) domain p can.0 (alone_knows ds domain ∙ can.0) (alone_events ds domain)
-
-unknown_alone : (ds : History) (domain : ℕ) → knows ds domain ≡ false → alone ds domain ≡ []
-unknown_alone ds domain new = by_cases (lookup (eqb domain) ds) refl
-  where
-    by_cases : (o : Option (List Event)) → lookup (eqb domain) ds ≡ o → alone ds domain ≡ []
-    by_cases None e = alone_none ds domain e
-    by_cases (Some es) e = let no : true ≡ false = sym (ap is_some e) ∙ new in absurd cc
-
-none_new : (ds : History) (domain : ℕ) → knows ds domain ≡ false → knows ds domain ≡ true → ⊥
-none_new ds domain new there = let no : false ≡ true = sym new ∙ there in cc
-
-copy_room : (ds : History) (domain : ℕ) (p : Preparation) → CanPrepare ds domain p → HasRoom ds domain → HasRoom (copy ds domain p) domain
-copy_room ds domain p can (inl there) = inl (knows-prepared (alone ds domain) domain p domain ∙ alone_knows ds domain ∙ there)
-copy_room ds domain p (inl none) (inr new) =
-    let empty : copy ds domain p ≡ [] = ap (copy ds domain) none ∙ unknown_alone ds domain new.0 in
-    inr (rw empty refl, rw empty (omega arith))
-copy_room ds domain p (inr can) (inr new) = absurd (none_new ds domain new.0 can.0)
-
-prepared_room : (ds : History) (domain : ℕ) (p : Preparation) → CanPrepare ds domain p → HasRoom ds domain → HasRoom (prepared ds domain p) domain
-prepared_room ds domain p (inl none) room = subst (λ (q : Preparation). HasRoom (prepared ds domain q) domain) (sym none) room
-prepared_room ds domain p (inr can) room = inl (knows-prepared ds domain p domain ∙ can.0)
+pub copy_room : (ds : History) (domain : ℕ) (ws : List WithdrawnTemplate) → MayWithdraw ds domain ws → IsOk (admit ds domain) → IsOk (admit (with_withdrawn (alone ds domain) domain ws) domain)
+copy_room ds domain ws may ok =
+    room_ok (with_withdrawn (alone ds domain) domain ws) domain (room_withdrawn (alone ds domain) domain ws (copy_may ds domain ws may) (room_alone ds domain (room_of ds domain ok)))
 
 -- the datagram is read in the copy as it is there
 copy_reads : (ds : History) (m : List ℕ) (h : Header) (p : Preparation) → message_header m ≡ Ok h → IsOk (admit ds h.domain) → CanPrepare ds h.domain p
     → Alike SameGiven (message_gives (copy ds h.domain p) m) (message_gives (prepared ds h.domain p) m)
 copy_reads ds m h p good ok can =
     let room = room_of ds h.domain ok in
-    same_reading (copy ds h.domain p) (prepared ds h.domain p) m h good (copy_room ds h.domain p can room) (prepared_room ds h.domain p can room) (copy_events ds h.domain p can)
+    let may = copy_may ds h.domain p.withdrawn can.0 in
+    same_reading (copy ds h.domain p) (prepared ds h.domain p) m h good (room_prepared (alone ds h.domain) h.domain p may (room_alone ds h.domain room)) (room_prepared ds h.domain p can.0 room)
+    (same_prepared ds (alone ds h.domain) h.domain p can.0 may (alone_events ds h.domain))
 
 pub attempt_fails : (ds : History) (m : List ℕ) (h : Header) (p : Preparation) (f : MessageFault) → message_header m ≡ Ok h → IsOk (admit ds h.domain) → CanPrepare ds h.domain p
     → Fails f (message_gives (copy ds h.domain p) m) → Fails f (message_gives (prepared ds h.domain p) m)

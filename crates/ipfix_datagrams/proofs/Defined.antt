@@ -1,5 +1,6 @@
 -- A message that defines a template is read: it gives no record, and the template is in force.
 use Rattle.std.proofs.Common.{◌≡◌, ℕ, ◌+◌, ◌^◌, ◌<◌, Bool, true, false, List, [], ◌∷◌, length, drop, Option, Some, Result, Ok, refl, sym, ap, subst, ◌∙◌, eqb, arith, inl, inr}
+use Rattle.std.specs.Prelude.{IsOk}
 use Rattle.std.specs.Option.{unwrap_or}
 use Rattle.std.specs.Map.{lookup}
 use Rattle.std.proofs.lemmas.List.{append-nil, drop_at}
@@ -14,7 +15,7 @@ use Rattle.ipfix_message.specs.declared.template_record.Event.TheVariants.{Defin
 use Rattle.ipfix_message.specs.Outcome.{◌>>=◌}
 use Rattle.ipfix_message.specs.TemplatesInForce.{in_force}
 use Rattle.ipfix_message.specs.Messages.{Decoding, before, sets_from}
-use Rattle.ipfix_message.specs.Domains.{DomainsView, History, Message, StandsFor, events_in, with_events, message_gives}
+use Rattle.ipfix_message.specs.Domains.{DomainsView, History, Message, StandsFor, admit, events_in, with_events, message_gives}
 use Rattle.ipfix_message.specs.WrittenTemplates.{IsTemplate, template_set}
 use Rattle.ipfix_message.specs.Alike.{knows}
 use Rattle.ipfix_message.proofs.History.{after_sets, put, lookup-set_value}
@@ -23,10 +24,13 @@ use Rattle.ipfix_message.specs.declared.stamp.Stamp.{Stamp}
 use Rattle.ipfix_message.specs.TemplateMessages.{IsStamp, sets_octets, stamped, templates_message}
 use Rattle.ipfix_message.proofs.TemplateMessages.{Below, sets_read, header_is}
 use Rattle.ipfix_datagrams.specs.declared.withdrawn_template.WithdrawnTemplate.{WithdrawnTemplate}
-use Rattle.ipfix_datagrams.specs.Datagrams.{Preparation, Represents, with_one_withdrawn, with_withdrawn, with_one_defined, with_defined, prepared}
-use Rattle.ipfix_datagrams.specs.Attempts.{IsFree, CanDefine, Defining}
+use Rattle.ipfix_datagrams.specs.Datagrams.{Preparation, Represents, with_domain, with_one_withdrawn, with_withdrawn, with_one_defined, with_defined, prepared}
+use Rattle.ipfix_datagrams.specs.Attempts.{IsFree, CanDefine, Defining, MayWithdraw}
 use Rattle.ipfix_datagrams.proofs.Events.{knows-events, events_now}
-use Rattle.ipfix_datagrams.proofs.Withdrawn.{given_by, admitted}
+use Rattle.ipfix_message.proofs.PartsOf.{HasRoom}
+use Rattle.ipfix_datagrams.proofs.Appearing.{admits_with, events-domain, knows-domain, room_ok}
+use Rattle.ipfix_datagrams.proofs.Readings.{room_of}
+use Rattle.ipfix_datagrams.proofs.Withdrawn.{given_by}
 use Rattle.ipfix_datagrams.proofs.WithdrawnDomains.{knows-withdrawn, same_withdrawn}
 
 -- ---- the message
@@ -52,10 +56,11 @@ pub record Defined (ds : History) (s : Stamp) (t : Template) (y : Message) : Typ
   pub domains : y.domains ≡ with_one_defined ds s.domain t
   pub records : y.decoding.records ≡ []
 
-pub defines : (ds : History) (s : Stamp) (t : Template) → IsStamp s → IsTemplate t → knows ds s.domain ≡ true → IsFree (events_in ds s.domain) t → (y : Message) × Defined ds s t y
-defines ds s t is fits there free =
+pub defines : (ds : History) (s : Stamp) (t : Template) → IsStamp s → IsTemplate t → IsOk (admit ds s.domain) → IsFree (events_in ds s.domain) t → (y : Message) × Defined ds s t y
+defines ds s t is fits ok free =
     let ts = t ∷ [] in
     let k = stamped s (length (sets_octets ts)) in
+    let known = with_domain ds s.domain in
     let es = events_in ds s.domain in
     let full = Define t ∷ es in
     let d = record (before es) { events = full } in
@@ -64,9 +69,11 @@ defines ds s t is fits there free =
     let sets : sets_from k (before es) (drop 16 (templates_message s ts)) ≡ Ok d =
     ap (sets_from k (before es)) (drop_at (header_octets k) (sets_octets ts) 16 refl)
     ∙ sets_read k ts (before es) full (All-cons IsTemplate t [] fits (All-nil IsTemplate)) (All-cons (λ u. in_force full u.id ≡ Some u) t [] (defined_itself es t) (All-nil (λ u. in_force full u.id ≡ Some u))) (below es t free) in (
-      record { header = k; decoding = d; domains = with_events ds s.domain d.events },
+      record { header = k; decoding = d; domains = with_events known s.domain d.events },
       record {
-        is = given_by ds (templates_message s ts) k ds (header_is s ts is small) (admitted ds s.domain there) ∙ ap (λ (r : Result Decoding MessageFault). r >>= λ x. after_sets k ds x) sets;
+        is =
+            given_by ds (templates_message s ts) k known (header_is s ts is small) (admits_with ds s.domain (room_of ds s.domain ok))
+            ∙ ap (λ (r : Result Decoding MessageFault). r >>= λ x. after_sets k known x) (ap (λ (fs : List Event). sets_from k (before fs) (drop 16 (templates_message s ts))) (events-domain ds s.domain s.domain) ∙ sets);
         domains = refl;
         records = refl;
       },
@@ -81,34 +88,44 @@ defined_by kept ds s t octets m y written read stands gives =
 
 -- ---- domains in which templates are defined
 
-pub knows-defined : (ds : History) (domain : ℕ) (ts : List Template) (q : ℕ) → knows (with_defined ds domain ts) q ≡ knows ds q
-knows-defined ds domain [] q = refl
-knows-defined ds domain (t ∷ ts) q = knows-defined (with_one_defined ds domain t) domain ts q ∙ knows-events ds domain q (Define t ∷ events_in ds domain)
+-- those in which one is defined
+pub knows-one_defined : (ds : History) (domain : ℕ) (t : Template) → knows (with_one_defined ds domain t) domain ≡ true
+knows-one_defined ds domain t = knows-events (with_domain ds domain) domain domain (Define t ∷ events_in ds domain) ∙ knows-domain ds domain
 
-pub defined_now : (ds : History) (domain : ℕ) (t : Template) → knows ds domain ≡ true → events_in (with_one_defined ds domain t) domain ≡ Define t ∷ events_in ds domain
-defined_now ds domain t there = events_now ds domain (Define t ∷ events_in ds domain) there
-
-pub knows-one_defined : (ds : History) (domain : ℕ) (t : Template) → knows ds domain ≡ true → knows (with_one_defined ds domain t) domain ≡ true
-knows-one_defined ds domain t there = knows-events ds domain domain (Define t ∷ events_in ds domain) ∙ there
+pub defined_now : (ds : History) (domain : ℕ) (t : Template) → events_in (with_one_defined ds domain t) domain ≡ Define t ∷ events_in ds domain
+defined_now ds domain t = events_now (with_domain ds domain) domain (Define t ∷ events_in ds domain) (knows-domain ds domain)
 
 -- the events then depend on those before alone
-same_defined : (ds fs : History) (domain : ℕ) (ts : List Template) → knows ds domain ≡ true → knows fs domain ≡ true → events_in fs domain ≡ events_in ds domain
-    → events_in (with_defined fs domain ts) domain ≡ events_in (with_defined ds domain ts) domain
-same_defined ds fs domain [] there here same = same
-same_defined ds fs domain (t ∷ ts) there here same =
-    same_defined (with_one_defined ds domain t) (with_one_defined fs domain t) domain ts (knows-one_defined ds domain t there) (knows-one_defined fs domain t here)
-    (defined_now fs domain t here ∙ ap (λ (es : List Event). Define t ∷ es) same ∙ sym (defined_now ds domain t there))
+same_defined : (ds fs : History) (domain : ℕ) (ts : List Template) → events_in fs domain ≡ events_in ds domain → events_in (with_defined fs domain ts) domain ≡ events_in (with_defined ds domain ts) domain
+same_defined ds fs domain [] same = same
+same_defined ds fs domain (t ∷ ts) same =
+    same_defined (with_one_defined ds domain t) (with_one_defined fs domain t) domain ts
+    (defined_now fs domain t ∙ ap (λ (es : List Event). Define t ∷ es) same ∙ sym (defined_now ds domain t))
+
+-- there is still room for the domain
+room_defined : (ds : History) (domain : ℕ) (ts : List Template) → HasRoom ds domain → HasRoom (with_defined ds domain ts) domain
+room_defined ds domain [] room = room
+room_defined ds domain (t ∷ ts) room = room_defined (with_one_defined ds domain t) domain ts (inl (knows-one_defined ds domain t))
 
 -- ---- after a preparation
 
-pub knows-prepared : (ds : History) (domain : ℕ) (p : Preparation) (q : ℕ) → knows (prepared ds domain p) q ≡ knows ds q
-knows-prepared ds domain p q = knows-defined (with_withdrawn ds domain p.withdrawn) domain p.defined q ∙ knows-withdrawn ds domain p.withdrawn q
+pub room_withdrawn : (ds : History) (domain : ℕ) (ws : List WithdrawnTemplate) → MayWithdraw ds domain ws → HasRoom ds domain → HasRoom (with_withdrawn ds domain ws) domain
+room_withdrawn ds domain ws (inl none) room = subst (λ (vs : List WithdrawnTemplate). HasRoom (with_withdrawn ds domain vs) domain) (sym none) room
+room_withdrawn ds domain ws (inr there) room = inl (knows-withdrawn ds domain ws domain ∙ there)
 
-pub same_prepared : (ds fs : History) (domain : ℕ) (p : Preparation) → knows ds domain ≡ true → knows fs domain ≡ true → events_in fs domain ≡ events_in ds domain
+pub room_prepared : (ds : History) (domain : ℕ) (p : Preparation) → MayWithdraw ds domain p.withdrawn → HasRoom ds domain → HasRoom (prepared ds domain p) domain
+room_prepared ds domain p may room = room_defined (with_withdrawn ds domain p.withdrawn) domain p.defined (room_withdrawn ds domain p.withdrawn may room)
+
+pub same_in : (ds fs : History) (domain : ℕ) (ws : List WithdrawnTemplate) → MayWithdraw ds domain ws → MayWithdraw fs domain ws → events_in fs domain ≡ events_in ds domain
+    → events_in (with_withdrawn fs domain ws) domain ≡ events_in (with_withdrawn ds domain ws) domain
+same_in ds fs domain ws (inl none) here same = subst (λ (vs : List WithdrawnTemplate). events_in (with_withdrawn fs domain vs) domain ≡ events_in (with_withdrawn ds domain vs) domain) (sym none) same
+same_in ds fs domain ws (inr there) (inl none) same = subst (λ (vs : List WithdrawnTemplate). events_in (with_withdrawn fs domain vs) domain ≡ events_in (with_withdrawn ds domain vs) domain) (sym none) same
+same_in ds fs domain ws (inr there) (inr here) same = same_withdrawn ds fs domain ws there here same
+
+pub same_prepared : (ds fs : History) (domain : ℕ) (p : Preparation) → MayWithdraw ds domain p.withdrawn → MayWithdraw fs domain p.withdrawn → events_in fs domain ≡ events_in ds domain
     → events_in (prepared fs domain p) domain ≡ events_in (prepared ds domain p) domain
 same_prepared ds fs domain p there here same =
-    same_defined (with_withdrawn ds domain p.withdrawn) (with_withdrawn fs domain p.withdrawn) domain p.defined (knows-withdrawn ds domain p.withdrawn domain ∙ there) (knows-withdrawn fs domain p.withdrawn domain ∙ here)
-    (same_withdrawn ds fs domain p.withdrawn there here same)
+    same_defined (with_withdrawn ds domain p.withdrawn) (with_withdrawn fs domain p.withdrawn) domain p.defined (same_in ds fs domain p.withdrawn there here same)
 
 -- other domains stay as they are
 other_events : (ds : History) (domain q : ℕ) (es : List Event) → eqb q domain ≡ false → events_in (with_events ds domain es) q ≡ events_in ds q
@@ -124,17 +141,17 @@ others_withdrawn ds domain q (w ∷ ws) other = others_withdrawn (with_one_withd
 
 others_defined : (ds : History) (domain q : ℕ) (ts : List Template) → eqb q domain ≡ false → events_in (with_defined ds domain ts) q ≡ events_in ds q
 others_defined ds domain q [] other = refl
-others_defined ds domain q (t ∷ ts) other = others_defined (with_one_defined ds domain t) domain q ts other ∙ other_events ds domain q (Define t ∷ events_in ds domain) other
+others_defined ds domain q (t ∷ ts) other = others_defined (with_one_defined ds domain t) domain q ts other ∙ other_events (with_domain ds domain) domain q (Define t ∷ events_in ds domain) other ∙ events-domain ds domain q
 
 pub others_prepared : (ds : History) (domain q : ℕ) (p : Preparation) → eqb q domain ≡ false → events_in (prepared ds domain p) q ≡ events_in ds q
 others_prepared ds domain q p other = others_defined (with_withdrawn ds domain p.withdrawn) domain q p.defined other ∙ others_withdrawn ds domain q p.withdrawn other
 
 -- none yet
-pub defining_first : (ds : History) (domain : ℕ) (all rest : List Template) (d : DomainsView) → rest ≡ all → Represents d ds → knows ds domain ≡ true → CanDefine (events_in ds domain) all → Defining ds domain all rest d
-defining_first ds domain all rest d same represents there can = record {
+pub defining_first : (ds : History) (domain : ℕ) (all rest : List Template) (d : DomainsView) → rest ≡ all → Represents d ds → IsOk (admit ds domain) → CanDefine (events_in ds domain) all → Defining ds domain all rest d
+defining_first ds domain all rest d same represents room can = record {
   now = ds;
   represents = represents;
-  there = there;
+  room = room;
   can = subst (CanDefine (events_in ds domain)) (sym same) can;
   same = ap (with_defined ds domain) same;
 }
@@ -148,8 +165,8 @@ defining_more ds domain all ts rest t u old new f step same one =
     record {
       now = with_one_defined f.now domain t;
       represents = subst (λ (v : Template). Represents new (with_one_defined f.now domain v)) same done;
-      there = knows-one_defined f.now domain t f.there;
-      can = subst (λ (es : List Event). CanDefine es rest) (sym (defined_now f.now domain t f.there)) can.1;
+      room = room_ok (with_one_defined f.now domain t) domain (inl (knows-one_defined f.now domain t));
+      can = subst (λ (es : List Event). CanDefine es rest) (sym (defined_now f.now domain t)) can.1;
       same = sym (ap (with_defined f.now domain) step) ∙ f.same;
     }
 

@@ -1,5 +1,5 @@
 -- The templates that are defined again before a datagram.
-use Rattle.std.proofs.Common.{◌≡◌, ℕ, Bool, true, false, cond, eqb, is_some, List, [], ◌∷◌, map, Option, Some, None, refl, sym, ap, ap₂, ◌∙◌, length, take, drop, get_or, ◌+◌, ◌<◌, inl, inr}
+use Rattle.std.proofs.Common.{◌≡◌, ℕ, Bool, true, false, cond, eqb, is_some, List, [], ◌∷◌, map, Option, Some, None, refl, sym, ap, ap₂, subst, ◌∙◌, length, take, drop, get_or, ◌+◌, ◌<◌, inl, inr}
 use Rattle.std.specs.Prelude.{All, ◌⊎◌, ◌||◌, not}
 use Rattle.std.specs.Bool.{Decides}
 use Rattle.std.specs.List.{list_any}
@@ -21,7 +21,7 @@ use Rattle.ipfix_message.proofs.Same.{is_same_template}
 use Rattle.ipfix_datagrams.specs.declared.withdrawn_template.WithdrawnTemplate.{WithdrawnTemplate}
 use Rattle.ipfix_datagrams.specs.Withdrawals.{kind_withdrawn}
 use Rattle.ipfix_datagrams.specs.Datagrams.{AreTemplatesOf, KeepsWithdrawn, definition_of, first_definition, known_in, withdrawn_in, with_one_withdrawn, with_withdrawn, has_data_set, unless_other, again, template_in}
-use Rattle.ipfix_datagrams.specs.Attempts.{CanDefine, HasFirst}
+use Rattle.ipfix_datagrams.specs.Attempts.{CanDefine, HasFirst, MayWithdraw}
 use Rattle.ipfix_datagrams.proofs.Events.{knows-events, events_now}
 use Rattle.ipfix_datagrams.proofs.FirstAndLast.{none_defined, defined_id}
 use Rattle.ipfix_datagrams.proofs.Readings.{template_is}
@@ -54,18 +54,13 @@ again_is ds m domain id t e =
     unless_some (template_for ds domain id) (known_in ds domain id) t
     (unless_is (withdrawn_in ds domain id) (first_definition m id) t (if_some (has_data_set m id) (unless_other (withdrawn_in ds domain id) (first_definition m id)) t e))
 
-of_id : (ds : History) (m : List ℕ) (domain id : ℕ) (t : Template) → again ds m domain id ≡ Some t → t.id ≡ id
+pub of_id : (ds : History) (m : List ℕ) (domain id : ℕ) (t : Template) → again ds m domain id ≡ Some t → t.id ≡ id
 of_id ds m domain id t e = defined_id (events_in ds domain) id t (again_is ds m domain id t e).1
-
--- ---- all of them
-
-pub are_again : (ds : History) (m : List ℕ) (domain : ℕ) (ts : BTreeMap ℕ Template) → IsOrdered nat_cmp ts → ((id : ℕ) → get nat_cmp ts id ≡ again ds m domain id) → AreTemplatesOf (again ds m domain) (values ts)
-are_again ds m domain ts ordered same = are_templates (again ds m domain) ts (of_id ds m domain) ordered same
 
 -- ---- they can be defined
 
 -- at the id of each none is in force, or the same
-abbrev FreeFor : (ℕ → Option Template) → List Event → Type 0
+abbrev pub FreeFor : (ℕ → Option Template) → List Event → Type 0
 FreeFor f es = (id : ℕ) (t : Template) → f id ≡ Some t → (in_force es id ≡ None) ⊎ (in_force es id ≡ Some t)
 
 free_more : (f : ℕ → Option Template) (es : List Event) (t : Template) → FreeFor f es → f t.id ≡ Some t → FreeFor f (Define t ∷ es)
@@ -75,7 +70,7 @@ free_more f es t free is = λ id u there. elim (eqb_tells id t.id) [
   | inr other ↦ rw other.0 (free id u there)
 ]
 
-can_define_all : (f : ℕ → Option Template) (es : List Event) (ts : List Template) → FreeFor f es → All (λ t. f t.id ≡ Some t) ts → CanDefine es ts
+pub can_define_all : (f : ℕ → Option Template) (es : List Event) (ts : List Template) → FreeFor f es → All (λ t. f t.id ≡ Some t) ts → CanDefine es ts
 can_define_all f es [] free all = tt
 can_define_all f es (t ∷ ts) free all =
     let is = All-head (λ u. f u.id ≡ Some u) t ts all in
@@ -90,33 +85,16 @@ none_more es w id none = by_test (eqb id w.id)
     by_test true = ap (unless_of (kind_withdrawn w)) none
     by_test false = none
 
-none_left : (ds : History) (domain : ℕ) (ws : List WithdrawnTemplate) (id : ℕ) → knows ds domain ≡ true → in_force (events_in ds domain) id ≡ None → in_force (events_in (with_withdrawn ds domain ws) domain) id ≡ None
-none_left ds domain [] id there none = none
-none_left ds domain (w ∷ ws) id there none =
+none_known : (ds : History) (domain : ℕ) (ws : List WithdrawnTemplate) (id : ℕ) → knows ds domain ≡ true → in_force (events_in ds domain) id ≡ None → in_force (events_in (with_withdrawn ds domain ws) domain) id ≡ None
+none_known ds domain [] id there none = none
+none_known ds domain (w ∷ ws) id there none =
     let es = Withdraw (kind_withdrawn w) w.id ∷ events_in ds domain in
-    none_left (with_one_withdrawn ds domain w) domain ws id (knows-events ds domain domain es ∙ there)
+    none_known (with_one_withdrawn ds domain w) domain ws id (knows-events ds domain domain es ∙ there)
     (ap (λ (fs : List Event). in_force fs id) (events_now ds domain es there) ∙ none_more (events_in ds domain) w id none)
 
--- a domain in which a template was defined is known
-known_knows : (ds : History) (domain id : ℕ) (t : Template) → known_in ds domain id ≡ Some t → knows ds domain ≡ true
-known_knows ds domain id t e = by_cases (lookup (eqb domain) ds) e
-  where
-    by_cases : (o : Option (List Event)) → definition_of (unwrap_or o []) id ≡ Some t → is_some o ≡ true
-    by_cases (Some es) h = refl
-    by_cases None h = absurd (none_is_not t (sym (none_defined id) ∙ h))
-
-pub can_define : (ds : History) (m : List ℕ) (domain : ℕ) (ws : List WithdrawnTemplate) (ts : List Template) → AreTemplatesOf (again ds m domain) ts → CanDefine (events_in (with_withdrawn ds domain ws) domain) ts
-can_define ds m domain ws ts are =
-    can_define_all (again ds m domain) (events_in (with_withdrawn ds domain ws) domain) ts
-    (λ id t is.
-    let a = again_is ds m domain id t is in
-    inl (none_left ds domain ws id (known_knows ds domain id t a.1) (sym (template_is ds domain id) ∙ a.0))) are.each
-
--- where there are some the domain is known
-pub again_knows : (ds : History) (m : List ℕ) (domain : ℕ) (ts : List Template) → AreTemplatesOf (again ds m domain) ts → (ts ≡ []) ⊎ (knows ds domain ≡ true)
-again_knows ds m domain [] are = inl refl
-again_knows ds m domain (t ∷ ts) are =
-    inr (known_knows ds domain t.id t (again_is ds m domain t.id t (All-head (λ u. again ds m domain u.id ≡ Some u) t ts are.each)).1)
+pub none_left : (ds : History) (domain : ℕ) (ws : List WithdrawnTemplate) (id : ℕ) → MayWithdraw ds domain ws → in_force (events_in ds domain) id ≡ None → in_force (events_in (with_withdrawn ds domain ws) domain) id ≡ None
+none_left ds domain ws id (inl none) free = subst (λ (vs : List WithdrawnTemplate). in_force (events_in (with_withdrawn ds domain vs) domain) id ≡ None) (sym none) free
+none_left ds domain ws id (inr there) free = none_known ds domain ws id there free
 
 -- ---- those with data sets
 

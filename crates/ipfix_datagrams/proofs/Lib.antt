@@ -1,4 +1,8 @@
 pub mod Events
+pub mod InForce
+pub mod Appearing
+pub mod Resumed
+pub mod DefinesSome
 pub mod FirstAndLast
 pub mod WithdrawalsAlone
 pub mod Given

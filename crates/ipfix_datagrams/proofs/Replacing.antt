@@ -33,7 +33,7 @@ each_id m f [] of_id same all = All-nil (λ e. e.1.id ≡ e.0)
 each_id m f (e ∷ es) of_id same all =
     All-cons (λ g. g.1.id ≡ g.0) e es (of_id e.0 e.1 (sym (same e.0) ∙ All-head (λ g. get nat_cmp m g.0 ≡ Some g.1) e es all)) (each_id m f es of_id same (All-tail (λ g. get nat_cmp m g.0 ≡ Some g.1) e es all))
 
-contains_map : {X Y : Type 0} (f : X → Y) (xs : List X) (x : X) → Contains xs x → Contains (map f xs) (f x)
+pub contains_map : {X Y : Type 0} (f : X → Y) (xs : List X) (x : X) → Contains xs x → Contains (map f xs) (f x)
 contains_map f xs x c = let size : length (map f xs) ≡ length xs = length-map _ _ in (c.0, omega (arith, c.1, size), get_or-map f xs c.0 x (f x) c.1 ∙ ap f c.2)
 
 -- the templates of a map that has at each id what f has

@@ -1,5 +1,5 @@
 -- Domains in which templates are withdrawn.
-use Rattle.std.proofs.Common.{◌≡◌, ℕ, Bool, true, cond, eqb, is_some, List, [], ◌∷◌, ◌++◌, Option, Some, None, Ok, refl, sym, ap, subst, ◌∙◌}
+use Rattle.std.proofs.Common.{◌≡◌, ℕ, ◌<◌, length, arith, inl, inr, Bool, true, cond, eqb, is_some, List, [], ◌∷◌, ◌++◌, Option, Some, None, Ok, refl, sym, ap, subst, ◌∙◌}
 use Rattle.std.specs.Map.{lookup}
 use Rattle.std.specs.Option.{unwrap_or}
 use Rattle.std.proofs.lemmas.Bool.{eq-eqb}
@@ -13,6 +13,7 @@ use Rattle.ipfix_message.specs.declared.template_record.Event.TheVariants.{Withd
 use Rattle.ipfix_datagrams.specs.declared.withdrawn_template.WithdrawnTemplate.{WithdrawnTemplate}
 use Rattle.ipfix_datagrams.specs.Withdrawals.{kind_withdrawn, withdrawal_message}
 use Rattle.ipfix_datagrams.specs.Datagrams.{with_one_withdrawn, with_withdrawn}
+use Rattle.ipfix_datagrams.specs.Attempts.{MayWithdraw}
 use Rattle.ipfix_datagrams.proofs.Events.{knows-events, events_now}
 use Rattle.ipfix_datagrams.proofs.Withdrawn.{Withdrawn}
 
@@ -28,6 +29,11 @@ events_after es w = Withdraw (kind_withdrawn w) w.id ∷ es
 pub knows-withdrawn : (ds : History) (domain : ℕ) (ws : List WithdrawnTemplate) (q : ℕ) → knows (with_withdrawn ds domain ws) q ≡ knows ds q
 knows-withdrawn ds domain [] q = refl
 knows-withdrawn ds domain (w ∷ ws) q = knows-withdrawn (with_one_withdrawn ds domain w) domain ws q ∙ knows-events ds domain q (events_after (events_in ds domain) w)
+
+-- where one is withdrawn the domain is known
+pub some_knows : (ds : History) (domain : ℕ) (ws : List WithdrawnTemplate) (i : ℕ) → i < length ws → MayWithdraw ds domain ws → knows ds domain ≡ true
+some_knows ds domain ws i more (inl none) = absurd (omega (arith, ap length none))
+some_knows ds domain ws i more (inr there) = there
 
 -- the events after templates were withdrawn depend on those before alone
 pub same_withdrawn : (ds fs : History) (domain : ℕ) (ws : List WithdrawnTemplate) → knows ds domain ≡ true → knows fs domain ≡ true → events_in fs domain ≡ events_in ds domain

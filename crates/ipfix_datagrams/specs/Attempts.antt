@@ -1,5 +1,6 @@
 -- One attempt to read a datagram, after templates are withdrawn and defined or none, and what is kept of those that were withdrawn.
-use Rattle.std.specs.Prelude.{◌≡◌, ◌⊎◌, ℕ, true, if◌then◌else◌, is_some, List, [], ◌∷◌, reverse, count_by, flat_map, Option, Some, None, Ok, IsOk, Result, MatchResult}
+use Rattle.std.specs.Prelude.{◌≡◌, ◌⊎◌, ◌==◌, ◌&&◌, ℕ, Bool, true, not, if◌then◌else◌, is_some, List, [], ◌∷◌, reverse, count_by, flat_map, Option, Some, None, Ok, IsOk, Result, MatchResult}
+use Rattle.std.specs.List.{find}
 use Rattle.std.specs.Option.{option_or}
 use Rattle.std.specs.Ordering.{nat_cmp}
 use Rattle.std.specs.BTreeMap.{BTreeMap, get}
@@ -8,12 +9,12 @@ use Rattle.ipfix_message.specs.declared.fault.MessageFault.TheVariants.{OutOfMem
 use Rattle.ipfix_message.specs.declared.record.Template.{Template}
 use Rattle.ipfix_message.specs.declared.template_record.Event.{Event}
 use Rattle.ipfix_message.specs.declared.template_record.Event.TheVariants.{Define}
-use Rattle.ipfix_message.specs.TemplatesInForce.{in_force}
+use Rattle.ipfix_message.specs.TemplatesInForce.{in_force, is_other}
 use Rattle.ipfix_message.specs.Alike.{knows}
 use Rattle.ipfix_message.specs.Sets.{sets_of}
 use Rattle.ipfix_session.specs.Ledger.{capped}
 use Rattle.ipfix_message.specs.Domains.{DomainsView, History, Message, admit, events_in, message_gives}
-use Rattle.ipfix_datagrams.specs.Datagrams.{are_sets_of_withdrawals, events_of_set, is_withdrawal, MayChange, Preparation, Represents, Leaves, LeavesBy, definition_of, first_definition, given_after, with_defined, with_withdrawn}
+use Rattle.ipfix_datagrams.specs.Datagrams.{are_sets_of_withdrawals, events_of_set, is_withdrawal, MayChange, Preparation, Represents, Leaves, LeavesBy, definition_of, first_definition, given_after, template_in, with_defined, with_withdrawn}
 use Rattle.ipfix_datagrams.specs.declared.definitions.Definitions.{Definitions}
 use Rattle.ipfix_datagrams.specs.declared.withdrawn_template.WithdrawnTemplate.{WithdrawnTemplate}
 
@@ -53,26 +54,26 @@ CanDefine es (t ∷ ts) = IsFree es t × CanDefine (Define t ∷ es) ts
 pub record Defining (ds : History) (domain : ℕ) (all rest : List Template) (d : DomainsView) : Type 0 where
   pub now : History
   pub represents : Represents d now
-  pub there : knows now domain ≡ true
+  pub room : IsOk (admit now domain)
   pub can : CanDefine (events_in now domain) rest
   pub same : with_defined now domain rest ≡ with_defined ds domain all
 
 abbrev pub nothing : Preparation
 nothing = record { withdrawn = []; defined = [] }
 
--- nothing is prepared, or it can be in this domain
+-- none is withdrawn, or the domain has appeared
+abbrev pub MayWithdraw : History → ℕ → List WithdrawnTemplate → Type 0
+MayWithdraw ds domain ws = (ws ≡ []) ⊎ (knows ds domain ≡ true)
+
+-- so it can be prepared in this domain, if there is room for that
 abbrev pub CanPrepare : History → ℕ → Preparation → Type 0
-CanPrepare ds domain p = (p ≡ nothing) ⊎ ((knows ds domain ≡ true) × CanDefine (events_in (with_withdrawn ds domain p.withdrawn) domain) p.defined)
+CanPrepare ds domain p = MayWithdraw ds domain p.withdrawn × CanDefine (events_in (with_withdrawn ds domain p.withdrawn) domain) p.defined
 
 -- the domains stand for a history, after which a datagram of a domain can be tried so
 pub record CanAttempt (d : DomainsView) (ds : History) (domain : ℕ) (p : Preparation) : Type 0 where
   pub represents : Represents d ds
   pub room : IsOk (admit ds domain)
   pub can : CanPrepare ds domain p
-
--- there are some of either
-abbrev pub IsSomething : List WithdrawnTemplate → List (ℕ × Template) → Type 0
-IsSomething ws es = ws ≡ [] → es ≡ [] → ⊥
 
 -- it is read
 pub record Reads (ds : History) (domain : ℕ) (p : Preparation) (m : List ℕ) (after : DomainsView) : Type 0 where
@@ -88,6 +89,34 @@ pub record FirstReads (ds : History) (domain : ℕ) (m : List ℕ) (ws : List Wi
   pub changes : MayChange ds m domain ws
   pub read : message_gives (with_withdrawn ds domain ws) m ≡ Ok given
   pub leaves : LeavesBy after ds given
+
+-- ---- templates that are resumed
+
+-- by what is in force, what was withdrawn, and what a datagram defines first for the id of a template
+abbrev pub is_open_by : Option Template → Option Template → Option Template → Template → Bool
+is_open_by now withdrawn first t = not (is_some now) && (not (is_some withdrawn) && not (is_other t first))
+
+-- the first such template for an id
+abbrev pub resumed_by : (ℕ → Option Template) → (ℕ → Option Template) → (ℕ → Option Template) → List Template → ℕ → Option Template
+resumed_by now withdrawn first ts id = find (λ t. (id == t.id) && is_open_by (now t.id) (withdrawn t.id) (first t.id) t) ts
+
+-- by the templates of a domain
+abbrev pub Templates : Type 0
+Templates = Option (BTreeMap ℕ Template)
+
+abbrev pub is_open_in : Templates → Templates → BTreeMap ℕ Template → Template → Bool
+is_open_in now withdrawn first t = is_open_by (template_in now t.id) (template_in withdrawn t.id) (get nat_cmp first t.id) t
+
+abbrev pub resumed_in : Templates → Templates → BTreeMap ℕ Template → List Template → ℕ → Option Template
+resumed_in now withdrawn first ts id = resumed_by (λ q. template_in now q) (λ q. template_in withdrawn q) (get nat_cmp first) ts id
+
+-- the template for its id, if it is open
+abbrev pub if_open : Bool → Template → ℕ → Option Template
+if_open is_open t id = if is_open then (if id == t.id then Some t else None) else None
+
+-- these are put where none is
+abbrev pub PutsOthers : BTreeMap ℕ Template → BTreeMap ℕ Template → (ℕ → Option Template) → Type 0
+PutsOthers old new others = (id : ℕ) → get nat_cmp new id ≡ option_or (get nat_cmp old id) (others id)
 
 -- ---- templates that were withdrawn
 

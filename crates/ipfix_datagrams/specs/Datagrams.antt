@@ -1,8 +1,8 @@
 -- What the datagrams of a peer give (RFC 7011, sections 8.1 and 8.4). Over UDP a definition replaces an older one of its id, and a
 -- withdrawal is ignored. A datagram of withdrawals alone is not kept. In the files, which are read by the rules of a connection, a withdrawal ends its template.
-use Rattle.std.specs.Prelude.{◌≡◌, ◌≢◌, ◌⊎◌, ◌==◌, ◌&&◌, ℕ, Bool, false, true, nat_lt, is_some, is_ok, List, [], ◌∷◌, map, reverse, length, drop, count_by, flat_map, if◌then◌else◌, Option, Some, None, Ok, Err, All, Contains}
-use Rattle.std.specs.Option.{option_and_then}
-use Rattle.std.specs.List.{list_all, list_any}
+use Rattle.std.specs.Prelude.{◌≡◌, ◌≢◌, ◌⊎◌, ◌==◌, ◌&&◌, ℕ, Bool, false, true, nat_lt, not, is_some, is_ok, List, [], ◌∷◌, map, ◌++◌, reverse, length, drop, count_by, flat_map, if◌then◌else◌, Option, Some, None, Ok, Err, All, Contains}
+use Rattle.std.specs.Option.{option_and_then, option_or}
+use Rattle.std.specs.List.{find, list_all, list_any}
 use Rattle.std.specs.List.Sorted.{IsStrictlySortedBy}
 use Rattle.std.specs.Ordering.{nat_cmp}
 use Rattle.std.specs.BTreeMap.{BTreeMap, get, values}
@@ -21,6 +21,7 @@ use Rattle.ipfix_message.specs.TemplateRecords.{events_of, is_padding}
 use Rattle.ipfix_message.specs.TemplatesInForce.{in_force, is_of, is_other, same_template}
 use Rattle.ipfix_message.specs.Sets.{Set, sets_of}
 use Rattle.ipfix_message.specs.Domains.{DomainsView, History, Message, StandsFor, events_in, with_events, template_for, message_header, message_gives}
+use Rattle.ipfix_message.specs.Alike.{knows}
 use Rattle.ipfix_session.specs.Ledger.{capped}
 use Rattle.ipfix_datagrams.specs.Withdrawals.{HasTemplateId, kind_withdrawn}
 use Rattle.ipfix_datagrams.specs.declared.withdrawn_template.WithdrawnTemplate.{WithdrawnTemplate}
@@ -90,6 +91,10 @@ withdraws_only m = is_ok (message_header m) && are_sets_of_withdrawals (drop HEA
 
 -- ---- its definitions
 
+-- it defines a template
+abbrev pub defines_template : List ℕ → Bool
+defines_template m = list_any (λ e. not (is_withdrawal e)) (events_of_message m)
+
 -- its first definition of an id, and its last
 abbrev pub first_definition : List ℕ → ℕ → Option Template
 first_definition m id = definition_of (events_of_message m) id
@@ -136,9 +141,13 @@ MayChange ds m domain ws = (ws ≡ []) ⊎ Changes ds m domain ws
 
 -- ---- templates that are defined again
 
--- a template is defined in a domain of a peer
+-- with a domain among them
+abbrev pub with_domain : History → ℕ → History
+with_domain ds domain = if knows ds domain then ds else ds ++ (domain, []) ∷ []
+
+-- a template is defined in a domain of a peer, which appears with it if it has not yet
 abbrev pub with_one_defined : History → ℕ → Template → History
-with_one_defined ds domain t = with_events ds domain (Define t ∷ events_in ds domain)
+with_one_defined ds domain t = with_events (with_domain ds domain) domain (Define t ∷ events_in ds domain)
 
 -- and templates in turn
 abbrev pub with_defined : History → ℕ → List Template → History
@@ -159,7 +168,21 @@ unless_other (Some t) o = if is_other t o then None else Some t
 abbrev pub again : History → List ℕ → ℕ → ℕ → Option Template
 again ds m domain id = if has_data_set m id then unless_other (withdrawn_in ds domain id) (first_definition m id) else None
 
--- ---- a datagram
+-- ---- templates that are resumed
+
+-- the files define none for the id of a template, and the datagram doesn't first define it otherwise
+abbrev pub is_open : History → List ℕ → ℕ → Template → Bool
+is_open ds m domain t = not (is_some (known_in ds domain t.id)) && not (is_other t (first_definition m t.id))
+
+-- what is resumed for an id before a datagram: the first such template of those that an earlier run left
+abbrev pub resumed_before : List Template → History → List ℕ → ℕ → ℕ → Option Template
+resumed_before resumed ds m domain id = find (λ t. (id == t.id) && is_open ds m domain t) resumed
+
+-- what is defined for an id before a datagram: again, or since it is resumed
+abbrev pub defined_before : List Template → History → List ℕ → ℕ → ℕ → Option Template
+defined_before resumed ds m domain id = option_or (again ds m domain id) (resumed_before resumed ds m domain id)
+
+-- ---- a datagram, before which these templates are resumed
 
 -- what is done before a datagram is read: templates are withdrawn, and then others defined again
 pub record Preparation : Type 0 where
@@ -177,17 +200,17 @@ prepared ds domain p = with_defined (with_withdrawn ds domain p.withdrawn) domai
 abbrev pub given_after : History → ℕ → Preparation → List ℕ → Read Message
 given_after ds domain p m = message_gives (prepared ds domain p) m
 
--- before a datagram those are withdrawn that it replaces, after which it is read; and others are defined again
-pub record IsPrepared (ds : History) (m : List ℕ) (p : Preparation) (first : Message) : Type 0 where
+-- before a datagram those are withdrawn that it replaces, after which it is read; and others are defined again or resumed
+pub record IsPrepared (resumed : List Template) (ds : History) (m : List ℕ) (p : Preparation) (first : Message) : Type 0 where
   pub changes : MayChange ds m first.header.domain p.withdrawn
   pub read : message_gives (with_withdrawn ds first.header.domain p.withdrawn) m ≡ Ok first
-  pub again : AreTemplatesOf (again ds m first.header.domain) p.defined
+  pub again : AreTemplatesOf (defined_before resumed ds m first.header.domain) p.defined
 
 -- a datagram is taken: it is read after that
-pub record IsTaken (ds : History) (m : List ℕ) (p : Preparation) (x : Message) : Type 0 where
+pub record IsTaken (resumed : List Template) (ds : History) (m : List ℕ) (p : Preparation) (x : Message) : Type 0 where
   pub kept : withdraws_only m ≡ false
   pub first : Message
-  pub is_prepared : IsPrepared ds m p first
+  pub is_prepared : IsPrepared resumed ds m p first
   pub read : given_after ds first.header.domain p m ≡ Ok x
 
 -- why it is refused: the fault of its message; where that is a changed template, the fault that it has after those that it replaces
@@ -202,18 +225,18 @@ pub record FailsChanged (ds : History) (m : List ℕ) (f : MessageFault) : Type 
   pub changes : Changes ds m header.domain withdrawn
   pub fault : message_gives (with_withdrawn ds header.domain withdrawn) m ≡ Err f
 
--- or the fault that it has after templates are defined again
-pub record FailsAgain (ds : History) (m : List ℕ) (f : MessageFault) : Type 0 where
+-- or the fault that it has after templates are defined before it
+pub record FailsAgain (resumed : List Template) (ds : History) (m : List ℕ) (f : MessageFault) : Type 0 where
   pub preparation : Preparation
   pub first : Message
-  pub is_prepared : IsPrepared ds m preparation first
+  pub is_prepared : IsPrepared resumed ds m preparation first
   pub fault : given_after ds first.header.domain preparation m ≡ Err f
 
-abbrev pub HasFault : History → List ℕ → MessageFault → Type 0
-HasFault ds m f = FailsPlainly ds m f ⊎ (FailsChanged ds m f ⊎ FailsAgain ds m f)
+abbrev pub HasFault : List Template → History → List ℕ → MessageFault → Type 0
+HasFault resumed ds m f = FailsPlainly ds m f ⊎ (FailsChanged ds m f ⊎ FailsAgain resumed ds m f)
 
-abbrev pub IsRefused : History → List ℕ → MessageFault → Type 0
-IsRefused ds m f = (f ≡ OutOfMemory) ⊎ ((withdraws_only m ≡ false) × HasFault ds m f)
+abbrev pub IsRefused : List Template → History → List ℕ → MessageFault → Type 0
+IsRefused resumed ds m f = (f ≡ OutOfMemory) ⊎ ((withdraws_only m ≡ false) × HasFault resumed ds m f)
 
 -- ---- what is answered and kept
 
@@ -237,17 +260,23 @@ LeavesBy (Some d) ds x = Leaves d x
 abbrev pub preparation_of : DatagramReading → Preparation
 preparation_of r = preparation_by r.withdrawn.items r.defined
 
--- an answer says how a datagram is taken, what it leaves, what it defines last for each id, and how many withdrawals it has
-pub record IsReadingOf (ds : History) (m : List ℕ) (r : DatagramReading) (x : Message) : Type 0 where
-  pub taken : IsTaken ds m (preparation_of r) x
+-- exactly these templates, by id, are defined before a datagram
+abbrev pub AreDefinedBefore : List Template → History → List ℕ → ℕ → BTreeMap ℕ Template → Type 0
+AreDefinedBefore resumed ds m domain defined = (id : ℕ) → get nat_cmp defined id ≡ defined_before resumed ds m domain id
+
+-- an answer says how a datagram is taken and what is defined before it, what it leaves, what it defines last for each id, and how many
+-- withdrawals it has
+pub record IsReadingOf (resumed : List Template) (ds : History) (m : List ℕ) (r : DatagramReading) (x : Message) : Type 0 where
+  pub taken : IsTaken resumed ds m (preparation_of r) x
+  pub before : AreDefinedBefore resumed ds m x.header.domain r.defined
   pub leaves : LeavesBy r.after ds x
   pub defines : (id : ℕ) → get nat_cmp r.definitions id ≡ last_definition m id
   pub withdrawals : r.withdrawals ≡ capped (withdrawals_in m)
 
 -- a datagram is ignored, and so many withdrawals with it, or it is taken
-abbrev pub Answers : History → List ℕ → Reading → Type 0
-Answers ds m (Ignored withdrawals) = (withdraws_only m ≡ true) × (withdrawals ≡ capped (withdrawals_in m))
-Answers ds m (Kept r) = (x : Message) × IsReadingOf ds m r x
+abbrev pub Answers : List Template → History → List ℕ → Reading → Type 0
+Answers resumed ds m (Ignored withdrawals) = (withdraws_only m ≡ true) × (withdrawals ≡ capped (withdrawals_in m))
+Answers resumed ds m (Kept r) = (x : Message) × IsReadingOf resumed ds m r x
 
 -- what is withdrawn before it are ids that templates have
 abbrev pub HasTemplateIds : Reading → Type 0
@@ -265,3 +294,7 @@ template_at kept domain id = template_in (get nat_cmp kept domain) id
 -- those are kept that are known over UDP, and that the files don't have in force
 pub record KeepsWithdrawn (kept : BTreeMap ℕ (BTreeMap ℕ Template)) (ds : History) : Type 0 where
   pub at : (domain id : ℕ) → template_at kept domain id ≡ withdrawn_in ds domain id
+
+-- a fact of a history for which domains stand, and in which these are withdrawn
+abbrev pub IfOf : DomainsView → BTreeMap ℕ (BTreeMap ℕ Template) → History → Type 0 → Type 0
+IfOf domains kept ds P = Represents domains ds → KeepsWithdrawn kept ds → P

@@ -12,8 +12,8 @@ use ipfix_message::{Template, Templates, is_same_template};
 use std::alloc::{AllocError, Global};
 use std::collections::BTreeMap;
 
-// Whether the first definition of its id is another.
-fn is_replaced(template: &Template, id: u16, first: &Templates) -> bool
+/// Whether the first definition of its id is another.
+pub fn is_replaced(template: &Template, id: u16, first: &Templates) -> bool
     ensures { result ≡ is_other template.now (get nat_cmp first.now id) }
 {
     let Some(known) = first.get(&id) else {

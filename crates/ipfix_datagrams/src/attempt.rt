@@ -1,9 +1,9 @@
 //! One attempt to read a datagram.
 
-ghost use Rattle.std.specs.Prelude.{◌≡◌, [], All, Ok, MatchBool, MatchResult};
+ghost use Rattle.std.specs.Prelude.{◌≡◌, All, Ok, MatchResult};
 ghost use Rattle.ipfix_message.specs.Domains.{History, alone, message_header};
 ghost use Rattle.ipfix_message.specs.Outcome.{Fails};
-ghost use Rattle.ipfix_datagrams.specs.Attempts.{CanAttempt, IsSomething, OrOutOfMemory, Reads};
+ghost use Rattle.ipfix_datagrams.specs.Attempts.{CanAttempt, OrOutOfMemory, Reads};
 ghost use Rattle.ipfix_datagrams.specs.Datagrams.{Represents, given_after, preparation_by, prepared};
 ghost use Rattle.ipfix_datagrams.specs.Withdrawals.{HasTemplateId};
 
@@ -13,14 +13,6 @@ use crate::withdrawn_template::WithdrawnTemplate;
 use ipfix_message::{Domains, MessageFault, Templates};
 use ipfix_wire::Header;
 use std::alloc::Global;
-
-// Whether there are no templates to withdraw, and none to define.
-fn is_nothing(withdrawn: &[WithdrawnTemplate], defined: &Templates) -> bool
-    ensures { MatchBool result ((withdrawn.now ≡ []) × (defined.now.entries ≡ []))
-        (IsSomething withdrawn.now defined.now.entries) }
-{
-    withdrawn.is_empty() && defined.is_empty()
-}
 
 // One domain alone, after these templates are withdrawn in it, and these defined. The fault is `OutOfMemory`.
 fn alone_after(
@@ -40,9 +32,6 @@ fn alone_after(
         Ok(alone) => alone,
         Err(_) => return Err(MessageFault::OutOfMemory),
     };
-    if is_nothing(withdrawn, defined) {
-        return Ok(alone);
-    }
     withdraw_all(alloc, &mut alone, header, withdrawn)?;
     define_all(alloc, &mut alone, header, defined)?;
     Ok(alone)

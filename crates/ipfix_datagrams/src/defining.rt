@@ -1,9 +1,8 @@
 //! Defining templates again: they are in force once more (RFC 7011, section 8).
 
-ghost use Rattle.std.specs.Prelude.{◌≡◌, ℕ, true};
+ghost use Rattle.std.specs.Prelude.{IsOk};
 ghost use Rattle.std.specs.BTreeMap.{values};
-ghost use Rattle.ipfix_message.specs.Alike.{knows};
-ghost use Rattle.ipfix_message.specs.Domains.{History, events_in};
+ghost use Rattle.ipfix_message.specs.Domains.{History, admit, events_in};
 ghost use Rattle.ipfix_message.specs.WrittenTemplates.{IsTemplate};
 ghost use Rattle.ipfix_datagrams.specs.Datagrams.{Represents, with_one_defined, with_defined};
 ghost use Rattle.ipfix_datagrams.specs.Attempts.{CanDefine, IsFree, OrOutOfMemory};
@@ -21,7 +20,7 @@ fn define(
     message: &mut Vec<u8>,
 ) -> Result<(), MessageFault>
     requires { IsTemplate template.now }
-    ensures { (ds : History) → Represents domains.old ds → knows ds stamp.domain ≡ true
+    ensures { (ds : History) → Represents domains.old ds → IsOk (admit ds stamp.domain)
         → IsFree (events_in ds stamp.domain) template.now
         → OrOutOfMemory result
         (λ _. Represents domains.new (with_one_defined ds stamp.domain template.now)) }
@@ -35,7 +34,7 @@ fn define(
     Ok(())
 }
 
-/// Defines templates in the domain of a header, which has appeared. The fault is `OutOfMemory`, and after
+/// Defines templates in the domain of a header, which has appeared or has room. The fault is `OutOfMemory`, and after
 /// it the domains are of no use.
 pub fn define_all(
     alloc: Global,
@@ -44,7 +43,7 @@ pub fn define_all(
     templates: &Templates,
 ) -> Result<(), MessageFault>
     ensures { let d = header.now.domain in let ts = values templates.now in
-        (ds : History) → Represents domains.old ds → knows ds d ≡ true
+        (ds : History) → Represents domains.old ds → IsOk (admit ds d)
         → CanDefine (events_in ds d) ts
         → OrOutOfMemory result (λ _. Represents domains.new (with_defined ds d ts)) }
 {

@@ -3,7 +3,7 @@
 ghost use Rattle.std.specs.Prelude.{◌≡◌, ◌==◌, ◌&&◌, ◌∷◌, ◌++◌, [], ℕ, List, Some, None, false, if◌then◌else◌, length, ◌≤◌, ◌+◌, OnOk, MatchOption, Ok, Err};
 ghost use Rattle.std.specs.List.{list_all};
 ghost use Rattle.std.specs.Option.{option_or};
-ghost use Rattle.std.specs.BTreeMap.{get};
+ghost use Rattle.std.specs.BTreeMap.{get, IsOrdered};
 ghost use Rattle.std.specs.Ordering.{nat_cmp};
 ghost use Rattle.ipfix_message.specs.Sets.{Set};
 ghost use Rattle.ipfix_message.specs.TemplateRecords;
@@ -39,10 +39,12 @@ pub struct Definitions {
     pub withdraws_only: bool,
 }
 
-// Puts a definition among the first ones, unless its id has one.
-fn put_first(definition: &TemplateInForce, first: &mut Templates) -> Result<(), AllocError>
-    ensures { OnOk result ((q : ℕ) → get nat_cmp first.new q ≡ option_or (get nat_cmp first.old q)
+/// Puts a definition among the first ones, unless its id has one.
+pub fn put_first(definition: &TemplateInForce, first: &mut Templates) -> Result<(), AllocError>
+    ensures puts { OnOk result ((q : ℕ) → get nat_cmp first.new q
+        ≡ option_or (get nat_cmp first.old q)
         (if q == definition.now.id then Some definition.now else None)) }
+    ensures ordered { IsOrdered nat_cmp first.old → OnOk result (IsOrdered nat_cmp first.new) }
 {
     let id = definition.template().id;
     if first.contains_key(&id) {

@@ -14,6 +14,7 @@ mod domain_advance;
 pub mod laws;
 mod reach;
 mod reading;
+mod resuming;
 mod sequence_advances;
 mod withdrawal;
 mod withdrawing;

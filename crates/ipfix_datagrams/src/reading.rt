@@ -1,15 +1,16 @@
 //! Whether a datagram is taken.
 
 ghost use Rattle.std.specs.Prelude.{◌≡◌, ◌≢◌, ◌≤◌, ◌+◌, ℕ, List, length, drop, All, Ok, IfOk, MatchBool, MatchResult, false};
-ghost use Rattle.std.specs.BTreeMap.{get, IsOrdered};
+ghost use Rattle.std.specs.BTreeMap.{get, values, IsOrdered};
 ghost use Rattle.std.specs.Ordering.{nat_cmp};
 ghost use Rattle.ipfix_wire.specs.declared.set.TheConstants.{SET_HEADER_LENGTH};
 ghost use Rattle.ipfix_message.specs.Domains.{History, Message, message_header};
 ghost use Rattle.ipfix_message.specs.declared.fault.MessageFault.TheVariants.{TemplateChanged};
+ghost use Rattle.ipfix_message.specs.declared.record.Template.{Template};
 ghost use Rattle.ipfix_message.specs.declared.template_record.TheConstants.{LONGEST_BODY};
 ghost use Rattle.ipfix_datagrams.specs.Attempts.{Defines, FirstReads, HasFirst, OrOutOfMemory};
 ghost use Rattle.ipfix_datagrams.specs.Datagrams as specs;
-ghost use Rattle.ipfix_datagrams.specs.Datagrams.{HasTemplateIds, IsReadingOf, IsRefused, KeepsWithdrawn, Represents, events_of_message, withdraws_only};
+ghost use Rattle.ipfix_datagrams.specs.Datagrams.{AreDefinedBefore, HasTemplateIds, IfOf, defines_template, IsReadingOf, IsRefused, KeepsWithdrawn, Represents, events_of_message, withdraws_only};
 ghost use Rattle.ipfix_datagrams.specs.Withdrawals.{HasTemplateId};
 
 use crate::again::defined_again;
@@ -17,6 +18,7 @@ use crate::attempt::attempt;
 use crate::changes::changes;
 use crate::data_sets::set_ids;
 use crate::definitions::{Definitions, definitions_of};
+use crate::resuming::resume;
 use crate::withdrawn_template::WithdrawnTemplate;
 use crate::withdrawn_templates::WithdrawnTemplates;
 use ipfix_message::{Domains, MessageFault, Templates};
@@ -40,8 +42,8 @@ pub struct DatagramReading {
     /// The templates that are to be withdrawn before it, in the order of their ids: those in force for which
     /// its first definition is another.
     pub withdrawn: Vec<WithdrawnTemplate>,
-    /// Those that are to be defined again then, by id: withdrawals ended them in the files, and the datagram
-    /// has data sets of them, and does not define them otherwise.
+    /// Those that are to be defined then, by id: again, since withdrawals ended them in the files, and the datagram
+    /// has data sets of them, and does not first define them otherwise; or since they are resumed.
     pub defined: Templates,
     /// What it defines last for each id.
     pub definitions: Templates,
@@ -49,6 +51,16 @@ pub struct DatagramReading {
     pub withdrawals: u64,
     /// Its domain alone, after it. `None` if all domains stay as they are.
     pub after: Option<Domains>,
+}
+
+impl DatagramReading {
+    /// Whether the datagram defines a template.
+    pub fn defines(&self) -> bool
+        ensures { (resumed : List Template) (ds : History) (m : List ℕ) (x : Message)
+            → IsReadingOf resumed ds m self.now x → result ≡ defines_template m }
+    {
+        !self.definitions.is_empty()
+    }
 }
 
 // A datagram that was read after templates were withdrawn, and none defined: those templates, and its domain
@@ -84,7 +96,7 @@ fn read_first(
     ensures ids { IfOk result (λ r. All HasTemplateId r.withdrawn.items) }
     ensures reads { (ds : History) → Represents domains.now ds → MatchResult result
         (λ r. FirstReads ds header.now.domain datagram.now r.withdrawn.items r.after)
-        (λ fault. IsRefused ds datagram.now fault) }
+        (λ fault. (resumed : List Template) → IsRefused resumed ds datagram.now fault) }
 {
     let is_data = domains.check_data(header, datagram)?;
     if is_data {
@@ -153,11 +165,39 @@ fn again(
     Ok(defined)
 }
 
+// Those that are defined before such a datagram: again, or since they are resumed. The fault is `OutOfMemory`.
+fn defined_before(
+    alloc: Global,
+    domains: &Domains,
+    withdrawn: &WithdrawnTemplates,
+    resumed: &Templates,
+    first: &Templates,
+    domain: u32,
+    sets: &[u8],
+) -> Result<Templates, MessageFault>
+    ensures ordered { IfOk result (IsOrdered nat_cmp) }
+    ensures before { (ds : History) (m : List ℕ) → IfOf domains.now withdrawn.now ds (HasFirst first.now m
+        → sets.now ≡ drop HEADER_LENGTH m
+        → OrOutOfMemory result (AreDefinedBefore (values resumed.now) ds m domain)) }
+{
+    let mut defined = again(alloc, withdrawn, first, domain, sets)?;
+    let in_force = domains.templates(domain);
+    resume(
+        resumed,
+        in_force,
+        withdrawn.get(&domain),
+        first,
+        &mut defined,
+    )?;
+    Ok(defined)
+}
+
 // Reads a datagram that is kept, with what its template records are.
 fn read_kept(
     alloc: Global,
     domains: &Domains,
     withdrawn: &WithdrawnTemplates,
+    resumed: &Templates,
     header: &Header,
     definitions: Definitions,
     datagram: &[u8],
@@ -166,10 +206,9 @@ fn read_kept(
     requires kept { withdraws_only datagram.now ≡ false }
     requires defines { Defines definitions (events_of_message datagram.now) }
     ensures ids { IfOk result (λ r. All HasTemplateId r.withdrawn.items) }
-    ensures reads { (ds : History) → Represents domains.now ds → KeepsWithdrawn withdrawn.now ds
-        → MatchResult result
-        (λ r. (x : Message) × IsReadingOf ds datagram.now r x)
-        (λ fault. IsRefused ds datagram.now fault) }
+    ensures reads { (ds : History) → IfOf domains.now withdrawn.now ds (MatchResult result
+        (λ r. (x : Message) × IsReadingOf (values resumed.now) ds datagram.now r x)
+        (λ fault. IsRefused (values resumed.now) ds datagram.now fault)) }
 {
     let sets = after_header(header, datagram);
     let Definitions {
@@ -179,7 +218,8 @@ fn read_kept(
         withdraws_only: _,
     } = definitions;
     let reading = read_first(alloc, domains, header, &first, datagram)?;
-    let defined = again(alloc, withdrawn, &first, header.domain, sets)?;
+    let domain = header.domain;
+    let defined = defined_before(alloc, domains, withdrawn, resumed, &first, domain, sets)?;
     let FirstReading { withdrawn, after } = reading;
     if defined.is_empty() {
         return Ok(DatagramReading {
@@ -201,7 +241,9 @@ fn read_kept(
 }
 
 /// Reads a datagram after the domains of its peer and the templates that were withdrawn there, which stay as
-/// they are. It answers whether the datagram is ignored, and how it is to be taken if not.
+/// they are. It answers whether the datagram is ignored, and how it is to be taken if not. With it the `resumed` templates
+/// of an earlier run are known in its domain: they are defined before it, each unless the peer's files define its id, or the
+/// datagram first defines it otherwise.
 ///
 /// The fault is the first of these: `TooManyDomains`, and the faults of its sets in the order of its octets.
 /// `TemplateChanged` comes only where a datagram, without a withdrawal between, defines an id otherwise than it
@@ -210,6 +252,7 @@ pub fn read_datagram(
     alloc: Global,
     domains: &Domains,
     withdrawn: &WithdrawnTemplates,
+    resumed: &Templates,
     header: &Header,
     datagram: &[u8],
 ) -> Result<Reading, MessageFault>
@@ -217,13 +260,21 @@ pub fn read_datagram(
     ensures ids { IfOk result HasTemplateIds }
     ensures reads { (ds : History) → Represents domains.now ds → KeepsWithdrawn withdrawn.now ds
         → MatchResult result
-        (specs.Answers ds datagram.now)
-        (λ fault. IsRefused ds datagram.now fault) }
+        (specs.Answers (values resumed.now) ds datagram.now)
+        (λ fault. IsRefused (values resumed.now) ds datagram.now fault) }
 {
     let definitions = definitions_of(alloc, after_header(header, datagram))?;
     if definitions.withdraws_only && 0 < definitions.withdrawals {
         return Ok(Reading::Ignored(definitions.withdrawals));
     }
-    let reading = read_kept(alloc, domains, withdrawn, header, definitions, datagram)?;
+    let reading = read_kept(
+        alloc,
+        domains,
+        withdrawn,
+        resumed,
+        header,
+        definitions,
+        datagram,
+    )?;
     Ok(Reading::Kept(reading))
 }

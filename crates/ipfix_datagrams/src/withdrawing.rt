@@ -5,7 +5,7 @@ ghost use Rattle.ipfix_message.specs.Alike.{knows};
 ghost use Rattle.ipfix_message.specs.Domains.{History};
 ghost use Rattle.ipfix_datagrams.specs.Datagrams.{Represents, with_withdrawn, with_one_withdrawn};
 ghost use Rattle.ipfix_datagrams.specs.Withdrawals.{HasTemplateId};
-ghost use Rattle.ipfix_datagrams.specs.Attempts.{OrOutOfMemory};
+ghost use Rattle.ipfix_datagrams.specs.Attempts.{MayWithdraw, OrOutOfMemory};
 
 use crate::withdrawal::append_withdrawals;
 use crate::withdrawn_template::WithdrawnTemplate;
@@ -34,7 +34,7 @@ fn withdraw(
     Ok(())
 }
 
-/// Withdraws templates in the domain of a header, which has appeared. The fault is `OutOfMemory`, and after
+/// Withdraws templates in the domain of a header, which has appeared if there are any. The fault is `OutOfMemory`, and after
 /// it the domains are of no use.
 pub fn withdraw_all(
     alloc: Global,
@@ -43,8 +43,8 @@ pub fn withdraw_all(
     templates: &[WithdrawnTemplate],
 ) -> Result<(), MessageFault>
     requires { All HasTemplateId templates.now }
-    ensures { (ds : History) → Represents domains.old ds → knows ds header.now.domain ≡ true
-        → OrOutOfMemory result
+    ensures { (ds : History) → Represents domains.old ds
+        → MayWithdraw ds header.now.domain templates.now → OrOutOfMemory result
         (λ _. Represents domains.new (with_withdrawn ds header.now.domain templates.now)) }
 {
     let mut message = Vec::new(alloc);

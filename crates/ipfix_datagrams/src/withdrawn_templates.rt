@@ -4,9 +4,10 @@ ghost use Rattle.std.specs.Prelude.{◌≡◌, ◌==◌, ℕ, List, OnOk, if◌t
 ghost use Rattle.std.specs.Option.{option_or};
 ghost use Rattle.std.specs.BTreeMap.{get};
 ghost use Rattle.std.specs.Ordering.{nat_cmp};
+ghost use Rattle.ipfix_message.specs.declared.record.Template.{Template};
 ghost use Rattle.ipfix_message.specs.Domains.{History, Message};
 ghost use Rattle.ipfix_datagrams.specs.Attempts.{with_ended};
-ghost use Rattle.ipfix_datagrams.specs.Datagrams.{IsReadingOf, KeepsWithdrawn, Represents, template_at, template_in};
+ghost use Rattle.ipfix_datagrams.specs.Datagrams.{IfOf, IsReadingOf, KeepsWithdrawn, Represents, template_at, template_in};
 
 use crate::reading::DatagramReading;
 use ipfix_message::{Domains, Templates};
@@ -17,8 +18,8 @@ use std::collections::BTreeMap;
 /// among them.
 pub type WithdrawnTemplates = BTreeMap<u32, Templates>;
 
-// Whether an id has a template.
-fn has_id(templates: Option<&Templates>, id: u16) -> bool
+/// Whether an id has a template.
+pub fn has_id(templates: Option<&Templates>, id: u16) -> bool
     ensures { result ≡ is_some (template_in (option_copied templates.entry) id) }
 {
     match templates {
@@ -122,9 +123,9 @@ pub fn keep_withdrawn(
     domain: u32,
     reading: &DatagramReading,
 ) -> Result<(), AllocError>
-    ensures { (ds : History) (m : List ℕ) (x : Message) → Represents domains.now ds
-        → KeepsWithdrawn withdrawn.old ds → IsReadingOf ds m reading.now x
-        → x.header.domain ≡ domain → OnOk result (KeepsWithdrawn withdrawn.new x.domains) }
+    ensures { (resumed : List Template) (ds : History) (m : List ℕ) (x : Message)
+        → IfOf domains.now withdrawn.old ds (IsReadingOf resumed ds m reading.now x
+        → x.header.domain ≡ domain → OnOk result (KeepsWithdrawn withdrawn.new x.domains)) }
 {
     let Some(domain_after) = &reading.after else {
         return Ok(());
@@ -132,6 +133,7 @@ pub fn keep_withdrawn(
     let after = domain_after.templates(domain);
     let mut kept = take_out(alloc, withdrawn, domain);
     put_before(domains.templates(domain), after, &mut kept)?;
+    put_ended(&reading.defined, after, &mut kept)?;
     put_ended(&reading.definitions, after, &mut kept)?;
     drop_known(after, &mut kept);
     put_back(kept, withdrawn, domain)

@@ -17,6 +17,7 @@ fn reading_survives_refused_memory(rt: HostRuntime) -> Result<(), Fail> {
         rt.alloc(),
         &domains,
         &BTreeMap::new(rt.alloc()),
+        &BTreeMap::new(rt.alloc()),
         &header,
         CHANGES_256,
     ) {

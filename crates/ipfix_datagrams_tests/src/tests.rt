@@ -42,7 +42,8 @@ fn answer_after(
     datagram: &[u8],
 ) -> Result<Reading, MessageFault> {
     let header = header_of(datagram)?;
-    read_datagram(alloc, domains, withdrawn, &header, datagram)
+    let resumed = BTreeMap::new(alloc);
+    read_datagram(alloc, domains, withdrawn, &resumed, &header, datagram)
 }
 
 // How a datagram is taken that is not ignored.
@@ -193,7 +194,8 @@ fn take(
     datagram: &[u8],
 ) -> Result<Decoded, Fail> {
     let header = header_of(datagram)?;
-    let read = read_datagram(alloc, domains, known, &header, datagram)?;
+    let resumed = BTreeMap::new(alloc);
+    let read = read_datagram(alloc, domains, known, &resumed, &header, datagram)?;
     let reading = kept(read).ok_or("ignored")?;
     keep_withdrawn(alloc, known, domains, header.domain, &reading)?;
     let mut message = Vec::new(alloc);
@@ -370,5 +372,33 @@ fn a_message_withdraws_templates(rt: HostRuntime) -> Result<(), Fail> {
         );
         assert!(rt; domains.lookup(1, 256).is_none());
     }
+    Ok(())
+}
+
+// How a datagram is taken that comes first after an earlier run, which left the templates of a flow's message.
+fn resuming(alloc: Global, datagram: &[u8]) -> Result<DatagramReading, Fail> {
+    let mut earlier = Domains::new(alloc);
+    let _ = earlier.decode(alloc, ONE_FLOW)?;
+    let resumed = earlier.templates(1).ok_or("no templates")?;
+    let header = header_of(datagram)?;
+    let domains = Domains::new(alloc);
+    let none = BTreeMap::new(alloc);
+    let read = read_datagram(alloc, &domains, &none, resumed, &header, datagram)?;
+    Ok(kept(read).ok_or("ignored")?)
+}
+
+#[test]
+fn templates_of_an_earlier_run_are_defined(rt: HostRuntime) -> Result<(), Fail> {
+    let reading = resuming(rt.alloc(), FLOW_OF_DOMAIN_1)?;
+    assert_eq!(rt; (reading.defined.len(), reading.defines()), (1, false));
+    assert!(rt; reading.defined.contains_key(&256));
+    Ok(())
+}
+
+// The datagram defines template 256 otherwise.
+#[test]
+fn what_a_datagram_defines_is_not_resumed(rt: HostRuntime) -> Result<(), Fail> {
+    let reading = resuming(rt.alloc(), CHANGES_256)?;
+    assert_eq!(rt; (reading.defined.len(), reading.defines()), (0, true));
     Ok(())
 }

@@ -7,3 +7,4 @@ pub mod FolderFaults
 pub mod Recoveries
 -- What only inner functions and proofs need.
 pub mod FileReadings
+pub mod PeriodFolders

@@ -37,7 +37,7 @@ module _ {F : Type 0} (seen : F → Option (List ℕ)) where
 
   -- what was done with a file, if it has got its final name
   abbrev pub HasOwnReport : Settled → Type 0
-  HasOwnReport (settled.Placed path report end) = IsOwnReport report
+  HasOwnReport (settled.Placed path report end session) = IsOwnReport report
   HasOwnReport (settled.Removed octets) = Unit {0}
 
 module _ {F L : Type 0} (seen : F → Option (List ℕ)) (tells : L → FileNotice → Result (Unit {0}) Error → L → Type 0) where

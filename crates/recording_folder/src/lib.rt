@@ -2,6 +2,7 @@
 //! what is done at a start with those that an earlier run left.
 #![tactic(auto)]
 
+mod earlier_peers;
 mod ended_file;
 mod file_contents;
 mod file_reading;
@@ -10,7 +11,9 @@ mod folder;
 mod full_reports;
 mod lack;
 mod peer_files;
+mod period_folders;
 mod placing;
+mod reading_back;
 mod recovery;
 mod session_files;
 mod system_periods;
@@ -18,11 +21,13 @@ mod system_place;
 mod told_period;
 mod unfinished_file;
 
+pub use earlier_peers::EarlierPeers;
 pub use ended_file::{EndedFile, FileFinisher, FolderFinisher};
 pub use file_contents::{FileContents, read_contents};
 pub use folder::{Folder, FolderFault, open_folder, reopen_folder};
 pub use peer_files::{NamedFile, last_file};
+pub use reading_back::read_back;
 pub use recovery::recover;
 pub use session_files::SessionFiles;
-pub use system_periods::{LatestPeriod, SystemPeriods};
+pub use system_periods::{LatestPeriod, SystemPeriods, second_now};
 pub use system_place::{SystemPlace, SystemSession};

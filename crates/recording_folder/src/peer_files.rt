@@ -29,8 +29,8 @@ impl NamedFile<'_> {
             && (self.copy.is_none() || since <= self.period.begins)
     }
 
-    // How late it is.
-    fn rank(&self) -> [u64; 4]
+    /// How late it is.
+    pub(crate) fn rank(&self) -> [u64; 4]
         ensures { result ≡ specs.rank self.now }
     {
         [
@@ -42,7 +42,8 @@ impl NamedFile<'_> {
     }
 }
 
-fn is_of_datagrams(transport: Transport) -> bool
+/// Whether it is that of datagrams.
+pub(crate) fn is_of_datagrams(transport: Transport) -> bool
     ensures { result ≡ is_of_datagrams transport }
 {
     match transport {

@@ -4,11 +4,14 @@ ghost use Rattle.std.specs.Prelude.{◌≡◌, if◌then◌else◌, IfOk, OnErr}
 ghost use Rattle.ipfix_session.specs.Sources.{one_more};
 ghost use Rattle.recording_folder.specs.Recoveries.{AllAreLookedAfter, EndsAfter, HasOwnReport, IsLookedAfter, SomeIsLookedAfter};
 
+use crate::earlier_peers::EarlierPeers;
 use crate::file_contents::{FileContents, read_contents};
 use crate::folder::{Folder, path_in};
+use crate::peer_files::{NamedFile, is_of_datagrams};
 use crate::placing::place_file;
 use recording_files::{FileEnd, FileReport, FinishedFiles, Recovered};
-use recording_names::{UnfinishedName, read_unfinished_name};
+use recording_names::{UnfinishedName, read_session_name, read_unfinished_name};
+use recording_resumption::EarlierSession;
 use std::alloc::Global;
 use std::fs::{self, Files, OpenFile, OpenOptions};
 use std::io::{self, ErrorKind};
@@ -16,18 +19,20 @@ use std::io::{self, ErrorKind};
 /// Gives each file that an earlier run left its final name, in its period's folder. A message that was cut
 /// off at its end is cut off the file, if that can be done; its whole messages stay. A file that has none
 /// goes away, without a word if it is empty. What has no name of such a file is left alone. Each file is read
-/// once. Answers how many files stay without a final name, up to `u64::MAX`. An `Err` is a folder that can't be read.
+/// once. Answers how many files stay without a final name, up to `u64::MAX`. An `Err` is a folder that can't be read. What the
+/// last file of each peer's datagrams left is noted among `earlier`, if there is memory for it.
 pub fn recover<R: Files + Alloc<A = Global> + Clone + Drop, L: FinishedFiles>(
     rt: &R,
     folder: &Folder,
     log: &mut L,
+    earlier: &mut EarlierPeers,
 ) -> io::Result<u64>
     ensures { AllAreLookedAfter R.File.remaining L.tells log.old log.new result }
 {
     let mut stayed = 0u64;
     for entry in fs::read_dir(rt, folder.unfinished())? {
         let entry = entry?;
-        let stays = recover_entry(rt, folder, entry.file_name(), log)?;
+        let stays = recover_entry(rt, folder, entry.file_name(), log, earlier)?;
         stayed = one_more_if(stays, stayed);
     }
     Ok(stayed)
@@ -50,6 +55,7 @@ fn recover_entry<R: Files + Alloc<A = Global>, L: FinishedFiles>(
     folder: &Folder,
     name: &str,
     log: &mut L,
+    earlier: &mut EarlierPeers,
 ) -> io::Result<bool>
     ensures ok { IfOk result (SomeIsLookedAfter R.File.remaining L.tells log.old log.new) }
     ensures err { OnErr result (log.new ≡ log.old) }
@@ -58,7 +64,7 @@ fn recover_entry<R: Files + Alloc<A = Global>, L: FinishedFiles>(
         return Ok(false);
     };
     let path = path_in(rt.alloc(), folder.unfinished(), name)?;
-    Ok(recover_file(rt, folder, path.as_str(), &told, log))
+    Ok(recover_file(rt, folder, path.as_str(), &told, log, earlier))
 }
 
 // Gives a file its final name, tells what became of it, and answers whether it stays among those that aren't finished.
@@ -68,12 +74,21 @@ fn recover_file<R: Files + Alloc<A = Global>, L: FinishedFiles>(
     path: &str,
     name: &UnfinishedName<'_>,
     log: &mut L,
+    earlier: &mut EarlierPeers,
 ) -> bool
     ensures { IsLookedAfter R.File.remaining L.tells path.now log.old result log.new }
 {
     // (a line that can't be written stops nothing)
     match settle(rt, folder, path, name) {
-        Ok(Settled::Placed { path, report, end }) => {
+        Ok(
+            Settled::Placed {
+                path,
+                report,
+                end,
+                session,
+            },
+        ) => {
+            note_earlier(rt.alloc(), name, &session, earlier);
             let _ = log.recovered(path.as_str(), Recovered::Placed { report, end });
             false
         }
@@ -89,6 +104,28 @@ fn recover_file<R: Files + Alloc<A = Global>, L: FinishedFiles>(
     }
 }
 
+// Notes what a file left, if it is one of datagrams.
+fn note_earlier(
+    alloc: Global,
+    name: &UnfinishedName<'_>,
+    session: &EarlierSession,
+    earlier: &mut EarlierPeers,
+) {
+    let Some(told) = read_session_name(name.session) else {
+        return;
+    };
+    if !is_of_datagrams(told.transport) {
+        return;
+    }
+    let file = NamedFile {
+        period: name.period,
+        session: told,
+        copy: None,
+    };
+    // (without memory the peer's datagrams are read as those of a new one)
+    let _ = earlier.note(alloc, &file, session);
+}
+
 /// What was done with a file.
 #[derive(Drop)]
 enum Settled {
@@ -97,6 +134,7 @@ enum Settled {
         path: String,
         report: FileReport,
         end: FileEnd,
+        session: EarlierSession,
     },
     /// It is gone, with so many octets.
     Removed(u64),
@@ -119,7 +157,7 @@ fn settle<R: Files + Alloc<A = Global>>(
     let FileContents {
         whole,
         report,
-        session: _,
+        session,
     } = read_contents(rt.alloc(), &mut file)?;
     let more = file.metadata()?.len().saturating_sub(whole);
     if whole == 0 {
@@ -129,7 +167,12 @@ fn settle<R: Files + Alloc<A = Global>>(
     let end = cut_off(&file, whole, more);
     file.sync_all()?;
     let path = place_file(rt, rt.alloc(), folder, path, name.period, name.session)?;
-    Ok(Settled::Placed { path, report, end })
+    Ok(Settled::Placed {
+        path,
+        report,
+        end,
+        session,
+    })
 }
 
 // Cuts the octets after its whole messages off a file, if that can be done.

@@ -76,8 +76,8 @@ pub(crate) fn period_now<R: Clock>(rt: &R, every: u64) -> Period
     period_of(second_now(rt), every)
 }
 
-// The second that the system's clock is in, counted from 1970.
-fn second_now<R: Clock>(rt: &R) -> u64 {
+/// The second that the system's clock is in, counted from 1970; 0 if it tells no time, or one before that.
+pub fn second_now<R: Clock>(rt: &R) -> u64 {
     let Ok(now) = SystemTime::now(rt) else {
         return 0;
     };

@@ -7,7 +7,7 @@ use super::script_file::lent;
 use super::script_tree::{Entry, NamesLeft};
 use super::sessions::{FIRST, FIRST_TWO, FOURTH, SECOND, THIRD};
 use super::trial::{MANY_CALLS, Trial, cut_at_each_call};
-use recording_folder::{Folder, open_folder, recover};
+use recording_folder::{EarlierPeers, Folder, open_folder, recover};
 use std::io::{self, ErrorKind};
 use std::test::*;
 
@@ -104,7 +104,8 @@ fn try_recovery(rt: &HostRuntime, folder: &Folder, refusal: Refusal) -> Result<b
     let case = format!(in trial.alloc; "{refusal:?}")?;
     let kept = leave_each(&trial)?;
     trial.refuse(Some(refusal))?;
-    let _ = recover(&trial.disk(), folder, &mut trial.notes());
+    let mut earlier = EarlierPeers::new(trial.alloc);
+    let _ = recover(&trial.disk(), folder, &mut trial.notes(), &mut earlier);
     let was_reached = trial.has_called(refusal.first)?;
     trial.check(&kept, case.as_str())?;
     trial.recover()?;
@@ -127,7 +128,8 @@ fn try_power_cut(
         reach: Reach::Each,
         code: NO_SPACE,
     }))?;
-    let _ = recover(&trial.disk(), folder, &mut trial.notes());
+    let mut earlier = EarlierPeers::new(trial.alloc);
+    let _ = recover(&trial.disk(), folder, &mut trial.notes(), &mut earlier);
     let was_reached = trial.has_called(first)?;
     trial.check_power_cut(&kept, &kept, left, case.as_str())?;
     Ok(was_reached)

@@ -6,7 +6,7 @@ use super::script_disk::Disk;
 use super::script_file::lent;
 use super::script_tree::{Entry, NamesLeft, Tree};
 use super::standing::{Notes, check, check_finals, check_named, check_said, check_settled};
-use recording_folder::{Folder, recover};
+use recording_folder::{EarlierPeers, Folder, recover};
 use std::alloc::Global;
 use std::cell::RefCell;
 use std::io;
@@ -88,7 +88,8 @@ impl<'a> Trial<'a> {
     /// Finishes what is left, with nothing refused, and answers how many files stay.
     pub fn recover(&self) -> io::Result<u64> {
         self.refuse(None)?;
-        recover(&self.disk(), self.folder, &mut self.notes())
+        let mut earlier = EarlierPeers::new(self.alloc);
+        recover(&self.disk(), self.folder, &mut self.notes(), &mut earlier)
     }
 
     /// These files stand whole under one of their names, or under two of one file; no final name has anything

@@ -28,15 +28,17 @@ use Rattle.recording_files.proofs.Growing.{writes_more}
 use Rattle.ipfix_datagrams.specs.declared.reading.DatagramReading.{DatagramReading}
 use Rattle.ipfix_datagrams.specs.declared.withdrawn_template.WithdrawnTemplate.{WithdrawnTemplate}
 use Rattle.ipfix_datagrams.specs.Datagrams.{Preparation, preparation_of, prepared, with_withdrawn, with_one_withdrawn, with_one_defined, with_defined, IsTaken}
-use Rattle.ipfix_datagrams.specs.Attempts.{CanDefine, CanPrepare}
+use Rattle.ipfix_message.proofs.PartsOf.{HasRoom, was_read}
+use Rattle.ipfix_datagrams.proofs.Appearing.{room_ok}
+use Rattle.ipfix_datagrams.specs.Attempts.{CanDefine}
 use Rattle.ipfix_datagrams.specs.Withdrawals.{HasTemplateId, withdrawal_header, withdrawal_message}
 use Rattle.ipfix_datagrams.proofs.Withdrawn.{withdraws}
 use Rattle.ipfix_datagrams.proofs.WithdrawnDomains.{knows-withdrawn}
 use Rattle.ipfix_datagrams.proofs.Answered.{taken_prepares}
 use Rattle.ipfix_datagrams.proofs.Defined.{Defined, defines, defined_now, knows-one_defined}
 use Rattle.ipfix_datagrams.proofs.Readings.{header_same, only_memory}
-use Rattle.recording_peer.specs.Peers.{InParts, front_header, withdrawals, definitions}
-use Rattle.recording_peer.specs.Fronts.{domains_after, HasAppeared, CanWithdraw, Took, TookOwn, TookOne, TookDefinition, TookFront, TakesWithdrawals, TookWithdrawals, TookPrepared, TakesDefinitions, TookDatagram, CanGoOn, IsDefinable, CanDefineNext, stamp_of}
+use Rattle.recording_peer.specs.Peers.{Resumed, InParts, front_header, front_messages, stamp_of, withdrawals, definitions}
+use Rattle.recording_peer.specs.Fronts.{domains_after, HasAppeared, CanWithdraw, Took, TookOwn, TookOne, TookDefinition, TookFront, TakesWithdrawals, TookWithdrawals, TookPrepared, TakesDefinitions, TookDatagram, CanGoOn, IsDefinable, CanDefineNext}
 
 -- ---- a message
 
@@ -221,21 +223,13 @@ took_all before here s h ws rest octets f none =
 -- ---- messages that define templates again
 
 -- it can be defined
-some_is : (t : Template) (ts : List Template) → t ∷ ts ≡ [] → ⊥
-some_is t ts e = cc
-
-one_can : (ds : History) (domain : ℕ) (t : Template) (ts : List Template) → CanGoOn ds domain (t ∷ ts) → (knows ds domain ≡ true) × CanDefine (events_in ds domain) (t ∷ ts)
-one_can ds domain t ts (inl none) = absurd (some_is t ts none)
-one_can ds domain t ts (inr can) = can
-
 pub reads_definition : (before here : List Message) (z : Stamp) (u : Template) → IsStamp z → IsTemplate u → CanDefineNext before here z.domain u → (y : Message) × Defined (domains_after before here) z u y
 reads_definition before here z u is fits can = defines (domains_after before here) z u is fits can.0 can.1
 
 -- and those after it
 others_can : (ds : History) (domain : ℕ) (t : Template) (ts : List Template) → CanGoOn ds domain (t ∷ ts) → CanGoOn (with_one_defined ds domain t) domain ts
 others_can ds domain t ts can =
-    let c = one_can ds domain t ts can in
-    inr (knows-one_defined ds domain t c.0, subst (λ (es : List Event). CanDefine es ts) (sym (defined_now ds domain t c.0)) c.1.1)
+    (room_ok (with_one_defined ds domain t) domain (inl (knows-one_defined ds domain t)), subst (λ (es : List Event). CanDefine es ts) (sym (defined_now ds domain t)) can.1.1)
 
 defined-push : (ds : History) (domain : ℕ) (ts : List Template) (t : Template) → with_defined ds domain (ts ++ t ∷ []) ≡ with_one_defined (with_defined ds domain ts) domain t
 defined-push ds domain [] t = refl
@@ -261,7 +255,7 @@ pub next_can : (before here : List Message) (s : State) (h : Header) (p : Prepar
     → CanDefineNext before (here ++ f.took.front.given) h.domain v
 next_can before here s h p u v ts rest octets f step same =
     let ds = prepared (domains_after before here) h.domain (record { withdrawn = p.withdrawn; defined = f.done }) in
-    let can = one_can ds h.domain u rest (subst (CanGoOn ds h.domain) step f.can) in
+    let can : CanGoOn ds h.domain (u ∷ rest) = subst (CanGoOn ds h.domain) step f.can in
     subst (λ (w : Template). CanDefineNext before (here ++ f.took.front.given) h.domain w) (sym same) (subst (λ (k : History). IsDefinable k h.domain u) (sym f.took.front.known) (can.0, can.1.0))
 
 -- one more
@@ -297,47 +291,49 @@ defined_all before here s h p rest octets f none =
 -- ---- a datagram
 
 -- what can be done in front of it
-pub front_can : (before here : List Message) (m : List ℕ) (h : Header) (p : Preparation) (x : Message) → message_header m ≡ Ok h → IsTaken (domains_after before here) m p x
+pub front_can : (before here : List Message) (m : List ℕ) (h : Header) (left : List Template) (p : Preparation) (x : Message) → message_header m ≡ Ok h → IsTaken left (domains_after before here) m p x
     → CanWithdraw before here h.domain p.withdrawn × CanGoOn (with_withdrawn (domains_after before here) h.domain p.withdrawn) h.domain p.defined
-front_can before here m h p x good taken = by_cases (taken_prepares (domains_after before here) m h p x good taken)
-  where
-    by_cases : CanPrepare (domains_after before here) h.domain p → CanWithdraw before here h.domain p.withdrawn × CanGoOn (with_withdrawn (domains_after before here) h.domain p.withdrawn) h.domain p.defined
-    by_cases (inl none) = (inl (ap (λ (q : Preparation). q.withdrawn) none), inl (ap (λ (q : Preparation). q.defined) none))
-    by_cases (inr can) = (inr can.0, inr (knows-withdrawn (domains_after before here) h.domain p.withdrawn h.domain ∙ can.0, can.1))
+front_can before here m h left p x good taken =
+    let ds = domains_after before here in
+    let d = taken.first.header.domain in
+    let can = taken_prepares left ds m h p x good taken in
+    let same : taken.first.header ≡ h = header_same (with_withdrawn ds d p.withdrawn) m h taken.first good taken.is_prepared.read in
+    let room : HasRoom (with_withdrawn ds d p.withdrawn) d = (was_read (with_withdrawn ds d p.withdrawn) m taken.first taken.is_prepared.read).room in
+    (can.0, (room_ok (with_withdrawn ds h.domain p.withdrawn) h.domain (subst (λ (g : Header). HasRoom (with_withdrawn ds g.domain p.withdrawn) g.domain) same room), can.1))
 
 -- it is read after the messages in front of it
-reads_so : (before here : List Message) (s : State) (m : List ℕ) (h own : Header) (p : Preparation) (x : Message) (octets : List ℕ) → message_header m ≡ Ok h → IsTaken (domains_after before here) m p x → own.domain ≡ h.domain
+reads_so : (before here : List Message) (s : State) (m : List ℕ) (h own : Header) (left : List Template) (p : Preparation) (x : Message) (octets : List ℕ) → message_header m ≡ Ok h → IsTaken left (domains_after before here) m p x → own.domain ≡ h.domain
     → (f : TookPrepared before here s own p octets) → message_gives (domains_after before (here ++ f.front.given)) m ≡ Ok x
-reads_so before here s m h own p x octets good taken domain f =
+reads_so before here s m h own left p x octets good taken domain f =
     let same : taken.first.header ≡ h = header_same _ m h taken.first good taken.is_prepared.read in
     ap (λ (ds : History). message_gives ds m) (f.front.known ∙ ap (λ (d : ℕ). prepared (domains_after before here) d p) (domain ∙ sym (ap (λ (g : Header). g.domain) same))) ∙ taken.read
 
-pub datagram_fails : (before here : List Message) (s : State) (m : List ℕ) (h own : Header) (p : Preparation) (x : Message) (octets : List ℕ) (fault : MessageFault) → message_header m ≡ Ok h → IsTaken (domains_after before here) m p x → own.domain ≡ h.domain
+pub datagram_fails : (before here : List Message) (s : State) (m : List ℕ) (h own : Header) (left : List Template) (p : Preparation) (x : Message) (octets : List ℕ) (fault : MessageFault) → message_header m ≡ Ok h → IsTaken left (domains_after before here) m p x → own.domain ≡ h.domain
     → (f : TookPrepared before here s own p octets) → Fails fault (message_gives (domains_after before (here ++ f.front.given)) m) → fault ≡ OutOfMemory
-datagram_fails before here s m h own p x octets fault good taken domain f fails =
-    only_memory fault (message_gives (domains_after before (here ++ f.front.given)) m) x fails (reads_so before here s m h own p x octets good taken domain f)
+datagram_fails before here s m h own left p x octets fault good taken domain f fails =
+    only_memory fault (message_gives (domains_after before (here ++ f.front.given)) m) x fails (reads_so before here s m h own left p x octets good taken domain f)
 
 -- a header with this sequence number
 abbrev pub with_sequence : Header → ℕ → Header
 with_sequence h n = record h { sequence = n }
 
-pub took_datagram : (before here : List Message) (s t : State) (m : List ℕ) (h own : Header) (q : DatagramReading) (x : Message) (old new : List ℕ) (c : MessageCount) → message_header m ≡ Ok h → IsTaken (domains_after before here) m (preparation_of q) x
-    → own ≡ front_header (before ++ here) h → (f : TookPrepared before here s own (preparation_of q) old) → Took before (here ++ f.front.given) t m old new c → TookDatagram before here t m q x new c
-took_datagram before here s t m h own q x old new c good taken owns f r =
+pub took_datagram : (before here : List Message) (s t : State) (m : List ℕ) (h own : Header) (resumed : Resumed) (q : DatagramReading) (x : Message) (old new : List ℕ) (c : MessageCount) → message_header m ≡ Ok h → IsTaken resumed.templates (domains_after before here) m (preparation_of q) x
+    → own ≡ front_header resumed.due (before ++ here) h → (f : TookPrepared before here s own (preparation_of q) old) → Took before (here ++ f.front.given) t m old new c → TookDatagram before here t m resumed q x new c
+took_datagram before here s t m h own resumed q x old new c good taken owns f r =
     let p = preparation_of q in
     let xs = f.front.given in
-    let ms = withdrawals own f.parts ++ definitions (stamp_of own) p.defined in
+    let ms = front_messages own f.parts p.defined in
     let ds = prepared (domains_after before here) own.domain p in
     let domain : own.domain ≡ h.domain = ap (λ (g : Header). g.domain) owns in
     let header : x.header ≡ h = header_same _ m h x good taken.read in
-    let same : r.records.given ≡ x = ok_is r.records.given x (sym r.records.read ∙ reads_so before here s m h own p x old good taken domain f) in
-    let is_header : own ≡ front_header (before ++ here) x.header = owns ∙ ap (front_header (before ++ here)) (sym header) in
+    let same : r.records.given ≡ x = ok_is r.records.given x (sym r.records.read ∙ reads_so before here s m h own resumed.templates p x old good taken domain f) in
+    let is_header : own ≡ front_header resumed.due (before ++ here) x.header = owns ∙ ap (front_header resumed.due (before ++ here)) (sym header) in
     record {
       front = record { messages = ms; given = xs };
       has_front = record {
         parts = f.parts;
         are = f.are;
-        messages = ap (λ (g : Header). withdrawals g f.parts ++ definitions (stamp_of g) p.defined) is_header;
+        messages = ap (λ (g : Header). front_messages g f.parts p.defined) is_header;
         records = f.front.no_records;
       };
       file = f.front.file ++ (r.records.lead ++ m ∷ []);

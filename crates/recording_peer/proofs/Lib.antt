@@ -1,6 +1,7 @@
 pub mod Fronting
 pub mod Listed
 pub mod PeerFiles
+pub mod Leaving
 pub mod Taking
 pub mod Stopping
 pub mod FilesGive

@@ -34,7 +34,7 @@ all_given-push ts t = all_given-append ts (t ∷ []) ∙ ap (λ (ms : List Messa
 pub all_messages-push : (ts : List Taken) (t : Taken) → all_messages (ts ++ t ∷ []) ≡ all_messages ts ++ messages_with t
 all_messages-push ts t = flat_map-append messages_with ts (t ∷ []) ∙ ap (λ (ms : List (List ℕ)). all_messages ts ++ ms) (append-nil (messages_with t))
 
-pub taken-push : (ds : History) (ts : List Taken) (t : Taken) → AreTaken ds ts → IsTaken (known_after ds (givens ts)) t.datagram t.preparation t.given → AreTaken ds (ts ++ t ∷ [])
+pub taken-push : (ds : History) (ts : List Taken) (t : Taken) → AreTaken ds ts → IsTaken t.resumed.templates (known_after ds (givens ts)) t.datagram t.preparation t.given → AreTaken ds (ts ++ t ∷ [])
 taken-push ds [] t are is = (is, tt)
 taken-push ds (u ∷ us) t are is = (are.0, taken-push u.given.domains us t are.1 is)
 

@@ -19,17 +19,21 @@ use Rattle.ipfix_message.specs.declared.record.Template.{Template}
 use Rattle.ipfix_datagrams.specs.Datagrams.{preparation_of, Represents, IsTaken, withdrawals_in}
 use Rattle.ipfix_datagrams.specs.Reaches.{reaches_of}
 use Rattle.ipfix_datagrams.specs.declared.reading.DatagramReading.{DatagramReading}
-use Rattle.recording_peer.specs.Peers.{Taken, AreTaken, HasFront, HaveFronts, PeerFile, givens, known_after_all, messages_with, given_with, all_messages, all_given, sent_of, withdrawals_ignored, peer_report, peer_reports}
-use Rattle.recording_peer.specs.Recording.{PeerTold, PeerView, FiledDatagrams, none_filed, taken_before, taken_in, taken_by_file, filed_with, with_ignored, finished_now, ignored_now, ignored_still, file_finished, last_file, HasDatagram, IsLastFile, FilesHold, Counts, KeepsListed, IsPeer}
+use Rattle.recording_peer.specs.Peers.{Resumed, Taken, AreResumed, resumed_after, AreTaken, HasFront, HaveFronts, PeerFile, givens, known_after_all, messages_with, given_with, all_messages, all_given, sent_of, withdrawals_ignored, peer_report, peer_reports}
+use Rattle.recording_peer.specs.Recording.{PeerTold, PeerView, FiledDatagrams, none_filed, taken_before, taken_in, taken_by_file, filed_with, with_ignored, finished_now, ignored_now, ignored_still, file_finished, last_file, HasDatagram, IsLastFile, FilesHold, Counts, KeepsListed, KeepsLeft, LeftShown, left_listed, IsPeer}
 use Rattle.recording_peer.specs.Fronts.{TookDatagram, taken_as}
+use Rattle.std.specs.BTreeMap.{BTreeMap}
+use Rattle.recording_resumption.specs.declared.earlier_domain.EarlierDomain.{EarlierDomain}
+use Rattle.recording_peer.proofs.Leaving.{are_resumed, left_as_listed}
 use Rattle.recording_peer.proofs.PeerFiles.{files_here, givens-append, all_given-append, all_given-push, all_messages-push, taken-push, fronts-push, taken_in-push, all_finished, now_is, in-finished, givens-finished, all_given-finished, known-push, peer_reports-push, ignored_is, none_still, withdrawals-taken, withdrawals-ignored, recorded_with}
 
 -- ---- the first file
 
-pub peer_first : (v : FilesView) (s : PeerView) → IsEmpty v.contents → s.ended ≡ None → Keeps s.recorder [] [] → Counted s.told.counts [] [] → s.told.ignored ≡ 0 → s.told.advances ≡ [] → KeepsListed s.withdrawn [] → IsPeer v v s none_filed
-peer_first v s empty on keeps counted nor none withdrawn = record {
+pub peer_first : (v : FilesView) (s : PeerView) → IsEmpty v.contents → s.ended ≡ None → Keeps s.recorder [] [] → Counted s.told.counts [] [] → s.told.ignored ≡ 0 → s.told.advances ≡ [] → KeepsListed s.withdrawn [] → (earlier : BTreeMap ℕ EarlierDomain) → s.earlier ≡ left_listed earlier.entries → IsPeer v v s (none_filed earlier)
+peer_first v s empty on keeps counted nor none withdrawn earlier left = record {
   holds = record {
     taken = tt;
+    resumed = tt;
     fronts = tt;
     some = All-nil HasDatagram;
     files = [];
@@ -45,6 +49,7 @@ peer_first v s empty on keeps counted nor none withdrawn = record {
   counted = record { counted = counted; ignored = nor; noted = none };
   keeps = keeps;
   withdrawn = withdrawn;
+  left = subst (λ (es : List (ℕ × LeftShown)). KeepsLeft es earlier []) (sym left) (left_as_listed earlier earlier [] (record { at = λ domain. refl }));
 }
 
 -- ---- what it represents
@@ -83,6 +88,7 @@ holds_turned first v after filed c h counted some is =
     let now = now_is filed.finished filed.here some in
     record {
       taken = subst (AreTaken []) (sym (in-finished filed)) h.taken;
+      resumed = subst (AreResumed filed.earlier []) (sym (in-finished filed)) h.resumed;
       fronts = subst (HaveFronts []) (sym (in-finished filed)) h.fronts;
       some = subst (λ (tss : List (List Taken)). All HasDatagram tss) (sym now) (All-push HasDatagram filed.finished filed.here h.some some);
       files = h.files ++ last ∷ [];
@@ -105,15 +111,16 @@ counts_turned c filed some counted none noted = record {
 }
 
 pub peer_turned : (first v after : FilesView) (s t : PeerView) (filed : FiledDatagrams) (p : IsPeer first v s filed) → HasDatagram filed.here → after ≡ with_next v (counted_report s.told)
-    → Keeps t.recorder (all_given (taken_before filed) ++ all_given filed.here) [] → Counted t.told.counts (givens (taken_before filed) ++ givens filed.here) [] → t.told.ignored ≡ 0 → t.told.advances ≡ s.told.advances → t.ended ≡ None → t.withdrawn ≡ s.withdrawn
+    → Keeps t.recorder (all_given (taken_before filed) ++ all_given filed.here) [] → Counted t.told.counts (givens (taken_before filed) ++ givens filed.here) [] → t.told.ignored ≡ 0 → t.told.advances ≡ s.told.advances → t.ended ≡ None → t.withdrawn ≡ s.withdrawn → t.earlier ≡ s.earlier
     → IsPeer first after t (file_finished filed)
-peer_turned first v after s t filed p some is keeps counted none same on left = record {
+peer_turned first v after s t filed p some is keeps counted none same on stays left = record {
   holds = holds_turned first v after filed s.told p.holds p.counted some (ap (λ (u : FilesView). u.contents) is);
   not_failed = ap (λ (u : FilesView). u.failed) is ∙ p.not_failed;
   goes_on = on;
   counted = counts_turned t.told filed some counted none (same ∙ p.counted.noted);
   keeps = subst (λ (ms : List Message). Keeps t.recorder ms []) (sym (all_given-finished filed)) keeps;
-  withdrawn = subst (λ (ts : List Taken). KeepsListed t.withdrawn (known_after_all ts)) (sym (in-finished filed)) (subst (λ (w : List (ℕ × List (ℕ × Template))). KeepsListed w (known_after_all (taken_in filed))) (sym left) p.withdrawn);
+  withdrawn = subst (λ (ts : List Taken). KeepsListed t.withdrawn (known_after_all ts)) (sym (in-finished filed)) (subst (λ (w : List (ℕ × List (ℕ × Template))). KeepsListed w (known_after_all (taken_in filed))) (sym stays) p.withdrawn);
+  left = subst (KeepsLeft t.earlier filed.earlier) (sym (in-finished filed)) (subst (λ (w : List (ℕ × LeftShown)). KeepsLeft w filed.earlier (taken_in filed)) (sym left) p.left);
 }
 
 -- no message of the file, no datagram
@@ -128,15 +135,15 @@ none_given (t ∷ ts) none = absurd (not_none t.front.given none)
 -- there is no datagram to finish
 unfinished : (filed : FiledDatagrams) → filed.here ≡ [] → file_finished filed ≡ filed
 unfinished filed none =
-    ap (λ (ts : List Taken). record { finished = finished_now filed.finished ts; here = []; ignored = ignored_now ts filed.ignored filed.ignored_here; ignored_here = ignored_still ts filed.ignored_here }) none
-    ∙ ap (λ (ts : List Taken). record { finished = filed.finished; here = ts; ignored = filed.ignored; ignored_here = filed.ignored_here }) (sym none)
+    ap (λ (ts : List Taken). record { earlier = filed.earlier; finished = finished_now filed.finished ts; here = []; ignored = ignored_now ts filed.ignored filed.ignored_here; ignored_here = ignored_still ts filed.ignored_here }) none
+    ∙ ap (λ (ts : List Taken). record { earlier = filed.earlier; finished = filed.finished; here = ts; ignored = filed.ignored; ignored_here = filed.ignored_here }) (sym none)
 
 pub peer_unturned : (first v : FilesView) (s : PeerView) (filed : FiledDatagrams) → IsPeer first v s filed → filed.here ≡ [] → IsPeer first v s (file_finished filed)
 peer_unturned first v s filed p none = subst (IsPeer first v s) (sym (unfinished filed none)) p
 
 -- ---- one datagram more
 
-pub taken_with : (filed : FiledDatagrams) (t : Taken) → AreTaken [] (taken_in filed) → IsTaken (known_after_all (taken_in filed)) t.datagram t.preparation t.given → AreTaken [] (taken_in (filed_with filed t))
+pub taken_with : (filed : FiledDatagrams) (t : Taken) → AreTaken [] (taken_in filed) → IsTaken t.resumed.templates (known_after_all (taken_in filed)) t.datagram t.preparation t.given → AreTaken [] (taken_in (filed_with filed t))
 taken_with filed t are is = subst (AreTaken []) (sym (taken_in-push filed t)) (taken-push [] (taken_in filed) t are is)
 
 pub fronts_with : (filed : FiledDatagrams) (t : Taken) → HaveFronts [] (taken_in filed) → HasFront (all_given (taken_before filed) ++ all_given filed.here) t → HaveFronts [] (taken_in (filed_with filed t))
@@ -144,10 +151,10 @@ fronts_with filed t have has =
     subst (HaveFronts []) (sym (taken_in-push filed t)) (fronts-push [] (taken_in filed) t have (subst (λ (b : List Message). HasFront b t) (sym (all_given-append (taken_before filed) filed.here)) has))
 
 -- the file with it
-pub file_with : (filed : FiledDatagrams) (m : List ℕ) (q : DatagramReading) (x : Message) (s : State) (octets : List ℕ) (c : MessageCount) (file : List (List ℕ)) → IsLastFile filed file
-    → (k : TookDatagram (all_given (taken_before filed)) (all_given filed.here) s m q x octets c) → IsLastFile (filed_with filed (taken_as m (preparation_of q) k.front x)) (file ++ k.file)
-file_with filed m q x s octets c file last k =
-    let t = taken_as m (preparation_of q) k.front x in
+pub file_with : (filed : FiledDatagrams) (m : List ℕ) (resumed : Resumed) (q : DatagramReading) (x : Message) (s : State) (octets : List ℕ) (c : MessageCount) (file : List (List ℕ)) → IsLastFile filed file
+    → (k : TookDatagram (all_given (taken_before filed)) (all_given filed.here) s m resumed q x octets c) → IsLastFile (filed_with filed (taken_as m resumed (preparation_of q) k.front x)) (file ++ k.file)
+file_with filed m resumed q x s octets c file last k =
+    let t = taken_as m resumed (preparation_of q) k.front x in
     let b = all_given (taken_before filed) in
     let more : Writes b [] (all_messages filed.here ++ messages_with t) (all_given filed.here ++ given_with t) (file ++ k.file) = writes-append b [] (all_messages filed.here) (messages_with t) (all_given filed.here) (given_with t) file k.file last k.writes in
     subst (λ (ms : List (List ℕ)). Writes b [] ms (all_given (filed.here ++ t ∷ [])) (file ++ k.file)) (sym (all_messages-push filed.here t))
@@ -161,18 +168,19 @@ octets_with file more octets is = octets-append file more ∙ ap (λ (w : List �
 pub givens_with : (here : List Taken) (t : Taken) → givens (here ++ t ∷ []) ≡ givens here ++ t.given ∷ []
 givens_with here t = givens-append here (t ∷ [])
 
-pub peer_with : (first v after : FilesView) (s t : PeerView) (filed : FiledDatagrams) (m : List ℕ) (q : DatagramReading) (x : Message) (octets : List ℕ) (c : MessageCount) (p : IsPeer first v s filed)
-    → IsTaken (known_after_all (taken_in filed)) m (preparation_of q) x → (k : TookDatagram (all_given (taken_before filed)) (all_given filed.here) t.recorder m q x octets c)
+pub peer_with : (first v after : FilesView) (s t : PeerView) (filed : FiledDatagrams) (m : List ℕ) (resumed : Resumed) (q : DatagramReading) (x : Message) (octets : List ℕ) (c : MessageCount) (p : IsPeer first v s filed)
+    → IsTaken resumed.templates (known_after_all (taken_in filed)) m (preparation_of q) x → (k : TookDatagram (all_given (taken_before filed)) (all_given filed.here) t.recorder m resumed q x octets c)
     → after ≡ with_more v octets → Counted t.told.counts (givens (taken_before filed)) (givens filed.here ++ x ∷ [])
-    → t.told.ignored ≡ capped (s.told.ignored + q.withdrawals) → q.withdrawals ≡ capped (withdrawals_in m) → t.told.advances ≡ reaches_of (givens (taken_in filed) ++ x ∷ []) → t.ended ≡ None → KeepsListed t.withdrawn x.domains
-    → IsPeer first after t (filed_with filed (taken_as m (preparation_of q) k.front x))
-peer_with first v after s t filed m q x octets c p taken k is counted more ignored noted on withdrawn =
+    → t.told.ignored ≡ capped (s.told.ignored + q.withdrawals) → q.withdrawals ≡ capped (withdrawals_in m) → t.told.advances ≡ reaches_of (givens (taken_in filed) ++ x ∷ []) → t.ended ≡ None → KeepsListed t.withdrawn x.domains → resumed ≡ resumed_after filed.earlier (taken_in filed) x.header → KeepsLeft t.earlier filed.earlier (taken_in (filed_with filed (taken_as m resumed (preparation_of q) k.front x)))
+    → IsPeer first after t (filed_with filed (taken_as m resumed (preparation_of q) k.front x))
+peer_with first v after s t filed m resumed q x octets c p taken k is counted more ignored noted on withdrawn resumes left =
     let h = p.holds in
-    let u = taken_as m (preparation_of q) k.front x in
+    let u = taken_as m resumed (preparation_of q) k.front x in
     let all : givens (taken_in (filed_with filed u)) ≡ givens (taken_in filed) ++ x ∷ [] = ap givens (taken_in-push filed u) ∙ givens-append (taken_in filed) (u ∷ []) in
     record {
       holds = record {
         taken = taken_with filed u h.taken taken;
+        resumed = are_resumed filed u h.resumed resumes;
         fronts = fronts_with filed u h.fronts k.has_front;
         some = h.some;
         files = h.files;
@@ -180,7 +188,7 @@ peer_with first v after s t filed m q x octets c p taken k is counted more ignor
         ignored = h.ignored;
         earlier = h.earlier;
         file = h.file ++ k.file;
-        last = file_with filed m q x t.recorder octets c h.file h.last k;
+        last = file_with filed m resumed q x t.recorder octets c h.file h.last k;
         stands = stands_more first.contents v.contents after.contents (peer_reports [] h.files) (map sent_of h.files) (sent_of (last_file filed h.file)) (sent_of (last_file (filed_with filed u) (h.file ++ k.file))) octets (ap (λ (w : FilesView). w.contents) is) (octets_with h.file k.file octets k.octets_are) h.stands;
       };
       not_failed = ap (λ (w : FilesView). w.failed) is ∙ p.not_failed;
@@ -192,6 +200,7 @@ peer_with first v after s t filed m q x octets c p taken k is counted more ignor
       };
       keeps = subst (Keeps t.recorder (all_given (taken_before filed))) (sym (all_given-push filed.here u)) k.keeps;
       withdrawn = subst (KeepsListed t.withdrawn) (sym (known-push filed u)) withdrawn;
+      left = left;
     }
 
 -- ---- one that is ignored
@@ -203,7 +212,7 @@ pub peer_ignoring : (first v : FilesView) (s : PeerView) (filed : FiledDatagrams
 peer_ignoring first v s filed m n p is =
     let h = p.holds in
     record {
-      holds = record { taken = h.taken; fronts = h.fronts; some = h.some; files = h.files; are = h.are; ignored = h.ignored; earlier = h.earlier; file = h.file; last = h.last; stands = h.stands };
+      holds = record { taken = h.taken; resumed = h.resumed; fronts = h.fronts; some = h.some; files = h.files; are = h.are; ignored = h.ignored; earlier = h.earlier; file = h.file; last = h.last; stands = h.stands };
       not_failed = p.not_failed;
       goes_on = p.goes_on;
       counted = record {
@@ -213,4 +222,5 @@ peer_ignoring first v s filed m n p is =
       };
       keeps = p.keeps;
       withdrawn = p.withdrawn;
+      left = p.left;
     }

@@ -1,8 +1,9 @@
 -- What a recorder took for a datagram.
-use Rattle.std.specs.Prelude.{◌≡◌, ◌⊎◌, ℕ, true, List, [], ◌∷◌, ◌++◌}
+use Rattle.std.specs.Prelude.{◌≡◌, ◌⊎◌, ℕ, true, List, [], ◌∷◌, ◌++◌, IsOk, MatchResult, Option, Result}
 use Rattle.ipfix_wire.specs.declared.header.Header.{Header}
 use Rattle.ipfix_message.specs.Alike.{knows}
-use Rattle.ipfix_message.specs.Domains.{History, Message, events_in}
+use Rattle.ipfix_message.specs.Domains.{History, Message, admit, events_in}
+use Rattle.ipfix_message.specs.declared.fault.MessageFault.{MessageFault}
 use Rattle.ipfix_message.specs.declared.record.Template.{Template}
 use Rattle.ipfix_session.specs.Given.{known_after, octets_of, records_in}
 use Rattle.recording_files.specs.declared.message_count.MessageCount.{MessageCount}
@@ -12,12 +13,13 @@ use Rattle.recording_files.specs.Files.{FilesView}
 use Rattle.recording_files.specs.Recordings.{Writes}
 use Rattle.recording_files.specs.Recorders.{State, Keeps, Records, IsCountOf}
 use Rattle.ipfix_datagrams.specs.declared.reading.DatagramReading.{DatagramReading}
-use Rattle.ipfix_datagrams.specs.Datagrams.{IsReadingOf, Preparation, preparation_of, prepared, with_withdrawn, with_one_defined}
-use Rattle.ipfix_datagrams.specs.Attempts.{IsFree, CanDefine}
+use Rattle.ipfix_datagrams.specs.declared.reading.Reading.{Reading}
+use Rattle.ipfix_datagrams.specs.Datagrams.{Answers, IsReadingOf, IsRefused, Preparation, preparation_of, prepared, with_withdrawn, with_one_defined}
+use Rattle.ipfix_datagrams.specs.Attempts.{IsFree, CanDefine, OrOutOfMemory}
 use Rattle.ipfix_datagrams.specs.Withdrawals.{withdrawal_message}
 use Rattle.ipfix_datagrams.specs.declared.withdrawn_template.WithdrawnTemplate.{WithdrawnTemplate}
-use Rattle.recording_peer.specs.Peers.{Front, Taken, InParts, HasFront, withdrawals, definitions, messages_with, given_with, known_after_all}
-use Rattle.recording_peer.specs.Recording.{FiledDatagrams, PeerView, IsPeer, taken_in}
+use Rattle.recording_peer.specs.Peers.{Front, Resumed, Taken, InParts, HasFront, withdrawals, front_messages, stamp_of, messages_with, given_with, known_after_all}
+use Rattle.recording_peer.specs.Recording.{FiledDatagrams, PeerView, IsPeer, resumed_for, taken_in}
 
 -- the domains after these messages of earlier files, and of this one
 abbrev pub domains_after : List Message → List Message → History
@@ -31,9 +33,9 @@ HasAppeared before here domain = knows (domains_after before here) domain ≡ tr
 abbrev pub CanWithdraw : List Message → List Message → ℕ → List WithdrawnTemplate → Type 0
 CanWithdraw before here domain ws = (ws ≡ []) ⊎ HasAppeared before here domain
 
--- a template can be defined in a domain: that has appeared, and none is in force for the id, or the same
+-- a template can be defined in a domain: that has appeared or has room, and none is in force for the id, or the same
 abbrev pub IsDefinable : History → ℕ → Template → Type 0
-IsDefinable ds domain t = (knows ds domain ≡ true) × IsFree (events_in ds domain) t
+IsDefinable ds domain t = IsOk (admit ds domain) × IsFree (events_in ds domain) t
 
 -- and so it can after these messages
 abbrev pub CanDefineNext : List Message → List Message → ℕ → Template → Type 0
@@ -58,9 +60,6 @@ TookOne before here s h ws old new =
     TookOwn before here s (withdrawal_message h ws) (with_withdrawn (domains_after before here) h.domain ws) old new
 
 -- one that defines a template
-abbrev pub stamp_of : Header → Stamp
-stamp_of h = record { export_time = h.export_time; sequence = h.sequence; domain = h.domain }
-
 abbrev pub TookDefinition : List Message → List Message → State → Stamp → Template → List ℕ → List ℕ → Type 0
 TookDefinition before here s stamp t old new =
     TookOwn before here s (templates_message stamp (t ∷ [])) (with_one_defined (domains_after before here) stamp.domain t) old new
@@ -93,11 +92,11 @@ pub record TookWithdrawals (before here : List Message) (s : State) (h : Header)
 pub record TookPrepared (before here : List Message) (s : State) (h : Header) (p : Preparation) (octets : List ℕ) : Type 0 where
   pub parts : List (List WithdrawnTemplate)
   pub are : InParts p.withdrawn parts
-  pub front : TookFront before here s (withdrawals h parts ++ definitions (stamp_of h) p.defined) (prepared (domains_after before here) h.domain p) octets
+  pub front : TookFront before here s (front_messages h parts p.defined) (prepared (domains_after before here) h.domain p) octets
 
--- none are left to define, or they can be
+-- so the rest can be defined
 abbrev pub CanGoOn : History → ℕ → List Template → Type 0
-CanGoOn ds domain rest = (rest ≡ []) ⊎ ((knows ds domain ≡ true) × CanDefine (events_in ds domain) rest)
+CanGoOn ds domain rest = IsOk (admit ds domain) × CanDefine (events_in ds domain) rest
 
 -- and while the rest of them is still to be defined, and can be
 pub record TakesDefinitions (before here : List Message) (s : State) (h : Header) (p : Preparation) (rest : List Template) (octets : List ℕ) : Type 0 where
@@ -107,24 +106,37 @@ pub record TakesDefinitions (before here : List Message) (s : State) (h : Header
   pub can : CanGoOn (prepared (domains_after before here) h.domain (record { withdrawn = p.withdrawn; defined = done })) h.domain rest
 
 -- a datagram, and the messages in front of it
-abbrev pub taken_as : List ℕ → Preparation → Front → Message → Taken
-taken_as m p front x = record { datagram = m; preparation = p; front = front; given = x }
+abbrev pub taken_as : List ℕ → Resumed → Preparation → Front → Message → Taken
+taken_as m resumed p front x = record { datagram = m; resumed = resumed; preparation = p; front = front; given = x }
 
-pub record TookDatagram (before here : List Message) (s : State) (m : List ℕ) (reading : DatagramReading) (x : Message) (octets : List ℕ) (count : MessageCount) : Type 0 where
+pub record TookDatagram (before here : List Message) (s : State) (m : List ℕ) (resumed : Resumed) (reading : DatagramReading) (x : Message) (octets : List ℕ) (count : MessageCount) : Type 0 where
   pub front : Front
-  pub has_front : HasFront (before ++ here) (taken_as m (preparation_of reading) front x)
+  pub has_front : HasFront (before ++ here) (taken_as m resumed (preparation_of reading) front x)
   pub file : List (List ℕ)
-  pub writes : Writes before here (messages_with (taken_as m (preparation_of reading) front x)) (given_with (taken_as m (preparation_of reading) front x)) file
+  pub writes : Writes before here (messages_with (taken_as m resumed (preparation_of reading) front x)) (given_with (taken_as m resumed (preparation_of reading) front x)) file
   pub octets_are : octets ≡ octets_of file
-  pub keeps : Keeps s before (here ++ given_with (taken_as m (preparation_of reading) front x))
+  pub keeps : Keeps s before (here ++ given_with (taken_as m resumed (preparation_of reading) front x))
   pub counts : IsCountOf count x
 
 -- a datagram was read so after these messages of the session, and gives this
-abbrev pub IsReadAfter : List Message → List Message → List ℕ → DatagramReading → Message → Type 0
-IsReadAfter before here m reading x = IsReadingOf (domains_after before here) m reading x
+abbrev pub IsReadAfter : List Message → List Message → List ℕ → Resumed → DatagramReading → Message → Type 0
+IsReadAfter before here m resumed reading x = IsReadingOf resumed.templates (domains_after before here) m reading x
+
+-- a datagram is taken as it was read, with what was due at the end of an earlier run, or memory ran out
+abbrev pub TakesDatagram : State → State → List ℕ → Option ℕ → DatagramReading → Result MessageCount MessageFault → List ℕ → Type 0
+TakesDatagram old new m due reading result octets =
+    (before here : List Message) (resumed : Resumed) (x : Message) → Keeps old before here → resumed.due ≡ due → IsReadAfter before here m resumed reading x
+    → OrOutOfMemory result (TookDatagram before here new m resumed reading x octets)
 
 -- the recorder and its files represent these datagrams, and after them the next was read so, which gives this
 pub record HasRead (first before : FilesView) (s : PeerView) (filed : FiledDatagrams) (m : List ℕ) (reading : DatagramReading) : Type 0 where
   pub is : IsPeer first before s filed
   pub given : Message
-  pub read : IsReadingOf (known_after_all (taken_in filed)) m reading given
+  pub read : IsReadingOf (resumed_for filed m).templates (known_after_all (taken_in filed)) m reading given
+
+-- a datagram is read, or refused, after those that were taken, with what is resumed before it
+abbrev pub ReadsAfter : FiledDatagrams → List ℕ → Result Reading MessageFault → Type 0
+ReadsAfter filed m result =
+    let resumed = (resumed_for filed m).templates in
+    let ds = known_after_all (taken_in filed) in
+    MatchResult result (Answers resumed ds m) (IsRefused resumed ds m)

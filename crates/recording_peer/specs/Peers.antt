@@ -1,19 +1,25 @@
 -- The datagrams of a peer, and its files (RFC 7011, sections 8.1, 8.4 and 10.3).
-use Rattle.std.specs.Prelude.{◌≡◌, ◌≢◌, ℕ, ◌+◌, List, [], ◌∷◌, ◌++◌, take, drop, map, flat_map, sum_by}
+use Rattle.std.specs.Prelude.{◌≡◌, ◌≢◌, ◌==◌, ℕ, ◌+◌, List, [], ◌∷◌, ◌++◌, take, drop, map, flat_map, sum_by, if◌then◌else◌, Option, Some, None, Ok, Err, unwrap_or}
+use Rattle.std.specs.Option.{option_or}
+use Rattle.std.specs.Ordering.{nat_cmp}
+use Rattle.std.specs.BTreeMap.{BTreeMap, get, values}
 use Rattle.ipfix_wire.specs.declared.header.Header.{Header}
 use Rattle.ipfix_message.specs.Domains.{History, Message}
 use Rattle.ipfix_message.specs.declared.record.DataRecord.{DataRecord}
 use Rattle.ipfix_message.specs.declared.record.Template.{Template}
 use Rattle.ipfix_session.specs.Given.{known_after, records_in}
-use Rattle.ipfix_session.specs.Ledger.{capped}
-use Rattle.recording_files.specs.Recordings.{Part, stamp_for}
+use Rattle.ipfix_session.specs.Ledger.{capped, due_of, messages_of}
+use Rattle.recording_files.specs.Recordings.{Part}
 use Rattle.recording_files.specs.FileReports.{file_report}
 use Rattle.recording_files.specs.declared.file_report.FileReport.{FileReport}
 use Rattle.recording_files.specs.Preambles.{templates_message}
 use Rattle.ipfix_message.specs.declared.stamp.Stamp.{Stamp}
-use Rattle.ipfix_datagrams.specs.Datagrams.{Preparation, IsTaken, withdrawals_in}
+use Rattle.ipfix_datagrams.specs.Datagrams.{Preparation, IsTaken, defines_template, withdrawals_in}
 use Rattle.ipfix_datagrams.specs.Withdrawals.{withdrawal_message}
 use Rattle.ipfix_datagrams.specs.declared.withdrawal.TheConstants.{MOST_WITHDRAWN}
+use Rattle.ipfix_message.specs.Outcome.{Read}
+use Rattle.recording_resumption.specs.Resumption.{due_left, left_after, resumed_by}
+use Rattle.recording_resumption.specs.declared.earlier_domain.EarlierDomain.{EarlierDomain}
 use Rattle.ipfix_datagrams.specs.declared.withdrawn_template.WithdrawnTemplate.{WithdrawnTemplate}
 
 -- ---- datagrams
@@ -23,10 +29,21 @@ pub record Front : Type 0 where
   pub messages : List (List ℕ)
   pub given : List Message
 
--- a datagram that was taken, the templates that are withdrawn and defined again before it, the messages in front of it, and
+-- what is resumed before a datagram: templates that an earlier run left, and the sequence number that was due at its end, if one is
+-- known
+pub record Resumed : Type 0 where
+  pub templates : List Template
+  pub due : Option ℕ
+
+abbrev pub resumed_of : Option EarlierDomain → Resumed
+resumed_of None = record { templates = []; due = None }
+resumed_of (Some e) = record { templates = values e.templates; due = due_left e.state }
+
+-- a datagram that was taken, what is resumed before it, the templates that are withdrawn and defined again before it, the messages in front of it, and
 -- what it gave
 pub record Taken : Type 0 where
   pub datagram : List ℕ
+  pub resumed : Resumed
   pub preparation : Preparation
   pub front : Front
   pub given : Message
@@ -34,7 +51,7 @@ pub record Taken : Type 0 where
 -- datagrams one after another, each taken after the domains that those before it leave in the files
 abbrev pub AreTaken : History → List Taken → Type 0
 AreTaken ds [] = Unit {0}
-AreTaken ds (t ∷ ts) = IsTaken ds t.datagram t.preparation t.given × AreTaken t.given.domains ts
+AreTaken ds (t ∷ ts) = IsTaken t.resumed.templates ds t.datagram t.preparation t.given × AreTaken t.given.domains ts
 
 abbrev pub datagrams : List Taken → List (List ℕ)
 datagrams ts = map (λ t. t.datagram) ts
@@ -50,11 +67,39 @@ known_after_all ts = known_after [] (givens ts)
 abbrev pub records_over_udp : List Taken → List DataRecord
 records_over_udp ts = records_in (givens ts)
 
+-- ---- what an earlier run left
+
+-- what is left of a domain after datagrams: those of others change nothing
+abbrev pub left_in : ℕ → Option EarlierDomain → List Taken → Option EarlierDomain
+left_in domain o [] = o
+left_in domain o (t ∷ ts) = left_in domain (if domain == t.given.header.domain then left_after o t.given.header (defines_template t.datagram) else o) ts
+
+-- what is resumed before a datagram with this header, after these, by what the earlier run left
+abbrev pub resumed_after : BTreeMap ℕ EarlierDomain → List Taken → Header → Resumed
+resumed_after earlier ts h = resumed_of (resumed_by (left_in h.domain (get nat_cmp earlier h.domain) ts) h)
+
+-- and before any datagram, if it has a header
+abbrev pub resumed_at : BTreeMap ℕ EarlierDomain → List Taken → Read Header → Resumed
+resumed_at earlier ts (Ok h) = resumed_after earlier ts h
+resumed_at earlier ts (Err fault) = resumed_of None
+
+-- exactly that is resumed before each of them, after those before
+abbrev pub AreResumed : BTreeMap ℕ EarlierDomain → List Taken → List Taken → Type 0
+AreResumed earlier before [] = Unit {0}
+AreResumed earlier before (t ∷ ts) = (t.resumed ≡ resumed_after earlier before t.given.header) × AreResumed earlier (before ++ t ∷ []) ts
+
 -- ---- the messages in front of them
 
--- the header of a message of the recorder's own: that of the datagram, with the sequence number that is due, if one is known
-abbrev pub front_header : List Message → Header → Header
-front_header before h = record h { sequence = (stamp_for before h).sequence }
+-- the sequence number that is due in a domain after messages, or else after an earlier run, if one is known
+abbrev pub due_before : Option ℕ → List Message → ℕ → Option ℕ
+due_before due before domain = option_or (due_of (messages_of domain before)) due
+
+-- the header of a message of the recorder's own: that of the datagram, with that number, if one is known
+abbrev pub front_header : Option ℕ → List Message → Header → Header
+front_header due before h = record h { sequence = unwrap_or (due_before due before h.domain) h.sequence }
+
+abbrev pub stamp_of : Header → Stamp
+stamp_of h = record { export_time = h.export_time; sequence = h.sequence; domain = h.domain }
 
 -- templates in parts, as many in each as a message withdraws at most, and those that are left in the last
 abbrev pub InParts : List WithdrawnTemplate → List (List WithdrawnTemplate) → Type 0
@@ -69,12 +114,16 @@ withdrawals h parts = map (withdrawal_message h) parts
 abbrev pub definitions : Stamp → List Template → List (List ℕ)
 definitions s ts = map (λ t. templates_message s (t ∷ [])) ts
 
+-- both, under this header
+abbrev pub front_messages : Header → List (List WithdrawnTemplate) → List Template → List (List ℕ)
+front_messages h parts ts = withdrawals h parts ++ definitions (stamp_of h) ts
+
 -- after these messages of the session, those in front of a datagram withdraw its templates and define its templates again, and
 -- give no record
 pub record HasFront (before : List Message) (t : Taken) : Type 0 where
   pub parts : List (List WithdrawnTemplate)
   pub are : InParts t.preparation.withdrawn parts
-  pub messages : t.front.messages ≡ withdrawals (front_header before t.given.header) parts ++ definitions (stamp_for before t.given.header) t.preparation.defined
+  pub messages : t.front.messages ≡ front_messages (front_header t.resumed.due before t.given.header) parts t.preparation.defined
   pub records : records_in t.front.given ≡ []
 
 -- a datagram after the messages in front of it

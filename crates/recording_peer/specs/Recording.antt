@@ -1,11 +1,12 @@
 -- The datagrams that a peer's recorder represents, and what it answers.
-use Rattle.std.specs.Prelude.{◌≡◌, ◌≢◌, ◌⊎◌, ℕ, true, List, [], ◌∷◌, ◌++◌, map, flat_map, All, MatchResult, Option, Some, None, Result, Ok, Err}
+use Rattle.std.specs.Prelude.{◌≡◌, ◌≢◌, ◌⊎◌, ℕ, true, List, [], ◌∷◌, ◌++◌, map, flat_map, All, MatchResult, Option, Some, None, option_map, Result, Ok, Err}
 use Rattle.ipfix_session.specs.declared.stop.Stop.TheVariants.{Clean}
 use Rattle.ipfix_session.specs.Given.{IsOpen, IsPrefix, octets_of, records_of, stop_of}
 use Rattle.std.specs.Map.{lookup}
 use Rattle.std.specs.Option.{option_and_then}
 use Rattle.std.specs.Ordering.{nat_cmp, eq_by_cmp}
-use Rattle.ipfix_message.specs.Domains.{History}
+use Rattle.std.specs.BTreeMap.{BTreeMap, get}
+use Rattle.ipfix_message.specs.Domains.{History, message_header}
 use Rattle.ipfix_message.specs.declared.record.Template.{Template}
 use Rattle.ipfix_message.specs.declared.fault.MessageFault.TheVariants.{OutOfMemory}
 use Rattle.ipfix_session.specs.Sources.{one_more}
@@ -23,10 +24,12 @@ use Rattle.ipfix_datagrams.specs.declared.reach.Reach.{Reach}
 use Rattle.ipfix_datagrams.specs.Reaches.{reaches_of, told_of}
 use Rattle.ipfix_datagrams.specs.Advances.{advances_of}
 use Rattle.ipfix_datagrams.specs.Datagrams.{withdraws_only, withdrawn_in, IsRefused}
+use Rattle.recording_resumption.specs.declared.earlier.Earlier.{Earlier}
+use Rattle.recording_resumption.specs.declared.earlier_domain.EarlierDomain.{EarlierDomain}
 use Rattle.recording_peer.specs.declared.peer_answer.PeerAnswer.{PeerAnswer}
 use Rattle.recording_peer.specs.declared.peer_answer.PeerAnswer.TheVariants.{Recorded, Refused, Ignored}
 use Rattle.recording_peer.specs.declared.peer_session.PeerSession.{PeerSession}
-use Rattle.recording_peer.specs.Peers.{Taken, AreTaken, HaveFronts, PeerFile, part_of, sent_of, withdrawals_ignored, peer_report, peer_reports, datagrams, givens, known_after_all, all_messages, all_given, records_over_udp}
+use Rattle.recording_peer.specs.Peers.{Resumed, Taken, AreResumed, left_in, resumed_at, AreTaken, HaveFronts, PeerFile, part_of, sent_of, withdrawals_ignored, peer_report, peer_reports, datagrams, givens, known_after_all, all_messages, all_given, records_over_udp}
 
 -- the counts, the withdrawals that were ignored since a file was finished, and how far the sequence numbers of each domain reach
 pub record PeerTold : Type 0 where
@@ -34,10 +37,21 @@ pub record PeerTold : Type 0 where
   pub ignored : ℕ
   pub advances : List (ℕ × Reach)
 
--- what contracts see of a recorder: what it keeps, the templates that were withdrawn in the files, what it counted, and why it
--- ended, if it has
+-- what is left of a domain, and of each
+abbrev pub LeftShown : Type 0
+LeftShown = Earlier × List (ℕ × Template)
+
+abbrev pub left_shown : EarlierDomain → LeftShown
+left_shown e = (e.state, e.templates.entries)
+
+abbrev pub left_listed : List (ℕ × EarlierDomain) → List (ℕ × LeftShown)
+left_listed es = map (λ e. (e.0, left_shown e.1)) es
+
+-- what contracts see of a recorder: what it keeps, what is left of an earlier run, the templates that were withdrawn in the files, what
+-- it counted, and why it ended, if it has
 pub record PeerView : Type 0 where
   pub recorder : State
+  pub earlier : List (ℕ × LeftShown)
   pub withdrawn : List (ℕ × List (ℕ × Template))
   pub told : PeerTold
   pub ended : Option RecordFault
@@ -52,16 +66,17 @@ pub record KeepsListed (es : List (ℕ × List (ℕ × Template))) (ds : History
 
 -- ---- the files of a peer
 
--- datagrams that were taken, by their files: those of each finished file, and those of the file that isn't finished; and beside them
--- those that were ignored since the file before was finished
+-- what an earlier run left, by domain; datagrams that were taken, by their files: those of each finished file, and those of the file
+-- that isn't finished; and beside them those that were ignored since the file before was finished
 pub record FiledDatagrams : Type 0 where
+  pub earlier : BTreeMap ℕ EarlierDomain
   pub finished : List (List Taken)
   pub here : List Taken
   pub ignored : List (List (List ℕ))
   pub ignored_here : List (List ℕ)
 
-abbrev pub none_filed : FiledDatagrams
-none_filed = record { finished = []; here = []; ignored = []; ignored_here = [] }
+abbrev pub none_filed : BTreeMap ℕ EarlierDomain → FiledDatagrams
+none_filed earlier = record { earlier = earlier; finished = []; here = []; ignored = []; ignored_here = [] }
 
 -- all those of finished files
 abbrev pub taken_before : FiledDatagrams → List Taken
@@ -100,6 +115,7 @@ ignored_still (t ∷ ts) here = []
 
 abbrev pub file_finished : FiledDatagrams → FiledDatagrams
 file_finished filed = record {
+  earlier = filed.earlier;
   finished = finished_now filed.finished filed.here;
   here = [];
   ignored = ignored_now filed.here filed.ignored filed.ignored_here;
@@ -128,6 +144,7 @@ IsLastFile filed file = Writes (all_given (taken_before filed)) [] (all_messages
 -- of each finished file, and those of the file that isn't finished, where these octets follow
 pub record FilesHold (first after : FilesView) (filed : FiledDatagrams) (cut_off : List ℕ) : Type 0 where
   pub taken : AreTaken [] (taken_in filed)
+  pub resumed : AreResumed filed.earlier [] (taken_in filed)
   pub fronts : HaveFronts [] (taken_in filed)
   pub some : All HasDatagram filed.finished
   pub files : List PeerFile
@@ -147,6 +164,10 @@ pub record Counts (c : PeerTold) (filed : FiledDatagrams) : Type 0 where
   pub ignored : c.ignored ≡ capped (withdrawals_ignored filed.here filed.ignored_here)
   pub noted : c.advances ≡ reaches_of (givens (taken_in filed))
 
+-- of what an earlier run left, this is left after datagrams
+pub record KeepsLeft (now : List (ℕ × LeftShown)) (earlier : BTreeMap ℕ EarlierDomain) (ts : List Taken) : Type 0 where
+  pub at : (domain : ℕ) → lookup (eq_by_cmp nat_cmp domain) now ≡ option_map left_shown (left_in domain (get nat_cmp earlier domain) ts)
+
 -- the recorder represents them
 pub record IsPeer (first after : FilesView) (s : PeerView) (filed : FiledDatagrams) : Type 0 where
   pub holds : FilesHold first after filed []
@@ -155,6 +176,7 @@ pub record IsPeer (first after : FilesView) (s : PeerView) (filed : FiledDatagra
   pub counted : Counts s.told filed
   pub keeps : Keeps s.recorder (all_given (taken_before filed)) (all_given filed.here)
   pub withdrawn : KeepsListed s.withdrawn (known_after_all (taken_in filed))
+  pub left : KeepsLeft s.earlier filed.earlier (taken_in filed)
 
 -- ---- a call fails
 
@@ -207,11 +229,15 @@ pub record IsIgnored (m : List ℕ) (first before after : FilesView) (s t : Peer
   pub others : t ≡ record s { told = record s.told { ignored = t.told.ignored } }
   pub is : IsPeer first after t (with_ignored filed m)
 
+-- what is resumed before a datagram that comes after these
+abbrev pub resumed_for : FiledDatagrams → List ℕ → Resumed
+resumed_for filed m = resumed_at filed.earlier (taken_in filed) (message_header m)
+
 -- what is answered of a datagram, by the files and the recorder before and after it
 abbrev pub Answers : Result PeerAnswer RecordFault → List ℕ → FilesView → FilesView → FilesView → PeerView → PeerView → FiledDatagrams → Type 0
 Answers (Ok (Recorded count)) m first before after s t filed = IsRecorded count m first after t filed
 Answers (Ok Ignored) m first before after s t filed = IsIgnored m first before after s t filed
-Answers (Ok (Refused fault)) m first before after s t filed = IsRefused (known_after_all (taken_in filed)) m fault × (t ≡ s) × (after ≡ before)
+Answers (Ok (Refused fault)) m first before after s t filed = IsRefused (resumed_for filed m).templates (known_after_all (taken_in filed)) m fault × (t ≡ s) × (after ≡ before)
 Answers (Err fault) m first before after s t filed = (t.ended ≡ Some fault) × HasStopped fault first after t.told filed m
 
 -- a recorder and its files, whichever datagrams they represent, take the next

@@ -2,17 +2,22 @@
 
 ghost use Rattle.std.specs.Prelude.{◌≡◌, Ok, All, IfOk, IfErr};
 ghost use Rattle.ipfix_message.specs.Domains.{message_header};
+ghost use Rattle.ipfix_datagrams.specs.Datagrams.{HasTemplateIds};
 ghost use Rattle.ipfix_datagrams.specs.Withdrawals.{HasTemplateId};
 ghost use Rattle.recording_files.specs.Files.{FilesView};
-ghost use Rattle.recording_peer.specs.Recording.{FiledDatagrams, IsRecorded, HasStopped, FinishesFile};
-ghost use Rattle.recording_peer.specs.Fronts.{HasRead};
+ghost use Rattle.recording_peer.specs.Peers.{resumed_after};
+ghost use Rattle.recording_peer.specs.Recording.{FiledDatagrams, IsPeer, IsRecorded, HasStopped, FinishesFile, taken_in};
+ghost use Rattle.recording_peer.specs.Fronts.{HasRead, ReadsAfter};
 
 use crate::fronts::take_datagram;
 use crate::peer_recorder::PeerRecorder;
-use ipfix_datagrams::{DatagramReading, keep_withdrawn};
+use ipfix_datagrams::{DatagramReading, Reading, keep_withdrawn, read_datagram};
+use ipfix_message::MessageFault;
 use ipfix_wire::Header;
 use recording_files::{FileReport, FileSeries, MessageCount, RecordFault};
+use recording_resumption::{go_on, resumed};
 use std::alloc::Global;
+use std::collections::BTreeMap;
 
 impl PeerRecorder {
     /// The report of the file that isn't finished.
@@ -49,6 +54,44 @@ impl PeerRecorder {
         }
     }
 
+    // The sequence number that was due when an earlier run ended, if its domain goes on with this datagram.
+    fn due_left(&self, header: &Header) -> Option<u32>
+        ensures { (first after : FilesView) (filed : FiledDatagrams)
+            → IsPeer first after self.now filed
+            → result ≡ (resumed_after filed.earlier (taken_in filed) header.now).due }
+    {
+        match resumed(&self.earlier, header) {
+            Some(domain) => domain.due(),
+            None => None,
+        }
+    }
+
+    /// Reads a datagram, whose header was read, with what is resumed before it.
+    pub(crate) fn read(
+        &self,
+        alloc: Global,
+        header: &Header,
+        datagram: &[u8],
+    ) -> Result<Reading, MessageFault>
+        requires { message_header datagram.now ≡ Ok header.now }
+        ensures ids { IfOk result HasTemplateIds }
+        ensures reads { (first after : FilesView) (filed : FiledDatagrams)
+            → IsPeer first after self.now filed → ReadsAfter filed datagram.now result }
+    {
+        let domains = self.recorder.domains();
+        let withdrawn = &self.withdrawn;
+        match resumed(&self.earlier, header) {
+            Some(domain) => {
+                let templates = &domain.templates;
+                read_datagram(alloc, domains, withdrawn, templates, header, datagram)
+            }
+            None => {
+                let none = BTreeMap::new(alloc);
+                read_datagram(alloc, domains, withdrawn, &none, header, datagram)
+            }
+        }
+    }
+
     /// Records a datagram, whose header was read, as it is to be taken, and counts and notes it then. It answers
     /// what the datagram adds to the counts.
     pub(crate) fn record<F: FileSeries>(
@@ -70,13 +113,16 @@ impl PeerRecorder {
             → IfErr result (λ fault. HasStopped fault first (F.seen files.new) self.new.told
             filed datagram.now) }
     {
+        let due_left = self.due_left(header);
         self.counts.clear_waiting();
+        go_on(&mut self.earlier, header, reading.defines())?;
         let domains = self.recorder.domains();
         keep_withdrawn(alloc, &mut self.withdrawn, domains, header.domain, reading)?;
         let count = take_datagram(
             alloc,
             &mut self.recorder,
             header,
+            due_left,
             reading,
             datagram,
             &mut self.out,

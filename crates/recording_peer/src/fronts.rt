@@ -10,7 +10,7 @@ ghost use Rattle.ipfix_datagrams.specs.Datagrams.{Preparation};
 ghost use Rattle.ipfix_datagrams.specs.Withdrawals.{HasTemplateId};
 ghost use Rattle.ipfix_datagrams.specs.declared.withdrawal.TheConstants.{MOST_WITHDRAWN};
 ghost use Rattle.recording_files.specs.Recorders.{Keeps};
-ghost use Rattle.recording_peer.specs.Fronts.{domains_after, HasAppeared, CanWithdraw, CanDefineNext, Took, TookOne, TookDefinition, TookWithdrawals, TakesDefinitions, TookPrepared, TookDatagram, IsReadAfter};
+ghost use Rattle.recording_peer.specs.Fronts.{domains_after, HasAppeared, CanWithdraw, CanDefineNext, Took, TookOne, TookDefinition, TookWithdrawals, TakesDatagram, TakesDefinitions, TookPrepared};
 
 use ipfix_datagrams::{DatagramReading, MOST_WITHDRAWN, WithdrawnTemplate, append_withdrawals};
 use ipfix_message::{MessageFault, Stamp, Template, Templates, append_template_message, header_of};
@@ -108,7 +108,7 @@ fn take_definition(
     Ok(())
 }
 
-// Takes the messages that define templates again, after those that withdraw templates.
+// Takes the messages that define templates, after those that withdraw templates.
 fn take_definitions(
     alloc: Global,
     recorder: &mut Recorder,
@@ -132,8 +132,9 @@ fn take_definitions(
     Ok(())
 }
 
-/// Takes a datagram, whose header was read, after messages that withdraw templates and define templates again,
-/// and makes all that is to be written for it. What stood in `out` before is gone. It answers what the datagram
+/// Takes a datagram, whose header was read, after messages that withdraw templates and define templates, and makes
+/// all that is to be written for it. Where no sequence number is known those messages have the one that was due when an
+/// earlier run ended, or else the datagram's. What stood in `out` before is gone. It answers what the datagram
 /// adds to the counts.
 ///
 /// The fault is `OutOfMemory`, and after it the recorder is of no use.
@@ -141,20 +142,20 @@ pub fn take_datagram(
     alloc: Global,
     recorder: &mut Recorder,
     header: &Header,
+    due_left: Option<u32>,
     reading: &DatagramReading,
     datagram: &[u8],
     out: &mut Vec<u8>,
 ) -> Result<MessageCount, MessageFault>
     requires header { message_header datagram.now ≡ Ok header.now }
     requires ids { All HasTemplateId reading.now.withdrawn.items }
-    ensures { (before here : List Message) (x : Message) → Keeps recorder.old before here
-        → IsReadAfter before here datagram.now reading.now x → OrOutOfMemory result
-        (TookDatagram before here recorder.new datagram.now reading.now x out.new.items) }
+    ensures { TakesDatagram recorder.old recorder.new datagram.now due_left reading.now result out.new.items }
 {
+    let due = recorder.due(header.domain).or(due_left);
     let own = Header {
         length: header.length,
         export_time: header.export_time,
-        sequence: recorder.due(header.domain).unwrap_or(header.sequence),
+        sequence: due.unwrap_or(header.sequence),
         domain: header.domain,
     };
     take_withdrawals(alloc, recorder, &own, &reading.withdrawn, out)?;

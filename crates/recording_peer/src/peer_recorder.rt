@@ -4,13 +4,14 @@ ghost use Rattle.std.specs.Prelude.{◌≡◌, ℕ, List, Some, unwrap_or};
 ghost use Rattle.ipfix_message.specs.declared.fault.MessageFault.TheVariants.{OutOfMemory};
 ghost use Rattle.recording_files.specs.Files.{FilesView, IsEmpty};
 ghost use Rattle.recording_files.specs.declared.record_fault.RecordFault.TheVariants.{Message as OfMessage};
-ghost use Rattle.recording_peer.specs.Recording.{FiledDatagrams, IsPeer, HasStopped, TakesDatagram, FinishesFile, StaysEnded, Tells, none_filed, answer_of};
+ghost use Rattle.recording_peer.specs.Recording.{FiledDatagrams, IsPeer, HasStopped, TakesDatagram, FinishesFile, StaysEnded, Tells, none_filed, answer_of, left_listed};
 
 use crate::peer_answer::PeerAnswer;
 use crate::peer_session::PeerSession;
-use ipfix_datagrams::{Reading, SequenceAdvances, WithdrawnTemplates, read_datagram};
+use ipfix_datagrams::{Reading, SequenceAdvances, WithdrawnTemplates};
 use ipfix_message::{MessageFault, header_of};
 use recording_files::{FileSeries, RecordFault, Recorder, SessionCounts};
+use recording_resumption::EarlierDomains;
 use std::alloc::Global;
 use std::collections::BTreeMap;
 use std::marker::Model;
@@ -20,6 +21,7 @@ use std::marker::Model;
 #[derive(Drop)]
 pub struct PeerRecorder {
     pub(crate) recorder: Recorder,
+    pub(crate) earlier: EarlierDomains,
     pub(crate) withdrawn: WithdrawnTemplates,
     pub(crate) counts: SessionCounts,
     pub(crate) ignored: u64,
@@ -30,12 +32,13 @@ pub struct PeerRecorder {
 
 impl Model for PeerRecorder {
     ghost use Rattle.ipfix_message.specs.Kept.{kept};
-    ghost use Rattle.recording_peer.specs.Recording.{PeerView};
+    ghost use Rattle.recording_peer.specs.Recording.{PeerView, left_listed};
 
     ghost Value = { PeerView };
 
     ghost view = { λ r. record {
       recorder = r.recorder;
+      earlier = left_listed r.earlier.entries;
       withdrawn = kept r.withdrawn.entries;
       told = record { counts = r.counts.told; ignored = r.ignored; advances = r.advances.reaches };
       ended = r.ended;
@@ -43,12 +46,15 @@ impl Model for PeerRecorder {
 }
 
 impl PeerRecorder {
-    /// A peer of which nothing has come.
-    pub fn new(alloc: Global) -> Self
-        ensures { (files : FilesView) → IsEmpty files.contents → IsPeer files files result none_filed }
+    /// A peer of which nothing has come yet. An earlier run may have left templates in its domains.
+    pub fn new(alloc: Global, earlier: EarlierDomains) -> Self
+        ensures peer { (files : FilesView) → IsEmpty files.contents
+            → IsPeer files files result (none_filed earlier) }
+        ensures earlier { result.earlier ≡ left_listed earlier.entries }
     {
         PeerRecorder {
             recorder: Recorder::new(alloc),
+            earlier,
             withdrawn: BTreeMap::new(alloc),
             counts: SessionCounts::new(alloc),
             ignored: 0,
@@ -61,7 +67,8 @@ impl PeerRecorder {
     /// Takes a datagram. One that is read after the rules over UDP is recorded as it came, after a preamble
     /// of its domain if the file has none of the domain's messages yet and an earlier file has. If it
     /// changes templates, a message in front of it withdraws them; if it has data sets of
-    /// templates that an earlier one withdrew, messages that define them again. It answers what a recorded
+    /// templates that an earlier one withdrew, messages that define them again; and if its domain goes on after an earlier
+    /// run, messages that define the templates that this left, with the sequence number that was due then. It answers what a recorded
     /// datagram adds to the counts. A datagram of withdrawals alone is ignored: only its withdrawals are counted.
     /// Any other datagram is refused, and changes nothing.
     ///
@@ -84,8 +91,7 @@ impl PeerRecorder {
             Ok(header) => header,
             Err(malformed) => return Ok(PeerAnswer::Refused(malformed)),
         };
-        let domains = self.recorder.domains();
-        let reading = match read_datagram(alloc, domains, &self.withdrawn, &header, datagram) {
+        let reading = match self.read(alloc, &header, datagram) {
             Ok(Reading::Kept(reading)) => reading,
             Ok(Reading::Ignored(withdrawals)) => {
                 self.ignored = self.ignored.saturating_add(withdrawals);
@@ -139,6 +145,7 @@ impl PeerRecorder {
         let last = self.file_report();
         let PeerRecorder {
             recorder: _,
+            earlier: _,
             withdrawn: _,
             counts,
             ignored: _,

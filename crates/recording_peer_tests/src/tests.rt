@@ -5,5 +5,6 @@ mod endings;
 mod files;
 mod refusals;
 mod reports;
+mod resuming;
 mod running;
 mod told;

@@ -1,6 +1,7 @@
 -- A datagram that is handed on to the recorder.
 use Rattle.std.proofs.Common.{◌≡◌, ℕ, suc, true, false, Some, None, Result, Ok, Err, List, [], ◌∷◌, ◌++◌, length, refl, sym, ap, subst, ◌∙◌, append_assoc, arith, length-append}
 use Rattle.std.specs.Prelude.{flat_map}
+use Rattle.std.specs.BTreeMap.{BTreeMap}
 use Rattle.std.proofs.lemmas.List.{append-nil, map-append, length-map}
 use Rattle.lru.proofs.Pairs.{slice_get-cut}
 use Rattle.ipfix_session.specs.Given.{IsPrefix}
@@ -12,6 +13,7 @@ use Rattle.recording_order.specs.Arrivals.{Arrival}
 use Rattle.recording_order.specs.Windows.{WindowView, after_writing}
 use Rattle.recording_order.specs.Releases.{Run, Says, answered}
 use Rattle.recording_peer.specs.declared.peer_answer.PeerAnswer.TheVariants.{Recorded, Refused, Ignored}
+use Rattle.recording_resumption.specs.declared.earlier_domain.EarlierDomain.{EarlierDomain}
 use Rattle.recording_peer.specs.Peers.{Taken}
 use Rattle.recording_peer.specs.Recording.{PeerView, FiledDatagrams, IsPeer, HasStopped, TakesDatagram, FinishesFile, filed_with, with_ignored, file_finished, taken_in, ignored_in}
 use Rattle.recording_peer.proofs.PeerFiles.{taken_in-push, in-finished, ignored-finished}
@@ -24,22 +26,22 @@ use Rattle.recording_peers.proofs.Following.{follows-of, ignored-append, recorde
 
 -- ---- one more is settled
 
-settles-more : (before : List Taken) (ms : List (List ℕ)) (said : List Said) (all : List Taken) (m : List ℕ) (s : Said) (now : List Taken)
-    → Settles before ms said all → Settles all (m ∷ []) (s ∷ []) now → Settles before (ms ++ m ∷ []) (said ++ s ∷ []) now
-settles-more before [] [] all m s now h one = subst (λ ts. Settles ts (m ∷ []) (s ∷ []) now) h one
-settles-more before [] (t ∷ said) all m s now h one = absurd h
-settles-more before (x ∷ ms) [] all m s now h one = absurd h
-settles-more before (x ∷ ms) (WasRecorded c ∷ said) all m s now h one = (h.0, h.1, h.2, settles-more (before ++ h.0 ∷ []) ms said all m s now h.3 one)
-settles-more before (x ∷ ms) (WasRefused fault ∷ said) all m s now h one = (h.0, settles-more before ms said all m s now h.1 one)
-settles-more before (x ∷ ms) (WasIgnored d ∷ said) all m s now h one = (h.0, h.1, settles-more before ms said all m s now h.2 one)
+settles-more : (left : BTreeMap ℕ EarlierDomain) (before : List Taken) (ms : List (List ℕ)) (said : List Said) (all : List Taken) (m : List ℕ) (s : Said) (now : List Taken)
+    → Settles left before ms said all → Settles left all (m ∷ []) (s ∷ []) now → Settles left before (ms ++ m ∷ []) (said ++ s ∷ []) now
+settles-more left before [] [] all m s now h one = subst (λ ts. Settles left ts (m ∷ []) (s ∷ []) now) h one
+settles-more left before [] (t ∷ said) all m s now h one = absurd h
+settles-more left before (x ∷ ms) [] all m s now h one = absurd h
+settles-more left before (x ∷ ms) (WasRecorded c ∷ said) all m s now h one = (h.0, h.1, h.2, settles-more left (before ++ h.0 ∷ []) ms said all m s now h.3 one)
+settles-more left before (x ∷ ms) (WasRefused fault ∷ said) all m s now h one = (h.0, settles-more left before ms said all m s now h.1 one)
+settles-more left before (x ∷ ms) (WasIgnored d ∷ said) all m s now h one = (h.0, h.1, settles-more left before ms said all m s now h.2 one)
 
-pub settles-length : (before : List Taken) (ms : List (List ℕ)) (said : List Said) (all : List Taken) → Settles before ms said all → length said ≡ length ms
-settles-length before [] [] all h = refl
-settles-length before [] (t ∷ said) all h = absurd h
-settles-length before (x ∷ ms) [] all h = absurd h
-settles-length before (x ∷ ms) (WasRecorded c ∷ said) all h = ap suc (settles-length (before ++ h.0 ∷ []) ms said all h.3)
-settles-length before (x ∷ ms) (WasRefused fault ∷ said) all h = ap suc (settles-length before ms said all h.1)
-settles-length before (x ∷ ms) (WasIgnored d ∷ said) all h = ap suc (settles-length before ms said all h.2)
+pub settles-length : (left : BTreeMap ℕ EarlierDomain) (before : List Taken) (ms : List (List ℕ)) (said : List Said) (all : List Taken) → Settles left before ms said all → length said ≡ length ms
+settles-length left before [] [] all h = refl
+settles-length left before [] (t ∷ said) all h = absurd h
+settles-length left before (x ∷ ms) [] all h = absurd h
+settles-length left before (x ∷ ms) (WasRecorded c ∷ said) all h = ap suc (settles-length left (before ++ h.0 ∷ []) ms said all h.3)
+settles-length left before (x ∷ ms) (WasRefused fault ∷ said) all h = ap suc (settles-length left before ms said all h.1)
+settles-length left before (x ∷ ms) (WasIgnored d ∷ said) all h = ap suc (settles-length left before ms said all h.2)
 
 -- those that were ignored, with the next one
 ignored-next : (p : Recording) (more : List Taken) (s : Said) → ignored_in p.filed ≡ ignored_after [] p.said → ignored_in (filed_then false p.filed more (s ∷ [])) ≡ ignored_after [] (p.said ++ s ∷ [])
@@ -59,7 +61,7 @@ said-next xs said s says same so =
 
 module _ {F : Type 0} (seen : F → FilesView) where
   counted : (p : Recording) (r : Run) (k : PeerState F) → IsRunning seen k p r → length p.said ≡ length r.handed_on
-  counted p r k is = settles-length [] (datagrams_of r.handed_on) p.said (taken_in p.filed) is.recorded.settles.taken ∙ length-map r.handed_on (λ (a : Arrival). a.octets)
+  counted p r k is = settles-length p.filed.earlier [] (datagrams_of r.handed_on) p.said (taken_in p.filed) is.recorded.settles.taken ∙ length-map r.handed_on (λ (a : Arrival). a.octets)
 
   hands-on : (a : Arrival) (old new : PeerState F) (p : Recording) (r : Run) (s : Said) (more : List Taken) → IsRunning seen old p r → new.window ≡ answered r.window a (counts_said (Some s))
       → HasRecorded seen new (recorded_then false p more (s ∷ [])) (datagrams_of (r.handed_on ++ a ∷ [])) → RunsTo seen new (recorded_then false p more (s ∷ [])) (handed_on a) r
@@ -69,12 +71,12 @@ module _ {F : Type 0} (seen : F → FilesView) where
     by = λ says so. ap (λ o. record { window = answered r.window a o; handed_on = r.handed_on ++ a ∷ []; doubled = r.doubled }) (said-next r.handed_on p.said s says (counted p r old is) so);
   }
 
-  settles-next : (a : Arrival) (old : PeerState F) (p : Recording) (r : Run) (s : Said) (now : List Taken) → IsRunning seen old p r → Settles (taken_in p.filed) (a.octets ∷ []) (s ∷ []) now
-      → Settles [] (datagrams_of (r.handed_on ++ a ∷ [])) (p.said ++ s ∷ []) now
+  settles-next : (a : Arrival) (old : PeerState F) (p : Recording) (r : Run) (s : Said) (now : List Taken) → IsRunning seen old p r → Settles p.filed.earlier (taken_in p.filed) (a.octets ∷ []) (s ∷ []) now
+      → Settles p.filed.earlier [] (datagrams_of (r.handed_on ++ a ∷ [])) (p.said ++ s ∷ []) now
   settles-next a old p r s now is one =
-      subst (λ ms. Settles [] ms (p.said ++ s ∷ []) now) (sym (datagrams-push r.handed_on a)) (settles-more [] (datagrams_of r.handed_on) p.said (taken_in p.filed) a.octets s now is.recorded.settles.taken one)
+      subst (λ ms. Settles p.filed.earlier [] ms (p.said ++ s ∷ []) now) (sym (datagrams-push r.handed_on a)) (settles-more p.filed.earlier [] (datagrams_of r.handed_on) p.said (taken_in p.filed) a.octets s now is.recorded.settles.taken one)
 
-  settled-next : (a : Arrival) (old : PeerState F) (p : Recording) (r : Run) (s : Said) (more : List Taken) → IsRunning seen old p r → Settles (taken_in p.filed) (a.octets ∷ []) (s ∷ []) (taken_in (filed_then false p.filed more (s ∷ [])))
+  settled-next : (a : Arrival) (old : PeerState F) (p : Recording) (r : Run) (s : Said) (more : List Taken) → IsRunning seen old p r → Settles p.filed.earlier (taken_in p.filed) (a.octets ∷ []) (s ∷ []) (taken_in (filed_then false p.filed more (s ∷ [])))
       → IsSettled (datagrams_of (r.handed_on ++ a ∷ [])) (recorded_then false p more (s ∷ []))
   settled-next a old p r s more is one = record {
     taken = settles-next a old p r s (taken_in (filed_then false p.filed more (s ∷ []))) is one;
@@ -227,7 +229,7 @@ module _ {F : Type 0} (seen : F → FilesView) where
           empty = is.recorded.empty;
           is = finishes p.first p.filed is.recorded.is;
           settles = record {
-            taken = subst (Settles [] (datagrams_of r.handed_on) p.said) (sym (in-finished p.filed)) is.recorded.settles.taken;
+            taken = subst (Settles p.filed.earlier [] (datagrams_of r.handed_on) p.said) (sym (in-finished p.filed)) is.recorded.settles.taken;
             ignored = ignored-finished p.filed ∙ is.recorded.settles.ignored;
           };
         };

@@ -53,7 +53,7 @@ module _ {F : Type 0} (seen : F → FilesView) (laws : Laws) (seconds : ℕ) whe
       → run says seconds (events_of hs) ≡ run (says_of s.recording.said) seconds (events_of hs)
   same-run k hs s more says so =
       let r = run (says_of s.recording.said) seconds (events_of hs) in
-      let many = settles-length [] (datagrams_of r.handed_on) s.recording.said (taken_in s.recording.filed) s.recorded.settles.taken ∙ length-map r.handed_on (λ (a : Arrival). a.octets) in
+      let many = settles-length s.recording.filed.earlier [] (datagrams_of r.handed_on) s.recording.said (taken_in s.recording.filed) s.recorded.settles.taken ∙ length-map r.handed_on (λ (a : Arrival). a.octets) in
       sym (laws.asked (says_of s.recording.said) says seconds (events_of hs) (λ n from below. said-before s.recording.said more says so n from (omega (arith, below, many))))
 
   -- by the answer

@@ -1,7 +1,8 @@
 -- A session of a peer, and what it stands for (RFC 7011, sections 8.4 and 10.3).
 use Rattle.std.specs.Prelude.{◌≡◌, ℕ, true, List, [], ◌∷◌, ◌++◌, length, slice_get, Option, Some, None, unwrap_or}
 use Rattle.std.specs.Option.{option_to_list}
-use Rattle.ipfix_message.specs.Domains.{Message}
+use Rattle.std.specs.BTreeMap.{BTreeMap}
+use Rattle.ipfix_message.specs.Domains.{Message, message_header}
 use Rattle.ipfix_message.specs.declared.fault.MessageFault.{MessageFault}
 use Rattle.ipfix_session.specs.Given.{IsPrefix}
 use Rattle.ipfix_session.specs.Ledger.{count_in}
@@ -13,7 +14,8 @@ use Rattle.recording_order.specs.Alike.{SameButCounts}
 use Rattle.recording_order.specs.Arrivals.{Arrival}
 use Rattle.recording_order.specs.Releases.{Says, Agree, run, released}
 use Rattle.recording_order.specs.declared.datagram_counts.DatagramCounts.{DatagramCounts}
-use Rattle.recording_peer.specs.Peers.{Taken, known_after_all}
+use Rattle.recording_resumption.specs.declared.earlier_domain.EarlierDomain.{EarlierDomain}
+use Rattle.recording_peer.specs.Peers.{Taken, known_after_all, resumed_at}
 use Rattle.recording_peer.specs.Recording.{FiledDatagrams, IsPeer, HasStopped, taken_in, ignored_in}
 use Rattle.recording_peers.specs.declared.peer_state.PeerState.{PeerState}
 use Rattle.recording_peers.specs.Happenings.{Happening, events_of, datagrams_of}
@@ -60,15 +62,16 @@ pub record HasCounts (c : DatagramCounts) (m : Message) : Type 0 where
   pub records : c.records ≡ count_in m
   pub unknown_sets : c.unknown_sets ≡ m.decoding.passed_over.unknown_sets
 
--- each of these, one after another, was taken, with these counts, or refused, or ignored, after those that were taken before it; then
--- all these were taken
-abbrev pub Settles : List Taken → List (List ℕ) → List Said → List Taken → Type 0
-Settles before [] [] all = all ≡ before
-Settles before [] (s ∷ said) all = ⊥
-Settles before (m ∷ ms) [] all = ⊥
-Settles before (m ∷ ms) (WasRecorded c ∷ said) all = (x : Taken) × (x.datagram ≡ m) × HasCounts c x.given × Settles (before ++ x ∷ []) ms said all
-Settles before (m ∷ ms) (WasRefused fault ∷ said) all = IsRefused (known_after_all before) m fault × Settles before ms said all
-Settles before (m ∷ ms) (WasIgnored d ∷ said) all = (d ≡ m) × (withdraws_only m ≡ true) × Settles before ms said all
+-- each of these, one after another, was taken, with these counts, or refused, or ignored, after those that were taken before it and
+-- what an earlier run left; then all these were taken
+abbrev pub Settles : BTreeMap ℕ EarlierDomain → List Taken → List (List ℕ) → List Said → List Taken → Type 0
+Settles left before [] [] all = all ≡ before
+Settles left before [] (s ∷ said) all = ⊥
+Settles left before (m ∷ ms) [] all = ⊥
+Settles left before (m ∷ ms) (WasRecorded c ∷ said) all = (x : Taken) × (x.datagram ≡ m) × HasCounts c x.given × Settles left (before ++ x ∷ []) ms said all
+Settles left before (m ∷ ms) (WasRefused fault ∷ said) all =
+    IsRefused (resumed_at left before (message_header m)).templates (known_after_all before) m fault × Settles left before ms said all
+Settles left before (m ∷ ms) (WasIgnored d ∷ said) all = (d ≡ m) × (withdraws_only m ≡ true) × Settles left before ms said all
 
 -- of a session: what was seen of its files at first, the datagrams that stand in them, and what was said of each that was handed on
 pub record Recording : Type 0 where
@@ -78,7 +81,7 @@ pub record Recording : Type 0 where
 
 -- so it was said of these datagrams, and those that were ignored are the ones that count beside the files
 pub record IsSettled (ms : List (List ℕ)) (p : Recording) : Type 0 where
-  pub taken : Settles [] ms p.said (taken_in p.filed)
+  pub taken : Settles p.filed.earlier [] ms p.said (taken_in p.filed)
   pub ignored : ignored_in p.filed ≡ ignored_after [] p.said
 
 module _ {F : Type 0} (seen : F → FilesView) (k : PeerState F) where

@@ -1,6 +1,7 @@
 //! Where the files of peers are made.
 
 use recording_files::FileSeries;
+use recording_resumption::EarlierDomains;
 use std::alloc::{AllocError, Global};
 use std::net::SocketAddr;
 
@@ -17,4 +18,7 @@ pub trait PeerPlace<F: FileSeries> {
     fn files(&mut self, alloc: Global, peer: SocketAddr) -> Result<F, AllocError>
         ensures empty { IfOk result (λ files. IsEmpty (F.seen files).contents) }
         ensures made { IfOk result (λ files. made_for files peer) };
+
+    /// What an earlier run left of this peer's domains. It is handed over to the first session of the peer.
+    fn earlier(&mut self, alloc: Global, peer: SocketAddr) -> EarlierDomains;
 }

@@ -2,6 +2,7 @@
 
 ghost use Rattle.std.specs.Prelude.{◌≡◌, []};
 ghost use Rattle.recording_files.specs.Files.{IsEmpty};
+ghost use Rattle.recording_peer.specs.Recording.{left_listed};
 ghost use Rattle.recording_peers.specs.Calls.{Takes, TakesTurn};
 ghost use Rattle.recording_peers.specs.Kept.{IsSession};
 
@@ -11,6 +12,7 @@ use ipfix_message::header_of;
 use recording_files::{FileSeries, RecordFault};
 use recording_order::Window;
 use recording_peer::PeerRecorder;
+use recording_resumption::EarlierDomains;
 use std::alloc::Global;
 
 /// A session of a peer, while its datagrams are put into order and recorded.
@@ -29,17 +31,18 @@ pub struct PeerState<F> {
 }
 
 impl<F: FileSeries> PeerState<F> {
-    /// The session of a peer of which nothing has come, with files in which nothing stands, at a time in
-    /// seconds. A datagram that is ahead of the due sequence number waits for so many seconds (`reorder`);
+    /// The session of a peer of which nothing has come, with files in which nothing stands, and with what an earlier run
+    /// left of the peer's domains, at a time in seconds. A datagram that is ahead of the due sequence number waits for so many seconds (`reorder`);
     /// with 0 none waits, and none is dropped.
-    pub fn new(alloc: Global, files: F, reorder: u64, now: u64) -> Self
+    pub fn new(alloc: Global, files: F, earlier: EarlierDomains, reorder: u64, now: u64) -> Self
         requires { IsEmpty (F.seen files).contents }
         ensures session { IsSession F.seen result reorder [] }
         ensures heard { result.heard ≡ now }
         ensures files { result.files ≡ files }
+        ensures earlier { result.recorder.earlier ≡ left_listed earlier.entries }
     {
         PeerState {
-            recorder: PeerRecorder::new(alloc),
+            recorder: PeerRecorder::new(alloc, earlier),
             files,
             window: Window::new(alloc, reorder),
             heard: now,

@@ -63,7 +63,8 @@ impl<F: FileSeries + Drop> Peers<F> {
         ensures limits { KeepsLimits self.old self.new }
     {
         let files = place.files(alloc, peer)?;
-        let session = PeerState::new(alloc, files, self.reorder, second);
+        let earlier = place.earlier(alloc, peer);
+        let session = PeerState::new(alloc, files, earlier, self.reorder, second);
         match self.kept.push(peer, session) {
             Ok(gone) => Ok(gone),
             Err(_) => Err(AllocError),

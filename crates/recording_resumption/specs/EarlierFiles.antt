@@ -1,11 +1,17 @@
 -- A file of an earlier run, read by itself as a session: its report, its templates, and the last message of each domain.
-use Rattle.std.specs.Prelude.{◌≡◌, ℕ, List, length, nat_eq}
+use Rattle.std.specs.Prelude.{◌≡◌, ℕ, false, List, length, nat_eq, Option, Some, IfSome}
+use Rattle.std.specs.Ordering.{nat_cmp}
+use Rattle.std.specs.BTreeMap.{BTreeMap, get as get_at}
 use Rattle.indexmap.specs.IndexMap.{get}
+use Rattle.ipfix_message.specs.Domains.{DomainsView, History, StandsFor, template_for}
 use Rattle.ipfix_session.specs.Faults.{end_of}
 use Rattle.ipfix_session.specs.Given.{gives, records_of}
 use Rattle.ipfix_session.specs.Ledger.{messages_of}
 use Rattle.ipfix_session.specs.Places.{ReportsInFull}
 use Rattle.recording_resumption.specs.Resumption.{last_of}
+use Rattle.recording_resumption.specs.declared.last_message.LastMessage.{LastMessage}
+use Rattle.recording_resumption.specs.declared.earlier.Earlier.TheVariants.{Waiting}
+use Rattle.recording_resumption.specs.declared.earlier_domain.EarlierDomain.{EarlierDomain}
 use Rattle.recording_resumption.specs.declared.earlier_session.EarlierSession.{EarlierSession}
 
 -- what a file of this text has
@@ -16,3 +22,16 @@ pub record IsEarlierSession (text : List ℕ) (s : EarlierSession) : Type 0 wher
   pub fault : s.full.report.fault ≡ end_of text
   -- the last of these messages in each domain
   pub last : (domain : ℕ) → get nat_eq s.last domain ≡ last_of (messages_of domain (gives text).messages)
+
+-- ---- what it leaves
+
+-- a domain that is left waits after its last message, with the templates that are in force in it at the end
+pub record IsLeft (d : DomainsView) (domain : ℕ) (last : Option LastMessage) (e : EarlierDomain) : Type 0 where
+  pub message : LastMessage
+  pub is_last : last ≡ Some message
+  pub waits : e.state ≡ Waiting message false
+  pub templates : d.spent ≡ false → (ds : History) → StandsFor d.domains ds → (id : ℕ) → get_at nat_cmp e.templates id ≡ template_for ds domain id
+
+-- and so each that is left
+pub record LeavesOnly (last : ℕ → Option LastMessage) (d : DomainsView) (left : BTreeMap ℕ EarlierDomain) : Type 0 where
+  pub at : (domain : ℕ) → IfSome (get_at nat_cmp left domain) (IsLeft d domain (last domain))

@@ -1,6 +1,6 @@
 -- Whether a datagram goes on after the last message that is kept of its domain, and what becomes of the templates that an
 -- earlier run knew there (RFC 7011, sections 3.1 and 8).
-use Rattle.std.specs.Prelude.{◌≡◌, ◌≤◌, ℕ, ◌^◌, Bool, true, false, not, ◌&&◌, ◌||◌, nat_le, nat_lt, if◌then◌else◌, List, [], ◌∷◌, Option, None, option_map, unwrap_or}
+use Rattle.std.specs.Prelude.{◌≡◌, ◌≤◌, ℕ, ◌^◌, Bool, true, false, not, ◌&&◌, ◌||◌, nat_le, nat_lt, if◌then◌else◌, List, [], ◌∷◌, Option, Some, None, option_map, unwrap_or}
 use Rattle.std.specs.List.{last_or}
 use Rattle.ipfix_wire.specs.declared.header.Header.{Header}
 use Rattle.ipfix_message.specs.Domains.{Message}
@@ -8,6 +8,7 @@ use Rattle.ipfix_session.specs.Ledger.{due_after}
 pub use Rattle.ipfix_session.specs.Ledger.{gap}
 use Rattle.recording_order.specs.declared.numbering.TheConstants.{FARTHEST}
 use Rattle.recording_resumption.specs.declared.last_message.LastMessage.{LastMessage}
+use Rattle.recording_resumption.specs.declared.earlier_domain.EarlierDomain.{EarlierDomain}
 use Rattle.recording_resumption.specs.declared.earlier.Earlier.{Earlier}
 use Rattle.recording_resumption.specs.declared.earlier.Earlier.TheVariants.{Waiting, Resumed, Ended}
 
@@ -59,3 +60,31 @@ pub record Datagram : Type 0 where
 abbrev pub after_all : Earlier → List Datagram → Earlier
 after_all e [] = e
 after_all e (d ∷ ds) = after_all (after e d.header d.defines) ds
+
+-- ---- the domains of an earlier run
+
+abbrev pub is_waiting : Earlier → Bool
+is_waiting (Waiting last is_doubted) = true
+is_waiting Resumed = false
+is_waiting Ended = false
+
+abbrev pub is_resumed : Earlier → Bool
+is_resumed (Waiting last is_doubted) = false
+is_resumed Resumed = true
+is_resumed Ended = false
+
+-- the sequence number that was due at its end
+abbrev pub due_left : Earlier → Option ℕ
+due_left (Waiting last is_doubted) = last.due
+due_left Resumed = None
+due_left Ended = None
+
+-- a domain goes on with a datagram
+abbrev pub resumed_by : Option EarlierDomain → Header → Option EarlierDomain
+resumed_by None h = None
+resumed_by (Some e) h = if is_resumed (after e.state h false) then Some e else None
+
+-- what is left of it after a datagram
+abbrev pub left_after : Option EarlierDomain → Header → Bool → Option EarlierDomain
+left_after None h defines = None
+left_after (Some e) h defines = if is_waiting (after e.state h defines) then Some (record e { state = after e.state h defines }) else None

@@ -1,9 +1,9 @@
 //! What becomes of what an earlier run knew of a domain.
 
-ghost use Rattle.std.specs.Prelude.{◌≡◌, ◌↔◌, false, IsTrue};
-ghost use Rattle.recording_resumption.specs.Resumption.{after};
+ghost use Rattle.std.specs.Prelude.{◌≡◌, false};
+ghost use Rattle.recording_resumption.specs.Resumption.{after, is_resumed, is_waiting};
 ghost use Rattle.recording_resumption.specs.declared.earlier.Earlier.{Earlier};
-ghost use Rattle.recording_resumption.specs.declared.earlier.Earlier.TheVariants.{Resumed, Waiting};
+ghost use Rattle.recording_resumption.specs.declared.earlier.Earlier.TheVariants.{Waiting};
 
 use crate::last_message::LastMessage;
 use ipfix_wire::Header;
@@ -60,9 +60,16 @@ impl Earlier {
     }
 
     /// Whether the templates are known.
-    pub fn is_resumed(&self) -> bool
-        ensures { IsTrue result ↔ (self.now ≡ Resumed) }
+    pub fn is_resumed(self) -> bool
+        ensures { result ≡ is_resumed self }
     {
         matches!(self, Earlier::Resumed)
+    }
+
+    /// Whether no datagram has gone on or ended them.
+    pub fn is_waiting(self) -> bool
+        ensures { result ≡ is_waiting self }
+    {
+        matches!(self, Earlier::Waiting { .. })
     }
 }

@@ -1,6 +1,9 @@
 //! What a file has for a session that goes on, worked out by hand.
 
-use recording_resumption::{EarlierReading, EarlierSession, LastMessage};
+use ipfix_wire::{HEADER_LENGTH, Header};
+use recording_resumption::{
+    EarlierReading, EarlierSession, LastMessage, domains_left, go_on, resumed,
+};
 use std::alloc::{AllocError, Global};
 
 // Messages of domain 1 (RFC 7011, section 3.1): template 256, of protocolIdentifier alone; two records, with sequence
@@ -24,6 +27,16 @@ fn read(alloc: Global, pieces: &[&[u8]]) -> Result<EarlierSession, AllocError> {
         reading.read(alloc, *piece)?;
     }
     Ok(reading.finish())
+}
+
+// The header of a datagram of domain 1.
+fn header(sequence: u32, export_time: u32) -> Header {
+    Header {
+        length: HEADER_LENGTH as u16,
+        export_time,
+        sequence,
+        domain: 1,
+    }
 }
 
 // How many templates are in force in a domain.
@@ -59,5 +72,29 @@ fn a_fault_leaves_no_template(rt: HostRuntime) -> Result<(), AllocError> {
     };
     assert!(rt; session.last.get(&1).copied() == Some(last));
     assert!(rt; templates(&session, 1).is_none());
+    Ok(())
+}
+
+// What the file leaves of domain 1 goes on with one datagram, and with no other after that.
+#[test]
+fn a_domain_goes_on_once(rt: HostRuntime) -> Result<(), AllocError> {
+    let mut left = domains_left(rt.alloc(), &read(rt.alloc(), &[COUNTED])?)?;
+    let before = header(4, 3);
+    let next = header(6, 4);
+    assert!(rt; resumed(&left, &before).is_none());
+    go_on(&mut left, &before, false)?;
+    let found = resumed(&left, &next).map(|domain| (domain.templates.len(), domain.due()));
+    assert!(rt; found == Some((1, Some(6))));
+    go_on(&mut left, &next, false)?;
+    assert!(rt; resumed(&left, &next).is_none());
+    assert!(rt; left.is_empty());
+    Ok(())
+}
+
+#[test]
+fn a_faulty_file_leaves_nothing(rt: HostRuntime) -> Result<(), AllocError> {
+    let (front, back) = COUNTED.split_at(FIRST_TWO);
+    let left = domains_left(rt.alloc(), &read(rt.alloc(), &[front, FAULTY, back])?)?;
+    assert!(rt; left.is_empty());
     Ok(())
 }

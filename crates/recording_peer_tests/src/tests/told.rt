@@ -6,6 +6,7 @@ use ipfix_session::SessionFault;
 use recording_files::{FileReport, MemoryFiles, RecordFault};
 use recording_peer::{PeerAnswer, PeerRecorder};
 use std::alloc::Global;
+use std::collections::BTreeMap;
 
 /// What is told of a peer's session, and of its last file.
 #[derive(Clone, Copy, Debug, PartialEq, Eq)]
@@ -20,7 +21,7 @@ pub struct Told {
 
 /// A peer of which nothing has come.
 pub fn new_peer(alloc: Global) -> PeerRecorder {
-    PeerRecorder::new(alloc)
+    PeerRecorder::new(alloc, BTreeMap::new(alloc))
 }
 
 /// What was answered of a datagram.

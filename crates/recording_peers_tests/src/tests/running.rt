@@ -5,7 +5,9 @@ use recording_peers::{
     Became, Datagram, DatagramSource, Outcome, PeerPlace, PeerState, Peers, ScriptDatagrams,
     ScriptedDatagram,
 };
+use recording_resumption::EarlierDomains;
 use std::alloc::{AllocError, Global};
+use std::collections::BTreeMap;
 use std::hash::RandomState;
 use std::net::{IpAddr, Ipv4Addr, SocketAddr};
 use std::num::NonZeroUsize;
@@ -23,6 +25,10 @@ impl PeerPlace<MemoryFiles> for MemoryPlace {
 
     fn files(&mut self, alloc: Global, _peer: SocketAddr) -> Result<MemoryFiles, AllocError> {
         Ok(MemoryFiles::new(alloc, self.room))
+    }
+
+    fn earlier(&mut self, alloc: Global, _peer: SocketAddr) -> EarlierDomains {
+        BTreeMap::new(alloc)
     }
 }
 

@@ -1,0 +1,67 @@
+//! What an earlier run left of a peer, by its last file.
+
+ghost use Rattle.std.specs.Prelude.{◌≡◌, ℕ, false, nat_eq, None, Some, OnOk, IfOk};
+ghost use Rattle.std.specs.BTreeMap.{get};
+ghost use Rattle.std.specs.Ordering.{nat_cmp};
+ghost use Rattle.indexmap.specs.IndexMap.{get as index_get};
+ghost use Rattle.ipfix_message.specs.Domains.{DomainsView, History, StandsFor, template_for};
+ghost use Rattle.recording_resumption.specs.EarlierFiles.{LeavesOnly};
+
+use crate::earlier::Earlier;
+use crate::earlier_domain::{EarlierDomain, EarlierDomains};
+use crate::earlier_session::EarlierSession;
+use crate::last_message::LastMessage;
+use indexmap::IndexMap;
+use ipfix_message::{Domains, Templates};
+use std::alloc::{AllocError, Global};
+use std::collections::BTreeMap;
+
+// The templates that are in force in a domain at the end.
+fn templates_left(alloc: Global, domains: &Domains, domain: u32) -> Result<Templates, AllocError>
+    ensures { IfOk result (λ left. domains.now.spent ≡ false → (ds : History)
+        → StandsFor domains.now.domains ds
+        → (id : ℕ) → get nat_cmp left id ≡ template_for ds domain id) }
+{
+    match domains.templates(domain) {
+        Some(templates) => templates.clone(),
+        None => Ok(BTreeMap::new(alloc)),
+    }
+}
+
+// Puts a domain among those that are left, if it has a last message.
+fn put_domain(
+    alloc: Global,
+    last: &IndexMap<u32, LastMessage>,
+    domains: &Domains,
+    domain: u32,
+    left: &mut EarlierDomains,
+) -> Result<(), AllocError>
+    ensures { LeavesOnly (index_get nat_eq last.now) domains.now left.old
+        → OnOk result (LeavesOnly (index_get nat_eq last.now) domains.now left.new) }
+{
+    let Some(message) = last.get(&domain) else {
+        return Ok(());
+    };
+    let templates = templates_left(alloc, domains, domain)?;
+    let state = Earlier::new(*message);
+    left.insert(domain, EarlierDomain { state, templates })?;
+    Ok(())
+}
+
+/// The domains that are left by what an earlier run's last file of a peer has: those with a message in it, each with the
+/// templates that are in force at its end. None is left if a message of it has a fault. Each waits after its last message.
+pub fn domains_left(alloc: Global, session: &EarlierSession) -> Result<EarlierDomains, AllocError>
+    ensures none { session.now.full.domains ≡ None
+        → IfOk result (λ left. (domain : ℕ) → get nat_cmp left domain ≡ None) }
+    ensures only { (d : DomainsView) → session.now.full.domains ≡ Some d
+        → IfOk result (LeavesOnly (index_get nat_eq session.now.last) d) }
+{
+    let mut left = BTreeMap::new(alloc);
+    let Some(domains) = &session.full.domains else {
+        return Ok(left);
+    };
+    for domain in session.last.keys() {
+        put_domain(alloc, &session.last, domains, *domain, &mut left)?;
+    }
+    Ok(left)
+}
