@@ -61,6 +61,7 @@ module _ (chosen : Chosen) where
     pub direct : IsFlagGiven chosen (codes "direct") told.direct
     pub files : map (λ path. path.now) told.paths.now ≡ texts_given chosen (codes "file")
     pub list : option_map (λ list. list.now) told.list ≡ text_given chosen (codes "files-from")
+    pub exporters : map (λ word. word.now) told.exporters.now ≡ texts_given chosen (codes "exporter")
 
   pub record IsTcp (told : TcpArguments) : Type 0 where
     pub collect : IsCollect told.collect
@@ -76,6 +77,7 @@ module _ (chosen : Chosen) where
     pub sessions : IsNumberGiven chosen (codes "sessions") (Some told.sessions)
     pub peers : IsNumberGiven chosen (codes "peers") (Some (non_zero_usize_get told.peers))
     pub reorder : IsNumberGiven chosen (codes "reorder") (Some told.reorder)
+    pub buffer : IsNumberGiven chosen (codes "buffer") (Some told.buffer)
     pub prefixes : map (λ prefix. prefix.now) told.prefixes.now ≡ texts_given chosen (codes "from")
     pub idle : IsDurationGiven (codes "idle") told.idle
     pub verbose : IsFlagGiven chosen (codes "verbose") told.verbosity.verbose

@@ -6,10 +6,10 @@ ghost use Rattle.cli_words.specs.Arguments.{OneNumber, reading_of};
 
 use crate::formats::{dump_form, table_format};
 use cli_words::{
-    Argument, Chosen, DIRECT, DUMP_FORMAT, ELEMENTS, EVERY, FAULT, FILES_FROM, FLOW_FILES, FOLDER,
-    FROM, IDLE, INTO, LISTEN, PEERS, PLAN, PROGRESS, RECORD_IDLE, RECORD_LISTEN, RECORD_SESSIONS,
-    RECORD_VERBOSE, REORDER, RING, SESSIONS, STRICT, Subcommand, TABLE_FILES, TABLE_FORMAT, TIME,
-    UDP, VERBOSE, WORD, WORKERS,
+    Argument, BUFFER, Chosen, DIRECT, DUMP_FORMAT, ELEMENTS, EVERY, EXPORTER, FAULT, FILES_FROM,
+    FLOW_FILES, FOLDER, FROM, IDLE, INTO, LISTEN, PEERS, PLAN, PROGRESS, RECORD_IDLE,
+    RECORD_LISTEN, RECORD_SESSIONS, RECORD_VERBOSE, REORDER, RING, SESSIONS, STRICT, Subcommand,
+    TABLE_FILES, TABLE_FORMAT, TIME, UDP, VERBOSE, WORD, WORKERS,
 };
 use flow_collect::Pool;
 use ipfix_dump::Form;
@@ -78,6 +78,8 @@ pub struct FilesArguments<'m, 'w> {
     /// The paths that were given as words, and that of the list of further ones, if there is one.
     pub paths: &'m [&'w str],
     pub list: Option<&'w str>,
+    /// The words FILE=ADDRESS that tell whose files these are, as they were given.
+    pub exporters: &'m [&'w str],
 }
 
 /// What `tcp` is told.
@@ -105,6 +107,8 @@ pub struct RecordArguments<'m, 'w> {
     /// How many seconds a datagram waits for those before it if it is ahead of the due sequence number. With 0 none
     /// waits, and none is held for doubled.
     pub reorder: u64,
+    /// How many octets of datagrams that nobody took yet the system is asked to keep.
+    pub buffer: u32,
     /// The prefixes that peers may have, as they were given.
     pub prefixes: &'m [&'w str],
     /// How long a peer may send nothing, if that was given.
@@ -227,6 +231,7 @@ fn read_files<'m, 'w>(chosen: Chosen<'m, 'w>) -> Option<FilesArguments<'m, 'w>>
         direct: chosen.is_given(DIRECT),
         paths: chosen.texts(FLOW_FILES),
         list: chosen.text(FILES_FROM),
+        exporters: chosen.texts(EXPORTER),
     })
 }
 
@@ -259,6 +264,7 @@ fn read_record<'m, 'w>(chosen: Chosen<'m, 'w>) -> Option<RecordArguments<'m, 'w>
         sessions: sessions as usize,
         peers: NonZeroUsize::new(peers as usize)?,
         reorder: u64::from(reorder),
+        buffer: chosen.number(BUFFER)?,
         prefixes: chosen.texts(FROM),
         idle: read_duration(chosen, RECORD_IDLE),
         verbosity: Verbosity {

@@ -2,6 +2,7 @@
 #![tactic(auto)]
 
 mod arguments;
+mod exporters;
 mod formats;
 mod inputs;
 mod listed_files;
@@ -15,6 +16,7 @@ pub use arguments::{
     FilesArguments, FinishArguments, MergeArguments, RecordArguments, ShowProgress, TableArguments,
     TcpArguments, read_arguments,
 };
+pub use exporters::{check_exporters, place_exporters};
 pub use inputs::{
     Collecting, buffered_output, load_table_plan, prepare_collecting, progress_writer, table_output,
 };

@@ -3,12 +3,12 @@
 use crate::arguments::Argument;
 use crate::bare_arguments::{FAULT, FLOW_FILES, FOLDER, TABLE_FILES, WORD};
 use crate::listen_options::{
-    EVERY, FROM, IDLE, INTO, LISTEN, PEERS, RECORD_IDLE, RECORD_LISTEN, RECORD_SESSIONS,
+    BUFFER, EVERY, FROM, IDLE, INTO, LISTEN, PEERS, RECORD_IDLE, RECORD_LISTEN, RECORD_SESSIONS,
     RECORD_VERBOSE, REORDER, SESSIONS, UDP,
 };
 use crate::options::{
-    DIRECT, DUMP_FORMAT, ELEMENTS, FILES_FROM, MERGE_STRICT, PLAN, PROGRESS, RING, STRICT,
-    TABLE_FORMAT, TIME, VERBOSE, WORKERS,
+    DIRECT, DUMP_FORMAT, ELEMENTS, EXPORTER, FILES_FROM, MERGE_STRICT, PLAN, PROGRESS, RING,
+    STRICT, TABLE_FORMAT, TIME, VERBOSE, WORKERS,
 };
 
 /// A command.
@@ -48,7 +48,7 @@ pub const FILES: CommandWords = CommandWords {
     about: "Aggregates the flows in files and writes their table",
     example: "Example:\n  collectd files --plan plan.toml --workers 4 one.ipfix two.ipfix > table.csv",
     shared: &COLLECTING,
-    own: &[DIRECT, FILES_FROM, FLOW_FILES],
+    own: &[DIRECT, FILES_FROM, EXPORTER, FLOW_FILES],
 };
 
 pub const TCP: CommandWords = CommandWords {
@@ -75,6 +75,7 @@ pub const RECORD: CommandWords = CommandWords {
         RECORD_SESSIONS,
         PEERS,
         REORDER,
+        BUFFER,
         FROM,
         RECORD_IDLE,
         RECORD_VERBOSE,

@@ -3,10 +3,8 @@
 use crate::arguments::{Argument, Due, LARGEST, Takes};
 use crate::options::VERBOSE_WORD;
 
-// The words of the options of which `record` needs one at least.
+// The word of two options.
 const LISTEN_WORD: &str = "listen";
-
-const UDP_WORD: &str = "udp";
 
 /// Where `tcp` accepts connections.
 pub const LISTEN: Argument = Argument {
@@ -40,19 +38,19 @@ pub const INTO: Argument = Argument {
     help: "The folder of the recordings, created if it does not exist",
 };
 
-/// Where `record` accepts connections.
+/// Where `record` accepts connections. It needs this or [`UDP`], which it sees to itself.
 pub const RECORD_LISTEN: Argument = Argument {
     word: LISTEN_WORD,
     takes: Takes::Text("ADDR"),
-    due: Due::Without(UDP_WORD),
+    due: Due::Never,
     help: "The TCP address and port to listen on",
 };
 
 /// Where `record` takes datagrams.
 pub const UDP: Argument = Argument {
-    word: UDP_WORD,
+    word: "udp",
     takes: Takes::Text("ADDR"),
-    due: Due::Without(LISTEN_WORD),
+    due: Due::Never,
     help: "The UDP address and port to receive datagrams on, with --listen or without it",
 };
 
@@ -84,6 +82,14 @@ pub const REORDER: Argument = Argument {
     takes: Takes::Number("SECONDS", 0, 60),
     due: Due::Default("1"),
     help: "How many seconds a datagram waits for those before it if it is ahead of the due sequence number, 0 to 60; 0 turns order and doubles off",
+};
+
+/// How many octets of datagrams that nobody took yet the system is asked to keep.
+pub const BUFFER: Argument = Argument {
+    word: "buffer",
+    takes: Takes::Number("OCTETS", 1, 1_073_741_823),
+    due: Due::Default("8388608"),
+    help: "How many octets the system is asked to keep of datagrams that were not taken yet, 1 to 1073741823",
 };
 
 pub const FROM: Argument = Argument {

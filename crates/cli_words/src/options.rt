@@ -48,6 +48,13 @@ pub const FILES_FROM: Argument = Argument {
     help: "A file with the names of more files, one a line; '-' is standard input",
 };
 
+pub const EXPORTER: Argument = Argument {
+    word: "exporter",
+    takes: Takes::Texts("FILE=ADDRESS"),
+    due: Due::Never,
+    help: "The address of the exporter that FILE is of, whatever its name says; may be repeated",
+};
+
 /// How a data record is written.
 pub const DUMP_FORMAT: Argument = Argument {
     word: "format",

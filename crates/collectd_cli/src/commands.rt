@@ -1,12 +1,13 @@
 //! The commands. Each answers how it ended; an error says how if the library was not called.
 
 ghost use Rattle.std.specs.Prelude.{◌≡◌, MatchBool};
+ghost use Rattle.flow_table.specs.Plans.{context_of};
 
 use cli_inputs::{
     CollectArguments, Collecting, DumpArguments, FilesArguments, MergeArguments, ProgressOutput,
-    TableArguments, TcpArguments, all_paths, buffered_output, check_paths, listen_on,
-    load_table_plan, prepare_collecting, progress_writer, read_list, table_output,
-    write_refused_output,
+    TableArguments, TcpArguments, all_paths, buffered_output, check_exporters, check_paths,
+    listen_on, load_table_plan, place_exporters, prepare_collecting, progress_writer, read_list,
+    table_output, write_refused_output,
 };
 use command_collect::{
     CollectJob, Connections, Engine, run_files_with, run_tcp_with, write_collect_fault, write_limit,
@@ -19,6 +20,7 @@ use ipfix_dump::DumpFault;
 use ipfix_session::{FromReader, Source};
 use report_writing::{CheckedWriter, Origin, Status, Verbosity};
 use std::io::{BufWriter, Stderr, Stdout};
+use std::net::IpAddr;
 use std::rt::Clock;
 use std::sync::Wait;
 use std::thread::Threads;
@@ -65,21 +67,25 @@ pub fn files<R: Clock + Threads + Wait + Sync>(
         direct,
         paths,
         list,
+        exporters,
     } = *arguments;
     let verbosity = collect.table.verbosity;
     let listed = read_list(rt, list, verbosity, &mut err)?;
     let Ok(paths) = all_paths(rt.alloc(), paths, listed.as_str()) else {
-        let _ = write_collect_fault(CollectFault::OutOfMemory, &mut err);
-        return Err(Status::Failed);
+        return Err(without_memory(&mut err));
     };
     check_paths(&paths, list, &mut err)?;
+    check_exporters(&paths, exporters, &mut err)?;
+    let Ok(exporters) = place_exporters(rt.alloc(), &paths, exporters) else {
+        return Err(without_memory(&mut err));
+    };
     let Collecting {
         loaded,
         mut out,
         terminal,
     } = prepare_collecting(rt, &collect, &mut err)?;
     let engine = engine_of(direct, collect.pool);
-    let job = collect_job(&loaded, &collect, engine);
+    let job = collect_job(&loaded, &collect, engine, &exporters);
     let progress = progress_writer(collect.progress, &terminal, rt);
     let status = if direct {
         let mut files = FilesInTurn::new(rt, rt.alloc());
@@ -91,6 +97,12 @@ pub fn files<R: Clock + Threads + Wait + Sync>(
     write_refused_output(verbosity, &out, &mut err);
     write_refused_engine(status, verbosity, engine, paths.len(), &mut err);
     Ok(status)
+}
+
+// There was no memory for the names of files and what is told of them.
+fn without_memory(err: &mut Stderr) -> Status {
+    let _ = write_collect_fault(CollectFault::OutOfMemory, err);
+    Status::Failed
 }
 
 // Collects from the files of these paths, with standard error for what is told.
@@ -159,7 +171,7 @@ pub fn tcp<R: Clock + Threads + Wait + Sync>(
         rt.alloc(),
         &mut listening,
         &connections,
-        &collect_job(&loaded, &collect, engine),
+        &collect_job(&loaded, &collect, engine, &[]),
         progress_writer(collect.progress, &terminal, rt),
         &mut out,
         &mut CheckedWriter::new(rt.stderr()),
@@ -211,10 +223,14 @@ fn collect_job<'a>(
     loaded: &'a LoadedPlan,
     collect: &CollectArguments,
     engine: Engine,
+    exporters: &'a [Option<IpAddr>],
 ) -> CollectJob<'a>
     // It names the plan's keys and counters by the elements that the plan was read with.
     ensures names { result.elements.now ≡ loaded.now.elements }
     ensures plan { result.plan.now ≡ loaded.now.plan }
+    // It wants what these keys name of context.
+    ensures wanted { result.wanted ≡ context_of loaded.now.plan }
+    ensures exporters { result.exporters.now ≡ exporters.now }
     // The rest is as the command is told.
     ensures engine { result.engine ≡ engine }
     ensures output { result.output ≡ collect.now.table.output }
@@ -226,6 +242,8 @@ fn collect_job<'a>(
         engine,
         output: collect.table.output,
         verbosity: collect.table.verbosity,
+        wanted: loaded.plan.context(),
+        exporters,
     }
 }
 

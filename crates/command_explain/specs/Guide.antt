@@ -48,8 +48,8 @@ abbrev pub texts_of_session : SessionFault → Texts
 texts_of_session (Message fault) = texts_of_message fault
 texts_of_session Truncated = texts (codes "the input ended inside a message") (codes "RFC 7011, section 3.1")
     (codes "The file was cut, or the exporter was stopped while it sent. A tunnel that is killed\nends a session in the same way (seen with stunnel). Copy the file again, or find out\nwhy the exporter stopped.")
-texts_of_session ReadFailed = texts (codes "the input could not be read on, or sent nothing for as long as --idle says") (codes "none of RFC 7011")
-    (codes "The connection was reset or fell silent, or the file's disk fails. Look at the logs of\nthe system and of the exporter, and let it connect again.")
+texts_of_session ReadFailed = texts (codes "the input could not be read on, or was silent for too long") (codes "none of RFC 7011")
+    (codes "The connection was reset, sent nothing for as long as --idle says, or had brought record\nno whole message after 60 seconds; or the file's disk fails. Look at the logs of the\nsystem and of the exporter, and let it connect again.")
 texts_of_session TooManyReads = texts (codes "the input had not ended after 2^40 reads") (codes "none of RFC 7011")
     (codes "End the session earlier, and begin another one.")
 texts_of_session SinkClosed = texts (codes "the sink takes no more records") (codes "none of RFC 7011")

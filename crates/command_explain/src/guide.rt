@@ -52,10 +52,11 @@ fn explanation_of_session(fault: SessionFault) -> Explanation
                     why the exporter stopped.",
         },
         SessionFault::ReadFailed => Explanation {
-            found: "the input could not be read on, or sent nothing for as long as --idle says",
+            found: "the input could not be read on, or was silent for too long",
             rule: "none of RFC 7011",
-            advice: "The connection was reset or fell silent, or the file's disk fails. Look at the logs of\n\
-                    the system and of the exporter, and let it connect again.",
+            advice: "The connection was reset, sent nothing for as long as --idle says, or had brought record\n\
+                    no whole message after 60 seconds; or the file's disk fails. Look at the logs of the\n\
+                    system and of the exporter, and let it connect again.",
         },
         SessionFault::TooManyReads => Explanation {
             found: "the input had not ended after 2^40 reads",

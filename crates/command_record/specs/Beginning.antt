@@ -2,6 +2,7 @@
 use Rattle.std.specs.Prelude.{ℕ, ◌+◌, ◌-◌, ◌*◌, ◌/◌, min, max, List, [], ◌++◌, Option, Some, None, codes, decimal}
 use Rattle.std.specs.Net.Text.{socket_text}
 use Rattle.std.specs.declared.net.socket_addr.SocketAddr.{SocketAddr}
+use Rattle.command_record.specs.declared.beginning.Intake.{Intake}
 
 -- ---- the first line
 
@@ -26,8 +27,18 @@ most_part word (Some most) = most_text word most
 abbrev pub addresses_text : Option SocketAddr → Option SocketAddr → List ℕ
 addresses_text listen udp = address_part (codes "listen") listen ++ address_part (codes "udp") udp
 
-abbrev pub most_texts : Option ℕ → Option ℕ → List ℕ
-most_texts sessions peers = most_part (codes "sessions") sessions ++ (most_part (codes "peers") peers ++ codes "\n")
+-- how many peers that send datagrams, and how many octets of these the system keeps until they are taken
+abbrev pub datagram_texts : Option ℕ → Option ℕ → List ℕ
+datagram_texts peers buffer = most_part (codes "peers") peers ++ (most_part (codes "buffer") buffer ++ codes "\n")
+
+abbrev pub most_texts : Option ℕ → Option ℕ → Option ℕ → List ℕ
+most_texts sessions peers buffer = most_part (codes "sessions") sessions ++ datagram_texts peers buffer
+
+abbrev pub intake_texts : Intake → List ℕ
+intake_texts i = addresses_text i.listen i.udp ++ most_texts i.sessions i.peers i.buffer
+
+abbrev pub beginning_line : List ℕ → Intake → List ℕ
+beginning_line folder intake = folder_text folder ++ intake_texts intake
 
 -- ---- descriptors
 

@@ -1,3 +1,5 @@
 -- What inner functions cite.
 pub mod Beginning
 pub mod Finishing
+pub mod Folders
+pub mod Watching

@@ -2,7 +2,7 @@
 
 ghost use Rattle.std.specs.Prelude.{◌++◌, codes};
 ghost use Rattle.report_writing.specs.Writing.{Tells};
-ghost use Rattle.command_record.specs.Beginning.{address_part, address_text, addresses_text, folder_text, most_part, most_text, most_texts};
+ghost use Rattle.command_record.specs.Beginning.{address_part, address_text, addresses_text, beginning_line, datagram_texts, folder_text, intake_texts, most_part, most_text, most_texts};
 
 use report_writing::WriteLines;
 use std::io;
@@ -19,6 +19,8 @@ pub(crate) struct Intake {
     pub sessions: Option<usize>,
     /// How many peers that send datagrams it keeps.
     pub peers: Option<usize>,
+    /// How many octets of datagrams that nobody took yet the system keeps.
+    pub buffer: Option<usize>,
 }
 
 /// Writes where a run records, and what it takes.
@@ -27,8 +29,7 @@ pub(crate) fn write_beginning<W: WriteLines>(
     intake: Intake,
     out: &mut W,
 ) -> io::Result<()>
-    ensures { Tells W.contents W.failed out.old out.new result (folder_text folder.now
-        ++ (addresses_text intake.listen intake.udp ++ most_texts intake.sessions intake.peers)) }
+    ensures { Tells W.contents W.failed out.old out.new result (beginning_line folder.now intake) }
 {
     write_folder(folder, out)?;
     write_intake(intake, out)
@@ -42,11 +43,10 @@ fn write_folder<W: WriteLines>(folder: &str, out: &mut W) -> io::Result<()>
 }
 
 fn write_intake<W: WriteLines>(intake: Intake, out: &mut W) -> io::Result<()>
-    ensures { Tells W.contents W.failed out.old out.new result
-        (addresses_text intake.listen intake.udp ++ most_texts intake.sessions intake.peers) }
+    ensures { Tells W.contents W.failed out.old out.new result (intake_texts intake) }
 {
     write_addresses(intake.listen, intake.udp, out)?;
-    write_most(intake.sessions, intake.peers, out)
+    write_most(intake.sessions, intake.peers, intake.buffer, out)
 }
 
 fn write_addresses<W: WriteLines>(
@@ -83,19 +83,31 @@ fn write_address_text<W: WriteLines>(word: &str, address: SocketAddr, out: &mut 
 fn write_most<W: WriteLines>(
     sessions: Option<usize>,
     peers: Option<usize>,
+    buffer: Option<usize>,
     out: &mut W,
 ) -> io::Result<()>
-    ensures { Tells W.contents W.failed out.old out.new result (most_texts sessions peers) }
+    ensures { Tells W.contents W.failed out.old out.new result (most_texts sessions peers buffer) }
 {
     write_most_part("sessions", sessions, out)?;
-    write_last(peers, out)
+    write_datagrams(peers, buffer, out)
 }
 
-fn write_last<W: WriteLines>(peers: Option<usize>, out: &mut W) -> io::Result<()>
-    ensures { Tells W.contents W.failed out.old out.new result
-        (most_part (codes "peers") peers ++ codes "\n") }
+fn write_datagrams<W: WriteLines>(
+    peers: Option<usize>,
+    buffer: Option<usize>,
+    out: &mut W,
+) -> io::Result<()>
+    ensures { Tells W.contents W.failed out.old out.new result (datagram_texts peers buffer) }
 {
     write_most_part("peers", peers, out)?;
+    write_last(buffer, out)
+}
+
+fn write_last<W: WriteLines>(buffer: Option<usize>, out: &mut W) -> io::Result<()>
+    ensures { Tells W.contents W.failed out.old out.new result
+        (most_part (codes "buffer") buffer ++ codes "\n") }
+{
+    write_most_part("buffer", buffer, out)?;
     out.write_all(b"\n")
 }
 

@@ -8,6 +8,7 @@ mod finishing;
 mod folder_line;
 mod recording;
 mod system;
+mod watching;
 
 pub use finishing::finish;
 pub use recording::record;

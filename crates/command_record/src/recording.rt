@@ -1,6 +1,6 @@
 //! Recording as the words say it.
 
-ghost use Rattle.std.specs.Prelude.{◌≡◌, ◌/◌, IfOk, MatchOption};
+ghost use Rattle.std.specs.Prelude.{◌≡◌, ◌/◌, ◌↔◌, ◌⊎◌, IfOk, IsOk, IsSome, MatchOption};
 ghost use Rattle.std.specs.Duration.{as_nanos};
 
 use crate::beginning::{Intake, write_beginning};
@@ -8,9 +8,10 @@ use crate::descriptors::{descriptor_limit, peers_within, write_descriptors};
 use crate::folder_line::tell_folder;
 use crate::system::{Sockets, run_recorder};
 use cli_inputs::{RecordArguments, WITH_REASONS, listen_on};
-use network_prefixes::{PeerFilter, Prefix};
-use recording_connections::{RecordOrder, open_recordings};
+use network_prefixes::{PeerFilter, Prefix, PrefixFault};
+use recording_connections::{OpenRecordings, RecordOrder, open_recordings};
 use recording_datagrams::{PeerLimits, SystemSocket};
+use recording_folder::second_now;
 use recording_lines::WholeLines;
 use report_writing::{Reason, Status, write_not_had_because};
 use std::io::{Stderr, Write};
@@ -23,6 +24,14 @@ use std::thread::Threads;
 /// How many seconds a peer that sends datagrams may be silent, if no time is given.
 const IDLE: u64 = 1800;
 
+/// What is written if neither an address for connections nor one for datagrams is given.
+const NO_ADDRESS: &str = "error: one of these is required, or both:
+  --listen <ADDR>
+  --udp <ADDR>
+
+For more information, try '--help'.
+";
+
 /// `collectd record`: what comes over connections and in datagrams to files in a folder, for ever.
 pub fn record<R: Clock + Threads + Wait + Sync>(
     threads: &R,
@@ -30,13 +39,18 @@ pub fn record<R: Clock + Threads + Wait + Sync>(
     arguments: &RecordArguments,
 ) -> Result<Status, Status> {
     let mut err = rt.stderr();
+    check_addresses(arguments, &mut err)?;
     let order = order_of(rt, arguments, &mut err)?;
-    let sockets = Sockets {
-        listener: open_listener(rt, arguments.listen, &mut err)?,
-        socket: open_socket(rt, arguments.udp, &mut err)?,
-    };
-    match open_recordings(rt, rt.alloc(), arguments.into, err) {
-        Ok(folder) => {
+    let listener = open_listener(rt, arguments.listen, &mut err)?;
+    let socket = open_socket(rt, arguments, &mut err)?;
+    let since = since_of(rt, arguments);
+    match open_recordings(rt, rt.alloc(), arguments.into, since, err) {
+        Ok(OpenRecordings { folder, earlier }) => {
+            let sockets = Sockets {
+                listener,
+                socket,
+                earlier,
+            };
             let limits = limits_of(arguments, peers_of(arguments, err));
             let mut lines = WholeLines::new(err);
             let intake = intake_of(&sockets, &order, &limits);
@@ -59,6 +73,17 @@ pub fn record<R: Clock + Threads + Wait + Sync>(
     }
 }
 
+// Sees to it that connections or datagrams are taken, or both. If neither is, `err` has lines that say what is required.
+fn check_addresses(arguments: &RecordArguments, err: &mut Stderr) -> Result<(), Status>
+    ensures { IsOk result ↔ (IsSome arguments.now.listen ⊎ IsSome arguments.now.udp) }
+{
+    if arguments.listen.is_some() || arguments.udp.is_some() {
+        return Ok(());
+    }
+    let _ = err.write_all(NO_ADDRESS.as_bytes());
+    Err(Status::NotOpened)
+}
+
 // The listener for connections, if they are taken.
 fn open_listener(
     rt: &HostRuntime,
@@ -74,13 +99,13 @@ fn open_listener(
 // The socket for datagrams, if they are taken. If it can't be had, `err` has a line.
 fn open_socket(
     rt: &HostRuntime,
-    addr: Option<&str>,
+    arguments: &RecordArguments,
     err: &mut Stderr,
 ) -> Result<Option<SystemSocket>, Status> {
-    let Some(addr) = addr else {
+    let Some(addr) = arguments.udp else {
         return Ok(None);
     };
-    match SystemSocket::bind(rt, addr) {
+    match SystemSocket::bind(rt, addr, arguments.buffer) {
         Ok(socket) => Ok(Some(socket)),
         Err(error) => {
             let reason = Reason::of(&error);
@@ -122,6 +147,26 @@ fn intake_of(sockets: &Sockets, order: &RecordOrder, limits: &PeerLimits) -> Int
         },
         sessions: sockets.listener.as_ref().map(|_| order.sessions),
         peers: sockets.socket.as_ref().map(|_| limits.most.get()),
+        buffer: sockets.socket.as_ref().map(|socket| socket.buffer as usize),
+    }
+}
+
+// From which second on (since 1970) what peers sent is read back: for as long as one may be silent. Without datagrams nothing is.
+fn since_of(rt: &HostRuntime, arguments: &RecordArguments) -> u64 {
+    match arguments.udp {
+        Some(_) => second_now(rt).saturating_sub(idle_of(arguments)),
+        None => u64::MAX,
+    }
+}
+
+// How many seconds a peer may be silent.
+fn idle_of(arguments: &RecordArguments) -> u64
+    ensures { MatchOption arguments.now.idle (result ≡ IDLE)
+        (λ limit. result ≡ as_nanos limit / 1000000000) }
+{
+    match arguments.idle {
+        Some(limit) => limit.as_secs(),
+        None => IDLE,
     }
 }
 
@@ -134,10 +179,7 @@ fn limits_of(arguments: &RecordArguments, peers: NonZeroUsize) -> PeerLimits
 {
     PeerLimits {
         most: peers,
-        idle: match arguments.idle {
-            Some(limit) => limit.as_secs(),
-            None => IDLE,
-        },
+        idle: idle_of(arguments),
         reorder: arguments.reorder,
     }
 }
@@ -166,9 +208,12 @@ fn order_of(
 fn filter_of(rt: &HostRuntime, words: &[&str], err: &mut Stderr) -> Result<PeerFilter, Status> {
     let mut prefixes = Vec::new(rt.alloc());
     for word in words {
-        let Ok(prefix) = Prefix::parse(*word) else {
-            let _ = writeln!(err, "error: '{word}' of --from is no address and no prefix");
-            return Err(Status::NotOpened);
+        let prefix = match Prefix::parse(*word) {
+            Ok(prefix) => prefix,
+            Err(fault) => {
+                tell_prefix(*word, fault, err);
+                return Err(Status::NotOpened);
+            }
         };
         if prefixes.push(prefix).is_err() {
             let _ = writeln!(err, "error: out of memory");
@@ -176,4 +221,19 @@ fn filter_of(rt: &HostRuntime, words: &[&str], err: &mut Stderr) -> Result<PeerF
         }
     }
     Ok(PeerFilter { prefixes })
+}
+
+// Says why a word is no prefix.
+fn tell_prefix(word: &str, fault: PrefixFault, err: &mut Stderr) {
+    let _ = match fault {
+        PrefixFault::NotAPrefix => {
+            writeln!(err, "error: '{word}' of --from is no address and no prefix")
+        }
+        PrefixFault::BitsAfter => {
+            writeln!(
+                err,
+                "error: '{word}' of --from has bits after its prefix that are not 0"
+            )
+        }
+    };
 }

@@ -2,11 +2,12 @@
 
 ghost use Rattle.std.specs.Prelude.{◌≡◌};
 
+use crate::watching::watch;
 use recording_connections::{RecordOrder, RecorderRun, SharedCounts, run_record};
 use recording_datagrams::{PeerLimits, SystemSocket, run_datagrams};
-use recording_folder::Folder;
+use recording_folder::{EarlierPeers, Folder};
 use recording_lines::{WholeLines, write_threads};
-use recording_log::{LineQueue, LineSender, WaitingLines};
+use recording_log::{LineQueue, LineSender, QueuedLines};
 use report_writing::Status;
 use std::alloc::Global;
 use std::io::Write;
@@ -15,11 +16,12 @@ use std::rt::Clock;
 use std::sync::{Mutex, Wait};
 use std::thread::{self, Threads};
 
-/// Where sessions come from.
+/// Where sessions come from, and what an earlier run left of the peers that send datagrams.
 #[derive(Drop)]
 pub struct Sockets {
     pub listener: Option<TcpListener>,
     pub socket: Option<SystemSocket>,
+    pub earlier: EarlierPeers,
 }
 
 /// Records in a folder what comes through the sockets, for ever: connections in as many threads as the order
@@ -47,8 +49,8 @@ pub fn run_recorder<E: Write + Copy + Send + Sync + Drop, R: Clock + Threads + W
         order,
         shared: &shared,
     };
-    match (LineQueue::new(alloc), WaitingLines::new(alloc)) {
-        (Ok(queue), Ok(log)) => run_beside_writer(run, sockets, limits, &queue, log, err),
+    match (LineQueue::new(alloc), QueuedLines::new(alloc)) {
+        (Ok(queue), Ok(lines)) => run_beside_writer(run, sockets, limits, &queue, lines, err),
         _ => run_sockets(run, sockets, limits, err),
     }
 }
@@ -59,7 +61,7 @@ fn run_beside_writer<E: Write + Copy + Send + Sync + Drop, R: Clock + Threads + 
     sockets: Sockets,
     limits: PeerLimits,
     queue: &LineQueue,
-    log: WaitingLines,
+    lines: QueuedLines,
     err: E,
 ) -> Status
     ensures { result ≡ Status.Failed }
@@ -88,7 +90,7 @@ fn run_beside_writer<E: Write + Copy + Send + Sync + Drop, R: Clock + Threads + 
             };
             let write_out = move || {
                 let mut err = err;
-                queue.write_out(threads, log, &mut err);
+                queue.write_out(threads, lines, &mut err);
             };
             if scope.spawn(write_out).is_err() {
                 return run_sockets(run, sockets, limits, err);
@@ -97,6 +99,9 @@ fn run_beside_writer<E: Write + Copy + Send + Sync + Drop, R: Clock + Threads + 
                 queue,
                 waiting: threads,
             };
+            // (without a thread for it nothing is watched)
+            let watch_run = move || watch(threads, rt, folder, lines);
+            let _ = scope.spawn(watch_run);
             let status = run_sockets(run, sockets, limits, lines);
             queue.close(threads);
             status
@@ -113,12 +118,16 @@ fn run_sockets<E: Write + Copy + Send + Sync + Drop, R: Clock + Threads + Wait +
 ) -> Status
     ensures { result ≡ Status.Failed }
 {
-    let Sockets { listener, socket } = sockets;
+    let Sockets {
+        listener,
+        socket,
+        earlier,
+    } = sockets;
     match (listener, socket) {
-        (Some(listener), Some(socket)) => run_both(run, listener, socket, limits, err),
+        (Some(listener), Some(socket)) => run_both(run, listener, socket, earlier, limits, err),
         (Some(listener), None) => run_record(run, listener, err),
         (None, Some(socket)) => {
-            run_datagrams(run, socket, limits, err);
+            run_datagrams(run, socket, earlier, limits, err);
             Status::Failed
         }
         (None, None) => Status::Failed,
@@ -130,6 +139,7 @@ fn run_both<E: Write + Copy + Send + Sync + Drop, R: Clock + Threads + Wait + Sy
     run: RecorderRun<R>,
     listener: TcpListener,
     socket: SystemSocket,
+    earlier: EarlierPeers,
     limits: PeerLimits,
     err: E,
 ) -> Status
@@ -159,7 +169,7 @@ fn run_both<E: Write + Copy + Send + Sync + Drop, R: Clock + Threads + Wait + Sy
                     order,
                     shared,
                 };
-                run_datagrams(run, socket, limits, err);
+                run_datagrams(run, socket, earlier, limits, err);
             };
             if scope.spawn(datagrams).is_err() {
                 let _ = write_threads(0, 1, &mut WholeLines::new(err));

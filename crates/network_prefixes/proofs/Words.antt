@@ -25,7 +25,7 @@ use Rattle.std.proofs.lemmas.Slice.Eq.{bytes_eq-Decides}
 use Rattle.network_prefixes.specs.declared.address_bits.AddressBits.{AddressBits}
 use Rattle.network_prefixes.specs.declared.prefix.Prefix.{Prefix}
 use Rattle.network_prefixes.specs.Addresses.{address_bits, bits_of_width, EndsBehind, is_mapped}
-use Rattle.network_prefixes.specs.Prefixes.{is_slash, IsAddressText, IsPrefixSpelled, IsPrefixWord, IsWholeAddress}
+use Rattle.network_prefixes.specs.Prefixes.{is_slash, HasBitsAfter, IsAddressText, IsPrefixSpelled, IsPrefixWord, IsWholeAddress, IsWordWithBitsAfter}
 
 -- what is written for a number is parsed
 pub parsed : {E : Type 0} (n : ℕ) (text : List ℕ) (r : Result ℕ E) → n < 256 → text ≡ decimal n → ParsesUnsigned 8 10 text r → r ≡ Ok n
@@ -79,6 +79,22 @@ only_one text bits a n p address is small h =
     subst (λ (b : AddressBits). (n ≤ b.width) × EndsBehind b n) (same_address text p.address a h.address address)
     (subst (λ (m : ℕ). (m ≤ p.address.width) × EndsBehind p.address m) same_n (h.within, h.zeros))
 
+-- the same of a text with other bits than 0 after the first ones
+number_small : (text bits : List ℕ) (h : HasBitsAfter text bits) → h.length < 256
+number_small text bits h =
+    let within = subst (λ (a : AddressBits). a.width ≤ 128) (sym h.spelled.has) (width_within h.spelled.address) in
+    omega (arith, within, h.within)
+
+pub number_read : (text bits : List ℕ) → ((n : ℕ) → n < 256 → bits ≢ decimal n) → HasBitsAfter text bits → ⊥
+number_read text bits none h = none h.length (number_small text bits h) h.number
+
+pub same_bits : (text bits : List ℕ) (a : AddressBits) (n : ℕ) → IsAddressText text a → bits ≡ decimal n → n < 256 → HasBitsAfter text bits → (n ≤ a.width) × (EndsBehind a n → ⊥)
+same_bits text bits a n address is small h =
+    let shorter = number_small text bits h in
+    let same_n = decimal_injective h.length n (omega (arith, shorter)) (omega (arith, small)) (sym h.number ∙ is) in
+    subst (λ (b : AddressBits). (n ≤ b.width) × (EndsBehind b n → ⊥)) (same_address text h.address a h.spelled address)
+    (subst (λ (m : ℕ). (m ≤ h.address.width) × (EndsBehind h.address m → ⊥)) same_n (h.within, h.others))
+
 -- a word without a slash
 pub no_slash : (word : List ℕ) (r : Option (Bor (List ℕ) × Bor (List ℕ))) (P : Bor (List ℕ) × Bor (List ℕ) → Type 0) → MatchOption r ((i : ℕ) → i < length word → get_or word i 0 ≢ 47) P → r ≡ None → list_any is_slash word ≡ false
 no_slash word None P none is = list_any_none is_slash word (All-from_get_or (λ b. is_slash b ≡ false) word 0 (λ i inside. ne_eqb (get_or word i 0) 47 (none i inside)))
@@ -88,3 +104,7 @@ no_slash word (Some x) P none is = absurd (none-some x (sym is))
 pub whole_word : {E : Type 0} (word : List ℕ) (r : Result Prefix E) → list_any is_slash word ≡ false → Parses IsWholeAddress word r → Parses IsPrefixWord word r
 whole_word word (Ok p) none h = subst (λ b. MatchBool b (IsPrefixSpelled (before_first is_slash word) (after_first is_slash word) p) (IsWholeAddress word p)) (sym none) h
 whole_word word (Err e) none h = λ p spelled. h p (subst (λ b. MatchBool b (IsPrefixSpelled (before_first is_slash word) (after_first is_slash word) p) (IsWholeAddress word p)) none spelled)
+
+-- and has no bits after a prefix
+pub no_bits_after : (word : List ℕ) → list_any is_slash word ≡ false → IsWordWithBitsAfter word → ⊥
+no_bits_after word none h = subst (λ b. MatchBool b (HasBitsAfter (before_first is_slash word) (after_first is_slash word)) ⊥) none h

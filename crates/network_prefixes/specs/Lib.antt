@@ -1,4 +1,5 @@
 -- What public contracts cite.
 pub mod Addresses
 pub mod Prefixes
+pub mod PeerAddresses
 pub mod Peers

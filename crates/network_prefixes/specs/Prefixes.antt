@@ -32,6 +32,21 @@ pub record IsPrefixSpelled (text bits : List ℕ) (p : Prefix) : Type 0 where
 abbrev pub IsPrefixWord : List ℕ → Prefix → Type 0
 IsPrefixWord word p = MatchBool (list_any is_slash word) (IsPrefixSpelled (before_first is_slash word) (after_first is_slash word) p) (IsWholeAddress word p)
 
+-- ---- a word that would be a prefix if all bits after the first ones were 0
+
+pub record HasBitsAfter (text bits : List ℕ) : Type 0 where
+  pub address : AddressBits
+  pub length : ℕ
+  pub spelled : IsAddressText text address
+  pub number : bits ≡ decimal length
+  pub within : length ≤ address.width
+  pub others : ¬ EndsBehind address length
+
+abbrev pub IsWordWithBitsAfter : List ℕ → Type 0
+IsWordWithBitsAfter word = MatchBool (list_any is_slash word) (HasBitsAfter (before_first is_slash word) (after_first is_slash word)) ⊥
+
+-- ---- what a prefix covers
+
 -- the addresses of its width that begin with its first bits
 pub record Covers (p : Prefix) (address : IpAddr) : Type 0 where
   pub width : (address_bits address).width ≡ p.address.width

@@ -2,9 +2,11 @@
 #![tactic(auto)]
 
 mod address_bits;
+mod mapped_addresses;
 mod peer_filter;
 mod prefix;
 
 pub use address_bits::AddressBits;
+pub use mapped_addresses::peer_address;
 pub use peer_filter::PeerFilter;
-pub use prefix::{NotAPrefix, Prefix};
+pub use prefix::{Prefix, PrefixFault};

@@ -3,6 +3,7 @@
 use crate::keepalive::keep_alive;
 use crate::patient_reader::{PatientReader, SilenceLimits};
 use ipfix_session::Source;
+use network_prefixes::peer_address;
 use std::net::{SocketAddr, TcpListener, TcpStream};
 use std::rt::Clock;
 use std::time::Duration;
@@ -53,7 +54,7 @@ impl<'a, C: Clock> ConnectionSource<PatientReader<'a, TcpStream, C>> for Patient
         keep_alive(&stream);
         Ok(Connection {
             source: PatientReader::new(self.clock, stream, self.silence),
-            peer,
+            peer: peer_address(peer),
         })
     }
 }

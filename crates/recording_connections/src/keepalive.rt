@@ -3,6 +3,7 @@
 use libc::net::{
     IPPROTO_TCP, SO_KEEPALIVE, SOL_SOCKET, TCP_KEEPCNT, TCP_KEEPIDLE, TCP_KEEPINTVL, setsockopt,
 };
+use recording_sockets::option_value;
 use std::net::TcpStream;
 use std::os::fd::AsRawFd;
 
@@ -23,11 +24,4 @@ pub(crate) fn keep_alive(stream: &TcpStream) {
     let _ = unsafe { setsockopt(fd, IPPROTO_TCP, TCP_KEEPIDLE, &option_value(IDLE), 4) };
     let _ = unsafe { setsockopt(fd, IPPROTO_TCP, TCP_KEEPINTVL, &option_value(INTERVAL), 4) };
     let _ = unsafe { setsockopt(fd, IPPROTO_TCP, TCP_KEEPCNT, &option_value(PROBES), 4) };
-}
-
-// A number as the system reads it.
-fn option_value(number: i32) -> [u8; 16] {
-    let mut value = [0; 16];
-    value[..4].copy_from_slice(&number.to_ne_bytes());
-    value
 }

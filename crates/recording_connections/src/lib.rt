@@ -23,4 +23,6 @@ pub use running::{ConnectionRecorder, record_connections};
 pub use serving::{record_connection, write_session};
 pub use session_room::SessionRoom;
 pub use shared_counts::{RefusedPeers, SessionNumber, SharedCounts};
-pub use system::{ConnectionFolder, finish_recordings, open_recordings, run_record};
+pub use system::{
+    ConnectionFolder, OpenRecordings, finish_recordings, open_recordings, run_record,
+};

@@ -15,8 +15,8 @@ use crate::recorder_run::RecorderRun;
 use crate::running::{ConnectionRecorder, record_connections};
 use recording_files::{FileReport, NotWritten};
 use recording_folder::{
-    FileFinisher, Folder, FolderFault, FolderFinisher, SessionFiles, SystemPeriods, SystemPlace,
-    SystemSession, open_folder, recover, reopen_folder,
+    EarlierPeers, FileFinisher, Folder, FolderFault, FolderFinisher, SessionFiles, SystemPeriods,
+    SystemPlace, SystemSession, open_folder, read_back, recover, reopen_folder,
 };
 use recording_lines::WholeLines;
 use recording_names::Transport;
@@ -81,16 +81,28 @@ impl<'a, R: Files + Clock, E: Write + Copy + Drop> SessionPlace<
 }
 
 /// Opens a folder of recordings, and finishes what an earlier run left there, with a line in `err` for each
-/// file. It is made where it isn't there, and nobody else has it while the value lives.
+/// file. It is made where it isn't there, and nobody else has it while the value lives. What files of datagrams left is read back:
+/// those that were finished now, and finished ones of periods that begin at `since` (in seconds since 1970) or later.
 pub fn open_recordings<E: Write + Drop, H: Files<File = File> + Alloc<A = Global> + Clone + Drop>(
     rt: &H,
     alloc: Global,
     path: &str,
+    since: u64,
     err: E,
-) -> Result<Folder, FolderFault> {
+) -> Result<OpenRecordings, FolderFault> {
     let folder = open_folder(rt, alloc, path)?;
-    finish_left(rt, &folder, err)?;
-    Ok(folder)
+    let mut earlier = EarlierPeers::new(alloc);
+    finish_left(rt, &folder, err, &mut earlier)?;
+    // (what can't be read back is not known)
+    let _ = read_back(rt, &folder, since, &mut earlier);
+    Ok(OpenRecordings { folder, earlier })
+}
+
+/// A folder of recordings that was opened, and what an earlier run left there of the peers that sent datagrams.
+#[derive(Drop)]
+pub struct OpenRecordings {
+    pub folder: Folder,
+    pub earlier: EarlierPeers,
 }
 
 /// Finishes what a stopped run left in a folder of recordings, with a line in `err` for each file, and answers how
@@ -102,16 +114,17 @@ pub fn finish_recordings<E: Write + Drop, H: Files<File = File> + Alloc<A = Glob
     err: E,
 ) -> Result<u64, FolderFault> {
     let folder = reopen_folder(rt, alloc, path)?;
-    finish_left(rt, &folder, err)
+    finish_left(rt, &folder, err, &mut EarlierPeers::new(alloc))
 }
 
-// Finishes what an earlier run left in a folder, and answers how many files stay.
+// Finishes what an earlier run left in a folder, notes what is left of its peers, and answers how many files stay.
 fn finish_left<E: Write + Drop, H: Files<File = File> + Alloc<A = Global> + Clone + Drop>(
     rt: &H,
     folder: &Folder,
     err: E,
+    earlier: &mut EarlierPeers,
 ) -> Result<u64, FolderFault> {
-    Ok(recover(rt, folder, &mut WholeLines::new(err))?)
+    Ok(recover(rt, folder, &mut WholeLines::new(err), earlier)?)
 }
 
 /// Records in the folder of a run what comes over connections, for ever. Sessions are numbered by the shared counts. It

@@ -1,8 +1,8 @@
 //! Which peers may send.
 
-use network_prefixes::{PeerFilter, Prefix};
+use network_prefixes::{PeerFilter, Prefix, PrefixFault, peer_address};
 use std::alloc::Global;
-use std::net::IpAddr;
+use std::net::{IpAddr, SocketAddr};
 use std::test::*;
 
 // A filter of these words; those that are no prefix are left out.
@@ -55,11 +55,37 @@ fn several_prefixes_and_none(rt: HostRuntime) -> Result<(), Fail> {
         "",
         "host",
         "192.0.2.0/33",
-        "192.0.2.1/24",
+        "192.0.2.1/33",
         "192.0.2.0/024",
+        "192.0.2.1/024",
         "::/129",
     ] {
-        assert!(rt; Prefix::parse(word).is_err(), "{word}");
+        assert_eq!(rt; Prefix::parse(word), Err(PrefixFault::NotAPrefix), "{word}");
+    }
+    for word in [
+        "192.0.2.1/24",
+        "128.0.0.0/0",
+        "2001:db8::1/127",
+        "::ffff:192.0.2.1/31",
+    ] {
+        assert_eq!(rt; Prefix::parse(word), Err(PrefixFault::BitsAfter), "{word}");
+    }
+    Ok(())
+}
+
+#[test]
+fn addresses_of_peers(rt: HostRuntime) -> Result<(), Fail> {
+    for (text, told) in [
+        ("[::ffff:192.0.2.1]:4739", "192.0.2.1:4739"),
+        ("192.0.2.1:4739", "192.0.2.1:4739"),
+        ("[::192.0.2.1]:4739", "[::192.0.2.1]:4739"),
+        ("[fe80::1%3]:4739", "[fe80::1%3]:4739"),
+    ] {
+        let (Ok(address), Ok(told)) = (text.parse::<SocketAddr>(), told.parse::<SocketAddr>())
+        else {
+            return Err(Fail::new("no address"));
+        };
+        assert_eq!(rt; peer_address(address), told, "{text}");
     }
     Ok(())
 }

@@ -17,10 +17,10 @@ fn one_run_at_a_time(rt: HostRuntime) -> Result<(), Fail> {
         b"abc",
     )?;
     let mut err = Vec::new(alloc);
-    let folder = open_recordings(&rt, alloc, "recordings", &mut err);
+    let folder = open_recordings(&rt, alloc, "recordings", 0, &mut err);
     assert!(rt; folder.is_ok());
     assert!(rt; err.ends_with(b": removed 3 octets, no whole message\n"));
-    let other = open_recordings(&rt, alloc, "recordings", &mut err);
+    let other = open_recordings(&rt, alloc, "recordings", 0, &mut err);
     assert!(rt; matches!(other, Err(FolderFault::InUse)));
     Ok(())
 }

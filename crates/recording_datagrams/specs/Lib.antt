@@ -1,4 +1,5 @@
 -- What public contracts cite.
+pub mod Drops
 pub mod Ending
 pub mod Taking
 pub mod Turns

@@ -1,12 +1,15 @@
 //! The files of peers in a folder of recordings.
 
 use crate::finishing::{FileQueue, QueueFinisher};
+use crate::socket_drops::SocketDrops;
 use recording_connections::SharedCounts;
 use recording_files::PeriodClock;
-use recording_folder::{SessionFiles, SystemPeriods, SystemPlace};
-use recording_names::Transport;
+use recording_folder::{EarlierPeers, SessionFiles, SystemPeriods, SystemPlace};
 use recording_lines::WholeLines;
+use recording_names::Transport;
 use recording_peers::PeerPlace;
+use recording_resumption::EarlierDomains;
+use recording_sockets::system_drops;
 use std::alloc::{AllocError, Global};
 use std::fs::Files;
 use std::io::Write;
@@ -23,17 +26,39 @@ pub(crate) type PeerFiles<'a, R, W, E> = SessionFiles<'a, R, QueueFinisher<'a, R
 pub struct PeerFolder<'a, R: Files + Clock, W: Wait, E: Write + Copy + Drop> {
     pub place: SystemPlace<'a, R>,
     pub periods: SystemPeriods<'a, R>,
+    /// What an earlier run left of peers that have not sent yet.
+    pub earlier: EarlierPeers,
     /// Where they wait, if a thread finishes them.
     pub queue: Option<&'a FileQueue<R::File>>,
     pub shared: &'a Mutex<SharedCounts>,
     pub waiting: &'a W,
     pub err: E,
+    /// What the system says of its sockets.
+    pub rt: &'a HostRuntime,
+    /// The socket of the peers' datagrams, if the system says how many it drops.
+    pub drops: Option<SocketDrops>,
 }
 
 impl<'a, R: Files + Clock, W: Wait, E: Write + Copy + Drop> PeerFolder<'a, R, W, E> {
+    ghost use Rattle.std.specs.Prelude.{◌≡◌};
+
     /// From now on each file is finished by the thread that it comes from.
     pub(crate) fn finish_at_once(&mut self) {
         self.queue = None;
+    }
+
+    // Tells how many datagrams the system dropped since that was told last, if any were and it says so.
+    fn tell_drops(&mut self)
+        ensures { self.new.periods ≡ self.old.periods }
+    {
+        let Some(mut drops) = self.drops else {
+            return;
+        };
+        if let Some(dropped) = system_drops(self.rt, drops.inode) {
+            // (a line that can't be written stops nothing)
+            let _ = drops.tell(dropped, &mut WholeLines::new(self.err));
+            self.drops = Some(drops);
+        }
     }
 }
 
@@ -67,13 +92,22 @@ impl<'a, R: Files + Clock, W: Wait, E: Write + Copy + Drop> PeerPlace<PeerFiles<
             finisher,
         )
     }
+
+    fn earlier(&mut self, alloc: Global, peer: SocketAddr) -> EarlierDomains {
+        self.earlier.take(alloc, peer)
+    }
 }
 
 impl<'a, R: Files + Clock, W: Wait, E: Write + Copy + Drop> PeriodClock
     for PeerFolder<'a, R, W, E> {
     ghost asked = { λ p. ⟦<SystemPeriods<'a, R> as PeriodClock>⟧.asked p.periods };
 
+    // (where a period is over that is the time to say what the system dropped)
     fn is_over(&mut self) -> bool {
-        self.periods.is_over()
+        let is_over = self.periods.is_over();
+        if is_over {
+            self.tell_drops();
+        }
+        is_over
     }
 }

@@ -9,11 +9,12 @@ use crate::finishing::{FileQueue, start_finishers};
 use crate::peer_folder::{PeerFiles, PeerFolder};
 use crate::peer_limits::PeerLimits;
 use crate::running::record_datagrams;
+use crate::socket_drops::SocketDrops;
 use crate::system_socket::SystemSocket;
 use crossbeam_channel::bounded;
 use recording_connections::{RecorderRun, RecordingFiles, SharedCounts};
 use recording_files::PeriodClock;
-use recording_folder::SystemPlace;
+use recording_folder::{EarlierPeers, SystemPlace};
 use recording_lines::{WholeLines, write_threads};
 use recording_peers::{PeerPlace, Peers};
 use report_writing::WriteLines;
@@ -29,14 +30,15 @@ use std::time::Instant;
 /// How many octets a datagram has at most.
 const MOST_OCTETS: usize = 65_535;
 
-/// Records what comes in datagrams in a run. Without memory for that it is told that the thread could not be started.
+/// Records what comes in datagrams in a run, where an earlier run may have left templates of peers. Without memory for that it is told that the thread could not be started.
 pub fn run_datagrams<E: Write + Copy + Send + Drop, R: Clock + Threads + Wait + Sync>(
     run: RecorderRun<R>,
     socket: SystemSocket,
+    earlier: EarlierPeers,
     limits: PeerLimits,
     err: E,
 ) {
-    if take_all(run, socket, limits, err).is_err() {
+    if take_all(run, socket, earlier, limits, err).is_err() {
         let _ = write_threads(0, 1, &mut WholeLines::new(err));
     }
 }
@@ -45,24 +47,27 @@ pub fn run_datagrams<E: Write + Copy + Send + Drop, R: Clock + Threads + Wait + 
 fn take_all<E: Write + Copy + Send + Drop, R: Clock + Threads + Wait + Sync>(
     run: RecorderRun<R>,
     socket: SystemSocket,
+    earlier: EarlierPeers,
     limits: PeerLimits,
     err: E,
 ) -> io::Result<()> {
     let (enter, leave) = bounded(run.alloc, limits.most.get())?;
     let queue = FileQueue { enter, leave };
-    take_beside_finishers(run, socket, limits, &queue, err)
+    take_beside_finishers(run, socket, earlier, limits, &queue, err)
 }
 
 // Takes room for a datagram, starts the threads that finish files, and takes all datagrams.
 fn take_beside_finishers<'x, E: Write + Copy + Send + Drop, R: Clock + Threads + Wait + Sync>(
     run: RecorderRun<'x, R>,
     socket: SystemSocket,
+    earlier: EarlierPeers,
     limits: PeerLimits,
     queue: &'x FileQueue<File>,
     err: E,
 ) -> io::Result<()> {
     let buffer = room_of_datagram(run.alloc)?;
-    let taker = taker_of(run, limits, queue, err)?;
+    let drops = socket.drops(run.rt);
+    let taker = taker_of(run, earlier, limits, queue, drops, err)?;
     let RecorderRun {
         threads,
         rt,
@@ -90,8 +95,10 @@ fn room_of_datagram(alloc: Global) -> Result<Vec<u8>, AllocError>
 // What takes the datagrams of a run, as its order and its limits say.
 fn taker_of<'x, E: Write + Copy + Drop, R: Wait>(
     run: RecorderRun<'x, R>,
+    earlier: EarlierPeers,
     limits: PeerLimits,
     queue: &'x FileQueue<File>,
+    drops: Option<SocketDrops>,
     err: E,
 ) -> io::Result<
     DatagramTaker<
@@ -123,10 +130,13 @@ fn taker_of<'x, E: Write + Copy + Drop, R: Wait>(
         place: PeerFolder {
             place,
             periods,
+            earlier,
             queue: Some(queue),
             shared: run.shared,
             waiting: run.threads,
             err,
+            rt: run.rt,
+            drops,
         },
         filter: &run.order.filter,
         idle: limits.idle,

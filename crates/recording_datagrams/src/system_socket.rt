@@ -3,9 +3,13 @@
 ghost use Rattle.std.specs.Prelude.{◌≡◌, ◌⊎◌, ◌↔◌, ⊤};
 ghost use Rattle.std.specs.IoError.{error_kind};
 
+use crate::socket_drops::SocketDrops;
+use network_prefixes::peer_address;
 use recording_peers::{Datagram, DatagramSource, NoDatagram};
+use recording_sockets::{inode_of, set_buffer};
 use std::io::{self, ErrorKind};
 use std::net::{Net, SocketAddr, ToSocketAddrs, UdpSocket};
+use std::os::fd::AsRawFd;
 use std::time::Duration;
 
 /// How many seconds a call waits before it is a tick.
@@ -15,19 +19,38 @@ const TICK: u64 = 1;
 #[derive(Drop)]
 pub struct SystemSocket {
     socket: UdpSocket,
+    /// How many octets of datagrams that nobody took yet the system keeps, of those that it was asked to.
+    pub buffer: u32,
 }
 
 impl SystemSocket {
-    /// A socket that takes datagrams at an address.
-    pub fn bind<R: Net, A: ToSocketAddrs>(rt: &R, address: A) -> io::Result<SystemSocket> {
+    /// A socket that takes datagrams at an address, for which the system is asked to keep so many octets of datagrams that
+    /// nobody took yet.
+    pub fn bind<R: Net, A: ToSocketAddrs>(
+        rt: &R,
+        address: A,
+        buffer: u32,
+    ) -> io::Result<SystemSocket> {
         let socket = UdpSocket::bind(rt, address)?;
         socket.set_read_timeout(Some(Duration::from_secs(TICK)))?;
-        Ok(SystemSocket { socket })
+        let buffer = set_buffer(socket.as_raw_fd(), buffer);
+        Ok(SystemSocket { socket, buffer })
     }
 
     /// The address at which it takes datagrams.
     pub fn local_addr(&self) -> io::Result<SocketAddr> {
         self.socket.local_addr()
+    }
+
+    /// The socket as one of which the system has dropped nothing yet, if it says how many it drops.
+    pub fn drops(&self, rt: &HostRuntime) -> Option<SocketDrops> {
+        let address = self.local_addr().ok()?;
+        let inode = inode_of(rt, self.socket.as_raw_fd())?;
+        Some(SocketDrops {
+            address,
+            inode,
+            dropped: 0,
+        })
     }
 }
 
@@ -36,7 +59,10 @@ impl DatagramSource for SystemSocket {
 
     fn receive(&mut self, buffer: &mut [u8]) -> Result<Datagram, NoDatagram> {
         match self.socket.recv_from(buffer) {
-            Ok((length, peer)) => Ok(Datagram { length, peer }),
+            Ok((length, peer)) => Ok(Datagram {
+                length,
+                peer: peer_address(peer),
+            }),
             Err(error) => Err(why_none(&error)),
         }
     }

@@ -3,6 +3,8 @@
 #![tactic(auto)]
 
 #[cfg(test)]
+mod drops;
+#[cfg(test)]
 mod endings;
 #[cfg(test)]
 mod order;

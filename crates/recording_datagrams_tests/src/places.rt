@@ -3,7 +3,9 @@
 use recording_connections::RecordingFiles;
 use recording_files::{FileReport, FileSeries, NotWritten, PeriodClock, ScriptClock};
 use recording_peers::PeerPlace;
+use recording_resumption::EarlierDomains;
 use std::alloc::{AllocError, Global};
+use std::collections::BTreeMap;
 use std::net::SocketAddr;
 
 /// Files that have room for a number of octets, and keep what was written.
@@ -61,6 +63,10 @@ impl PeerPlace<SmallFiles> for SmallPlace {
             failed: 0,
         })
     }
+
+    fn earlier(&mut self, alloc: Global, _peer: SocketAddr) -> EarlierDomains {
+        BTreeMap::new(alloc)
+    }
 }
 
 /// The same in the periods of a script.
@@ -77,6 +83,10 @@ impl PeerPlace<SmallFiles> for PlaceInPeriods {
 
     fn files(&mut self, alloc: Global, peer: SocketAddr) -> Result<SmallFiles, AllocError> {
         self.place.files(alloc, peer)
+    }
+
+    fn earlier(&mut self, alloc: Global, peer: SocketAddr) -> EarlierDomains {
+        self.place.earlier(alloc, peer)
     }
 }
 

@@ -101,6 +101,10 @@ turned_away_line count last = codes "collectd: refused " ++ (decimal count ++ (c
 unfoldable pub not_received_line : ℕ → List ℕ
 not_received_line count = codes "collectd: record: receive failed " ++ (decimal count ++ codes " times\n")
 
+-- the system had no room for so many
+unfoldable pub system_drops_line : SocketAddr → ℕ → List ℕ
+system_drops_line address count = codes "collectd: udp: " ++ (socket_text address ++ (codes ": dropped " ++ (decimal count ++ codes " by the system\n")))
+
 -- ---- files that an earlier run left
 
 unfoldable pub recovered_start : List ℕ → List ℕ

@@ -1,7 +1,7 @@
 //! The lines of peers that send datagrams.
 
 ghost use Rattle.report_writing.specs.Writing.{Tells};
-ghost use Rattle.recording_lines.specs.RecordLines.{advance_line, not_received_line, order_line, peer_ended_line, refused_datagrams_line, turned_away_line};
+ghost use Rattle.recording_lines.specs.RecordLines.{advance_line, not_received_line, order_line, peer_ended_line, refused_datagrams_line, system_drops_line, turned_away_line};
 
 use report_writing::WriteLines;
 use std::io;
@@ -87,4 +87,19 @@ pub fn write_not_received<W: WriteLines>(count: u64, out: &mut W) -> io::Result<
         (not_received_line count) }
 {
     writeln!(out, "collectd: record: receive failed {count} times")
+}
+
+/// Writes how many datagrams the system dropped that came to an address, since the buffer of its socket was full.
+#[tactic(auto, unfolding(crate::specs::RecordLines::system_drops_line))]
+pub fn write_system_drops<W: WriteLines>(
+    address: SocketAddr,
+    count: u64,
+    out: &mut W,
+) -> io::Result<()>
+    ensures { Tells W.contents W.failed out.old out.new result (system_drops_line address count) }
+{
+    writeln!(
+        out,
+        "collectd: udp: {address}: dropped {count} by the system"
+    )
 }

@@ -1,2 +1,3 @@
 -- What public contracts cite.
+pub mod Held
 pub mod Logs

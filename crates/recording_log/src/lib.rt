@@ -2,8 +2,10 @@
 //! that a reader of standard error that sleeps holds nobody up.
 #![tactic(auto)]
 
+mod held_lines;
 mod line_queue;
 mod waiting_lines;
 
-pub use line_queue::{LineQueue, LineSender};
+pub use held_lines::{HeldLines, MOST_HELD};
+pub use line_queue::{LineQueue, LineSender, QueuedLines};
 pub use waiting_lines::{MOST_LINES, MOST_OCTETS, WaitingLines};

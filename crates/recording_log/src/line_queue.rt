@@ -1,15 +1,53 @@
 //! The queue between those who write lines and the thread that writes them out.
 
+ghost use Rattle.std.specs.Prelude.{◌≡◌, if◌then◌else◌};
+ghost use Rattle.recording_log.specs.Held.{is_held, with_line};
+ghost use Rattle.recording_log.specs.Logs.{pushed};
+
+use crate::held_lines::HeldLines;
 use crate::waiting_lines::WaitingLines;
 use std::alloc::{AllocError, Global};
 use std::io::{self, Write};
 use std::mem;
-use std::sync::{Condvar, Mutex, Wait};
+use std::rt::Clock;
+use std::sync::{Condvar, CondvarTimeouts, Mutex, Wait};
+use std::time::{Duration, Instant};
 
-// What waits, and whether nothing more comes.
+/// How many seconds lines are held at least.
+const SECOND: u64 = 1;
+
+/// What is to be written: the lines that wait, and what is held until a second is over.
+#[derive(Drop)]
+pub struct QueuedLines {
+    pub waiting: WaitingLines,
+    pub held: HeldLines,
+}
+
+impl QueuedLines {
+    /// Nothing.
+    pub fn new(alloc: Global) -> Result<Self, AllocError> {
+        Ok(QueuedLines {
+            waiting: WaitingLines::new(alloc)?,
+            held: HeldLines::new(alloc)?,
+        })
+    }
+
+    // Holds a line, or adds it, or counts it as dropped if it has no room.
+    fn push(&mut self, line: &[u8])
+        ensures held { self.new.held ≡ with_line self.old.held line.now }
+        ensures waiting { self.new.waiting ≡ (if is_held self.old.held line.now
+            then self.old.waiting else pushed self.old.waiting line.now) }
+    {
+        if !self.held.hold(line) {
+            self.waiting.push(line);
+        }
+    }
+}
+
+// What is queued, and whether nothing more comes.
 #[derive(Drop)]
 struct QueueState {
-    lines: WaitingLines,
+    lines: QueuedLines,
     is_closed: bool,
 }
 
@@ -24,17 +62,16 @@ pub struct LineQueue {
 impl LineQueue {
     /// A queue in which nothing waits.
     pub fn new(alloc: Global) -> Result<Self, AllocError> {
-        let lines = WaitingLines::new(alloc)?;
         Ok(LineQueue {
             state: Mutex::new(QueueState {
-                lines,
+                lines: QueuedLines::new(alloc)?,
                 is_closed: false,
             }),
             changed: Condvar::new(),
         })
     }
 
-    /// Adds a line, or counts it as dropped if it has no room.
+    /// Holds a line, or adds it, or counts it as dropped if it has no room.
     pub fn push<R: Wait>(&self, rt: &R, line: &[u8]) {
         self.state.lock(rt).lines.push(line);
         self.changed.notify_one();
@@ -46,28 +83,52 @@ impl LineQueue {
         self.changed.notify_one();
     }
 
+    /// Whether nothing more comes.
+    pub fn is_closed<R: Wait>(&self, rt: &R) -> bool {
+        self.state.lock(rt).is_closed
+    }
+
     /// Writes all that comes, until the queue is closed and nothing waits. Lines that can't be written are lost, and stop
-    /// nothing. It takes turns with an empty log.
-    pub fn write_out<R: Wait, E: Write>(&self, rt: &R, mut log: WaitingLines, err: &mut E) {
+    /// nothing. It takes turns with lines in which nothing is.
+    pub fn write_out<R: Wait + Clock, E: Write>(&self, rt: &R, lines: QueuedLines, err: &mut E) {
+        let QueuedLines {
+            mut waiting,
+            mut held,
+        } = lines;
+        let mut second = Instant::now(rt).ok();
         for _ in rt.forever() {
-            let is_closed = self.take(rt, &mut log);
-            let _ = log.write(err);
-            log.clear();
+            let is_closed = self.take_waiting(rt, &mut waiting);
+            let _ = waiting.write(err);
+            waiting.clear();
+            if is_closed || is_over(rt, second) {
+                second = Instant::now(rt).ok();
+                self.state.lock(rt).lines.held.begin_second(&mut held);
+                let _ = held.write(err);
+            }
             if is_closed {
                 return;
             }
         }
     }
 
-    // Waits until there is something to write, or nothing more comes, and puts what waits in place of an empty log.
-    // Answers whether nothing more comes.
-    fn take<R: Wait>(&self, rt: &R, log: &mut WaitingLines) -> bool {
+    // Waits until there is something to write, nothing more comes, or a second has passed, and puts what waits in place of
+    // no lines. Answers whether nothing more comes.
+    fn take_waiting<R: Wait + Clock>(&self, rt: &R, room: &mut WaitingLines) -> bool {
         let state = self.state.lock(rt);
-        let mut state = self.changed.wait_while(rt, state, |state| {
-            state.lines.is_empty() && !state.is_closed
+        let second = Duration::from_secs(SECOND);
+        let (mut state, _) = self.changed.wait_timeout_while(rt, state, second, |state| {
+            state.lines.waiting.is_empty() && !state.is_closed
         });
-        mem::swap(&mut state.lines, log);
+        mem::swap(&mut state.lines.waiting, room);
         state.is_closed
+    }
+}
+
+// Whether a second has passed since then; so it is if a time isn't known.
+fn is_over<R: Clock>(rt: &R, since: Option<Instant>) -> bool {
+    match (since, Instant::now(rt)) {
+        (Some(since), Ok(now)) => now.duration_since(since).as_secs() >= SECOND,
+        _ => true,
     }
 }
 
